@@ -1,0 +1,7 @@
+-- Numbers in files. All are unsigned and stand with their lowest byte first (GS/OS Reference, appendix F, NUMSEX 0).
+use Rattle.std.specs.Prelude.{ℕ, List, drop}
+use Rattle.byteorder.specs.Endian.{little_number}
+
+-- the number of this many bytes at a displacement in the bytes
+unfoldable pub number_at : ℕ → ℕ → List ℕ → ℕ
+number_at width at bytes = little_number width (drop at bytes)

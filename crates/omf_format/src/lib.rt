@@ -1,0 +1,2 @@
+//! What files of the Object Module Format mean: the definitions that the contracts of the crates above cite.
+#![tactic(auto)]
