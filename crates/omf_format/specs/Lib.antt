@@ -1,1 +1,9 @@
 pub mod Number
+pub mod Name
+pub mod Header
+pub mod Record
+pub mod Reading
+pub mod File
+pub mod HeaderLaws
+pub mod WrittenHeader
+pub mod RecordLaws

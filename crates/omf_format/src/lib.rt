@@ -1,2 +1,7 @@
-//! What files of the Object Module Format mean: the definitions that the contracts of the crates above cite.
+//! What files of the Object Module Format mean: the definitions that the contracts of the crates above
+//! cite (GS/OS Reference, appendix F, "Object Module Format Version 2.1"), and the faults that they name.
 #![tactic(auto)]
+
+mod fault;
+
+pub use fault::{FileCause, FileFault, Flaw, HeaderFault, Field, RecordFault};
