@@ -7,3 +7,4 @@ pub mod File
 pub mod HeaderLaws
 pub mod WrittenHeader
 pub mod RecordLaws
+pub mod FileLaws
