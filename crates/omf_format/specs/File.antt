@@ -19,11 +19,11 @@ pub record Segment : Type 0 where
 -- a reader at the body's front: the body begins at DISPDATA and ends with the segment, which has BYTECNT bytes
 unfoldable pub body_reader : ℕ → Fields → List ℕ → Reader
 body_reader start f file = record {
-    end = start + f.byte_count;
-    left = drop (start + f.disp_data) (take (start + f.byte_count) file);
-    ended = false;
-    lab_len = f.lab_len
-  }
+  end = start + f.byte_count;
+  left = drop (start + f.disp_data) (take (start + f.byte_count) file);
+  ended = false;
+  lab_len = f.lab_len;
+}
 
 -- the header stands there, and passes its checks
 pub record IsHeader (start : ℕ) (f : Fields) (file : List ℕ) : Type 0 where
@@ -64,7 +64,7 @@ SaysRecord (record_faults.BadRecord at) fault = (fault.cause ≡ cause.BadRecord
 pub data HasFault (start : ℕ) (file : List ℕ) (fault : FileFault) : Type 0 where
   InHeader : (of : HeaderFault) → header_fault (drop start file) ≡ Some of → SaysHeader of start fault → HasFault start file fault
   InRecord : (f : Fields) (before : List (ℕ × Record)) (reader : Reader) (of : RecordFault) → IsHeader start f file
-    → HandsOut (body_reader start f file) before reader → next_answer reader ≡ Err of → SaysRecord of fault → HasFault start file fault
+      → HandsOut (body_reader start f file) before reader → next_answer reader ≡ Err of → SaysRecord of fault → HasFault start file fault
 
 -- the first fault of a file: the segments before it are sound, and the next one has it
 pub record IsFirstFault (file : List ℕ) (fault : FileFault) : Type 0 where

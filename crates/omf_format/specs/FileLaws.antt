@@ -85,7 +85,7 @@ segment_same : (a b : Segment) (file : List ℕ) → IsSegment a file → IsSegm
 segment_same a b file p q start =
     let fields : a.fields ≡ b.fields = p.header.fields ∙ ap (λ (s : ℕ). fields_of (drop s file)) start ∙ sym q.header.fields in
     let reader : body_reader a.start a.fields file ≡ body_reader b.start b.fields file =
-      ap (λ (s : ℕ). body_reader s a.fields file) start ∙ ap (λ (f : Fields). body_reader b.start f file) fields in
+    ap (λ (s : ℕ). body_reader s a.fields file) start ∙ ap (λ (f : Fields). body_reader b.start f file) fields in
     let run : HandsOut (body_reader b.start b.fields file) a.records p.last = subst (λ (r : Reader). HandsOut r a.records p.last) reader p.records in
     let records : a.records ≡ b.records = HandsOut-same (body_reader b.start b.fields file) a.records b.records p.last q.last run q.records p.ended q.ended in
     ap (λ (s : ℕ). made s a.fields a.records) start ∙ ap (λ (f : Fields). made b.start f a.records) fields ∙ ap (made b.start b.fields) records
@@ -132,7 +132,7 @@ no_segment at file fault s (InHeader of is says) start segment =
 no_segment at file fault s (InRecord f before reader of header run is says) start segment =
     let fields : s.fields ≡ f = segment.header.fields ∙ ap (λ (n : ℕ). fields_of (drop n file)) start ∙ sym header.fields in
     let whole : body_reader s.start s.fields file ≡ body_reader at f file =
-      ap (λ (n : ℕ). body_reader n s.fields file) start ∙ ap (λ (g : Fields). body_reader at g file) fields in
+    ap (λ (n : ℕ). body_reader n s.fields file) start ∙ ap (λ (g : Fields). body_reader at g file) fields in
     no_run (body_reader at f file) before s.records reader segment.last of run is (subst (λ (r : Reader). HandsOut r s.records segment.last) whole segment.records) segment.ended
 
 -- a file with a first fault is no list of segments

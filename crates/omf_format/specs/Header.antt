@@ -29,21 +29,21 @@ pub record Fields : Type 0 where
 -- each field stands at its displacement, and at DISPNAME stand the load name of ten bytes and the segment's name
 unfoldable pub fields_of : List ℕ → Fields
 fields_of bytes = record {
-    byte_count = number_at 4 0x00 bytes;
-    res_spc = number_at 4 0x04 bytes;
-    length = number_at 4 0x08 bytes;
-    lab_len = number_at 1 0x0D bytes;
-    bank_size = number_at 4 0x10 bytes;
-    kind = number_at 2 0x14 bytes;
-    org = number_at 4 0x18 bytes;
-    align = number_at 4 0x1C bytes;
-    seg_num = number_at 2 0x22 bytes;
-    entry = number_at 4 0x24 bytes;
-    disp_name = number_at 2 0x28 bytes;
-    disp_data = number_at 2 0x2A bytes;
-    load_name = take 10 (drop (number_at 2 0x28 bytes) bytes);
-    name = name_at (number_at 1 0x0D bytes) (number_at 2 0x28 bytes + 10) bytes
-  }
+  byte_count = number_at 4 0x00 bytes;
+  res_spc = number_at 4 0x04 bytes;
+  length = number_at 4 0x08 bytes;
+  lab_len = number_at 1 0x0D bytes;
+  bank_size = number_at 4 0x10 bytes;
+  kind = number_at 2 0x14 bytes;
+  org = number_at 4 0x18 bytes;
+  align = number_at 4 0x1C bytes;
+  seg_num = number_at 2 0x22 bytes;
+  entry = number_at 4 0x24 bytes;
+  disp_name = number_at 2 0x28 bytes;
+  disp_data = number_at 2 0x2A bytes;
+  load_name = take 10 (drop (number_at 2 0x28 bytes) bytes);
+  name = name_at (number_at 1 0x0D bytes) (number_at 2 0x28 bytes + 10) bytes;
+}
 
 -- the displacement at which the names end
 unfoldable pub names_end : List ℕ → ℕ
@@ -102,11 +102,11 @@ laid_out (field ∷ fields) = little_bytes field.0 field.1 ++ laid_out fields
 -- the fields of a written header: LABLEN 0, DISPNAME $2C, and DISPDATA and BYTECNT by the name's and the body's length
 abbrev pub written_fields : Fields → ℕ → Fields
 written_fields f body_length = record f {
-    byte_count = 0x37 + length f.name + body_length;
-    lab_len = 0;
-    disp_name = 0x2C;
-    disp_data = 0x37 + length f.name
-  }
+  byte_count = 0x37 + length f.name + body_length;
+  lab_len = 0;
+  disp_name = 0x2C;
+  disp_data = 0x37 + length f.name;
+}
 
 -- the widths and values of the written header's numbers, in order
 unfoldable pub written_numbers : Fields → List (ℕ × ℕ)

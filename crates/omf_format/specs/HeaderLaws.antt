@@ -22,10 +22,10 @@ pub each_false : {F : Type 0} (checks : List (Bool × F)) → first_of checks �
 each_false [] none = tt
 each_false {F = F} (check ∷ checks) none =
     let cases : (b : Bool) → cond b (Some check.1) (first_of checks) ≡ None → (b ≡ false) × (first_of checks ≡ None) =
-      λ b. elim b as (λ (v : Bool). cond v (Some check.1) (first_of checks) ≡ None → (v ≡ false) × (first_of checks ≡ None)) [
-        | true ↦ λ e. absurd cc
-        | false ↦ λ e. (refl, e)
-      ] in
+    λ b. elim b as (λ (v : Bool). cond v (Some check.1) (first_of checks) ≡ None → (v ≡ false) × (first_of checks ≡ None)) [
+      | true ↦ λ e. absurd cc
+      | false ↦ λ e. (refl, e)
+    ] in
     let both = cases check.0 none in
     (both.0, each_false checks both.1)
 
@@ -96,7 +96,7 @@ number_at-laid_out [] k w n rest at fits = absurd cc
 number_at-laid_out (field ∷ fields) zero w n rest at fits =
     let same : field ≡ (w, n) = cc in
     let first : little_number w ((little_bytes w n ++ laid_out fields) ++ rest) ≡ n =
-      ap (little_number w) (append_assoc (little_bytes w n) (laid_out fields) rest) ∙ little_number-reads_back w n (laid_out fields ++ rest) fits in
+    ap (little_number w) (append_assoc (little_bytes w n) (laid_out fields) rest) ∙ little_number-reads_back w n (laid_out fields ++ rest) fits in
     subst (λ (f : ℕ × ℕ). little_number w ((little_bytes f.0 f.1 ++ laid_out fields) ++ rest) ≡ n) (sym same) first
 number_at-laid_out (field ∷ fields) (suc k) w n rest at fits =
     let width = length-bytes_low_first 0 field.0 field.1 in

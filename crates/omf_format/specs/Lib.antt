@@ -8,3 +8,5 @@ pub mod HeaderLaws
 pub mod WrittenHeader
 pub mod RecordLaws
 pub mod FileLaws
+pub mod Plain
+pub mod PlainLaws

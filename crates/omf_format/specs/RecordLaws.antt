@@ -13,17 +13,17 @@ use Rattle.omf_format.specs.HeaderLaws.{IsBytes}
 use Rattle.omf_format.specs.Record.{Record, End, Const, LongConst, Space, spelling, IsRecord}
 use Rattle.omf_format.specs.Reading.{◌>>=◌, bytes_field, number_field, constant_field, long_constant_field, space_field, front}
 
-IsBytes-drop : (n : ℕ) (bytes : List ℕ) → IsBytes bytes → IsBytes (drop n bytes)
+pub IsBytes-drop : (n : ℕ) (bytes : List ℕ) → IsBytes bytes → IsBytes (drop n bytes)
 IsBytes-drop n bytes h i = rw get_or-drop (h (n + i))
 
-IsBytes-take : (n : ℕ) (bytes : List ℕ) → IsBytes bytes → IsBytes (take n bytes)
+pub IsBytes-take : (n : ℕ) (bytes : List ℕ) → IsBytes bytes → IsBytes (take n bytes)
 IsBytes-take n bytes h i =
     elim (cases_lt i n) [
       | inl lt ↦ rw (get_or-take n bytes i 0 lt) (h i)
       | inr le ↦ rw (get_or_past (take n bytes) i 0 (omega (arith, length-take n bytes))) (omega arith)
     ]
 
-IsBytes-rest : (b : ℕ) (bytes : List ℕ) → IsBytes (b ∷ bytes) → IsBytes bytes
+pub IsBytes-rest : (b : ℕ) (bytes : List ℕ) → IsBytes (b ∷ bytes) → IsBytes bytes
 IsBytes-rest b bytes h i = h (suc i)
 
 -- the value of a step that did not fail
@@ -66,7 +66,7 @@ bytes_take n bytes text rest fits e =
     let g = guard_ok (ltb (length bytes) n) Cut (take n bytes, drop n bytes) (text, rest) e in
     let long : n ≤ length bytes = ltb-false _ _ g.0 in
     let taken : Takes bytes (take n bytes) (drop n bytes) × (length (take n bytes) ≡ n) =
-      (record { parts = sym (take-append-drop n bytes); rest_fits = IsBytes-drop n bytes fits }, omega (arith, length-take n bytes)) in
+    (record { parts = sym (take-append-drop n bytes); rest_fits = IsBytes-drop n bytes fits }, omega (arith, length-take n bytes)) in
     subst (λ (p : List ℕ × List ℕ). Takes bytes p.0 p.1 × (length p.0 ≡ n)) g.1 taken
 
 pub bytes_again : (n : ℕ) (text rest : List ℕ) → length text ≡ n → bytes_field n (text ++ rest) ≡ Ok (text, rest)
@@ -89,9 +89,9 @@ number_takes w wide bytes n rest fits e =
     let long : w ≤ length bytes = ltb-false _ _ g.0 in
     let same : little_number w (take w bytes) ≡ little_number w bytes = little_from-take 0 w w bytes (omega arith) in
     let text : little_bytes w (little_number w bytes) ≡ take w bytes =
-      ap (little_bytes w) (sym same) ∙ wide.back (take w bytes) (omega (arith, length-take w bytes)) (IsBytes-take w bytes fits) in
+    ap (little_bytes w) (sym same) ∙ wide.back (take w bytes) (omega (arith, length-take w bytes)) (IsBytes-take w bytes fits) in
     let taken : Takes bytes (little_bytes w (little_number w bytes)) (drop w bytes) × (little_number w bytes < 256 ^ w) =
-      (record { parts = rw text (sym (take-append-drop w bytes)); rest_fits = IsBytes-drop w bytes fits }, little_from-lt 0 w bytes fits) in
+    (record { parts = rw text (sym (take-append-drop w bytes)); rest_fits = IsBytes-drop w bytes fits }, little_from-lt 0 w bytes fits) in
     subst (λ (p : ℕ × List ℕ). Takes bytes (little_bytes w p.0) p.1 × (p.0 < 256 ^ w)) g.1 taken
 
 pub number_again : (w n : ℕ) (rest : List ℕ) → n < 256 ^ w → number_field w (little_bytes w n ++ rest) ≡ Ok (n, rest)

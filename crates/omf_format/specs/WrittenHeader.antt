@@ -78,14 +78,14 @@ length_byte : (numbers load_name name rest : List ℕ) → length numbers ≡ 44
 unfolding named number_at
 length_byte numbers load_name name rest n44 n10 =
     let skip : drop 54 (numbers ++ (load_name ++ (length name ∷ (name ++ rest)))) ≡ length name ∷ (name ++ rest) =
-      drop-more numbers (load_name ++ (length name ∷ (name ++ rest))) 44 10 n44 ∙ drop_at load_name (length name ∷ (name ++ rest)) 10 n10 in
+    drop-more numbers (load_name ++ (length name ∷ (name ++ rest))) 44 10 n44 ∙ drop_at load_name (length name ∷ (name ++ rest)) 10 n10 in
     rw skip (omega arith)
 
 text_at : (numbers load_name name rest : List ℕ) → length numbers ≡ 44 → length load_name ≡ 10 → take (length name) (drop 55 (named numbers load_name name rest)) ≡ name
 unfolding named
 text_at numbers load_name name rest n44 n10 =
     let skip : drop 55 (numbers ++ (load_name ++ (length name ∷ (name ++ rest)))) ≡ name ++ rest =
-      drop-more numbers (load_name ++ (length name ∷ (name ++ rest))) 44 11 n44 ∙ drop-more load_name (length name ∷ (name ++ rest)) 10 1 n10 in
+    drop-more numbers (load_name ++ (length name ∷ (name ++ rest))) 44 11 n44 ∙ drop-more load_name (length name ∷ (name ++ rest)) 10 1 n10 in
     rw skip (take_at name rest (length name) refl)
 
 load_name_at : (numbers load_name name rest : List ℕ) → length numbers ≡ 44 → length load_name ≡ 10 → take 10 (drop 44 (named numbers load_name name rest)) ≡ load_name
@@ -117,19 +117,19 @@ pub record FitsWritten (f : Fields) (n : ℕ) : Type 0 where
 
 fits_fields : (f : Fields) (n : ℕ) → FitsWritten f n → FitsFields (written_fields f n)
 fits_fields f n fits = record {
-    byte_count = fits.total;
-    res_spc = fits.res_spc;
-    length = fits.length;
-    lab_len = omega arith;
-    bank_size = fits.bank_size;
-    kind = fits.kind;
-    org = fits.org;
-    align = fits.align;
-    seg_num = fits.seg_num;
-    entry = fits.entry;
-    disp_name = omega arith;
-    disp_data = omega (arith, fits.name);
-  }
+  byte_count = fits.total;
+  res_spc = fits.res_spc;
+  length = fits.length;
+  lab_len = omega arith;
+  bank_size = fits.bank_size;
+  kind = fits.kind;
+  org = fits.org;
+  align = fits.align;
+  seg_num = fits.seg_num;
+  entry = fits.entry;
+  disp_name = omega arith;
+  disp_data = omega (arith, fits.name);
+}
 
 -- what is known of the bytes of a written header, whatever follows
 record Written (f : Fields) (n : ℕ) (bytes : List ℕ) : Type 0 where
@@ -145,14 +145,14 @@ written f n rest fits =
     let tail = f.load_name ++ (length f.name ∷ (f.name ++ rest)) in
     let n44 = length-numbers (written_fields f n) in
     let whole : Written f n (named numbers f.load_name f.name rest) = record {
-        numbers = stands (written_fields f n) tail (fits_fields f n fits);
-        load_name = load_name_at numbers f.load_name f.name rest n44 fits.load_name;
-        name_length = length_byte numbers f.load_name f.name rest n44 fits.load_name;
-        name = text_at numbers f.load_name f.name rest n44 fits.load_name;
-      } in
+      numbers = stands (written_fields f n) tail (fits_fields f n fits);
+      load_name = load_name_at numbers f.load_name f.name rest n44 fits.load_name;
+      name_length = length_byte numbers f.load_name f.name rest n44 fits.load_name;
+      name = text_at numbers f.load_name f.name rest n44 fits.load_name;
+    } in
     subst (λ (bytes : List ℕ). Written f n bytes) (sym (regrouped f n rest)) whole
 
-length-header : (f : Fields) (n : ℕ) → length f.load_name ≡ 10 → length (header_bytes f n) ≡ 0x37 + length f.name
+pub length-header : (f : Fields) (n : ℕ) → length f.load_name ≡ 10 → length (header_bytes f n) ≡ 0x37 + length f.name
 unfolding header_bytes
 length-header f n ten =
     let numbers = laid_out (written_numbers (written_fields f n)) in
@@ -183,17 +183,34 @@ header_fault-written f n rest fits writable long =
     let body = 0x37 + length f.name in
     let ends = names_end-written f n bytes w in
     let len : length bytes ≡ 0x37 + length f.name + length rest = omega (arith, length-append (header_bytes f n) rest, length-header f n fits.load_name) in
-    none_holds (header_checks bytes)
-    (le-ltb _ _ (omega arith),
-     (rw s.num_len refl,
-      (rw s.version refl,
-       (rw s.bank_size (le-ltb _ _ writable.banks),
-        (rw s.kind (ap not writable.listed),
-         (rw s.num_sex refl,
-          (rw s.disp_name refl,
-           (rw s.byte_count (le-ltb _ _ (omega arith)),
-            (rw (s.disp_data, s.byte_count, ends) (both_false (ltb body body) (ltb (body + n) body) (le-ltb body body (omega arith)) (le-ltb (body + n) body (omega arith))),
-             (rw (s.length', s.res_spc) (le-ltb _ _ writable.spaced), tt))))))))))
+    none_holds (header_checks bytes) (
+      le-ltb _ _ (omega arith),
+      (
+        rw s.num_len refl,
+        (
+          rw s.version refl,
+          (
+            rw s.bank_size (le-ltb _ _ writable.banks),
+            (
+              rw s.kind (ap not writable.listed),
+              (
+                rw s.num_sex refl,
+                (
+                  rw s.disp_name refl,
+                  (
+                    rw s.byte_count (le-ltb _ _ (omega arith)),
+                    (
+                      rw (s.disp_data, s.byte_count, ends) (both_false (ltb body body) (ltb (body + n) body) (le-ltb body body (omega arith)) (le-ltb (body + n) body (omega arith))),
+                      (rw (s.length', s.res_spc) (le-ltb _ _ writable.spaced), tt),
+                    ),
+                  ),
+                ),
+              ),
+            ),
+          ),
+        ),
+      ),
+    )
   where
     both_false : (a b : Bool) → a ≡ false → b ≡ false → (a || b) ≡ false
     both_false a b p q = rw (p, q) refl

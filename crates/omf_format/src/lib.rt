@@ -4,4 +4,4 @@
 
 mod fault;
 
-pub use fault::{FileCause, FileFault, Flaw, HeaderFault, Field, RecordFault};
+pub use fault::{Field, FileCause, FileFault, Flaw, HeaderFault, RecordFault};
