@@ -1,0 +1,15 @@
+//! Names, numbers in files, lines of text and places in files: what every crate of the tool stands on.
+#![tactic(auto)]
+
+mod line;
+mod name;
+mod number;
+mod spot;
+
+pub use line::{Line, LineFault};
+pub use name::{Name, NameFault};
+pub use number::number_at;
+pub use spot::Spot;
+
+#[cfg(test)]
+mod tests;
