@@ -5,11 +5,13 @@ mod line;
 mod name;
 mod number;
 mod spot;
+mod trailing;
 
 pub use line::{Line, LineFault};
 pub use name::{Name, NameFault};
 pub use number::number_at;
 pub use spot::Spot;
+pub use trailing::without_trailing;
 
 #[cfg(test)]
 mod tests;

@@ -1,0 +1,122 @@
+//! Reading a header: the fields at their displacements, and the first of the checks that holds.
+
+ghost use Rattle.std.specs.Prelude.{◌≡◌, ◌+◌, ◌<◌, ◌≤◌, ◌^◌, ◌||◌, nat_lt, length, take, drop, None, IfOk, IfErr};
+ghost use Rattle.omf_format.specs.Number.{number_at};
+ghost use Rattle.omf_format.specs.Name.{name_at, name_size, without_trailing};
+ghost use Rattle.omf_format.specs.Header.{fields_of, names_end, form_of, is_listed, header_fault};
+ghost use Rattle.omf_header.specs.View.{fields, IsRefused};
+
+use crate::header::Header;
+use crate::kind::Kind;
+use byteorder::{ByteOrder, LittleEndian};
+use omf_base::Name;
+use omf_format::{Field, HeaderFault};
+use std::alloc::Global;
+
+#[inline]
+#[tactic(auto, unfolding(omf_format::specs::Number::number_at))]
+fn u32_at(bytes: &[u8], at: usize) -> u32
+    requires { at + 4 ≤ length bytes.now }
+    ensures { result ≡ number_at 4 at bytes.now }
+{
+    LittleEndian::read_u32(&bytes[at..])
+}
+
+#[inline]
+#[tactic(auto, unfolding(omf_format::specs::Number::number_at))]
+fn u16_at(bytes: &[u8], at: usize) -> u16
+    requires { at + 2 ≤ length bytes.now }
+    ensures { result ≡ number_at 2 at bytes.now }
+{
+    LittleEndian::read_u16(&bytes[at..])
+}
+
+/// The byte there, and 0 past the end.
+#[inline]
+#[tactic(auto, unfolding(omf_format::specs::Number::number_at))]
+fn u8_at(bytes: &[u8], at: usize) -> u8
+    ensures { result ≡ number_at 1 at bytes.now }
+{
+    match bytes.get(at) {
+        Some(byte) => *byte,
+        None => 0,
+    }
+}
+
+/// How many bytes the name there takes.
+#[tactic(auto, unfolding(omf_format::specs::Name::name_size))]
+fn name_size(bytes: &[u8], at: usize, lab_len: u8) -> usize
+    ensures value { result ≡ name_size lab_len at bytes.now }
+    ensures short { result ≤ 256 }
+{
+    if lab_len == 0 {
+        1 + u8_at(bytes, at) as usize
+    } else {
+        lab_len as usize
+    }
+}
+
+/// The displacement at which the names end.
+#[tactic(auto, unfolding(omf_format::specs::Header::names_end))]
+fn names_end(bytes: &[u8]) -> usize
+    requires { 44 ≤ length bytes.now }
+    ensures { result ≡ names_end bytes.now }
+{
+    let segment_name = u16_at(bytes, 0x28) as usize + 10;
+    segment_name + name_size(bytes, segment_name, u8_at(bytes, 0x0D))
+}
+
+fn is_listed(form: u8) -> bool
+    ensures { result ≡ is_listed form }
+{
+    matches!(form, 0x00 | 0x01 | 0x02 | 0x04 | 0x08 | 0x10 | 0x12)
+}
+
+/// The fault of the first check that holds.
+#[tactic(auto, unfolding(omf_format::specs::Header::header_fault, omf_format::specs::Header::header_checks))]
+fn first_fault(bytes: &[u8]) -> Option<HeaderFault>
+    requires { length bytes.now < 2 ^ 32 }
+    ensures { result ≡ header_fault bytes.now }
+{
+    let size = bytes.len() as u32;
+    if size < 44 {
+        return Some(HeaderFault::Truncated(size));
+    }
+    if u8_at(bytes, 0x0E) != 4 {
+        return Some(HeaderFault::Unsupported(Field::NumLen));
+    }
+    if u8_at(bytes, 0x0F) != 2 {
+        return Some(HeaderFault::Unsupported(Field::Version));
+    }
+    if u32_at(bytes, 0x10) > 0x10000 {
+        return Some(HeaderFault::BadField(Field::BankSize));
+    }
+    if !is_listed((u16_at(bytes, 0x14) % 32) as u8) {
+        return Some(HeaderFault::Unsupported(Field::Kind));
+    }
+    if u8_at(bytes, 0x20) != 0 {
+        return Some(HeaderFault::Unsupported(Field::NumSex));
+    }
+    if u16_at(bytes, 0x28) < 0x2C {
+        return Some(HeaderFault::BadField(Field::DispName));
+    }
+    if u32_at(bytes, 0x00) > size {
+        return Some(HeaderFault::Truncated(size));
+    }
+    if is_data_misplaced(bytes) {
+        return Some(HeaderFault::BadField(Field::DispData));
+    }
+    if u32_at(bytes, 0x04) > u32_at(bytes, 0x08) {
+        return Some(HeaderFault::BadField(Field::ResSpc));
+    }
+    None
+}
+
+/// The names end after DISPDATA, or DISPDATA exceeds BYTECNT.
+fn is_data_misplaced(bytes: &[u8]) -> bool
+    requires { 44 ≤ length bytes.now }
+    ensures { result ≡ (nat_lt (number_at 2 0x2A bytes.now) (names_end bytes.now) || nat_lt (number_at 4 0x00 bytes.now) (number_at 2 0x2A bytes.now)) }
+{
+    let disp_data = u16_at(bytes, 0x2A);
+    names_end(bytes) > disp_data as usize || u32::from(disp_data) > u32_at(bytes, 0x00)
+}
