@@ -214,3 +214,10 @@ header_fault-written f n rest fits writable long =
   where
     both_false : (a b : Bool) → a ≡ false → b ≡ false → (a || b) ≡ false
     both_false a b p q = rw (p, q) refl
+
+-- the same of bytes that are a written header
+pub written_passes : (f : Fields) (n : ℕ) (header rest : List ℕ) → header ≡ header_bytes f n → FitsWritten f n → IsWritable f → n ≤ length rest → header_fault (header ++ rest) ≡ None
+written_passes f n header rest is fits writable long = ap (λ (h : List ℕ). header_fault (h ++ rest)) is ∙ header_fault-written f n rest fits writable long
+
+pub written_reads : (f : Fields) (n : ℕ) (header rest : List ℕ) → header ≡ header_bytes f n → FitsWritten f n → fields_of (header ++ rest) ≡ written_fields f n
+written_reads f n header rest is fits = ap (λ (h : List ℕ). fields_of (h ++ rest)) is ∙ fields_of-written f n rest fits

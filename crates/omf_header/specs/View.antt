@@ -8,21 +8,21 @@ use Rattle.omf_header.specs.declared.header.Header.{Header}
 -- the fields of a header
 abbrev pub fields : Header → Fields
 fields h = record {
-    byte_count = h.byte_count;
-    res_spc = h.res_spc;
-    length = h.length;
-    lab_len = h.lab_len;
-    bank_size = h.bank_size;
-    kind = h.kind.bits;
-    org = h.org;
-    align = h.align;
-    seg_num = h.seg_num;
-    entry = h.entry;
-    disp_name = h.disp_name;
-    disp_data = h.disp_data;
-    load_name = h.load_name;
-    name = h.name
-  }
+  byte_count = h.byte_count;
+  res_spc = h.res_spc;
+  length = h.length;
+  lab_len = h.lab_len;
+  bank_size = h.bank_size;
+  kind = h.kind.bits;
+  org = h.org;
+  align = h.align;
+  seg_num = h.seg_num;
+  entry = h.entry;
+  disp_name = h.disp_name;
+  disp_data = h.disp_data;
+  load_name = h.load_name;
+  name = h.name;
+}
 
 -- the fault is the first one of the header at the front of the bytes, unless memory ran out
 abbrev pub IsRefused : HeaderFault → List ℕ → Type 0

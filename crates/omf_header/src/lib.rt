@@ -4,10 +4,10 @@
 mod header;
 mod kind;
 mod reading;
-
+mod writing;
 
 pub use header::Header;
 pub use kind::Kind;
 pub use omf_format::{Field, HeaderFault};
-
-
+pub use reading::read_header;
+pub use writing::{WriteHeaderFault, write_header};

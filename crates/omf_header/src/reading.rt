@@ -1,6 +1,6 @@
 //! Reading a header: the fields at their displacements, and the first of the checks that holds.
 
-ghost use Rattle.std.specs.Prelude.{◌≡◌, ◌+◌, ◌<◌, ◌≤◌, ◌^◌, ◌||◌, nat_lt, length, take, drop, None, IfOk, IfErr};
+ghost use Rattle.std.specs.Prelude.{◌≡◌, ◌+◌, ◌<◌, ◌≤◌, ◌^◌, ◌||◌, nat_lt, length, take, drop, None, OnOk, IfOk, IfErr};
 ghost use Rattle.omf_format.specs.Number.{number_at};
 ghost use Rattle.omf_format.specs.Name.{name_at, name_size, without_trailing};
 ghost use Rattle.omf_format.specs.Header.{fields_of, names_end, form_of, is_listed, header_fault};
@@ -9,7 +9,7 @@ ghost use Rattle.omf_header.specs.View.{fields, IsRefused};
 use crate::header::Header;
 use crate::kind::Kind;
 use byteorder::{ByteOrder, LittleEndian};
-use omf_base::Name;
+use omf_base::{Name, NameFault, without_trailing};
 use omf_format::{Field, HeaderFault};
 use std::alloc::Global;
 
@@ -119,4 +119,97 @@ fn is_data_misplaced(bytes: &[u8]) -> bool
 {
     let disp_data = u16_at(bytes, 0x2A);
     names_end(bytes) > disp_data as usize || u32::from(disp_data) > u32_at(bytes, 0x00)
+}
+
+/// The name there, which ends within the bytes.
+#[tactic(auto, unfolding(omf_format::specs::Name::name_at, omf_format::specs::Name::name_size))]
+fn name_text(bytes: &[u8], at: usize, lab_len: u8) -> &[u8]
+    requires { at + name_size lab_len at bytes.now ≤ length bytes.now }
+    ensures value { result.now ≡ name_at lab_len at bytes.now }
+    ensures short { length result.now ≤ 255 }
+{
+    if lab_len == 0 {
+        let size = u8_at(bytes, at) as usize;
+        front_of(bytes, at + 1, size)
+    } else {
+        without_trailing(front_of(bytes, at, lab_len as usize), b' ')
+    }
+}
+
+/// So many bytes from there on.
+fn front_of(bytes: &[u8], at: usize, size: usize) -> &[u8]
+    requires { at + size ≤ length bytes.now }
+    ensures value { result.now ≡ take size (drop at bytes.now) }
+    ensures size { length result.now ≡ size }
+{
+    &bytes[at..at + size]
+}
+
+fn load_name(bytes: &[u8], at: usize) -> [u8; 10]
+    requires { at + 10 ≤ length bytes.now }
+    ensures { result ≡ take 10 (drop at bytes.now) }
+{
+    let mut name = [0; 10];
+    name.copy_from_slice(front_of(bytes, at, 10));
+    name
+}
+
+/// The name's own copy of a text that is short enough.
+fn owned_name(alloc: Global, text: &[u8]) -> Result<Name, HeaderFault>
+    requires { length text.now ≤ 255 }
+    ensures ok { IfOk result (λ name. name ≡ text.now) }
+    ensures err { IfErr result (λ fault. fault ≡ HeaderFault.Memory) }
+{
+    match Name::of(alloc, text) {
+        Ok(name) => Ok(name),
+        Err(NameFault::TooLong) => unreachable!(),
+        Err(NameFault::Memory) => Err(HeaderFault::Memory),
+    }
+}
+
+/// The fields, where no check holds.
+#[tactic(auto, using(omf_format::specs::HeaderLaws::sound_from_none), unfolding(omf_format::specs::Header::fields_of, omf_format::specs::Header::names_end))]
+fn header_of(alloc: Global, bytes: &[u8]) -> Result<Header, HeaderFault>
+    requires { header_fault bytes.now ≡ None }
+    ensures ok { IfOk result (λ h. fields h ≡ fields_of bytes.now) }
+    ensures err { IfErr result (λ fault. fault ≡ HeaderFault.Memory) }
+{
+    let disp_name = u16_at(bytes, 0x28);
+    let lab_len = u8_at(bytes, 0x0D);
+    let names = disp_name as usize;
+    let name = owned_name(alloc, name_text(bytes, names + 10, lab_len))?;
+    Ok(Header {
+        byte_count: u32_at(bytes, 0x00),
+        res_spc: u32_at(bytes, 0x04),
+        length: u32_at(bytes, 0x08),
+        lab_len,
+        bank_size: u32_at(bytes, 0x10),
+        kind: Kind {
+            bits: u16_at(bytes, 0x14),
+        },
+        org: u32_at(bytes, 0x18),
+        align: u32_at(bytes, 0x1C),
+        seg_num: u16_at(bytes, 0x22),
+        entry: u32_at(bytes, 0x24),
+        disp_name,
+        disp_data: u16_at(bytes, 0x2A),
+        load_name: load_name(bytes, names),
+        name,
+    })
+}
+
+/// The header at the front of the bytes, which are those from the segment's start to the file's end.
+///
+/// The fault is that of the first check that holds, in the order of the standard's fields that the project
+/// chose: the bytes, NUMLEN, VERSION, BANKSIZE, KIND, NUMSEX, DISPNAME, BYTECNT, DISPDATA, RESSPC.
+pub fn read_header(alloc: Global, bytes: &[u8]) -> Result<Header, HeaderFault>
+    requires { length bytes.now < 2 ^ 32 }
+    ensures passes { OnOk result (header_fault bytes.now ≡ None) }
+    ensures fields { IfOk result (λ header. fields header ≡ fields_of bytes.now) }
+    ensures refused { IfErr result (λ fault. IsRefused fault bytes.now) }
+{
+    match first_fault(bytes) {
+        None => header_of(alloc, bytes),
+        Some(fault) => Err(fault),
+    }
 }

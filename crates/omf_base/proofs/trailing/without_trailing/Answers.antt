@@ -10,8 +10,8 @@ trim-preserved c = record {
   same = trim-step c.args.byte c.trim.end c.args.bytes.now (omega arith) c.trim.invariant.within c.if-bytes-end.true ∙ c.trim.invariant.same;
 }
 
-pub returns : goal.returns
-returns c =
+pub returns-clause-value : goal.returns-clause-value
+returns-clause-value c =
     elim c.trim-test.branch [
       | then-trim-test+else-bytes-end w ↦ sym (trim-end c.args.byte c.trim.end c.args.bytes.now (omega arith) c.trim.invariant.within w.if-bytes-end.false) ∙ c.trim.invariant.same
       | else-trim-test w ↦ trim-none c.args.byte c.trim.end c.args.bytes.now (omega arith) ∙ c.trim.invariant.same
