@@ -1,0 +1,11 @@
+//! The records of bodies, lent from the file, and the segments of a file (GS/OS Reference, appendix F,
+//! "Segment body").
+#![tactic(auto)]
+
+mod front;
+mod reading;
+mod record;
+
+pub use omf_format::{FileCause, FileFault, RecordFault};
+
+pub use record::Rec;

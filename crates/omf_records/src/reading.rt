@@ -1,0 +1,92 @@
+//! Reading a body, record by record, with no memory taken.
+
+ghost use Rattle.std.specs.Prelude.{◌≡◌, ◌<◌, ◌≤◌, false, length, slice_index, IfOk, OnSome};
+ghost use Rattle.omf_format.specs.Reading.{next_answer, after_next, fault_at, is_end};
+ghost use Rattle.omf_records.specs.View.{seen, view};
+
+use crate::front::record_at_front;
+use crate::record::Rec;
+use omf_format::{Flaw, RecordFault};
+use std::marker::Model;
+
+/// A reader of a segment's records, in order. Contracts see where it stands: the displacement in the file at which
+/// the segment ends, the bytes that are left, whether END came, and the segment's LABLEN.
+#[derive(Debug, Drop)]
+pub struct Records<'a> {
+    end: u32,
+    left: &'a [u8],
+    ended: bool,
+    lab_len: u8,
+}
+
+impl<'a> Model for Records<'a> {
+    ghost use Rattle.std.specs.Prelude.{◌≤◌, length};
+    ghost use Rattle.omf_format.specs.Reading.{Reader};
+
+    ghost Value = { Reader };
+
+    ghost view = { λ r. record { end = r.end; left = r.left.now; ended = r.ended; lab_len = r.lab_len } };
+
+    ghost invariant = { λ r. length r.left.now ≤ r.end };
+}
+
+impl<'a> Records<'a> {
+    /// A reader of these bytes, which end at the displacement `end` in the file.
+    pub(crate) fn new(end: u32, left: &'a [u8], lab_len: u8) -> Records<'a>
+        requires { length left.now ≤ end }
+        ensures { result ≡ record { end = end; left = left.now; ended = false; lab_len = lab_len } }
+    {
+        Records {
+            end,
+            left,
+            ended: false,
+            lab_len,
+        }
+    }
+
+    /// The next record, with the displacement of its code in the file. END is handed out, and None comes after it.
+    /// After a fault the same fault comes again. What stands behind END in the segment isn't read.
+    #[tactic(auto, unfolding(omf_format::specs::Reading::next_answer, omf_format::specs::Reading::after_next))]
+    pub fn next(&mut self) -> Result<Option<(u32, Rec<'a>)>, RecordFault>
+        ensures answer { seen result ≡ next_answer self.old }
+        ensures after { self.new ≡ after_next self.old }
+
+        // Each record that comes makes what is left shorter.
+        ensures shorter { IfOk result (λ found. OnSome found (length self.new.left < length self.old.left)) }
+    {
+        if self.ended {
+            return Ok(None);
+        }
+        let at = self.end - self.left.len() as u32;
+        match record_at_front(self.left, self.lab_len) {
+            Ok((rec, left)) => {
+                self.ended = is_end(&rec);
+                self.left = left;
+                Ok(Some((at, rec)))
+            }
+            Err(flaw) => Err(self.fault(flaw)),
+        }
+    }
+
+    /// A flaw of the next record, with its place.
+    fn fault(&self, flaw: Flaw) -> RecordFault
+        ensures { result ≡ fault_at self.now flaw }
+    {
+        let at = self.end - self.left.len() as u32;
+        let code = match self.left {
+            [] => 0,
+            [code, ..] => *code,
+        };
+        match flaw {
+            Flaw::Cut => RecordFault::Truncated(self.end),
+            Flaw::Unread => RecordFault::Unsupported(code, at),
+            Flaw::Broken => RecordFault::BadRecord(at),
+        }
+    }
+}
+
+fn is_end(rec: &Rec) -> bool
+    ensures { result ≡ is_end (view rec.now) }
+{
+    matches!(rec, Rec::End)
+}
