@@ -1,10 +1,11 @@
 -- A file is read in one way: it has one list of segments, or one first fault, and not both.
 use Rattle.std.proofs.Common.{◌≡◌, ℕ, zero, suc, ◌+◌, ◌<◌, ◌≤◌, Bool, true, false, cond, List, [], ◌∷◌, ◌++◌, length, take, drop, Option, Some, None, Result, Ok, Err, refl, sym, ap, subst, ◌∙◌, arith}
-use Rattle.std.proofs.lemmas.List.{append-nil}
+use Rattle.std.proofs.lemmas.List.{append-nil, length-drop}
 use Rattle.omf_format.specs.declared.fault.HeaderFault.{HeaderFault}
 use Rattle.omf_format.specs.declared.fault.RecordFault.{RecordFault}
 use Rattle.omf_format.specs.declared.fault.FileFault.{FileFault}
-use Rattle.omf_format.specs.Header.{Fields, fields_of, header_fault}
+use Rattle.omf_format.specs.Header.{Fields, fields_of, names_end, header_fault}
+use Rattle.omf_format.specs.HeaderLaws.{IsSound, sound_from_none}
 use Rattle.omf_format.specs.Record.{Record}
 use Rattle.omf_format.specs.Reading.{Reader, front, told, moved, next_answer, after_next, HandsOut}
 use Rattle.omf_format.specs.File.{Segment, body_reader, IsHeader, IsSegment, AreSegments, IsFile, SaysHeader, SaysRecord, HasFault, InHeader, InRecord, IsFirstFault}
@@ -144,3 +145,34 @@ no_file file fault segments first is =
     stops : (more : List Segment) → AreSegments more first.at file (length file) → ⊥
     stops [] h = absurd (omega (arith, first.more))
     stops (s ∷ more) h = no_segment first.at file fault s first.here h.0 h.2
+
+-- ---- a segment lies in its file
+
+names_end-some : (bytes : List ℕ) → 10 ≤ names_end bytes
+unfolding names_end
+names_end-some bytes = omega arith
+
+-- the body begins in the segment, and the segment, which isn't empty, ends in the file
+pub record LiesIn (start : ℕ) (f : Fields) (file : List ℕ) : Type 0 where
+  pub ordered : f.disp_data ≤ f.byte_count
+  pub within : start + f.byte_count ≤ length file
+  pub some : 0 < f.byte_count
+
+pub header_lies : (start : ℕ) (f : Fields) (file : List ℕ) → IsHeader start f file → LiesIn start f file
+header_lies start f file is =
+    let bytes = drop start file in
+    let sound : IsSound bytes f = subst (IsSound bytes) (sym is.fields) (sound_from_none bytes is.passes) in
+    let names = names_end-some bytes in
+    record {
+      ordered = sound.data';
+      within = omega (arith, length-drop start file, sound.whole, sound.long);
+      some = omega (arith, names, sound.names, sound.data');
+    }
+
+-- segments end no sooner than they start, and each takes a byte at least
+pub segments_fit : (segments : List Segment) (at : ℕ) (file : List ℕ) (next : ℕ) → AreSegments segments at file next → at + length segments ≤ next
+segments_fit [] at file next are = omega arith
+segments_fit (s ∷ segments) at file next are =
+    let lies = header_lies s.start s.fields file are.2.header in
+    let rest = segments_fit segments (at + s.fields.byte_count) file next are.3 in
+    omega (arith, lies.some)

@@ -7,6 +7,7 @@ use Rattle.std.proofs.lemmas.List.{take_at, drop_at, length-append, length-take,
 use Rattle.byteorder.specs.Endian.{little_number, little_bytes}
 use Rattle.byteorder.specs.Numbers.{little_number-reads_back, length-bytes_low_first, little_from-lt}
 use Rattle.omf_format.specs.declared.fault.HeaderFault.{HeaderFault}
+use Rattle.omf_format.specs.declared.fault.HeaderFault.TheVariants.{Truncated, Unsupported, BadField, Memory}
 use Rattle.omf_format.specs.Number.{number_at}
 use Rattle.omf_format.specs.Name.{name_at, name_size}
 use Rattle.omf_format.specs.Header.{Fields, fields_of, names_end, form_of, is_listed, header_checks, first_of, header_fault, laid_out, written_fields, written_numbers, header_bytes}
@@ -104,3 +105,39 @@ number_at-laid_out (field ∷ fields) (suc k) w n rest at fits =
     ap (λ (l : List ℕ). little_number w (drop (field.0 + size_of (take k fields)) l)) regrouped
     ∙ ap (little_number w) (drop-more (little_bytes field.0 field.1) (laid_out fields ++ rest) field.0 (size_of (take k fields)) width)
     ∙ number_at-laid_out fields k w n rest at fits
+
+-- ---- what a fault says
+
+-- a cut header ends with the bytes, and a fault of a field comes only where all fields are there
+abbrev pub FitsFault : HeaderFault → ℕ → Type 0
+FitsFault (Truncated n) size = n ≡ size
+FitsFault (Unsupported field) size = 44 ≤ size
+FitsFault (BadField field) size = 44 ≤ size
+FitsFault Memory size = ⊥
+
+abbrev some_of : {F : Type 0} → F → Option F
+some_of x = Some x
+
+some_is : {F : Type 0} (x y : F) → some_of x ≡ some_of y → x ≡ y
+some_is x y e = cc
+
+-- the fault of the first check that holds is one of those of the checks
+found_among : {F : Type 0} (P : F → Type 0) (checks : List (Bool × F)) (f : F) → AllByRecursion (λ c. P c.1) checks → first_of checks ≡ Some f → P f
+found_among P [] f each e = absurd cc
+found_among {F = F} P (check ∷ checks) f each e = cases check.0 e (found_among P checks f each.1)
+  where
+    cases : (b : Bool) → cond b (Some check.1) (first_of checks) ≡ Some f → (first_of checks ≡ Some f → P f) → P f
+    cases true e later = subst P (some_is check.1 f e) each.0
+    cases false e later = later e
+
+pub fault_fits : (bytes : List ℕ) (f : HeaderFault) → header_fault bytes ≡ Some f → FitsFault f (length bytes)
+unfolding header_fault header_checks
+fault_fits bytes f e = cases (ltb (length bytes) 44) (ltb-false (length bytes) 44) e
+  where
+    others : List (Bool × HeaderFault)
+    others = drop 1 (header_checks bytes)
+    cases : (b : Bool) → (b ≡ false → 44 ≤ length bytes) → cond b (Some (Truncated (length bytes))) (first_of others) ≡ Some f → FitsFault f (length bytes)
+    cases true long e = subst (λ (g : HeaderFault). FitsFault g (length bytes)) (some_is (Truncated (length bytes)) f e) refl
+    cases false long e =
+      let enough = long refl in
+      found_among (λ g. FitsFault g (length bytes)) others f (enough, (enough, (enough, (enough, (enough, (enough, (refl, (enough, (enough, tt))))))))) e

@@ -2,9 +2,11 @@
 //! "Segment body").
 #![tactic(auto)]
 
+mod checks;
 mod front;
 mod reading;
 mod record;
+mod segment;
 
 pub use omf_format::{FileCause, FileFault, RecordFault};
 

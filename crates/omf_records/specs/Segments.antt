@@ -1,0 +1,70 @@
+-- How the segments of a file are seen, and why a file is refused.
+use Rattle.std.specs.Prelude.{◌≡◌, ℕ, ◌+◌, ◌<◌, ◌^◌, true, List, length, map, Some}
+use Rattle.omf_format.specs.declared.fault.HeaderFault.{HeaderFault}
+use Rattle.omf_format.specs.declared.fault.HeaderFault.TheVariants as header
+use Rattle.omf_format.specs.declared.fault.RecordFault.{RecordFault}
+use Rattle.omf_format.specs.declared.fault.FileCause.{FileCause}
+use Rattle.omf_format.specs.declared.fault.FileCause.TheVariants.{Truncated, BadHeader, Unsupported, BadRecord, Memory}
+use Rattle.omf_format.specs.declared.fault.FileFault.{FileFault}
+use Rattle.omf_format.specs.Header.{Fields, header_fault}
+use Rattle.omf_format.specs.Record.{Record}
+use Rattle.omf_format.specs.Reading.{Reader, HandsOut}
+use Rattle.omf_format.specs.File.{Segment, IsHeader, HasFault, IsFirstFault, SaysHeader}
+use Rattle.omf_header.specs.View.{fields}
+use Rattle.omf_records.specs.declared.segment.SegmentView.{SegmentView}
+
+-- a segment's place in a file, and its header
+pub record Placed : Type 0 where
+  pub start : ℕ
+  pub fields : Fields
+  pub file : List ℕ
+
+-- a view without where its file lies
+abbrev pub placed : SegmentView → Placed
+placed v = record { start = v.start; fields = fields v.header; file = v.file.now }
+
+-- the views of a file's segments, in order
+abbrev pub views_of : List ℕ → List Segment → List Placed
+views_of file segments = map (λ s. record { start = s.start; fields = s.fields; file = file }) segments
+
+-- a header stands there and passes its checks, in a file of fewer than 2 ^ 32 bytes
+pub record IsPlaced (p : Placed) : Type 0 where
+  pub short : length p.file < 2 ^ 32
+  pub header : IsHeader p.start p.fields p.file
+
+-- the records come to END from there on
+pub record ComesToEnd (reader : Reader) : Type 0 where
+  pub records : List (ℕ × Record)
+  pub last : Reader
+  pub run : HandsOut reader records last
+  pub ended : last.ended ≡ true
+
+-- a fault of want of memory has no place, and every other one is this
+abbrev pub UnlessMemory : FileCause → FileFault → Type 0 → Type 0
+UnlessMemory Truncated fault P = P
+UnlessMemory BadHeader fault P = P
+UnlessMemory Unsupported fault P = P
+UnlessMemory BadRecord fault P = P
+UnlessMemory Memory fault P = (fault.segment ≡ 0) × (fault.at ≡ 0)
+
+-- the fault is the first one of the file, unless memory ran out
+abbrev pub IsRefused : FileFault → List ℕ → Type 0
+IsRefused fault file = UnlessMemory fault.cause fault (IsFirstFault file fault)
+
+-- the fault is that of the segment with this number that starts there, unless memory ran out
+abbrev pub IsSegmentFault : FileFault → ℕ → ℕ → List ℕ → Type 0
+IsSegmentFault fault number start file = UnlessMemory fault.cause fault ((fault.segment ≡ number) × HasFault start file fault)
+
+-- a header's fault as one of the file, in the segment with this number
+abbrev pub IsHeaderFault : HeaderFault → ℕ → ℕ → FileFault → Type 0
+IsHeaderFault (header.Truncated n) start number fault = (fault.segment ≡ number) × SaysHeader (header.Truncated n) start fault
+IsHeaderFault (header.Unsupported field) start number fault = (fault.segment ≡ number) × SaysHeader (header.Unsupported field) start fault
+IsHeaderFault (header.BadField field) start number fault = (fault.segment ≡ number) × SaysHeader (header.BadField field) start fault
+IsHeaderFault header.Memory start number fault = (fault.cause ≡ Memory) × (fault.segment ≡ 0) × (fault.at ≡ 0)
+
+-- the place of a header's fault fits 32 bits
+abbrev pub HasPlace : HeaderFault → ℕ → Type 0
+HasPlace (header.Truncated n) start = start + n < 2 ^ 32
+HasPlace (header.Unsupported field) start = start + 44 < 2 ^ 32
+HasPlace (header.BadField field) start = start + 44 < 2 ^ 32
+HasPlace header.Memory start = Unit {0}

@@ -1,0 +1,81 @@
+//! The headers and records of a file's segments, checked in order.
+
+ghost use Rattle.std.specs.Prelude.{◌≡◌, ◌+◌, ◌<◌, ◌≤◌, ◌^◌, length, drop, OnOk, IfOk, IfErr};
+ghost use Rattle.omf_format.specs.Header.{displacement_of};
+ghost use Rattle.omf_format.specs.File.{body_reader, IsHeader};
+ghost use Rattle.omf_header.specs.View.{fields};
+ghost use Rattle.omf_records.specs.Segments.{placed, IsPlaced, ComesToEnd, IsSegmentFault, IsHeaderFault, HasPlace};
+
+use crate::reading::Records;
+use crate::segment::SegmentView;
+use omf_format::{Field, FileCause, FileFault, HeaderFault};
+use omf_header::{Header, read_header};
+use std::alloc::Global;
+
+/// The header that stands there, in the segment with this number.
+fn header_at(alloc: Global, file: &[u8], start: u32, number: u32) -> Result<Header, FileFault>
+    requires short { length file.now < 2 ^ 32 }
+    requires inside { start < length file.now }
+    ensures ok { IfOk result (λ header. IsHeader start (fields header) file.now) }
+    ensures err { IfErr result (λ fault. IsSegmentFault fault number start file.now) }
+{
+    match read_header(alloc, from(file, start as usize)) {
+        Ok(header) => Ok(header),
+        Err(fault) => Err(file_fault(fault, number, start)),
+    }
+}
+
+/// The bytes from a displacement on.
+fn from(bytes: &[u8], at: usize) -> &[u8]
+    requires { at ≤ length bytes.now }
+    ensures value { result.now ≡ drop at bytes.now }
+    ensures size { length result.now ≤ length bytes.now }
+{
+    &bytes[at..]
+}
+
+/// A header's fault as one of the file.
+fn file_fault(fault: HeaderFault, segment: u32, start: u32) -> FileFault
+    requires { HasPlace fault start }
+    ensures { IsHeaderFault fault start segment result }
+{
+    match fault {
+        HeaderFault::Truncated(size) => FileFault {
+            cause: FileCause::Truncated,
+            segment,
+            at: start + size,
+        },
+        HeaderFault::Unsupported(field) => FileFault {
+            cause: FileCause::Unsupported,
+            segment,
+            at: start + displacement_of(field),
+        },
+        HeaderFault::BadField(field) => FileFault {
+            cause: FileCause::BadHeader,
+            segment,
+            at: start + displacement_of(field),
+        },
+        HeaderFault::Memory => FileFault {
+            cause: FileCause::Memory,
+            segment: 0,
+            at: 0,
+        },
+    }
+}
+
+/// Where in the header a field stands.
+fn displacement_of(field: Field) -> u32
+    ensures value { result ≡ displacement_of field }
+    ensures small { result < 44 }
+{
+    match field {
+        Field::NumLen => 0x0E,
+        Field::Version => 0x0F,
+        Field::BankSize => 0x10,
+        Field::Kind => 0x14,
+        Field::NumSex => 0x20,
+        Field::DispName => 0x28,
+        Field::DispData => 0x2A,
+        Field::ResSpc => 0x04,
+    }
+}
