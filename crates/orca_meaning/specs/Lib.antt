@@ -1,0 +1,3 @@
+pub mod Length
+pub mod Matrix
+pub mod MatrixLaws
