@@ -1,1 +1,2 @@
 pub mod SegmentFaults
+pub mod Runs

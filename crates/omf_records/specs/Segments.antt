@@ -1,5 +1,5 @@
 -- How the segments of a file are seen, and why a file is refused.
-use Rattle.std.specs.Prelude.{◌≡◌, ℕ, ◌+◌, ◌<◌, ◌^◌, true, List, length, map, Some}
+use Rattle.std.specs.Prelude.{◌≡◌, ℕ, ◌+◌, ◌<◌, ◌^◌, true, List, length, map, Some, Err}
 use Rattle.omf_format.specs.declared.fault.HeaderFault.{HeaderFault}
 use Rattle.omf_format.specs.declared.fault.HeaderFault.TheVariants as header
 use Rattle.omf_format.specs.declared.fault.RecordFault.{RecordFault}
@@ -8,8 +8,8 @@ use Rattle.omf_format.specs.declared.fault.FileCause.TheVariants.{Truncated, Bad
 use Rattle.omf_format.specs.declared.fault.FileFault.{FileFault}
 use Rattle.omf_format.specs.Header.{Fields, header_fault}
 use Rattle.omf_format.specs.Record.{Record}
-use Rattle.omf_format.specs.Reading.{Reader, HandsOut}
-use Rattle.omf_format.specs.File.{Segment, IsHeader, HasFault, IsFirstFault, SaysHeader}
+use Rattle.omf_format.specs.Reading.{Reader, next_answer, HandsOut}
+use Rattle.omf_format.specs.File.{Segment, IsHeader, HasFault, IsFirstFault, SaysHeader, SaysRecord}
 use Rattle.omf_header.specs.View.{fields}
 use Rattle.omf_records.specs.declared.segment.SegmentView.{SegmentView}
 
@@ -38,6 +38,15 @@ pub record ComesToEnd (reader : Reader) : Type 0 where
   pub last : Reader
   pub run : HandsOut reader records last
   pub ended : last.ended ≡ true
+
+-- the first record that doesn't come, from there on, has this fault
+pub record HasRecordFault (reader : Reader) (fault : FileFault) : Type 0 where
+  pub before : List (ℕ × Record)
+  pub at : Reader
+  pub of : RecordFault
+  pub run : HandsOut reader before at
+  pub fails : next_answer at ≡ Err of
+  pub says : SaysRecord of fault
 
 -- a fault of want of memory has no place, and every other one is this
 abbrev pub UnlessMemory : FileCause → FileFault → Type 0 → Type 0

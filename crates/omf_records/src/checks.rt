@@ -2,13 +2,13 @@
 
 ghost use Rattle.std.specs.Prelude.{◌≡◌, ◌+◌, ◌<◌, ◌≤◌, ◌^◌, length, drop, OnOk, IfOk, IfErr};
 ghost use Rattle.omf_format.specs.Header.{displacement_of};
-ghost use Rattle.omf_format.specs.File.{body_reader, IsHeader};
+ghost use Rattle.omf_format.specs.File.{body_reader, IsHeader, SaysRecord};
 ghost use Rattle.omf_header.specs.View.{fields};
-ghost use Rattle.omf_records.specs.Segments.{placed, IsPlaced, ComesToEnd, IsSegmentFault, IsHeaderFault, HasPlace};
+ghost use Rattle.omf_records.specs.Segments.{placed, IsPlaced, ComesToEnd, HasRecordFault, IsSegmentFault, IsHeaderFault, HasPlace};
 
 use crate::reading::Records;
 use crate::segment::SegmentView;
-use omf_format::{Field, FileCause, FileFault, HeaderFault};
+use omf_format::{Field, FileCause, FileFault, HeaderFault, RecordFault};
 use omf_header::{Header, read_header};
 use std::alloc::Global;
 
@@ -77,5 +77,44 @@ fn displacement_of(field: Field) -> u32
         Field::DispName => 0x28,
         Field::DispData => 0x2A,
         Field::ResSpc => 0x04,
+    }
+}
+
+/// A record's fault as one of the file.
+fn record_fault(fault: RecordFault, segment: u32) -> FileFault
+    ensures number { result.segment ≡ segment }
+    ensures says { SaysRecord fault result }
+{
+    match fault {
+        RecordFault::Truncated(at) => FileFault {
+            cause: FileCause::Truncated,
+            segment,
+            at,
+        },
+        RecordFault::Unsupported(_, at) => FileFault {
+            cause: FileCause::Unsupported,
+            segment,
+            at,
+        },
+        RecordFault::BadRecord(at) => FileFault {
+            cause: FileCause::BadRecord,
+            segment,
+            at,
+        },
+    }
+}
+
+/// Goes over the records up to END.
+fn check_records(records: Records, number: u32) -> Result<(), FileFault>
+    ensures ok { OnOk result (ComesToEnd records.entry) }
+    ensures err { IfErr result (λ fault. (fault.segment ≡ number) × HasRecordFault records.entry fault) }
+{
+    let mut records = records;
+    'records: loop {
+        match records.next() {
+            Ok(None) => return Ok(()),
+            Ok(Some(_)) => {}
+            Err(fault) => return Err(record_fault(fault, number)),
+        }
     }
 }

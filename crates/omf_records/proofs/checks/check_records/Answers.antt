@@ -1,0 +1,15 @@
+use Rattle.std.proofs.Common.{ℕ, sym, subst}
+use Rattle.omf_format.specs.Reading.{Reader}
+use Rattle.omf_records.proofs.Runs.{Ran, ran_more, comes_to_end}
+use Rattle.omf_records.specs.View.{view}
+use Rattle.omf_records.proofs.checks.check_records.Goals as goal
+
+pub returns-in-Ok-None-clause-ok : goal.returns-in-Ok-None-clause-ok
+returns-in-Ok-None-clause-ok c =
+    comes_to_end c.args.records c.records.records c.records.invariant (sym (rw c.in-Ok-None.field-0-is at c.in-Ok-None.ensures.answer))
+
+pub records-preserved : goal.records-preserved
+records-preserved c =
+    let found = c.in-Ok-Some.field-0-0 in
+    let more = ran_more c.args.records c.records.records (found.0, view found.1) c.records.invariant (sym (rw c.in-Ok-Some.field-0-is at c.in-Ok-Some.ensures.answer)) in
+    subst (λ (r : Reader). Ran c.args.records r) (sym c.in-Ok-Some.ensures.after) more
