@@ -1,5 +1,5 @@
 -- A file is read in one way: it has one list of segments, or one first fault, and not both.
-use Rattle.std.proofs.Common.{◌≡◌, ℕ, zero, suc, ◌+◌, ◌<◌, ◌≤◌, Bool, true, false, cond, List, [], ◌∷◌, ◌++◌, length, take, drop, Option, Some, None, Result, Ok, Err, refl, sym, ap, subst, ◌∙◌, arith}
+use Rattle.std.proofs.Common.{◌≡◌, ℕ, zero, suc, ◌+◌, ◌*◌, ◌<◌, ◌≤◌, Bool, true, false, cond, List, [], ◌∷◌, ◌++◌, length, take, drop, Option, Some, None, Result, Ok, Err, refl, sym, ap, subst, ◌∙◌, arith}
 use Rattle.std.proofs.lemmas.List.{append-nil, length-drop}
 use Rattle.omf_format.specs.declared.fault.HeaderFault.{HeaderFault}
 use Rattle.omf_format.specs.declared.fault.RecordFault.{RecordFault}
@@ -152,11 +152,11 @@ names_end-some : (bytes : List ℕ) → 10 ≤ names_end bytes
 unfolding names_end
 names_end-some bytes = omega arith
 
--- the body begins in the segment, and the segment, which isn't empty, ends in the file
+-- the body begins in the segment, and the segment, which has ten bytes at least, ends in the file
 pub record LiesIn (start : ℕ) (f : Fields) (file : List ℕ) : Type 0 where
   pub ordered : f.disp_data ≤ f.byte_count
   pub within : start + f.byte_count ≤ length file
-  pub some : 0 < f.byte_count
+  pub some : 10 ≤ f.byte_count
 
 pub header_lies : (start : ℕ) (f : Fields) (file : List ℕ) → IsHeader start f file → LiesIn start f file
 header_lies start f file is =
@@ -169,8 +169,8 @@ header_lies start f file is =
       some = omega (arith, names, sound.names, sound.data');
     }
 
--- segments end no sooner than they start, and each takes a byte at least
-pub segments_fit : (segments : List Segment) (at : ℕ) (file : List ℕ) (next : ℕ) → AreSegments segments at file next → at + length segments ≤ next
+-- each segment takes ten bytes at least
+pub segments_fit : (segments : List Segment) (at : ℕ) (file : List ℕ) (next : ℕ) → AreSegments segments at file next → at + 10 * length segments ≤ next
 segments_fit [] at file next are = omega arith
 segments_fit (s ∷ segments) at file next are =
     let lies = header_lies s.start s.fields file are.2.header in

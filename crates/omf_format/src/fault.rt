@@ -85,7 +85,7 @@ impl From<AllocError> for FileFault {
     ghost use Rattle.std.specs.Prelude.{◌≡◌};
     ghost use Rattle.omf_format.specs.declared.fault.FileCause.TheVariants as causes;
 
-    ghost from_gives = { λ _ fault. fault.cause ≡ causes.Memory };
+    ghost from_gives = { λ _ fault. (fault.cause ≡ causes.Memory) × (fault.segment ≡ 0) × (fault.at ≡ 0) };
 
     fn from(_: AllocError) -> FileFault {
         FileFault {
@@ -100,7 +100,7 @@ impl<T: Drop> From<AllocFailed<T>> for FileFault {
     ghost use Rattle.std.specs.Prelude.{◌≡◌};
     ghost use Rattle.omf_format.specs.declared.fault.FileCause.TheVariants as causes;
 
-    ghost from_gives = { λ _ fault. fault.cause ≡ causes.Memory };
+    ghost from_gives = { λ _ fault. (fault.cause ≡ causes.Memory) × (fault.segment ≡ 0) × (fault.at ≡ 0) };
 
     fn from(_: AllocFailed<T>) -> FileFault {
         FileFault {

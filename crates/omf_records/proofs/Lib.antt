@@ -1,2 +1,3 @@
 pub mod SegmentFaults
 pub mod Runs
+pub mod Lists

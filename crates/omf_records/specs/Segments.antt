@@ -1,5 +1,5 @@
 -- How the segments of a file are seen, and why a file is refused.
-use Rattle.std.specs.Prelude.{◌≡◌, ℕ, ◌+◌, ◌<◌, ◌^◌, true, List, length, map, Some, Err}
+use Rattle.std.specs.Prelude.{◌≡◌, ℕ, ◌+◌, ◌<◌, ◌^◌, true, List, length, map, All, Some, Err}
 use Rattle.omf_format.specs.declared.fault.HeaderFault.{HeaderFault}
 use Rattle.omf_format.specs.declared.fault.HeaderFault.TheVariants as header
 use Rattle.omf_format.specs.declared.fault.RecordFault.{RecordFault}
@@ -9,7 +9,7 @@ use Rattle.omf_format.specs.declared.fault.FileFault.{FileFault}
 use Rattle.omf_format.specs.Header.{Fields, header_fault}
 use Rattle.omf_format.specs.Record.{Record}
 use Rattle.omf_format.specs.Reading.{Reader, next_answer, HandsOut}
-use Rattle.omf_format.specs.File.{Segment, IsHeader, HasFault, IsFirstFault, SaysHeader, SaysRecord}
+use Rattle.omf_format.specs.File.{Segment, body_reader, IsFile, IsHeader, HasFault, IsFirstFault, SaysHeader, SaysRecord}
 use Rattle.omf_header.specs.View.{fields}
 use Rattle.omf_records.specs.declared.segment.SegmentView.{SegmentView}
 
@@ -38,6 +38,13 @@ pub record ComesToEnd (reader : Reader) : Type 0 where
   pub last : Reader
   pub run : HandsOut reader records last
   pub ended : last.ended ≡ true
+
+-- a segment of the file starts there: its header passes, and its records come to END
+pub record StandsAt (start : ℕ) (file : List ℕ) (p : Placed) : Type 0 where
+  pub placed' : IsPlaced p
+  pub start' : p.start ≡ start
+  pub file' : p.file ≡ file
+  pub records : ComesToEnd (body_reader p.start p.fields p.file)
 
 -- the first record that doesn't come, from there on, has this fault
 pub record HasRecordFault (reader : Reader) (fault : FileFault) : Type 0 where
@@ -77,3 +84,14 @@ HasPlace (header.Truncated n) start = start + n < 2 ^ 32
 HasPlace (header.Unsupported field) start = start + 44 < 2 ^ 32
 HasPlace (header.BadField field) start = start + 44 < 2 ^ 32
 HasPlace header.Memory start = Unit {0}
+
+-- each stands in its file, and they are fewer than 2 ^ 32
+pub record FitsViews (views : List SegmentView) : Type 0 where
+  pub few : length views < 2 ^ 32
+  pub each : All (λ v. IsPlaced (placed v)) views
+
+-- the list is that of the file's segments
+pub record IsListOf (list : List Placed) (file : List ℕ) : Type 0 where
+  pub segments : List Segment
+  pub is_file : IsFile segments file
+  pub views : list ≡ views_of file segments

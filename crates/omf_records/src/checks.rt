@@ -4,7 +4,7 @@ ghost use Rattle.std.specs.Prelude.{◌≡◌, ◌+◌, ◌<◌, ◌≤◌, ◌^
 ghost use Rattle.omf_format.specs.Header.{displacement_of};
 ghost use Rattle.omf_format.specs.File.{body_reader, IsHeader, SaysRecord};
 ghost use Rattle.omf_header.specs.View.{fields};
-ghost use Rattle.omf_records.specs.Segments.{placed, IsPlaced, ComesToEnd, HasRecordFault, IsSegmentFault, IsHeaderFault, HasPlace};
+ghost use Rattle.omf_records.specs.Segments.{placed, IsPlaced, ComesToEnd, StandsAt, HasRecordFault, IsSegmentFault, IsHeaderFault, HasPlace};
 
 use crate::reading::Records;
 use crate::segment::SegmentView;
@@ -116,5 +116,29 @@ fn check_records(records: Records, number: u32) -> Result<(), FileFault>
             Ok(Some(_)) => {}
             Err(fault) => return Err(record_fault(fault, number)),
         }
+    }
+}
+
+/// The segment with this number that starts there, its header and records checked.
+pub fn segment_at(
+    alloc: Global,
+    file: &[u8],
+    start: u32,
+    number: u32,
+) -> Result<SegmentView<'_>, FileFault>
+    requires short { length file.now < 2 ^ 32 }
+    requires inside { start < length file.now }
+    ensures ok { IfOk result (λ view. StandsAt start file.now (placed view)) }
+    ensures err { IfErr result (λ fault. IsSegmentFault fault number start file.now) }
+{
+    let header = header_at(alloc, file, start, number)?;
+    let view = SegmentView {
+        start,
+        header,
+        file,
+    };
+    match check_records(view.records(), number) {
+        Ok(()) => Ok(view),
+        Err(fault) => Err(fault),
     }
 }

@@ -1,0 +1,24 @@
+use Rattle.std.proofs.Common.{◌+◌, List, length, sym, subst, arith}
+use Rattle.omf_format.specs.FileLaws.{segments_fit}
+use Rattle.omf_records.specs.declared.segment.SegmentView.{SegmentView}
+use Rattle.omf_records.proofs.Lists.{Listed, stands_lies, listed_more, refused}
+use Rattle.omf_records.proofs.list.segments.Goals as goal
+
+pub returns-in-Err-clause-refused : goal.returns-in-Err-clause-refused
+returns-in-Err-clause-refused c =
+    refused c.args.file.now c.segments.views.items c.in-Err.fault c.segments.start c.segments.number c.segments.invariant c.segments-test.true c.in-Err.ensures.err
+
+pub overflow_add-number : goal.overflow_add-number
+overflow_add-number c =
+    let fit = segments_fit c.segments.invariant.segments 0 c.args.file.now c.segments.start c.segments.invariant.are in
+    omega (arith, fit, c.segments.invariant.count, c.segments-test.true, c.requires)
+
+pub segments-smaller : goal.segments-smaller
+segments-smaller c =
+    let lies = stands_lies c.in-Ok.view c.segments.start c.args.file.now c.in-Ok.ensures.ok in
+    omega (arith, lies.some, lies.within, c.segments-test.true)
+
+pub segments-preserved : goal.segments-preserved
+segments-preserved c =
+    let more = listed_more c.args.file.now c.segments.views.items c.in-Ok.view c.segments.start c.segments.number c.segments.invariant c.in-Ok.ensures.ok c.segments-test.true in
+    subst (λ (views : List SegmentView). Listed c.args.file.now views (c.segments.start + c.in-Ok.view.header.byte_count) (c.segments.number + 1)) (sym c.in_ok-push.ensures.items) more
