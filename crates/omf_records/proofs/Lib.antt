@@ -1,3 +1,4 @@
 pub mod SegmentFaults
 pub mod Runs
 pub mod Lists
+pub mod Spelled

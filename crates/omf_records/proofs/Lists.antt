@@ -34,7 +34,7 @@ is_segment : (v : SegmentView) (start : ℕ) (file : List ℕ) (stands : StandsA
 unfolding segment_of
 is_segment v start file stands =
     let reader : body_reader v.start (fields v.header) v.file.now ≡ body_reader start (fields v.header) file =
-      ap (λ (s : ℕ). body_reader s (fields v.header) v.file.now) stands.start' ∙ ap (λ (f : List ℕ). body_reader start (fields v.header) f) stands.file' in
+    ap (λ (s : ℕ). body_reader s (fields v.header) v.file.now) stands.start' ∙ ap (λ (f : List ℕ). body_reader start (fields v.header) f) stands.file' in
     record {
       header = header_of v start file stands;
       last = stands.records.last;
@@ -54,13 +54,13 @@ listed_more file views v start number listed stands more =
     let lies = stands_lies v start file stands in
     let one : AreSegments (s ∷ []) start file (start + v.header.byte_count) = (refl, more, is_segment v start file stands, refl) in
     let seen : placed v ≡ record { start = start; fields = fields v.header; file = file } =
-      ap (λ (n : ℕ). made n (fields v.header) v.file.now) stands.start' ∙ ap (made start (fields v.header)) stands.file' in
+    ap (λ (n : ℕ). made n (fields v.header) v.file.now) stands.start' ∙ ap (made start (fields v.header)) stands.file' in
     record {
       segments = listed.segments ++ s ∷ [];
       are = AreSegments-append listed.segments (s ∷ []) 0 file start (start + v.header.byte_count) listed.are one;
       views' =
-        map-append placed views (v ∷ []) ∙ ap (λ (l : List Placed). l ++ placed v ∷ []) listed.views' ∙ ap (λ (p : Placed). views_of file listed.segments ++ p ∷ []) seen
-        ∙ sym (map-append (λ t. made t.start t.fields file) listed.segments (s ∷ []));
+          map-append placed views (v ∷ []) ∙ ap (λ (l : List Placed). l ++ placed v ∷ []) listed.views' ∙ ap (λ (p : Placed). views_of file listed.segments ++ p ∷ []) seen
+          ∙ sym (map-append (λ t. made t.start t.fields file) listed.segments (s ∷ []));
       count = omega (arith, length-append listed.segments (s ∷ []), listed.count);
       each = All-push (λ w. IsPlaced (placed w)) views v listed.each stands.placed';
       within = lies.within;
@@ -75,6 +75,7 @@ refused file views fault start number listed more is = by_cause fault.cause is
   where
     first : (fault.segment ≡ number) × HasFault start file fault → IsFirstFault file fault
     first h = record { before = listed.segments; at = start; sound = listed.are; more = more; number = h.0 ∙ listed.count; here = h.1 }
+
     by_cause : (c : FileCause) → UnlessMemory c fault ((fault.segment ≡ number) × HasFault start file fault) → UnlessMemory c fault (IsFirstFault file fault)
     by_cause cause.Memory h = h
     by_cause cause.Truncated h = first h

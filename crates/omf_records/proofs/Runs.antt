@@ -21,9 +21,9 @@ ran_none r = record { before = []; run = refl }
 
 pub ran_more : (start at : Reader) (found : ℕ × Record) → Ran start at → next_answer at ≡ Ok (Some found) → Ran start (after_next at)
 ran_more start at found ran e = record {
-    before = ran.before ++ found ∷ [];
-    run = HandsOut-append start ran.before (found ∷ []) at (after_next at) ran.run (e, refl);
-  }
+  before = ran.before ++ found ∷ [];
+  run = HandsOut-append start ran.before (found ∷ []) at (after_next at) ran.run (e, refl);
+}
 
 abbrev Answer : Type 0
 Answer = Result (Option (ℕ × Record)) RecordFault
@@ -39,6 +39,7 @@ ended_at_none r e = cases r.ended refl e
     told_some : (answer : Result (Record × List ℕ) Flaw) → told r answer ≡ Ok None → ⊥
     told_some (Ok found) e = cc
     told_some (Err flaw) e = cc
+
     cases : (b : Bool) → b ≡ r.ended → cond b nothing (told r (front r.lab_len r.left)) ≡ Ok None → r.ended ≡ true
     cases true is e = sym is
     cases false is e = absurd (told_some (front r.lab_len r.left) e)

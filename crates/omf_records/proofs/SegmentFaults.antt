@@ -49,10 +49,11 @@ record_segment_fault f number start file reader fault is at segment has = by_cau
   where
     here : HandsOut (body_reader start f file) has.before has.at
     here = subst (λ (r : Reader). HandsOut r has.before has.at) at has.run
+
     by_cause : (of : RecordFault) → next_answer has.at ≡ Err of → SaysRecord of fault → IsSegmentFault fault number start file
     by_cause (record_faults.Truncated n) fails says =
-      unless cause.Truncated fault _ says.0 (segment, InRecord f has.before has.at (record_faults.Truncated n) is here fails says)
+        unless cause.Truncated fault _ says.0 (segment, InRecord f has.before has.at (record_faults.Truncated n) is here fails says)
     by_cause (record_faults.Unsupported code n) fails says =
-      unless cause.Unsupported fault _ says.0 (segment, InRecord f has.before has.at (record_faults.Unsupported code n) is here fails says)
+        unless cause.Unsupported fault _ says.0 (segment, InRecord f has.before has.at (record_faults.Unsupported code n) is here fails says)
     by_cause (record_faults.BadRecord n) fails says =
-      unless cause.BadRecord fault _ says.0 (segment, InRecord f has.before has.at (record_faults.BadRecord n) is here fails says)
+        unless cause.BadRecord fault _ says.0 (segment, InRecord f has.before has.at (record_faults.BadRecord n) is here fails says)

@@ -4,14 +4,17 @@
 
 mod checks;
 mod front;
+mod laws;
 mod list;
 mod reading;
 mod record;
 mod segment;
+mod writing;
 
-pub use omf_format::{FileCause, FileFault, RecordFault};
-
+pub use laws::{bodies_are_handed_out, files_are_read_in_one_way, records_are_spelled};
 pub use list::{SegmentList, segments};
+pub use omf_format::{FileCause, FileFault, RecordFault};
 pub use reading::Records;
 pub use record::Rec;
 pub use segment::SegmentView;
+pub use writing::{PutFault, put_record};
