@@ -1,0 +1,24 @@
+-- Counts of failures, and objects that tell what they hold or don't.
+use Rattle.std.specs.Prelude.{◌≡◌, ℕ, ◌+◌, ◌-◌, ◌^◌, ◌≤◌, List, ◌++◌, min, Option, None, Some}
+
+-- one more, up to 2^64 - 1, where a count stands still
+abbrev pub one_more : ℕ → ℕ
+one_more count = min (count + 1) (2 ^ 64 - 1)
+
+-- the count rose in a call, or stands still at its end
+abbrev pub Rose : ℕ → ℕ → Type 0
+Rose before now = one_more before ≤ now
+
+-- where the object tells, this holds of what it tells
+abbrev pub Told : {X : Type 0} → Option X → (X → Type 0) → Type 0
+Told None P = Unit {0}
+Told (Some x) P = P x
+
+-- where the object tells, this holds of what it tells, and where it doesn't, the other
+abbrev pub ToldOr : {X : Type 0} → Option X → Type 0 → (X → Type 0) → Type 0
+ToldOr None Q P = Q
+ToldOr (Some x) Q P = P x
+
+-- the bytes begin with these, which may be none or all of them
+abbrev pub IsFront : List ℕ → List ℕ → Type 0
+IsFront front bytes = (rest : List ℕ) × (bytes ≡ front ++ rest)

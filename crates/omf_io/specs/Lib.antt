@@ -1,0 +1,6 @@
+pub mod Calls
+pub mod Counts
+pub mod Files
+pub mod Memory
+pub mod Sinks
+pub mod Tables
