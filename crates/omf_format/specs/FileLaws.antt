@@ -1,6 +1,7 @@
 -- A file is read in one way: it has one list of segments, or one first fault, and not both.
 use Rattle.std.proofs.Common.{◌≡◌, ℕ, zero, suc, ◌+◌, ◌*◌, ◌<◌, ◌≤◌, Bool, true, false, cond, List, [], ◌∷◌, ◌++◌, length, take, drop, Option, Some, None, Result, Ok, Err, refl, sym, ap, subst, ◌∙◌, arith}
 use Rattle.std.proofs.lemmas.List.{append-nil, length-drop}
+use Rattle.omf_format.specs.declared.fault.Flaw.{Flaw}
 use Rattle.omf_format.specs.declared.fault.HeaderFault.{HeaderFault}
 use Rattle.omf_format.specs.declared.fault.RecordFault.{RecordFault}
 use Rattle.omf_format.specs.declared.fault.FileFault.{FileFault}
@@ -10,16 +11,16 @@ use Rattle.omf_format.specs.Record.{Record}
 use Rattle.omf_format.specs.Reading.{Reader, front, told, moved, next_answer, after_next, HandsOut}
 use Rattle.omf_format.specs.File.{Segment, body_reader, IsHeader, IsSegment, AreSegments, IsFile, SaysHeader, SaysRecord, HasFault, InHeader, InRecord, IsFirstFault}
 
-abbrev Answer : Type 0
+abbrev pub Answer : Type 0
 Answer = Result (Option (ℕ × Record)) RecordFault
 
-abbrev gave : ℕ × Record → Answer
+abbrev pub gave : ℕ × Record → Answer
 gave found = Ok (Some found)
 
 abbrev failed : RecordFault → Answer
 failed fault = Err fault
 
-same_found : (a b : ℕ × Record) → gave a ≡ gave b → a ≡ b
+pub same_found : (a b : ℕ × Record) → gave a ≡ gave b → a ≡ b
 same_found a b e = cc
 
 -- after END nothing comes
@@ -29,6 +30,25 @@ nothing_more r found ended e =
     let none : next_answer r ≡ Ok None = rw ended refl in
     let clash : gave found ≡ Ok None = sym e ∙ none in
     cc
+
+abbrev nothing : Answer
+nothing = Ok None
+
+-- and nothing comes only then
+pub ended_at_none : (r : Reader) → next_answer r ≡ Ok None → r.ended ≡ true
+unfolding next_answer
+ended_at_none r e = cases r.ended refl e
+  where
+    told_some : (answer : Result (Record × List ℕ) Flaw) → told r answer ≡ Ok None → ⊥
+    told_some (Ok found) e = cc
+    told_some (Err flaw) e = cc
+    cases : (b : Bool) → b ≡ r.ended → cond b nothing (told r (front r.lab_len r.left)) ≡ Ok None → r.ended ≡ true
+    cases true is e = sym is
+    cases false is e = absurd (told_some (front r.lab_len r.left) e)
+
+-- a reader that hands out a record has not ended
+pub open_at_some : (r : Reader) (found : ℕ × Record) → next_answer r ≡ Ok (Some found) → r.ended ≡ true → ⊥
+open_at_some r found e ended = nothing_more r found ended e
 
 -- one run after another is a run
 pub HandsOut-append : (r : Reader) (before more : List (ℕ × Record)) (middle last : Reader) → HandsOut r before middle → HandsOut middle more last → HandsOut r (before ++ more) last

@@ -6,7 +6,7 @@ use Rattle.omf_format.specs.declared.fault.Flaw.{Flaw}
 use Rattle.omf_format.specs.Record.{Record}
 use Rattle.omf_format.specs.Reading.{Reader, front, told, next_answer, after_next, HandsOut}
 use Rattle.omf_format.specs.File.{SaysRecord}
-use Rattle.omf_format.specs.FileLaws.{HandsOut-append}
+use Rattle.omf_format.specs.FileLaws.{HandsOut-append, ended_at_none}
 use Rattle.omf_records.specs.declared.record.Rec.{Rec}
 use Rattle.omf_records.specs.View.{view, seen}
 use Rattle.omf_records.specs.Segments.{ComesToEnd, HasRecordFault}
@@ -24,25 +24,6 @@ ran_more start at found ran e = record {
   before = ran.before ++ found ∷ [];
   run = HandsOut-append start ran.before (found ∷ []) at (after_next at) ran.run (e, refl);
 }
-
-abbrev Answer : Type 0
-Answer = Result (Option (ℕ × Record)) RecordFault
-
-abbrev nothing : Answer
-nothing = Ok None
-
--- nothing comes only after END
-pub ended_at_none : (r : Reader) → next_answer r ≡ Ok None → r.ended ≡ true
-unfolding next_answer
-ended_at_none r e = cases r.ended refl e
-  where
-    told_some : (answer : Result (Record × List ℕ) Flaw) → told r answer ≡ Ok None → ⊥
-    told_some (Ok found) e = cc
-    told_some (Err flaw) e = cc
-
-    cases : (b : Bool) → b ≡ r.ended → cond b nothing (told r (front r.lab_len r.left)) ≡ Ok None → r.ended ≡ true
-    cases true is e = sym is
-    cases false is e = absurd (told_some (front r.lab_len r.left) e)
 
 pub comes_to_end : (start at : Reader) → Ran start at → next_answer at ≡ Ok None → ComesToEnd start
 comes_to_end start at ran e = record { records = ran.before; last = at; run = ran.run; ended = ended_at_none at e }

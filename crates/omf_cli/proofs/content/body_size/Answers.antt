@@ -1,0 +1,37 @@
+use Rattle.std.proofs.Common.{ℕ, ◌+◌, ◌++◌, ◌≡◌, List, length, sym, subst, arith}
+use Rattle.std.proofs.lemmas.List.{length-append}
+use Rattle.omf_format.specs.Record.{Record, content_of}
+use Rattle.omf_format.specs.Reading.{Reader}
+use Rattle.omf_records.specs.View.{view}
+use Rattle.omf_cli.proofs.Bodies.{SoFar, Gave, gave_more, gave_all, gave_less, no_fault}
+use Rattle.omf_cli.proofs.content.body_size.Goals as goal
+
+pub returns-in-Ok-None-clause-size : goal.returns-in-Ok-None-clause-size
+returns-in-Ok-None-clause-size c =
+    let so_far = c.records.invariant.so_far in
+    let end = sym (rw c.in-Ok-None.field-0-is at c.in-Ok-None.ensures.answer) in
+    (c.records.invariant.within, (so_far.0, gave_all c.args.records c.records.records so_far.0 so_far.1 end, so_far.2))
+
+pub returns-then-size-from-clause-more : goal.returns-then-size-from-clause-more
+returns-then-size-from-clause-more c n has =
+    let so_far = c.records.invariant.so_far in
+    let found : ℕ × Record = (c.in-Ok-Some.found.0, view c.in-Ok-Some.found.1) in
+    let less = gave_less c.args.records c.records.records found so_far.0 has.0 so_far.1 (sym (rw c.in-Ok-Some.field-0-is at c.in-Ok-Some.ensures.answer)) has.1 in
+    omega (arith, less, so_far.2, has.2, c.content_size-size.ensures.value, c.if-size-from.true)
+
+pub records-preserved : goal.records-preserved
+records-preserved c =
+    let so_far = c.records.invariant.so_far in
+    let found : ℕ × Record = (c.in-Ok-Some.found.0, view c.in-Ok-Some.found.1) in
+    let more = gave_more c.args.records c.records.records found so_far.0 so_far.1 (sym (rw c.in-Ok-Some.field-0-is at c.in-Ok-Some.ensures.answer)) in
+    let bytes = so_far.0 ++ content_of found.1 in
+    record {
+      so_far = (bytes, subst (λ (r : Reader). Gave c.args.records r bytes) (sym c.in-Ok-Some.ensures.after) more,
+        omega (arith, length-append so_far.0 (content_of found.1), so_far.2, c.content_size-size.ensures.value));
+      within = omega arith;
+    }
+
+pub unreachable-requires : goal.unreachable-requires
+unreachable-requires c =
+    let so_far = c.records.invariant.so_far in
+    no_fault c.args.records c.records.records so_far.0 c.in-Err.field-0 c.requires so_far.1 (sym c.in-Err.ensures.answer)

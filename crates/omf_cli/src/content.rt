@@ -1,0 +1,56 @@
+//! The bytes that the records of a body put into their segment.
+
+ghost use Rattle.std.specs.Prelude.{◌≡◌, ℕ, ◌<◌, ◌≤◌, ◌++◌, ◌+◌, ◌^◌, vec_len, length, OnOk, IfSome, IfNone};
+ghost use Rattle.omf_format.specs.Record.{content_of};
+ghost use Rattle.omf_records.specs.View.{view};
+ghost use Rattle.omf_records.specs.Segments.{ComesToEnd};
+ghost use Rattle.omf_cli.specs.Content.{HasContent, AppendsContent};
+
+use omf_records::{Rec, Records};
+use std::alloc::AllocError;
+
+/// How many bytes a record puts into the segment.
+fn content_size(rec: &Rec) -> u64
+    ensures value { result ≡ length (content_of (view rec.now)) }
+    ensures small { result < 2 ^ 63 }
+{
+    match rec {
+        Rec::End => 0,
+        Rec::Const { bytes } | Rec::LongConst { bytes } => bytes.len() as u64,
+        Rec::Space { n } => u64::from(*n),
+    }
+}
+
+/// How many bytes the records put into the segment, or None where they are more than `most`.
+pub fn body_size(records: Records, most: u32) -> Option<u32>
+    requires { ComesToEnd records }
+    ensures size { IfSome result (λ n. (n ≤ most) × HasContent records.entry n) }
+    ensures more { IfNone result ((n : ℕ) → HasContent records.entry n → most < n) }
+{
+    let mut records = records;
+    let mut size = 0u64;
+    'records: loop {
+        match records.next() {
+            Ok(None) => return Some(size as u32),
+            Ok(Some(found)) => {
+                size += content_size(&found.1);
+                if size > u64::from(most) {
+                    return None;
+                }
+            }
+            Err(_) => unreachable!(),
+        }
+    }
+}
+
+/// Appends the bytes that a record puts into the segment.
+fn append_content(out: &mut Vec<u8>, rec: &Rec) -> Result<(), AllocError>
+    requires { vec_len out.old + length (content_of (view rec.now)) < 2 ^ 63 }
+    ensures { OnOk result (out.new.items ≡ out.old.items ++ content_of (view rec.now)) }
+{
+    match rec {
+        Rec::End => Ok(()),
+        Rec::Const { bytes } | Rec::LongConst { bytes } => out.extend_from_slice(bytes),
+        Rec::Space { n } => out.resize(out.len() + *n as usize, 0),
+    }
+}
