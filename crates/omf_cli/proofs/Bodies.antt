@@ -64,3 +64,7 @@ content_same reader a b p q =
 -- a body that comes to END has no fault
 pub no_fault : (start at : Reader) (bytes : List ℕ) (fault : RecordFault) → ComesToEnd start → Gave start at bytes → next_answer at ≡ Err fault → ⊥
 no_fault start at bytes fault comes gave e = no_run start gave.before comes.records at comes.last fault gave.run e comes.run comes.ended
+
+-- a body that comes to END has a content
+pub content_there : (reader : Reader) → ComesToEnd reader → (bytes : List ℕ) × IsContent reader bytes
+content_there reader comes = (content comes.records, record { founds = comes.records; last = comes.last; run = comes.run; ended = comes.ended; content = refl })

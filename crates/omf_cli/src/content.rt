@@ -54,3 +54,19 @@ fn append_content(out: &mut Vec<u8>, rec: &Rec) -> Result<(), AllocError>
         Rec::Space { n } => out.resize(out.len() + *n as usize, 0),
     }
 }
+
+/// Appends the bytes that the records put into the segment.
+pub fn append_body(out: &mut Vec<u8>, records: Records) -> Result<(), AllocError>
+    requires comes { ComesToEnd records }
+    requires fits { (n : ℕ) → HasContent records n → vec_len out.old + n < 2 ^ 63 }
+    ensures { OnOk result (AppendsContent records.entry out.old.items out.new.items) }
+{
+    let mut records = records;
+    'records: loop {
+        match records.next() {
+            Ok(None) => return Ok(()),
+            Ok(Some(found)) => append_content(out, &found.1)?,
+            Err(_) => unreachable!(),
+        }
+    }
+}
