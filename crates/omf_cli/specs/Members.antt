@@ -1,6 +1,7 @@
 -- The segments of a file, as their views show them.
 use Rattle.std.specs.Prelude.{◌≡◌, List, ℕ}
 use Rattle.omf_format.specs.File.{Segment, IsSegment}
+use Rattle.omf_format.specs.Plain.{IsPlain, total_length, least_bank}
 use Rattle.omf_header.specs.View.{fields}
 use Rattle.omf_records.specs.declared.segment.SegmentView.{SegmentView}
 use Rattle.omf_records.specs.Segments.{Placed, IsListOf}
@@ -14,3 +15,9 @@ pub record IsAt (s : Segment) (v : SegmentView) : Type 0 where
 -- the list is that of some file's segments
 abbrev pub HasFile : List Placed → Type 0
 HasFile list = (file : List ℕ) × IsListOf list file
+
+-- the segments are plain, with this length together and this least bank size
+pub record AreMembers (segments : List Segment) (total bank_size : ℕ) : Type 0 where
+  pub plain : IsPlain segments
+  pub total' : total ≡ total_length segments
+  pub bank_size' : bank_size ≡ least_bank segments

@@ -1,11 +1,11 @@
 //! The members of a plain object file.
 
-ghost use Rattle.std.specs.Prelude.{◌≡◌, ◌↔◌, ◌<◌, ◌≤◌, ◌+◌, IsTrue, List, ℕ, length, MatchOption};
+ghost use Rattle.std.specs.Prelude.{◌≡◌, ◌↔◌, ◌⊎◌, ◌≤◌, ◌+◌, IsTrue, List, ℕ, length, MatchOption};
 ghost use Rattle.omf_format.specs.File.{Segment, IsFile, body_reader};
-ghost use Rattle.omf_format.specs.Plain.{IsPlainSegment, IsPlain, is_object, lesser_bank, least_bank, total_length, body_bytes};
+ghost use Rattle.omf_format.specs.Plain.{IsPlainSegment, IsPlain, is_object, lesser_bank, body_bytes};
 ghost use Rattle.omf_header.specs.View.{fields};
 ghost use Rattle.omf_records.specs.Segments.{placed, IsPlaced, ComesToEnd, views_of};
-ghost use Rattle.omf_cli.specs.Members.{IsAt, HasFile};
+ghost use Rattle.omf_cli.specs.Members.{IsAt, HasFile, AreMembers};
 
 use crate::content::body_size;
 use omf_records::{SegmentList, SegmentView};
@@ -52,5 +52,62 @@ fn lesser_bank(a: u32, b: u32) -> u32
         a
     } else {
         a.min(b)
+    }
+}
+
+/// A plain segment of this load name.
+fn is_member(view: &SegmentView, load_name: &[u8; 10]) -> bool
+    requires header { IsPlaced (placed view.now) }
+    requires comes { ComesToEnd (body_reader view.now.start (fields view.now.header) view.now.file.now) }
+    ensures { (s : Segment) → IsAt s view.now → (IsTrue result ↔ (IsPlainSegment s × (s.fields.load_name ≡ load_name.now))) }
+{
+    is_plain(view) && view.header.load_name == *load_name
+}
+
+/// So many bytes don't pass the bank size, where 0 is no bound.
+fn has_room(total: u32, bank_size: u32) -> bool
+    ensures { IsTrue result ↔ ((bank_size ≡ 0) ⊎ (total ≤ bank_size)) }
+{
+    bank_size == 0 || total <= bank_size
+}
+
+/// What the members of a plain object file have together.
+#[derive(Clone, Copy, Debug, PartialEq, Eq)]
+pub struct Members {
+    /// The bytes of all of them in memory.
+    pub total: u32,
+    /// The least BANKSIZE that isn't 0, or 0 where all are.
+    pub bank_size: u32,
+}
+
+/// What the members have together, or None where they aren't those of a plain object file.
+pub fn members_of(list: &SegmentList) -> Option<Members>
+    requires { HasFile list.now }
+    ensures { (segments : List Segment) (file : List ℕ) → IsFile segments file → list.now ≡ views_of file segments
+        → MatchOption result (IsPlain segments → ⊥) (λ m. AreMembers segments m.total m.bank_size) }
+{
+    let load_name = match list.get(1) {
+        Some(first) => first.header.load_name,
+        None => return None,
+    };
+    let mut total = 0;
+    let mut bank_size = 0;
+    'members: for place in 0..list.count() {
+        let Some(view) = list.get(place + 1) else {
+            return None;
+        };
+        if !is_member(view, &load_name) {
+            return None;
+        }
+        if view.header.length > BANK - total {
+            return None;
+        }
+        total += view.header.length;
+        bank_size = lesser_bank(bank_size, view.header.bank_size);
+    }
+    if has_room(total, bank_size) {
+        Some(Members { total, bank_size })
+    } else {
+        None
     }
 }
