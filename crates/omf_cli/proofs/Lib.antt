@@ -1,3 +1,4 @@
 pub mod Bodies
 pub mod MemberBodies
 pub mod MemberLists
+pub mod Ends

@@ -1,11 +1,12 @@
 -- The content of a segment that a view shows.
-use Rattle.std.proofs.Common.{◌≡◌, ℕ, List, length, refl, sym, ap, subst, ◌∙◌}
+use Rattle.std.proofs.Common.{◌≡◌, ℕ, ◌+◌, List, ◌++◌, length, replicate, refl, sym, ap, subst, ◌∙◌, arith}
 use Rattle.omf_format.specs.Header.{Fields}
 use Rattle.omf_format.specs.Reading.{Reader, HandsOut}
 use Rattle.omf_format.specs.File.{Segment, body_reader, IsSegment}
-use Rattle.omf_format.specs.Plain.{body_bytes}
+use Rattle.omf_format.specs.Plain.{body_bytes, memory_bytes, IsPlainSegment}
 use Rattle.omf_header.specs.View.{fields}
 use Rattle.omf_records.specs.declared.segment.SegmentView.{SegmentView}
+use Rattle.omf_records.specs.Segments.{ComesToEnd}
 use Rattle.omf_cli.specs.Content.{IsContent, HasContent}
 use Rattle.omf_cli.specs.Members.{IsAt}
 use Rattle.omf_cli.proofs.Bodies.{content_same}
@@ -29,3 +30,27 @@ member_size s v reader n at is has = has.2 ∙ ap length (content_same reader ha
 
 pub has_member_size : (s : Segment) (v : SegmentView) (reader : Reader) → IsAt s v → reader ≡ body_reader v.start (fields v.header) v.file.now → HasContent reader (length (body_bytes s))
 has_member_size s v reader at is = (body_bytes s, member_content s v reader at is, refl)
+
+-- a view's body comes to END
+pub comes_at : (s : Segment) (v : SegmentView) → IsAt s v → ComesToEnd (body_reader v.start (fields v.header) v.file.now)
+comes_at s v at =
+    let reader = body_reader v.start (fields v.header) v.file.now in
+    let is = member_content s v reader at refl in
+    record { records = is.founds; last = is.last; run = is.run; ended = is.ended }
+
+-- a plain segment's content is no longer than LENGTH
+pub content_fits : (s : Segment) (v : SegmentView) (reader : Reader) (n : ℕ) → IsAt s v → IsPlainSegment s → reader ≡ body_reader v.start (fields v.header) v.file.now → HasContent reader n → n + v.header.res_spc ≡ v.header.length
+content_fits s v reader n at plain is has =
+    let size = member_size s v reader n at is has in
+    let spc : s.fields.res_spc ≡ v.header.res_spc = ap (λ (f : Fields). f.res_spc) at.fields' in
+    let len : s.fields.length ≡ v.header.length = ap (λ (f : Fields). f.length) at.fields' in
+    omega (arith, size, spc, len, plain.sized)
+
+-- what was appended is the segment in memory
+pub member_memory : (s : Segment) (v : SegmentView) (reader : Reader) (bytes : List ℕ) → IsAt s v → reader ≡ body_reader v.start (fields v.header) v.file.now → IsContent reader bytes
+    → bytes ++ replicate v.header.res_spc 0 ≡ memory_bytes s
+unfolding memory_bytes
+member_memory s v reader bytes at is content =
+    let same : bytes ≡ body_bytes s = content_same reader bytes (body_bytes s) content (member_content s v reader at is) in
+    let spc : v.header.res_spc ≡ s.fields.res_spc = sym (ap (λ (f : Fields). f.res_spc) at.fields') in
+    ap (λ (l : List ℕ). l ++ replicate v.header.res_spc 0) same ∙ ap (λ (n : ℕ). body_bytes s ++ replicate n 0) spc

@@ -1,18 +1,20 @@
 -- The members of a plain object file, as far as a loop over their list has come.
 use Rattle.std.proofs.Common.{◌≡◌, ◌⊎◌, ℕ, zero, suc, ◌+◌, ◌-◌, ◌<◌, ◌≤◌, min, Bool, true, false, eqb, List, [], ◌∷◌, ◌++◌, length, map, take, sum_by, Option, Some, None, refl, sym, ap, subst, ◌∙◌, arith, inl, inr}
 use Rattle.std.specs.Prelude.{slice_get}
-use Rattle.std.specs.List.{AllByRecursion}
+use Rattle.std.specs.List.{flat_map, AllByRecursion}
 use Rattle.std.proofs.lemmas.Bool.{cases_Bool, eqb-true, eqb-false, ne_eqb}
 use Rattle.std.proofs.lemmas.List.{take_all, append-nil}
 use Rattle.std.proofs.lemmas.List.Sums.{sum_by-cons}
+use Rattle.std.proofs.lemmas.Grind.{flat_map-append}
 use Rattle.omf_format.specs.Header.{Fields}
 use Rattle.omf_format.specs.Reading.{Reader, HandsOut}
 use Rattle.omf_format.specs.File.{Segment, body_reader, IsSegment, AreSegments, IsFile}
-use Rattle.omf_format.specs.Plain.{IsPlainSegment, IsPlain, total_length, first_name, HasRoom, lesser_bank, least_bank}
+use Rattle.omf_format.specs.Plain.{memory_bytes, IsPlainSegment, IsPlain, total_length, first_name, HasRoom, lesser_bank, least_bank, loaded_bytes}
+use Rattle.omf_format.specs.PlainLaws.{length-loaded}
 use Rattle.omf_header.specs.View.{fields}
 use Rattle.omf_records.specs.declared.segment.SegmentView.{SegmentView}
 use Rattle.omf_records.specs.Segments.{Placed, placed, views_of, ComesToEnd}
-use Rattle.omf_cli.specs.Members.{IsAt, HasFile, AreMembers}
+use Rattle.omf_cli.specs.Members.{IsAt, HasFile, HasPlain, AreMembers}
 
 -- ---- one place of the list
 
@@ -263,3 +265,38 @@ some_segment list segments file v same e none =
 pub length-views : (file : List ℕ) (segments : List Segment) → length (views_of file segments) ≡ length segments
 length-views file [] = refl
 length-views file (s ∷ segments) = ap suc (length-views file segments)
+
+-- ---- the members in memory
+
+each_take : {X : Type 0} (P : X → Type 0) (xs : List X) (k : ℕ) → AllByRecursion P xs → AllByRecursion P (take k xs)
+each_take P [] zero each = tt
+each_take P [] (suc k) each = tt
+each_take P (x ∷ xs) zero each = tt
+each_take P (x ∷ xs) (suc k) each = (each.0, each_take P xs k each.1)
+
+-- the first members of a plain file have at most $10000 bytes, and so has the next one
+pub loaded_fits : (segments : List Segment) (k : ℕ) → IsPlain segments → length (loaded_bytes (take k segments)) ≤ 0x10000
+loaded_fits segments k plain =
+    omega (arith, length-loaded (take k segments) (each_take IsPlainSegment segments k plain.each), total-take segments k, plain.bank)
+
+pub length_fits : (segments : List Segment) (k : ℕ) (s : Segment) → IsPlain segments → slice_get segments k ≡ Some s → s.fields.length ≤ 0x10000
+length_fits segments k s plain found =
+    omega (arith, total-push (take k segments) s, ap total_length (take-found segments k s found), total-take segments (k + 1), plain.bank)
+
+pub loaded_none : (segments : List Segment) → loaded_bytes (take 0 segments) ≡ []
+unfolding loaded_bytes
+loaded_none segments = refl
+
+pub loaded_more : (segments : List Segment) (k : ℕ) (s : Segment) → slice_get segments k ≡ Some s → loaded_bytes (take k segments) ++ memory_bytes s ≡ loaded_bytes (take (k + 1) segments)
+unfolding loaded_bytes
+loaded_more segments k s found =
+    ap (λ (l : List ℕ). flat_map memory_bytes (take k segments) ++ l) (sym (append-nil (memory_bytes s)))
+    ∙ sym (flat_map-append memory_bytes (take k segments) (s ∷ []))
+    ∙ ap (λ (l : List Segment). flat_map memory_bytes l) (sym (take-found segments k s found))
+
+pub loaded_all : (segments : List Segment) (k : ℕ) → length segments ≤ k → loaded_bytes (take k segments) ≡ loaded_bytes segments
+loaded_all segments k past = ap loaded_bytes (take_all k segments past)
+
+-- a list of a plain file's segments is one of a file's
+pub plain_file : (list : List Placed) → HasPlain list → HasFile list
+plain_file list has = (has.file, record { segments = has.segments; is_file = has.is_file; views = has.views })

@@ -1,10 +1,10 @@
 -- The segments of a file, as their views show them.
 use Rattle.std.specs.Prelude.{◌≡◌, List, ℕ}
-use Rattle.omf_format.specs.File.{Segment, IsSegment}
-use Rattle.omf_format.specs.Plain.{IsPlain, total_length, least_bank}
+use Rattle.omf_format.specs.File.{Segment, IsSegment, IsFile}
+use Rattle.omf_format.specs.Plain.{IsPlainSegment, IsPlain, total_length, least_bank}
 use Rattle.omf_header.specs.View.{fields}
 use Rattle.omf_records.specs.declared.segment.SegmentView.{SegmentView}
-use Rattle.omf_records.specs.Segments.{Placed, IsListOf}
+use Rattle.omf_records.specs.Segments.{Placed, views_of, IsListOf}
 
 -- the view is of this segment
 pub record IsAt (s : Segment) (v : SegmentView) : Type 0 where
@@ -21,3 +21,15 @@ pub record AreMembers (segments : List Segment) (total bank_size : ℕ) : Type 0
   pub plain : IsPlain segments
   pub total' : total ≡ total_length segments
   pub bank_size' : bank_size ≡ least_bank segments
+
+-- the view is of a plain segment
+abbrev pub IsPlainView : SegmentView → Type 0
+IsPlainView v = (s : Segment) × IsAt s v × IsPlainSegment s
+
+-- the list is that of a plain object file's segments
+pub record HasPlain (list : List Placed) : Type 0 where
+  pub segments : List Segment
+  pub file : List ℕ
+  pub is_file : IsFile segments file
+  pub views : list ≡ views_of file segments
+  pub plain : IsPlain segments

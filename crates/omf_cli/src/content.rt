@@ -1,6 +1,6 @@
 //! The bytes that the records of a body put into their segment.
 
-ghost use Rattle.std.specs.Prelude.{◌≡◌, ℕ, ◌<◌, ◌≤◌, ◌++◌, ◌+◌, ◌^◌, vec_len, length, OnOk, IfSome, IfNone};
+ghost use Rattle.std.specs.Prelude.{◌≡◌, ℕ, ◌<◌, ◌≤◌, ◌++◌, ◌+◌, ◌^◌, vec_len, length, replicate, OnOk, IfSome, IfNone};
 ghost use Rattle.omf_format.specs.Record.{content_of};
 ghost use Rattle.omf_records.specs.View.{view};
 ghost use Rattle.omf_records.specs.Segments.{ComesToEnd};
@@ -51,8 +51,16 @@ fn append_content(out: &mut Vec<u8>, rec: &Rec) -> Result<(), AllocError>
     match rec {
         Rec::End => Ok(()),
         Rec::Const { bytes } | Rec::LongConst { bytes } => out.extend_from_slice(bytes),
-        Rec::Space { n } => out.resize(out.len() + *n as usize, 0),
+        Rec::Space { n } => append_zeros(out, *n),
     }
+}
+
+/// Appends so many zeros.
+pub fn append_zeros(out: &mut Vec<u8>, n: u32) -> Result<(), AllocError>
+    ensures { OnOk result (out.new.items ≡ out.old.items ++ replicate n 0) }
+{
+    let end = out.len() + n as usize;
+    out.resize(end, 0)
 }
 
 /// Appends the bytes that the records put into the segment.

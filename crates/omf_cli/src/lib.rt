@@ -2,4 +2,5 @@
 #![tactic(auto)]
 
 mod content;
+mod link;
 mod members;

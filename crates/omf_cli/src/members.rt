@@ -94,7 +94,7 @@ pub fn members_of(list: &SegmentList) -> Option<Members>
     let mut bank_size = 0;
     'members: for place in 0..list.count() {
         let Some(view) = list.get(place + 1) else {
-            return None;
+            unreachable!()
         };
         if !is_member(view, &load_name) {
             return None;

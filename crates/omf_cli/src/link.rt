@@ -1,0 +1,62 @@
+//! Linking a plain object file: its members one behind another become the one segment of a load file.
+
+ghost use Rattle.std.specs.Prelude.{◌≡◌, ◌<◌, ◌≤◌, ◌+◌, ◌^◌, ◌++◌, [], List, ℕ, vec_len, length, OnOk, IfOk, IfErr, Ok};
+ghost use Rattle.omf_format.specs.File.{Segment, IsFile};
+ghost use Rattle.omf_format.specs.Plain.{IsPlain, IsLinkedTo, IsUnbuilt, memory_bytes, loaded_bytes, written};
+ghost use Rattle.omf_records.specs.Segments.{placed, IsPlaced, views_of};
+ghost use Rattle.omf_cli.specs.Members.{IsAt, IsPlainView, HasPlain};
+
+use crate::content::{append_body, append_zeros};
+use crate::members::{Members, members_of};
+use omf_base::{Name, NameFault, without_trailing};
+use omf_header::{Header, Kind, WriteHeaderFault, write_header};
+use omf_records::{FileCause, PutFault, Rec, SegmentList, SegmentView, put_record, segments};
+use std::alloc::{AllocError, Global};
+
+/// Why no load file was made.
+#[derive(Clone, Copy, Debug, PartialEq, Eq)]
+pub enum LinkFault {
+    /// The file has no segment.
+    Empty,
+    /// The file is no plain object file, and others aren't linked yet.
+    Unbuilt,
+    Memory,
+}
+
+impl From<AllocError> for LinkFault {
+    ghost use Rattle.std.specs.Prelude.{◌≡◌};
+    ghost use Rattle.omf_cli.specs.declared.link.LinkFault.TheVariants.{Memory};
+
+    ghost from_gives = { λ _ fault. fault ≡ Memory };
+
+    fn from(_: AllocError) -> LinkFault {
+        LinkFault::Memory
+    }
+}
+
+/// Appends the bytes of a plain segment in memory.
+fn append_member(out: &mut Vec<u8>, view: &SegmentView) -> Result<(), AllocError>
+    requires header { IsPlaced (placed view.now) }
+    requires plain { IsPlainView view.now }
+    requires room { vec_len out.old + view.now.header.length < 2 ^ 63 }
+    ensures { (s : Segment) → IsAt s view.now → OnOk result (out.new.items ≡ out.old.items ++ memory_bytes s) }
+{
+    append_body(out, view.records())?;
+    append_zeros(out, view.header.res_spc)
+}
+
+/// The bytes of all members in memory, one behind another.
+fn loaded_bytes(alloc: Global, list: &SegmentList) -> Result<Vec<u8>, AllocError>
+    requires { HasPlain list.now }
+    ensures { (segments : List Segment) (file : List ℕ) → IsFile segments file → list.now ≡ views_of file segments
+        → IfOk result (λ bytes. bytes.items ≡ loaded_bytes segments) }
+{
+    let mut bytes = Vec::new(alloc);
+    'members: for place in 0..list.count() {
+        match list.get(place + 1) {
+            Some(view) => append_member(&mut bytes, view)?,
+            None => unreachable!(),
+        }
+    }
+    Ok(bytes)
+}
