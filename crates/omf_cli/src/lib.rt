@@ -3,4 +3,5 @@
 
 mod content;
 mod link;
+mod load_file;
 mod members;
