@@ -2,3 +2,4 @@ pub mod Bodies
 pub mod MemberBodies
 pub mod MemberLists
 pub mod Ends
+pub mod Linked

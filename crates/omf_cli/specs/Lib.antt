@@ -1,3 +1,4 @@
 pub mod Content
 pub mod Members
 pub mod LoadFile
+pub mod Link

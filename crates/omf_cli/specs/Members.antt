@@ -33,3 +33,8 @@ pub record HasPlain (list : List Placed) : Type 0 where
   pub is_file : IsFile segments file
   pub views : list ≡ views_of file segments
   pub plain : IsPlain segments
+
+-- the same, and this is the least bank size of the segments
+pub record HasMembers (list : List Placed) (bank_size : ℕ) : Type 0 where
+  pub list' : HasPlain list
+  pub bank_size' : bank_size ≡ least_bank list'.segments

@@ -4,13 +4,13 @@ ghost use Rattle.std.specs.Prelude.{◌≡◌, ◌<◌, ◌≤◌, ◌+◌, ◌^
 ghost use Rattle.omf_format.specs.File.{Segment, IsFile};
 ghost use Rattle.omf_format.specs.Plain.{IsPlain, IsLinkedTo, IsUnbuilt, memory_bytes, loaded_bytes, written};
 ghost use Rattle.omf_records.specs.Segments.{placed, IsPlaced, views_of};
-ghost use Rattle.omf_cli.specs.Members.{IsAt, IsPlainView, HasPlain};
+ghost use Rattle.omf_cli.specs.Members.{IsAt, IsPlainView, HasPlain, HasMembers};
+ghost use Rattle.omf_cli.specs.Link.{IsNotLinked, unlinked};
 
 use crate::content::{append_body, append_zeros};
-use crate::members::{Members, members_of};
-use omf_base::{Name, NameFault, without_trailing};
-use omf_header::{Header, Kind, WriteHeaderFault, write_header};
-use omf_records::{FileCause, PutFault, Rec, SegmentList, SegmentView, put_record, segments};
+use crate::members::members_of;
+use crate::load_file::load_file;
+use omf_records::{FileCause, SegmentList, SegmentView, segments};
 use std::alloc::{AllocError, Global};
 
 /// Why no load file was made.
@@ -59,4 +59,50 @@ fn loaded_bytes(alloc: Global, list: &SegmentList) -> Result<Vec<u8>, AllocError
         }
     }
     Ok(bytes)
+}
+
+/// The load file of a plain object file whose segments were read.
+fn linked(alloc: Global, list: &SegmentList, bank_size: u32) -> Result<Vec<u8>, LinkFault>
+    requires { HasMembers list.now bank_size }
+    ensures ok { (segments : List Segment) (file : List ℕ) → IsFile segments file → list.now ≡ views_of file segments
+        → IfOk result (λ output. output.items ≡ written segments) }
+    ensures err { IfErr result (λ fault. fault ≡ LinkFault.Memory) }
+{
+    let memory = loaded_bytes(alloc, list)?;
+    match list.get(1) {
+        Some(first) => load_file(alloc, &first.header, bank_size, &memory),
+        None => unreachable!(),
+    }
+}
+
+/// The load file of a plain object file.
+pub fn link_plain(alloc: Global, file: &[u8]) -> Result<Vec<u8>, LinkFault>
+    requires { length file.now < 2 ^ 32 }
+    ensures ok { IfOk result (λ output. IsLinkedTo file.now output.items) }
+    ensures err { IfErr result (λ fault. IsNotLinked fault file.now) }
+{
+    if file.is_empty() {
+        return Err(LinkFault::Empty);
+    }
+    let list = match segments(alloc, file) {
+        Ok(list) => list,
+        Err(fault) => return Err(unlinked(fault.cause)),
+    };
+    match members_of(&list) {
+        Some(members) => linked(alloc, &list, members.bank_size),
+        None => Err(LinkFault::Unbuilt),
+    }
+}
+
+/// A file at fault is no plain object file.
+fn unlinked(cause: FileCause) -> LinkFault
+    ensures { result ≡ unlinked cause }
+{
+    match cause {
+        FileCause::Memory => LinkFault::Memory,
+        FileCause::Truncated
+        | FileCause::BadHeader
+        | FileCause::Unsupported
+        | FileCause::BadRecord => LinkFault::Unbuilt,
+    }
 }

@@ -61,10 +61,10 @@ sound_segment : (s : Segment) (file : List ℕ) → IsSegment s file → IsSound
 sound_segment s file is = subst (IsSound (drop s.start file)) (sym is.header.fields) (sound_from_none (drop s.start file) is.header.passes)
 
 -- BANKSIZE of each segment of a file is at most $10000
-abbrev IsBank : Segment → Type 0
+abbrev pub IsBank : Segment → Type 0
 IsBank s = s.fields.bank_size ≤ 0x10000
 
-each_bank : (segments : List Segment) (at : ℕ) (file : List ℕ) (next : ℕ) → AreSegments segments at file next → AllByRecursion IsBank segments
+pub each_bank : (segments : List Segment) (at : ℕ) (file : List ℕ) (next : ℕ) → AreSegments segments at file next → AllByRecursion IsBank segments
 each_bank [] at file next are = tt
 each_bank (s ∷ segments) at file next are =
     ((sound_segment s file are.2).banks, each_bank segments (at + s.fields.byte_count) file next are.3)
@@ -79,7 +79,7 @@ lesser-le a b n p q =
       ]
     ]
 
-least-le : (segments : List Segment) → AllByRecursion IsBank segments → least_bank segments ≤ 0x10000
+pub least-le : (segments : List Segment) → AllByRecursion IsBank segments → least_bank segments ≤ 0x10000
 least-le [] each = omega arith
 least-le (s ∷ segments) each = lesser-le s.fields.bank_size (least_bank segments) 0x10000 each.0 (least-le segments each.1)
 
