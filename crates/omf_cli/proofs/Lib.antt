@@ -3,3 +3,4 @@ pub mod MemberBodies
 pub mod MemberLists
 pub mod Ends
 pub mod Linked
+pub mod ThreeWords

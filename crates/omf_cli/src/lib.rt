@@ -5,3 +5,6 @@ mod content;
 mod link;
 mod load_file;
 mod members;
+mod status;
+mod words;
+pub use status::Status;

@@ -1,0 +1,128 @@
+-- What a run of the tool found and left outside, for each status that it ends with.
+use Rattle.std.specs.Prelude.{◌≡◌, ◌⊎◌, ◌≤◌, ℕ, List, [], length, codes, Option, Some}
+use Rattle.std.specs.FinMap.{get}
+use Rattle.omf_format.specs.Plain.{IsLinkedTo, IsUnbuilt}
+use Rattle.omf_io.specs.declared.files.ReadFault.TheVariants as read
+use Rattle.omf_io.specs.Counts.{Rose, Told, IsFront}
+use Rattle.omf_io.specs.Files.{FileMap, max_file, with_file, ReadFailed}
+use Rattle.omf_io.specs.Sinks.{with_text}
+use Rattle.omf_cli.specs.declared.status.Status.{Status}
+use Rattle.omf_cli.specs.declared.status.Status.TheVariants.{Done, Refused, Usage, CannotRead, CannotWrite, CannotPrint, Memory}
+use Rattle.omf_cli.specs.Words.{IsLink, IsUsage}
+use Rattle.omf_cli.specs.Lines.{usage_line, cannot_read_line, cannot_write_line, refused_line}
+
+-- the files, the text that was printed and the counts of faults, before the run and after it
+pub record Outside : Type 0 where
+  pub held : Option FileMap
+  pub new_held : Option FileMap
+  pub faults : ℕ
+  pub new_faults : ℕ
+  pub written : Option (List ℕ)
+  pub new_written : Option (List ℕ)
+  pub print_faults : ℕ
+  pub new_print_faults : ℕ
+
+-- ---- what was printed
+
+-- nothing
+abbrev pub IsSilent : Outside → Type 0
+IsSilent o = (o.new_written ≡ o.written) × (o.new_print_faults ≡ o.print_faults)
+
+-- exactly this text
+abbrev pub Prints : List ℕ → Outside → Type 0
+Prints text o = (o.new_written ≡ with_text o.written text) × (o.new_print_faults ≡ o.print_faults)
+
+-- a front of this text, and the sink failed
+abbrev pub FailsToPrint : List ℕ → Outside → Type 0
+FailsToPrint text o =
+    ((front : List ℕ) × IsFront front text × (o.new_written ≡ with_text o.written front)) × Rose o.print_faults o.new_print_faults
+
+-- ---- what became of the files
+
+-- nothing
+abbrev pub IsUntouched : Outside → Type 0
+IsUntouched o = (o.new_held ≡ o.held) × (o.new_faults ≡ o.faults)
+
+-- the input that was read: the held file, where files are told
+abbrev pub IsInput : List ℕ → Outside → List ℕ → Type 0
+IsInput path o file = (length file ≤ max_file) × Told o.held (λ files. get files path ≡ Some file)
+
+-- this call's read of the path answered that it isn't held, that its file is too long, or that it failed
+abbrev pub CannotBeRead : List ℕ → Outside → Type 0
+CannotBeRead path o =
+    ReadFailed read.Absent o.held path o.faults o.new_faults
+    ⊎ (ReadFailed read.TooLong o.held path o.faults o.new_faults ⊎ ReadFailed read.Failed o.held path o.faults o.new_faults)
+
+-- ---- how a run ends
+
+-- the output is that of the input, and stands at its path
+pub record EndsDone (words : List (List ℕ)) (o : Outside) : Type 0 where
+  pub output : List ℕ
+  pub input : List ℕ
+  pub form : IsLink words output input
+  pub file : List ℕ
+  pub read : IsInput input o file
+  pub bytes : List ℕ
+  pub linked : IsLinkedTo file bytes
+  pub files : o.new_held ≡ with_file o.held output bytes
+  pub faults : o.new_faults ≡ o.faults
+
+-- the words are no form that is built
+pub record EndsUsage (words : List (List ℕ)) (o : Outside) (text : List ℕ) : Type 0 where
+  pub usage : IsUsage words
+  pub files : IsUntouched o
+  pub line : text ≡ usage_line
+
+-- the input could not be read
+pub record EndsUnread (words : List (List ℕ)) (o : Outside) (text : List ℕ) : Type 0 where
+  pub output : List ℕ
+  pub input : List ℕ
+  pub form : IsLink words output input
+  pub cause : CannotBeRead input o
+  pub files : o.new_held ≡ o.held
+  pub line : text ≡ cannot_read_line input
+
+-- the input was read, and is empty or no plain object file
+pub record EndsRefused (words : List (List ℕ)) (o : Outside) (text : List ℕ) : Type 0 where
+  pub output : List ℕ
+  pub input : List ℕ
+  pub form : IsLink words output input
+  pub file : List ℕ
+  pub read : IsInput input o file
+  pub cause : ((file ≡ []) × (text ≡ refused_line (codes "Empty") 0 0 0))
+    ⊎ ((file ≡ [] → ⊥) × IsUnbuilt file × (text ≡ refused_line (codes "Unbuilt") 0 0 0))
+  pub files : IsUntouched o
+
+-- the store failed in the write, and a front of the output stands at its path
+pub record EndsUnwritten (words : List (List ℕ)) (o : Outside) (text : List ℕ) : Type 0 where
+  pub output : List ℕ
+  pub input : List ℕ
+  pub form : IsLink words output input
+  pub file : List ℕ
+  pub read : IsInput input o file
+  pub bytes : List ℕ
+  pub linked : IsLinkedTo file bytes
+  pub front : List ℕ
+  pub is_front : IsFront front bytes
+  pub files : o.new_held ≡ with_file o.held output front
+  pub rose : Rose o.faults o.new_faults
+  pub line : text ≡ cannot_write_line output
+
+-- one of the ends that print a line
+pub data EndsWith (words : List (List ℕ)) (o : Outside) (text : List ℕ) : Type 0 where
+  AsUsage : EndsUsage words o text → EndsWith words o text
+  AsUnread : EndsUnread words o text → EndsWith words o text
+  AsRefused : EndsRefused words o text → EndsWith words o text
+  AsUnwritten : EndsUnwritten words o text → EndsWith words o text
+
+-- a run over these words that ends with the status
+abbrev pub HasRun : Status → List (List ℕ) → Outside → Type 0
+HasRun Done words o = EndsDone words o × IsSilent o
+HasRun Usage words o = (text : List ℕ) × EndsUsage words o text × Prints text o
+HasRun CannotRead words o = (text : List ℕ) × EndsUnread words o text × Prints text o
+HasRun Refused words o = (text : List ℕ) × EndsRefused words o text × Prints text o
+HasRun CannotWrite words o = (text : List ℕ) × EndsUnwritten words o text × Prints text o
+-- a line of these couldn't be printed whole
+HasRun CannotPrint words o = (text : List ℕ) × EndsWith words o text × FailsToPrint text o
+-- memory ran out in the command, or for its line, of which nothing was printed
+HasRun Memory words o = (IsUntouched o ⊎ ((text : List ℕ) × EndsWith words o text)) × IsSilent o
