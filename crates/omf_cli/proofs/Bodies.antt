@@ -29,13 +29,13 @@ gave_none r = record { before = []; run = refl; content = refl }
 
 pub gave_more : (start at : Reader) (found : ℕ × Record) (bytes : List ℕ) → Gave start at bytes → next_answer at ≡ Ok (Some found) → Gave start (after_next at) (bytes ++ content_of found.1)
 gave_more start at found bytes gave e = record {
-    before = gave.before ++ found ∷ [];
-    run = HandsOut-append start gave.before (found ∷ []) at (after_next at) gave.run (e, refl);
-    content =
+  before = gave.before ++ found ∷ [];
+  run = HandsOut-append start gave.before (found ∷ []) at (after_next at) gave.run (e, refl);
+  content =
       ap (λ (l : List ℕ). l ++ content_of found.1) gave.content
       ∙ ap (λ (l : List ℕ). content gave.before ++ l) (sym (append-nil (content_of found.1)))
       ∙ sym (flat_map-append (λ (f : ℕ × Record). content_of f.1) gave.before (found ∷ []));
-  }
+}
 
 -- at the end, it is the body's content
 pub gave_all : (start at : Reader) (bytes : List ℕ) → Gave start at bytes → next_answer at ≡ Ok None → IsContent start bytes
@@ -50,11 +50,11 @@ gave_less start at found bytes all gave e is =
     by_rest : (back : List (ℕ × Record)) → is.founds ≡ gave.before ++ back → HandsOut at back is.last → length bytes + length (content_of found.1) ≤ length all
     by_rest [] whole run = absurd (open_at_some at found e (ap (λ (r : Reader). r.ended) run ∙ is.ended))
     by_rest (other ∷ back) whole run =
-      let same : other ≡ found = same_found other found (sym run.0 ∙ e) in
-      let text : all ≡ content gave.before ++ (content_of other.1 ++ content back) =
+        let same : other ≡ found = same_found other found (sym run.0 ∙ e) in
+        let text : all ≡ content gave.before ++ (content_of other.1 ++ content back) =
         is.content ∙ ap content whole ∙ flat_map-append (λ (f : ℕ × Record). content_of f.1) gave.before (other ∷ back) in
-      let size : length (content_of other.1) ≡ length (content_of found.1) = ap (λ (f : ℕ × Record). length (content_of f.1)) same in
-      omega (arith, ap length text, ap length gave.content, length-append (content gave.before) (content_of other.1 ++ content back), length-append (content_of other.1) (content back), size)
+        let size : length (content_of other.1) ≡ length (content_of found.1) = ap (λ (f : ℕ × Record). length (content_of f.1)) same in
+        omega (arith, ap length text, ap length gave.content, length-append (content gave.before) (content_of other.1 ++ content back), length-append (content_of other.1) (content back), size)
 
 -- two contents of a body are one
 pub content_same : (reader : Reader) (a b : List ℕ) → IsContent reader a → IsContent reader b → a ≡ b

@@ -4,3 +4,4 @@ pub mod MemberLists
 pub mod Ends
 pub mod Linked
 pub mod ThreeWords
+pub mod Runs

@@ -16,7 +16,7 @@ pub member_content : (s : Segment) (v : SegmentView) (reader : Reader) → IsAt 
 unfolding body_bytes
 member_content s v reader at is =
     let same : body_reader s.start s.fields v.file.now ≡ reader =
-      ap (λ (n : ℕ). body_reader n s.fields v.file.now) at.start ∙ ap (λ (f : Fields). body_reader v.start f v.file.now) at.fields' ∙ sym is in
+    ap (λ (n : ℕ). body_reader n s.fields v.file.now) at.start ∙ ap (λ (f : Fields). body_reader v.start f v.file.now) at.fields' ∙ sym is in
     record {
       founds = s.records;
       last = at.segment.last;

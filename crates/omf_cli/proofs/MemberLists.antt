@@ -47,10 +47,10 @@ at_place (s ∷ segments) file (suc k) p each e =
 
 is_at : (v : SegmentView) (segments : List Segment) (file : List ℕ) (k : ℕ) (at : AtPlace segments file k (placed v)) → IsAt at.s v
 is_at v segments file k at = record {
-    start = sym (ap (λ (p : Placed). p.start) at.seen);
-    fields' = sym (ap (λ (p : Placed). p.fields) at.seen);
-    segment = subst (λ (f : List ℕ). IsSegment at.s f) (sym (ap (λ (p : Placed). p.file) at.seen)) at.stands;
-  }
+  start = sym (ap (λ (p : Placed). p.start) at.seen);
+  fields' = sym (ap (λ (p : Placed). p.fields) at.seen);
+  segment = subst (λ (f : List ℕ). IsSegment at.s f) (sym (ap (λ (p : Placed). p.file) at.seen)) at.stands;
+}
 
 -- what the view at a place of a file's list is
 pub record Views (segments : List Segment) (k : ℕ) (v : SegmentView) : Type 0 where
@@ -68,7 +68,7 @@ view_comes list k v has e =
     let seen = views list has.1.segments has.0 k v has.1.is_file has.1.views e in
     let s = seen.s in
     let reader : body_reader s.start s.fields v.file.now ≡ body_reader v.start (fields v.header) v.file.now =
-      ap (λ (n : ℕ). body_reader n s.fields v.file.now) seen.at.start ∙ ap (λ (f : Fields). body_reader v.start f v.file.now) seen.at.fields' in
+    ap (λ (n : ℕ). body_reader n s.fields v.file.now) seen.at.start ∙ ap (λ (f : Fields). body_reader v.start f v.file.now) seen.at.fields' in
     record {
       records = s.records;
       last = seen.at.segment.last;
@@ -102,13 +102,13 @@ lesser-assoc a b c =
       | inr a1 ↦ elim (cases_Bool (eqb b 0)) [
         | inl b0 ↦ rw (a1, b0, a1) refl
         | inr b1 ↦
-          let ab : eqb (min a b) 0 ≡ false = ne_eqb (min a b) 0 (λ e. some a b (eqb-false a 0 a1) (eqb-false b 0 b1) e) in
-          elim (cases_Bool (eqb c 0)) [
-            | inl c0 ↦ simp (a1, b1, ab, c0)
-            | inr c1 ↦
-              let bc : eqb (min b c) 0 ≡ false = ne_eqb (min b c) 0 (λ e. some b c (eqb-false b 0 b1) (eqb-false c 0 c1) e) in
-              simp (a1, b1, c1, ab, bc) (omega arith)
-          ]
+            let ab : eqb (min a b) 0 ≡ false = ne_eqb (min a b) 0 (λ e. some a b (eqb-false a 0 a1) (eqb-false b 0 b1) e) in
+            elim (cases_Bool (eqb c 0)) [
+              | inl c0 ↦ simp (a1, b1, ab, c0)
+              | inr c1 ↦
+                  let bc : eqb (min b c) 0 ≡ false = ne_eqb (min b c) 0 (λ e. some b c (eqb-false b 0 b1) (eqb-false c 0 c1) e) in
+                  simp (a1, b1, c1, ab, bc) (omega arith)
+            ]
       ]
     ]
   where
@@ -172,8 +172,8 @@ lesser-splits n a b room =
       | inr a1 ↦ elim (cases_Bool (eqb b 0)) [
         | inl b0 ↦ (subst (Room n) (let e : lesser_bank a b ≡ a = rw (a1, b0) refl in e) room, inl (eqb-true b 0 b0))
         | inr b1 ↦
-          let both : Room n (min a b) = subst (Room n) (let e : lesser_bank a b ≡ min a b = rw (a1, b1) refl in e) room in
-          by_least both (eqb-false a 0 a1) (eqb-false b 0 b1)
+            let both : Room n (min a b) = subst (Room n) (let e : lesser_bank a b ≡ min a b = rw (a1, b1) refl in e) room in
+            by_least both (eqb-false a 0 a1) (eqb-false b 0 b1)
       ]
     ]
   where

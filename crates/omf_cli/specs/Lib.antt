@@ -6,3 +6,4 @@ pub mod Words
 pub mod Lines
 pub mod Tool
 pub mod Code
+pub mod Ending

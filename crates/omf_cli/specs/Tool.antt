@@ -22,6 +22,19 @@ pub record Outside : Type 0 where
   pub print_faults : ℕ
   pub new_print_faults : ℕ
 
+-- the same from its parts: the files and their count before and after, and the text and its count
+abbrev pub outside : Option FileMap → Option FileMap → ℕ → ℕ → Option (List ℕ) → Option (List ℕ) → ℕ → ℕ → Outside
+outside held new_held faults new_faults written new_written print_faults new_print_faults = record {
+  held = held;
+  new_held = new_held;
+  faults = faults;
+  new_faults = new_faults;
+  written = written;
+  new_written = new_written;
+  print_faults = print_faults;
+  new_print_faults = new_print_faults;
+}
+
 -- ---- what was printed
 
 -- nothing
@@ -44,14 +57,14 @@ abbrev pub IsUntouched : Outside → Type 0
 IsUntouched o = (o.new_held ≡ o.held) × (o.new_faults ≡ o.faults)
 
 -- the input that was read: the held file, where files are told
-abbrev pub IsInput : List ℕ → Outside → List ℕ → Type 0
-IsInput path o file = (length file ≤ max_file) × Told o.held (λ files. get files path ≡ Some file)
+abbrev pub IsInput : List ℕ → Option FileMap → List ℕ → Type 0
+IsInput path held file = (length file ≤ max_file) × Told held (λ files. get files path ≡ Some file)
 
--- this call's read of the path answered that it isn't held, that its file is too long, or that it failed
-abbrev pub CannotBeRead : List ℕ → Outside → Type 0
-CannotBeRead path o =
-    ReadFailed read.Absent o.held path o.faults o.new_faults
-    ⊎ (ReadFailed read.TooLong o.held path o.faults o.new_faults ⊎ ReadFailed read.Failed o.held path o.faults o.new_faults)
+-- a read of the path answered that it isn't held, that its file is too long, or that it failed
+abbrev pub CannotBeRead : List ℕ → Option FileMap → ℕ → ℕ → Type 0
+CannotBeRead path held faults new_faults =
+    ReadFailed read.Absent held path faults new_faults
+    ⊎ (ReadFailed read.TooLong held path faults new_faults ⊎ ReadFailed read.Failed held path faults new_faults)
 
 -- ---- how a run ends
 
@@ -61,7 +74,7 @@ pub record EndsDone (words : List (List ℕ)) (o : Outside) : Type 0 where
   pub input : List ℕ
   pub form : IsLink words output input
   pub file : List ℕ
-  pub read : IsInput input o file
+  pub read : IsInput input o.held file
   pub bytes : List ℕ
   pub linked : IsLinkedTo file bytes
   pub files : o.new_held ≡ with_file o.held output bytes
@@ -78,7 +91,7 @@ pub record EndsUnread (words : List (List ℕ)) (o : Outside) (text : List ℕ) 
   pub output : List ℕ
   pub input : List ℕ
   pub form : IsLink words output input
-  pub cause : CannotBeRead input o
+  pub cause : CannotBeRead input o.held o.faults o.new_faults
   pub files : o.new_held ≡ o.held
   pub line : text ≡ cannot_read_line input
 
@@ -88,9 +101,9 @@ pub record EndsRefused (words : List (List ℕ)) (o : Outside) (text : List ℕ)
   pub input : List ℕ
   pub form : IsLink words output input
   pub file : List ℕ
-  pub read : IsInput input o file
+  pub read : IsInput input o.held file
   pub cause : ((file ≡ []) × (text ≡ refused_line (codes "Empty") 0 0 0))
-    ⊎ ((file ≡ [] → ⊥) × IsUnbuilt file × (text ≡ refused_line (codes "Unbuilt") 0 0 0))
+      ⊎ ((file ≡ [] → ⊥) × IsUnbuilt file × (text ≡ refused_line (codes "Unbuilt") 0 0 0))
   pub files : IsUntouched o
 
 -- the store failed in the write, and a front of the output stands at its path
@@ -99,7 +112,7 @@ pub record EndsUnwritten (words : List (List ℕ)) (o : Outside) (text : List �
   pub input : List ℕ
   pub form : IsLink words output input
   pub file : List ℕ
-  pub read : IsInput input o file
+  pub read : IsInput input o.held file
   pub bytes : List ℕ
   pub linked : IsLinkedTo file bytes
   pub front : List ℕ
@@ -126,3 +139,18 @@ HasRun CannotWrite words o = (text : List ℕ) × EndsUnwritten words o text × 
 HasRun CannotPrint words o = (text : List ℕ) × EndsWith words o text × FailsToPrint text o
 -- memory ran out in the command, or for its line, of which nothing was printed
 HasRun Memory words o = (IsUntouched o ⊎ ((text : List ℕ) × EndsWith words o text)) × IsSilent o
+
+-- The command gets done: the store tells a plain input of the words' form, and no count rose.
+pub record GetsDone (words : List (List ℕ)) (o : Outside) : Type 0 where
+  pub output : List ℕ
+  pub input : List ℕ
+  pub form : IsLink words output input
+  pub told : FileMap
+  pub is_told : o.held ≡ Some told
+  pub file : List ℕ
+  pub held' : get told input ≡ Some file
+  pub small : length file ≤ max_file
+  pub bytes : List ℕ
+  pub linked : IsLinkedTo file bytes
+  pub calm : Rose o.faults o.new_faults → ⊥
+  pub calm_print : Rose o.print_faults o.new_print_faults → ⊥

@@ -2,9 +2,15 @@
 #![tactic(auto)]
 
 mod content;
+mod ending;
+mod files;
 mod link;
 mod load_file;
 mod members;
+mod printing;
 mod status;
+mod tool;
 mod words;
+
 pub use status::Status;
+pub use tool::run_tool;

@@ -8,8 +8,8 @@ ghost use Rattle.omf_cli.specs.Members.{IsAt, IsPlainView, HasPlain, HasMembers}
 ghost use Rattle.omf_cli.specs.Link.{IsNotLinked, unlinked};
 
 use crate::content::{append_body, append_zeros};
-use crate::members::members_of;
 use crate::load_file::load_file;
+use crate::members::members_of;
 use omf_records::{FileCause, SegmentList, SegmentView, segments};
 use std::alloc::{AllocError, Global};
 

@@ -108,7 +108,13 @@ pub fn load_file(
     ensures err { IfErr result (λ fault. fault ≡ LinkFault.Memory) }
 {
     let data = without_trailing(memory, 0);
-    let header = load_header(alloc, first, bank_size, memory.len() as u32, data.len() as u32)?;
+    let header = load_header(
+        alloc,
+        first,
+        bank_size,
+        memory.len() as u32,
+        data.len() as u32,
+    )?;
     let mut file = match write_header(alloc, &header, body_length(data)) {
         Ok(file) => file,
         Err(WriteHeaderFault::TooLong) => unreachable!(),

@@ -27,7 +27,8 @@ fn is_sized(view: &SegmentView) -> bool
     ensures { (s : Segment) → IsAt s view.now → (IsTrue result ↔ (length (body_bytes s) + s.fields.res_spc ≡ s.fields.length)) }
 {
     match body_size(view.records(), view.header.length) {
-        Some(size) => u64::from(size) + u64::from(view.header.res_spc) == u64::from(view.header.length),
+        Some(size) => u64::from(size) + u64::from(view.header.res_spc)
+            == u64::from(view.header.length),
         None => false,
     }
 }

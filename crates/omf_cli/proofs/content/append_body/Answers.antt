@@ -28,7 +28,7 @@ records-preserved c =
     let more = gave_more c.args.records c.records.records found so_far.0 so_far.1 (sym (rw c.in-Ok-Some.field-0-is at c.in-Ok-Some.ensures.answer)) in
     let bytes = so_far.0 ++ content_of found.1 in
     let items : c.append_content.new.out.items ≡ c.args.out.now.items ++ bytes =
-      c.in_ok-append_content-in-Ok-Some.ensures ∙ ap (λ (l : List ℕ). l ++ content_of found.1) so_far.2 ∙ append_assoc c.args.out.now.items so_far.0 (content_of found.1) in
+    c.in_ok-append_content-in-Ok-Some.ensures ∙ ap (λ (l : List ℕ). l ++ content_of found.1) so_far.2 ∙ append_assoc c.args.out.now.items so_far.0 (content_of found.1) in
     (bytes, subst (λ (r : Reader). Gave c.args.records r bytes) (sym c.in-Ok-Some.ensures.after) more, items)
 
 pub unreachable-requires : goal.unreachable-requires

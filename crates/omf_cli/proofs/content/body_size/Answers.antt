@@ -26,8 +26,11 @@ records-preserved c =
     let more = gave_more c.args.records c.records.records found so_far.0 so_far.1 (sym (rw c.in-Ok-Some.field-0-is at c.in-Ok-Some.ensures.answer)) in
     let bytes = so_far.0 ++ content_of found.1 in
     record {
-      so_far = (bytes, subst (λ (r : Reader). Gave c.args.records r bytes) (sym c.in-Ok-Some.ensures.after) more,
-        omega (arith, length-append so_far.0 (content_of found.1), so_far.2, c.content_size-size.ensures.value));
+      so_far = (
+        bytes,
+        subst (λ (r : Reader). Gave c.args.records r bytes) (sym c.in-Ok-Some.ensures.after) more,
+        omega (arith, length-append so_far.0 (content_of found.1), so_far.2, c.content_size-size.ensures.value),
+      );
       within = omega arith;
     }
 

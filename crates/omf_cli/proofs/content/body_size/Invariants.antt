@@ -5,9 +5,9 @@ use Rattle.omf_cli.proofs.content.body_size.Given as goal
 -- the records so far put this many bytes into the segment
 abbrev pub invariant-records : goal.invariant-records
 invariant-records l = record {
-    so_far : SoFar l.initial.records l.records l.size;
-    within : l.size ≤ l.most;
-  }
+  so_far : SoFar l.initial.records l.records l.size;
+  within : l.size ≤ l.most;
+}
 
 abbrev pub decreases-records : goal.decreases-records
 decreases-records l = length l.records.left

@@ -16,5 +16,5 @@ returns c s at =
     let zeros = replicate c.args.view.now.header.res_spc 0 in
     let memory = member_memory s c.args.view.now c.records.result appended.0 at c.records.ensures appended.1 in
     let whole : c.append_body.new.out.items ++ zeros ≡ c.args.out.now.items ++ memory_bytes s =
-      ap (λ (l : List ℕ). l ++ zeros) appended.2 ∙ append_assoc c.args.out.now.items appended.0 zeros ∙ ap (λ (l : List ℕ). c.args.out.now.items ++ l) memory in
+    ap (λ (l : List ℕ). l ++ zeros) appended.2 ∙ append_assoc c.args.out.now.items appended.0 zeros ∙ ap (λ (l : List ℕ). c.args.out.now.items ++ l) memory in
     on_ok c.append_zeros.result (λ is. is ∙ whole) c.append_zeros.ensures

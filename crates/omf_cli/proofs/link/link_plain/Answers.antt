@@ -23,7 +23,9 @@ linked-requires c =
 pub returns-clause-err : goal.returns-clause-err
 returns-clause-err c =
     let some : c.args.file.now ≡ [] → ⊥ = λ none. eqb-false (length c.args.file.now) 0 (sym c.if-is_empty.ensures) (ap length none) in
-    let found = c.in-Ok.ensures.found in
-    (some, λ segments is plain.
-        c.in-None.ensures found.segments c.args.file.now found.is_file found.views
-        (subst IsPlain (file_same segments found.segments c.args.file.now is found.is_file) plain))
+    let found = c.in-Ok.ensures.found in (
+      some,
+      λ segments is plain.
+          c.in-None.ensures found.segments c.args.file.now found.is_file found.views
+          (subst IsPlain (file_same segments found.segments c.args.file.now is found.is_file) plain),
+    )

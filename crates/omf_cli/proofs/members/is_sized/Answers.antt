@@ -9,9 +9,10 @@ pub returns-in-Some : goal.returns-in-Some
 returns-in-Some c s at =
     let size : c.in-Some.size ≡ length (body_bytes s) = member_size s c.args.view.now c.records.result c.in-Some.size at c.records.ensures c.in-Some.ensures.size.1 in
     let spc : s.fields.res_spc ≡ c.args.view.now.header.res_spc = ap (λ (f : Fields). f.res_spc) at.fields' in
-    let len : s.fields.length ≡ c.args.view.now.header.length = ap (λ (f : Fields). f.length) at.fields' in
-    (λ is. let e : c.from.result + c.from-in-Some.result ≡ c.from-in-Some-2.result = eqb-true (c.from.result + c.from-in-Some.result) c.from-in-Some-2.result is in omega arith,
-     λ is. let e : c.from.result + c.from-in-Some.result ≡ c.from-in-Some-2.result = omega arith in eq-eqb (c.from.result + c.from-in-Some.result) c.from-in-Some-2.result e)
+    let len : s.fields.length ≡ c.args.view.now.header.length = ap (λ (f : Fields). f.length) at.fields' in (
+      λ is. let e : c.from.result + c.from-in-Some.result ≡ c.from-in-Some-2.result = eqb-true (c.from.result + c.from-in-Some.result) c.from-in-Some-2.result is in omega arith,
+      λ is. let e : c.from.result + c.from-in-Some.result ≡ c.from-in-Some-2.result = omega arith in eq-eqb (c.from.result + c.from-in-Some.result) c.from-in-Some-2.result e,
+    )
 
 pub returns-in-None : goal.returns-in-None
 returns-in-None c s at =

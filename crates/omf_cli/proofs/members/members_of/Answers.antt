@@ -35,7 +35,7 @@ returns-then-view-total c segments file is list plain =
 
 pub members-preserved : goal.members-preserved
 members-preserved c = record {
-    plain = λ segments file is list.
+  plain = λ segments file is list.
       let same : c.members.place + 1 - 1 ≡ c.members.place = omega arith in
       let found : slice_get c.args.list.now c.members.place ≡ Some (placed c.in-Some-get.view.now) = rw same at c.in-Some-get.ensures.value.1 in
       let seen = views c.args.list.now segments file c.members.place c.in-Some-get.view.now is list found in
@@ -44,10 +44,10 @@ members-preserved c = record {
       let len : c.in-Some-get.view.now.header.length ≡ seen.s.fields.length = sym (ap (λ (f : Fields). f.length) seen.at.fields') in
       let size : c.in-Some-get.view.now.header.bank_size ≡ seen.s.fields.bank_size = sym (ap (λ (f : Fields). f.bank_size) seen.at.fields') in
       let more = plain_more segments c.members.place c.members.total c.members.bank_size seen.s c.in-Some-get.view.now.header.length c.in-Some-get.view.now.header.bank_size
-        (c.members.invariant.plain segments file is list) seen.found both.0 (both.1 ∙ first) len size in
+      (c.members.invariant.plain segments file is list) seen.found both.0 (both.1 ∙ first) len size in
       subst (λ (bank : ℕ). PlainSoFar segments (c.members.place + 1) (c.members.total + c.in-Some-get.view.now.header.length) bank) (sym c.lesser_bank-bank_size.ensures) more;
-    small = omega (arith, c.if-view-total.false, c.members.invariant.small);
-  }
+  small = omega (arith, c.if-view-total.false, c.members.invariant.small);
+}
 
 pub returns-then-has_room : goal.returns-then-has_room
 returns-then-has_room c segments file is list =

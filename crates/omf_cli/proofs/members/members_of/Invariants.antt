@@ -7,6 +7,6 @@ use Rattle.omf_cli.proofs.members.members_of.Given as goal
 -- the members so far are plain
 abbrev pub invariant-members : goal.invariant-members
 invariant-members l = record {
-    plain : (segments : List Segment) (file : List ℕ) → IsFile segments file → l.list ≡ views_of file segments → PlainSoFar segments l.place l.total l.bank_size;
-    small : l.total ≤ 0x10000;
-  }
+  plain : (segments : List Segment) (file : List ℕ) → IsFile segments file → l.list ≡ views_of file segments → PlainSoFar segments l.place l.total l.bank_size;
+  small : l.total ≤ 0x10000;
+}

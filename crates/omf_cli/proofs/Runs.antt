@@ -1,0 +1,126 @@
+-- A run that ends with a line.
+use Rattle.std.proofs.Common.{◌≡◌, ◌⊎◌, ℕ, List, [], ◌∷◌, length, Option, Some, Result, Ok, Err, IfOk, refl, sym, ap, subst, ◌∙◌, arith, inl, inr}
+use Rattle.std.specs.Prelude.{codes}
+use Rattle.std.specs.FinMap.{get}
+use Rattle.omf_base.specs.declared.line.LineFault.{LineFault}
+use Rattle.omf_format.specs.File.{Segment, IsFile}
+use Rattle.omf_format.specs.Plain.{IsPlain}
+use Rattle.omf_io.specs.Counts.{Told}
+use Rattle.omf_io.specs.Files.{FileMap}
+use Rattle.omf_cli.specs.declared.ending.LinkEnd.TheVariants as end
+use Rattle.omf_cli.specs.declared.status.Status.{Status}
+use Rattle.omf_cli.specs.declared.status.Status.TheVariants as status
+use Rattle.omf_cli.specs.Words.{IsLink, IsUsage}
+use Rattle.omf_cli.specs.Lines.{usage_line, cannot_read_line, cannot_write_line, refused_line}
+use Rattle.omf_cli.specs.Tool.{Outside, Prints, EndsUsage, EndsUnread, EndsRefused, EndsUnwritten, EndsWith, AsUsage, AsUnread, AsRefused, AsUnwritten, IsInput, GetsDone, HasRun}
+use Rattle.omf_cli.specs.Ending.{HasEnded, HasPrinted, Whole, Part, Nothing, IsPrinted}
+
+-- whatever became of the line, the status that came says so
+pub tells : (words : List (List ℕ)) (o : Outside) (text : List ℕ) (wanted result : Status) (line : Result (List ℕ) LineFault) → EndsWith words o text → (Prints text o → HasRun wanted words o)
+    → IfOk line (λ t. t ≡ text) → IsPrinted line wanted result o.written o.new_written o.print_faults o.new_print_faults → HasRun result words o
+tells words o text wanted result (Err fault) ends whole is printed =
+    subst (λ (s : Status). HasRun s words o) (sym printed.0) (inr (text, ends), (printed.1, printed.2))
+tells words o text wanted result (Ok t) ends whole is printed =
+    let same : HasPrinted text wanted result o.written o.new_written o.print_faults o.new_print_faults =
+    subst (λ (u : List ℕ). HasPrinted u wanted result o.written o.new_written o.print_faults o.new_print_faults) is printed in
+    by_print same
+  where
+    by_print : HasPrinted text wanted result o.written o.new_written o.print_faults o.new_print_faults → HasRun result words o
+    by_print (Whole is written count) = subst (λ (s : Status). HasRun s words o) (sym is) (whole (written, count))
+    by_print (Part is front is_front written rose) = subst (λ (s : Status). HasRun s words o) (sym is) (text, ends, ((front, is_front, written), rose))
+    by_print (Nothing is written count) = subst (λ (s : Status). HasRun s words o) (sym is) (inr (text, ends), (written, count))
+
+-- ---- each end
+
+pub tells_usage : (words : List (List ℕ)) (o : Outside) (result : Status) (line : Result (List ℕ) LineFault) → IsUsage words → o.new_held ≡ o.held → o.new_faults ≡ o.faults
+    → IfOk line (λ t. t ≡ usage_line) → IsPrinted line status.Usage result o.written o.new_written o.print_faults o.new_print_faults → HasRun result words o
+tells_usage words o result line usage held count is printed =
+    let ends : EndsUsage words o usage_line = record { usage = usage; files = (held, count); line = refl } in
+    tells words o usage_line status.Usage result line (AsUsage ends) (λ p. (usage_line, ends, p)) is printed
+
+pub tells_unread : (words : List (List ℕ)) (o : Outside) (output input : List ℕ) (result : Status) (line : Result (List ℕ) LineFault) → IsLink words output input
+    → HasEnded end.Unread output input o.held o.new_held o.faults o.new_faults
+    → IfOk line (λ t. t ≡ cannot_read_line input) → IsPrinted line status.CannotRead result o.written o.new_written o.print_faults o.new_print_faults → HasRun result words o
+tells_unread words o output input result line form ended is printed =
+    let text = cannot_read_line input in
+    let ends : EndsUnread words o text = record { output = output; input = input; form = form; cause = ended.0; files = ended.1; line = refl } in
+    tells words o text status.CannotRead result line (AsUnread ends) (λ p. (text, ends, p)) is printed
+
+pub tells_empty : (words : List (List ℕ)) (o : Outside) (output input : List ℕ) (result : Status) (line : Result (List ℕ) LineFault) → IsLink words output input
+    → HasEnded end.Empty output input o.held o.new_held o.faults o.new_faults
+    → IfOk line (λ t. t ≡ refused_line (codes "Empty") 0 0 0) → IsPrinted line status.Refused result o.written o.new_written o.print_faults o.new_print_faults → HasRun result words o
+tells_empty words o output input result line form ended is printed =
+    let text = refused_line (codes "Empty") 0 0 0 in
+    let ends : EndsRefused words o text = record { output = output; input = input; form = form; file = ended.file; read = ended.read; cause = inl (ended.why, refl); files = (ended.files, ended.count) } in
+    tells words o text status.Refused result line (AsRefused ends) (λ p. (text, ends, p)) is printed
+
+pub tells_unbuilt : (words : List (List ℕ)) (o : Outside) (output input : List ℕ) (result : Status) (line : Result (List ℕ) LineFault) → IsLink words output input
+    → HasEnded end.Unbuilt output input o.held o.new_held o.faults o.new_faults
+    → IfOk line (λ t. t ≡ refused_line (codes "Unbuilt") 0 0 0) → IsPrinted line status.Refused result o.written o.new_written o.print_faults o.new_print_faults → HasRun result words o
+tells_unbuilt words o output input result line form ended is printed =
+    let text = refused_line (codes "Unbuilt") 0 0 0 in
+    let ends : EndsRefused words o text = record {
+      output = output;
+      input = input;
+      form = form;
+      file = ended.file;
+      read = ended.read;
+      cause = inr (ended.why.0, ended.why.1, refl);
+      files = (ended.files, ended.count);
+    } in
+    tells words o text status.Refused result line (AsRefused ends) (λ p. (text, ends, p)) is printed
+
+pub tells_unwritten : (words : List (List ℕ)) (o : Outside) (output input : List ℕ) (result : Status) (line : Result (List ℕ) LineFault) → IsLink words output input
+    → HasEnded end.Unwritten output input o.held o.new_held o.faults o.new_faults
+    → IfOk line (λ t. t ≡ cannot_write_line output) → IsPrinted line status.CannotWrite result o.written o.new_written o.print_faults o.new_print_faults → HasRun result words o
+tells_unwritten words o output input result line form ended is printed =
+    let text = cannot_write_line output in
+    let ends : EndsUnwritten words o text = record {
+      output = output;
+      input = input;
+      form = form;
+      file = ended.file;
+      read = ended.read;
+      bytes = ended.bytes;
+      linked = ended.linked;
+      front = ended.front;
+      is_front = ended.is_front;
+      files = ended.files;
+      rose = ended.rose;
+      line = refl;
+    } in
+    tells words o text status.CannotWrite result line (AsUnwritten ends) (λ p. (text, ends, p)) is printed
+
+pub tells_done : (words : List (List ℕ)) (o : Outside) (output input : List ℕ) → IsLink words output input
+    → HasEnded end.Done output input o.held o.new_held o.faults o.new_faults → o.new_written ≡ o.written → o.new_print_faults ≡ o.print_faults → HasRun status.Done words o
+tells_done words o output input form ended written count =
+    (record { output = output; input = input; form = form; file = ended.file; read = ended.read; bytes = ended.bytes; linked = ended.linked; files = ended.files; faults = ended.count }, (written, count))
+
+-- ---- a plain input isn't refused as empty
+
+-- the words have one form
+same_input : (words : List (List ℕ)) (a b c d : List ℕ) → IsLink words a b → IsLink words c d → b ≡ d
+same_input words a b c d p q = let both : codes "link" ∷ a ∷ b ∷ [] ≡ codes "link" ∷ c ∷ d ∷ [] = sym p.words' ∙ q.words' in cc
+
+no_plain : (segments : List Segment) (file : List ℕ) → file ≡ [] → IsFile segments file → IsPlain segments → ⊥
+no_plain [] file none is plain = plain.some refl
+no_plain (s ∷ segments) file none is plain = absurd (omega (arith, ap length none))
+
+-- the input that was read is the held one
+read_held : (held : Option FileMap) (told : FileMap) (path file other : List ℕ) → held ≡ Some told → get told path ≡ Some file → IsInput path held other → other ≡ file
+read_held held told path file other is found read =
+    let same : Told (Some told) (λ files. get files path ≡ Some other) = subst (λ (h : Option FileMap). Told h (λ files. get files path ≡ Some other)) is read.1 in
+    by_some (sym same ∙ found)
+  where
+    some : List ℕ → Option (List ℕ)
+    some x = Some x
+
+    by_some : Some other ≡ some file → other ≡ file
+    by_some e = cc
+
+pub not_empty : (words : List (List ℕ)) (o : Outside) (output input : List ℕ) → IsLink words output input → HasEnded end.Empty output input o.held o.new_held o.faults o.new_faults → GetsDone words o → ⊥
+not_empty words o output input form ended gets =
+    let same = same_input words output input gets.output gets.input form gets.form in
+    let read = subst (λ (path : List ℕ). IsInput path o.held ended.file) same ended.read in
+    let file = read_held o.held gets.told gets.input gets.file ended.file gets.is_told gets.held' read in
+    no_plain gets.linked.segments gets.file (sym file ∙ ended.why) gets.linked.is_file gets.linked.plain

@@ -1,0 +1,61 @@
+-- How the link of one file ends, before anything is printed of it, and how a line is printed.
+use Rattle.std.specs.Prelude.{◌≡◌, ◌⊎◌, ℕ, List, [], Option, Result, Ok, Err}
+use Rattle.omf_base.specs.declared.line.LineFault.{LineFault}
+use Rattle.omf_format.specs.Plain.{IsLinkedTo, IsUnbuilt}
+use Rattle.omf_io.specs.Counts.{Rose, IsFront}
+use Rattle.omf_io.specs.Files.{FileMap, with_file}
+use Rattle.omf_io.specs.Sinks.{with_text}
+use Rattle.omf_cli.specs.declared.ending.LinkEnd.{LinkEnd}
+use Rattle.omf_cli.specs.declared.ending.LinkEnd.TheVariants.{Done, Unread, Empty, Unbuilt, Unwritten, Memory}
+use Rattle.omf_cli.specs.declared.status.Status.{Status}
+use Rattle.omf_cli.specs.declared.status.Status.TheVariants as status
+use Rattle.omf_cli.specs.Tool.{IsInput, CannotBeRead}
+
+-- the output stands at its path
+pub record HasLinked (output input : List ℕ) (held new_held : Option FileMap) (faults new_faults : ℕ) : Type 0 where
+  pub file : List ℕ
+  pub read : IsInput input held file
+  pub bytes : List ℕ
+  pub linked : IsLinkedTo file bytes
+  pub files : new_held ≡ with_file held output bytes
+  pub count : new_faults ≡ faults
+
+-- the input is refused
+pub record IsRefusedFile (P : List ℕ → Type 0) (input : List ℕ) (held new_held : Option FileMap) (faults new_faults : ℕ) : Type 0 where
+  pub file : List ℕ
+  pub read : IsInput input held file
+  pub why : P file
+  pub files : new_held ≡ held
+  pub count : new_faults ≡ faults
+
+-- a front of the output stands at its path
+pub record HasFailed (output input : List ℕ) (held new_held : Option FileMap) (faults new_faults : ℕ) : Type 0 where
+  pub file : List ℕ
+  pub read : IsInput input held file
+  pub bytes : List ℕ
+  pub linked : IsLinkedTo file bytes
+  pub front : List ℕ
+  pub is_front : IsFront front bytes
+  pub files : new_held ≡ with_file held output front
+  pub rose : Rose faults new_faults
+
+-- what each end says of the store
+abbrev pub HasEnded : LinkEnd → List ℕ → List ℕ → Option FileMap → Option FileMap → ℕ → ℕ → Type 0
+HasEnded Done output input held new_held faults new_faults = HasLinked output input held new_held faults new_faults
+HasEnded Unread output input held new_held faults new_faults = CannotBeRead input held faults new_faults × (new_held ≡ held)
+HasEnded Empty output input held new_held faults new_faults = IsRefusedFile (λ file. file ≡ []) input held new_held faults new_faults
+HasEnded Unbuilt output input held new_held faults new_faults =
+    IsRefusedFile (λ file. (file ≡ [] → ⊥) × IsUnbuilt file) input held new_held faults new_faults
+HasEnded Unwritten output input held new_held faults new_faults = HasFailed output input held new_held faults new_faults
+HasEnded Memory output input held new_held faults new_faults = (new_held ≡ held) × (new_faults ≡ faults)
+
+-- a line was printed whole, with the wanted status; or a front of it, where the sink failed; or nothing, where memory ran out
+pub data HasPrinted (text : List ℕ) (wanted result : Status) (written new_written : Option (List ℕ)) (faults new_faults : ℕ) : Type 0 where
+  Whole : result ≡ wanted → new_written ≡ with_text written text → new_faults ≡ faults → HasPrinted text wanted result written new_written faults new_faults
+  Part : result ≡ status.CannotPrint → (front : List ℕ) → IsFront front text → new_written ≡ with_text written front → Rose faults new_faults → HasPrinted text wanted result written new_written faults new_faults
+  Nothing : result ≡ status.Memory → new_written ≡ written → new_faults ≡ faults → HasPrinted text wanted result written new_written faults new_faults
+
+-- the same of a line for which memory may have been missing
+abbrev pub IsPrinted : Result (List ℕ) LineFault → Status → Status → Option (List ℕ) → Option (List ℕ) → ℕ → ℕ → Type 0
+IsPrinted (Ok text) wanted result written new_written faults new_faults = HasPrinted text wanted result written new_written faults new_faults
+IsPrinted (Err fault) wanted result written new_written faults new_faults = (result ≡ status.Memory) × (new_written ≡ written) × (new_faults ≡ faults)

@@ -1,0 +1,69 @@
+//! The lines that the tool prints.
+
+ghost use Rattle.std.specs.Prelude.{◌≡◌, ◌++◌, IfOk};
+ghost use Rattle.omf_cli.specs.Lines.{line, usage_line, refused_line};
+ghost use Rattle.omf_cli.specs.Ending.{HasPrinted, IsPrinted};
+
+use crate::status::Status;
+use omf_base::{Line, LineFault, Spot};
+use omf_io::{Sink, SinkFault};
+use std::alloc::Global;
+
+/// The line that says which forms of words there are.
+pub fn usage_line(alloc: Global) -> Result<Line, LineFault>
+    ensures { IfOk result (λ text. text ≡ usage_line) }
+{
+    let mut line = Line::new(alloc);
+    line.text("usage: omf asm, link, lib, dump, run or stress")?;
+    line.text("\n")?;
+    Ok(line)
+}
+
+/// The line that says what couldn't be done with the file at a path.
+pub fn path_line(alloc: Global, what: &str, path: &str) -> Result<Line, LineFault>
+    ensures { IfOk result (λ text. text ≡ line (what.now ++ path.now)) }
+{
+    let mut line = Line::new(alloc);
+    line.text(what)?;
+    line.text(path)?;
+    line.text("\n")?;
+    Ok(line)
+}
+
+/// The line that says why an input is refused, and where.
+pub fn refused_line(alloc: Global, cause: &str, spot: Spot) -> Result<Line, LineFault>
+    ensures { IfOk result (λ text. text ≡ refused_line cause.now spot.file spot.segment spot.at) }
+{
+    let mut line = Line::new(alloc);
+    line.text("refused ")?;
+    line.text(cause)?;
+    line.text(" ")?;
+    line.dec(spot.file)?;
+    line.text(" ")?;
+    line.dec(spot.segment)?;
+    line.text(" ")?;
+    line.hex(spot.at, 8)?;
+    line.text("\n")?;
+    Ok(line)
+}
+
+/// Prints a text, and answers the wanted status, or that of what went wrong.
+fn put<S: Sink>(text: &[u8], wanted: Status, out: &mut S) -> Status
+    ensures { HasPrinted text.now wanted result (S.written out.old) (S.written out.new) (S.faults out.old) (S.faults out.new) }
+{
+    match out.put(text) {
+        Ok(()) => wanted,
+        Err(SinkFault::Failed) => Status::CannotPrint,
+        Err(SinkFault::Memory) => Status::Memory,
+    }
+}
+
+/// Prints a line for which memory may have been missing.
+pub fn print<S: Sink>(line: Result<Line, LineFault>, wanted: Status, out: &mut S) -> Status
+    ensures { IsPrinted line wanted result (S.written out.old) (S.written out.new) (S.faults out.old) (S.faults out.new) }
+{
+    match line {
+        Ok(line) => put(line.bytes(), wanted, out),
+        Err(LineFault::Memory) => Status::Memory,
+    }
+}
