@@ -1,5 +1,5 @@
 -- Stores of files: what is held, and what a read and a write may answer.
-use Rattle.std.specs.Prelude.{◌≡◌, ℕ, ◌<◌, ◌≤◌, List, length, Option, None, Some, IsSomeAnd}
+use Rattle.std.specs.Prelude.{◌≡◌, ◌≢◌, ℕ, ◌<◌, ◌≤◌, List, length, Option, None, Some, IsSomeAnd}
 use Rattle.std.specs.Option.{option_map}
 use Rattle.std.specs.FinMap.{FinMap, get, insert}
 use Rattle.std.specs.Cmp.Lexicographic.{slice_cmp}
@@ -45,3 +45,8 @@ abbrev pub WriteFailed : WriteFault → List ℕ → Option FileMap → Option F
 WriteFailed write.Failed bytes held new_held path before now =
     ((front : List ℕ) × IsFront front bytes × (new_held ≡ with_file held path front)) × Rose before now
 WriteFailed write.Memory bytes held new_held path before now = (new_held ≡ held) × (now ≡ before)
+
+-- a file that is put at a path is held there, and every other path is as before
+abbrev pub PutKeepsOtherPaths : Type 0
+PutKeepsOtherPaths = (files : FileMap) (path bytes : List ℕ) → (get (insert files path bytes) path ≡ Some bytes)
+    × ((other : List ℕ) → other ≢ path → get (insert files path bytes) other ≡ get files other)

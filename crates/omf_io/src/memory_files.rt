@@ -2,7 +2,7 @@
 ghost use Rattle.std.specs.Prelude.{◌≡◌, ◌≤◌, ◌↔◌, [], IsNone, IsTrue, IsErrOf, IfErr, OnOk, OnErr, MatchResult, Some, Err, true};
 ghost use Rattle.std.specs.Option.{option_map};
 ghost use Rattle.std.specs.FinMap as map;
-ghost use Rattle.omf_io.specs.Calls.{first_call, fails_next};
+ghost use Rattle.omf_io.specs.Calls.{first_call, fails_next, IsReliable};
 ghost use Rattle.omf_io.specs.Counts.{Rose};
 ghost use Rattle.omf_io.specs.Files.{HasRead, ReadFailed, HasWritten, WriteFailed};
 ghost use Rattle.omf_io.specs.Memory.{Store, put, after_read, IsAfterWrite};
@@ -36,7 +36,9 @@ impl Model for MemoryFiles {
 impl MemoryFiles {
     /// A store without files. `failing` has the numbers, from 1, of the calls of `read` and `write` that fail.
     pub fn new(alloc: Global, failing: Vec<u32>) -> MemoryFiles
-        ensures { let made : Store = record { files = map.empty; calls = first_call failing.items; asked = 0 } in result ≡ made }
+        ensures empty { let made : Store = record { files = map.empty; calls = first_call failing.items; asked = 0 } in
+            result ≡ made }
+        ensures reliable { failing.items ≡ [] → IsReliable result.calls }
     {
         MemoryFiles {
             table: Table::new(alloc),
@@ -50,14 +52,15 @@ impl MemoryFiles {
         ensures ok { OnOk result (self.new ≡ put self.old path.now bytes.now) }
         ensures err { OnErr result (self.new ≡ self.old) }
         ensures memory_alone { IfErr result (λ fault. fault ≡ WriteFault.Memory) }
+        ensures uncounted { self.new.calls ≡ self.old.calls }
     {
-        self.table.put(path, bytes)?;
-        Ok(())
+        Ok(self.table.put(path, bytes)?)
     }
 
     /// The bytes at a path. None exactly where the path isn't held.
     pub fn get(&self, path: &str) -> Option<&[u8]>
-        ensures { option_map (λ bytes. bytes.now) result ≡ map.get self.now.files path.now }
+        ensures bytes { option_map (λ bytes. bytes.now) result ≡ map.get self.now.files path.now }
+        ensures none { IsNone result ↔ IsNone (map.get self.now.files path.now) }
     {
         self.table.get(path)
     }
@@ -104,6 +107,7 @@ impl Files for MemoryFiles {
 
     ghost asked = { λ s. s.asked };
 
+    /// The bytes at a path. A call that fails is Failed, whatever is held.
     fn read(&mut self, alloc: Global, path: &str) -> Result<Vec<u8>, ReadFault>
         // As every store.
         ensures held { Some self.new.files ≡ Some self.old.files }
@@ -116,7 +120,7 @@ impl Files for MemoryFiles {
         // Exactly the listed calls fail.
         ensures after { self.new ≡ after_read self.old }
         ensures failing { IsErrOf result ReadFault.Failed ↔ IsTrue (fails_next self.old.calls) }
-        ensures none_listed { self.old.calls.failing ≡ [] → self.new.calls.faults ≡ self.old.calls.faults }
+        ensures reliable { IsReliable self.old.calls → IsReliable self.new.calls }
     {
         self.asked = self.asked.saturating_add(1);
         if self.calls.fails_next() {
@@ -134,6 +138,7 @@ impl Files for MemoryFiles {
         Ok(bytes)
     }
 
+    /// Puts a file at a path. A call that fails leaves the first half of the bytes there, rounded down.
     fn write(&mut self, path: &str, bytes: &[u8]) -> Result<(), WriteFault>
         // As every store.
         ensures asked { self.new.asked ≡ self.old.asked }
@@ -146,7 +151,7 @@ impl Files for MemoryFiles {
 
         // Exactly the listed calls fail, but where memory runs out.
         ensures after { IsAfterWrite result self.old path.now bytes.now self.new }
-        ensures none_listed { self.old.calls.failing ≡ [] → self.new.calls.faults ≡ self.old.calls.faults }
+        ensures reliable { IsReliable self.old.calls → IsReliable self.new.calls }
     {
         if self.calls.fails_next() {
             return Err(self.fail_writing(path, bytes));

@@ -1,6 +1,6 @@
 // A sink of text in memory.
 ghost use Rattle.std.specs.Prelude.{◌≡◌, ◌≤◌, [], MatchResult, Some, Err, true};
-ghost use Rattle.omf_io.specs.Calls.{first_call, fails_next};
+ghost use Rattle.omf_io.specs.Calls.{first_call, fails_next, IsReliable};
 ghost use Rattle.omf_io.specs.Memory.{Text, IsAfterPut};
 ghost use Rattle.omf_io.specs.Sinks.{HasPut, PutFailed};
 
@@ -31,7 +31,8 @@ impl Model for MemorySink {
 impl MemorySink {
     /// A sink that took nothing yet. `failing` has the numbers, from 1, of the calls of `put` that fail.
     pub fn new(alloc: Global, failing: Vec<u32>) -> MemorySink
-        ensures { let made : Text = record { bytes = []; calls = first_call failing.items } in result ≡ made }
+        ensures empty { let made : Text = record { bytes = []; calls = first_call failing.items } in result ≡ made }
+        ensures reliable { failing.items ≡ [] → IsReliable result.calls }
     {
         MemorySink {
             bytes: Vec::new(alloc),
@@ -91,7 +92,7 @@ impl Sink for MemorySink {
 
         // Exactly the listed calls fail, but where memory runs out.
         ensures after { IsAfterPut result self.old piece.now self.new }
-        ensures none_listed { self.old.calls.failing ≡ [] → self.new.calls.faults ≡ self.old.calls.faults }
+        ensures reliable { IsReliable self.old.calls → IsReliable self.new.calls }
     {
         if self.calls.fails_next() {
             return Err(self.fail_putting(piece));

@@ -1,5 +1,4 @@
 use Rattle.std.proofs.Common.{ap, ◌∙◌, Some, rules}
-use Rattle.std.proofs.lemmas.Grind.{common_steps}
 use Rattle.std.specs.FinMap as map
 use Rattle.omf_io.specs.Memory.{Store}
 use Rattle.omf_io.proofs.memory_files.MemoryFiles.fail_writing.Goals as goal

@@ -1,0 +1,35 @@
+//! The program `omf`: the words of the command line over the system's files and standard output.
+#![tactic(auto)]
+
+use omf_cli::{Status, run_tool};
+use omf_io::{HostFiles, HostSink};
+use std::alloc::AllocError;
+use std::env;
+use std::io::{self, ErrorKind};
+use std::process::ExitCode;
+
+/// The words after the program's name. Where one isn't UTF-8 text, none.
+fn words(rt: &HostRuntime) -> Result<Vec<String>, AllocError> {
+    match collected(rt) {
+        Ok(words) => Ok(words),
+        Err(error) if error.kind() == ErrorKind::OutOfMemory => Err(AllocError),
+        Err(_) => Ok(Vec::new(rt.alloc())),
+    }
+}
+
+fn collected(rt: &HostRuntime) -> io::Result<Vec<String>> {
+    let words = env::args(rt)?.skip(1).collect(rt.alloc())?;
+    Ok(words)
+}
+
+fn main(rt: HostRuntime) -> ExitCode {
+    let status = match words(&rt) {
+        Ok(words) => {
+            let mut files = HostFiles::new(&rt);
+            let mut out = HostSink::new(&rt);
+            run_tool(rt.alloc(), &words, &mut files, &mut out)
+        }
+        Err(AllocError) => Status::Memory,
+    };
+    ExitCode::from(status.code())
+}
