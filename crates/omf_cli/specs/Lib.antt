@@ -7,3 +7,4 @@ pub mod Lines
 pub mod Tool
 pub mod Code
 pub mod Ending
+pub mod Laws

@@ -4,6 +4,7 @@
 mod content;
 mod ending;
 mod files;
+mod laws;
 mod link;
 mod load_file;
 mod members;
@@ -12,5 +13,6 @@ mod status;
 mod tool;
 mod words;
 
+pub use laws::written_is_a_load_file;
 pub use status::Status;
 pub use tool::run_tool;

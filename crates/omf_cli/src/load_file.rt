@@ -66,29 +66,29 @@ fn load_header(
     })
 }
 
-/// How many bytes the body of the data has.
+/// How many bytes the body has, of this constant.
 #[tactic(auto, unfolding(omf_format::specs::Plain::written_body, omf_format::specs::Record::spelling))]
-fn body_length(data: &[u8]) -> u32
-    requires { length data.now < 2 ^ 31 }
-    ensures value { result ≡ length (written_body data.now) }
-    ensures bound { result ≤ length data.now + 6 }
+fn body_length(constant: &[u8]) -> u32
+    requires { length constant.now < 2 ^ 31 }
+    ensures value { result ≡ length (written_body constant.now) }
+    ensures bound { result ≤ length constant.now + 6 }
 {
-    match data {
+    match constant {
         [] => 1,
-        [_, ..] => 6 + data.len() as u32,
+        [_, ..] => 6 + constant.len() as u32,
     }
 }
 
-/// Appends the body: the data, and END.
+/// Appends the body: the constant, where it isn.t empty, and END.
 #[tactic(auto, unfolding(omf_format::specs::Plain::written_body))]
-fn put_body(out: &mut Vec<u8>, data: &[u8]) -> Result<(), PutFault>
-    requires { length data.now < 2 ^ 31 }
-    ensures { OnOk result (out.new.items ≡ out.old.items ++ written_body data.now) }
+fn put_body(out: &mut Vec<u8>, constant: &[u8]) -> Result<(), PutFault>
+    requires { length constant.now < 2 ^ 31 }
+    ensures { OnOk result (out.new.items ≡ out.old.items ++ written_body constant.now) }
 {
-    match data {
+    match constant {
         [] => put_record(out, &Rec::End),
         [_, ..] => {
-            put_record(out, &Rec::LongConst { bytes: data })?;
+            put_record(out, &Rec::LongConst { bytes: constant })?;
             put_record(out, &Rec::End)
         }
     }

@@ -1,0 +1,5 @@
+//! Tests of the whole tool over stores and sinks in memory.
+#![tactic(auto)]
+
+#[cfg(test)]
+mod linking;

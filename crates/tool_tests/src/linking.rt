@@ -1,0 +1,256 @@
+// What no clause says: that memory is enough, and that the bytes and lines are those that other tools know. Expected
+// bytes are worked out by hand from the format.
+use omf_cli::{Status, run_tool};
+use omf_io::{MemoryFiles, MemorySink};
+use std::alloc::{AllocError, Global};
+use std::test::Fail;
+
+/// An object: a code segment `A` of three constant bytes and five zeros.
+const OBJECT: [u8; 66] = [
+    0x42, 0, 0, 0, 0, 0, 0, 0, 8, 0, 0, 0, 0, 0, 4, 2, 0, 0, 1, 0, 0, 0, 0, 0, 0, 0, 0, 0, 0, 0, 0,
+    0, 0, 0, 1, 0, 0, 0, 0, 0, 0x2C, 0, 0x38, 0, 0x20, 0x20, 0x20, 0x20, 0x20, 0x20, 0x20, 0x20,
+    0x20, 0x20, 1, 0x41, 3, 0xA9, 1, 0x60, 0xF1, 5, 0, 0, 0, 0,
+];
+
+/// Its load file: the zeros at the end are in RESSPC.
+const LOAD_FILE: [u8; 64] = [
+    0x40, 0, 0, 0, 5, 0, 0, 0, 8, 0, 0, 0, 0, 0, 4, 2, 0, 0, 1, 0, 0, 0, 0, 0, 0, 0, 0, 0, 0, 0, 0,
+    0, 0, 0, 1, 0, 0, 0, 0, 0, 0x2C, 0, 0x37, 0, 0x20, 0x20, 0x20, 0x20, 0x20, 0x20, 0x20, 0x20,
+    0x20, 0x20, 0, 0xF2, 3, 0, 0, 0, 0xA9, 1, 0x60, 0,
+];
+
+/// The load file of the object twice: the first one's zeros stand between the constants.
+const TWICE: [u8; 72] = [
+    0x48, 0, 0, 0, 5, 0, 0, 0, 0x10, 0, 0, 0, 0, 0, 4, 2, 0, 0, 1, 0, 0, 0, 0, 0, 0, 0, 0, 0, 0, 0,
+    0, 0, 0, 0, 1, 0, 0, 0, 0, 0, 0x2C, 0, 0x37, 0, 0x20, 0x20, 0x20, 0x20, 0x20, 0x20, 0x20, 0x20,
+    0x20, 0x20, 0, 0xF2, 0x0B, 0, 0, 0, 0xA9, 1, 0x60, 0, 0, 0, 0, 0, 0xA9, 1, 0x60, 0,
+];
+
+/// The load file of three zeros and five more under KIND $90E1: bits 5 to 7 say nothing, and no constant is left.
+const ZEROS: [u8; 56] = [
+    0x38, 0, 0, 0, 8, 0, 0, 0, 8, 0, 0, 0, 0, 0, 4, 2, 0, 0, 1, 0, 1, 0x90, 0, 0, 0, 0, 0, 0, 0, 0,
+    0, 0, 0, 0, 1, 0, 0, 0, 0, 0, 0x2C, 0, 0x37, 0, 0x20, 0x20, 0x20, 0x20, 0x20, 0x20, 0x20, 0x20,
+    0x20, 0x20, 0, 0,
+];
+
+const EMPTY: &[u8] = b"refused Empty 0 0 00000000\n";
+
+const UNBUILT: &[u8] = b"refused Unbuilt 0 0 00000000\n";
+
+const USAGE: &[u8] = b"usage: omf asm, link, lib, dump, run or stress\n";
+
+/// What a run of the tool left.
+#[derive(Drop)]
+struct Run {
+    status: Status,
+    files: MemoryFiles,
+    out: MemorySink,
+}
+
+/// Runs the tool on words that stand with spaces between them, over a store that holds one file at `obj`. The calls of
+/// the store and of the sink that fail are given by their numbers.
+fn run_words(
+    alloc: Global,
+    words: &str,
+    object: &[u8],
+    files: Vec<u32>,
+    text: Vec<u32>,
+) -> Result<Run, Fail> {
+    let mut files = MemoryFiles::new(alloc, files);
+    files.set("obj", object)?;
+    let mut out = MemorySink::new(alloc, text);
+    let mut split = Vec::new(alloc);
+    for word in words.split(' ') {
+        split.push(String::from_str(alloc, word)?)?;
+    }
+    let status = run_tool(alloc, &split, &mut files, &mut out);
+    Ok(Run { status, files, out })
+}
+
+/// Whether a run ended so: with this status, this text, and these bytes at `out`.
+fn ends(run: &Run, status: Status, text: &[u8], output: Option<&[u8]>) -> bool {
+    run.status == status && run.out.bytes() == text && run.files.get("out") == output
+}
+
+/// The object with bytes changed at displacements.
+fn changed(alloc: Global, changes: &[(usize, u8)]) -> Result<Vec<u8>, AllocError> {
+    let mut bytes = OBJECT.to_vec(alloc)?;
+    for (at, value) in changes {
+        if let Some(byte) = bytes.get_mut(*at) {
+            *byte = *value;
+        }
+    }
+    Ok(bytes)
+}
+
+/// Links an object while nothing outside fails, and says whether it ended so.
+fn links(
+    alloc: Global,
+    object: &[u8],
+    status: Status,
+    text: &[u8],
+    output: Option<&[u8]>,
+) -> Result<bool, Fail> {
+    let run = run_words(
+        alloc,
+        "link out obj",
+        object,
+        Vec::new(alloc),
+        Vec::new(alloc),
+    )?;
+    Ok(ends(&run, status, text, output))
+}
+
+#[test]
+fn plain_objects_are_linked(rt: HostRuntime) -> Result<(), Fail> {
+    let alloc = rt.alloc();
+    assert!(rt; links(alloc, &OBJECT, Status::Done, b"", Some(&LOAD_FILE))?);
+    let mut twice = OBJECT.to_vec(alloc)?;
+    twice.extend_from_slice(&OBJECT)?;
+    assert!(rt; links(alloc, &twice, Status::Done, b"", Some(&TWICE))?);
+    Ok(())
+}
+
+#[test]
+fn what_the_format_leaves_open_is_passed_over(rt: HostRuntime) -> Result<(), Fail> {
+    let alloc = rt.alloc();
+
+    // One byte at $21, and four before the names.
+    let front = changed(
+        alloc,
+        &[(0x00, 0x46), (0x21, 1), (0x28, 0x30), (0x2A, 0x3C)],
+    )?;
+    let mut padded = Vec::new(alloc);
+    padded.extend_from_slice(&front[..front.len().min(0x2C)])?;
+    padded.extend_from_slice(&[0; 4])?;
+    padded.extend_from_slice(&OBJECT[0x2C..])?;
+    assert!(rt; links(alloc, &padded, Status::Done, b"", Some(&LOAD_FILE))?);
+    let zeros = changed(
+        alloc,
+        &[(0x14, 0xE1), (0x15, 0x90), (0x39, 0), (0x3A, 0), (0x3B, 0)],
+    )?;
+    assert!(rt; links(alloc, &zeros, Status::Done, b"", Some(&ZEROS))?);
+    Ok(())
+}
+
+#[test]
+fn other_files_are_refused(rt: HostRuntime) -> Result<(), Fail> {
+    let alloc = rt.alloc();
+    assert!(rt; links(alloc, &[], Status::Refused, EMPTY, None)?);
+    assert!(rt; links(alloc, &OBJECT[..43], Status::Refused, UNBUILT, None)?);
+
+    // A second segment of another load name.
+    let mut two = OBJECT.to_vec(alloc)?;
+    let other = changed(alloc, &[(0x2C, 0x42)])?;
+    two.extend_from_slice(&other)?;
+    assert!(rt; links(alloc, &two, Status::Refused, UNBUILT, None)?);
+    Ok(())
+}
+
+/// Each change breaks one rule: NUMLEN, VERSION, BANKSIZE above $10000, an unknown type, NUMSEX, DISPNAME, BYTECNT,
+/// DISPDATA, RESSPC above LENGTH, a jump table, a pathname segment, a dictionary, ORG, ALIGN, a wrong LENGTH, a wrong
+/// RESSPC, a LENGTH that no record makes up, an unknown record, a cut record, no END.
+const BREAKS: [(usize, u8); 20] = [
+    (0x0E, 2),
+    (0x0F, 1),
+    (0x10, 1),
+    (0x14, 3),
+    (0x20, 1),
+    (0x28, 0x2B),
+    (0x00, 0x43),
+    (0x2A, 0x37),
+    (0x04, 9),
+    (0x14, 2),
+    (0x14, 4),
+    (0x14, 8),
+    (0x18, 1),
+    (0x1C, 1),
+    (0x08, 9),
+    (0x04, 1),
+    (0x0A, 1),
+    (0x3C, 0xE0),
+    (0x38, 0xDF),
+    (0x41, 1),
+];
+
+#[test]
+fn each_broken_rule_is_refused(rt: HostRuntime) -> Result<(), Fail> {
+    let alloc = rt.alloc();
+    for change in BREAKS {
+        let object = changed(alloc, &[change])?;
+        assert!(rt; links(alloc, &object, Status::Refused, UNBUILT, None)?);
+    }
+
+    // A BANKSIZE of 7 for 8 bytes.
+    let object = changed(alloc, &[(0x10, 7), (0x12, 0)])?;
+    assert!(rt; links(alloc, &object, Status::Refused, UNBUILT, None)?);
+    Ok(())
+}
+
+/// Whether these words, which stand with spaces between them, print the usage and read nothing.
+fn is_usage(alloc: Global, words: &str) -> Result<bool, Fail> {
+    let run = run_words(alloc, words, &OBJECT, Vec::new(alloc), Vec::new(alloc))?;
+    Ok(ends(&run, Status::Usage, USAGE, None) && run.files.asked() == 0)
+}
+
+#[test]
+fn other_words_print_the_usage(rt: HostRuntime) -> Result<(), Fail> {
+    let alloc = rt.alloc();
+    let forms = [
+        "",
+        "link",
+        "link out",
+        "link out obj obj",
+        "Link out obj",
+        "link  obj",
+        "--help",
+    ];
+    for form in forms {
+        assert!(rt; is_usage(alloc, form)?, "{form}");
+    }
+    let mut long = String::from_str(alloc, "link out ")?;
+    for _ in 0..256 {
+        long.push_str("p")?;
+    }
+    assert!(rt; is_usage(alloc, long.as_str())?);
+    Ok(())
+}
+
+/// Links the object while these calls of the store and of the sink fail, and says whether it ended so.
+fn fails(
+    alloc: Global,
+    file: u32,
+    text: u32,
+    status: Status,
+    printed: &[u8],
+    output: Option<&[u8]>,
+) -> Result<bool, Fail> {
+    let files = vec![in alloc; file]?;
+    let texts = vec![in alloc; text]?;
+    let run = run_words(alloc, "link out obj", &OBJECT, files, texts)?;
+    Ok(ends(&run, status, printed, output))
+}
+
+#[test]
+fn failures_are_told(rt: HostRuntime) -> Result<(), Fail> {
+    let alloc = rt.alloc();
+    let half = &LOAD_FILE[..32];
+    assert!(rt; fails(alloc, 1, 2, Status::CannotRead, b"cannot read obj\n", None)?);
+    assert!(rt;
+        fails(
+            alloc,
+            2,
+            2,
+            Status::CannotWrite,
+            b"cannot write out\n",
+            Some(half)
+        )?
+    );
+    assert!(rt; fails(alloc, 3, 1, Status::Done, b"", Some(&LOAD_FILE))?);
+    assert!(rt; fails(alloc, 1, 1, Status::CannotPrint, b"cannot r", None)?);
+    assert!(rt; fails(alloc, 2, 1, Status::CannotPrint, b"cannot w", Some(half))?);
+    let calm = Vec::new(alloc);
+    let absent = run_words(alloc, "link out nofile", &OBJECT, calm, Vec::new(alloc))?;
+    assert!(rt; ends(&absent, Status::CannotRead, b"cannot read nofile\n", None));
+    Ok(())
+}
