@@ -79,7 +79,7 @@ fn body_length(constant: &[u8]) -> u32
     }
 }
 
-/// Appends the body: the constant, where it isn.t empty, and END.
+/// Appends the body: the constant, where it isn't empty, and END.
 #[tactic(auto, unfolding(omf_format::specs::Plain::written_body))]
 fn put_body(out: &mut Vec<u8>, constant: &[u8]) -> Result<(), PutFault>
     requires { length constant.now < 2 ^ 31 }

@@ -2,4 +2,6 @@
 #![tactic(auto)]
 
 #[cfg(test)]
+mod headers;
+#[cfg(test)]
 mod linking;

@@ -1,0 +1,98 @@
+// Headers: the first check that holds is the one that is told, and what is written is read.
+use omf_header::{Field, Header, HeaderFault, WriteHeaderFault, read_header, write_header};
+use std::alloc::Global;
+use std::test::Fail;
+
+/// The header of a code segment `A` of 16 bytes, with a body of one byte.
+const HEADER: [u8; 57] = [
+    0x39, 0, 0, 0, 2, 0, 0, 0, 0x10, 0, 0, 0, 0, 0, 4, 2, 0, 0, 1, 0, 0, 0, 0, 0, 1, 2, 3, 4, 5, 6,
+    7, 8, 0, 0, 9, 10, 11, 12, 13, 14, 0x2C, 0, 0x38, 0, 0x4C, 0x4F, 0x41, 0x44, 0x20, 0x20, 0x20,
+    0x20, 0x20, 0x20, 1, 0x41, 0,
+];
+
+/// The fault of the header with bytes changed at displacements.
+fn fault(alloc: Global, changes: &[(usize, u8)]) -> Option<HeaderFault> {
+    let mut bytes = HEADER;
+    for (at, value) in changes {
+        if let Some(byte) = bytes.get_mut(*at) {
+            *byte = *value;
+        }
+    }
+    read_header(alloc, &bytes).err()
+}
+
+#[test]
+fn the_first_check_is_told(rt: HostRuntime) {
+    let alloc = rt.alloc();
+    assert_eq!(rt; fault(alloc, &[]), None);
+
+    // Each check breaks after the one before it, from the last to the first.
+    let breaks = [
+        (0x07, 1, HeaderFault::BadField(Field::ResSpc)),
+        (0x2A, 0x37, HeaderFault::BadField(Field::DispData)),
+        (0x00, 0x3A, HeaderFault::Truncated(57)),
+        (0x28, 0x2B, HeaderFault::BadField(Field::DispName)),
+        (0x20, 1, HeaderFault::Unsupported(Field::NumSex)),
+        (0x14, 0x11, HeaderFault::Unsupported(Field::Kind)),
+        (0x10, 1, HeaderFault::BadField(Field::BankSize)),
+        (0x0F, 3, HeaderFault::Unsupported(Field::Version)),
+        (0x0E, 2, HeaderFault::Unsupported(Field::NumLen)),
+    ];
+    let mut bytes = HEADER;
+    for (at, value, want) in breaks {
+        if let Some(byte) = bytes.get_mut(at) {
+            *byte = value;
+        }
+        assert_eq!(rt; read_header(alloc, &bytes).err(), Some(want));
+    }
+    let cut = read_header(alloc, &bytes[..43]).err();
+    assert_eq!(rt; cut, Some(HeaderFault::Truncated(43)));
+}
+
+#[test]
+fn names_follow_lab_len(rt: HostRuntime) -> Result<(), Fail> {
+    let alloc = rt.alloc();
+
+    // With LABLEN 2 the name is the two bytes behind the load name, here `A` and a space.
+    let mut bytes = HEADER;
+    bytes[0x0D] = 2;
+    bytes[0x36] = 0x41;
+    bytes[0x37] = 0x20;
+    let header = read_header(alloc, &bytes)?;
+    assert_eq!(rt; header.name.bytes(), b"A".as_slice());
+    assert_eq!(rt; header.load_name.as_slice(), b"LOAD      ".as_slice());
+    assert_eq!(rt; header.org, 0x04030201);
+    assert_eq!(rt; header.seg_num, 0x0A09);
+    assert_eq!(rt; header.entry, 0x0E0D0C0B);
+    Ok(())
+}
+
+/// The header that the bytes begin with.
+fn sound(alloc: Global) -> Result<Header, HeaderFault> {
+    read_header(alloc, &HEADER)
+}
+
+#[test]
+fn a_written_header_is_the_one_that_was_read(rt: HostRuntime) -> Result<(), Fail> {
+    let alloc = rt.alloc();
+    let header = sound(alloc)?;
+    let written = write_header(alloc, &header, 1);
+    assert_eq!(rt;
+        written.map(|bytes| bytes.as_slice() == &HEADER[..56]),
+        Ok(true)
+    );
+    Ok(())
+}
+
+#[test]
+fn a_segment_above_the_limit_is_too_long(rt: HostRuntime) -> Result<(), Fail> {
+    let alloc = rt.alloc();
+    let header = sound(alloc)?;
+    let longest = 16_777_216 - 56;
+    assert!(rt; write_header(alloc, &header, longest).is_ok());
+    let longer = write_header(alloc, &header, longest + 1).err();
+    assert_eq!(rt; longer, Some(WriteHeaderFault::TooLong));
+    let whole = write_header(alloc, &header, 16_777_216).err();
+    assert_eq!(rt; whole, Some(WriteHeaderFault::TooLong));
+    Ok(())
+}
