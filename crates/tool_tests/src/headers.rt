@@ -1,5 +1,10 @@
 // Headers: the first check that holds is the one that is told, and what is written is read.
-use omf_header::{Field, Header, HeaderFault, WriteHeaderFault, read_header, write_header};
+ghost use Rattle.std.specs.Prelude.{IfOk};
+ghost use Rattle.omf_format.specs.Header.{IsWritable};
+ghost use Rattle.omf_header.specs.View.{fields};
+
+use omf_base::{Name, NameFault};
+use omf_header::{Field, Header, HeaderFault, Kind, WriteHeaderFault, read_header, write_header};
 use std::alloc::Global;
 use std::test::Fail;
 
@@ -45,7 +50,7 @@ fn the_first_check_is_told(rt: HostRuntime) {
         }
         assert_eq!(rt; read_header(alloc, &bytes).err(), Some(want));
     }
-    let cut = read_header(alloc, &bytes[..43]).err();
+    let cut = read_header(alloc, &HEADER[..43]).err();
     assert_eq!(rt; cut, Some(HeaderFault::Truncated(43)));
 }
 
@@ -67,15 +72,32 @@ fn names_follow_lab_len(rt: HostRuntime) -> Result<(), Fail> {
     Ok(())
 }
 
-/// The header that the bytes begin with.
-fn sound(alloc: Global) -> Result<Header, HeaderFault> {
-    read_header(alloc, &HEADER)
+/// What the header says.
+fn made(alloc: Global) -> Result<Header, NameFault>
+    ensures { IfOk result (λ header. IsWritable (fields header)) }
+{
+    Ok(Header {
+        byte_count: 0,
+        res_spc: 2,
+        length: 0x10,
+        lab_len: 0,
+        bank_size: 0x10000,
+        kind: Kind { bits: 0 },
+        org: 0x04030201,
+        align: 0x08070605,
+        seg_num: 0x0A09,
+        entry: 0x0E0D0C0B,
+        disp_name: 0,
+        disp_data: 0,
+        load_name: *b"LOAD      ",
+        name: Name::of(alloc, b"A")?,
+    })
 }
 
 #[test]
 fn a_written_header_is_the_one_that_was_read(rt: HostRuntime) -> Result<(), Fail> {
     let alloc = rt.alloc();
-    let header = sound(alloc)?;
+    let header = made(alloc)?;
     let written = write_header(alloc, &header, 1);
     assert_eq!(rt;
         written.map(|bytes| bytes.as_slice() == &HEADER[..56]),
@@ -87,7 +109,7 @@ fn a_written_header_is_the_one_that_was_read(rt: HostRuntime) -> Result<(), Fail
 #[test]
 fn a_segment_above_the_limit_is_too_long(rt: HostRuntime) -> Result<(), Fail> {
     let alloc = rt.alloc();
-    let header = sound(alloc)?;
+    let header = made(alloc)?;
     let longest = 16_777_216 - 56;
     assert!(rt; write_header(alloc, &header, longest).is_ok());
     let longer = write_header(alloc, &header, longest + 1).err();
