@@ -1,5 +1,5 @@
 -- A file is read in one way: it has one list of segments, or one first fault, and not both.
-use Rattle.std.proofs.Common.{◌≡◌, ℕ, zero, suc, ◌+◌, ◌*◌, ◌<◌, ◌≤◌, Bool, true, false, cond, List, [], ◌∷◌, ◌++◌, length, take, drop, Option, Some, None, Result, Ok, Err, refl, sym, ap, subst, ◌∙◌, arith}
+use Rattle.std.proofs.Common.{◌≡◌, ℕ, ◌+◌, ◌*◌, ◌≤◌, Bool, true, false, cond, List, [], ◌∷◌, ◌++◌, length, drop, Option, Some, None, Result, Ok, Err, refl, sym, ap, subst, ◌∙◌, arith}
 use Rattle.std.proofs.lemmas.List.{append-nil, length-drop}
 use Rattle.omf_format.specs.declared.fault.Flaw.{Flaw}
 use Rattle.omf_format.specs.declared.fault.HeaderFault.{HeaderFault}
@@ -8,8 +8,8 @@ use Rattle.omf_format.specs.declared.fault.FileFault.{FileFault}
 use Rattle.omf_format.specs.Header.{Fields, fields_of, names_end, header_fault}
 use Rattle.omf_format.specs.HeaderLaws.{IsSound, sound_from_none}
 use Rattle.omf_format.specs.Record.{Record}
-use Rattle.omf_format.specs.Reading.{Reader, front, told, moved, next_answer, after_next, HandsOut}
-use Rattle.omf_format.specs.File.{Segment, body_reader, IsHeader, IsSegment, AreSegments, IsFile, SaysHeader, SaysRecord, HasFault, InHeader, InRecord, IsFirstFault}
+use Rattle.omf_format.specs.Reading.{Reader, front, told, next_answer, after_next, HandsOut}
+use Rattle.omf_format.specs.File.{Segment, body_reader, IsHeader, IsSegment, AreSegments, IsFile, HasFault, InHeader, InRecord, IsFirstFault}
 
 abbrev pub Answer : Type 0
 Answer = Result (Option (ℕ × Record)) RecordFault
@@ -42,6 +42,7 @@ ended_at_none r e = cases r.ended refl e
     told_some : (answer : Result (Record × List ℕ) Flaw) → told r answer ≡ Ok None → ⊥
     told_some (Ok found) e = cc
     told_some (Err flaw) e = cc
+
     cases : (b : Bool) → b ≡ r.ended → cond b nothing (told r (front r.lab_len r.left)) ≡ Ok None → r.ended ≡ true
     cases true is e = sym is
     cases false is e = absurd (told_some (front r.lab_len r.left) e)

@@ -1,16 +1,15 @@
 -- What passes the checks of a header is within their bounds, and a header that was written is read again.
-use Rattle.std.proofs.Common.{◌≡◌, ℕ, zero, suc, ◌+◌, ◌*◌, ◌%◌, ◌^◌, ◌<◌, ◌≤◌, Bool, true, false, cond, not, ltb, eqb, List, [], ◌∷◌, ◌++◌, length, get_or, take, drop, Option, Some, None, refl, sym, ap, subst, ◌∙◌, append_assoc, arith, inl, inr}
+use Rattle.std.proofs.Common.{◌≡◌, ℕ, zero, suc, ◌+◌, ◌^◌, ◌<◌, ◌≤◌, Bool, true, false, cond, not, ltb, List, [], ◌∷◌, ◌++◌, length, get_or, take, drop, Option, Some, None, refl, sym, ap, subst, ◌∙◌, append_assoc, arith}
 use Rattle.std.specs.Prelude.{◌||◌, slice_get}
 use Rattle.std.specs.List.{AllByRecursion}
-use Rattle.std.proofs.lemmas.Bool.{ltb-false, le-ltb, eqb-true}
-use Rattle.std.proofs.lemmas.List.{take_at, drop_at, length-append, length-take, length-drop}
+use Rattle.std.proofs.lemmas.Bool.{ltb-false}
+use Rattle.std.proofs.lemmas.List.{length-append}
 use Rattle.byteorder.specs.Endian.{little_number, little_bytes}
-use Rattle.byteorder.specs.Numbers.{little_number-reads_back, length-bytes_low_first, little_from-lt}
+use Rattle.byteorder.specs.Numbers.{little_number-reads_back, length-bytes_low_first}
 use Rattle.omf_format.specs.declared.fault.HeaderFault.{HeaderFault}
 use Rattle.omf_format.specs.declared.fault.HeaderFault.TheVariants.{Truncated, Unsupported, BadField, Memory}
 use Rattle.omf_format.specs.Number.{number_at}
-use Rattle.omf_format.specs.Name.{name_at, name_size}
-use Rattle.omf_format.specs.Header.{Fields, fields_of, names_end, form_of, is_listed, header_checks, first_of, header_fault, laid_out, written_fields, written_numbers, header_bytes}
+use Rattle.omf_format.specs.Header.{Fields, fields_of, names_end, form_of, is_listed, header_checks, first_of, header_fault, laid_out}
 
 -- each item is a byte
 abbrev pub IsBytes : List ℕ → Type 0

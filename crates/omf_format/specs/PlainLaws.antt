@@ -1,23 +1,23 @@
 -- The load file of a plain object file is a file of one segment, which has the members' bytes in memory.
-use Rattle.std.proofs.Common.{◌≡◌, ℕ, zero, suc, ◌+◌, ◌-◌, ◌*◌, ◌/◌, ◌%◌, ◌^◌, ◌<◌, ◌≤◌, min, Bool, true, false, cond, eqb, List, [], ◌∷◌, ◌++◌, length, take, drop, replicate, sum_by, Option, Some, None, Result, Ok, Err, refl, sym, ap, subst, ◌∙◌, append_assoc, arith, inl, inr}
+use Rattle.std.proofs.Common.{◌≡◌, ℕ, suc, ◌+◌, ◌-◌, ◌^◌, ◌<◌, ◌≤◌, Bool, true, false, eqb, List, [], ◌∷◌, ◌++◌, length, take, drop, replicate, Option, Some, Result, Ok, refl, sym, ap, subst, ◌∙◌, arith, inl, inr}
 use Rattle.std.specs.Prelude.{◌&&◌}
 use Rattle.std.specs.List.{flat_map, list_all, AllByRecursion}
 use Rattle.std.proofs.lemmas.Bool.{cases_Bool, eqb-true}
-use Rattle.std.proofs.lemmas.List.{append-nil, take_all, take_at, drop_at, length-append, length-take, length-drop, length-replicate}
+use Rattle.std.proofs.lemmas.List.{append-nil, take_all, drop_at, length-append, length-take, length-drop, length-replicate}
 use Rattle.std.proofs.lemmas.List.Concat.{flat_map-cons}
 use Rattle.std.proofs.lemmas.List.Sums.{sum_by-cons}
 use Rattle.byteorder.specs.Endian.{little_bytes}
 use Rattle.byteorder.specs.Numbers.{little_from-lt, length-bytes_low_first}
 use Rattle.omf_format.specs.declared.fault.RecordFault.{RecordFault}
 use Rattle.omf_format.specs.Number.{number_at}
-use Rattle.omf_format.specs.Name.{without_trailing, name_size}
-use Rattle.omf_format.specs.Header.{Fields, fields_of, names_end, form_of, is_listed, header_fault, written_fields, header_bytes, IsWritable}
+use Rattle.omf_format.specs.Name.{without_trailing}
+use Rattle.omf_format.specs.Header.{Fields, fields_of, names_end, form_of, is_listed, written_fields, header_bytes, IsWritable}
 use Rattle.omf_format.specs.HeaderLaws.{IsBytes, IsSound, sound_from_none}
 use Rattle.omf_format.specs.WrittenHeader.{FitsWritten, length-header, fields_of-written, header_fault-written}
-use Rattle.omf_format.specs.Record.{Record, End, LongConst, spelling, IsRecord, content_of}
+use Rattle.omf_format.specs.Record.{Record, End, LongConst, spelling, content_of}
 use Rattle.omf_format.specs.RecordLaws.{IsBytes-drop, front-again}
-use Rattle.omf_format.specs.Reading.{Reader, place_of, is_end, front, told, moved, next_answer, after_next, HandsOut}
-use Rattle.omf_format.specs.File.{Segment, body_reader, IsHeader, IsSegment, AreSegments, IsFile}
+use Rattle.omf_format.specs.Reading.{Reader, front, told, moved, next_answer, after_next, HandsOut}
+use Rattle.omf_format.specs.File.{Segment, body_reader, IsSegment, AreSegments, IsFile}
 use Rattle.omf_format.specs.Plain.{body_bytes, memory_bytes, IsPlainSegment, total_length, IsPlain, lesser_bank, least_bank, cleared, loaded_bytes, data_of, written_body, load_fields, written, IsLoadFile}
 
 -- ---- trailing items

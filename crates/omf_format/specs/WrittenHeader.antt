@@ -1,12 +1,12 @@
 -- A header that was written is read again, whatever follows it.
-use Rattle.std.proofs.Common.{◌≡◌, ℕ, zero, suc, ◌+◌, ◌*◌, ◌%◌, ◌^◌, ◌<◌, ◌≤◌, Bool, true, false, cond, not, ltb, eqb, List, [], ◌∷◌, ◌++◌, length, get_or, take, drop, Option, Some, None, refl, sym, ap, subst, ◌∙◌, append_assoc, arith}
+use Rattle.std.proofs.Common.{◌≡◌, ℕ, ◌+◌, ◌^◌, ◌<◌, ◌≤◌, Bool, false, not, ltb, List, ◌∷◌, ◌++◌, length, take, drop, None, refl, sym, ap, subst, ◌∙◌, append_assoc, arith}
 use Rattle.std.specs.Prelude.{◌||◌}
 use Rattle.std.proofs.lemmas.Bool.{le-ltb}
 use Rattle.std.proofs.lemmas.List.{take_at, drop_at, length-append}
 use Rattle.omf_format.specs.Number.{number_at}
 use Rattle.omf_format.specs.Name.{name_at, name_size}
-use Rattle.omf_format.specs.Header.{Fields, fields_of, names_end, form_of, is_listed, header_checks, header_fault, laid_out, written_fields, written_numbers, header_bytes, IsWritable}
-use Rattle.omf_format.specs.HeaderLaws.{none_holds, size_of, length-laid_out, number_at-laid_out, drop-more}
+use Rattle.omf_format.specs.Header.{Fields, fields_of, names_end, header_checks, header_fault, laid_out, written_fields, written_numbers, header_bytes, IsWritable}
+use Rattle.omf_format.specs.HeaderLaws.{none_holds, length-laid_out, number_at-laid_out, drop-more}
 
 -- the fields are as wide as they stand in a header
 pub record FitsFields (f : Fields) : Type 0 where

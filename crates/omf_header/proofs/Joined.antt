@@ -1,8 +1,7 @@
 -- The parts of a written header, one behind another.
-use Rattle.std.proofs.Common.{◌≡◌, ℕ, List, [], ◌∷◌, ◌++◌, length, refl, sym, ap, ◌∙◌, append_assoc}
+use Rattle.std.proofs.Common.{◌≡◌, ℕ, List, [], ◌∷◌, ◌++◌, refl, sym, ap, ◌∙◌, append_assoc}
 use Rattle.byteorder.specs.Endian.{little_bytes}
-use Rattle.omf_format.specs.Header.{Fields, laid_out}
-use Rattle.omf_header.specs.Parts.{sizes, placement, order, displacements, numbers}
+use Rattle.omf_format.specs.Header.{laid_out}
 
 laid_out-append : (a b : List (ℕ × ℕ)) → laid_out (a ++ b) ≡ laid_out a ++ laid_out b
 laid_out-append [] b = refl
