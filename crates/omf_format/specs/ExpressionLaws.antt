@@ -31,19 +31,19 @@ none-begins l a b x y p q e =
 
 -- ---- reading terms
 
-read-term : (l n at pending behind : ℕ) (bytes rest : List ℕ) → term_step l at pending bytes ≡ Ok (Some behind, rest) → read_from (suc n) l at pending bytes ≡ read_from n l (at + (length bytes - length rest)) behind rest
+pub read-term : (l n at pending behind : ℕ) (bytes rest : List ℕ) → term_step l at pending bytes ≡ Ok (Some behind, rest) → read_from (suc n) l at pending bytes ≡ read_from n l (at + (length bytes - length rest)) behind rest
 unfolding read_from
 read-term l n at pending behind bytes rest e = rw e refl
 
-read-end : (l n at pending : ℕ) (bytes rest : List ℕ) → term_step l at pending bytes ≡ Ok (None, rest) → read_from (suc n) l at pending bytes ≡ Ok rest
+pub read-end : (l n at pending : ℕ) (bytes rest : List ℕ) → term_step l at pending bytes ≡ Ok (None, rest) → read_from (suc n) l at pending bytes ≡ Ok rest
 unfolding read_from
 read-end l n at pending bytes rest e = rw e refl
 
-read-wrong : (l n at pending : ℕ) (bytes : List ℕ) (fault : ExprFault) → term_step l at pending bytes ≡ Err fault → read_from (suc n) l at pending bytes ≡ Err fault
+pub read-wrong : (l n at pending : ℕ) (bytes : List ℕ) (fault : ExprFault) → term_step l at pending bytes ≡ Err fault → read_from (suc n) l at pending bytes ≡ Err fault
 unfolding read_from
 read-wrong l n at pending bytes fault e = rw e refl
 
-read-none : (l at pending : ℕ) (bytes : List ℕ) → read_from 0 l at pending bytes ≡ Err (Truncated at)
+pub read-none : (l at pending : ℕ) (bytes : List ℕ) → read_from 0 l at pending bytes ≡ Err (Truncated at)
 unfolding read_from
 read-none l at pending bytes = refl
 

@@ -2,7 +2,7 @@
 use Rattle.std.proofs.Common.{◌≡◌, ℕ, zero, suc, ◌+◌, ◌-◌, ◌^◌, ◌<◌, ◌≤◌, Bool, true, false, cond, ltb, eqb, ◌⊎◌, List, [], ◌∷◌, ◌++◌, length, take, drop, replicate, Result, Ok, Err, refl, sym, ap, subst, ◌∙◌, append_assoc, arith, inl, inr}
 use Rattle.std.specs.Prelude.{◌&&◌, ◌==◌}
 use Rattle.std.specs.List.{list_all}
-use Rattle.std.proofs.lemmas.Bool.{cases_lt, ltb-false, le-ltb, eqb-true, eq-eqb, ne_eqb}
+use Rattle.std.proofs.lemmas.Bool.{cases_lt, ltb-false, lt-ltb, le-ltb, eqb-true, eq-eqb, ne_eqb}
 use Rattle.std.proofs.lemmas.List.{take_at, drop_at, take-append-drop, length-append, length-take, length-replicate, get_or-drop, get_or-take, get_or_past}
 use Rattle.std.proofs.lemmas.List.Folds.{list_all-append}
 use Rattle.std.proofs.lemmas.Nat.{le_bytes_4}
@@ -166,28 +166,43 @@ pub record TakesName (lab_len : ℕ) (bytes : List ℕ) (found : List ℕ × Lis
   pub name' : IsName lab_len found.0
   pub taken : Takes bytes (name_text lab_len found.0) found.1
 
-counted_takes : (bytes : List ℕ) (found : List ℕ × List ℕ) → IsBytes bytes → name_field 0 bytes ≡ Ok found → TakesName 0 bytes found
-unfolding name_field name_at name_size number_at name_text
-counted_takes [] found fits e = absurd cc
-counted_takes (b ∷ more) found fits e =
-    let is : little_number 1 (b ∷ more) ≡ b = one_byte b more in
-    let n = little_number 1 (b ∷ more) in
-    let c = named (ltb (length (b ∷ more)) (1 + n)) (eqb (length (take n (drop 1 (b ∷ more)))) 0) (take n more, drop (1 + n) (b ∷ more)) found e in
-    let byte : b < 256 = fits 0 in
-    let long : 1 + n ≤ length (b ∷ more) = ltb-false _ _ c.0 in
-    let len : length (take n more) ≡ n = omega (arith, length-take n more) in
-    let some : 1 ≤ length (take n more) = not_empty (take n more) c.1 in
-    let behind : drop (1 + n) (b ∷ more) ≡ drop n more = ap (λ (k : ℕ). drop k (b ∷ more)) (let k : 1 + n ≡ suc n = omega arith in k) in
-    let made : List ℕ × List ℕ = (take n more, drop (1 + n) (b ∷ more)) in
-    let parts : b ∷ more ≡ length (take n more) ∷ take n more ++ drop (1 + n) (b ∷ more) = rw (behind, len, is, take-append-drop b more) refl in
-    let is_made : TakesName 0 (b ∷ more) made = record { name' = (some, omega arith); taken = record { parts = parts; rest_fits = IsBytes-drop (1 + n) (b ∷ more) fits } } in
-    subst (TakesName 0 (b ∷ more)) c.2 is_made
-
 -- with a LABLEN above 0
-padded_field : (l : ℕ) (bytes : List ℕ) → name_field (suc l) bytes
-    ≡ cond (ltb (length bytes) (suc l)) (Err Cut) (cond (eqb (length (without_trailing 32 (take (suc l) bytes))) 0) (Err Broken) (Ok (without_trailing 32 (take (suc l) bytes), drop (suc l) bytes)))
+pub padded_field : (l : ℕ) (bytes : List ℕ) → 0 < l → name_field l bytes
+    ≡ cond (ltb (length bytes) l) (Err Cut) (cond (eqb (length (without_trailing 32 (take l bytes))) 0) (Err Broken) (Ok (without_trailing 32 (take l bytes), drop l bytes)))
 unfolding name_field name_at name_size
-padded_field l bytes = let some : eqb (suc l) 0 ≡ false = ne_eqb _ _ (λ e. absurd (omega arith)) in rw some refl
+padded_field l bytes above = let some : eqb l 0 ≡ false = ne_eqb _ _ (λ e. absurd (omega arith)) in rw some refl
+
+-- with LABLEN 0
+pub counted_none : (bytes : List ℕ) → length bytes < 1 → name_field 0 bytes ≡ Err Cut
+unfolding name_field name_at name_size number_at
+counted_none [] none = refl
+counted_none (b ∷ bytes) none = absurd (omega arith)
+
+pub counted_field : (n : ℕ) (rest : List ℕ) → name_field 0 (n ∷ rest)
+    ≡ cond (ltb (length rest) n) (Err Cut) (cond (eqb (length (take n rest)) 0) (Err Broken) (Ok (take n rest, drop n rest)))
+unfolding name_field name_at name_size number_at
+counted_field n rest =
+    let is : little_number 1 (n ∷ rest) ≡ n = one_byte n rest in
+    let size : ltb (suc (length rest)) (1 + n) ≡ ltb (length rest) n = elim (cases_lt (length rest) n) [
+      | inl lt ↦ lt-ltb _ _ (omega arith) ∙ sym (lt-ltb _ _ lt)
+      | inr le ↦ le-ltb _ _ (omega arith) ∙ sym (le-ltb _ _ le)
+    ] in
+    let behind : drop (1 + n) (n ∷ rest) ≡ drop n rest = ap (λ (k : ℕ). drop k (n ∷ rest)) (let k : 1 + n ≡ suc n = omega arith in k) in
+    rw (is, size, behind) refl
+
+counted_takes : (bytes : List ℕ) (found : List ℕ × List ℕ) → IsBytes bytes → name_field 0 bytes ≡ Ok found → TakesName 0 bytes found
+unfolding name_text
+counted_takes [] found fits e = let none = counted_none [] (omega arith) in absurd cc
+counted_takes (n ∷ rest) found fits e =
+    let c = named (ltb (length rest) n) (eqb (length (take n rest)) 0) (take n rest, drop n rest) found (sym (counted_field n rest) ∙ e) in
+    let byte : n < 256 = fits 0 in
+    let long : n ≤ length rest = ltb-false _ _ c.0 in
+    let len : length (take n rest) ≡ n = omega (arith, length-take n rest) in
+    let some : 1 ≤ length (take n rest) = not_empty (take n rest) c.1 in
+    let made : List ℕ × List ℕ = (take n rest, drop n rest) in
+    let parts : n ∷ rest ≡ length (take n rest) ∷ take n rest ++ drop n rest = rw (len, take-append-drop n rest) refl in
+    let is_made : TakesName 0 (n ∷ rest) made = record { name' = (some, omega arith); taken = record { parts = parts; rest_fits = IsBytes-drop n rest (IsBytes-rest n rest fits) } } in
+    subst (TakesName 0 (n ∷ rest)) c.2 is_made
 
 padded_takes : (l : ℕ) (bytes : List ℕ) (found : List ℕ × List ℕ) → IsBytes bytes → name_field (suc l) bytes ≡ Ok found → TakesName (suc l) bytes found
 unfolding name_text
@@ -195,7 +210,7 @@ padded_takes l bytes found fits e =
     let front = take (suc l) bytes in
     let name = without_trailing 32 front in
     let made : List ℕ × List ℕ = (name, drop (suc l) bytes) in
-    let c = named (ltb (length bytes) (suc l)) (eqb (length name) 0) made found (sym (padded_field l bytes) ∙ e) in
+    let c = named (ltb (length bytes) (suc l)) (eqb (length name) 0) made found (sym (padded_field (suc l) bytes (omega arith)) ∙ e) in
     let long : suc l ≤ length bytes = ltb-false _ _ c.0 in
     let len : length front ≡ suc l = omega (arith, length-take (suc l) bytes) in
     let text : name ++ replicate (suc l - length name) 32 ≡ front = ap (λ (n : ℕ). name ++ replicate (n - length name) 32) (sym len) ∙ padded-trim 32 front in
@@ -212,14 +227,13 @@ name_takes (suc l) bytes found fits e = padded_takes l bytes found fits e
 
 -- what is spelled so is read, whatever follows
 pub name_again : (l : ℕ) (name rest : List ℕ) → IsName l name → name_field l (name_text l name ++ rest) ≡ Ok (name, rest)
-unfolding name_field name_at name_size number_at name_text
+unfolding name_text
 name_again zero name rest is =
-    let count : little_number 1 (length name ∷ name ++ rest) ≡ length name = one_byte (length name) (name ++ rest) in
-    let long : ltb (length (length name ∷ name ++ rest)) (1 + length name) ≡ false = le-ltb _ _ (omega (arith, length-append name rest)) in
+    let long : ltb (length (name ++ rest)) (length name) ≡ false = le-ltb _ _ (omega (arith, length-append name rest)) in
     let some : eqb (length name) 0 ≡ false = ne_eqb _ _ (λ e. absurd (omega arith)) in
     let front : take (length name) (name ++ rest) ≡ name = take_at name rest (length name) refl in
-    let behind : drop (1 + length name) (length name ∷ name ++ rest) ≡ rest = ap (λ (k : ℕ). drop k (length name ∷ name ++ rest)) (let k : 1 + length name ≡ suc (length name) = omega arith in k) ∙ drop_at name rest (length name) refl in
-    rw (count, long, front, some, behind) refl
+    let behind : drop (length name) (name ++ rest) ≡ rest = drop_at name rest (length name) refl in
+    counted_field (length name) (name ++ rest) ∙ rw (long, front, some, behind) refl
 name_again (suc l) name rest is =
     let pad : List ℕ = replicate (suc l - length name) 32 in
     let len : length (name ++ pad) ≡ suc l = omega (arith, length-append name pad, length-replicate {A = ℕ} (suc l - length name) 32) in
@@ -228,4 +242,4 @@ name_again (suc l) name rest is =
     let trimmed : without_trailing 32 (name ++ pad) ≡ name = trim-padded 32 (suc l - length name) name ∙ is.2 in
     let some : eqb (length name) 0 ≡ false = ne_eqb _ _ (λ e. absurd (omega arith)) in
     let behind : drop (suc l) (name ++ pad ++ rest) ≡ rest = drop_at (name ++ pad) rest (suc l) len in
-    padded_field l (name ++ pad ++ rest) ∙ rw (long, front, trimmed, some, behind) refl
+    padded_field (suc l) (name ++ pad ++ rest) (omega arith) ∙ rw (long, front, trimmed, some, behind) refl

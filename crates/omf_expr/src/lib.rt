@@ -1,0 +1,12 @@
+//! Expressions: their postfix form, lent from the file, and their value (GS/OS Reference, appendix F,
+//! "Expressions").
+#![tactic(auto)]
+
+mod expr;
+mod reading;
+mod term;
+
+pub use omf_format::{ExprFault, Value, ValueFault};
+
+pub use expr::Expr;
+pub use term::Term;
