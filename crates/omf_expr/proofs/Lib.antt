@@ -1,2 +1,3 @@
 pub mod ReadTerms
 pub mod Front
+pub mod Quotient

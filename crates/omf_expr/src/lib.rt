@@ -3,6 +3,7 @@
 #![tactic(auto)]
 
 mod expr;
+mod operators;
 mod reading;
 mod term;
 

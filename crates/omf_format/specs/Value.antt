@@ -42,28 +42,47 @@ number_of_one code a =
     else if code == 0x0B then truth (not (holds a))
     else bit_not w32 a
 
--- the operators of two numbers, where a divisor isn't 0: add, subtract, multiply; divide (towards zero), modulo (with the
--- dividend's sign), shift; logical AND, OR, EOR; <=, >=, <>, <, >, = (signed); bit AND, OR, EOR
-unfoldable pub number_of_two : ℕ → ℕ → ℕ → ℕ
-number_of_two code a b =
+-- add, subtract, multiply, divide (towards zero), modulo (with the dividend's sign), shift; a divisor isn't 0
+unfoldable pub arithmetic : ℕ → ℕ → ℕ → ℕ
+arithmetic code a b =
     if code == 0x01 then wrapped (a + b)
     else if code == 0x02 then wrapped (a + (2 ^ 32 - b))
     else if code == 0x03 then wrapped (a * b)
     else if code == 0x04 then bits_of (int_div (signed a) (signed b))
     else if code == 0x05 then bits_of (int_rem (signed a) (signed b))
-    else if code == 0x07 then shifted a (signed b)
-    else if code == 0x08 then truth (holds a && holds b)
+    else shifted a (signed b)
+
+-- logical AND, OR, EOR
+unfoldable pub logical : ℕ → ℕ → ℕ → ℕ
+logical code a b =
+    if code == 0x08 then truth (holds a && holds b)
     else if code == 0x09 then truth (holds a || holds b)
-    else if code == 0x0A then truth ((holds a && not (holds b)) || (holds b && not (holds a)))
-    else if code == 0x0C then truth (int_le (signed a) (signed b))
+    else truth ((holds a && not (holds b)) || (holds b && not (holds a)))
+
+-- <=, >=, <>, <, >, =, all of signed numbers
+unfoldable pub comparison : ℕ → ℕ → ℕ → ℕ
+comparison code a b =
+    if code == 0x0C then truth (int_le (signed a) (signed b))
     else if code == 0x0D then truth (int_le (signed b) (signed a))
     else if code == 0x0E then truth (not (a == b))
     else if code == 0x0F then truth (int_lt (signed a) (signed b))
     else if code == 0x10 then truth (int_lt (signed b) (signed a))
-    else if code == 0x11 then truth (a == b)
-    else if code == 0x12 then bit_and a b
+    else truth (a == b)
+
+-- bit AND, OR, EOR
+unfoldable pub bitwise : ℕ → ℕ → ℕ → ℕ
+bitwise code a b =
+    if code == 0x12 then bit_and a b
     else if code == 0x13 then bit_or a b
     else bit_xor a b
+
+-- the operators of two numbers: $01 to $07, $08 to $0A, $0C to $11, $12 to $14
+unfoldable pub number_of_two : ℕ → ℕ → ℕ → ℕ
+number_of_two code a b =
+    if nat_le code 0x07 then arithmetic code a b
+    else if nat_le code 0x0A then logical code a b
+    else if nat_le code 0x11 then comparison code a b
+    else bitwise code a b
 
 -- ---- operators on values
 
