@@ -1,7 +1,7 @@
 //! An expression in postfix form.
 
 ghost use Rattle.std.specs.Prelude.{◌≡◌, ◌<◌, ◌≤◌, List, ℕ, length, Ok, IfOk, IfErr, IfSome};
-ghost use Rattle.omf_format.specs.Expression.{operand_count, operands_of, judged, term_step, read_all, IsFirstFault, BeginsWith, expression_field};
+ghost use Rattle.omf_format.specs.Expression.{operand_count, operands_of, judged, term_step, read_all, IsExpression, IsFirstFault, BeginsWith, expression_field};
 ghost use Rattle.omf_expr.specs.View.{view, view_next, Gives, as_field};
 
 use crate::reading::next_term;
@@ -50,9 +50,17 @@ impl<'a> Expr<'a> {
 
     /// The bytes of the expression, the $00 at their end included.
     pub fn bytes(&self) -> &'a [u8]
-        ensures { result.now ≡ self.now.text }
+        ensures value { result.now ≡ self.now.text }
+        ensures expression { IsExpression self.now.lab_len result.now }
     {
         self.bytes
+    }
+
+    /// The LABLEN of its names.
+    pub(crate) fn lab_len(&self) -> u8
+        ensures { result ≡ self.now.lab_len }
+    {
+        self.lab_len
     }
 }
 
@@ -82,7 +90,7 @@ const MOST_PENDING: usize = 64;
 
 /// How many operands the operator has.
 #[inline]
-fn operand_count(code: u8) -> usize
+pub(crate) fn operand_count(code: u8) -> usize
     ensures value { result ≡ operand_count code }
     ensures few { result ≤ 2 }
 {

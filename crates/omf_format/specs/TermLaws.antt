@@ -34,7 +34,7 @@ pub ok_is : {A : Type 0} (x y : A) → done x ≡ done y → x ≡ y
 ok_is x y e = cc
 
 -- two answers to one reading
-both_read : (l : ℕ) (bytes bytes' : List ℕ) (a b : Option Term) (x y : List ℕ) → bytes ≡ bytes' → term_field l bytes ≡ Ok (a, x) → term_field l bytes' ≡ Ok (b, y) → (a ≡ b) × (x ≡ y)
+pub both_read : (l : ℕ) (bytes bytes' : List ℕ) (a b : Option Term) (x y : List ℕ) → bytes ≡ bytes' → term_field l bytes ≡ Ok (a, x) → term_field l bytes' ≡ Ok (b, y) → (a ≡ b) × (x ≡ y)
 both_read l bytes bytes' a b x y same p q =
     let pair : (a, x) ≡ (b, y) = ok_is (a, x) (b, y) (sym p ∙ ap (term_field l) same ∙ q) in
     (ap (λ (f : Option Term × List ℕ). f.0) pair, ap (λ (f : Option Term × List ℕ). f.1) pair)

@@ -79,7 +79,7 @@ grow_operand l trees term forest is room =
     record { grown = Leaf term ∷ trees; forest = (is, omega (arith, none), forest); count = omega (arith, none); same = refl }
 
 -- an operator has one operand or two
-operand_counts : (code : ℕ) → (operand_count code ≡ 1 → ⊥) → operand_count code ≡ 2
+pub operand_counts : (code : ℕ) → (operand_count code ≡ 1 → ⊥) → operand_count code ≡ 2
 operand_counts code other = by_cases (eqb code 0x06 || eqb code 0x0B || eqb code 0x15) refl
   where
     by_cases : (b : Bool) → (eqb code 0x06 || eqb code 0x0B || eqb code 0x15) ≡ b → operand_count code ≡ 2
