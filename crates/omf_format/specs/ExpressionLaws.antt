@@ -6,7 +6,7 @@ use Rattle.omf_format.specs.declared.expression.ExprFault.{ExprFault}
 use Rattle.omf_format.specs.declared.expression.ExprFault.TheVariants.{Truncated}
 use Rattle.omf_format.specs.HeaderLaws.{IsBytes}
 use Rattle.omf_format.specs.FieldLaws.{Takes, IsBytes-drop}
-use Rattle.omf_format.specs.Expression.{Term, AreTerms, term_text, terms_text, Tree, IsTree, terms_of, depth, Spells, IsExpression, pending_behind, Lead, term_step, IsFirstFault, BeginsWith, read_from, read_all, split_of, expression_field}
+use Rattle.omf_format.specs.Expression.{Term, AreTerms, term_text, terms_text, Tree, IsTree, terms_of, depth, Spells, IsExpression, pending_behind, Lead, term_step, IsFirstFault, BeginsWith, read_from, read_all, flaw_of, split_of, expression_field}
 use Rattle.omf_format.specs.TermLaws.{ok_is, term_takes_some, term-takes, terms_take_some, terms-same, StepIs, step-found, step-end, step-term}
 use Rattle.omf_format.specs.TreeLaws.{tree_has_terms, tree_leads, tree_of, tree-same}
 
@@ -262,3 +262,8 @@ unfolding expression_field
 expression-again l text rest is =
     let text_is = text_before (text ++ rest) text rest refl in
     rw (read-all-again l text rest is, text_is) refl
+
+-- where no expression stands, the first fault decides
+pub expression-flaw : (l : ℕ) (bytes : List ℕ) (fault : ExprFault) → IsFirstFault l bytes fault → expression_field l bytes ≡ Err (flaw_of fault)
+unfolding expression_field
+expression-flaw l bytes fault is = rw (read-all-fault-again l bytes fault is) refl
