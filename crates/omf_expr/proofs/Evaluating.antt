@@ -61,9 +61,9 @@ operator_height env at code pending after some e =
     elim (cases_eq (operand_count code) 1) [
       | inl one ↦ let is : eqb (operand_count code) 1 ≡ true = eq-eqb _ _ one in omega (arith, one_height code pending after (omega (arith, one)) (rw is at e), one)
       | inr other ↦
-        let two = operand_counts code other in
-        let is : eqb (operand_count code) 1 ≡ false = ne_eqb _ _ other in
-        omega (arith, two_height code pending after (omega (arith, two)) (rw is at e), two)
+          let two = operand_counts code other in
+          let is : eqb (operand_count code) 1 ≡ false = ne_eqb _ _ other in
+          omega (arith, two_height code pending after (omega (arith, two)) (rw is at e), two)
     ]
 
 step_height : (env : Environment) (at : ℕ) (term : Term) (pending after : List Value) → operands_of term ≤ length pending → step env at term pending ≡ Ok after → length after ≡ pending_behind (length pending) term

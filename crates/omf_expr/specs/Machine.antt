@@ -34,4 +34,3 @@ step env at (Offset n) pending = step_operand env at (Offset n) pending
 abbrev pub run : Environment → ℕ → ℕ → List Term → List Value → Result (List Value) ValueFault
 run env lab_len at [] pending = Ok pending
 run env lab_len at (term ∷ terms) pending = step env at term pending >>= λ after. run env lab_len (at + length (term_text lab_len term)) terms after
-

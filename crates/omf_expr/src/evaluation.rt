@@ -104,7 +104,12 @@ fn step_two(pending: &mut Stack, code: u8) -> Result<(), ValueFault>
 }
 
 /// An operand leaves its value.
-fn step_operand<E: Env>(pending: &mut Stack, term: Term, at: usize, env: &E) -> Result<(), ValueFault>
+fn step_operand<E: Env>(
+    pending: &mut Stack,
+    term: Term,
+    at: usize,
+    env: &E,
+) -> Result<(), ValueFault>
     requires { length pending.old < 64 }
     ensures ok { OnOk result (step_operand (E.meaning env.now) at (view term.entry) pending.old ≡ Ok pending.new) }
     ensures err { IfErr result (λ fault. step_operand (E.meaning env.now) at (view term.entry) pending.old ≡ Err fault) }
@@ -133,6 +138,8 @@ fn step<E: Env>(pending: &mut Stack, term: Term, at: usize, env: &E) -> Result<(
             }
             step_two(pending, code)
         }
-        Term::Location | Term::Constant(_) | Term::Named(_, _) | Term::Offset(_) => step_operand(pending, term, at, env),
+        Term::Location | Term::Constant(_) | Term::Named(_, _) | Term::Offset(_) => step_operand(
+            pending, term, at, env,
+        ),
     }
 }

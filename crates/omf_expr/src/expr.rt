@@ -139,7 +139,12 @@ fn judged(next: Option<Term>, at: usize, pending: usize) -> Result<Option<usize>
 /// The same for the term at the front of the bytes, with the bytes behind it.
 #[inline]
 #[tactic(auto, unfolding(omf_format::specs::Expression::term_step))]
-fn next_step(bytes: &[u8], lab_len: u8, at: usize, pending: usize) -> Result<(Option<usize>, &[u8]), ExprFault>
+fn next_step(
+    bytes: &[u8],
+    lab_len: u8,
+    at: usize,
+    pending: usize,
+) -> Result<(Option<usize>, &[u8]), ExprFault>
     requires { pending ≤ 64 }
     ensures gives { Gives (λ x. (x.0, x.1.now)) result (term_step lab_len at pending bytes.now) }
     ensures shorter { IfOk result (λ x. length x.1.now < length bytes.now) }

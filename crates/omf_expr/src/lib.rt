@@ -12,11 +12,15 @@ mod stack;
 mod term;
 mod writing;
 
-pub use omf_format::{ExprFault, Value, ValueFault};
-
 pub use env::Env;
-pub use expr::Expr;
 pub use evaluation::evaluate;
-pub use laws::{each_spells_one_tree, field_is_expression, none_begins_another, one_first_fault, term_is_read};
+pub use expr::Expr;
+pub use laws::{
+    each_spells_one_tree, field_is_expression, none_begins_another, one_first_fault, term_is_read,
+};
+pub use omf_format::{ExprFault, Value, ValueFault};
 pub use term::Term;
 pub use writing::{ExprPutFault, put_term};
+
+#[cfg(test)]
+mod tests;

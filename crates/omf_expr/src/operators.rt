@@ -6,9 +6,13 @@ ghost use Rattle.omf_format.specs.Value.{signed, bits_of, truth, shifted, number
 use omf_format::{Value, ValueFault};
 
 const ADD: u8 = 0x01;
+
 const SUBTRACT: u8 = 0x02;
+
 const DIVIDE: u8 = 0x04;
+
 const MODULO: u8 = 0x05;
+
 const SHIFT: u8 = 0x07;
 
 /// 1 for what is true, and 0 for what isn't.
@@ -169,7 +173,13 @@ fn shift_of(count: u32) -> Result<i8, ValueFault>
 /// An operator of a place without a shift and a number.
 #[inline]
 #[tactic(auto, unfolding(omf_format::specs::Value::apply_two))]
-fn place_and_number(code: u8, file: u16, segment: u16, offset: u32, b: u32) -> Result<Value, ValueFault>
+fn place_and_number(
+    code: u8,
+    file: u16,
+    segment: u16,
+    offset: u32,
+    b: u32,
+) -> Result<Value, ValueFault>
     ensures { result ≡ apply_two code (Value.At file segment offset (pos 0)) (Value.Fixed b) }
 {
     let (offset, shift) = match code {
@@ -193,19 +203,48 @@ pub fn apply_two(code: u8, a: Value, b: Value) -> Result<Value, ValueFault>
 {
     match (a, b) {
         (Value::Fixed(a), Value::Fixed(b)) => two_numbers(code, a, b),
-        (Value::Fixed(a), Value::At { file, segment, offset, shift }) => {
+        (
+            Value::Fixed(a),
+            Value::At {
+                file,
+                segment,
+                offset,
+                shift,
+            },
+        ) => {
             if code != ADD || shift != 0 {
                 return Err(ValueFault::NotRelocatable);
             }
             place_and_number(ADD, file, segment, offset, a)
         }
-        (Value::At { file, segment, offset, shift }, Value::Fixed(b)) => {
+        (
+            Value::At {
+                file,
+                segment,
+                offset,
+                shift,
+            },
+            Value::Fixed(b),
+        ) => {
             if shift != 0 {
                 return Err(ValueFault::NotRelocatable);
             }
             place_and_number(code, file, segment, offset, b)
         }
-        (Value::At { file, segment, offset, shift }, Value::At { file: other_file, segment: other_segment, offset: other_offset, shift: other_shift }) => {
+        (
+            Value::At {
+                file,
+                segment,
+                offset,
+                shift,
+            },
+            Value::At {
+                file: other_file,
+                segment: other_segment,
+                offset: other_offset,
+                shift: other_shift,
+            },
+        ) => {
             let is_one_segment = file == other_file && segment == other_segment;
             if code != SUBTRACT || shift != 0 || other_shift != 0 || !is_one_segment {
                 return Err(ValueFault::NotRelocatable);
