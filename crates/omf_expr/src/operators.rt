@@ -1,6 +1,6 @@
 //! Operators on values. Numbers are 32 bits in two's complement.
 
-ghost use Rattle.std.specs.Prelude.{◌≡◌, ◌≢◌, false, pos, int_div, IsTrue, IfOk, IfErr};
+ghost use Rattle.std.specs.Prelude.{◌≡◌, ◌≢◌, false, pos, int_div, int_rem, IsTrue, IfOk, IfErr};
 ghost use Rattle.omf_format.specs.Value.{signed, bits_of, truth, shifted, number_of_one, arithmetic, logical, comparison, bitwise, number_of_two, divides, is_shift, apply_one, apply_two};
 
 use omf_format::{Value, ValueFault};
@@ -53,9 +53,18 @@ fn quotient(a: u32, b: u32) -> u32
     requires { b ≢ 0 }
     ensures { result ≡ bits_of (int_div (signed a) (signed b)) }
 {
-    a.cast_signed()
-        .wrapping_div(b.cast_signed())
-        .cast_unsigned()
+    let quotient = a.cast_signed().wrapping_div(b.cast_signed());
+    quotient.cast_unsigned()
+}
+
+/// The remainder, with the sign of `a`, of two numbers in two's complement.
+#[inline]
+fn remainder(a: u32, b: u32) -> u32
+    requires { b ≢ 0 }
+    ensures { result ≡ bits_of (int_rem (signed a) (signed b)) }
+{
+    let remainder = a.cast_signed().wrapping_rem(b.cast_signed());
+    remainder.cast_unsigned()
 }
 
 /// Add, subtract, multiply, divide, modulo and shift. A divisor isn't 0.
@@ -70,10 +79,7 @@ fn arithmetic(code: u8, a: u32, b: u32) -> u32
         SUBTRACT => a.wrapping_sub(b),
         0x03 => a.wrapping_mul(b),
         DIVIDE => quotient(a, b),
-        MODULO => a
-            .cast_signed()
-            .wrapping_rem(b.cast_signed())
-            .cast_unsigned(),
+        MODULO => remainder(a, b),
         _ => shifted(a, b.cast_signed()),
     }
 }

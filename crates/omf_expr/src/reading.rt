@@ -1,6 +1,6 @@
 //! The term at the front of the bytes.
 
-ghost use Rattle.std.specs.Prelude.{◌≡◌, ◌<◌, ◌≤◌, length, IfOk};
+ghost use Rattle.std.specs.Prelude.{◌≡◌, ◌<◌, ◌≤◌, length, IfOk, IfErr};
 ghost use Rattle.omf_format.specs.Field.{number_field, name_field};
 ghost use Rattle.omf_format.specs.Expression.{term_field};
 ghost use Rattle.omf_expr.specs.View.{view_next, Gives};
@@ -23,6 +23,18 @@ fn u32_field(bytes: &[u8]) -> Result<(u32, &[u8]), Flaw>
     }
 }
 
+/// A name, which isn't empty, and the bytes behind it.
+#[inline]
+fn not_empty<'a>(name: &'a [u8], rest: &'a [u8]) -> Result<(&'a [u8], &'a [u8]), Flaw>
+    ensures ok { IfOk result (λ x. (x.0.now ≡ name.now) × (x.1.now ≡ rest.now) × (0 < length name.now)) }
+    ensures err { IfErr result (λ flaw. (flaw ≡ Flaw.Broken) × (length name.now ≡ 0)) }
+{
+    if name.is_empty() {
+        return Err(Flaw::Broken);
+    }
+    Ok((name, rest))
+}
+
 /// A name behind its length byte, and the bytes behind it. It isn't empty.
 #[inline]
 #[tactic(auto, using(omf_format::specs::FieldLaws::counted_none, omf_format::specs::FieldLaws::counted_field))]
@@ -36,10 +48,7 @@ fn counted_name(bytes: &[u8]) -> Result<(&[u8], &[u8]), Flaw>
     let Some((name, rest)) = rest.split_at_checked(*size as usize) else {
         return Err(Flaw::Cut);
     };
-    if name.is_empty() {
-        return Err(Flaw::Broken);
-    }
-    Ok((name, rest))
+    not_empty(name, rest)
 }
 
 /// A name of so many bytes without the spaces at its end, and the bytes behind it. It isn't empty.
@@ -54,10 +63,7 @@ fn padded_name(bytes: &[u8], lab_len: u8) -> Result<(&[u8], &[u8]), Flaw>
         return Err(Flaw::Cut);
     };
     let name = without_trailing(field, b' ');
-    if name.is_empty() {
-        return Err(Flaw::Broken);
-    }
-    Ok((name, rest))
+    not_empty(name, rest)
 }
 
 /// A name, and the bytes behind it. It isn't empty.
