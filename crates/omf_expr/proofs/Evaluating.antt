@@ -1,17 +1,17 @@
 -- The terms that are left, on the values that are pending, have the value of the whole expression.
-use Rattle.std.proofs.Common.{◌≡◌, ℕ, zero, suc, ◌+◌, ◌-◌, ◌<◌, ◌≤◌, true, false, eqb, List, [], ◌∷◌, ◌++◌, length, Option, Some, None, Result, Ok, Err, refl, sym, ap, subst, ◌∙◌, append_assoc, append-nil, arith, inl, inr}
+use Rattle.std.proofs.Common.{◌≡◌, ℕ, ◌+◌, ◌-◌, ◌<◌, ◌≤◌, true, false, eqb, List, [], ◌∷◌, ◌++◌, length, Some, None, Result, Ok, Err, refl, sym, ap, subst, ◌∙◌, append_assoc, append-nil, arith, inl, inr}
 use Rattle.std.proofs.lemmas.Bool.{eq-eqb, ne_eqb, cases_eq}
 use Rattle.std.proofs.lemmas.List.{length-append}
 use Rattle.omf_format.specs.declared.fault.Flaw.{Flaw}
 use Rattle.omf_format.specs.declared.value.Value.{Value}
 use Rattle.omf_format.specs.declared.value.ValueFault.{ValueFault}
 use Rattle.omf_format.specs.Field.{◌>>=◌}
-use Rattle.omf_format.specs.Expression.{Term, Operator, Location, Constant, Named, Offset, operand_count, operands_of, pending_behind, AreTerms, term_text, terms_text, Tree, IsTree, terms_of, depth, Spells, IsExpression, term_field, Lead}
+use Rattle.omf_format.specs.Expression.{Term, Operator, Location, Constant, Named, Offset, operand_count, operands_of, pending_behind, AreTerms, term_text, terms_text, Tree, terms_of, Spells, IsExpression, term_field, Lead}
 use Rattle.omf_format.specs.TermLaws.{term-again, end-again, both_read, term_takes_some}
 use Rattle.omf_format.specs.TreeLaws.{tree_has_terms, operand_counts}
 use Rattle.omf_format.specs.ExpressionLaws.{tree_leads_to_one, one-tree}
-use Rattle.omf_format.specs.Value.{Environment, operand_value, apply_one, apply_two, size_of, value}
-use Rattle.omf_expr.specs.Machine.{step_one, step_two, step_operand, step, run}
+use Rattle.omf_format.specs.Value.{Environment, operand_value, apply_one, apply_two, value}
+use Rattle.omf_expr.specs.Machine.{step_one, step_two, step, run}
 use Rattle.omf_expr.proofs.TreeRuns.{run-tree}
 
 pub record Going (env : Environment) (l : ℕ) (text left : List ℕ) (pending : List Value) : Type 0 where

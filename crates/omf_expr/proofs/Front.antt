@@ -1,10 +1,10 @@
 -- What `Expr::of` answers, from what reading to the end answers.
-use Rattle.std.proofs.Common.{◌≡◌, ℕ, ◌+◌, ◌-◌, ◌<◌, ◌≤◌, List, ◌++◌, length, get_or, take, drop, Fits, w8, Result, Ok, Err, refl, sym, ap, subst, ◌∙◌, arith}
+use Rattle.std.proofs.Common.{◌≡◌, ℕ, ◌-◌, List, length, get_or, take, drop, Fits, w8, Result, Ok, Err, refl, sym, ap, ◌∙◌}
 use Rattle.std.proofs.lemmas.List.{drop_at}
 use Rattle.omf_format.specs.declared.fault.Flaw.{Flaw}
 use Rattle.omf_format.specs.declared.expression.ExprFault.{ExprFault}
 use Rattle.omf_format.specs.HeaderLaws.{IsBytes}
-use Rattle.omf_format.specs.Expression.{Expression, IsExpression, BeginsWith, read_all, flaw_of, expression_field}
+use Rattle.omf_format.specs.Expression.{BeginsWith, read_all, flaw_of, expression_field}
 use Rattle.omf_format.specs.ExpressionLaws.{read-all-takes, read-all-again, text_before}
 
 pub are_bytes : (bytes : List ℕ) → ((i : ℕ) → Fits w8 (get_or bytes i 0)) → IsBytes bytes

@@ -1,5 +1,5 @@
 -- Evaluating the terms of a tree, and more behind them: its value is pending when the others come.
-use Rattle.std.proofs.Common.{◌≡◌, ℕ, zero, suc, ◌+◌, ◌-◌, ◌<◌, ◌≤◌, true, false, eqb, List, [], ◌∷◌, ◌++◌, length, Result, Ok, Err, refl, sym, ap, subst, ◌∙◌, append_assoc, append-nil, arith}
+use Rattle.std.proofs.Common.{◌≡◌, ℕ, ◌+◌, true, false, eqb, List, [], ◌∷◌, ◌++◌, length, Result, Ok, Err, refl, sym, ap, ◌∙◌, append_assoc, append-nil, arith}
 use Rattle.std.proofs.lemmas.Bool.{eq-eqb, ne_eqb}
 use Rattle.std.proofs.lemmas.List.{length-append}
 use Rattle.omf_format.specs.declared.value.Value.{Value}
@@ -8,7 +8,7 @@ use Rattle.omf_format.specs.Field.{◌>>=◌}
 use Rattle.omf_format.specs.Expression.{Term, Operator, Location, Constant, Named, Offset, operand_count, term_text, terms_text, Tree, Leaf, Unary, Binary, IsOperand, IsTree, terms_of}
 use Rattle.omf_format.specs.TermLaws.{terms_text-append}
 use Rattle.omf_format.specs.Value.{Environment, operand_value, apply_one, apply_two, size_of, value}
-use Rattle.omf_expr.specs.Machine.{step_one, step_two, step_operand, step, run}
+use Rattle.omf_expr.specs.Machine.{step_operand, step, run}
 
 bind_same : {A B : Type 0} (r : Result A ValueFault) (f g : A → Result B ValueFault) → ((x : A) → f x ≡ g x) → (r >>= f) ≡ (r >>= g)
 bind_same (Ok x) f g same = same x

@@ -12,17 +12,17 @@ pub trait Env {
 
     /// What a name stands for, or None where that isn't known. A name is weak where its term is $82.
     fn label(&self, name: &[u8], weak: bool) -> Option<Value>
-        ensures { result ≡ (meaning self.now).label name.now weak };
+        ensures answer { result ≡ (meaning self.now).label name.now weak };
 
     /// The length (term $84), type ($85) or count ($86) attribute of a name, or None where it isn't known.
     fn attribute(&self, term: u8, name: &[u8]) -> Option<u32>
-        ensures { result ≡ (meaning self.now).attribute term name.now };
+        ensures answer { result ≡ (meaning self.now).attribute term name.now };
 
     /// The location counter.
     fn location(&self) -> Value
-        ensures { result ≡ (meaning self.now).location };
+        ensures answer { result ≡ (meaning self.now).location };
 
     /// The start of the segment.
     fn start(&self) -> Value
-        ensures { result ≡ (meaning self.now).start };
+        ensures answer { result ≡ (meaning self.now).start };
 }

@@ -17,11 +17,12 @@ use omf_format::{Value, ValueFault};
 /// The value of the expression in the environment: that of its tree, or the first fault in the order of its terms.
 /// The displacement in an Unknown is in the expression's bytes.
 pub fn evaluate<E: Env>(expr: &Expr, env: &E) -> Result<Value, ValueFault>
-    ensures { (tree : Tree) → Spells expr.now.lab_len expr.now.text tree → result ≡ value (E.meaning env.now) expr.now.lab_len 0 tree }
+    ensures value { (tree : Tree) → Spells expr.now.lab_len expr.now.text tree → result ≡ value (E.meaning env.now) expr.now.lab_len 0 tree }
 {
     value_of(expr.bytes(), expr.lab_len(), env)
 }
 
+/// The value of bytes that spell an expression.
 fn value_of<E: Env>(bytes: &[u8], lab_len: u8, env: &E) -> Result<Value, ValueFault>
     requires { IsExpression lab_len bytes.now }
     ensures { (tree : Tree) → Spells lab_len bytes.now tree → result ≡ value (E.meaning env.now) lab_len 0 tree }

@@ -2,4 +2,4 @@ use Rattle.omf_format.specs.ExpressionLaws.{none-begins}
 use Rattle.omf_expr.proofs.laws.none_begins_another.Goals as goal
 
 pub returns : goal.returns
-returns c = none-begins
+returns c = record { none = none-begins }
