@@ -136,8 +136,9 @@ fault_fits bytes f e = cases (ltb (length bytes) 44) (ltb-false (length bytes) 4
   where
     others : List (Bool × HeaderFault)
     others = drop 1 (header_checks bytes)
+
     cases : (b : Bool) → (b ≡ false → 44 ≤ length bytes) → cond b (Some (Truncated (length bytes))) (first_of others) ≡ Some f → FitsFault f (length bytes)
     cases true long e = subst (λ (g : HeaderFault). FitsFault g (length bytes)) (some_is (Truncated (length bytes)) f e) refl
     cases false long e =
-      let enough = long refl in
-      found_among (λ g. FitsFault g (length bytes)) others f (enough, (enough, (enough, (enough, (enough, (enough, (refl, (enough, (enough, tt))))))))) e
+        let enough = long refl in
+        found_among (λ g. FitsFault g (length bytes)) others f (enough, (enough, (enough, (enough, (enough, (enough, (refl, (enough, (enough, tt))))))))) e
