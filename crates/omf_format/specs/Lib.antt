@@ -10,3 +10,10 @@ pub mod RecordLaws
 pub mod FileLaws
 pub mod Plain
 pub mod PlainLaws
+pub mod Field
+pub mod Expression
+pub mod Value
+pub mod FieldLaws
+pub mod TermLaws
+pub mod TreeLaws
+pub mod ExpressionLaws

@@ -2,6 +2,10 @@
 //! cite (GS/OS Reference, appendix F, "Object Module Format Version 2.1"), and the faults that they name.
 #![tactic(auto)]
 
+mod expression;
 mod fault;
+mod value;
 
+pub use expression::ExprFault;
 pub use fault::{Field, FileCause, FileFault, Flaw, HeaderFault, RecordFault};
+pub use value::{Value, ValueFault};

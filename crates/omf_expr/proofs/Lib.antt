@@ -1,0 +1,5 @@
+pub mod ReadTerms
+pub mod Front
+pub mod Quotient
+pub mod TreeRuns
+pub mod Evaluating

@@ -1,0 +1,37 @@
+-- Fields: each is a value taken from the front of the bytes, with the bytes behind it, or what is wrong with it.
+use Rattle.std.specs.Prelude.{◌≡◌, ℕ, zero, suc, ◌-◌, ◌≤◌, List, ◌∷◌, ◌++◌, length, take, drop, replicate, Result, Ok, Err, nat_lt, ◌==◌, if◌then◌else◌}
+use Rattle.omf_format.specs.declared.fault.Flaw.{Flaw}
+use Rattle.omf_format.specs.declared.fault.Flaw.TheVariants.{Cut, Broken}
+use Rattle.omf_format.specs.Number.{number_at}
+use Rattle.omf_format.specs.Name.{without_trailing, name_at, name_size}
+
+infixl 10 ◌>>=◌
+-- what comes next where nothing was wrong so far
+abbrev pub ◌>>=◌ : {A B E : Type 0} → Result A E → (A → Result B E) → Result B E
+(Ok x) >>= f = f x
+(Err e) >>= f = Err e
+
+-- so many bytes as they are
+unfoldable pub bytes_field : ℕ → List ℕ → Result (List ℕ × List ℕ) Flaw
+bytes_field n bytes = if nat_lt (length bytes) n then Err Cut else Ok (take n bytes, drop n bytes)
+
+-- a number of so many bytes
+unfoldable pub number_field : ℕ → List ℕ → Result (ℕ × List ℕ) Flaw
+number_field width bytes = if nat_lt (length bytes) width then Err Cut else Ok (number_at width 0 bytes, drop width bytes)
+
+-- a name, which isn't empty
+unfoldable pub name_field : ℕ → List ℕ → Result (List ℕ × List ℕ) Flaw
+name_field lab_len bytes =
+    if nat_lt (length bytes) (name_size lab_len 0 bytes) then Err Cut
+    else if length (name_at lab_len 0 bytes) == 0 then Err Broken
+    else Ok (name_at lab_len 0 bytes, drop (name_size lab_len 0 bytes) bytes)
+
+-- the bytes of a name: with LABLEN 0 a length byte and the name, else the name and spaces up to LABLEN bytes
+unfoldable pub name_text : ℕ → List ℕ → List ℕ
+name_text zero name = length name ∷ name
+name_text (suc n) name = name ++ replicate (suc n - length name) 32
+
+-- which names can be written so: none is empty, and one that is followed by spaces doesn't end in one
+abbrev pub IsName : ℕ → List ℕ → Type 0
+IsName zero name = (1 ≤ length name) × (length name ≤ 255)
+IsName (suc n) name = (1 ≤ length name) × (length name ≤ suc n) × (without_trailing 32 name ≡ name)
