@@ -1,14 +1,11 @@
 -- A reader's way from record to record.
-use Rattle.std.proofs.Common.{◌≡◌, ℕ, Bool, true, false, List, [], ◌∷◌, ◌++◌, Option, Some, None, Result, Ok, Err, refl, sym, ap, subst, ◌∙◌, cond}
+use Rattle.std.proofs.Common.{◌≡◌, ℕ, List, [], ◌∷◌, ◌++◌, Some, None, Ok, Err, refl}
 use Rattle.omf_format.specs.declared.fault.RecordFault.{RecordFault}
 use Rattle.omf_format.specs.declared.fault.FileFault.{FileFault}
-use Rattle.omf_format.specs.declared.fault.Flaw.{Flaw}
 use Rattle.omf_format.specs.Record.{Record}
-use Rattle.omf_format.specs.Reading.{Reader, front, told, next_answer, after_next, HandsOut}
+use Rattle.omf_format.specs.Reading.{Reader, next_answer, after_next, HandsOut}
 use Rattle.omf_format.specs.File.{SaysRecord}
 use Rattle.omf_format.specs.FileLaws.{HandsOut-append, ended_at_none}
-use Rattle.omf_records.specs.declared.record.Rec.{Rec}
-use Rattle.omf_records.specs.View.{view, seen}
 use Rattle.omf_records.specs.Segments.{ComesToEnd, HasRecordFault}
 
 -- some records led from one reader to another

@@ -1,5 +1,5 @@
 -- The fault of a header or a record is that of its segment.
-use Rattle.std.proofs.Common.{◌≡◌, ℕ, ◌+◌, ◌^◌, ◌<◌, ◌≤◌, List, length, drop, Option, Some, None, Err, refl, sym, ap, subst, ◌∙◌, arith}
+use Rattle.std.proofs.Common.{◌≡◌, ℕ, ◌^◌, ◌<◌, ◌≤◌, List, length, drop, Err, sym, ap, subst, ◌∙◌, arith}
 use Rattle.std.proofs.lemmas.List.{length-drop}
 use Rattle.omf_format.specs.declared.fault.HeaderFault.{HeaderFault}
 use Rattle.omf_format.specs.declared.fault.HeaderFault.TheVariants.{Truncated, Unsupported, BadField, Memory}
@@ -11,7 +11,7 @@ use Rattle.omf_format.specs.declared.fault.RecordFault.TheVariants as record_fau
 use Rattle.omf_format.specs.Header.{Fields, header_fault}
 use Rattle.omf_format.specs.HeaderLaws.{fault_fits}
 use Rattle.omf_format.specs.Reading.{Reader, next_answer, HandsOut}
-use Rattle.omf_format.specs.File.{body_reader, IsHeader, SaysHeader, SaysRecord, HasFault, InHeader, InRecord}
+use Rattle.omf_format.specs.File.{body_reader, IsHeader, SaysRecord, InHeader, InRecord}
 use Rattle.omf_header.specs.View.{IsRefused}
 use Rattle.omf_records.specs.Segments.{HasRecordFault, UnlessMemory, IsSegmentFault, IsHeaderFault, HasPlace}
 

@@ -6,8 +6,8 @@ use Rattle.omf_format.specs.declared.fault.Flaw.{Flaw}
 use Rattle.omf_format.specs.declared.fault.RecordFault.{RecordFault}
 use Rattle.omf_format.specs.HeaderLaws.{IsBytes}
 use Rattle.omf_format.specs.Record.{Record, spelling, IsRecord}
-use Rattle.omf_format.specs.RecordLaws.{TakesRecord, front-takes, front-again}
-use Rattle.omf_format.specs.Reading.{Reader, front, told, moved, next_answer, after_next, HandsOut}
+use Rattle.omf_format.specs.RecordLaws.{front-takes, front-again}
+use Rattle.omf_format.specs.Reading.{Reader, front, told, next_answer, after_next}
 use Rattle.omf_records.specs.Laws.{ReadIsSpelled, SpelledIsRead, NoneBeginsAnother, HandedOutIsBody}
 
 pub read_is_spelled : ReadIsSpelled

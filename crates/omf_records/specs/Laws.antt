@@ -1,5 +1,5 @@
 -- Laws of records and files, in the format's own words.
-use Rattle.std.specs.Prelude.{◌≡◌, ℕ, List, ◌++◌, false, Ok}
+use Rattle.std.specs.Prelude.{◌≡◌, ℕ, List, ◌++◌, Ok}
 use Rattle.std.specs.List.{flat_map, AllByRecursion}
 use Rattle.omf_format.specs.declared.fault.FileFault.{FileFault}
 use Rattle.omf_format.specs.HeaderLaws.{IsBytes}

@@ -1,4 +1,4 @@
-use Rattle.std.proofs.Common.{ℕ, sym, subst}
+use Rattle.std.proofs.Common.{sym, subst}
 use Rattle.omf_format.specs.Reading.{Reader}
 use Rattle.omf_records.proofs.Runs.{Ran, ran_more, comes_to_end}
 use Rattle.omf_records.specs.View.{view}
