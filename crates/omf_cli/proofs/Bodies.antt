@@ -1,15 +1,14 @@
 -- The content of a body, as far as its reader has come.
-use Rattle.std.proofs.Common.{◌≡◌, ℕ, ◌+◌, ◌<◌, ◌≤◌, Bool, true, false, cond, List, [], ◌∷◌, ◌++◌, length, Option, Some, None, Result, Ok, Err, refl, sym, ap, subst, ◌∙◌, append_assoc, arith}
+use Rattle.std.proofs.Common.{◌≡◌, ℕ, ◌+◌, ◌≤◌, List, [], ◌∷◌, ◌++◌, length, Some, None, Ok, Err, refl, sym, ap, ◌∙◌, arith}
 use Rattle.std.specs.List.{flat_map}
 use Rattle.std.proofs.lemmas.List.{append-nil, length-append}
 use Rattle.std.proofs.lemmas.Grind.{flat_map-append}
-use Rattle.omf_format.specs.declared.fault.Flaw.{Flaw}
 use Rattle.omf_format.specs.declared.fault.RecordFault.{RecordFault}
 use Rattle.omf_format.specs.Record.{Record, content_of}
-use Rattle.omf_format.specs.Reading.{Reader, front, told, next_answer, after_next, HandsOut}
+use Rattle.omf_format.specs.Reading.{Reader, next_answer, after_next, HandsOut}
 use Rattle.omf_format.specs.FileLaws.{same_found, ended_at_none, open_at_some, HandsOut-append, HandsOut-rest, HandsOut-same, no_run}
 use Rattle.omf_records.specs.Segments.{ComesToEnd}
-use Rattle.omf_cli.specs.Content.{IsContent, HasContent}
+use Rattle.omf_cli.specs.Content.{IsContent}
 
 abbrev content : List (ℕ × Record) → List ℕ
 content founds = flat_map (λ (found : ℕ × Record). content_of found.1) founds

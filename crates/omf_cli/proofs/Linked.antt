@@ -1,19 +1,19 @@
 -- The load file of a plain object file.
-use Rattle.std.proofs.Common.{◌≡◌, ℕ, zero, suc, ◌≤◌, true, List, [], ◌∷◌, length, Some, refl, sym, ap, subst, ◌∙◌, arith}
+use Rattle.std.proofs.Common.{◌≡◌, ℕ, ◌≤◌, true, List, [], ◌∷◌, length, Some, refl, sym, ap, subst, ◌∙◌, arith}
 use Rattle.std.specs.Prelude.{slice_get}
 use Rattle.omf_format.specs.declared.fault.FileCause.{FileCause}
 use Rattle.omf_format.specs.declared.fault.FileCause.TheVariants as cause
 use Rattle.omf_format.specs.declared.fault.FileFault.{FileFault}
 use Rattle.omf_format.specs.Header.{Fields, form_of, is_listed}
-use Rattle.omf_format.specs.HeaderLaws.{IsSound, sound_from_none}
-use Rattle.omf_format.specs.File.{Segment, IsFile, IsFirstFault}
+use Rattle.omf_format.specs.HeaderLaws.{sound_from_none}
+use Rattle.omf_format.specs.File.{Segment, IsFirstFault}
 use Rattle.omf_format.specs.FileLaws.{no_file}
 use Rattle.omf_format.specs.Plain.{IsPlain, lesser_bank, least_bank, loaded_bytes, load_fields, written}
 use Rattle.omf_format.specs.PlainLaws.{each_bank, least-le, length-loaded}
 use Rattle.omf_records.specs.Segments.{Placed, IsPlaced, views_of, UnlessMemory, IsRefused}
 use Rattle.omf_cli.specs.Link.{IsNotLinked, unlinked}
 use Rattle.omf_cli.specs.LoadFile.{load_file_of}
-use Rattle.omf_cli.specs.Members.{HasPlain, HasMembers}
+use Rattle.omf_cli.specs.Members.{HasMembers}
 
 -- the type of a segment that stands in a file is listed
 pub listed_of : (p : Placed) → IsPlaced p → is_listed (form_of p.fields.kind) ≡ true

@@ -2,7 +2,7 @@
 use Rattle.std.proofs.Common.{◌≡◌, ℕ, ◌+◌, List, ◌++◌, length, replicate, refl, sym, ap, subst, ◌∙◌, arith}
 use Rattle.omf_format.specs.Header.{Fields}
 use Rattle.omf_format.specs.Reading.{Reader, HandsOut}
-use Rattle.omf_format.specs.File.{Segment, body_reader, IsSegment}
+use Rattle.omf_format.specs.File.{Segment, body_reader}
 use Rattle.omf_format.specs.Plain.{body_bytes, memory_bytes, IsPlainSegment}
 use Rattle.omf_header.specs.View.{fields}
 use Rattle.omf_records.specs.declared.segment.SegmentView.{SegmentView}

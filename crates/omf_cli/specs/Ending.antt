@@ -1,5 +1,5 @@
 -- How the link of one file ends, before anything is printed of it, and how a line is printed.
-use Rattle.std.specs.Prelude.{◌≡◌, ◌⊎◌, ℕ, List, [], Option, Result, Ok, Err}
+use Rattle.std.specs.Prelude.{◌≡◌, ℕ, List, [], Option, Result, Ok, Err}
 use Rattle.omf_base.specs.declared.line.LineFault.{LineFault}
 use Rattle.omf_format.specs.Plain.{IsLinkedTo, IsUnbuilt}
 use Rattle.omf_io.specs.Counts.{Rose, IsFront}

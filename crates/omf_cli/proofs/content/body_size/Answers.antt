@@ -1,9 +1,9 @@
-use Rattle.std.proofs.Common.{ℕ, ◌+◌, ◌++◌, ◌≡◌, List, length, sym, subst, arith}
+use Rattle.std.proofs.Common.{ℕ, ◌++◌, sym, subst, arith}
 use Rattle.std.proofs.lemmas.List.{length-append}
 use Rattle.omf_format.specs.Record.{Record, content_of}
 use Rattle.omf_format.specs.Reading.{Reader}
 use Rattle.omf_records.specs.View.{view}
-use Rattle.omf_cli.proofs.Bodies.{SoFar, Gave, gave_more, gave_all, gave_less, no_fault}
+use Rattle.omf_cli.proofs.Bodies.{Gave, gave_more, gave_all, gave_less, no_fault}
 use Rattle.omf_cli.proofs.content.body_size.Goals as goal
 
 pub returns-in-Ok-None-clause-size : goal.returns-in-Ok-None-clause-size

@@ -1,6 +1,5 @@
-use Rattle.std.proofs.Common.{◌≡◌, ◌++◌, ◌+◌, ℕ, List, length, replicate, OnOk, sym, ap, ◌∙◌, append_assoc, arith}
+use Rattle.std.proofs.Common.{◌≡◌, ◌++◌, ℕ, List, replicate, ap, ◌∙◌, append_assoc, arith}
 use Rattle.omf_format.specs.Plain.{memory_bytes}
-use Rattle.omf_cli.specs.Content.{IsContent}
 use Rattle.omf_cli.proofs.Ends.{on_ok}
 use Rattle.omf_cli.proofs.MemberBodies.{content_fits, member_memory}
 use Rattle.omf_cli.proofs.link.append_member.Goals as goal

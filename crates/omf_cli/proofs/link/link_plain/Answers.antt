@@ -1,4 +1,4 @@
-use Rattle.std.proofs.Common.{◌≡◌, List, ℕ, [], length, sym, ap, subst}
+use Rattle.std.proofs.Common.{◌≡◌, [], length, sym, ap, subst}
 use Rattle.std.proofs.lemmas.Bool.{eqb-false}
 use Rattle.omf_format.specs.FileLaws.{file_same}
 use Rattle.omf_format.specs.Plain.{IsPlain}

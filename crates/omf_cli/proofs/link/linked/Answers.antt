@@ -1,4 +1,4 @@
-use Rattle.std.proofs.Common.{◌≡◌, ◌≤◌, ◌∙◌, List, ℕ, length, Some, sym, ap, arith}
+use Rattle.std.proofs.Common.{◌≡◌, ◌∙◌, length, sym, ap, arith}
 use Rattle.omf_format.specs.Plain.{loaded_bytes}
 use Rattle.omf_header.specs.View.{fields}
 use Rattle.omf_records.specs.Segments.{placed}

@@ -1,7 +1,7 @@
 use Rattle.std.proofs.Common.{◌≡◌, ◌+◌, ◌-◌, ◌++◌, ℕ, List, length, Some, sym, ap, ◌∙◌, arith}
 use Rattle.std.specs.Prelude.{slice_get}
 use Rattle.omf_format.specs.Header.{Fields}
-use Rattle.omf_format.specs.Plain.{memory_bytes, loaded_bytes}
+use Rattle.omf_format.specs.Plain.{memory_bytes}
 use Rattle.omf_records.specs.Segments.{placed}
 use Rattle.omf_cli.proofs.MemberLists.{views, loaded_none, loaded_more, loaded_fits, length_fits, member_of_plain}
 use Rattle.omf_cli.proofs.link.loaded_bytes.Goals as goal

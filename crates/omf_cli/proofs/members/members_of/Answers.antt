@@ -1,10 +1,8 @@
-use Rattle.std.proofs.Common.{◌≡◌, ◌+◌, ◌-◌, ◌≤◌, ℕ, List, length, map, Some, refl, sym, ap, subst, ◌∙◌, arith}
+use Rattle.std.proofs.Common.{◌≡◌, ◌+◌, ◌-◌, ◌≤◌, ℕ, length, Some, refl, sym, ap, subst, ◌∙◌, arith}
 use Rattle.std.specs.Prelude.{slice_get}
 use Rattle.omf_format.specs.Header.{Fields}
-use Rattle.omf_format.specs.File.{Segment}
-use Rattle.omf_format.specs.Plain.{first_name}
-use Rattle.omf_records.specs.Segments.{placed, views_of}
-use Rattle.omf_cli.proofs.MemberLists.{PlainSoFar, Views, views, view_comes, plain_more, member_of_plain, length_of_plain, plain_all, room_of_plain, first_shows, some_segment, length-views}
+use Rattle.omf_records.specs.Segments.{placed}
+use Rattle.omf_cli.proofs.MemberLists.{PlainSoFar, views, view_comes, plain_more, member_of_plain, length_of_plain, plain_all, room_of_plain, first_shows, some_segment, length-views}
 use Rattle.omf_cli.proofs.members.members_of.Goals as goal
 
 pub is_member-requires-clause-comes : goal.is_member-requires-clause-comes

@@ -1,6 +1,5 @@
-use Rattle.std.proofs.Common.{ℕ, List, Result, Ok, sym, subst}
-use Rattle.omf_base.specs.declared.line.LineFault.{LineFault}
-use Rattle.omf_cli.specs.Ending.{HasPrinted, IsPrinted}
+use Rattle.std.proofs.Common.{ℕ, List, subst}
+use Rattle.omf_cli.specs.Ending.{HasPrinted}
 use Rattle.omf_cli.proofs.printing.print.Goals as goal
 
 pub returns-in-Ok : goal.returns-in-Ok
