@@ -1,12 +1,14 @@
 //! Names, numbers in files, lines of text and places in files: what every crate of the tool stands on.
 #![tactic(auto)]
 
+mod field;
 mod line;
 mod name;
 mod number;
 mod spot;
 mod trailing;
 
+pub use field::{bytes_field, name_field, u32_field};
 pub use line::{Line, LineFault};
 pub use name::{Name, NameFault};
 pub use number::number_at;

@@ -1,5 +1,5 @@
 -- How terms and what a reader takes are seen.
-use Rattle.std.specs.Prelude.{◌≡◌, List, ℕ, length, drop, Option, Some, None, Result, Ok, Err}
+use Rattle.std.specs.Prelude.{List, ℕ, length, drop, Option, Some, None, Result, Ok, Err}
 use Rattle.omf_format.specs.declared.fault.Flaw.{Flaw}
 use Rattle.omf_format.specs.declared.expression.ExprFault.{ExprFault}
 use Rattle.omf_format.specs.Expression.{Term, Expression, flaw_of}
@@ -19,11 +19,6 @@ view (term.Offset n) = format.Offset n
 abbrev pub view_next : Option declared.Term → Option Term
 view_next None = None
 view_next (Some term) = Some (view term)
-
--- what a function answered, as it is seen, is this
-abbrev pub Gives : {X Y E : Type 0} → (X → Y) → Result X E → Result Y E → Type 0
-Gives seen_as (Ok x) read = read ≡ Ok (seen_as x)
-Gives seen_as (Err fault) read = read ≡ Err fault
 
 -- what `Expr::of` answered, as a record takes it: the expression's bytes and the bytes behind it, or what is wrong
 abbrev pub as_field : List ℕ → Result Expression ExprFault → Result (List ℕ × List ℕ) Flaw

@@ -2,7 +2,8 @@
 
 ghost use Rattle.std.specs.Prelude.{◌≡◌, ◌<◌, ◌≤◌, List, ℕ, length, Ok, IfOk, IfErr, IfSome};
 ghost use Rattle.omf_format.specs.Expression.{operand_count, operands_of, judged, term_step, read_all, IsExpression, IsFirstFault, BeginsWith, expression_field};
-ghost use Rattle.omf_expr.specs.View.{view, view_next, Gives, as_field};
+ghost use Rattle.omf_format.specs.Field.{Gives};
+ghost use Rattle.omf_expr.specs.View.{view, view_next, as_field};
 
 use crate::reading::next_term;
 use crate::term::Term;

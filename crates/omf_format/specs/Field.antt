@@ -35,3 +35,8 @@ name_text (suc n) name = name ++ replicate (suc n - length name) 32
 abbrev pub IsName : ℕ → List ℕ → Type 0
 IsName zero name = (1 ≤ length name) × (length name ≤ 255)
 IsName (suc n) name = (1 ≤ length name) × (length name ≤ suc n) × (without_trailing 32 name ≡ name)
+
+-- what a function took from the front, as it is seen, is what reading gives
+abbrev pub Gives : {X Y E : Type 0} → (X → Y) → Result X E → Result Y E → Type 0
+Gives seen_as (Ok x) read = read ≡ Ok (seen_as x)
+Gives seen_as (Err fault) read = read ≡ Err fault

@@ -15,7 +15,8 @@ use Rattle.omf_format.specs.Header.{Fields, fields_of, names_end, form_of, is_li
 use Rattle.omf_format.specs.HeaderLaws.{IsBytes, IsSound, sound_from_none}
 use Rattle.omf_format.specs.WrittenHeader.{FitsWritten, length-header, fields_of-written, header_fault-written}
 use Rattle.omf_format.specs.Record.{Record, End, LongConst, spelling, content_of}
-use Rattle.omf_format.specs.RecordLaws.{IsBytes-drop, front-again}
+use Rattle.omf_format.specs.FieldLaws.{IsBytes-drop}
+use Rattle.omf_format.specs.RecordLaws.{front-again}
 use Rattle.omf_format.specs.Reading.{Reader, front, told, moved, next_answer, after_next, HandsOut}
 use Rattle.omf_format.specs.File.{Segment, body_reader, IsSegment, AreSegments, IsFile}
 use Rattle.omf_format.specs.Plain.{body_bytes, memory_bytes, IsPlainSegment, total_length, IsPlain, lesser_bank, least_bank, cleared, loaded_bytes, data_of, written_body, load_fields, written, IsLoadFile}

@@ -1,24 +1,11 @@
 -- Reading a body from left to right, record by record, with the first fault that is met.
-use Rattle.std.specs.Prelude.{◌≡◌, ℕ, ◌-◌, Bool, true, false, List, [], ◌∷◌, length, take, drop, slice_index, Option, Some, None, Result, Ok, Err, nat_lt, ◌==◌, if◌then◌else◌}
+use Rattle.std.specs.Prelude.{◌≡◌, ℕ, ◌-◌, Bool, true, false, List, [], ◌∷◌, length, slice_index, Option, Some, None, Result, Ok, Err, nat_lt, ◌==◌, if◌then◌else◌}
 use Rattle.omf_format.specs.declared.fault.Flaw.{Flaw}
 use Rattle.omf_format.specs.declared.fault.Flaw.TheVariants.{Cut, Unread, Broken}
 use Rattle.omf_format.specs.declared.fault.RecordFault.{RecordFault}
 use Rattle.omf_format.specs.declared.fault.RecordFault.TheVariants.{Truncated, Unsupported, BadRecord}
-use Rattle.omf_format.specs.Number.{number_at}
+use Rattle.omf_format.specs.Field.{◌>>=◌, bytes_field, number_field}
 use Rattle.omf_format.specs.Record.{Record, End, Const, LongConst, Space}
-
-infixl 10 ◌>>=◌
-abbrev pub ◌>>=◌ : {A B : Type 0} → Result A Flaw → (A → Result B Flaw) → Result B Flaw
-(Ok x) >>= f = f x
-(Err e) >>= f = Err e
-
--- A field is a value and the bytes behind it: so many bytes as they are,
-unfoldable pub bytes_field : ℕ → List ℕ → Result (List ℕ × List ℕ) Flaw
-bytes_field n bytes = if nat_lt (length bytes) n then Err Cut else Ok (take n bytes, drop n bytes)
-
--- or a number of so many bytes.
-unfoldable pub number_field : ℕ → List ℕ → Result (ℕ × List ℕ) Flaw
-number_field width bytes = if nat_lt (length bytes) width then Err Cut else Ok (number_at width 0 bytes, drop width bytes)
 
 -- what stands behind each code: the record and the bytes after it, or what is wrong first
 unfoldable pub constant_field : ℕ → List ℕ → Result (Record × List ℕ) Flaw

@@ -1,106 +1,20 @@
 -- The two laws of records: what is read is spelled so, and what is spelled so is read, whatever follows it.
-use Rattle.std.proofs.Common.{◌≡◌, ℕ, zero, suc, ◌+◌, ◌^◌, ◌<◌, ◌≤◌, Bool, true, false, cond, ltb, eqb, ◌⊎◌, List, [], ◌∷◌, ◌++◌, length, take, drop, Result, Ok, Err, refl, sym, ap, subst, ◌∙◌, append_assoc, arith, inl, inr}
-use Rattle.std.proofs.lemmas.Bool.{cases_lt, ltb-false, le-ltb, lt-ltb, ltb-true, eqb-true, ne_eqb}
-use Rattle.std.proofs.lemmas.List.{take_at, drop_at, take-append-drop, length-append, length-take, get_or-drop, get_or-take, get_or_past}
-use Rattle.std.proofs.lemmas.Nat.{le_bytes_4}
-use Rattle.byteorder.specs.Endian.{little_number, little_bytes}
-use Rattle.byteorder.specs.Numbers.{little_number-reads_back, length-bytes_low_first, little_from-lt, little_from-take}
+use Rattle.std.proofs.Common.{◌≡◌, ℕ, zero, suc, ◌<◌, ◌≤◌, true, false, ltb, eqb, List, [], ◌∷◌, ◌++◌, length, Result, Ok, Err, refl, sym, subst, append_assoc, arith, inl, inr}
+use Rattle.std.proofs.lemmas.Bool.{lt-ltb, ltb-true, eqb-true, ne_eqb}
+use Rattle.byteorder.specs.Endian.{little_bytes}
 use Rattle.omf_format.specs.declared.fault.Flaw.{Flaw}
-use Rattle.omf_format.specs.declared.fault.Flaw.TheVariants.{Cut, Unread}
-use Rattle.omf_format.specs.Number.{number_at}
+use Rattle.omf_format.specs.declared.fault.Flaw.TheVariants.{Unread}
 use Rattle.omf_format.specs.HeaderLaws.{IsBytes}
 use Rattle.omf_format.specs.Record.{Record, End, Const, LongConst, Space, spelling, IsRecord}
-use Rattle.omf_format.specs.Reading.{◌>>=◌, bytes_field, number_field, constant_field, long_constant_field, space_field, front}
-
-pub IsBytes-drop : (n : ℕ) (bytes : List ℕ) → IsBytes bytes → IsBytes (drop n bytes)
-IsBytes-drop n bytes h i = rw get_or-drop (h (n + i))
-
-pub IsBytes-take : (n : ℕ) (bytes : List ℕ) → IsBytes bytes → IsBytes (take n bytes)
-IsBytes-take n bytes h i =
-    elim (cases_lt i n) [
-      | inl lt ↦ rw (get_or-take n bytes i 0 lt) (h i)
-      | inr le ↦ rw (get_or_past (take n bytes) i 0 (omega (arith, length-take n bytes))) (omega arith)
-    ]
-
-pub IsBytes-rest : (b : ℕ) (bytes : List ℕ) → IsBytes (b ∷ bytes) → IsBytes bytes
-IsBytes-rest b bytes h i = h (suc i)
-
--- the value of a step that did not fail
-pub bind_ok : {A B : Type 0} (r : Result A Flaw) (f : A → Result B Flaw) (y : B) → (r >>= f) ≡ Ok y → (x : A) × (r ≡ Ok x) × (f x ≡ Ok y)
-bind_ok (Ok x) f y e = (x, refl, e)
-bind_ok (Err d) f y e = absurd cc
-
--- a test that did not fail
-pub guard_ok : {A : Type 0} (b : Bool) (d : Flaw) (x y : A) → cond b (Err d) (Ok x) ≡ Ok y → (b ≡ false) × (x ≡ y)
-guard_ok true d x y e = absurd cc
-guard_ok false d x y e = (refl, cc)
-
--- which of two was chosen
-pub chosen : {A : Type 0} (b : Bool) (x y z : A) → cond b x y ≡ z → ((b ≡ true) × (x ≡ z)) ⊎ ((b ≡ false) × (y ≡ z))
-chosen true x y z e = inl (refl, e)
-chosen false x y z e = inr (refl, e)
+use Rattle.omf_format.specs.Field.{◌>>=◌, bytes_field, number_field}
+use Rattle.omf_format.specs.FieldLaws.{IsBytes-rest, bind_ok, chosen, Takes, Takes-then, Takes-code, width4, bytes_take, bytes_again, number_takes, number_again}
+use Rattle.omf_format.specs.Reading.{constant_field, long_constant_field, space_field, front}
 
 abbrev done : {A : Type 0} → A → Result A Flaw
 done x = Ok x
 
 pub ok_is : {A : Type 0} (x y : A) → done x ≡ done y → x ≡ y
 ok_is x y e = cc
-
--- what a reader took from the front
-pub record Takes (bytes text rest : List ℕ) : Type 0 where
-  pub parts : bytes ≡ text ++ rest
-  pub rest_fits : IsBytes rest
-
-pub Takes-then : (a x b y c : List ℕ) → Takes a x b → Takes b y c → Takes a (x ++ y) c
-Takes-then a x b y c p q = record { parts = p.parts ∙ ap (λ (t : List ℕ). x ++ t) q.parts ∙ sym (append_assoc x y c); rest_fits = q.rest_fits }
-
-pub Takes-code : (code : ℕ) (bytes text rest : List ℕ) → Takes bytes text rest → Takes (code ∷ bytes) (code ∷ text) rest
-Takes-code code bytes text rest t = record { parts = ap (λ (l : List ℕ). code ∷ l) t.parts; rest_fits = t.rest_fits }
-
--- ---- fields
-
-pub bytes_take : (n : ℕ) (bytes text rest : List ℕ) → IsBytes bytes → bytes_field n bytes ≡ Ok (text, rest) → Takes bytes text rest × (length text ≡ n)
-unfolding bytes_field
-bytes_take n bytes text rest fits e =
-    let g = guard_ok (ltb (length bytes) n) Cut (take n bytes, drop n bytes) (text, rest) e in
-    let long : n ≤ length bytes = ltb-false _ _ g.0 in
-    let taken : Takes bytes (take n bytes) (drop n bytes) × (length (take n bytes) ≡ n) =
-    (record { parts = sym (take-append-drop n bytes); rest_fits = IsBytes-drop n bytes fits }, omega (arith, length-take n bytes)) in
-    subst (λ (p : List ℕ × List ℕ). Takes bytes p.0 p.1 × (length p.0 ≡ n)) g.1 taken
-
-pub bytes_again : (n : ℕ) (text rest : List ℕ) → length text ≡ n → bytes_field n (text ++ rest) ≡ Ok (text, rest)
-unfolding bytes_field
-bytes_again n text rest len =
-    let long : ltb (length (text ++ rest)) n ≡ false = le-ltb _ _ (omega (arith, length-append text rest)) in
-    rw (long, take_at text rest n len, drop_at text rest n len) refl
-
--- the bytes of the number that a width of bytes stands for are these bytes
-pub record IsWidth (w : ℕ) : Type 0 where
-  pub back : (bytes : List ℕ) → length bytes ≡ w → IsBytes bytes → little_bytes w (little_number w bytes) ≡ bytes
-
-pub width4 : IsWidth 4
-width4 = record { back = λ bytes len fits. le_bytes_4 bytes (little_number 4 bytes) len fits (omega arith) }
-
-pub number_takes : (w : ℕ) (wide : IsWidth w) (bytes : List ℕ) (n : ℕ) (rest : List ℕ) → IsBytes bytes → number_field w bytes ≡ Ok (n, rest) → Takes bytes (little_bytes w n) rest × (n < 256 ^ w)
-unfolding number_field number_at
-number_takes w wide bytes n rest fits e =
-    let g = guard_ok (ltb (length bytes) w) Cut (number_at w 0 bytes, drop w bytes) (n, rest) e in
-    let long : w ≤ length bytes = ltb-false _ _ g.0 in
-    let same : little_number w (take w bytes) ≡ little_number w bytes = little_from-take 0 w w bytes (omega arith) in
-    let text : little_bytes w (little_number w bytes) ≡ take w bytes =
-    ap (little_bytes w) (sym same) ∙ wide.back (take w bytes) (omega (arith, length-take w bytes)) (IsBytes-take w bytes fits) in
-    let taken : Takes bytes (little_bytes w (little_number w bytes)) (drop w bytes) × (little_number w bytes < 256 ^ w) =
-    (record { parts = rw text (sym (take-append-drop w bytes)); rest_fits = IsBytes-drop w bytes fits }, little_from-lt 0 w bytes fits) in
-    subst (λ (p : ℕ × List ℕ). Takes bytes (little_bytes w p.0) p.1 × (p.0 < 256 ^ w)) g.1 taken
-
-pub number_again : (w n : ℕ) (rest : List ℕ) → n < 256 ^ w → number_field w (little_bytes w n ++ rest) ≡ Ok (n, rest)
-unfolding number_field number_at
-number_again w n rest fits =
-    let width = length-bytes_low_first 0 w n in
-    let long : ltb (length (little_bytes w n ++ rest)) w ≡ false = le-ltb _ _ (omega (arith, length-append (little_bytes w n) rest, width)) in
-    rw (long, little_number-reads_back w n rest fits, drop_at (little_bytes w n) rest w width) refl
-
--- ---- records
 
 -- what was taken is the spelling of a record
 pub record TakesRecord (lab_len : ℕ) (bytes : List ℕ) (found : Record × List ℕ) : Type 0 where

@@ -1,6 +1,5 @@
 -- How records and what a reader answers are seen.
-use Rattle.std.specs.Prelude.{◌≡◌, ℕ, Option, Some, None, Result, Ok, Err}
-use Rattle.omf_format.specs.declared.fault.Flaw.{Flaw}
+use Rattle.std.specs.Prelude.{ℕ, Option, Some, None, Result, Ok, Err}
 use Rattle.omf_format.specs.declared.fault.RecordFault.{RecordFault}
 use Rattle.omf_format.specs.Record.{Record}
 use Rattle.omf_format.specs.Record as format
@@ -19,8 +18,3 @@ abbrev pub seen : Result (Option (ℕ × Rec)) RecordFault → Result (Option (�
 seen (Ok None) = Ok None
 seen (Ok (Some found)) = Ok (Some (found.0, view found.1))
 seen (Err fault) = Err fault
-
--- what a function took from the front, as it is seen, is what reading gives
-abbrev pub Gives : {X Y : Type 0} → (X → Y) → Result X Flaw → Result Y Flaw → Type 0
-Gives seen_as (Ok x) read = read ≡ Ok (seen_as x)
-Gives seen_as (Err flaw) read = read ≡ Err flaw

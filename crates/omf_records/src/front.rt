@@ -1,39 +1,13 @@
 //! The record at the front of the bytes: each field is taken from the left, and the first that fails decides.
 
-ghost use Rattle.std.specs.Prelude.{◌≡◌, ◌<◌, ◌≤◌, length, IfOk};
-ghost use Rattle.omf_format.specs.Number.{number_at};
-ghost use Rattle.omf_format.specs.Reading.{bytes_field, number_field, constant_field, long_constant_field, space_field, front};
-ghost use Rattle.omf_records.specs.View.{view, Gives};
+ghost use Rattle.std.specs.Prelude.{◌<◌, ◌≤◌, length, IfOk};
+ghost use Rattle.omf_format.specs.Field.{Gives};
+ghost use Rattle.omf_format.specs.Reading.{constant_field, long_constant_field, space_field, front};
+ghost use Rattle.omf_records.specs.View.{view};
 
 use crate::record::Rec;
-use byteorder::{ByteOrder, LittleEndian};
+use omf_base::{bytes_field, u32_field};
 use omf_format::Flaw;
-
-/// So many bytes, and the bytes behind them.
-#[inline]
-#[tactic(auto, unfolding(omf_format::specs::Reading::bytes_field))]
-fn bytes_field(bytes: &[u8], n: usize) -> Result<(&[u8], &[u8]), Flaw>
-    ensures gives { Gives (λ x. (x.0.now, x.1.now)) result (bytes_field n bytes.now) }
-    ensures no_longer { IfOk result (λ x. length x.1.now ≤ length bytes.now) }
-{
-    match bytes.split_at_checked(n) {
-        Some((field, rest)) => Ok((field, rest)),
-        None => Err(Flaw::Cut),
-    }
-}
-
-/// A number of four bytes, and the bytes behind it.
-#[inline]
-#[tactic(auto, unfolding(omf_format::specs::Reading::number_field, omf_format::specs::Number::number_at))]
-fn u32_field(bytes: &[u8]) -> Result<(u32, &[u8]), Flaw>
-    ensures gives { Gives (λ x. (x.0, x.1.now)) result (number_field 4 bytes.now) }
-    ensures no_longer { IfOk result (λ x. length x.1.now ≤ length bytes.now) }
-{
-    match bytes.split_at_checked(4) {
-        Some((field, rest)) => Ok((LittleEndian::read_u32(field), rest)),
-        None => Err(Flaw::Cut),
-    }
-}
 
 #[inline]
 #[tactic(auto, unfolding(omf_format::specs::Reading::constant_field))]

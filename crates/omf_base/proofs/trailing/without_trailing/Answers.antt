@@ -1,5 +1,4 @@
-use Rattle.std.proofs.Common.{◌≡◌, ◌≤◌, ◌∙◌, sym, take, arith}
-use Rattle.omf_format.specs.Name.{without_trailing}
+use Rattle.std.proofs.Common.{◌∙◌, sym, arith}
 use Rattle.omf_base.proofs.TrimmedLists.{trim-step, trim-end, trim-none}
 use Rattle.omf_base.proofs.trailing.without_trailing.Goals as goal
 use Rattle.omf_base.proofs.trailing.without_trailing.Goals.{then-trim-test+else-bytes-end, else-trim-test}

@@ -1,0 +1,90 @@
+//! Fields: each is taken from the front of the bytes and lent, with the bytes behind it. Where the bytes end in the field,
+//! it is cut.
+
+ghost use Rattle.std.specs.Prelude.{◌≡◌, ◌<◌, ◌≤◌, length, IfOk, IfErr};
+ghost use Rattle.omf_format.specs.Field.{bytes_field, number_field, name_field, Gives};
+
+use crate::trailing::without_trailing;
+use byteorder::{ByteOrder, LittleEndian};
+use omf_format::Flaw;
+
+/// So many bytes, and the bytes behind them.
+#[inline]
+#[tactic(auto, unfolding(omf_format::specs::Field::bytes_field))]
+pub fn bytes_field(bytes: &[u8], n: usize) -> Result<(&[u8], &[u8]), Flaw>
+    ensures gives { Gives (λ x. (x.0.now, x.1.now)) result (bytes_field n bytes.now) }
+    ensures no_longer { IfOk result (λ x. length x.1.now ≤ length bytes.now) }
+{
+    match bytes.split_at_checked(n) {
+        Some((field, rest)) => Ok((field, rest)),
+        None => Err(Flaw::Cut),
+    }
+}
+
+/// A number of four bytes, and the bytes behind it.
+#[inline]
+#[tactic(auto, unfolding(omf_format::specs::Field::number_field, omf_format::specs::Number::number_at))]
+pub fn u32_field(bytes: &[u8]) -> Result<(u32, &[u8]), Flaw>
+    ensures gives { Gives (λ x. (x.0, x.1.now)) result (number_field 4 bytes.now) }
+    ensures no_longer { IfOk result (λ x. length x.1.now ≤ length bytes.now) }
+{
+    match bytes.split_at_checked(4) {
+        Some((field, rest)) => Ok((LittleEndian::read_u32(field), rest)),
+        None => Err(Flaw::Cut),
+    }
+}
+
+/// A name, which isn't empty, and the bytes behind it.
+#[inline]
+fn not_empty<'a>(name: &'a [u8], rest: &'a [u8]) -> Result<(&'a [u8], &'a [u8]), Flaw>
+    ensures ok { IfOk result (λ x. (x.0.now ≡ name.now) × (x.1.now ≡ rest.now) × (0 < length name.now)) }
+    ensures err { IfErr result (λ flaw. (flaw ≡ Flaw.Broken) × (length name.now ≡ 0)) }
+{
+    if name.is_empty() {
+        return Err(Flaw::Broken);
+    }
+    Ok((name, rest))
+}
+
+/// A name behind its length byte, and the bytes behind it. It isn't empty.
+#[inline]
+#[tactic(auto, using(omf_format::specs::FieldLaws::counted_none, omf_format::specs::FieldLaws::counted_field))]
+fn counted_name(bytes: &[u8]) -> Result<(&[u8], &[u8]), Flaw>
+    ensures gives { Gives (λ x. (x.0.now, x.1.now)) result (name_field 0 bytes.now) }
+    ensures no_longer { IfOk result (λ x. length x.1.now ≤ length bytes.now) }
+{
+    let Some((size, rest)) = bytes.split_first() else {
+        return Err(Flaw::Cut);
+    };
+    let Some((name, rest)) = rest.split_at_checked(*size as usize) else {
+        return Err(Flaw::Cut);
+    };
+    not_empty(name, rest)
+}
+
+/// A name of so many bytes without the spaces at its end, and the bytes behind it. It isn't empty.
+#[inline]
+#[tactic(auto, using(omf_format::specs::FieldLaws::padded_field))]
+fn padded_name(bytes: &[u8], lab_len: u8) -> Result<(&[u8], &[u8]), Flaw>
+    requires { 0 < lab_len }
+    ensures gives { Gives (λ x. (x.0.now, x.1.now)) result (name_field lab_len bytes.now) }
+    ensures no_longer { IfOk result (λ x. length x.1.now ≤ length bytes.now) }
+{
+    let Some((field, rest)) = bytes.split_at_checked(lab_len as usize) else {
+        return Err(Flaw::Cut);
+    };
+    let name = without_trailing(field, b' ');
+    not_empty(name, rest)
+}
+
+/// A name under a LABLEN without what pads it, and the bytes behind it. An empty name is broken.
+#[inline]
+pub fn name_field(bytes: &[u8], lab_len: u8) -> Result<(&[u8], &[u8]), Flaw>
+    ensures gives { Gives (λ x. (x.0.now, x.1.now)) result (name_field lab_len bytes.now) }
+    ensures no_longer { IfOk result (λ x. length x.1.now ≤ length bytes.now) }
+{
+    if lab_len == 0 {
+        return counted_name(bytes);
+    }
+    padded_name(bytes, lab_len)
+}
