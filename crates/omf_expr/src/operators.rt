@@ -202,60 +202,74 @@ fn place_and_number(
     })
 }
 
-/// The value of an operator of two operands.
+/// An operator whose left operand is a number.
+#[inline]
 #[tactic(auto, unfolding(omf_format::specs::Value::apply_two))]
-pub fn apply_two(code: u8, a: Value, b: Value) -> Result<Value, ValueFault>
-    ensures { result ≡ apply_two code a b }
+fn number_first(code: u8, a: u32, b: Value) -> Result<Value, ValueFault>
+    ensures { result ≡ apply_two code (Value.Fixed a) b }
 {
-    match (a, b) {
-        (Value::Fixed(a), Value::Fixed(b)) => two_numbers(code, a, b),
-        (
-            Value::Fixed(a),
-            Value::At {
-                file,
-                segment,
-                offset,
-                shift,
-            },
-        ) => {
+    match b {
+        Value::Fixed(b) => two_numbers(code, a, b),
+        Value::At {
+            file,
+            segment,
+            offset,
+            shift,
+        } => {
             if code != ADD || shift != 0 {
                 return Err(ValueFault::NotRelocatable);
             }
             place_and_number(ADD, file, segment, offset, a)
         }
-        (
-            Value::At {
-                file,
-                segment,
-                offset,
-                shift,
-            },
-            Value::Fixed(b),
-        ) => {
-            if shift != 0 {
-                return Err(ValueFault::NotRelocatable);
-            }
-            place_and_number(code, file, segment, offset, b)
-        }
-        (
-            Value::At {
-                file,
-                segment,
-                offset,
-                shift,
-            },
-            Value::At {
-                file: other_file,
-                segment: other_segment,
-                offset: other_offset,
-                shift: other_shift,
-            },
-        ) => {
+    }
+}
+
+/// An operator whose left operand is a place without a shift.
+#[inline]
+#[tactic(auto, unfolding(omf_format::specs::Value::apply_two))]
+fn place_first(
+    code: u8,
+    file: u16,
+    segment: u16,
+    offset: u32,
+    b: Value,
+) -> Result<Value, ValueFault>
+    ensures { result ≡ apply_two code (Value.At file segment offset (pos 0)) b }
+{
+    match b {
+        Value::Fixed(b) => place_and_number(code, file, segment, offset, b),
+        Value::At {
+            file: other_file,
+            segment: other_segment,
+            offset: other_offset,
+            shift,
+        } => {
             let is_one_segment = file == other_file && segment == other_segment;
-            if code != SUBTRACT || shift != 0 || other_shift != 0 || !is_one_segment {
+            if code != SUBTRACT || shift != 0 || !is_one_segment {
                 return Err(ValueFault::NotRelocatable);
             }
             Ok(Value::Fixed(offset.wrapping_sub(other_offset)))
+        }
+    }
+}
+
+/// The value of an operator of two operands.
+#[tactic(auto, unfolding(omf_format::specs::Value::apply_two))]
+pub fn apply_two(code: u8, a: Value, b: Value) -> Result<Value, ValueFault>
+    ensures { result ≡ apply_two code a b }
+{
+    match a {
+        Value::Fixed(a) => number_first(code, a, b),
+        Value::At {
+            file,
+            segment,
+            offset,
+            shift,
+        } => {
+            if shift != 0 {
+                return Err(ValueFault::NotRelocatable);
+            }
+            place_first(code, file, segment, offset, b)
         }
     }
 }
