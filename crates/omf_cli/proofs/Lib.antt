@@ -3,5 +3,6 @@ pub mod MemberBodies
 pub mod MemberLists
 pub mod Ends
 pub mod Linked
-pub mod ThreeWords
+pub mod FewWords
 pub mod Runs
+pub mod Listings

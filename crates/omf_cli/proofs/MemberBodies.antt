@@ -1,5 +1,5 @@
 -- The content of a segment that a view shows.
-use Rattle.std.proofs.Common.{◌≡◌, ℕ, ◌+◌, List, ◌++◌, length, replicate, refl, sym, ap, subst, ◌∙◌, arith}
+use Rattle.std.proofs.Common.{◌≡◌, ℕ, ◌+◌, true, List, ◌++◌, length, replicate, refl, sym, ap, subst, ◌∙◌, arith}
 use Rattle.omf_format.specs.Header.{Fields}
 use Rattle.omf_format.specs.Reading.{Reader, HandsOut}
 use Rattle.omf_format.specs.File.{Segment, body_reader}
@@ -11,19 +11,19 @@ use Rattle.omf_cli.specs.Content.{IsContent, HasContent}
 use Rattle.omf_cli.specs.Members.{IsAt}
 use Rattle.omf_cli.proofs.Bodies.{content_same}
 
--- a reader of the view's body has the segment's bytes to give
+-- a reader of the view's body hands out the segment's records
+pub member_run : (s : Segment) (v : SegmentView) (reader : Reader) → IsAt s v → reader ≡ body_reader v.start (fields v.header) v.file.now → (last : Reader) × HandsOut reader s.records last × (last.ended ≡ true)
+member_run s v reader at is =
+    let same : body_reader s.start s.fields v.file.now ≡ reader =
+    ap (λ (n : ℕ). body_reader n s.fields v.file.now) at.start ∙ ap (λ (f : Fields). body_reader v.start f v.file.now) at.fields' ∙ sym is in
+    (at.segment.last, subst (λ (r : Reader). HandsOut r s.records at.segment.last) same at.segment.records, at.segment.ended)
+
+-- and has the segment's bytes to give
 pub member_content : (s : Segment) (v : SegmentView) (reader : Reader) → IsAt s v → reader ≡ body_reader v.start (fields v.header) v.file.now → IsContent reader (body_bytes s)
 unfolding body_bytes
 member_content s v reader at is =
-    let same : body_reader s.start s.fields v.file.now ≡ reader =
-    ap (λ (n : ℕ). body_reader n s.fields v.file.now) at.start ∙ ap (λ (f : Fields). body_reader v.start f v.file.now) at.fields' ∙ sym is in
-    record {
-      founds = s.records;
-      last = at.segment.last;
-      run = subst (λ (r : Reader). HandsOut r s.records at.segment.last) same at.segment.records;
-      ended = at.segment.ended;
-      content = refl;
-    }
+    let all = member_run s v reader at is in
+    record { founds = s.records; last = all.0; run = all.1; ended = all.2; content = refl }
 
 pub member_size : (s : Segment) (v : SegmentView) (reader : Reader) (n : ℕ) → IsAt s v → reader ≡ body_reader v.start (fields v.header) v.file.now → HasContent reader n → n ≡ length (body_bytes s)
 member_size s v reader n at is has = has.2 ∙ ap length (content_same reader has.0 (body_bytes s) has.1 (member_content s v reader at is))

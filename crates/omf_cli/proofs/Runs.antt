@@ -10,10 +10,14 @@ use Rattle.omf_io.specs.Files.{FileMap}
 use Rattle.omf_cli.specs.declared.ending.LinkEnd.TheVariants as end
 use Rattle.omf_cli.specs.declared.status.Status.{Status}
 use Rattle.omf_cli.specs.declared.status.Status.TheVariants as status
-use Rattle.omf_cli.specs.Words.{IsLink, IsUsage}
+use Rattle.omf_cli.specs.Words.{IsLink, IsDump, Reads, IsUsage}
 use Rattle.omf_cli.specs.Lines.{usage_line, cannot_read_line, cannot_write_line, refused_line}
-use Rattle.omf_cli.specs.Tool.{Outside, Prints, EndsUsage, EndsUnread, EndsRefused, EndsUnwritten, EndsWith, AsUsage, AsUnread, AsRefused, AsUnwritten, IsInput, GetsDone, HasRun}
-use Rattle.omf_cli.specs.Ending.{HasEnded, HasPrinted, Whole, Part, Nothing, IsPrinted}
+use Rattle.omf_cli.specs.Tool.{Outside, Prints, EndsUsage, EndsUnread, EndsRefused, EndsUnwritten, EndsListed, EndsFaulty, EndsWith, AsUsage, AsListed, AsFaulty, AsUnread, AsRefused, AsUnwritten, IsInput, CannotBeRead, GetsDone, GetsListed, HasRun}
+use Rattle.omf_cli.specs.Listing.{cause_name}
+use Rattle.omf_cli.specs.declared.ending.Dumped.TheVariants as dumped
+use Rattle.omf_format.specs.declared.fault.FileFault.{FileFault}
+use Rattle.omf_format.specs.FileLaws.{no_file}
+use Rattle.omf_cli.specs.Ending.{HasEnded, HasDumped, HasPrinted, Whole, Part, Nothing, IsPrinted}
 
 -- whatever became of the line, the status that came says so
 pub tells : (words : List (List ℕ)) (o : Outside) (text : List ℕ) (wanted result : Status) (line : Result (List ℕ) LineFault) → EndsWith words o text → (Prints text o → HasRun wanted words o)
@@ -38,12 +42,12 @@ tells_usage words o result line usage held count is printed =
     let ends : EndsUsage words o usage_line = record { usage = usage; files = (held, count); line = refl } in
     tells words o usage_line status.Usage result line (AsUsage ends) (λ p. (usage_line, ends, p)) is printed
 
-pub tells_unread : (words : List (List ℕ)) (o : Outside) (output input : List ℕ) (result : Status) (line : Result (List ℕ) LineFault) → IsLink words output input
-    → HasEnded end.Unread output input o.held o.new_held o.faults o.new_faults
+pub tells_unread : (words : List (List ℕ)) (o : Outside) (input : List ℕ) (result : Status) (line : Result (List ℕ) LineFault) → Reads words input
+    → CannotBeRead input o.held o.faults o.new_faults × (o.new_held ≡ o.held)
     → IfOk line (λ t. t ≡ cannot_read_line input) → IsPrinted line status.CannotRead result o.written o.new_written o.print_faults o.new_print_faults → HasRun result words o
-tells_unread words o output input result line form ended is printed =
+tells_unread words o input result line form ended is printed =
     let text = cannot_read_line input in
-    let ends : EndsUnread words o text = record { output = output; input = input; form = form; cause = ended.0; files = ended.1; line = refl } in
+    let ends : EndsUnread words o text = record { input = input; form = form; cause = ended.0; files = ended.1; line = refl } in
     tells words o text status.CannotRead result line (AsUnread ends) (λ p. (text, ends, p)) is printed
 
 pub tells_empty : (words : List (List ℕ)) (o : Outside) (output input : List ℕ) (result : Status) (line : Result (List ℕ) LineFault) → IsLink words output input
@@ -52,7 +56,7 @@ pub tells_empty : (words : List (List ℕ)) (o : Outside) (output input : List �
 tells_empty words o output input result line form ended is printed =
     let text = refused_line (codes "Empty") 0 0 0 in
     let ends : EndsRefused words o text = record { output = output; input = input; form = form; file = ended.file; read = ended.read; cause = inl (ended.why, refl); files = (ended.files, ended.count) } in
-    tells words o text status.Refused result line (AsRefused ends) (λ p. (text, ends, p)) is printed
+    tells words o text status.Refused result line (AsRefused ends) (λ p. (text, inl ends, p)) is printed
 
 pub tells_unbuilt : (words : List (List ℕ)) (o : Outside) (output input : List ℕ) (result : Status) (line : Result (List ℕ) LineFault) → IsLink words output input
     → HasEnded end.Unbuilt output input o.held o.new_held o.faults o.new_faults
@@ -68,7 +72,38 @@ tells_unbuilt words o output input result line form ended is printed =
       cause = inr (ended.why.0, ended.why.1, refl);
       files = (ended.files, ended.count);
     } in
-    tells words o text status.Refused result line (AsRefused ends) (λ p. (text, ends, p)) is printed
+    tells words o text status.Refused result line (AsRefused ends) (λ p. (text, inl ends, p)) is printed
+
+pub tells_faulty : (words : List (List ℕ)) (o : Outside) (input : List ℕ) (fault : FileFault) (result : Status) (line : Result (List ℕ) LineFault) → IsDump words input
+    → HasDumped (dumped.Refused fault) input o.held o.new_held o.faults o.new_faults
+    → IfOk line (λ t. t ≡ refused_line (cause_name fault.cause) 1 fault.segment fault.at) → IsPrinted line status.Refused result o.written o.new_written o.print_faults o.new_print_faults → HasRun result words o
+tells_faulty words o input fault result line form ended is printed =
+    let text = refused_line (cause_name fault.cause) 1 fault.segment fault.at in
+    let ends : EndsFaulty words o text = record {
+      input = input;
+      form = form;
+      file = ended.file;
+      read = ended.read;
+      fault = fault;
+      first = ended.why;
+      line = refl;
+      files = (ended.files, ended.count);
+    } in
+    tells words o text status.Refused result line (AsFaulty ends) (λ p. (text, inr ends, p)) is printed
+
+pub tells_listed : (words : List (List ℕ)) (o : Outside) (input text : List ℕ) (result : Status) → IsDump words input
+    → HasDumped (dumped.Listed text) input o.held o.new_held o.faults o.new_faults
+    → HasPrinted text status.Done result o.written o.new_written o.print_faults o.new_print_faults → HasRun result words o
+tells_listed words o input text result form ended printed =
+    let ends : EndsListed words o text = record {
+      input = input;
+      form = form;
+      file = ended.file;
+      read = ended.read;
+      listing = ended.why;
+      files = (ended.files, ended.count);
+    } in
+    tells words o text status.Done result (Ok text) (AsListed ends) (λ p. inr (text, ends, p)) refl printed
 
 pub tells_unwritten : (words : List (List ℕ)) (o : Outside) (output input : List ℕ) (result : Status) (line : Result (List ℕ) LineFault) → IsLink words output input
     → HasEnded end.Unwritten output input o.held o.new_held o.faults o.new_faults
@@ -94,7 +129,7 @@ tells_unwritten words o output input result line form ended is printed =
 pub tells_done : (words : List (List ℕ)) (o : Outside) (output input : List ℕ) → IsLink words output input
     → HasEnded end.Done output input o.held o.new_held o.faults o.new_faults → o.new_written ≡ o.written → o.new_print_faults ≡ o.print_faults → HasRun status.Done words o
 tells_done words o output input form ended written count =
-    (record { output = output; input = input; form = form; file = ended.file; read = ended.read; bytes = ended.bytes; linked = ended.linked; files = ended.files; faults = ended.count }, (written, count))
+    inl (record { output = output; input = input; form = form; file = ended.file; read = ended.read; bytes = ended.bytes; linked = ended.linked; files = ended.files; faults = ended.count }, (written, count))
 
 -- ---- a plain input isn't refused as empty
 
@@ -124,3 +159,19 @@ not_empty words o output input form ended gets =
     let read = subst (λ (path : List ℕ). IsInput path o.held ended.file) same ended.read in
     let file = read_held o.held gets.told gets.input gets.file ended.file gets.is_told gets.held' read in
     no_plain gets.linked.segments gets.file (sym file ∙ ended.why) gets.linked.is_file gets.linked.plain
+
+-- ---- a file without a fault isn't refused
+
+same_path : (words : List (List ℕ)) (a b : List ℕ) → IsDump words a → IsDump words b → a ≡ b
+same_path words a b p q = let both : codes "dump" ∷ a ∷ [] ≡ codes "dump" ∷ b ∷ [] = sym p.words' ∙ q.words' in cc
+
+pub not_faulty : (words : List (List ℕ)) (o : Outside) (input : List ℕ) (fault : FileFault) → IsDump words input → HasDumped (dumped.Refused fault) input o.held o.new_held o.faults o.new_faults → GetsListed words o → ⊥
+not_faulty words o input fault form ended gets =
+    let same = same_path words input gets.input form gets.form in
+    let read = subst (λ (path : List ℕ). IsInput path o.held ended.file) same ended.read in
+    let file = read_held o.held gets.told gets.input gets.file ended.file gets.is_told gets.held' read in
+    no_file ended.file fault gets.listing.segments ended.why (subst (IsFile gets.listing.segments) (sym file) gets.listing.is_file)
+
+-- the words are of one form
+pub one_form : (words : List (List ℕ)) (output input path : List ℕ) → IsLink words output input → IsDump words path → ⊥
+one_form words output input path p q = let both : codes "link" ∷ output ∷ input ∷ [] ≡ codes "dump" ∷ path ∷ [] = sym p.words' ∙ q.words' in cc

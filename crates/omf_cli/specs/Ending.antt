@@ -9,6 +9,10 @@ use Rattle.omf_cli.specs.declared.ending.LinkEnd.{LinkEnd}
 use Rattle.omf_cli.specs.declared.ending.LinkEnd.TheVariants.{Done, Unread, Empty, Unbuilt, Unwritten, Memory}
 use Rattle.omf_cli.specs.declared.status.Status.{Status}
 use Rattle.omf_cli.specs.declared.status.Status.TheVariants as status
+use Rattle.omf_cli.specs.declared.ending.Dumped.{Dumped}
+use Rattle.omf_cli.specs.declared.ending.Dumped.TheVariants as dumped
+use Rattle.omf_format.specs.File.{IsFirstFault}
+use Rattle.omf_cli.specs.Listing.{IsListing}
 use Rattle.omf_cli.specs.Tool.{IsInput, CannotBeRead}
 
 -- the output stands at its path
@@ -20,8 +24,8 @@ pub record HasLinked (output input : List ℕ) (held new_held : Option FileMap) 
   pub files : new_held ≡ with_file held output bytes
   pub count : new_faults ≡ faults
 
--- the input is refused
-pub record IsRefusedFile (P : List ℕ → Type 0) (input : List ℕ) (held new_held : Option FileMap) (faults new_faults : ℕ) : Type 0 where
+-- of the input that was read this holds, and the store is as before
+pub record HasReadFile (P : List ℕ → Type 0) (input : List ℕ) (held new_held : Option FileMap) (faults new_faults : ℕ) : Type 0 where
   pub file : List ℕ
   pub read : IsInput input held file
   pub why : P file
@@ -43,11 +47,25 @@ pub record HasFailed (output input : List ℕ) (held new_held : Option FileMap) 
 abbrev pub HasEnded : LinkEnd → List ℕ → List ℕ → Option FileMap → Option FileMap → ℕ → ℕ → Type 0
 HasEnded Done output input held new_held faults new_faults = HasLinked output input held new_held faults new_faults
 HasEnded Unread output input held new_held faults new_faults = CannotBeRead input held faults new_faults × (new_held ≡ held)
-HasEnded Empty output input held new_held faults new_faults = IsRefusedFile (λ file. file ≡ []) input held new_held faults new_faults
+HasEnded Empty output input held new_held faults new_faults = HasReadFile (λ file. file ≡ []) input held new_held faults new_faults
 HasEnded Unbuilt output input held new_held faults new_faults =
-    IsRefusedFile (λ file. (file ≡ [] → ⊥) × IsUnbuilt file) input held new_held faults new_faults
+    HasReadFile (λ file. (file ≡ [] → ⊥) × IsUnbuilt file) input held new_held faults new_faults
 HasEnded Unwritten output input held new_held faults new_faults = HasFailed output input held new_held faults new_faults
 HasEnded Memory output input held new_held faults new_faults = (new_held ≡ held) × (new_faults ≡ faults)
+
+-- what each end of a dump but Unread says of the file
+abbrev pub IsDumpOf : Dumped → List ℕ → Type 0
+IsDumpOf (dumped.Listed text) file = IsListing file text
+IsDumpOf (dumped.Refused fault) file = IsFirstFault file fault
+IsDumpOf dumped.Unread file = ⊥
+IsDumpOf dumped.Memory file = Unit {0}
+
+-- what each end of a dump says of the store
+abbrev pub HasDumped : Dumped → List ℕ → Option FileMap → Option FileMap → ℕ → ℕ → Type 0
+HasDumped (dumped.Listed text) input held new_held faults new_faults = HasReadFile (λ file. IsListing file text) input held new_held faults new_faults
+HasDumped (dumped.Refused fault) input held new_held faults new_faults = HasReadFile (λ file. IsFirstFault file fault) input held new_held faults new_faults
+HasDumped dumped.Unread input held new_held faults new_faults = CannotBeRead input held faults new_faults × (new_held ≡ held)
+HasDumped dumped.Memory input held new_held faults new_faults = (new_held ≡ held) × (new_faults ≡ faults)
 
 -- a line was printed whole, with the wanted status; or a front of it, where the sink failed; or nothing, where memory ran out
 pub data HasPrinted (text : List ℕ) (wanted result : Status) (written new_written : Option (List ℕ)) (faults new_faults : ℕ) : Type 0 where

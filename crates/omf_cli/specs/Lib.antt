@@ -4,6 +4,7 @@ pub mod LoadFile
 pub mod Link
 pub mod Words
 pub mod Lines
+pub mod Listing
 pub mod Tool
 pub mod Code
 pub mod Ending

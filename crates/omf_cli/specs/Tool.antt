@@ -1,6 +1,8 @@
 -- What a run of the tool found and left outside, for each status that it ends with.
 use Rattle.std.specs.Prelude.{◌≡◌, ◌⊎◌, ◌≤◌, ℕ, List, [], length, codes, Option, Some}
 use Rattle.std.specs.FinMap.{get}
+use Rattle.omf_format.specs.declared.fault.FileFault.{FileFault}
+use Rattle.omf_format.specs.File.{IsFirstFault}
 use Rattle.omf_format.specs.Plain.{IsLinkedTo, IsUnbuilt}
 use Rattle.omf_io.specs.declared.files.ReadFault.TheVariants as read
 use Rattle.omf_io.specs.Counts.{Rose, Told, IsFront}
@@ -8,7 +10,8 @@ use Rattle.omf_io.specs.Files.{FileMap, max_file, with_file, ReadFailed}
 use Rattle.omf_io.specs.Sinks.{with_text}
 use Rattle.omf_cli.specs.declared.status.Status.{Status}
 use Rattle.omf_cli.specs.declared.status.Status.TheVariants.{Done, Refused, Usage, CannotRead, CannotWrite, CannotPrint, Memory}
-use Rattle.omf_cli.specs.Words.{IsLink, IsUsage}
+use Rattle.omf_cli.specs.Words.{IsLink, IsDump, Reads, IsUsage}
+use Rattle.omf_cli.specs.Listing.{IsListing, cause_name}
 use Rattle.omf_cli.specs.Lines.{usage_line, cannot_read_line, cannot_write_line, refused_line}
 
 -- the files, the text that was printed and the counts of faults, before the run and after it
@@ -86,16 +89,35 @@ pub record EndsUsage (words : List (List ℕ)) (o : Outside) (text : List ℕ) :
   pub files : IsUntouched o
   pub line : text ≡ usage_line
 
+-- the text is the listing of the input
+pub record EndsListed (words : List (List ℕ)) (o : Outside) (text : List ℕ) : Type 0 where
+  pub input : List ℕ
+  pub form : IsDump words input
+  pub file : List ℕ
+  pub read : IsInput input o.held file
+  pub listing : IsListing file text
+  pub files : IsUntouched o
+
 -- the input could not be read
 pub record EndsUnread (words : List (List ℕ)) (o : Outside) (text : List ℕ) : Type 0 where
-  pub output : List ℕ
   pub input : List ℕ
-  pub form : IsLink words output input
+  pub form : Reads words input
   pub cause : CannotBeRead input o.held o.faults o.new_faults
   pub files : o.new_held ≡ o.held
   pub line : text ≡ cannot_read_line input
 
--- the input was read, and is empty or no plain object file
+-- the input was read to be listed, and this is its first fault
+pub record EndsFaulty (words : List (List ℕ)) (o : Outside) (text : List ℕ) : Type 0 where
+  pub input : List ℕ
+  pub form : IsDump words input
+  pub file : List ℕ
+  pub read : IsInput input o.held file
+  pub fault : FileFault
+  pub first : IsFirstFault file fault
+  pub line : text ≡ refused_line (cause_name fault.cause) 1 fault.segment fault.at
+  pub files : IsUntouched o
+
+-- the input was read to be linked, and is empty or no plain object file
 pub record EndsRefused (words : List (List ℕ)) (o : Outside) (text : List ℕ) : Type 0 where
   pub output : List ℕ
   pub input : List ℕ
@@ -121,23 +143,25 @@ pub record EndsUnwritten (words : List (List ℕ)) (o : Outside) (text : List �
   pub rose : Rose o.faults o.new_faults
   pub line : text ≡ cannot_write_line output
 
--- one of the ends that print a line
+-- one of the ends that print a text
 pub data EndsWith (words : List (List ℕ)) (o : Outside) (text : List ℕ) : Type 0 where
   AsUsage : EndsUsage words o text → EndsWith words o text
+  AsListed : EndsListed words o text → EndsWith words o text
+  AsFaulty : EndsFaulty words o text → EndsWith words o text
   AsUnread : EndsUnread words o text → EndsWith words o text
   AsRefused : EndsRefused words o text → EndsWith words o text
   AsUnwritten : EndsUnwritten words o text → EndsWith words o text
 
 -- a run over these words that ends with the status
 abbrev pub HasRun : Status → List (List ℕ) → Outside → Type 0
-HasRun Done words o = EndsDone words o × IsSilent o
+HasRun Done words o = (EndsDone words o × IsSilent o) ⊎ ((text : List ℕ) × EndsListed words o text × Prints text o)
 HasRun Usage words o = (text : List ℕ) × EndsUsage words o text × Prints text o
 HasRun CannotRead words o = (text : List ℕ) × EndsUnread words o text × Prints text o
-HasRun Refused words o = (text : List ℕ) × EndsRefused words o text × Prints text o
+HasRun Refused words o = (text : List ℕ) × (EndsRefused words o text ⊎ EndsFaulty words o text) × Prints text o
 HasRun CannotWrite words o = (text : List ℕ) × EndsUnwritten words o text × Prints text o
--- a line of these couldn't be printed whole
+-- a text of these couldn't be printed whole
 HasRun CannotPrint words o = (text : List ℕ) × EndsWith words o text × FailsToPrint text o
--- memory ran out in the command, or for its line, of which nothing was printed
+-- memory ran out in the command, or for its text, of which nothing was printed
 HasRun Memory words o = (IsUntouched o ⊎ ((text : List ℕ) × EndsWith words o text)) × IsSilent o
 
 -- The command gets done: the store tells a plain input of the words' form, and no count rose.
@@ -152,5 +176,19 @@ pub record GetsDone (words : List (List ℕ)) (o : Outside) : Type 0 where
   pub small : length file ≤ max_file
   pub bytes : List ℕ
   pub linked : IsLinkedTo file bytes
+  pub calm : Rose o.faults o.new_faults → ⊥
+  pub calm_print : Rose o.print_faults o.new_print_faults → ⊥
+
+-- The listing gets done: the store tells a file of the words' form that is a list of segments, and no count rose.
+pub record GetsListed (words : List (List ℕ)) (o : Outside) : Type 0 where
+  pub input : List ℕ
+  pub form : IsDump words input
+  pub told : FileMap
+  pub is_told : o.held ≡ Some told
+  pub file : List ℕ
+  pub held' : get told input ≡ Some file
+  pub small : length file ≤ max_file
+  pub text : List ℕ
+  pub listing : IsListing file text
   pub calm : Rose o.faults o.new_faults → ⊥
   pub calm_print : Rose o.print_faults o.new_print_faults → ⊥

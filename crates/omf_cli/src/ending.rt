@@ -1,4 +1,7 @@
-//! How the link of one file ends, before anything is printed of it.
+//! How a command over one file ends, before anything is printed of it.
+
+use omf_base::Line;
+use omf_format::FileFault;
 
 /// The end of a link.
 #[derive(Clone, Copy, Debug, PartialEq, Eq)]
@@ -13,5 +16,17 @@ pub enum LinkEnd {
     Unbuilt,
     /// The output couldn't be written whole.
     Unwritten,
+    Memory,
+}
+
+/// The end of a dump.
+#[derive(Debug, Drop)]
+pub enum Dumped {
+    /// The listing.
+    Listed(Line),
+    /// The input's first fault.
+    Refused(FileFault),
+    /// The input couldn't be read.
+    Unread,
     Memory,
 }

@@ -1,10 +1,14 @@
-//! Linking files of a store.
+//! Commands over files of a store.
 
-ghost use Rattle.omf_cli.specs.Ending.{HasEnded};
+ghost use Rattle.std.specs.Prelude.{◌<◌, ◌^◌, length};
+ghost use Rattle.omf_cli.specs.Ending.{HasEnded, HasDumped, IsDumpOf};
 
-use crate::ending::LinkEnd;
+use crate::ending::{Dumped, LinkEnd};
 use crate::link::{LinkFault, link_plain};
+use crate::listing::listing;
+use omf_base::LineFault;
 use omf_io::{Files, ReadFault, WriteFault};
+use omf_records::{FileCause, segments};
 use std::alloc::Global;
 
 /// Reads the input, links it, and then writes the output.
@@ -28,5 +32,41 @@ pub fn link_files<F: Files>(alloc: Global, output: &str, input: &str, files: &mu
         Ok(()) => LinkEnd::Done,
         Err(WriteFault::Failed) => LinkEnd::Unwritten,
         Err(WriteFault::Memory) => LinkEnd::Memory,
+    }
+}
+
+/// Reads the input, and lists it.
+pub fn dump_file<F: Files>(alloc: Global, input: &str, files: &mut F) -> Dumped
+    ensures { HasDumped result input.now (F.held files.old) (F.held files.new) (F.faults files.old) (F.faults files.new) }
+{
+    match files.read(alloc, input) {
+        Ok(bytes) => dump_bytes(alloc, &bytes),
+        Err(ReadFault::Absent) => Dumped::Unread,
+        Err(ReadFault::TooLong) => Dumped::Unread,
+        Err(ReadFault::Failed) => Dumped::Unread,
+        Err(ReadFault::Memory) => Dumped::Memory,
+    }
+}
+
+/// Lists a file, or tells its first fault.
+fn dump_bytes(alloc: Global, file: &[u8]) -> Dumped
+    requires { length file.now < 2 ^ 32 }
+    ensures { IsDumpOf result file.now }
+{
+    let list = match segments(alloc, file) {
+        Ok(list) => list,
+        Err(fault) => {
+            return match fault.cause {
+                FileCause::Memory => Dumped::Memory,
+                FileCause::Truncated
+                | FileCause::BadHeader
+                | FileCause::Unsupported
+                | FileCause::BadRecord => Dumped::Refused(fault),
+            };
+        }
+    };
+    match listing(alloc, &list) {
+        Ok(text) => Dumped::Listed(text),
+        Err(LineFault::Memory) => Dumped::Memory,
     }
 }

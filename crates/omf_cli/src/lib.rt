@@ -6,6 +6,7 @@ mod ending;
 mod files;
 mod laws;
 mod link;
+mod listing;
 mod load_file;
 mod members;
 mod printing;

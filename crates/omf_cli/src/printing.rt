@@ -2,11 +2,13 @@
 
 ghost use Rattle.std.specs.Prelude.{◌≡◌, ◌++◌, IfOk};
 ghost use Rattle.omf_cli.specs.Lines.{line, usage_line, refused_line};
+ghost use Rattle.omf_cli.specs.Listing.{cause_name};
 ghost use Rattle.omf_cli.specs.Ending.{HasPrinted, IsPrinted};
 
 use crate::status::Status;
 use omf_base::{Line, LineFault, Spot};
 use omf_io::{Sink, SinkFault};
+use omf_records::FileCause;
 use std::alloc::Global;
 
 /// The line that says which forms of words there are.
@@ -45,6 +47,19 @@ pub fn refused_line(alloc: Global, cause: &str, spot: Spot) -> Result<Line, Line
     line.hex(spot.at, 8)?;
     line.text("\n")?;
     Ok(line)
+}
+
+/// The name of a cause, as it is printed.
+pub fn cause_name(cause: FileCause) -> &'static str
+    ensures { result.now ≡ cause_name cause }
+{
+    match cause {
+        FileCause::Truncated => "Truncated",
+        FileCause::BadHeader => "BadHeader",
+        FileCause::Unsupported => "Unsupported",
+        FileCause::BadRecord => "BadRecord",
+        FileCause::Memory => "Memory",
+    }
 }
 
 /// Prints a text, and answers the wanted status, or that of what went wrong.

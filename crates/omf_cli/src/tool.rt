@@ -1,14 +1,15 @@
 //! All that the program does.
 
 ghost use Rattle.std.specs.Prelude.{◌≡◌, ◌⊎◌};
-ghost use Rattle.omf_cli.specs.Words.{words_of};
-ghost use Rattle.omf_cli.specs.Tool.{outside, HasRun, GetsDone};
+ghost use Rattle.std.specs.Prelude.{ℕ, List};
+ghost use Rattle.omf_cli.specs.Words.{IsLink, IsDump, words_of};
+ghost use Rattle.omf_cli.specs.Tool.{outside, HasRun, GetsDone, GetsListed};
 
-use crate::ending::LinkEnd;
-use crate::files::link_files;
-use crate::printing::{path_line, print, refused_line, usage_line};
+use crate::ending::{Dumped, LinkEnd};
+use crate::files::{dump_file, link_files};
+use crate::printing::{cause_name, path_line, print, refused_line, usage_line};
 use crate::status::Status;
-use crate::words::link_paths;
+use crate::words::{dump_path, link_paths};
 use omf_base::Spot;
 use omf_io::{Files, Sink};
 use std::alloc::Global;
@@ -22,8 +23,8 @@ const NO_PLACE: Spot = Spot {
 
 /// Does what the words say over a store of files and a sink of text, and answers the status.
 ///
-/// `link OUT OBJ` links one plain object file. The input is read before anything is written. Other words print the
-/// usage line.
+/// `link OUT OBJ` links one plain object file. The input is read before anything is written. `dump FILE` prints a line
+/// for each segment of a file, and one for each of its records. Other words print the usage line.
 pub fn run_tool<F: Files, S: Sink>(
     alloc: Global,
     words: &Vec<String>,
@@ -40,10 +41,38 @@ pub fn run_tool<F: Files, S: Sink>(
         (F.held files.old) (F.held files.new) (F.faults files.old) (F.faults files.new)
         (S.written out.old) (S.written out.new) (S.faults out.old) (S.faults out.new))
         → (result ≡ Status.Done) ⊎ (result ≡ Status.Memory) }
+
+    // And a file without a fault gets listed.
+    ensures lists { GetsListed (words_of words.now.items) (outside
+        (F.held files.old) (F.held files.new) (F.faults files.old) (F.faults files.new)
+        (S.written out.old) (S.written out.new) (S.faults out.old) (S.faults out.new))
+        → (result ≡ Status.Done) ⊎ (result ≡ Status.Memory) }
 {
-    let Some((output, input)) = link_paths(words) else {
-        return print(usage_line(alloc), Status::Usage, out);
-    };
+    if let Some((output, input)) = link_paths(words) {
+        return link(alloc, output, input, files, out);
+    }
+    if let Some(input) = dump_path(words) {
+        return dump(alloc, input, files, out);
+    }
+    print(usage_line(alloc), Status::Usage, out)
+}
+
+/// Links one file, and prints why where it isn't linked.
+fn link<F: Files, S: Sink>(
+    alloc: Global,
+    output: &str,
+    input: &str,
+    files: &mut F,
+    out: &mut S,
+) -> Status
+    ensures run { (words : List (List ℕ)) → IsLink words output.now input.now → HasRun result words (outside
+        (F.held files.old) (F.held files.new) (F.faults files.old) (F.faults files.new)
+        (S.written out.old) (S.written out.new) (S.faults out.old) (S.faults out.new)) }
+    ensures completes { (words : List (List ℕ)) → IsLink words output.now input.now → GetsDone words (outside
+        (F.held files.old) (F.held files.new) (F.faults files.old) (F.faults files.new)
+        (S.written out.old) (S.written out.new) (S.faults out.old) (S.faults out.new))
+        → (result ≡ Status.Done) ⊎ (result ≡ Status.Memory) }
+{
     match link_files(alloc, output, input, files) {
         LinkEnd::Done => Status::Done,
         LinkEnd::Unread => print(
@@ -63,5 +92,38 @@ pub fn run_tool<F: Files, S: Sink>(
             out,
         ),
         LinkEnd::Memory => Status::Memory,
+    }
+}
+
+/// Prints the listing of one file, or why there is none.
+fn dump<F: Files, S: Sink>(alloc: Global, input: &str, files: &mut F, out: &mut S) -> Status
+    ensures run { (words : List (List ℕ)) → IsDump words input.now → HasRun result words (outside
+        (F.held files.old) (F.held files.new) (F.faults files.old) (F.faults files.new)
+        (S.written out.old) (S.written out.new) (S.faults out.old) (S.faults out.new)) }
+    ensures lists { (words : List (List ℕ)) → IsDump words input.now → GetsListed words (outside
+        (F.held files.old) (F.held files.new) (F.faults files.old) (F.faults files.new)
+        (S.written out.old) (S.written out.new) (S.faults out.old) (S.faults out.new))
+        → (result ≡ Status.Done) ⊎ (result ≡ Status.Memory) }
+{
+    match dump_file(alloc, input, files) {
+        Dumped::Listed(text) => print(Ok(text), Status::Done, out),
+        Dumped::Refused(fault) => {
+            let spot = Spot {
+                file: 1,
+                segment: fault.segment,
+                at: fault.at,
+            };
+            print(
+                refused_line(alloc, cause_name(fault.cause), spot),
+                Status::Refused,
+                out,
+            )
+        }
+        Dumped::Unread => print(
+            path_line(alloc, "cannot read ", input),
+            Status::CannotRead,
+            out,
+        ),
+        Dumped::Memory => Status::Memory,
     }
 }

@@ -2,7 +2,7 @@ use Rattle.std.proofs.Common.{◌≡◌, ◌∙◌, refl, sym, ap}
 use Rattle.std.specs.Prelude.{codes, string_bytes}
 use Rattle.std.proofs.lemmas.Slice.Eq.{bytes_eq-Decides}
 use Rattle.omf_cli.specs.Words.{words_of}
-use Rattle.omf_cli.proofs.ThreeWords.{three_words}
+use Rattle.omf_cli.proofs.FewWords.{three_words}
 use Rattle.omf_cli.proofs.words.link_paths.Goals as goal
 
 pub returns-then-is_path-2 : goal.returns-then-is_path-2
