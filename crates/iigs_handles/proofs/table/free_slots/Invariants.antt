@@ -1,0 +1,7 @@
+use Rattle.std.proofs.Common.{◌≡◌, replicate}
+use Rattle.loader_machine.specs.Slots.{new_slot}
+use Rattle.iigs_handles.proofs.table.free_slots.Given as goal
+
+-- so many slots were pushed, all free
+abbrev pub invariant-loop : goal.invariant-loop
+invariant-loop g l = l.slots.items ≡ replicate l.counter new_slot

@@ -1,0 +1,12 @@
+//! A table of 4,096 slots, each with 256 generations. A handle names a slot under one generation, so a handle that
+//! was released never reaches what the slot holds later.
+#![tactic(auto)]
+
+mod law;
+mod table;
+#[cfg(test)]
+mod tests;
+
+pub use law::dead_stay_dead;
+pub use loader_machine::{Content, Handle, Slot, Stale};
+pub use table::{Handles, HandlesFault, SLOTS};

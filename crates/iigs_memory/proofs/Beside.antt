@@ -1,0 +1,48 @@
+-- When a place lies beside all blocks.
+use Rattle.std.proofs.Common.{inl, inr, ℕ, ◌+◌, ◌<◌, ◌≤◌, List, length, get_or, arith}
+use Rattle.std.specs.List.Sorted.{IsNonDecreasingBy}
+use Rattle.std.proofs.lemmas.Bool.{cases_lt}
+use Rattle.loader_machine.specs.declared.wants.Want.{Want}
+use Rattle.iigs_memory.specs.declared.spots.Spot.{Spot}
+use Rattle.iigs_memory.specs.Open.{IsNextOpen}
+use Rattle.iigs_memory.specs.Spots.{FitsAmong, IsLeastAmong, IsBeside, IsPast}
+
+past_beside : (limit address size : ℕ) (spot : Spot) → IsPast limit address spot → limit ≤ spot.turn → IsBeside address size spot
+past_beside limit address size spot (inl gone) kept = absurd (omega arith)
+past_beside limit address size spot (inr ended) kept = inr ended
+
+past_later : (limit address later : ℕ) (spot : Spot) → address ≤ later → IsPast limit address spot → IsPast limit later spot
+past_later limit address later spot le (inl gone) = inl gone
+past_later limit address later spot le (inr ended) = inr (omega arith)
+
+module _ (banks : List ℕ) (want : Want) (spots : List Spot) (limit from index place next : ℕ) where
+  -- the first place where the want is open lies beside all blocks, if the next block that counts begins after it
+  pub least_before : IsNonDecreasingBy (λ spot. spot.at) spots
+      → ((other : ℕ) → other < from → ¬ FitsAmong banks want spots limit other)
+      → ((k : ℕ) (d : Spot) → k < index → IsPast limit from (get_or spots k d))
+      → IsNextOpen banks want from place
+      → ((k : ℕ) (d : Spot) → index ≤ k → k < next → IsPast limit place (get_or spots k d))
+      → ((d : Spot) → next < length spots → place + want.size ≤ (get_or spots next d).at)
+      → IsLeastAmong banks want spots limit place
+  least_before order before past open_ passed beyond = record {
+    fits = record {
+      open_ = open_.open_;
+      beside = λ k d inside kept. elim (cases_lt k index) [
+        | inl lt ↦ past_beside limit place want.size (get_or spots k d) (past_later limit from place (get_or spots k d) open_.after (past k d lt)) kept
+        | inr ge ↦ elim (cases_lt k next) [
+          | inl lt ↦ past_beside limit place want.size (get_or spots k d) (passed k d ge lt) kept
+          | inr ge' ↦
+              let at : place + want.size ≤ (get_or spots next d).at = beyond d (omega arith) in
+              let rises : (get_or spots next d).at ≤ (get_or spots k d).at = order next k d ge' inside in
+              inl (omega arith)
+        ]
+      ];
+    };
+    least = λ other fits. elim (cases_lt other place) [
+      | inr ge ↦ ge
+      | inl lt ↦ elim (cases_lt other from) [
+        | inl lt' ↦ absurd (before other lt' fits)
+        | inr ge ↦ absurd (open_.first other ge lt fits.open_)
+      ]
+    ];
+  }

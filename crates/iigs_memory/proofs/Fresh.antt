@@ -1,0 +1,53 @@
+-- A store without blocks.
+use Rattle.std.proofs.Common.{◌≡◌, ℕ, zero, suc, ◌<◌, ◌≤◌, List, replicate, All, length, refl}
+use Rattle.std.proofs.lemmas.List.{length-replicate}
+use Rattle.loader_machine.specs.declared.wants.Block.{Block}
+use Rattle.loader_machine.specs.Slots.{slot_at, new_slot}
+use Rattle.loader_machine.specs.Fits.{HoldsByte}
+use Rattle.loader_machine.specs.Memory.{AreApart, new_slots}
+use Rattle.iigs_memory.specs.Offsets.{bytes_below}
+use Rattle.iigs_memory.specs.Spots.{IsBoundedSlot}
+use Rattle.iigs_memory.specs.Store.{IsStore}
+use Rattle.iigs_memory.proofs.Extents.{all_slots}
+
+all_new : (n place : ℕ) → slot_at (replicate n (new_slot {T = Block})) place ≡ new_slot
+all_new zero place = refl
+all_new (suc n) zero = refl
+all_new (suc n) (suc place) = all_new n place
+
+holds_none : (n place i : ℕ) → ¬ HoldsByte i (slot_at (replicate n new_slot) place)
+holds_none n place i holds = let no : HoldsByte i new_slot = rw (all_new n place) at holds in absurd no
+
+apart_none : (banks : List ℕ) (n : ℕ) → AreApart banks (replicate n new_slot)
+apart_none banks n = record {
+  inside = λ place i holds. absurd (holds_none n place i holds);
+  apart = λ place other i one two. absurd (holds_none n place i one);
+}
+
+bounded_none : (n : ℕ) → All IsBoundedSlot (replicate n new_slot)
+bounded_none n = all_slots IsBoundedSlot (replicate n new_slot) (λ place. rw (all_new n place) tt)
+
+new_count : length new_slots ≡ 4096
+unfolding new_slots
+new_count = length-replicate 4096 (new_slot {T = Block})
+
+new_apart : (banks : List ℕ) → AreApart banks new_slots
+unfolding new_slots
+new_apart banks = apart_none banks 4096
+
+new_bounded : All IsBoundedSlot new_slots
+unfolding new_slots
+new_bounded = bounded_none 4096
+
+pub new_store : (banks buffer : List ℕ) (spots turns made : ℕ) → All (λ bank. bank < 256) banks → bytes_below banks 256 ≤ length buffer
+    → 4096 ≤ spots → 4096 ≤ turns → 4096 ≤ made → IsStore banks new_slots buffer spots turns made
+new_store banks buffer spots turns made small room s t m = record {
+  small = small;
+  count = new_count;
+  bounded = new_bounded;
+  sound = new_apart banks;
+  room = room;
+  spots_room = s;
+  turns_room = t;
+  made_room = m;
+}

@@ -1,0 +1,10 @@
+use Rattle.std.proofs.Common.{nat_lt, ◌≤◌, length}
+use Rattle.loader_machine.specs.Placement.{emptied_where}
+use Rattle.iigs_memory.specs.Spots.{turn_of}
+use Rattle.iigs_memory.proofs.InPlace.{so_far_all}
+use Rattle.iigs_memory.proofs.table.empty_below.Goals as goal
+
+pub returns : goal.returns
+returns c =
+    let all : length c.args.table.now ≤ c.loop-place.place = rw (← c.slots-place-end.ensures.value) c.loop-place-test.false in
+    so_far_all (emptied_where (λ block. nat_lt (turn_of block) c.args.limit)) c.args.table.now c.loop-place.table c.loop-place.place c.loop-place.invariant all

@@ -1,0 +1,7 @@
+pub mod Offsets
+pub mod Open
+pub mod Spots
+pub mod Store
+pub mod Overlay
+pub mod Table
+pub mod Alls

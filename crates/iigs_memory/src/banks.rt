@@ -1,0 +1,383 @@
+//! Memory of banks.
+
+ghost use Rattle.std.specs.Prelude.{◌≡◌, ◌++◌, ◌+◌, All, vec_len, vec_capacity, ◌<◌, ◌≤◌, ℕ, List, ◌-◌, length, take, drop, replicate, slice_set, IsSomeAnd, IsSome, IfOk, IfErr, OnErr, OnOk, [], true, false};
+ghost use Rattle.std.specs.Option.{option_map};
+ghost use Rattle.std.specs.Result.{result_ok};
+ghost use Rattle.std.specs.Borrow.{sem};
+ghost use Rattle.loader_machine.specs.Slots.{get, with_value};
+ghost use Rattle.loader_machine.specs.Fits.{IsWant};
+ghost use Rattle.loader_machine.specs.Memory.{bytes_at, IsLent, IsBlockRefusal, KeepsBut, Changes, IsFreed, IsStale, IsPurged, IsPlaced, IsPlaceRefusal, AreAllPlaced, IsPlaceAllRefusal, IsReplaced, IsReplaceRefusal, IsNew, IsBanksRefusal, AreApart, new_slots, room_of, state_of};
+
+use crate::bank_map::BankMap;
+use crate::part::Part;
+use crate::spots::Spot;
+use crate::table::{
+    Put, clear, clear_all, give, purge_user, put_all, put_block, replace_block, set, start_plan,
+    used_bytes,
+};
+use iigs_handles::{Handles, HandlesFault, SLOTS};
+use loader_machine::{BanksFault, Block, BlockFault, BlockState, Handle, PlaceFault, Stale, Want};
+use std::alloc::{AllocError, Global};
+use std::marker::Model;
+
+/// Banks of memory with blocks under handles.
+#[derive(Drop)]
+pub struct Banks {
+    map: BankMap,
+    table: Handles<Block>,
+    // The bytes of all configured banks.
+    bytes: Vec<u8>,
+    // Scratch space for the placement of several blocks, all or none.
+    plan: Handles<Block>,
+    spots: Vec<Spot>,
+    turns: Vec<u32>,
+    made: Vec<Put>,
+}
+
+impl Model for Banks {
+    ghost use Rattle.std.specs.Prelude.{vec_capacity};
+    ghost use Rattle.loader_machine.specs.Memory.{Memory};
+
+    ghost Value = { Memory };
+
+    ghost use Rattle.iigs_memory.specs.Store.{memory_of, IsStore};
+
+    ghost view = { λ s. memory_of s.map s.table s.bytes.items };
+
+    ghost invariant = { λ s. IsStore s.map s.table s.bytes.items (vec_capacity s.spots) (vec_capacity s.turns) (vec_capacity s.made) };
+}
+
+fn slice(bytes: &[u8], start: usize, end: usize) -> &[u8]
+    requires order { start ≤ end }
+    requires within { end ≤ length bytes.now }
+    ensures { result.now ≡ take (end - start) (drop start bytes.now) }
+{
+    &bytes[start..end]
+}
+
+fn zeros(alloc: Global, size: usize) -> Result<Vec<u8>, AllocError>
+    ensures { IfOk result (λ bytes. length bytes.items ≡ size) }
+{
+    vec![in alloc; 0u8; size]
+}
+
+fn scratch<T>(alloc: Global, count: usize) -> Result<Vec<T>, AllocError>
+    ensures { IfOk result (λ items. count ≤ vec_capacity items) }
+{
+    Vec::with_capacity(alloc, count)
+}
+
+#[tactic(auto, unfolding(loader_machine::specs::Memory::new_slots))]
+fn table(alloc: Global) -> Result<Handles<Block>, AllocError>
+    ensures { IfOk result (λ table. table ≡ new_slots) }
+{
+    match Handles::new(alloc) {
+        Ok(table) => Ok(table),
+        Err(HandlesFault::Memory) => Err(AllocError),
+    }
+}
+
+// What `new` makes beside the map of the banks.
+fn parts(alloc: Global, map: BankMap) -> Result<Banks, AllocError>
+    requires { All (λ bank. bank < 256) map }
+    ensures { IfOk result (λ banks. (banks.banks ≡ map) × (banks.slots ≡ new_slots)) }
+{
+    let bytes = zeros(alloc, map.size())?;
+    Ok(Banks {
+        map,
+        table: table(alloc)?,
+        bytes,
+        plan: table(alloc)?,
+        spots: scratch(alloc, SLOTS)?,
+        turns: scratch(alloc, SLOTS)?,
+        made: scratch(alloc, SLOTS)?,
+    })
+}
+
+impl Banks {
+    ghost use Rattle.iigs_memory.specs.Overlay.{overlaid, lends_block};
+    ghost use Rattle.iigs_memory.specs.Store.{IsPart};
+
+    /// Memory of these banks, without blocks. It takes all the memory that it ever takes.
+    pub fn new(alloc: Global, banks: &[u8]) -> Result<Banks, BanksFault>
+        ensures made { IfOk result (IsNew banks.now) }
+        ensures refused { IfErr result (IsBanksRefusal banks.now) }
+    {
+        let map = match BankMap::new(alloc, banks) {
+            Ok(map) => map,
+            Err(fault) => return Err(fault),
+        };
+        match parts(alloc, map) {
+            Ok(banks) => Ok(banks),
+            Err(_) => Err(BanksFault::Memory),
+        }
+    }
+
+    /// No two blocks share a byte, and each lies in free memory of the banks.
+    pub fn blocks_lie_apart(&self)
+        ensures { AreApart self.now.banks self.now.slots }
+    {
+        let _map = &self.map;
+    }
+
+    // The part of the buffer that a block has which is there.
+    fn part_of(&self, h: Handle) -> Result<Part, BlockFault>
+        ensures part { IfOk result (IsPart self.now h) }
+        ensures refused { IfErr result (IsBlockRefusal self.now h) }
+    {
+        let Ok(block) = self.table.look(h) else {
+            return Err(BlockFault::Stale);
+        };
+        let Some(at) = block.at else {
+            return Err(BlockFault::Empty);
+        };
+        let start = self.map.offset(at);
+        Ok(Part {
+            start,
+            end: start + block.want.size as usize,
+        })
+    }
+
+    /// The bytes of a block.
+    pub fn block(&self, h: Handle) -> Result<&[u8], BlockFault>
+        ensures lent { IfOk result (λ bytes. IsLent self.now h bytes.now) }
+        ensures refused { IfErr result (IsBlockRefusal self.now h) }
+    {
+        let part = self.part_of(h)?;
+        Ok(slice(&self.bytes, part.start, part.end))
+    }
+
+    /// The bytes of a block, to be written. Of the write itself `lend` says more.
+    pub fn block_mut(&mut self, h: Handle) -> Result<&mut [u8], BlockFault>
+        ensures lent { IfOk result (λ bytes. IsLent self.old h bytes.now) }
+        ensures refused { IfErr result (IsBlockRefusal self.old h) }
+    {
+        let part = self.part_of(h)?;
+        Ok(self.bytes.slice_mut(part.start..part.end))
+    }
+
+    /// The bytes of a block that is there, to be written. A caller can follow the write.
+    pub fn lend(&mut self, h: Handle) -> &mut [u8]
+        requires { IsSomeAnd (get self.old.slots h) (λ block. IsSome block.at) }
+        ensures* writes_back { sem 𝓛 (lends_block self.entry h result) }
+        ensures value { result.now ≡ bytes_at self.old h.slot }
+        ensures alone { (w : List ℕ) → length w ≡ length (bytes_at self.old h.slot)
+            → overlaid self.old h w ≡ record self.old { bytes = slice_set self.old.bytes h.slot w } }
+    {
+        let part = match self.part_of(h) {
+            Ok(part) => part,
+            Err(BlockFault::Stale) => unreachable!(),
+            Err(BlockFault::Empty) => unreachable!(),
+        };
+        self.bytes.slice_mut(part.start..part.end)
+    }
+
+    // The block of a handle, which is there.
+    fn there(&self, h: Handle) -> Result<Block, BlockFault>
+        ensures there { IfOk result (λ block. (get self.now.slots h ≡ Some block) × IsSome block.at) }
+        ensures level { IfOk result (λ block. block.level < 256) }
+        ensures refused { IfErr result (IsBlockRefusal self.now h) }
+    {
+        let Ok(block) = self.table.look(h) else {
+            return Err(BlockFault::Stale);
+        };
+        if block.at.is_none() {
+            return Err(BlockFault::Empty);
+        }
+        Ok(*block)
+    }
+
+    // Puts a block in the place of a live handle's, with its place and size.
+    fn put(&mut self, h: Handle, block: Block)
+        requires same { IsSomeAnd (get self.old.slots h) (λ old. (block.at ≡ old.at) × (block.want ≡ old.want)) }
+        requires level { block.level < 256 }
+        ensures slots { self.new.slots ≡ with_value self.old.slots h block }
+        ensures kept { KeepsBut self.old self.new [] }
+    {
+        set(&mut self.table, h, block);
+    }
+
+    /// Locks a block, so that no placement purges it.
+    pub fn lock(&mut self, h: Handle) -> Result<(), BlockFault>
+        ensures changed { IfOk result (λ _. Changes self.old h (λ block. record block { locked = true }) self.new) }
+        ensures refused { IfErr result (IsBlockRefusal self.old h) }
+        ensures err { OnErr result (self.new ≡ self.old) }
+    {
+        let block = self.there(h)?;
+        self.put(
+            h,
+            Block {
+                locked: true,
+                ..block
+            },
+        );
+        Ok(())
+    }
+
+    /// Unlocks a block.
+    pub fn unlock(&mut self, h: Handle) -> Result<(), BlockFault>
+        ensures changed { IfOk result (λ _. Changes self.old h (λ block. record block { locked = false }) self.new) }
+        ensures refused { IfErr result (IsBlockRefusal self.old h) }
+        ensures err { OnErr result (self.new ≡ self.old) }
+    {
+        let block = self.there(h)?;
+        self.put(
+            h,
+            Block {
+                locked: false,
+                ..block
+            },
+        );
+        Ok(())
+    }
+
+    /// Sets how willingly a block is purged: 0 never, the highest level first.
+    pub fn set_level(&mut self, h: Handle, level: u8) -> Result<(), BlockFault>
+        ensures changed { IfOk result (λ _. Changes self.old h (λ block. record block { level = level }) self.new) }
+        ensures refused { IfErr result (IsBlockRefusal self.old h) }
+        ensures err { OnErr result (self.new ≡ self.old) }
+    {
+        let block = self.there(h)?;
+        self.put(h, Block { level, ..block });
+        Ok(())
+    }
+
+    /// Releases a handle, and with it its block.
+    pub fn free(&mut self, h: Handle) -> Result<(), BlockFault>
+        ensures freed { IfOk result (λ _. IsFreed self.old h self.new) }
+        ensures refused { IfErr result (IsStale self.old h) }
+        ensures err { OnErr result (self.new ≡ self.old) }
+    {
+        let Ok(_) = self.table.release(h) else {
+            return Err(BlockFault::Stale);
+        };
+        Ok(())
+    }
+
+    /// What is told of a handle's block, whether it is there or was purged.
+    pub fn state(&self, h: Handle) -> Result<BlockState, BlockFault>
+        ensures state { result_ok result ≡ option_map state_of (get self.now.slots h) }
+        ensures refused { IfErr result (IsStale self.now h) }
+    {
+        match self.table.look(h) {
+            Ok(block) => Ok(BlockState {
+                at: block.at,
+                size: block.want.size,
+                user: block.user,
+                level: block.level,
+                locked: block.locked,
+            }),
+            Err(Stale) => Err(BlockFault::Stale),
+        }
+    }
+
+    /// Purges the purgeable blocks of a user, and counts them.
+    pub fn purge_user(&mut self, user: u16) -> u32
+        ensures { IsPurged self.old user result self.new }
+    {
+        purge_user(&mut self.table, user)
+    }
+
+    /// Places a block under a new handle. It is all zeros. Blocks are purged for it as needed.
+    pub fn place(
+        &mut self,
+        want: &Want,
+        user: u16,
+        locked: bool,
+        level: u8,
+    ) -> Result<Handle, PlaceFault>
+        requires want { IsWant want.now }
+        ensures placed { IfOk result (λ h. IsPlaced self.old want.now user locked level h self.new) }
+        ensures refused { IfErr result (IsPlaceRefusal self.old want.now) }
+        ensures err { OnErr result (self.new ≡ self.old) }
+    {
+        let put = match put_block(
+            &self.map,
+            &mut self.table,
+            &mut self.spots,
+            &mut self.turns,
+            want,
+            user,
+            locked,
+            level,
+        ) {
+            Ok(put) => put,
+            Err(fault) => return Err(fault),
+        };
+        clear(&mut self.bytes, self.map.offset(put.at), want.size as usize);
+        Ok(put.handle)
+    }
+
+    /// Places an empty block anew under its handle. It is all zeros, and keeps its user, level and lock.
+    pub fn replace(&mut self, h: Handle, want: &Want) -> Result<(), PlaceFault>
+        requires want { IsWant want.now }
+        ensures replaced { IfOk result (λ _. IsReplaced self.old h want.now self.new) }
+        ensures refused { IfErr result (IsReplaceRefusal self.old h want.now) }
+        ensures err { OnErr result (self.new ≡ self.old) }
+    {
+        let at = match replace_block(
+            &self.map,
+            &mut self.table,
+            &mut self.spots,
+            &mut self.turns,
+            h,
+            want,
+        ) {
+            Ok(at) => at,
+            Err(fault) => return Err(fault),
+        };
+        clear(&mut self.bytes, self.map.offset(at), want.size as usize);
+        Ok(())
+    }
+
+    /// Places blocks for these wants in order, locked with level 0, all or none. With `fresh` the user's handles are
+    /// released first.
+    pub fn place_all(
+        &mut self,
+        user: u16,
+        fresh: bool,
+        wants: &[Want],
+        handles: &mut [Handle],
+    ) -> Result<(), PlaceFault>
+        requires wants { All IsWant wants.now }
+        requires lengths { length handles.old ≡ length wants.now }
+        ensures placed { OnOk result (AreAllPlaced self.old user fresh wants.now handles.new self.new) }
+        ensures refused { IfErr result (IsPlaceAllRefusal self.old user fresh wants.now) }
+        ensures err { OnErr result (self.new ≡ self.old) }
+        ensures handles_kept { OnErr result (handles.new ≡ handles.old) }
+    {
+        start_plan(&mut self.plan, &self.table, user, fresh);
+        if (self.plan.left() as usize) < wants.len() {
+            return Err(PlaceFault::NoHandle);
+        }
+        match put_all(
+            &self.map,
+            &mut self.plan,
+            &mut self.spots,
+            &mut self.turns,
+            &mut self.made,
+            user,
+            wants,
+        ) {
+            Ok(()) => {}
+            Err(fault) => return Err(fault),
+        }
+        self.table.copy_from(&self.plan);
+        clear_all(&self.map, &mut self.bytes, wants, &self.made);
+        give(&self.made, handles);
+        Ok(())
+    }
+
+    /// How many bytes of free memory lie in no block.
+    pub fn room(&self) -> u32
+        ensures { result ≡ room_of self.now }
+    {
+        let free = self.map.free_bytes();
+        let used = used_bytes(self.table.slots());
+        if used < u64::from(free) {
+            free - used as u32
+        } else {
+            0
+        }
+    }
+}

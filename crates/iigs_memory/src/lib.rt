@@ -1,0 +1,18 @@
+//! Memory of banks: where blocks are placed under handles, which are purged for them, and their bytes.
+//!
+//! `Banks` takes all of its memory when it is made. No other call takes any, so none refuses for want of memory.
+#![tactic(auto)]
+
+mod bank_map;
+mod banks;
+mod open;
+mod part;
+mod search;
+mod spots;
+mod table;
+#[cfg(test)]
+mod tests;
+
+pub use banks::Banks;
+pub use iigs_handles::Handle;
+pub use loader_machine::{BanksFault, Block, BlockFault, BlockState, PlaceFault, Want};

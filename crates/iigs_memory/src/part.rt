@@ -1,0 +1,8 @@
+//! Parts of the buffer of all banks' bytes.
+
+/// Bytes of the buffer, from one place up to another.
+#[derive(Clone, Copy)]
+pub struct Part {
+    pub start: usize,
+    pub end: usize,
+}

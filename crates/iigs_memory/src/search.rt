@@ -1,0 +1,130 @@
+//! The search for the least address at which a want fits beside blocks.
+
+ghost use Rattle.std.specs.Prelude.{◌≡◌, ◌⊎◌, ℕ, ◌+◌, ◌-◌, ◌^◌, ◌<◌, ◌≤◌, All, length, slice_index_or, MatchOption, vec_capacity};
+ghost use Rattle.loader_machine.specs.Placement.{HasNoRoom};
+ghost use Rattle.std.specs.List.Sorted.{IsNonDecreasingBy};
+ghost use Rattle.loader_machine.specs.Fits.{IsWant};
+ghost use Rattle.iigs_memory.specs.declared.spots.Spot.{Spot};
+ghost use Rattle.iigs_memory.specs.Spots.{FitsAmong, IsLeastAmong, IsPast, IsFewestAmong, FitsWithNone, limit_of, never, IsBoundedSlot, IsFound};
+
+use crate::bank_map::BankMap;
+use crate::open::next_open;
+use crate::spots::{Spot, survey};
+use loader_machine::{Block, Slot, Want};
+
+/// Where a want goes, and which blocks are purged for it.
+#[derive(Clone, Copy)]
+pub struct Found {
+    /// Blocks with a turn below this one are purged.
+    pub limit: u32,
+    /// The address.
+    pub at: u32,
+}
+
+// The place of the first block from `from` on that isn't purged and ends after the address.
+fn first_after(spots: &[Spot], from: usize, limit: u32, address: u32) -> usize
+    requires { from ≤ length spots.now }
+    ensures after { from ≤ result }
+    ensures within { result ≤ length spots.now }
+    ensures past { (k : ℕ) (d : Spot) → from ≤ k → k < result → IsPast limit address (slice_index_or spots.now k d) }
+    ensures here { (d : Spot) → result < length spots.now → (limit ≤ (slice_index_or spots.now result d).turn) × (address < (slice_index_or spots.now result d).end) }
+{
+    for place in from..spots.len() {
+        let spot = &spots[place];
+        if limit <= spot.turn && address < spot.end {
+            return place;
+        }
+    }
+    spots.len()
+}
+
+/// The least address at which the want fits beside all blocks whose turn isn't below the limit. The blocks stand in
+/// order of address.
+pub fn least_among(map: &BankMap, want: &Want, spots: &[Spot], limit: u32) -> Option<u32>
+    requires want { IsWant want.now }
+    requires order { IsNonDecreasingBy (λ spot. spot.at) spots.now }
+    requires ends { All (λ spot. spot.end ≤ 2 ^ 24) spots.now }
+    ensures { MatchOption result ((address : ℕ) → ¬ FitsAmong map.now want.now spots.now limit address)
+        (IsLeastAmong map.now want.now spots.now limit) }
+{
+    let mut from = 0;
+    let mut index = 0;
+    while let Some(place) = next_open(map, want, from) {
+        index = first_after(spots, index, limit, place);
+        let Some(spot) = spots.get(index) else {
+            return Some(place);
+        };
+        if place + want.size <= spot.at {
+            return Some(place);
+        }
+        from = spot.end;
+    }
+    None
+}
+
+// The turn below which the first so many purgeable blocks lie.
+#[tactic(auto, unfolding(crate::specs::Spots::limit_of))]
+fn limit_at(turns: &[u32], count: usize) -> u32
+    requires count { count ≤ length turns.now }
+    requires small { All (λ turn. turn < never) turns.now }
+    ensures { result ≡ limit_of turns.now count }
+{
+    if count == 0 { 0 } else { turns[count - 1] + 1 }
+}
+
+/// The least address at which the want fits, and the fewest blocks that are purged for it. The turns of those that may
+/// be purged stand in order.
+pub fn fewest(map: &BankMap, want: &Want, spots: &[Spot], turns: &[u32]) -> Option<Found>
+    requires want { IsWant want.now }
+    requires order { IsNonDecreasingBy (λ spot. spot.at) spots.now }
+    requires ends { All (λ spot. spot.end ≤ 2 ^ 24) spots.now }
+    requires rises { IsNonDecreasingBy (λ turn. turn) turns.now }
+    requires small { All (λ turn. turn < never) turns.now }
+    ensures { MatchOption result (FitsWithNone map.now want.now spots.now turns.now)
+        (IsFewestAmong map.now want.now spots.now turns.now) }
+{
+    if let Some(at) = least_among(map, want, spots, 0) {
+        return Some(Found { limit: 0, at });
+    }
+    let all = limit_at(turns, turns.len());
+    let Some(mut at) = least_among(map, want, spots, all) else {
+        return None;
+    };
+    let mut none = 0;
+    let mut count = turns.len();
+    while count - none > 1 {
+        let middle = none + (count - none) / 2;
+        match least_among(map, want, spots, limit_at(turns, middle)) {
+            None => none = middle,
+            Some(nearer) => {
+                count = middle;
+                at = nearer;
+            }
+        }
+    }
+    Some(Found {
+        limit: limit_at(turns, count),
+        at,
+    })
+}
+
+/// Where the want goes among the blocks in these slots, and which are purged for it. `spots` and `turns` are scratch
+/// space with room for all blocks.
+pub fn find(
+    map: &BankMap,
+    want: &Want,
+    slots: &[Slot<Block>],
+    spots: &mut Vec<Spot>,
+    turns: &mut Vec<u32>,
+) -> Option<Found>
+    requires want { IsWant want.now }
+    requires bounded { All IsBoundedSlot slots.now }
+    requires spots_room { length slots.now ≤ vec_capacity spots.old }
+    requires turns_room { length slots.now ≤ vec_capacity turns.old }
+    ensures found { MatchOption result (HasNoRoom map.now slots.now want.now) (IsFound map.now slots.now want.now) }
+    ensures spots_capacity { vec_capacity spots.old ≤ vec_capacity spots.new }
+    ensures turns_capacity { vec_capacity turns.old ≤ vec_capacity turns.new }
+{
+    survey(slots, spots, turns);
+    fewest(map, want, spots, turns)
+}

@@ -1,0 +1,46 @@
+-- Which blocks are purged for a want, and where it goes.
+use Rattle.std.specs.Prelude.{◌≡◌, ℕ, Bool, false, ◌==◌, ◌&&◌, ◌||◌, not, nat_lt, ◌<◌, ◌≤◌, List, map, count_by, Option, None, is_some, unwrap_or, if◌then◌else◌}
+use Rattle.std.specs.Option.{option_map_or}
+use Rattle.loader_machine.specs.declared.slots.Slot.{Slot}
+use Rattle.loader_machine.specs.declared.slots.Content.TheVariants.{Used}
+use Rattle.loader_machine.specs.declared.wants.Want.{Want}
+use Rattle.loader_machine.specs.declared.wants.Block.{Block}
+use Rattle.loader_machine.specs.Fits.{Fits, block_in}
+
+-- a block that is there is purgeable where it isn't locked and its level isn't 0
+unfoldable pub can_purge : Block → Bool
+can_purge block = is_some block.at && not block.locked && not (block.level == 0)
+
+-- in purge order the highest level is first, then the lowest address
+unfoldable pub goes_before : Block → Block → Bool
+goes_before one other = nat_lt other.level one.level
+    || (one.level == other.level && nat_lt (unwrap_or one.at 0) (unwrap_or other.at 0))
+
+-- how many purgeable blocks go before this one
+unfoldable pub rank : List (Slot Block) → Block → ℕ
+rank slots block = count_by (λ slot. option_map_or (λ one. can_purge one && goes_before one block) (block_in slot) false) slots
+
+-- the block is one of the first so many purgeable ones
+unfoldable pub is_gone : List (Slot Block) → ℕ → Block → Bool
+is_gone slots count block = can_purge block && nat_lt (rank slots block) count
+
+-- the slot with its block emptied where that passes the test; an empty block keeps all but its place
+abbrev pub emptied_where : (Block → Bool) → Slot Block → Slot Block
+emptied_where test slot = option_map_or
+    (λ block. if test block then (record { generation = slot.generation; content = Used (record block { at = None }) }) else slot)
+    (block_in slot) slot
+
+-- the slots with the first so many purgeable blocks emptied
+unfoldable pub emptied : List (Slot Block) → ℕ → List (Slot Block)
+emptied slots count = map (emptied_where (is_gone slots count)) slots
+
+-- the want goes to the least address that fits once the first so many purgeable blocks are emptied, for the fewest
+-- with which any address fits
+pub record GoesTo (banks : List ℕ) (slots : List (Slot Block)) (want : Want) (count address : ℕ) : Type 0 where
+  pub fits : Fits banks (emptied slots count) want address
+  pub least : (other : ℕ) → Fits banks (emptied slots count) want other → address ≤ other
+  pub fewest : (fewer : ℕ) → fewer < count → (other : ℕ) → ¬ Fits banks (emptied slots fewer) want other
+
+-- the want fits nowhere, whatever is purged
+abbrev pub HasNoRoom : List ℕ → List (Slot Block) → Want → Type 0
+HasNoRoom banks slots want = (count address : ℕ) → ¬ Fits banks (emptied slots count) want address
