@@ -2,6 +2,8 @@
 #![tactic(auto)]
 
 #[cfg(test)]
+mod dumping;
+#[cfg(test)]
 mod headers;
 #[cfg(test)]
 mod linking;

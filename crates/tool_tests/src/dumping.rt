@@ -1,0 +1,102 @@
+// Listings and faults as they are printed. Expected lines are written by hand from the rules of the listing.
+use crate::linking::{LOAD_FILE, OBJECT, changed, ends, run_words};
+use omf_cli::Status;
+use std::alloc::Global;
+use std::test::Fail;
+
+/// The listing of the load file.
+const LISTING: &[u8] =
+    b"segment 1 at 00000000 kind 0000 length 00000008 resspc 00000005 banksize 00010000 align 00000000 org 00000000 entry 00000000 loadname \"          \" segname \"\"\n00000037 LCONST 00000003 A90160\n0000003F END\n";
+
+/// Dumps a file while nothing outside fails, and says whether it ended so.
+fn dumps(alloc: Global, file: &[u8], status: Status, text: &[u8]) -> Result<bool, Fail> {
+    let run = run_words(alloc, "dump obj", file, Vec::new(alloc), Vec::new(alloc))?;
+    Ok(ends(&run, status, text, None))
+}
+
+#[test]
+fn segments_and_records_are_listed(rt: HostRuntime) -> Result<(), Fail> {
+    let alloc = rt.alloc();
+    assert!(rt; dumps(alloc, &LOAD_FILE, Status::Done, LISTING)?);
+    assert!(rt; dumps(alloc, &[], Status::Done, b"")?);
+
+    // 17 constants, of which 16 are shown, and a name with a quote.
+    let mut long = changed(alloc, &[(0, 0x4B), (0x37, 0x22), (0x38, 17)])?;
+    long.truncate(0x3C);
+    long.extend_from_slice(&[0xAB; 14])?;
+    long.push(0)?;
+    assert!(rt;
+        dumps(
+            alloc,
+            &long,
+            Status::Done,
+            b"segment 1 at 00000000 kind 0000 length 00000008 resspc 00000000 banksize 00010000 align 00000000 org 00000000 entry 00000000 loadname \"          \" segname \"?\"\n00000038 CONST 00000011 A90160ABABABABABABABABABABABABAB..\n0000004A END\n"
+        )?
+    );
+    Ok(())
+}
+
+/// Whether a change of the object is told with this line alone.
+fn told(alloc: Global, changes: &[(usize, u8)], line: &[u8]) -> Result<bool, Fail> {
+    let object = changed(alloc, changes)?;
+    dumps(alloc, &object, Status::Refused, line)
+}
+
+#[test]
+fn the_first_fault_is_told(rt: HostRuntime) -> Result<(), Fail> {
+    let alloc = rt.alloc();
+    assert!(rt;
+        dumps(
+            alloc,
+            &OBJECT[..43],
+            Status::Refused,
+            b"refused Truncated 1 1 0000002B\n"
+        )?
+    );
+
+    // NUMLEN, a DISPNAME of $2B, RESSPC above LENGTH, an unknown code, a constant that runs past the segment, no END.
+    assert!(rt; told(alloc, &[(0x0E, 2)], b"refused Unsupported 1 1 0000000E\n")?);
+    assert!(rt; told(alloc, &[(0x28, 0x2B)], b"refused BadHeader 1 1 00000028\n")?);
+    assert!(rt; told(alloc, &[(0x04, 9)], b"refused BadHeader 1 1 00000004\n")?);
+    assert!(rt;
+        told(
+            alloc,
+            &[(0x3C, 0xFA)],
+            b"refused Unsupported 1 1 0000003C\n"
+        )?
+    );
+    assert!(rt; told(alloc, &[(0x38, 0xDF)], b"refused Truncated 1 1 00000042\n")?);
+    assert!(rt; told(alloc, &[(0x41, 1)], b"refused Truncated 1 1 00000042\n")?);
+
+    // In the second segment.
+    let mut two = OBJECT.to_vec(alloc)?;
+    let other = changed(alloc, &[(0x3C, 0xFA)])?;
+    two.extend_from_slice(&other)?;
+    assert!(rt;
+        dumps(
+            alloc,
+            &two,
+            Status::Refused,
+            b"refused Unsupported 1 2 0000007E\n"
+        )?
+    );
+    Ok(())
+}
+
+#[test]
+fn failures_of_a_dump_are_told(rt: HostRuntime) -> Result<(), Fail> {
+    let alloc = rt.alloc();
+    let calm = Vec::new(alloc);
+    let unread = run_words(
+        alloc,
+        "dump obj",
+        &LOAD_FILE,
+        vec![in alloc; 1]?,
+        Vec::new(alloc),
+    )?;
+    assert!(rt; ends(&unread, Status::CannotRead, b"cannot read obj\n", None));
+    let half = &LISTING[..LISTING.len() / 2];
+    let cut = run_words(alloc, "dump obj", &LOAD_FILE, calm, vec![in alloc; 1]?)?;
+    assert!(rt; ends(&cut, Status::CannotPrint, half, None));
+    Ok(())
+}
