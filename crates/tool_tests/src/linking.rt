@@ -6,14 +6,14 @@ use std::alloc::{AllocError, Global};
 use std::test::Fail;
 
 /// An object: a code segment `A` of three constant bytes and five zeros.
-pub const OBJECT: [u8; 66] = [
+pub(crate) const OBJECT: [u8; 66] = [
     0x42, 0, 0, 0, 0, 0, 0, 0, 8, 0, 0, 0, 0, 0, 4, 2, 0, 0, 1, 0, 0, 0, 0, 0, 0, 0, 0, 0, 0, 0, 0,
     0, 0, 0, 1, 0, 0, 0, 0, 0, 0x2C, 0, 0x38, 0, 0x20, 0x20, 0x20, 0x20, 0x20, 0x20, 0x20, 0x20,
     0x20, 0x20, 1, 0x41, 3, 0xA9, 1, 0x60, 0xF1, 5, 0, 0, 0, 0,
 ];
 
 /// Its load file: the zeros at the end are in RESSPC.
-pub const LOAD_FILE: [u8; 64] = [
+pub(crate) const LOAD_FILE: [u8; 64] = [
     0x40, 0, 0, 0, 5, 0, 0, 0, 8, 0, 0, 0, 0, 0, 4, 2, 0, 0, 1, 0, 0, 0, 0, 0, 0, 0, 0, 0, 0, 0, 0,
     0, 0, 0, 1, 0, 0, 0, 0, 0, 0x2C, 0, 0x37, 0, 0x20, 0x20, 0x20, 0x20, 0x20, 0x20, 0x20, 0x20,
     0x20, 0x20, 0, 0xF2, 3, 0, 0, 0, 0xA9, 1, 0x60, 0,
@@ -41,15 +41,15 @@ const USAGE: &[u8] = b"usage: omf asm, link, lib, dump, run or stress\n";
 
 /// What a run of the tool left.
 #[derive(Drop)]
-pub struct Run {
-    pub status: Status,
-    pub files: MemoryFiles,
-    pub out: MemorySink,
+pub(crate) struct Run {
+    pub(crate) status: Status,
+    pub(crate) files: MemoryFiles,
+    pub(crate) out: MemorySink,
 }
 
 /// Runs the tool on words that stand with spaces between them, over a store that holds one file at `obj`. The calls of
 /// the store and of the sink that fail are given by their numbers.
-pub fn run_words(
+pub(crate) fn run_words(
     alloc: Global,
     words: &str,
     object: &[u8],
@@ -68,12 +68,12 @@ pub fn run_words(
 }
 
 /// Whether a run ended so: with this status, this text, and these bytes at `out`.
-pub fn ends(run: &Run, status: Status, text: &[u8], output: Option<&[u8]>) -> bool {
+pub(crate) fn ends(run: &Run, status: Status, text: &[u8], output: Option<&[u8]>) -> bool {
     run.status == status && run.out.bytes() == text && run.files.get("out") == output
 }
 
 /// The object with bytes changed at displacements.
-pub fn changed(alloc: Global, changes: &[(usize, u8)]) -> Result<Vec<u8>, AllocError> {
+pub(crate) fn changed(alloc: Global, changes: &[(usize, u8)]) -> Result<Vec<u8>, AllocError> {
     let mut bytes = OBJECT.to_vec(alloc)?;
     for (at, value) in changes {
         if let Some(byte) = bytes.get_mut(*at) {
