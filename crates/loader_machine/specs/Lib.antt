@@ -5,3 +5,4 @@ pub mod Free
 pub mod Fits
 pub mod Placement
 pub mod Memory
+pub mod Command
