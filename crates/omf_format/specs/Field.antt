@@ -1,5 +1,6 @@
 -- Fields: each is a value taken from the front of the bytes, with the bytes behind it, or what is wrong with it.
-use Rattle.std.specs.Prelude.{◌≡◌, ℕ, zero, suc, ◌-◌, ◌≤◌, List, ◌∷◌, ◌++◌, length, take, drop, replicate, Result, Ok, Err, nat_lt, ◌==◌, if◌then◌else◌}
+use Rattle.std.specs.Prelude.{◌≡◌, ℕ, zero, suc, ◌-◌, ◌≤◌, Bool, ◌&&◌, ℤ, pos, negsuc, int_le, List, [], ◌∷◌, ◌++◌, length, take, drop, replicate, Result, Ok, Err, nat_lt, nat_le, ◌==◌, if◌then◌else◌}
+use Rattle.std.specs.Int.{w8, cast_signed, cast_unsigned}
 use Rattle.omf_format.specs.declared.fault.Flaw.{Flaw}
 use Rattle.omf_format.specs.declared.fault.Flaw.TheVariants.{Cut, Broken}
 use Rattle.omf_format.specs.Number.{number_at}
@@ -10,6 +11,10 @@ infixl 10 ◌>>=◌
 abbrev pub ◌>>=◌ : {A B E : Type 0} → Result A E → (A → Result B E) → Result B E
 (Ok x) >>= f = f x
 (Err e) >>= f = Err e
+
+-- how a field is read from the front of the bytes
+abbrev pub Reads : Type 0 → Type 0
+Reads A = List ℕ → Result (A × List ℕ) Flaw
 
 -- so many bytes as they are
 unfoldable pub bytes_field : ℕ → List ℕ → Result (List ℕ × List ℕ) Flaw
@@ -25,6 +30,42 @@ name_field lab_len bytes =
     if nat_lt (length bytes) (name_size lab_len 0 bytes) then Err Cut
     else if length (name_at lab_len 0 bytes) == 0 then Err Broken
     else Ok (name_at lab_len 0 bytes, drop (name_size lab_len 0 bytes) bytes)
+
+-- one byte
+unfoldable pub byte_field : Reads ℕ
+byte_field [] = Err Cut
+byte_field (byte ∷ rest) = Ok (byte, rest)
+
+infixr 20 ◌⊗◌
+-- a field, and another one behind it
+abbrev pub ◌⊗◌ : {A B : Type 0} → Reads A → Reads B → Reads (A × B)
+(first ⊗ second) bytes = first bytes >>= λ a. second a.1 >>= λ b. Ok ((a.0, b.0), b.1)
+
+-- a field whose value has to pass a test
+abbrev pub checked : {A : Type 0} → (A → Bool) → Flaw → Reads A → Reads A
+checked test flaw read bytes = read bytes >>= λ x. if test x.0 then Ok x else Err flaw
+
+-- fields of which something is made
+abbrev pub taken_as : {A B : Type 0} → (A → B) → Reads A → Reads B
+taken_as make read bytes = read bytes >>= λ x. Ok (make x.0, x.1)
+
+-- a count of bytes is 1 to 4
+abbrev pub is_count : ℕ → Bool
+is_count n = nat_le 1 n && nat_le n 4
+
+unfoldable pub count_field : Reads ℕ
+count_field = checked is_count Broken byte_field
+
+-- a shift is a number from -31 to 31; positive shifts left, negative right
+abbrev pub is_shift : ℤ → Bool
+is_shift count = int_le (negsuc 30) count && int_le count (pos 31)
+
+-- it stands as a byte in two's complement
+abbrev pub shift_byte : ℤ → ℕ
+shift_byte shift = cast_unsigned w8 shift
+
+unfoldable pub shift_field : Reads ℤ
+shift_field = checked is_shift Broken (taken_as (cast_signed w8) byte_field)
 
 -- the bytes of a name: with LABLEN 0 a length byte and the name, else the name and spaces up to LABLEN bytes
 unfoldable pub name_text : ℕ → List ℕ → List ℕ

@@ -2,6 +2,7 @@ pub mod Number
 pub mod Name
 pub mod Field
 pub mod Header
+pub mod Super
 pub mod Record
 pub mod Reading
 pub mod File

@@ -1,34 +1,116 @@
 -- Reading a body from left to right, record by record, with the first fault that is met.
-use Rattle.std.specs.Prelude.{◌≡◌, ℕ, ◌-◌, Bool, true, false, List, [], ◌∷◌, length, slice_index, Option, Some, None, Result, Ok, Err, nat_lt, ◌==◌, if◌then◌else◌}
+use Rattle.std.specs.Prelude.{◌≡◌, ℕ, ◌-◌, ◌^◌, ℤ, Bool, true, false, List, [], ◌∷◌, length, slice_index, Option, Some, None, Result, Ok, Err, nat_lt, ◌==◌, if◌then◌else◌}
 use Rattle.omf_format.specs.declared.fault.Flaw.{Flaw}
 use Rattle.omf_format.specs.declared.fault.Flaw.TheVariants.{Cut, Unread, Broken}
 use Rattle.omf_format.specs.declared.fault.RecordFault.{RecordFault}
 use Rattle.omf_format.specs.declared.fault.RecordFault.TheVariants.{Truncated, Unsupported, BadRecord}
-use Rattle.omf_format.specs.Field.{◌>>=◌, bytes_field, number_field}
-use Rattle.omf_format.specs.Record.{Record, End, Const, LongConst, Space}
+use Rattle.omf_format.specs.Field.{◌>>=◌, Reads, ◌⊗◌, checked, taken_as, byte_field, bytes_field, number_field, name_field, count_field, shift_field}
+use Rattle.omf_format.specs.Expression.{expression_field}
+use Rattle.omf_format.specs.Super.{is_super, are_pages}
+use Rattle.omf_format.specs.Record.{Record, End, Const, LongConst, Align, Org, Space, Reloc, InterSeg, ShortReloc, ShortInterSeg, Super, Using, Strong, Label, Equate, Formula}
 
--- what stands behind each code: the record and the bytes after it, or what is wrong first
-unfoldable pub constant_field : ℕ → List ℕ → Result (Record × List ℕ) Flaw
-constant_field n rest = bytes_field n rest >>= λ bytes. Ok (Const bytes.0, bytes.1)
+-- ---- what stands behind each code: the record and the bytes after it, or what is wrong first
 
-unfoldable pub long_constant_field : List ℕ → Result (Record × List ℕ) Flaw
-long_constant_field rest = do
-  n ← number_field 4 rest
-  bytes ← bytes_field n.0 n.1
-  Ok (LongConst bytes.0, bytes.1)
+unfoldable pub constant_field : ℕ → Reads Record
+constant_field n = taken_as Const (bytes_field n)
 
-unfoldable pub space_field : List ℕ → Result (Record × List ℕ) Flaw
-space_field rest = number_field 4 rest >>= λ n. Ok (Space n.0, n.1)
+unfoldable pub long_constant_field : Reads Record
+long_constant_field rest = number_field 4 rest >>= λ n. taken_as LongConst (bytes_field n.0) n.1
+
+unfoldable pub align_field : Reads Record
+align_field = taken_as Align (number_field 4)
+
+-- a negative number would move the location counter back
+unfoldable pub org_field : Reads Record
+org_field = taken_as Org (checked (λ n. nat_lt n (2 ^ 31)) Unread (number_field 4))
+
+unfoldable pub space_field : Reads Record
+space_field = taken_as Space (number_field 4)
+
+unfoldable pub patch_field : Reads (ℕ × ℤ)
+patch_field = count_field ⊗ shift_field
+
+unfoldable pub reloc_field : Reads Record
+reloc_field = taken_as (λ x. Reloc x.0.0 x.0.1 x.1.0 x.1.1) (patch_field ⊗ number_field 4 ⊗ number_field 4)
+
+unfoldable pub interseg_field : Reads Record
+interseg_field = taken_as (λ x. InterSeg x.0.0 x.0.1 x.1.0 x.1.1.0 x.1.1.1.0 x.1.1.1.1)
+    (patch_field ⊗ number_field 4 ⊗ number_field 2 ⊗ number_field 2 ⊗ number_field 4)
+
+unfoldable pub short_reloc_field : Reads Record
+short_reloc_field = taken_as (λ x. ShortReloc x.0.0 x.0.1 x.1.0 x.1.1) (patch_field ⊗ number_field 2 ⊗ number_field 2)
+
+unfoldable pub short_interseg_field : Reads Record
+short_interseg_field = taken_as (λ x. ShortInterSeg x.0.0 x.0.1 x.1.0 x.1.1.0 x.1.1.1) (patch_field ⊗ number_field 2 ⊗ byte_field ⊗ number_field 2)
+
+-- the length counts the type and the subrecords; the subrecords are one field
+unfoldable pub super_field : Reads Record
+super_field rest = do
+  size ← checked (nat_lt 0) Broken (number_field 4) rest
+  form ← checked is_super Unread byte_field size.1
+  bytes ← checked are_pages Broken (bytes_field (size.0 - 1)) form.1
+  Ok (Super form.0 bytes.0, bytes.1)
+
+unfoldable pub using_field : ℕ → Reads Record
+using_field lab_len = taken_as Using (name_field lab_len)
+
+unfoldable pub strong_field : ℕ → Reads Record
+strong_field lab_len = taken_as Strong (name_field lab_len)
+
+-- a label's size, type and private flag
+unfoldable pub attributes_field : Reads (ℕ × (ℕ × ℕ))
+attributes_field = number_field 2 ⊗ byte_field ⊗ byte_field
+
+unfoldable pub label_field : ℕ → Bool → Reads Record
+label_field lab_len global = taken_as (λ x. Label global x.0 x.1.0 x.1.1.0 x.1.1.1) (name_field lab_len ⊗ attributes_field)
+
+unfoldable pub equate_field : ℕ → Bool → Reads Record
+equate_field lab_len global = taken_as (λ x. Equate global x.0 x.1.0.0 x.1.0.1.0 x.1.0.1.1 x.1.1)
+    (name_field lab_len ⊗ attributes_field ⊗ expression_field lab_len)
+
+unfoldable pub formula_field : ℕ → ℕ → Reads Record
+formula_field lab_len code = taken_as (λ x. Formula code x.0 0 x.1) (count_field ⊗ expression_field lab_len)
+
+unfoldable pub distance_field : ℕ → Reads Record
+distance_field lab_len = taken_as (λ x. Formula 0xEE x.0 x.1.0 x.1.1) (count_field ⊗ number_field 4 ⊗ expression_field lab_len)
+
+-- the codes from $E0 on, each with what stands behind it
+unfoldable pub rows : ℕ → List (ℕ × Reads Record)
+rows lab_len =
+    (0xE0, align_field)
+    ∷ (0xE1, org_field)
+    ∷ (0xE2, reloc_field)
+    ∷ (0xE3, interseg_field)
+    ∷ (0xE4, using_field lab_len)
+    ∷ (0xE5, strong_field lab_len)
+    ∷ (0xE6, label_field lab_len true)
+    ∷ (0xE7, equate_field lab_len true)
+    ∷ (0xEB, formula_field lab_len 0xEB)
+    ∷ (0xEC, formula_field lab_len 0xEC)
+    ∷ (0xED, formula_field lab_len 0xED)
+    ∷ (0xEE, distance_field lab_len)
+    ∷ (0xEF, label_field lab_len false)
+    ∷ (0xF0, equate_field lab_len false)
+    ∷ (0xF1, space_field)
+    ∷ (0xF2, long_constant_field)
+    ∷ (0xF3, formula_field lab_len 0xF3)
+    ∷ (0xF5, short_reloc_field)
+    ∷ (0xF6, short_interseg_field)
+    ∷ (0xF7, super_field)
+    ∷ []
+
+-- what a row of these with the code reads; other codes aren't read
+abbrev pub by_code : List (ℕ × Reads Record) → ℕ → Reads Record
+by_code [] code rest = Err Unread
+by_code (row ∷ more) code rest = if code == row.0 then row.1 rest else by_code more code rest
 
 -- the record at the front of the bytes, and the bytes behind it
-unfoldable pub front : ℕ → List ℕ → Result (Record × List ℕ) Flaw
+unfoldable pub front : ℕ → Reads Record
 front lab_len [] = Err Cut
 front lab_len (code ∷ rest) =
     if code == 0x00 then Ok (End, rest)
     else if nat_lt code 0xE0 then constant_field code rest
-    else if code == 0xF1 then space_field rest
-    else if code == 0xF2 then long_constant_field rest
-    else Err Unread
+    else by_code (rows lab_len) code rest
 
 -- where the reader of a body stands
 pub record Reader : Type 0 where
@@ -54,7 +136,19 @@ abbrev pub is_end : Record → Bool
 is_end End = true
 is_end (Const bytes) = false
 is_end (LongConst bytes) = false
+is_end (Align n) = false
+is_end (Org n) = false
 is_end (Space n) = false
+is_end (Reloc count shift location offset) = false
+is_end (InterSeg count shift location file segment offset) = false
+is_end (ShortReloc count shift location offset) = false
+is_end (ShortInterSeg count shift location segment offset) = false
+is_end (Super form bytes) = false
+is_end (Using name) = false
+is_end (Strong name) = false
+is_end (Label global name size form private) = false
+is_end (Equate global name size form private expr) = false
+is_end (Formula code count n expr) = false
 
 abbrev pub told : Reader → Result (Record × List ℕ) Flaw → Result (Option (ℕ × Record)) RecordFault
 told r (Ok found) = Ok (Some (place_of r, found.0))

@@ -6,7 +6,7 @@ use Rattle.omf_format.specs.declared.value.Value.{Value}
 use Rattle.omf_format.specs.declared.value.Value.TheVariants.{Fixed, At}
 use Rattle.omf_format.specs.declared.value.ValueFault.{ValueFault}
 use Rattle.omf_format.specs.declared.value.ValueFault.TheVariants.{DivideByZero, NotRelocatable, Unknown}
-use Rattle.omf_format.specs.Field.{◌>>=◌}
+use Rattle.omf_format.specs.Field.{◌>>=◌, is_shift}
 use Rattle.omf_format.specs.Expression.{Term, Operator, Location, Constant, Named, Offset, Tree, Leaf, Unary, Binary, terms_of, terms_text}
 
 -- ---- numbers of 32 bits
@@ -93,10 +93,6 @@ divides code = code == 0x04 || code == 0x05
 -- a place can be moved, or shifted, only where it has no shift yet
 abbrev pub is_unshifted : ℤ → Bool
 is_unshifted shift = int_eq shift (pos 0)
-
--- the counts by which a place can be shifted
-abbrev pub is_shift : ℤ → Bool
-is_shift count = int_le (negsuc 30) count && int_le count (pos 31)
 
 abbrev pub apply_one : ℕ → Value → Result Value ValueFault
 apply_one code (Fixed a) = Ok (Fixed (number_of_one code a))

@@ -1,0 +1,45 @@
+-- SUPER records: many patches of one type, whose locations are given page by page (GS/OS Reference, appendix F, "SUPER").
+use Rattle.std.specs.Prelude.{◌≡◌, ℕ, zero, suc, ◌+◌, ◌-◌, ◌*◌, ◌<◌, ◌≤◌, Bool, true, false, ◌||◌, ◌&&◌, List, [], ◌∷◌, ◌++◌, length, map, nat_lt, nat_le, if◌then◌else◌}
+use Rattle.std.specs.List.{flat_map, AllByRecursion}
+
+-- the types that are read: 0 to 2, and 14 to 37
+abbrev pub is_super : ℕ → Bool
+is_super form = nat_le form 2 || (nat_le 14 form && nat_le form 37)
+
+-- a subrecord: pages of 256 bytes that are passed over, or the low bytes of the locations in the current page
+pub data Page : Type 0 where
+  Passed : (pages : ℕ) → Page
+  Located : (lows : List ℕ) → Page
+
+-- at most 127 pages are passed over at once, and a page has 1 to 128 locations
+abbrev pub IsPage : Page → Type 0
+IsPage (Passed pages) = pages < 0x80
+IsPage (Located lows) = (1 ≤ length lows) × (length lows ≤ 0x80)
+
+-- a byte with its high bit set passes pages over, as many as its low bits say; one without it is the number of
+-- locations less one, and their low bytes follow
+abbrev pub page_text : Page → List ℕ
+page_text (Passed pages) = (0x80 + pages) ∷ []
+page_text (Located lows) = (length lows - 1) ∷ lows
+
+-- the bytes are subrecords, one behind another
+pub record HavePages (bytes : List ℕ) : Type 0 where
+  pub pages : List Page
+  pub each : AllByRecursion IsPage pages
+  pub text : bytes ≡ flat_map page_text pages
+
+-- the locations, from this page on: behind the locations of a page comes the next page
+abbrev pub locations_from : ℕ → List Page → List ℕ
+locations_from page [] = []
+locations_from page (Passed pages ∷ more) = locations_from (page + pages) more
+locations_from page (Located lows ∷ more) = map (λ low. page * 256 + low) lows ++ locations_from (page + 1) more
+
+-- the same, read from left to right, where so many low bytes of the current page are still to come
+abbrev pub end_pages : ℕ → List ℕ → Bool
+end_pages zero [] = true
+end_pages (suc lows) [] = false
+end_pages zero (count ∷ bytes) = end_pages (if nat_lt count 0x80 then count + 1 else 0) bytes
+end_pages (suc lows) (low ∷ bytes) = end_pages lows bytes
+
+unfoldable pub are_pages : List ℕ → Bool
+are_pages bytes = end_pages 0 bytes
