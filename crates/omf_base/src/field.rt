@@ -2,7 +2,7 @@
 //! it is cut.
 
 ghost use Rattle.std.specs.Prelude.{◌≡◌, ◌<◌, ◌≤◌, length, IfOk, IfErr};
-ghost use Rattle.omf_format.specs.Field.{bytes_field, number_field, name_field, Gives};
+ghost use Rattle.omf_format.specs.Field.{byte_field, bytes_field, number_field, name_field, count_field, shift_field, Gives};
 
 use crate::trailing::without_trailing;
 use byteorder::{ByteOrder, LittleEndian};
@@ -17,6 +17,61 @@ pub fn bytes_field(bytes: &[u8], n: usize) -> Result<(&[u8], &[u8]), Flaw>
 {
     match bytes.split_at_checked(n) {
         Some((field, rest)) => Ok((field, rest)),
+        None => Err(Flaw::Cut),
+    }
+}
+
+/// One byte, and the bytes behind it.
+#[inline]
+#[tactic(auto, unfolding(omf_format::specs::Field::byte_field))]
+pub fn u8_field(bytes: &[u8]) -> Result<(u8, &[u8]), Flaw>
+    ensures gives { Gives (λ x. (x.0, x.1.now)) result (byte_field bytes.now) }
+    ensures no_longer { IfOk result (λ x. length x.1.now ≤ length bytes.now) }
+{
+    match bytes.split_first() {
+        Some((byte, rest)) => Ok((*byte, rest)),
+        None => Err(Flaw::Cut),
+    }
+}
+
+/// A count of 1 to 4, and the bytes behind it. Every other number is broken.
+#[inline]
+#[tactic(auto, unfolding(omf_format::specs::Field::count_field))]
+pub fn count_field(bytes: &[u8]) -> Result<(u8, &[u8]), Flaw>
+    ensures gives { Gives (λ x. (x.0, x.1.now)) result (count_field bytes.now) }
+    ensures no_longer { IfOk result (λ x. length x.1.now ≤ length bytes.now) }
+{
+    let (count, rest) = u8_field(bytes)?;
+    if count < 1 || count > 4 {
+        return Err(Flaw::Broken);
+    }
+    Ok((count, rest))
+}
+
+/// A shift from -31 to 31, and the bytes behind it. Every other number is broken.
+#[inline]
+#[tactic(auto, unfolding(omf_format::specs::Field::shift_field))]
+pub fn shift_field(bytes: &[u8]) -> Result<(i8, &[u8]), Flaw>
+    ensures gives { Gives (λ x. (x.0, x.1.now)) result (shift_field bytes.now) }
+    ensures no_longer { IfOk result (λ x. length x.1.now ≤ length bytes.now) }
+{
+    let (byte, rest) = u8_field(bytes)?;
+    let shift = byte.cast_signed();
+    if shift < -31 || shift > 31 {
+        return Err(Flaw::Broken);
+    }
+    Ok((shift, rest))
+}
+
+/// A number of two bytes, and the bytes behind it.
+#[inline]
+#[tactic(auto, unfolding(omf_format::specs::Field::number_field, omf_format::specs::Number::number_at))]
+pub fn u16_field(bytes: &[u8]) -> Result<(u16, &[u8]), Flaw>
+    ensures gives { Gives (λ x. (x.0, x.1.now)) result (number_field 2 bytes.now) }
+    ensures no_longer { IfOk result (λ x. length x.1.now ≤ length bytes.now) }
+{
+    match bytes.split_at_checked(2) {
+        Some((field, rest)) => Ok((LittleEndian::read_u16(field), rest)),
         None => Err(Flaw::Cut),
     }
 }

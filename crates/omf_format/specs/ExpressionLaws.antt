@@ -5,9 +5,9 @@ use Rattle.std.proofs.lemmas.List.{take_at, drop_at, append_cancel_right, length
 use Rattle.omf_format.specs.declared.expression.ExprFault.{ExprFault}
 use Rattle.omf_format.specs.declared.expression.ExprFault.TheVariants.{Truncated}
 use Rattle.omf_format.specs.HeaderLaws.{IsBytes}
-use Rattle.omf_format.specs.FieldLaws.{Takes, IsBytes-drop}
+use Rattle.omf_format.specs.FieldLaws.{ok_is, Takes, IsBytes-drop}
 use Rattle.omf_format.specs.Expression.{Term, AreTerms, term_text, terms_text, Tree, IsTree, terms_of, depth, Spells, IsExpression, pending_behind, Lead, term_step, IsFirstFault, BeginsWith, read_from, read_all, flaw_of, split_of, expression_field}
-use Rattle.omf_format.specs.TermLaws.{ok_is, term_takes_some, term-takes, terms_take_some, terms-same, StepIs, step-found, step-end, step-term}
+use Rattle.omf_format.specs.TermLaws.{term_takes_some, term-takes, terms_take_some, terms-same, StepIs, step-found, step-end, step-term}
 use Rattle.omf_format.specs.TreeLaws.{tree_has_terms, tree_leads, tree_of, tree-same}
 
 -- ---- one tree, and none begins another

@@ -1,18 +1,21 @@
 -- The two laws of each field: what is read is spelled so, and what is spelled so is read, whatever follows it.
-use Rattle.std.proofs.Common.{◌≡◌, ℕ, zero, suc, ◌+◌, ◌-◌, ◌^◌, ◌<◌, ◌≤◌, Bool, true, false, cond, ltb, eqb, ◌⊎◌, List, [], ◌∷◌, ◌++◌, length, take, drop, replicate, Result, Ok, Err, refl, sym, ap, subst, ◌∙◌, append_assoc, arith, inl, inr}
-use Rattle.std.specs.Prelude.{◌&&◌, ◌==◌}
+use Rattle.std.proofs.Common.{◌≡◌, ℕ, ℤ, SFits, zero, suc, ◌+◌, ◌-◌, ◌^◌, ◌<◌, ◌≤◌, Bool, true, false, cond, ltb, leb, eqb, ◌⊎◌, List, [], ◌∷◌, ◌++◌, length, take, drop, replicate, Result, Ok, Err, refl, sym, ap, subst, ◌∙◌, append_assoc, arith, inl, inr}
+use Rattle.std.specs.Prelude.{◌&&◌, ◌||◌, ◌==◌, pos, negsuc}
 use Rattle.std.specs.List.{list_all}
-use Rattle.std.proofs.lemmas.Bool.{cases_lt, ltb-false, lt-ltb, le-ltb, eqb-true, eq-eqb, ne_eqb}
+use Rattle.std.proofs.lemmas.Bool.{cases_lt, ltb-false, lt-ltb, le-ltb, eqb-true, eq-eqb, ne_eqb, leb-true, and_parts}
 use Rattle.std.proofs.lemmas.List.{take_at, drop_at, take-append-drop, length-append, length-take, length-replicate, get_or-drop, get_or-take, get_or_past}
 use Rattle.std.proofs.lemmas.List.Folds.{list_all-append}
-use Rattle.std.proofs.lemmas.Nat.{le_bytes_4}
+use Rattle.std.proofs.lemmas.Nat.{le_bytes_2, le_bytes_4}
+use Rattle.std.proofs.lemmas.Int.{of_z-to_z, to_z-of_z}
+use Rattle.std.specs.Int.{w8, cast_signed}
 use Rattle.byteorder.specs.Endian.{little_number, little_bytes}
 use Rattle.byteorder.specs.Numbers.{little_number-reads_back, length-bytes_low_first, little_from-lt, little_from-take}
+use Rattle.omf_format.specs.declared.fault.Flaw.{Flaw}
 use Rattle.omf_format.specs.declared.fault.Flaw.TheVariants.{Cut, Broken}
 use Rattle.omf_format.specs.Number.{number_at}
 use Rattle.omf_format.specs.Name.{without_trailing, name_at, name_size}
 use Rattle.omf_format.specs.HeaderLaws.{IsBytes}
-use Rattle.omf_format.specs.Field.{◌>>=◌, bytes_field, number_field, name_field, name_text, IsName}
+use Rattle.omf_format.specs.Field.{◌>>=◌, Reads, ◌⊗◌, checked, byte_field, bytes_field, number_field, name_field, name_text, IsName, is_count, count_field, is_shift, shift_byte, shift_field}
 
 -- ---- bytes and steps
 
@@ -26,6 +29,10 @@ IsBytes-take n bytes h i =
       | inr le ↦ rw (get_or_past (take n bytes) i 0 (omega (arith, length-take n bytes))) (omega arith)
     ]
 
+-- the bytes in front of others
+pub IsBytes-front : (bytes text rest : List ℕ) → IsBytes bytes → bytes ≡ text ++ rest → IsBytes text
+IsBytes-front bytes text rest h parts = subst IsBytes (take_at text rest (length text) refl) (IsBytes-take (length text) (text ++ rest) (subst IsBytes parts h))
+
 pub IsBytes-rest : (b : ℕ) (bytes : List ℕ) → IsBytes (b ∷ bytes) → IsBytes bytes
 IsBytes-rest b bytes h i = h (suc i)
 
@@ -34,10 +41,21 @@ pub bind_ok : {A B E : Type 0} (r : Result A E) (f : A → Result B E) (y : B) �
 bind_ok (Ok x) f y e = (x, refl, e)
 bind_ok (Err d) f y e = absurd cc
 
+abbrev pub done : {A : Type 0} → A → Result A Flaw
+done x = Ok x
+
+pub ok_is : {A : Type 0} (x y : A) → done x ≡ done y → x ≡ y
+ok_is x y e = cc
+
 -- a test that did not fail
 pub guard_ok : {A E : Type 0} (b : Bool) (d : E) (x y : A) → cond b (Err d) (Ok x) ≡ Ok y → (b ≡ false) × (x ≡ y)
 guard_ok true d x y e = absurd cc
 guard_ok false d x y e = (refl, cc)
+
+-- which of two tests was passed
+pub either : (x y : Bool) → (x || y) ≡ true → (x ≡ true) ⊎ (y ≡ true)
+either true y e = inl refl
+either false y e = inr e
 
 -- which of two was chosen
 pub chosen : {A : Type 0} (b : Bool) (x y z : A) → cond b x y ≡ z → ((b ≡ true) × (x ≡ z)) ⊎ ((b ≡ false) × (y ≡ z))
@@ -78,6 +96,9 @@ pub record IsWidth (w : ℕ) : Type 0 where
 
 pub width4 : IsWidth 4
 width4 = record { back = λ bytes len fits. le_bytes_4 bytes (little_number 4 bytes) len fits (omega arith) }
+
+pub width2 : IsWidth 2
+width2 = record { back = λ bytes len fits. le_bytes_2 bytes (little_number 2 bytes) len fits (omega arith) }
 
 pub number_takes : (w : ℕ) (wide : IsWidth w) (bytes : List ℕ) (n : ℕ) (rest : List ℕ) → IsBytes bytes → number_field w bytes ≡ Ok (n, rest) → Takes bytes (little_bytes w n) rest × (n < 256 ^ w)
 unfolding number_field number_at
@@ -243,3 +264,110 @@ name_again (suc l) name rest is =
     let some : eqb (length name) 0 ≡ false = ne_eqb _ _ (λ e. absurd (omega arith)) in
     let behind : drop (suc l) (name ++ pad ++ rest) ≡ rest = drop_at (name ++ pad) rest (suc l) len in
     padded_field (suc l) (name ++ pad ++ rest) (omega arith) ∙ rw (long, front, trimmed, some, behind) refl
+
+-- ---- fields in general
+
+-- what is read is spelled so, and what is spelled so is read, whatever follows it
+pub record IsField {A : Type 0} (Is : A → Type 0) (text : A → List ℕ) (read : Reads A) : Type 0 where
+  pub takes : (bytes : List ℕ) (found : A × List ℕ) → IsBytes bytes → read bytes ≡ Ok found → Is found.0 × Takes bytes (text found.0) found.1
+  pub again : (x : A) (rest : List ℕ) → Is x → read (text x ++ rest) ≡ Ok (x, rest)
+
+pub byte_is_field : IsField (λ b. b < 256) (λ b. b ∷ []) byte_field
+unfolding byte_field
+byte_is_field = record {
+  takes = λ bytes found fits. elim bytes as (λ (l : List ℕ). IsBytes l → byte_field l ≡ Ok found → (found.0 < 256) × Takes l (found.0 ∷ []) found.1) [
+    | [] ↦ λ fits e. absurd cc
+    | b ∷ rest ↦ λ fits e. byte_taken b rest found fits (ok_is (b, rest) found e)
+  ] fits;
+  again = λ b rest is. refl;
+}
+  where
+    byte_taken : (b : ℕ) (rest : List ℕ) (found : ℕ × List ℕ) → IsBytes (b ∷ rest) → (b, rest) ≡ found → (found.0 < 256) × Takes (b ∷ rest) (found.0 ∷ []) found.1
+    byte_taken b rest found fits e =
+        let made : (b < 256) × Takes (b ∷ rest) (b ∷ []) rest = (fits 0, record { parts = refl; rest_fits = IsBytes-rest b rest fits }) in
+        subst (λ (f : ℕ × List ℕ). (f.0 < 256) × Takes (b ∷ rest) (f.0 ∷ []) f.1) e made
+
+pub bytes_is_field : (n : ℕ) → IsField (λ text. length text ≡ n) (λ text. text) (bytes_field n)
+bytes_is_field n = record {
+  takes = λ bytes found fits e. let t = bytes_take n bytes found.0 found.1 fits e in (t.1, t.0);
+  again = λ text rest is. bytes_again n text rest is;
+}
+
+pub number_is_field : (w : ℕ) → IsWidth w → IsField (λ n. n < 256 ^ w) (little_bytes w) (number_field w)
+number_is_field w wide = record {
+  takes = λ bytes found fits e. let t = number_takes w wide bytes found.0 found.1 fits e in (t.1, t.0);
+  again = λ n rest is. number_again w n rest is;
+}
+
+pub name_is_field : (l : ℕ) → IsField (IsName l) (name_text l) (name_field l)
+name_is_field l = record {
+  takes = λ bytes found fits e. let t = name_takes l bytes found fits e in (t.name', t.taken);
+  again = λ name rest is. name_again l name rest is;
+}
+
+-- the same with another word for which values there are
+pub field_of : {A : Type 0} (Is Other : A → Type 0) (text : A → List ℕ) (read : Reads A) → ((x : A) → Is x → Other x) → ((x : A) → Other x → Is x) → IsField Is text read → IsField Other text read
+field_of Is Other text read there back field = record {
+  takes = λ bytes found fits e. let t = field.takes bytes found fits e in (there found.0 t.0, t.1);
+  again = λ x rest is. field.again x rest (back x is);
+}
+
+-- a test that was passed
+passed : {A : Type 0} (b : Bool) (d : Flaw) (x y : A) → cond b (done x) (Err d) ≡ Ok y → (b ≡ true) × (x ≡ y)
+passed true d x y e = (refl, ok_is x y e)
+passed false d x y e = absurd cc
+
+pub checked_is_field : {A : Type 0} (Is : A → Type 0) (text : A → List ℕ) (read : Reads A) (test : A → Bool) (flaw : Flaw) → IsField Is text read → IsField (λ x. Is x × (test x ≡ true)) text (checked test flaw read)
+checked_is_field {A} Is text read test flaw field = record {
+  takes = λ bytes found fits e.
+      let x = bind_ok (read bytes) (λ x. cond (test x.0) (Ok x) (Err flaw)) found e in
+      let p = passed (test x.0.0) flaw x.0 found x.2 in
+      let t = field.takes bytes x.0 fits x.1 in
+      subst (λ (f : A × List ℕ). (Is f.0 × (test f.0 ≡ true)) × Takes bytes (text f.0) f.1) p.1 ((t.0, p.0), t.1);
+  again = λ x rest is. rw (field.again x rest is.0, is.1) refl;
+}
+
+pub both_are_field : {A B : Type 0} (IsA : A → Type 0) (IsB : B → Type 0) (textA : A → List ℕ) (textB : B → List ℕ) (readA : Reads A) (readB : Reads B)
+    → IsField IsA textA readA → IsField IsB textB readB → IsField (λ x. IsA x.0 × IsB x.1) (λ x. textA x.0 ++ textB x.1) (readA ⊗ readB)
+both_are_field {A} {B} IsA IsB textA textB readA readB fieldA fieldB = record {
+  takes = λ bytes found fits e.
+      let a = bind_ok (readA bytes) (λ a. readB a.1 >>= λ b. Ok ((a.0, b.0), b.1)) found e in
+      let b = bind_ok (readB a.0.1) (λ b. Ok ((a.0.0, b.0), b.1)) found a.2 in
+      let t = fieldA.takes bytes a.0 fits a.1 in
+      let u = fieldB.takes a.0.1 b.0 t.1.rest_fits b.1 in
+      let made : (A × B) × List ℕ = ((a.0.0, b.0.0), b.0.1) in
+      subst (λ (f : (A × B) × List ℕ). (IsA f.0.0 × IsB f.0.1) × Takes bytes (textA f.0.0 ++ textB f.0.1) f.1) (ok_is made found b.2)
+          ((t.0, u.0), Takes-then bytes (textA a.0.0) a.0.1 (textB b.0.0) b.0.1 t.1 u.1);
+  again = λ x rest is. rw (append_assoc (textA x.0) (textB x.1) rest, fieldA.again x.0 (textB x.1 ++ rest) is.0, fieldB.again x.1 rest is.1) refl;
+}
+
+-- ---- counts and shifts
+
+pub count_is_field : IsField (λ n. is_count n ≡ true) (λ n. n ∷ []) count_field
+unfolding count_field
+count_is_field = field_of (λ n. (n < 256) × (is_count n ≡ true)) (λ n. is_count n ≡ true) (λ n. n ∷ []) (checked is_count Broken byte_field)
+    (λ n is. is.1) (λ n is. (small n is, is)) (checked_is_field (λ n. n < 256) (λ n. n ∷ []) byte_field is_count Broken byte_is_field)
+  where
+    small : (n : ℕ) → is_count n ≡ true → n < 256
+    small n is = omega (arith, leb-true n 4 (and_parts _ _ is).1)
+
+pub shift_is_field : IsField (λ s. is_shift s ≡ true) (λ s. shift_byte s ∷ []) shift_field
+unfolding shift_field byte_field
+shift_is_field = record {
+  takes = λ bytes found fits. elim bytes as (λ (l : List ℕ). IsBytes l → shift_field l ≡ Ok found → (is_shift found.0 ≡ true) × Takes l (shift_byte found.0 ∷ []) found.1) [
+    | [] ↦ λ fits e. absurd cc
+    | b ∷ rest ↦ λ fits e. shift_taken b rest found fits (passed (is_shift (cast_signed w8 b)) Broken (cast_signed w8 b, rest) found e)
+  ] fits;
+  again = λ s rest is. let back = to_z-of_z w8 s (small s is) in rw (back, is) refl;
+}
+  where
+    shift_taken : (b : ℕ) (rest : List ℕ) (found : ℤ × List ℕ) → IsBytes (b ∷ rest) → (is_shift (cast_signed w8 b) ≡ true) × ((cast_signed w8 b, rest) ≡ found) → (is_shift found.0 ≡ true) × Takes (b ∷ rest) (shift_byte found.0 ∷ []) found.1
+    shift_taken b rest found fits p =
+        let same = of_z-to_z w8 b (fits 0) in
+        let made : (is_shift (cast_signed w8 b) ≡ true) × Takes (b ∷ rest) (shift_byte (cast_signed w8 b) ∷ []) rest =
+        (p.0, record { parts = ap (λ (c : ℕ). c ∷ rest) (sym same); rest_fits = IsBytes-rest b rest fits }) in
+        subst (λ (f : ℤ × List ℕ). (is_shift f.0 ≡ true) × Takes (b ∷ rest) (shift_byte f.0 ∷ []) f.1) p.1 made
+
+    small : (s : ℤ) → is_shift s ≡ true → SFits w8 s
+    small (pos k) is = let both : (true ≡ true) × (leb k 31 ≡ true) = and_parts true (leb k 31) is in record { sfits = omega (arith, leb-true k 31 both.1) }
+    small (negsuc k) is = let both : (leb k 30 ≡ true) × (true ≡ true) = and_parts (leb k 30) true is in record { sfits = omega (arith, leb-true k 30 both.0) }

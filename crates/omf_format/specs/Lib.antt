@@ -18,3 +18,4 @@ pub mod PlainLaws
 pub mod TermLaws
 pub mod TreeLaws
 pub mod ExpressionLaws
+pub mod SuperLaws

@@ -1,10 +1,10 @@
 -- A plain object file, and the load file that it is linked to (GS/OS Reference, appendix F; the load segment's fields
 -- and the form of the written body are this project's own choice).
-use Rattle.std.specs.Prelude.{◌≡◌, ◌⊎◌, ◌≤◌, ℕ, ◌+◌, ◌-◌, ◌*◌, ◌/◌, ◌%◌, min, Bool, true, not, List, [], ◌∷◌, ◌++◌, length, replicate, sum_by, ◌==◌, if◌then◌else◌}
+use Rattle.std.specs.Prelude.{◌≡◌, ◌⊎◌, ◌≤◌, ℕ, ◌+◌, ◌-◌, ◌*◌, ◌/◌, ◌%◌, min, Bool, true, not, List, [], ◌∷◌, ◌++◌, length, replicate, sum_by, ◌==◌, if◌then◌else◌, IsTrue}
 use Rattle.std.specs.List.{flat_map, list_any, AllByRecursion}
 use Rattle.omf_format.specs.Name.{without_trailing}
 use Rattle.omf_format.specs.Header.{Fields, form_of, header_bytes}
-use Rattle.omf_format.specs.Record.{End, LongConst, spelling, content_of}
+use Rattle.omf_format.specs.Record.{End, LongConst, spelling, is_constant, content_of}
 use Rattle.omf_format.specs.File.{Segment, IsFile}
 
 -- the bytes that a segment's records put into it
@@ -19,8 +19,10 @@ memory_bytes s = body_bytes s ++ replicate s.fields.res_spc 0
 abbrev pub is_object : ℕ → Bool
 is_object form = not (list_any (λ t. t == form) (0x02 ∷ 0x04 ∷ 0x08 ∷ []))
 
--- a segment of a plain object file: no place is asked for, and LENGTH counts the bytes in memory
+-- a segment of a plain object file: its records are END, CONST, LCONST and DS, no place is asked for, and LENGTH counts the
+-- bytes in memory
 pub record IsPlainSegment (s : Segment) : Type 0 where
+  pub constant : AllByRecursion (λ found. IsTrue (is_constant found.1)) s.records
   pub object : is_object (form_of s.fields.kind) ≡ true
   pub org : s.fields.org ≡ 0
   pub align : s.fields.align ≡ 0

@@ -51,7 +51,7 @@ spelling lab_len (Org n) = 0xE1 ∷ little_bytes 4 n
 spelling lab_len (Space n) = 0xF1 ∷ little_bytes 4 n
 spelling lab_len (Reloc count shift location offset) = 0xE2 ∷ count ∷ shift_byte shift ∷ little_bytes 4 location ++ little_bytes 4 offset
 spelling lab_len (InterSeg count shift location file segment offset) =
-    0xE3 ∷ count ∷ shift_byte shift ∷ little_bytes 4 location ++ little_bytes 2 file ++ little_bytes 2 segment ++ little_bytes 4 offset
+    0xE3 ∷ count ∷ shift_byte shift ∷ little_bytes 4 location ++ (little_bytes 2 file ++ (little_bytes 2 segment ++ little_bytes 4 offset))
 spelling lab_len (ShortReloc count shift location offset) = 0xF5 ∷ count ∷ shift_byte shift ∷ little_bytes 2 location ++ little_bytes 2 offset
 spelling lab_len (ShortInterSeg count shift location segment offset) =
     0xF6 ∷ count ∷ shift_byte shift ∷ little_bytes 2 location ++ segment ∷ little_bytes 2 offset
@@ -61,7 +61,7 @@ spelling lab_len (Strong name) = 0xE5 ∷ name_text lab_len name
 spelling lab_len (Label global name size form private) =
     (if global then 0xE6 else 0xEF) ∷ name_text lab_len name ++ label_text size form private
 spelling lab_len (Equate global name size form private expr) =
-    (if global then 0xE7 else 0xF0) ∷ name_text lab_len name ++ label_text size form private ++ expr
+    (if global then 0xE7 else 0xF0) ∷ name_text lab_len name ++ (label_text size form private ++ expr)
 spelling lab_len (Formula code count n expr) = code ∷ count ∷ (if code == 0xEE then little_bytes 4 n ++ expr else expr)
 
 -- ---- which records have a spelling

@@ -9,7 +9,7 @@ use Rattle.omf_format.specs.declared.expression.ExprFault.{ExprFault}
 use Rattle.omf_format.specs.declared.expression.ExprFault.TheVariants.{Shape, TooDeep}
 use Rattle.omf_format.specs.HeaderLaws.{IsBytes}
 use Rattle.omf_format.specs.Field.{◌>>=◌, number_field, name_field, name_text, IsName}
-use Rattle.omf_format.specs.FieldLaws.{IsBytes-rest, bind_ok, chosen, Takes, Takes-code, width4, number_takes, number_again, name_takes, name_again}
+use Rattle.omf_format.specs.FieldLaws.{IsBytes-rest, bind_ok, done, ok_is, chosen, Takes, Takes-code, width4, number_takes, number_again, name_takes, name_again}
 use Rattle.omf_format.specs.Expression.{Term, Operator, Location, Constant, Named, Offset, is_operator, is_named, IsTerm, term_text, AreTerms, terms_text, term_field, operands_of, pending_behind, judged, step_of, term_step}
 
 -- ---- one term
@@ -26,12 +26,6 @@ found_text l (Some term) = term_text l term
 pub record TakesTerm (lab_len : ℕ) (bytes : List ℕ) (found : Option Term × List ℕ) : Type 0 where
   pub term' : IsFound lab_len found.0
   pub taken : Takes bytes (found_text lab_len found.0) found.1
-
-abbrev pub done : {A : Type 0} → A → Result A Flaw
-done x = Ok x
-
-pub ok_is : {A : Type 0} (x y : A) → done x ≡ done y → x ≡ y
-ok_is x y e = cc
 
 -- two answers to one reading
 pub both_read : (l : ℕ) (bytes bytes' : List ℕ) (a b : Option Term) (x y : List ℕ) → bytes ≡ bytes' → term_field l bytes ≡ Ok (a, x) → term_field l bytes' ≡ Ok (b, y) → (a ≡ b) × (x ≡ y)
