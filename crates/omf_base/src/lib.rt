@@ -8,7 +8,9 @@ mod number;
 mod spot;
 mod trailing;
 
-pub use field::{bytes_field, count_field, name_field, shift_field, u8_field, u16_field, u32_field};
+pub use field::{
+    bytes_field, count_field, name_field, shift_field, u8_field, u16_field, u32_field,
+};
 pub use line::{Line, LineFault};
 pub use name::{Name, NameFault};
 pub use number::number_at;

@@ -6,3 +6,4 @@ pub mod Linked
 pub mod FewWords
 pub mod Runs
 pub mod Listings
+pub mod Constants

@@ -1,7 +1,9 @@
 //! The bytes that the records of a body put into their segment.
 
-ghost use Rattle.std.specs.Prelude.{◌≡◌, ℕ, ◌<◌, ◌≤◌, ◌++◌, ◌+◌, ◌^◌, vec_len, length, replicate, OnOk, IfSome, IfNone};
-ghost use Rattle.omf_format.specs.Record.{content_of};
+ghost use Rattle.std.specs.Prelude.{◌≡◌, ◌↔◌, true, ℕ, ◌<◌, ◌≤◌, ◌++◌, ◌+◌, ◌^◌, List, vec_len, length, replicate, IsTrue, OnOk, IfSome, IfNone};
+ghost use Rattle.std.specs.List.{AllByRecursion};
+ghost use Rattle.omf_format.specs.Record.{Record, is_constant, content_of};
+ghost use Rattle.omf_format.specs.Reading.{Reader, HandsOut};
 ghost use Rattle.omf_records.specs.View.{view};
 ghost use Rattle.omf_records.specs.Segments.{ComesToEnd};
 ghost use Rattle.omf_cli.specs.Content.{HasContent, AppendsContent};
@@ -18,6 +20,48 @@ fn content_size(rec: &Rec) -> u64
         Rec::End => 0,
         Rec::Const { bytes } | Rec::LongConst { bytes } => bytes.len() as u64,
         Rec::Space { n } => u64::from(*n),
+        Rec::Align { .. }
+        | Rec::Org { .. }
+        | Rec::Reloc { .. }
+        | Rec::InterSeg { .. }
+        | Rec::ShortReloc { .. }
+        | Rec::ShortInterSeg { .. }
+        | Rec::Super { .. }
+        | Rec::Using { .. }
+        | Rec::Strong { .. }
+        | Rec::Label { .. }
+        | Rec::Equate { .. }
+        | Rec::Formula { .. } => 0,
+    }
+}
+
+/// Whether a record is END, CONST, LCONST or DS.
+fn is_constant(rec: &Rec) -> bool
+    ensures { result ≡ is_constant (view rec.now) }
+{
+    matches!(
+        rec,
+        Rec::End | Rec::Const { .. } | Rec::LongConst { .. } | Rec::Space { .. }
+    )
+}
+
+/// Whether the records are END, CONST, LCONST and DS.
+pub fn are_constant(records: Records) -> bool
+    requires { ComesToEnd records }
+    ensures { (founds : List (ℕ × Record)) (last : Reader) → HandsOut records.entry founds last → last.ended ≡ true
+        → (IsTrue result ↔ AllByRecursion (λ found. IsTrue (is_constant found.1)) founds) }
+{
+    let mut records = records;
+    'records: loop {
+        match records.next() {
+            Ok(None) => return true,
+            Ok(Some(found)) => {
+                if !is_constant(&found.1) {
+                    return false;
+                }
+            }
+            Err(_) => unreachable!(),
+        }
     }
 }
 
@@ -52,6 +96,18 @@ fn append_content(out: &mut Vec<u8>, rec: &Rec) -> Result<(), AllocError>
         Rec::End => Ok(()),
         Rec::Const { bytes } | Rec::LongConst { bytes } => out.extend_from_slice(bytes),
         Rec::Space { n } => append_zeros(out, *n),
+        Rec::Align { .. }
+        | Rec::Org { .. }
+        | Rec::Reloc { .. }
+        | Rec::InterSeg { .. }
+        | Rec::ShortReloc { .. }
+        | Rec::ShortInterSeg { .. }
+        | Rec::Super { .. }
+        | Rec::Using { .. }
+        | Rec::Strong { .. }
+        | Rec::Label { .. }
+        | Rec::Equate { .. }
+        | Rec::Formula { .. } => Ok(()),
     }
 }
 

@@ -1,13 +1,15 @@
 //! The members of a plain object file.
 
 ghost use Rattle.std.specs.Prelude.{◌≡◌, ◌↔◌, ◌⊎◌, ◌≤◌, ◌+◌, IsTrue, List, ℕ, length, MatchOption};
+ghost use Rattle.std.specs.List.{AllByRecursion};
+ghost use Rattle.omf_format.specs.Record.{is_constant};
 ghost use Rattle.omf_format.specs.File.{Segment, IsFile, body_reader};
 ghost use Rattle.omf_format.specs.Plain.{IsPlainSegment, IsPlain, is_object, lesser_bank, body_bytes};
 ghost use Rattle.omf_header.specs.View.{fields};
 ghost use Rattle.omf_records.specs.Segments.{placed, IsPlaced, ComesToEnd, views_of};
 ghost use Rattle.omf_cli.specs.Members.{IsAt, HasFile, AreMembers};
 
-use crate::content::body_size;
+use crate::content::{are_constant, body_size};
 use omf_records::{SegmentList, SegmentView};
 
 /// The most bytes that the members have together.
@@ -33,6 +35,16 @@ fn is_sized(view: &SegmentView) -> bool
     }
 }
 
+/// The records are END, CONST, LCONST and DS.
+fn has_constants(view: &SegmentView) -> bool
+    requires header { IsPlaced (placed view.now) }
+    requires comes { ComesToEnd (body_reader view.now.start (fields view.now.header) view.now.file.now) }
+    ensures { (s : Segment) → IsAt s view.now
+        → (IsTrue result ↔ AllByRecursion (λ found. IsTrue (is_constant found.1)) s.records) }
+{
+    are_constant(view.records())
+}
+
 /// A segment that a plain object file may have.
 fn is_plain(view: &SegmentView) -> bool
     requires header { IsPlaced (placed view.now) }
@@ -40,7 +52,11 @@ fn is_plain(view: &SegmentView) -> bool
     ensures { (s : Segment) → IsAt s view.now → (IsTrue result ↔ IsPlainSegment s) }
 {
     let header = &view.header;
-    is_object(header.kind.form()) && header.org == 0 && header.align == 0 && is_sized(view)
+    is_object(header.kind.form())
+        && header.org == 0
+        && header.align == 0
+        && has_constants(view)
+        && is_sized(view)
 }
 
 /// The lesser of two bank sizes, where 0 is no bound.

@@ -1,7 +1,8 @@
 //! Operators on values. Numbers are 32 bits in two's complement.
 
 ghost use Rattle.std.specs.Prelude.{◌≡◌, ◌≢◌, false, pos, int_div, int_rem, IsTrue, IfOk, IfErr};
-ghost use Rattle.omf_format.specs.Value.{signed, bits_of, truth, shifted, number_of_one, arithmetic, logical, comparison, bitwise, number_of_two, divides, is_shift, apply_one, apply_two};
+ghost use Rattle.omf_format.specs.Value.{signed, bits_of, truth, shifted, number_of_one, arithmetic, logical, comparison, bitwise, number_of_two, divides, apply_one, apply_two};
+ghost use Rattle.omf_format.specs.Field.{is_shift};
 
 use omf_format::{Value, ValueFault};
 

@@ -337,7 +337,7 @@ both_are_field {A} {B} IsA IsB textA textB readA readB fieldA fieldB = record {
       let u = fieldB.takes a.0.1 b.0 t.1.rest_fits b.1 in
       let made : (A × B) × List ℕ = ((a.0.0, b.0.0), b.0.1) in
       subst (λ (f : (A × B) × List ℕ). (IsA f.0.0 × IsB f.0.1) × Takes bytes (textA f.0.0 ++ textB f.0.1) f.1) (ok_is made found b.2)
-          ((t.0, u.0), Takes-then bytes (textA a.0.0) a.0.1 (textB b.0.0) b.0.1 t.1 u.1);
+      ((t.0, u.0), Takes-then bytes (textA a.0.0) a.0.1 (textB b.0.0) b.0.1 t.1 u.1);
   again = λ x rest is. rw (append_assoc (textA x.0) (textB x.1) rest, fieldA.again x.0 (textB x.1 ++ rest) is.0, fieldB.again x.1 rest is.1) refl;
 }
 
@@ -351,6 +351,14 @@ count_is_field = field_of (λ n. (n < 256) × (is_count n ≡ true)) (λ n. is_c
     small : (n : ℕ) → is_count n ≡ true → n < 256
     small n is = omega (arith, leb-true n 4 (and_parts _ _ is).1)
 
+shift_fits : (s : ℤ) → is_shift s ≡ true → SFits w8 s
+shift_fits (pos k) is = let both : (true ≡ true) × (leb k 31 ≡ true) = and_parts true (leb k 31) is in record { sfits = omega (arith, leb-true k 31 both.1) }
+shift_fits (negsuc k) is = let both : (leb k 30 ≡ true) × (true ≡ true) = and_parts (leb k 30) true is in record { sfits = omega (arith, leb-true k 30 both.0) }
+
+-- a shift is what its byte says
+pub shift_back : (s : ℤ) → is_shift s ≡ true → cast_signed w8 (shift_byte s) ≡ s
+shift_back s is = to_z-of_z w8 s (shift_fits s is)
+
 pub shift_is_field : IsField (λ s. is_shift s ≡ true) (λ s. shift_byte s ∷ []) shift_field
 unfolding shift_field byte_field
 shift_is_field = record {
@@ -358,7 +366,7 @@ shift_is_field = record {
     | [] ↦ λ fits e. absurd cc
     | b ∷ rest ↦ λ fits e. shift_taken b rest found fits (passed (is_shift (cast_signed w8 b)) Broken (cast_signed w8 b, rest) found e)
   ] fits;
-  again = λ s rest is. let back = to_z-of_z w8 s (small s is) in rw (back, is) refl;
+  again = λ s rest is. rw (shift_back s is, is) refl;
 }
   where
     shift_taken : (b : ℕ) (rest : List ℕ) (found : ℤ × List ℕ) → IsBytes (b ∷ rest) → (is_shift (cast_signed w8 b) ≡ true) × ((cast_signed w8 b, rest) ≡ found) → (is_shift found.0 ≡ true) × Takes (b ∷ rest) (shift_byte found.0 ∷ []) found.1
@@ -367,7 +375,3 @@ shift_is_field = record {
         let made : (is_shift (cast_signed w8 b) ≡ true) × Takes (b ∷ rest) (shift_byte (cast_signed w8 b) ∷ []) rest =
         (p.0, record { parts = ap (λ (c : ℕ). c ∷ rest) (sym same); rest_fits = IsBytes-rest b rest fits }) in
         subst (λ (f : ℤ × List ℕ). (is_shift f.0 ≡ true) × Takes (b ∷ rest) (shift_byte f.0 ∷ []) f.1) p.1 made
-
-    small : (s : ℤ) → is_shift s ≡ true → SFits w8 s
-    small (pos k) is = let both : (true ≡ true) × (leb k 31 ≡ true) = and_parts true (leb k 31) is in record { sfits = omega (arith, leb-true k 31 both.1) }
-    small (negsuc k) is = let both : (leb k 30 ≡ true) × (true ≡ true) = and_parts (leb k 30) true is in record { sfits = omega (arith, leb-true k 30 both.0) }

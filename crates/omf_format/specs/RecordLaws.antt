@@ -280,9 +280,49 @@ distance_takes l = row_takes (Both (Passes is_count) (Both Is4 (IsExpression l))
 
 rows_take : (l : ℕ) → AllByRecursion (TakesRow l) (rows l)
 unfolding rows
-rows_take l = (align_takes l, (org_takes l, (reloc_takes l, (interseg_takes l, (using_takes l, (strong_takes l, (label_takes l true, (equate_takes l true,
-    (formula_takes l 0xEB refl refl, (formula_takes l 0xEC refl refl, (formula_takes l 0xED refl refl, (distance_takes l, (label_takes l false, (equate_takes l false,
-    (space_takes l, (long_constant_takes l, (formula_takes l 0xF3 refl refl, (short_reloc_takes l, (short_interseg_takes l, (super_takes l, tt))))))))))))))))))))
+rows_take l = (
+  align_takes l,
+  (
+    org_takes l,
+    (
+      reloc_takes l,
+      (
+        interseg_takes l,
+        (
+          using_takes l,
+          (
+            strong_takes l,
+            (
+              label_takes l true,
+              (
+                equate_takes l true,
+                (
+                  formula_takes l 0xEB refl refl,
+                  (
+                    formula_takes l 0xEC refl refl,
+                    (
+                      formula_takes l 0xED refl refl,
+                      (
+                        distance_takes l,
+                        (
+                          label_takes l false,
+                          (
+                            equate_takes l false,
+                            (space_takes l, (long_constant_takes l, (formula_takes l 0xF3 refl refl, (short_reloc_takes l, (short_interseg_takes l, (super_takes l, tt)))))),
+                          ),
+                        ),
+                      ),
+                    ),
+                  ),
+                ),
+              ),
+            ),
+          ),
+        ),
+      ),
+    ),
+  ),
+)
 
 by_code_takes : (l : ℕ) (table : List (ℕ × Reads Record)) → AllByRecursion (TakesRow l) table → (code : ℕ) (rest : List ℕ) (found : Record × List ℕ) → IsBytes rest → by_code table code rest ≡ Ok found → TakesRecord l (code ∷ rest) found
 by_code_takes l [] all code rest found fits e = absurd cc
@@ -377,7 +417,7 @@ formula_again l code count n expr rest is is_count' far is_expr = formula_code (
     (λ n far. without_n l 0xEC count n expr rest far (plain_again l 0xEC count expr rest is_count' is_expr))
     (λ n far. without_n l 0xED count n expr rest far (plain_again l 0xED count expr rest is_count' is_expr))
     (λ n far. row_again (Both (Passes is_count) (Both Is4 (IsExpression l))) (texts one (texts (little_bytes 4) as_it_is)) (count_field ⊗ number_field 4 ⊗ expression_field l) (distance l)
-        (λ x. Formula 0xEE x.0 x.1.0 x.1.1) (count, (n, expr)) rest (is_count', (far, is_expr)))
+    (λ x. Formula 0xEE x.0 x.1.0 x.1.1) (count, (n, expr)) rest (is_count', (far, is_expr)))
     (λ n far. without_n l 0xF3 count n expr rest far (plain_again l 0xF3 count expr rest is_count' is_expr))
     n far
 

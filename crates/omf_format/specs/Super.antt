@@ -1,5 +1,5 @@
 -- SUPER records: many patches of one type, whose locations are given page by page (GS/OS Reference, appendix F, "SUPER").
-use Rattle.std.specs.Prelude.{◌≡◌, ℕ, zero, suc, ◌+◌, ◌-◌, ◌*◌, ◌<◌, ◌≤◌, Bool, true, false, ◌||◌, ◌&&◌, List, [], ◌∷◌, ◌++◌, length, map, nat_lt, nat_le, if◌then◌else◌}
+use Rattle.std.specs.Prelude.{◌≡◌, ℕ, zero, suc, ◌+◌, ◌-◌, ◌*◌, ◌<◌, ◌≤◌, Bool, ◌||◌, ◌&&◌, List, [], ◌∷◌, ◌++◌, length, map, nat_lt, nat_le, ◌==◌, if◌then◌else◌}
 use Rattle.std.specs.List.{flat_map, AllByRecursion}
 
 -- the types that are read: 0 to 2, and 14 to 37
@@ -34,12 +34,15 @@ locations_from page [] = []
 locations_from page (Passed pages ∷ more) = locations_from (page + pages) more
 locations_from page (Located lows ∷ more) = map (λ low. page * 256 + low) lows ++ locations_from (page + 1) more
 
--- the same, read from left to right, where so many low bytes of the current page are still to come
+-- how many low bytes of the current page are still to come behind a byte, where so many were before it
+abbrev pub lows_behind : ℕ → ℕ → ℕ
+lows_behind zero count = if nat_lt count 0x80 then count + 1 else 0
+lows_behind (suc lows) low = lows
+
+-- read from left to right, where so many low bytes are still to come, the bytes end with a subrecord
 abbrev pub end_pages : ℕ → List ℕ → Bool
-end_pages zero [] = true
-end_pages (suc lows) [] = false
-end_pages zero (count ∷ bytes) = end_pages (if nat_lt count 0x80 then count + 1 else 0) bytes
-end_pages (suc lows) (low ∷ bytes) = end_pages lows bytes
+end_pages lows [] = lows == 0
+end_pages lows (byte ∷ bytes) = end_pages (lows_behind lows byte) bytes
 
 unfoldable pub are_pages : List ℕ → Bool
 are_pages bytes = end_pages 0 bytes

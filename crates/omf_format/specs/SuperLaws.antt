@@ -1,7 +1,7 @@
 -- The two laws of SUPER's subrecords: bytes that end with a subrecord are subrecords, and subrecords are such bytes.
 use Rattle.std.proofs.Common.{◌≡◌, ℕ, zero, suc, ◌+◌, ◌-◌, ◌<◌, ◌≤◌, Bool, true, cond, List, [], ◌∷◌, ◌++◌, length, refl, sym, ap, subst, ◌∙◌, arith, inl, inr}
 use Rattle.std.specs.List.{flat_map, AllByRecursion}
-use Rattle.std.proofs.lemmas.Bool.{cases_lt, lt-ltb, le-ltb}
+use Rattle.std.proofs.lemmas.Bool.{cases_lt, lt-ltb, le-ltb, eqb-true}
 use Rattle.omf_format.specs.HeaderLaws.{IsBytes}
 use Rattle.omf_format.specs.FieldLaws.{IsBytes-rest}
 use Rattle.omf_format.specs.Super.{Page, Passed, Located, IsPage, page_text, HavePages, end_pages, are_pages}
@@ -38,14 +38,14 @@ on_passed count bytes le = ap (λ (b : Bool). end_pages (cond b (count + 1) 0) b
 
 ends : (lows : ℕ) (bytes : List ℕ) → IsBytes bytes → end_pages lows bytes ≡ true → Ends lows bytes
 ends zero [] fits e = at_page [] (record { pages = []; each = tt; text = refl })
-ends (suc lows) [] fits e = absurd cc
+ends (suc lows) [] fits e = let none = eqb-true (suc lows) 0 e in absurd (omega (arith, none))
 ends (suc lows) (low ∷ bytes) fits e =
     let more = ends lows bytes (IsBytes-rest low bytes fits) e in
     record { front = low ∷ more.front; rest = more.rest; parts = ap (λ (l : List ℕ). low ∷ l) more.parts; size = ap suc more.size; pages = more.pages }
 ends zero (count ∷ bytes) fits e = elim (cases_lt count 0x80) [
-      | inl lt ↦ located lt (ends (count + 1) bytes (IsBytes-rest count bytes fits) (sym (on_located count bytes lt) ∙ e))
-      | inr le ↦ passed le (ends 0 bytes (IsBytes-rest count bytes fits) (sym (on_passed count bytes le) ∙ e))
-    ]
+  | inl lt ↦ located lt (ends (count + 1) bytes (IsBytes-rest count bytes fits) (sym (on_located count bytes lt) ∙ e))
+  | inr le ↦ passed le (ends 0 bytes (IsBytes-rest count bytes fits) (sym (on_passed count bytes le) ∙ e))
+]
   where
     located : count < 0x80 → Ends (count + 1) bytes → Ends 0 (count ∷ bytes)
     located lt more =

@@ -11,7 +11,19 @@ abbrev pub view : Rec → Record
 view rec.End = format.End
 view (rec.Const bytes) = format.Const bytes.now
 view (rec.LongConst bytes) = format.LongConst bytes.now
+view (rec.Align n) = format.Align n
+view (rec.Org n) = format.Org n
 view (rec.Space n) = format.Space n
+view (rec.Reloc count shift location offset) = format.Reloc count shift location offset
+view (rec.InterSeg count shift location file segment offset) = format.InterSeg count shift location file segment offset
+view (rec.ShortReloc count shift location offset) = format.ShortReloc count shift location offset
+view (rec.ShortInterSeg count shift location segment offset) = format.ShortInterSeg count shift location segment offset
+view (rec.Super form bytes) = format.Super form bytes.now
+view (rec.Using name) = format.Using name.now
+view (rec.Strong name) = format.Strong name.now
+view (rec.Label global name size form private) = format.Label global name.now size form private
+view (rec.Equate global name size form private expr) = format.Equate global name.now size form private expr.now
+view (rec.Formula code count n expr) = format.Formula code count n expr.now
 
 -- what a call of `next` answered
 abbrev pub seen : Result (Option (ℕ × Rec)) RecordFault → Result (Option (ℕ × Record)) RecordFault

@@ -1,6 +1,7 @@
 //! Reading a body, record by record, with no memory taken.
 
-ghost use Rattle.std.specs.Prelude.{◌≡◌, ◌<◌, ◌≤◌, false, length, slice_index, IfOk, OnSome};
+ghost use Rattle.std.specs.Prelude.{◌≡◌, ◌<◌, ◌≤◌, false, length, slice_index, IfOk, IfSome, OnSome};
+ghost use Rattle.omf_format.specs.Record.{IsRecord};
 ghost use Rattle.omf_format.specs.Reading.{next_answer, after_next, fault_at, is_end};
 ghost use Rattle.omf_records.specs.View.{seen, view};
 
@@ -50,6 +51,9 @@ impl<'a> Records<'a> {
     pub fn next(&mut self) -> Result<Option<(u32, Rec<'a>)>, RecordFault>
         ensures answer { seen result ≡ next_answer self.old }
         ensures after { self.new ≡ after_next self.old }
+
+        // Each record that comes is one of the format.
+        ensures formed { IfOk result (λ found. IfSome found (λ f. IsRecord self.old.lab_len (view f.1))) }
 
         // Each record that comes makes what is left shorter.
         ensures shorter { IfOk result (λ found. OnSome found (length self.new.left < length self.old.left)) }
