@@ -1,11 +1,12 @@
 -- The listing of a file: a line for each segment, and a line for each of its records.
-use Rattle.std.specs.Prelude.{◌≡◌, ℕ, suc, ◌≤◌, ◌&&◌, not, List, [], ◌∷◌, ◌++◌, length, take, map, codes, nat_le, nat_lt, ◌==◌, if◌then◌else◌}
+use Rattle.std.specs.Prelude.{◌≡◌, ℕ, suc, ◌+◌, ◌&&◌, not, ℤ, List, [], ◌∷◌, ◌++◌, length, take, map, codes, nat_le, nat_lt, ◌==◌, if◌then◌else◌}
 use Rattle.std.specs.List.{flat_map}
 use Rattle.omf_base.specs.Digits.{decimal, hexadecimal}
 use Rattle.omf_format.specs.declared.fault.FileCause.{FileCause}
 use Rattle.omf_format.specs.declared.fault.FileCause.TheVariants.{Truncated, BadHeader, Unsupported, BadRecord, Memory}
 use Rattle.omf_format.specs.Header.{Fields}
-use Rattle.omf_format.specs.Record.{Record, End, Const, LongConst, Space}
+use Rattle.omf_format.specs.Field.{shift_byte}
+use Rattle.omf_format.specs.Record.{Record, End, Const, LongConst, Align, Org, Space, Reloc, InterSeg, ShortReloc, ShortInterSeg, Super, Using, Strong, Label, Equate, Formula, IsRecord}
 use Rattle.omf_format.specs.File.{Segment, IsFile}
 use Rattle.omf_cli.specs.Lines.{line}
 
@@ -43,12 +44,70 @@ names_text f = codes " loadname " ++ quoted f.load_name ++ codes " segname " ++ 
 unfoldable pub segment_line : ℕ → ℕ → Fields → List ℕ
 segment_line number start f = line (codes "segment " ++ decimal number ++ labelled (codes " at ") start ++ numbers_text f ++ names_text f)
 
--- a record's name and its fields; constants are shown by their number and the first of them
+-- ---- the fields of records, each with one space before it
+
+-- a number in so many digits
+abbrev pub field : ℕ → ℕ → List ℕ
+field digits n = codes " " ++ hexadecimal digits n
+
+-- a byte of a name: one outside $21 to $7E is shown as `?`
+abbrev pub printed : ℕ → ℕ
+printed byte = if nat_le 0x21 byte && nat_le byte 0x7E then byte else 0x3F
+
+-- a name, without quotes
+unfoldable pub name_text : List ℕ → List ℕ
+name_text name = codes " " ++ map printed name
+
+-- all bytes of an expression
+unfoldable pub expression_text : List ℕ → List ℕ
+expression_text expr = codes " " ++ hex_bytes expr
+
+-- how many constant bytes there are, and the first of them
+unfoldable pub constant_text : List ℕ → List ℕ
+constant_text bytes = field 8 (length bytes) ++ codes " " ++ first_bytes bytes
+
+-- the count and the shift of a patch
+unfoldable pub patch_text : ℕ → ℤ → List ℕ
+patch_text count shift = field 2 count ++ field 2 (shift_byte shift)
+
+-- a label's name, its size, its type and its private byte
+unfoldable pub label_text : List ℕ → ℕ → ℕ → ℕ → List ℕ
+label_text name size form private = name_text name ++ field 4 size ++ field 2 form ++ field 2 private
+
+-- which formula the code means
+abbrev pub formula_name : ℕ → List ℕ
+formula_name code =
+    if code == 0xEB then codes " EXPR"
+    else if code == 0xEC then codes " ZEXPR"
+    else if code == 0xED then codes " BEXPR"
+    else if code == 0xEE then codes " RELEXPR"
+    else codes " LEXPR"
+
+-- only RELEXPR has an n
+unfoldable pub formula_text : ℕ → ℕ → ℕ → List ℕ → List ℕ
+formula_text code count n expr = formula_name code ++ field 2 count ++ (if code == 0xEE then field 8 n else []) ++ expression_text expr
+
+-- a record's name and its fields; of a SUPER the length, which counts its type and its subrecords, and the type
 unfoldable pub record_text : Record → List ℕ
 record_text End = codes " END"
-record_text (Const bytes) = labelled (codes " CONST ") (length bytes) ++ codes " " ++ first_bytes bytes
-record_text (LongConst bytes) = labelled (codes " LCONST ") (length bytes) ++ codes " " ++ first_bytes bytes
-record_text (Space n) = labelled (codes " DS ") n
+record_text (Const bytes) = codes " CONST" ++ constant_text bytes
+record_text (LongConst bytes) = codes " LCONST" ++ constant_text bytes
+record_text (Align n) = codes " ALIGN" ++ field 8 n
+record_text (Org n) = codes " ORG" ++ field 8 n
+record_text (Space n) = codes " DS" ++ field 8 n
+record_text (Reloc count shift location offset) = codes " RELOC" ++ patch_text count shift ++ field 8 location ++ field 8 offset
+record_text (InterSeg count shift location file segment offset) =
+    codes " INTERSEG" ++ patch_text count shift ++ field 8 location ++ field 4 file ++ field 4 segment ++ field 8 offset
+record_text (ShortReloc count shift location offset) = codes " cRELOC" ++ patch_text count shift ++ field 4 location ++ field 4 offset
+record_text (ShortInterSeg count shift location segment offset) =
+    codes " cINTERSEG" ++ patch_text count shift ++ field 4 location ++ field 2 segment ++ field 4 offset
+record_text (Super form bytes) = codes " SUPER" ++ field 8 (length bytes + 1) ++ field 2 form
+record_text (Using name) = codes " USING" ++ name_text name
+record_text (Strong name) = codes " STRONG" ++ name_text name
+record_text (Label global name size form private) = (if global then codes " GLOBAL" else codes " LOCAL") ++ label_text name size form private
+record_text (Equate global name size form private expr) =
+    (if global then codes " GEQU" else codes " EQU") ++ label_text name size form private ++ expression_text expr
+record_text (Formula code count n expr) = formula_text code count n expr
 
 -- a record: its displacement in the file, its name and its fields
 unfoldable pub record_line : ℕ × Record → List ℕ
@@ -77,9 +136,6 @@ cause_name Unsupported = codes "Unsupported"
 cause_name BadRecord = codes "BadRecord"
 cause_name Memory = codes "Memory"
 
--- a record whose constants have no more bytes than that
-abbrev pub HasAtMost : ℕ → Record → Type 0
-HasAtMost most End = Unit {0}
-HasAtMost most (Const bytes) = length bytes ≤ most
-HasAtMost most (LongConst bytes) = length bytes ≤ most
-HasAtMost most (Space n) = Unit {0}
+-- the record has a spelling under some LABLEN
+abbrev pub HasSpelling : Record → Type 0
+HasSpelling r = (lab_len : ℕ) × IsRecord lab_len r

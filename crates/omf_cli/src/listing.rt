@@ -1,6 +1,6 @@
 //! The listing of a file: a line for each segment, and a line for each of its records.
 
-ghost use Rattle.std.specs.Prelude.{◌≡◌, ◌++◌, ◌<◌, ◌-◌, ◌^◌, ℕ, true, List, length, take, codes, OnOk, IfOk};
+ghost use Rattle.std.specs.Prelude.{◌≡◌, ◌++◌, ◌<◌, ◌≤◌, ◌+◌, ◌-◌, ◌^◌, ℕ, true, List, length, take, codes, OnOk, IfOk};
 ghost use Rattle.std.specs.List.{flat_map};
 ghost use Rattle.omf_format.specs.Record.{Record};
 ghost use Rattle.omf_format.specs.Reading.{Reader, HandsOut};
@@ -10,7 +10,7 @@ ghost use Rattle.omf_records.specs.View.{view};
 ghost use Rattle.omf_records.specs.Segments.{placed, IsPlaced, ComesToEnd, views_of};
 ghost use Rattle.omf_cli.specs.Members.{IsAt, HasFile};
 ghost use Rattle.omf_cli.specs.Lines.{line};
-ghost use Rattle.omf_cli.specs.Listing.{shown, quoted, hex_bytes, first_bytes, labelled, numbers_text, names_text, segment_line, record_text, record_line, segment_text, listing_from, HasAtMost};
+ghost use Rattle.omf_cli.specs.Listing.{shown, quoted, hex_bytes, first_bytes, labelled, numbers_text, names_text, segment_line, field, printed, name_text, expression_text, constant_text, patch_text, label_text, formula_name, formula_text, record_text, record_line, segment_text, listing_from, HasSpelling};
 
 use omf_base::{Line, LineFault};
 use omf_header::Header;
@@ -122,34 +122,301 @@ fn put_segment_line(
     line.text("\n")
 }
 
-/// Appends the number of constant bytes and the first of them.
-fn put_constant(line: &mut Line, label: &str, bytes: &[u8]) -> Result<(), LineFault>
-    requires { length bytes.now < 2 ^ 32 }
-    ensures { OnOk result (line.new ≡ line.old ++ (labelled label.now (length bytes.now) ++ codes " " ++ first_bytes bytes.now)) }
+/// Appends a space and a number in so many digits, 1 to 8.
+fn put_field(line: &mut Line, digits: u32, n: u32) -> Result<(), LineFault>
+    requires some { 1 ≤ digits }
+    requires most { digits ≤ 8 }
+    ensures { OnOk result (line.new ≡ line.old ++ field digits n) }
 {
-    put_labelled(line, label, bytes.len() as u32)?;
+    line.text(" ")?;
+    line.hex(n, digits)
+}
+
+/// A byte of a name without quotes.
+fn printed(byte: u8) -> u8
+    ensures { result ≡ printed byte }
+{
+    if byte >= 0x21 && byte <= 0x7E {
+        byte
+    } else {
+        b'?'
+    }
+}
+
+/// Appends a name.
+#[tactic(auto, unfolding(crate::specs::Listing::name_text))]
+fn put_name(line: &mut Line, name: &[u8]) -> Result<(), LineFault>
+    ensures { OnOk result (line.new ≡ line.old ++ name_text name.now) }
+{
+    line.text(" ")?;
+    'bytes: for place in 0..name.len() {
+        line.put(&[printed(name[place])])?;
+    }
+    Ok(())
+}
+
+/// Appends all bytes of an expression.
+#[tactic(auto, unfolding(crate::specs::Listing::expression_text))]
+fn put_expression(line: &mut Line, expr: &[u8]) -> Result<(), LineFault>
+    ensures { OnOk result (line.new ≡ line.old ++ expression_text expr.now) }
+{
+    line.text(" ")?;
+    put_hex(line, expr)
+}
+
+/// Appends the number of constant bytes and the first of them.
+#[tactic(auto, unfolding(crate::specs::Listing::constant_text))]
+fn put_constant(line: &mut Line, bytes: &[u8]) -> Result<(), LineFault>
+    requires { length bytes.now < 2 ^ 32 }
+    ensures { OnOk result (line.new ≡ line.old ++ constant_text bytes.now) }
+{
+    put_field(line, 8, bytes.len() as u32)?;
     line.text(" ")?;
     put_first(line, bytes)
+}
+
+/// Appends the count and the shift of a patch.
+#[tactic(auto, unfolding(crate::specs::Listing::patch_text))]
+fn put_patch(line: &mut Line, count: u8, shift: i8) -> Result<(), LineFault>
+    ensures { OnOk result (line.new ≡ line.old ++ patch_text count shift) }
+{
+    put_field(line, 2, u32::from(count))?;
+    put_field(line, 2, u32::from(shift.cast_unsigned()))
+}
+
+/// Appends a label's name, its size, its type and its private byte.
+#[tactic(auto, unfolding(crate::specs::Listing::label_text))]
+fn put_label(
+    line: &mut Line,
+    name: &[u8],
+    size: u16,
+    form: u8,
+    private: u8,
+) -> Result<(), LineFault>
+    ensures { OnOk result (line.new ≡ line.old ++ label_text name.now size form private) }
+{
+    put_name(line, name)?;
+    put_field(line, 4, u32::from(size))?;
+    put_field(line, 2, u32::from(form))?;
+    put_field(line, 2, u32::from(private))
+}
+
+/// Which formula the code means.
+fn formula_name(code: u8) -> &'static str
+    ensures { result.now ≡ formula_name code }
+{
+    match code {
+        0xEB => " EXPR",
+        0xEC => " ZEXPR",
+        0xED => " BEXPR",
+        0xEE => " RELEXPR",
+        _ => " LEXPR",
+    }
+}
+
+/// Appends a formula.
+#[tactic(auto, unfolding(crate::specs::Listing::formula_text))]
+fn put_formula(
+    line: &mut Line,
+    code: u8,
+    count: u8,
+    n: u32,
+    expr: &[u8],
+) -> Result<(), LineFault>
+    ensures { OnOk result (line.new ≡ line.old ++ formula_text code count n expr.now) }
+{
+    line.text(formula_name(code))?;
+    put_field(line, 2, u32::from(count))?;
+    if code == 0xEE {
+        put_field(line, 8, n)?;
+    }
+    put_expression(line, expr)
+}
+
+/// Appends a record's name and a number of eight digits.
+fn put_number(line: &mut Line, label: &str, n: u32) -> Result<(), LineFault>
+    ensures { OnOk result (line.new ≡ line.old ++ (label.now ++ field 8 n)) }
+{
+    line.text(label)?;
+    put_field(line, 8, n)
+}
+
+/// Appends a record's name and its fields.
+fn put_reloc(
+    line: &mut Line,
+    count: u8,
+    shift: i8,
+    location: u32,
+    offset: u32,
+) -> Result<(), LineFault>
+    ensures { OnOk result (line.new ≡ line.old ++ (codes " RELOC" ++ patch_text count shift ++ field 8 location ++ field 8 offset)) }
+{
+    line.text(" RELOC")?;
+    put_patch(line, count, shift)?;
+    put_field(line, 8, location)?;
+    put_field(line, 8, offset)
+}
+
+/// The same of an INTERSEG.
+fn put_interseg(
+    line: &mut Line,
+    patch: (u8, i8),
+    location: u32,
+    file: u16,
+    segment: u16,
+    offset: u32,
+) -> Result<(), LineFault>
+    ensures { OnOk result (line.new ≡ line.old
+        ++ (codes " INTERSEG" ++ patch_text patch.0 patch.1 ++ field 8 location ++ field 4 file ++ field 4 segment ++ field 8 offset)) }
+{
+    line.text(" INTERSEG")?;
+    put_patch(line, patch.0, patch.1)?;
+    put_field(line, 8, location)?;
+    put_field(line, 4, u32::from(file))?;
+    put_field(line, 4, u32::from(segment))?;
+    put_field(line, 8, offset)
+}
+
+/// The same of a cRELOC.
+fn put_short_reloc(
+    line: &mut Line,
+    count: u8,
+    shift: i8,
+    location: u16,
+    offset: u16,
+) -> Result<(), LineFault>
+    ensures { OnOk result (line.new ≡ line.old ++ (codes " cRELOC" ++ patch_text count shift ++ field 4 location ++ field 4 offset)) }
+{
+    line.text(" cRELOC")?;
+    put_patch(line, count, shift)?;
+    put_field(line, 4, u32::from(location))?;
+    put_field(line, 4, u32::from(offset))
+}
+
+/// The same of a cINTERSEG.
+fn put_short_interseg(
+    line: &mut Line,
+    patch: (u8, i8),
+    location: u16,
+    segment: u8,
+    offset: u16,
+) -> Result<(), LineFault>
+    ensures { OnOk result (line.new ≡ line.old
+        ++ (codes " cINTERSEG" ++ patch_text patch.0 patch.1 ++ field 4 location ++ field 2 segment ++ field 4 offset)) }
+{
+    line.text(" cINTERSEG")?;
+    put_patch(line, patch.0, patch.1)?;
+    put_field(line, 4, u32::from(location))?;
+    put_field(line, 2, u32::from(segment))?;
+    put_field(line, 4, u32::from(offset))
+}
+
+/// The same of a SUPER with so many bytes of subrecords.
+fn put_super(line: &mut Line, form: u8, size: u32) -> Result<(), LineFault>
+    requires { size < 2 ^ 32 - 1 }
+    ensures { OnOk result (line.new ≡ line.old ++ (codes " SUPER" ++ field 8 (size + 1) ++ field 2 form)) }
+{
+    put_number(line, " SUPER", size + 1)?;
+    put_field(line, 2, u32::from(form))
 }
 
 /// Appends a record's name and fields.
 #[tactic(auto, unfolding(crate::specs::Listing::record_text))]
 fn put_record(line: &mut Line, rec: &Rec) -> Result<(), LineFault>
-    requires { HasAtMost (2 ^ 32 - 1) (view rec.now) }
+    requires { HasSpelling (view rec.now) }
     ensures { OnOk result (line.new ≡ line.old ++ record_text (view rec.now)) }
 {
     match rec {
         Rec::End => line.text(" END"),
-        Rec::Const { bytes } => put_constant(line, " CONST ", bytes),
-        Rec::LongConst { bytes } => put_constant(line, " LCONST ", bytes),
-        Rec::Space { n } => put_labelled(line, " DS ", *n),
+        Rec::Const { bytes } => {
+            line.text(" CONST")?;
+            put_constant(line, bytes)
+        }
+        Rec::LongConst { bytes } => {
+            line.text(" LCONST")?;
+            put_constant(line, bytes)
+        }
+        Rec::Align { n } => put_number(line, " ALIGN", *n),
+        Rec::Org { n } => put_number(line, " ORG", *n),
+        Rec::Space { n } => put_number(line, " DS", *n),
+        Rec::Reloc {
+            count,
+            shift,
+            location,
+            offset,
+        } => put_reloc(line, *count, *shift, *location, *offset),
+        Rec::InterSeg {
+            count,
+            shift,
+            location,
+            file,
+            segment,
+            offset,
+        } => put_interseg(
+            line,
+            (*count, *shift),
+            *location,
+            *file,
+            *segment,
+            *offset,
+        ),
+        Rec::ShortReloc {
+            count,
+            shift,
+            location,
+            offset,
+        } => put_short_reloc(line, *count, *shift, *location, *offset),
+        Rec::ShortInterSeg {
+            count,
+            shift,
+            location,
+            segment,
+            offset,
+        } => put_short_interseg(line, (*count, *shift), *location, *segment, *offset),
+        Rec::Super { form, bytes } => put_super(line, *form, bytes.len() as u32),
+        Rec::Using { name } => {
+            line.text(" USING")?;
+            put_name(line, name)
+        }
+        Rec::Strong { name } => {
+            line.text(" STRONG")?;
+            put_name(line, name)
+        }
+        Rec::Label {
+            global,
+            name,
+            length,
+            form,
+            private,
+        } => {
+            line.text(if *global { " GLOBAL" } else { " LOCAL" })?;
+            put_label(line, name, *length, *form, *private)
+        }
+        Rec::Equate {
+            global,
+            name,
+            length,
+            form,
+            private,
+            expr,
+        } => {
+            line.text(if *global { " GEQU" } else { " EQU" })?;
+            put_label(line, name, *length, *form, *private)?;
+            put_expression(line, expr)
+        }
+        Rec::Formula {
+            code,
+            count,
+            n,
+            expr,
+        } => put_formula(line, *code, *count, *n, expr),
     }
 }
 
 /// Appends the line of a record.
 #[tactic(auto, unfolding(crate::specs::Listing::record_line))]
 fn put_record_line(line: &mut Line, at: u32, rec: &Rec) -> Result<(), LineFault>
-    requires { HasAtMost (2 ^ 32 - 1) (view rec.now) }
+    requires { HasSpelling (view rec.now) }
     ensures { OnOk result (line.new ≡ line.old ++ record_line (at, view rec.now)) }
 {
     line.hex(at, 8)?;
@@ -159,8 +426,7 @@ fn put_record_line(line: &mut Line, at: u32, rec: &Rec) -> Result<(), LineFault>
 
 /// Appends the lines of a body's records.
 fn put_records(line: &mut Line, records: Records) -> Result<(), LineFault>
-    requires comes { ComesToEnd records }
-    requires short { length records.left < 2 ^ 32 }
+    requires { ComesToEnd records }
     ensures { (founds : List (ℕ × Record)) (last : Reader) → HandsOut records.entry founds last → last.ended ≡ true
         → OnOk result (line.new ≡ line.old ++ flat_map record_line founds) }
 {
