@@ -1,7 +1,8 @@
 -- The segments of a file, as their views show them.
-use Rattle.std.specs.Prelude.{◌≡◌, List, ℕ}
+use Rattle.std.specs.Prelude.{◌≡◌, true, List, ℕ}
+use Rattle.omf_format.specs.Header.{Fields, form_of}
 use Rattle.omf_format.specs.File.{Segment, IsSegment, IsFile}
-use Rattle.omf_format.specs.Plain.{IsPlainSegment, IsPlain, total_length, least_bank}
+use Rattle.omf_format.specs.Plain.{is_object, IsPlainSegment, IsPlain, total_length, least_bank}
 use Rattle.omf_header.specs.View.{fields}
 use Rattle.omf_records.specs.declared.segment.SegmentView.{SegmentView}
 use Rattle.omf_records.specs.Segments.{Placed, views_of, IsListOf}
@@ -15,6 +16,12 @@ pub record IsAt (s : Segment) (v : SegmentView) : Type 0 where
 -- the list is that of some file's segments
 abbrev pub HasFile : List Placed → Type 0
 HasFile list = (file : List ℕ) × IsListOf list file
+
+-- the header is of an object file's segment that asks for no place
+pub record AsksNoPlace (f : Fields) : Type 0 where
+  pub object : is_object (form_of f.kind) ≡ true
+  pub org : f.org ≡ 0
+  pub align : f.align ≡ 0
 
 -- the segments are plain, with this length together and this least bank size
 pub record AreMembers (segments : List Segment) (total bank_size : ℕ) : Type 0 where

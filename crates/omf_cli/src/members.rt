@@ -1,15 +1,14 @@
 //! The members of a plain object file.
 
 ghost use Rattle.std.specs.Prelude.{◌≡◌, ◌↔◌, ◌⊎◌, ◌≤◌, ◌+◌, IsTrue, List, ℕ, length, MatchOption};
-ghost use Rattle.std.specs.List.{AllByRecursion};
-ghost use Rattle.omf_format.specs.Record.{is_constant};
 ghost use Rattle.omf_format.specs.File.{Segment, IsFile, body_reader};
-ghost use Rattle.omf_format.specs.Plain.{IsPlainSegment, IsPlain, is_object, lesser_bank, body_bytes};
+ghost use Rattle.omf_format.specs.Plain.{HasConstants, IsPlainSegment, IsPlain, is_object, lesser_bank, body_bytes};
 ghost use Rattle.omf_header.specs.View.{fields};
 ghost use Rattle.omf_records.specs.Segments.{placed, IsPlaced, ComesToEnd, views_of};
-ghost use Rattle.omf_cli.specs.Members.{IsAt, HasFile, AreMembers};
+ghost use Rattle.omf_cli.specs.Members.{IsAt, HasFile, AsksNoPlace, AreMembers};
 
 use crate::content::{are_constant, body_size};
+use omf_header::Header;
 use omf_records::{SegmentList, SegmentView};
 
 /// The most bytes that the members have together.
@@ -39,10 +38,16 @@ fn is_sized(view: &SegmentView) -> bool
 fn has_constants(view: &SegmentView) -> bool
     requires header { IsPlaced (placed view.now) }
     requires comes { ComesToEnd (body_reader view.now.start (fields view.now.header) view.now.file.now) }
-    ensures { (s : Segment) → IsAt s view.now
-        → (IsTrue result ↔ AllByRecursion (λ found. IsTrue (is_constant found.1)) s.records) }
+    ensures { (s : Segment) → IsAt s view.now → (IsTrue result ↔ HasConstants s) }
 {
     are_constant(view.records())
+}
+
+/// The header is of an object file's segment that asks for no place.
+fn asks_no_place(header: &Header) -> bool
+    ensures { IsTrue result ↔ AsksNoPlace (fields header.now) }
+{
+    is_object(header.kind.form()) && header.org == 0 && header.align == 0
 }
 
 /// A segment that a plain object file may have.
@@ -51,12 +56,13 @@ fn is_plain(view: &SegmentView) -> bool
     requires comes { ComesToEnd (body_reader view.now.start (fields view.now.header) view.now.file.now) }
     ensures { (s : Segment) → IsAt s view.now → (IsTrue result ↔ IsPlainSegment s) }
 {
-    let header = &view.header;
-    is_object(header.kind.form())
-        && header.org == 0
-        && header.align == 0
-        && has_constants(view)
-        && is_sized(view)
+    if !asks_no_place(&view.header) {
+        return false;
+    }
+    if !has_constants(view) {
+        return false;
+    }
+    is_sized(view)
 }
 
 /// The lesser of two bank sizes, where 0 is no bound.

@@ -19,10 +19,13 @@ memory_bytes s = body_bytes s ++ replicate s.fields.res_spc 0
 abbrev pub is_object : ℕ → Bool
 is_object form = not (list_any (λ t. t == form) (0x02 ∷ 0x04 ∷ 0x08 ∷ []))
 
--- a segment of a plain object file: its records are END, CONST, LCONST and DS, no place is asked for, and LENGTH counts the
--- bytes in memory
+-- the segment's records are END, CONST, LCONST and DS
+pub record HasConstants (s : Segment) : Type 0 where
+  pub each : AllByRecursion (λ found. IsTrue (is_constant found.1)) s.records
+
+-- a segment of a plain object file: it has constants alone, no place is asked for, and LENGTH counts the bytes in memory
 pub record IsPlainSegment (s : Segment) : Type 0 where
-  pub constant : AllByRecursion (λ found. IsTrue (is_constant found.1)) s.records
+  pub constant : HasConstants s
   pub object : is_object (form_of s.fields.kind) ≡ true
   pub org : s.fields.org ≡ 0
   pub align : s.fields.align ≡ 0

@@ -4,6 +4,8 @@
 #[cfg(test)]
 mod dumping;
 #[cfg(test)]
+mod every_record;
+#[cfg(test)]
 mod headers;
 #[cfg(test)]
 mod linking;
