@@ -46,3 +46,10 @@ end_pages lows (byte ∷ bytes) = end_pages (lows_behind lows byte) bytes
 
 unfoldable pub are_pages : List ℕ → Bool
 are_pages bytes = end_pages 0 bytes
+
+-- the locations that are still to come, from this page on, where so many low bytes of it are still to come
+abbrev pub locations_left : ℕ → ℕ → List ℕ → List ℕ
+locations_left page lows [] = []
+locations_left page zero (count ∷ bytes) =
+    if nat_lt count 0x80 then locations_left page (count + 1) bytes else locations_left (page + (count - 0x80)) 0 bytes
+locations_left page (suc lows) (low ∷ bytes) = (page * 256 + low) ∷ locations_left (if lows == 0 then page + 1 else page) lows bytes

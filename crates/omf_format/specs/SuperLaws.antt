@@ -1,10 +1,11 @@
 -- The two laws of SUPER's subrecords: bytes that end with a subrecord are subrecords, and subrecords are such bytes.
-use Rattle.std.proofs.Common.{◌≡◌, ℕ, zero, suc, ◌+◌, ◌-◌, ◌<◌, ◌≤◌, Bool, true, cond, List, [], ◌∷◌, ◌++◌, length, refl, sym, ap, subst, ◌∙◌, arith, inl, inr}
+use Rattle.std.proofs.Common.{◌≡◌, ℕ, zero, suc, ◌+◌, ◌-◌, ◌*◌, map, ◌<◌, ◌≤◌, Bool, true, false, cond, ltb, eqb, List, [], ◌∷◌, ◌++◌, length, refl, sym, ap, subst, ◌∙◌, arith, inl, inr}
 use Rattle.std.specs.List.{flat_map, AllByRecursion}
-use Rattle.std.proofs.lemmas.Bool.{cases_lt, lt-ltb, le-ltb, eqb-true}
+use Rattle.std.proofs.lemmas.List.{append-nil}
+use Rattle.std.proofs.lemmas.Bool.{cases_lt, lt-ltb, le-ltb, eqb-true, ne_eqb}
 use Rattle.omf_format.specs.HeaderLaws.{IsBytes}
 use Rattle.omf_format.specs.FieldLaws.{IsBytes-rest}
-use Rattle.omf_format.specs.Super.{Page, Passed, Located, IsPage, page_text, HavePages, end_pages, are_pages}
+use Rattle.omf_format.specs.Super.{Page, Passed, Located, IsPage, page_text, HavePages, locations_from, end_pages, are_pages, locations_left}
 
 -- the low bytes that are to come, and subrecords behind them
 record Ends (lows : ℕ) (bytes : List ℕ) : Type 0 where
@@ -85,3 +86,45 @@ all_past (page ∷ pages) each = page_past page (flat_map page_text pages) each.
 pub pages-again : (bytes : List ℕ) → HavePages bytes → are_pages bytes ≡ true
 unfolding are_pages
 pages-again bytes have = rw have.text (all_past have.pages have.each)
+
+-- ---- locations
+
+-- the page behind a subrecord
+abbrev next_page : ℕ → Page → ℕ
+next_page page (Passed pages) = page + pages
+next_page page (Located lows) = page + 1
+
+-- the low bytes of a page, of which there is one at least, give its locations, and the next page follows
+lows_left : (page : ℕ) (low : ℕ) (lows rest : List ℕ) → locations_left page (length (low ∷ lows)) ((low ∷ lows) ++ rest) ≡ map (λ l. page * 256 + l) (low ∷ lows) ++ locations_left (page + 1) 0 rest
+lows_left page low [] rest = refl
+lows_left page low (other ∷ lows) rest =
+    let more : eqb (length (other ∷ lows)) 0 ≡ false = ne_eqb _ _ (λ e. absurd (omega arith)) in
+    ap (λ (b : Bool). (page * 256 + low) ∷ locations_left (cond b (page + 1) page) (length (other ∷ lows)) ((other ∷ lows) ++ rest)) more
+    ∙ ap (λ (l : List ℕ). (page * 256 + low) ∷ l) (lows_left page other lows rest)
+
+page_left : (page : ℕ) (of : Page) (rest : List ℕ) → IsPage of → locations_left page 0 (page_text of ++ rest) ≡ locations_from page (of ∷ []) ++ locations_left (next_page page of) 0 rest
+page_left page (Passed pages) rest is =
+    let high : ltb (0x80 + pages) 0x80 ≡ false = le-ltb _ _ (omega arith) in
+    let count : 0x80 + pages - 0x80 ≡ pages = omega arith in
+    ap (λ (b : Bool). cond b (locations_left page (0x80 + pages + 1) rest) (locations_left (page + (0x80 + pages - 0x80)) 0 rest)) high
+    ∙ ap (λ (n : ℕ). locations_left (page + n) 0 rest) count
+page_left page (Located []) rest is = absurd (omega arith)
+page_left page (Located (low ∷ lows)) rest is =
+    let few : ltb (length (low ∷ lows) - 1) 0x80 ≡ true = lt-ltb _ _ (omega arith) in
+    let size : length (low ∷ lows) - 1 + 1 ≡ length (low ∷ lows) = omega arith in
+    ap (λ (b : Bool). cond b (locations_left page (length (low ∷ lows) - 1 + 1) ((low ∷ lows) ++ rest)) (locations_left (page + (length (low ∷ lows) - 1 - 0x80)) 0 ((low ∷ lows) ++ rest))) few
+    ∙ ap (λ (n : ℕ). locations_left page n ((low ∷ lows) ++ rest)) size
+    ∙ lows_left page low lows rest
+    ∙ ap (λ (l : List ℕ). l ++ locations_left (page + 1) 0 rest) (sym (append-nil (map (λ l. page * 256 + l) (low ∷ lows))))
+
+-- the locations are those of the pages
+pub locations_are : (page : ℕ) (pages : List Page) → AllByRecursion IsPage pages → locations_left page 0 (flat_map page_text pages) ≡ locations_from page pages
+locations_are page [] each = refl
+locations_are page (of ∷ pages) each =
+    page_left page of (flat_map page_text pages) each.0
+    ∙ ap (λ (l : List ℕ). locations_from page (of ∷ []) ++ l) (locations_are (next_page page of) pages each.1)
+    ∙ one_more page of pages
+  where
+    one_more : (page : ℕ) (of : Page) (pages : List Page) → locations_from page (of ∷ []) ++ locations_from (next_page page of) pages ≡ locations_from page (of ∷ pages)
+    one_more page (Passed n) pages = refl
+    one_more page (Located lows) pages = ap (λ (l : List ℕ). l ++ locations_from (page + 1) pages) (append-nil (map (λ low. page * 256 + low) lows))

@@ -1,5 +1,5 @@
 -- How records and what a reader answers are seen.
-use Rattle.std.specs.Prelude.{ℕ, Option, Some, None, Result, Ok, Err}
+use Rattle.std.specs.Prelude.{ℕ, List, [], ◌∷◌, Option, Some, None, Result, Ok, Err}
 use Rattle.omf_format.specs.declared.fault.RecordFault.{RecordFault}
 use Rattle.omf_format.specs.Record.{Record}
 use Rattle.omf_format.specs.Record as format
@@ -30,3 +30,12 @@ abbrev pub seen : Result (Option (ℕ × Rec)) RecordFault → Result (Option (�
 seen (Ok None) = Ok None
 seen (Ok (Some found)) = Ok (Some (found.0, view found.1))
 seen (Err fault) = Err fault
+
+-- the first item of a list, and the items behind it
+abbrev pub first : List ℕ → Option ℕ
+first [] = None
+first (x ∷ xs) = Some x
+
+abbrev pub behind : List ℕ → List ℕ
+behind [] = []
+behind (x ∷ xs) = xs

@@ -6,6 +6,7 @@ mod checks;
 mod front;
 mod laws;
 mod list;
+mod locations;
 mod reading;
 mod record;
 mod segment;
@@ -13,6 +14,7 @@ mod writing;
 
 pub use laws::{bodies_are_handed_out, files_are_read_in_one_way, records_are_spelled};
 pub use list::{SegmentList, segments};
+pub use locations::Locations;
 pub use omf_format::{FileCause, FileFault, RecordFault};
 pub use reading::Records;
 pub use record::Rec;

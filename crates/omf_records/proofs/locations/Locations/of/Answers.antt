@@ -1,0 +1,7 @@
+use Rattle.std.proofs.Common.{ap, ◌∙◌}
+use Rattle.omf_format.specs.Super.{locations_left}
+use Rattle.omf_format.specs.SuperLaws.{locations_are}
+use Rattle.omf_records.proofs.locations.Locations.of.Goals as goal
+
+pub returns : goal.returns
+returns c pages each text = ap (locations_left 0 0) text ∙ locations_are 0 pages each
