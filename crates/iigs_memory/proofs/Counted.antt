@@ -8,6 +8,14 @@ pub counts_at : (P : ℕ → Type 0) (limit other count number : ℕ) → limit 
 counts_at P limit other count number limits counts holds =
     subst (λ (l : ℕ). CountsBelow P l number) limits (subst (λ (k : ℕ). CountsBelow P limit k) counts holds)
 
+-- a property has one count
+pub counts_once : (P : ℕ → Type 0) (limit p q : ℕ) → CountsBelow P limit p → CountsBelow P limit q → p ≡ q
+counts_once P _ _ _ none none = refl
+counts_once P _ _ _ (one_more limit p one has) (one_more _ q two has') = ap suc (counts_once P limit p q one two)
+counts_once P _ _ _ (one_more limit p one has) (no_more _ q two has') = absurd (has' has)
+counts_once P _ _ _ (no_more limit p one has) (one_more _ q two has') = absurd (has has')
+counts_once P _ _ _ (no_more limit p one has) (no_more _ q two has') = counts_once P limit p q one two
+
 -- properties that are the same below the limit have the same count
 pub counts_same : (P Q : ℕ → Type 0) (limit count : ℕ) → CountsBelow P limit count → ((i : ℕ) → i < limit → P i ↔ Q i) → CountsBelow Q limit count
 counts_same P Q _ _ none same = none
@@ -40,7 +48,7 @@ counts_window P start len low high count order within before only all =
     let two : CountsBelow P (start + low + (high - low)) (count + (high - low)) = counts_all P (start + low) count (high - low) one (λ i from to. all i from (omega arith)) in
     let three : CountsBelow P (start + high) (count + (high - low)) = counts_at P (start + low + (high - low)) (start + high) (count + (high - low)) (count + (high - low)) (omega arith) refl two in
     let four : CountsBelow P (start + high + (len - high)) (count + (high - low)) = counts_none P (start + high) (count + (high - low)) (len - high) three
-        (λ i from to has. absurd (omega (arith, only i (omega arith) (omega arith) has))) in
+    (λ i from to has. absurd (omega (arith, only i (omega arith) (omega arith) has))) in
     counts_at P (start + high + (len - high)) (start + len) (count + (high - low)) (count + (high - low)) (omega arith) refl four
 
 -- two properties of which no number has both

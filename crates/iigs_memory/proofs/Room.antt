@@ -42,24 +42,24 @@ module _ (banks : List ℕ) where
   one_bank true bank count is before = counts_window (IsFree banks) (0x10000 * bank) 0x10000 (first_free bank) (free_end bank) count
       (free_range bank).0 (free_range bank).1 before
       (λ i from to free.
-        let same : bank_of i ≡ bank = bank_is bank i from to in
-        let above : first_free bank ≤ low_of i = rw same at free.above in
-        let below : low_of i < free_end bank = rw same at free.below in
-        (omega arith, omega arith))
+      let same : bank_of i ≡ bank = bank_is bank i from to in
+      let above : first_free bank ≤ low_of i = rw same at free.above in
+      let below : low_of i < free_end bank = rw same at free.below in
+      (omega arith, omega arith))
       (λ i from to.
-        let range = free_range bank in
-        let same : bank_of i ≡ bank = bank_is bank i (omega arith) (omega arith) in
-        record {
-          configured = rw same ((named-Contains banks bank).0 is);
-          above = rw same (omega arith);
-          below = rw same (omega arith);
-        })
+      let range = free_range bank in
+      let same : bank_of i ≡ bank = bank_is bank i (omega arith) (omega arith) in
+      record {
+        configured = rw same ((named-Contains banks bank).0 is);
+        above = rw same (omega arith);
+        below = rw same (omega arith);
+      })
   one_bank false bank count is before = counts_at (IsFree banks) (0x10000 * bank + 0x10000) (0x10000 * bank + 0x10000) count (count + 0) refl (omega arith)
       (counts_none (IsFree banks) (0x10000 * bank) count 0x10000 before (λ i from to free.
-        let same : bank_of i ≡ bank = bank_is bank i from to in
-        let has : Contains banks bank = rw same at free.configured in
-        let named : is_named banks bank ≡ true = (named-Contains banks bank).1 has in
-        absurd (cc)))
+      let same : bank_of i ≡ bank = bank_is bank i from to in
+      let has : Contains banks bank = rw same at free.configured in
+      let named : is_named banks bank ≡ true = (named-Contains banks bank).1 has in
+      absurd (cc)))
 
   pub free_counts : (bank : ℕ) → CountsBelow (IsFree banks) (0x10000 * bank) (free_below banks bank)
   free_counts zero = counts_at (IsFree banks) 0 (0x10000 * 0) 0 (free_below banks 0) (omega arith) (sym (free_below-zero banks)) none
@@ -108,10 +108,10 @@ held_counts [] bounded apart = none_below (IsHeld []) (2 ^ 24) (λ i held. held.
 held_counts (slot ∷ slots) bounded apart =
     let first : CountsBelow (λ i. HoldsByte i slot) (2 ^ 24) (size_in slot) = slot_counts slot (All-head IsBoundedSlot slot slots bounded) in
     let rest : CountsBelow (IsHeld slots) (2 ^ 24) (sum_by size_in slots) = held_counts slots (All-tail IsBoundedSlot slot slots bounded)
-        (λ place other i one two. omega (arith, apart (suc place) (suc other) i one two)) in
+    (λ place other i one two. omega (arith, apart (suc place) (suc other) i one two)) in
     let both : CountsBelow (λ i. HoldsByte i slot ⊎ IsHeld slots i) (2 ^ 24) (size_in slot + sum_by size_in slots) =
-        counts_either (λ i. HoldsByte i slot) (IsHeld slots) (2 ^ 24) (size_in slot) (sum_by size_in slots) first rest
-        (λ i here there. absurd (omega (arith, apart zero (suc there.0) i here there.1))) in
+    counts_either (λ i. HoldsByte i slot) (IsHeld slots) (2 ^ 24) (size_in slot) (sum_by size_in slots) first rest
+    (λ i here there. absurd (omega (arith, apart zero (suc there.0) i here there.1))) in
     rw (sum_by-cons size_in slot slots) (counts_same (λ i. HoldsByte i slot ⊎ IsHeld slots i) (IsHeld (slot ∷ slots)) (2 ^ 24) (size_in slot + sum_by size_in slots) both
     (λ i less. held_cons slot slots i))
 
@@ -122,6 +122,9 @@ room_counts memory bounded apart =
     let free : CountsBelow (IsFree memory.banks) (2 ^ 24) (free_below memory.banks 256) = free_counts memory.banks 256 in
     let held : CountsBelow (IsHeld memory.slots) (2 ^ 24) (sum_by size_in memory.slots) = held_counts memory.slots bounded apart.apart in
     let left = counts_without (IsFree memory.banks) (IsHeld memory.slots) (2 ^ 24) (free_below memory.banks 256) (sum_by size_in memory.slots) free held
-        (λ i held. apart.inside held.0 i held.1) in
-    (left.0, left.1, counts_same (λ i. IsFree memory.banks i × ¬ IsHeld memory.slots i) (IsRoom memory) (2 ^ 24) left.0 left.2
-    (λ i less. (λ both. record { free = both.0; no_block = λ place holds. both.1 (place, holds) }, λ room. (room.free, λ held. room.no_block held.0 held.1))))
+    (λ i held. apart.inside held.0 i held.1) in (
+      left.0,
+      left.1,
+      counts_same (λ i. IsFree memory.banks i × ¬ IsHeld memory.slots i) (IsRoom memory) (2 ^ 24) left.0 left.2
+          (λ i less. (λ both. record { free = both.0; no_block = λ place holds. both.1 (place, holds) }, λ room. (room.free, λ held. room.no_block held.0 held.1))),
+    )

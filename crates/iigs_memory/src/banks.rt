@@ -372,6 +372,7 @@ impl Banks {
     /// How many bytes of free memory lie in no block.
     pub fn room(&self) -> u32
         ensures counts { CountsBelow (IsRoom self.now) (2 ^ 24) result }
+        ensures only { (other : ℕ) → CountsBelow (IsRoom self.now) (2 ^ 24) other → other ≡ result }
         ensures all { (address : ℕ) → IsRoom self.now address → address < 2 ^ 24 }
     {
         let free = self.map.free_bytes();

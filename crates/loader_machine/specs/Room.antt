@@ -5,7 +5,8 @@ use Rattle.loader_machine.specs.Free.{IsFree}
 use Rattle.loader_machine.specs.Fits.{HoldsByte}
 use Rattle.loader_machine.specs.Memory.{Memory}
 
--- of the numbers below a limit, so many have a property
+-- of the numbers below a limit, so many have a property: below 0 none; where the limit itself has it one more of those
+-- below the next limit, and else no more
 pub data CountsBelow (P : ℕ → Type 0) : ℕ → ℕ → Type 0 where
   none : CountsBelow P zero zero
   one_more : (limit count : ℕ) → CountsBelow P limit count → P limit → CountsBelow P (suc limit) (suc count)

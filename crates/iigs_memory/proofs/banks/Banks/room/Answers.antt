@@ -3,7 +3,7 @@ use Rattle.loader_machine.specs.Memory.{Memory}
 use Rattle.iigs_memory.specs.Sizes.{size_in, free_below}
 use Rattle.iigs_memory.specs.Store.{memory_of}
 use Rattle.iigs_memory.proofs.Room.{room_counts}
-use Rattle.iigs_memory.proofs.Counted.{counts_at}
+use Rattle.iigs_memory.proofs.Counted.{counts_once}
 use Rattle.loader_machine.specs.Room.{CountsBelow, IsRoom}
 use Rattle.iigs_memory.proofs.banks.Banks.room.Goals as goal
 
@@ -22,8 +22,14 @@ overflow_cast-result c = let room = left c in omega (arith, room.1, c.free_bytes
 pub overflow_sub-result : goal.overflow_sub-result
 overflow_sub-result c = let room = left c in omega (arith, room.1)
 
-pub returns-clause-counts : goal.returns-clause-counts
-returns-clause-counts c =
+counted : (c : goal.After-used_bytes-used) → CountsBelow (IsRoom c.args.self.now) (2 ^ 24) (c.free_bytes-free.result - c.used_bytes-used.result)
+counted c =
     let room = left c in
     let same : room.0 ≡ c.free_bytes-free.result - c.used_bytes-used.result = omega (arith, room.1) in
     rw (← same) room.2
+
+pub returns-clause-counts : goal.returns-clause-counts
+returns-clause-counts c = counted c
+
+pub returns-clause-only : goal.returns-clause-only
+returns-clause-only c other counts = counts_once (IsRoom c.args.self.now) (2 ^ 24) other (c.free_bytes-free.result - c.used_bytes-used.result) counts (counted c)
