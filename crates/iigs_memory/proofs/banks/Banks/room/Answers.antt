@@ -1,6 +1,6 @@
 use Rattle.std.proofs.Common.{◌≡◌, ◌+◌, ◌-◌, ◌^◌, ap, subst, ◌∙◌, arith, sum_by, ℕ}
 use Rattle.loader_machine.specs.Memory.{Memory}
-use Rattle.iigs_memory.specs.Sizes.{size_in, free_below}
+use Rattle.iigs_memory.specs.Sizes.{size_in}
 use Rattle.iigs_memory.specs.Store.{memory_of}
 use Rattle.iigs_memory.proofs.Room.{room_counts}
 use Rattle.iigs_memory.proofs.Counted.{counts_once}
