@@ -1,5 +1,6 @@
 pub mod Bars
 pub mod Counts
+pub mod Counted
 pub mod Gathered
 pub mod Beside
 pub mod Fewest
@@ -19,3 +20,4 @@ pub mod Fresh
 pub mod Alls
 pub mod Cleared
 pub mod AllPlaced
+pub mod Room

@@ -1,4 +1,5 @@
 pub mod Offsets
+pub mod Sizes
 pub mod Open
 pub mod Spots
 pub mod Store

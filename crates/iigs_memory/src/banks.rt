@@ -1,12 +1,13 @@
 //! Memory of banks.
 
-ghost use Rattle.std.specs.Prelude.{◌≡◌, ◌++◌, ◌+◌, All, vec_len, vec_capacity, ◌<◌, ◌≤◌, ℕ, List, ◌-◌, length, take, drop, replicate, slice_set, IsSomeAnd, IsSome, IfOk, IfErr, OnErr, OnOk, [], true, false};
+ghost use Rattle.std.specs.Prelude.{◌≡◌, ◌++◌, ◌+◌, All, vec_len, vec_capacity, ◌<◌, ◌≤◌, ◌^◌, ℕ, List, ◌-◌, length, take, drop, replicate, slice_set, IsSomeAnd, IsSome, IfOk, IfErr, OnErr, OnOk, [], true, false};
 ghost use Rattle.std.specs.Option.{option_map};
 ghost use Rattle.std.specs.Result.{result_ok};
 ghost use Rattle.std.specs.Borrow.{sem};
 ghost use Rattle.loader_machine.specs.Slots.{get, with_value};
 ghost use Rattle.loader_machine.specs.Fits.{IsWant};
-ghost use Rattle.loader_machine.specs.Memory.{bytes_at, IsLent, IsBlockRefusal, KeepsBut, Changes, IsFreed, IsStale, IsPurged, IsPlaced, IsPlaceRefusal, AreAllPlaced, IsPlaceAllRefusal, IsReplaced, IsReplaceRefusal, IsNew, IsBanksRefusal, AreApart, new_slots, room_of, state_of};
+ghost use Rattle.loader_machine.specs.Memory.{bytes_at, IsLent, IsBlockRefusal, KeepsBut, Changes, IsFreed, IsStale, IsPurged, IsPlaced, IsPlaceRefusal, AreAllPlaced, IsPlaceAllRefusal, IsReplaced, IsReplaceRefusal, IsNew, IsBanksRefusal, AreApart, new_slots, state_of};
+ghost use Rattle.loader_machine.specs.Room.{CountsBelow, IsRoom};
 
 use crate::bank_map::BankMap;
 use crate::part::Part;
@@ -370,14 +371,12 @@ impl Banks {
 
     /// How many bytes of free memory lie in no block.
     pub fn room(&self) -> u32
-        ensures { result ≡ room_of self.now }
+        ensures counts { CountsBelow (IsRoom self.now) (2 ^ 24) result }
+        ensures only { (other : ℕ) → CountsBelow (IsRoom self.now) (2 ^ 24) other → other ≡ result }
+        ensures all { (address : ℕ) → IsRoom self.now address → address < 2 ^ 24 }
     {
         let free = self.map.free_bytes();
         let used = used_bytes(self.table.slots());
-        if used < u64::from(free) {
-            free - used as u32
-        } else {
-            0
-        }
+        free - used as u32
     }
 }

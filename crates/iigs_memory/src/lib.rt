@@ -5,6 +5,7 @@
 
 mod bank_map;
 mod banks;
+mod law;
 mod open;
 mod part;
 mod search;
@@ -15,4 +16,5 @@ mod tests;
 
 pub use banks::Banks;
 pub use iigs_handles::Handle;
+pub use law::wants_go_to_one_address;
 pub use loader_machine::{BanksFault, Block, BlockFault, BlockState, PlaceFault, Want};

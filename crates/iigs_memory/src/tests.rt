@@ -65,6 +65,21 @@ fn one_bank_is_filled(rt: HostRuntime) -> Result<(), Fail> {
     Ok(())
 }
 
+// Banks $00 and $E1 are free in part. What a block has isn't room until the block is purged.
+#[test]
+fn room_is_what_is_free_and_in_no_block(rt: HostRuntime) -> Result<(), Fail> {
+    let mut banks = Banks::new(rt.alloc(), &[0xE1, 5, 0])?;
+    assert_eq!(rt; banks.room(), 0xA000 + 0x1_0000 + 0xB800);
+    assert_eq!(rt; banks.place(&any(0x1234), 7, false, 1), Ok(handle(0, 0)));
+    assert_eq!(rt; banks.place(&any(0x10), 7, true, 1), Ok(handle(1, 0)));
+    assert_eq!(rt; banks.room(), 0x2_5800 - 0x1244);
+    assert_eq!(rt; banks.purge_user(7), 1);
+    assert_eq!(rt; banks.room(), 0x2_5800 - 0x10);
+    assert_eq!(rt; banks.free(handle(1, 0)), Ok(()));
+    assert_eq!(rt; banks.room(), 0x2_5800);
+    Ok(())
+}
+
 // A handle is stale once its block was freed, also where another block took its slot.
 #[test]
 fn a_freed_handle_is_stale(rt: HostRuntime) -> Result<(), Fail> {

@@ -5,4 +5,5 @@ pub mod Free
 pub mod Fits
 pub mod Placement
 pub mod Memory
+pub mod Room
 pub mod Command

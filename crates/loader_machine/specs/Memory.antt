@@ -1,7 +1,6 @@
 -- Memory of banks with blocks under handles, and what each call makes of it.
-use Rattle.std.specs.Prelude.{◌≡◌, ◌≢◌, ℕ, Bool, true, false, zero, suc, ◌-◌, ◌+◌, ◌==◌, ◌&&◌, ◌<◌, ◌≤◌, List, [], ◌∷◌, map, take, length, replicate, count_by, sum_by, All, Contains, Option, Some, None, IsSome, IsSomeAnd, slice_get, slice_index, slice_index_or, if◌then◌else◌}
-use Rattle.std.specs.Option.{option_map_or, option_map, option_and_then}
-use Rattle.std.specs.List.{list_any}
+use Rattle.std.specs.Prelude.{◌≡◌, ◌≢◌, ℕ, Bool, true, false, ◌==◌, ◌&&◌, ◌<◌, ◌≤◌, List, [], ◌∷◌, map, take, length, replicate, count_by, Contains, Option, Some, None, IsSome, IsSomeAnd, slice_get, slice_index, slice_index_or, if◌then◌else◌}
+use Rattle.std.specs.Option.{option_map_or, option_and_then}
 use Rattle.loader_machine.specs.declared.handles.Handle.{Handle}
 use Rattle.loader_machine.specs.declared.slots.Slot.{Slot}
 use Rattle.loader_machine.specs.declared.wants.Want.{Want}
@@ -14,7 +13,7 @@ use Rattle.loader_machine.specs.declared.faults.BlockFault.TheVariants as block_
 use Rattle.loader_machine.specs.declared.faults.BanksFault.{BanksFault}
 use Rattle.loader_machine.specs.declared.faults.BanksFault.TheVariants as banks_fault
 use Rattle.loader_machine.specs.Slots.{slot_at, new_slot, get, is_free, new_handle, after_take, after_release, with_value, released}
-use Rattle.loader_machine.specs.Free.{IsFree, first_free, free_end}
+use Rattle.loader_machine.specs.Free.{IsFree}
 use Rattle.loader_machine.specs.Fits.{block_in, HoldsByte}
 use Rattle.loader_machine.specs.Placement.{can_purge, emptied_where, emptied, GoesTo, HasNoRoom}
 
@@ -206,17 +205,3 @@ pub record IsNew (banks : List ℕ) (memory : Memory) : Type 0 where
   pub distinct : AreDistinctTo (length banks) banks
   pub banks_are : memory.banks ≡ banks
   pub slots : memory.slots ≡ new_slots
-
--- how many bytes of free memory the configured banks below this one have
-unfoldable pub free_below : List ℕ → ℕ → ℕ
-free_below banks zero = 0
-free_below banks (suc bank) = free_below banks bank
-    + (if list_any (λ other. bank == other) banks then free_end bank - first_free bank else 0)
-
--- how many bytes the block in a slot has, if it is there
-abbrev pub size_in : Slot Block → ℕ
-size_in slot = option_map_or (λ block. option_map_or (λ at. block.want.size) block.at 0) (block_in slot) 0
-
--- the free bytes of the configured banks, without those of blocks
-abbrev pub room_of : Memory → ℕ
-room_of memory = free_below memory.banks 256 - sum_by size_in memory.slots

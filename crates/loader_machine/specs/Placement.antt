@@ -1,5 +1,5 @@
 -- Which blocks are purged for a want, and where it goes.
-use Rattle.std.specs.Prelude.{◌≡◌, ℕ, Bool, false, ◌==◌, ◌&&◌, ◌||◌, not, nat_lt, ◌<◌, ◌≤◌, List, map, count_by, Option, None, is_some, unwrap_or, if◌then◌else◌}
+use Rattle.std.specs.Prelude.{◌≡◌, ℕ, Bool, false, ◌==◌, ◌&&◌, ◌||◌, not, nat_lt, ◌<◌, ◌≤◌, List, map, count_by, None, is_some, unwrap_or, if◌then◌else◌}
 use Rattle.std.specs.Option.{option_map_or}
 use Rattle.loader_machine.specs.declared.slots.Slot.{Slot}
 use Rattle.loader_machine.specs.declared.slots.Content.TheVariants.{Used}
@@ -40,6 +40,12 @@ pub record GoesTo (banks : List ℕ) (slots : List (Slot Block)) (want : Want) (
   pub fits : Fits banks (emptied slots count) want address
   pub least : (other : ℕ) → Fits banks (emptied slots count) want other → address ≤ other
   pub fewest : (fewer : ℕ) → fewer < count → (other : ℕ) → ¬ Fits banks (emptied slots fewer) want other
+
+-- a want goes to one address only, once one number of blocks is emptied
+abbrev pub GoesToOneAddress : Type 0
+GoesToOneAddress = (banks : List ℕ) (slots : List (Slot Block)) (want : Want) (count other_count address other : ℕ)
+    → GoesTo banks slots want count address → GoesTo banks slots want other_count other
+    → (count ≡ other_count) × (address ≡ other)
 
 -- the want fits nowhere, whatever is purged
 abbrev pub HasNoRoom : List ℕ → List (Slot Block) → Want → Type 0

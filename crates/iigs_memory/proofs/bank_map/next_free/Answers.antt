@@ -1,6 +1,6 @@
 use Rattle.std.proofs.Common.{◌≡◌, ◌+◌, ◌-◌, true, false, refl, sym, ◌∙◌, arith}
 use Rattle.loader_machine.specs.Free.{free_end, first_free}
-use Rattle.loader_machine.specs.Memory.{free_below}
+use Rattle.iigs_memory.specs.Sizes.{free_below}
 use Rattle.iigs_memory.specs.Offsets.{is_named}
 use Rattle.iigs_memory.proofs.Counts.{free_below-suc}
 use Rattle.iigs_memory.proofs.bank_map.next_free.Goals as goal

@@ -1,5 +1,5 @@
 use Rattle.std.proofs.Common.{◌≡◌, ◌≤◌, ◌*◌, ◌^◌, take, sum_by}
-use Rattle.loader_machine.specs.Memory.{size_in}
+use Rattle.iigs_memory.specs.Sizes.{size_in}
 use Rattle.iigs_memory.proofs.table.used_bytes.Given as goal
 
 -- the bytes of the blocks so far

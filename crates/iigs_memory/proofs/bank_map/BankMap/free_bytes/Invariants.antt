@@ -1,5 +1,5 @@
 use Rattle.std.proofs.Common.{◌≡◌, ◌≤◌, ◌*◌}
-use Rattle.loader_machine.specs.Memory.{free_below}
+use Rattle.iigs_memory.specs.Sizes.{free_below}
 use Rattle.iigs_memory.proofs.bank_map.BankMap.free_bytes.Given as goal
 
 -- the free bytes of the banks so far
