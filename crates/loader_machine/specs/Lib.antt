@@ -6,3 +6,4 @@ pub mod Fits
 pub mod Placement
 pub mod Memory
 pub mod Command
+pub mod Script
