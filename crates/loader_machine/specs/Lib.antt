@@ -7,3 +7,4 @@ pub mod Placement
 pub mod Memory
 pub mod Command
 pub mod Script
+pub mod ScriptLaws
