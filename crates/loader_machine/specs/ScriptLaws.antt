@@ -44,23 +44,28 @@ unfolding onto_front
 onto_front-last byte [] = refl
 onto_front-last byte (next ∷ line) = ap (λ (all : List (List ℕ)). onto_first byte all) (onto_front-last next line)
 
+-- a line without an end in it, before the rest of a text that begins with an end
+pub lines_of-ended : (line rest behind : List ℕ) → HasNoEnd line → lines_of rest ≡ [] ∷ lines_of behind
+    → lines_of (line ++ rest) ≡ line ∷ lines_of behind
+lines_of-ended line rest behind h ends =
+    lines_of-front line rest h ∙ ap (onto_front line) ends ∙ onto_front-first line (lines_of behind)
+
 -- a line before LF
 pub lines_of-lf : (line behind : List ℕ) → HasNoEnd line → lines_of (line ++ 0x0A ∷ behind) ≡ line ∷ lines_of behind
 unfolding lines_of
-lines_of-lf line behind h = lines_of-front line (0x0A ∷ behind) h ∙ onto_front-first line (lines_of behind)
+lines_of-lf line behind h = lines_of-ended line (0x0A ∷ behind) behind h refl
 
 -- a line before CR LF
 pub lines_of-cr_lf : (line behind : List ℕ) → HasNoEnd line → lines_of (line ++ 0x0D ∷ 0x0A ∷ behind) ≡ line ∷ lines_of behind
 unfolding lines_of
-lines_of-cr_lf line behind h = lines_of-front line (0x0D ∷ 0x0A ∷ behind) h ∙ onto_front-first line (lines_of behind)
+lines_of-cr_lf line behind h = lines_of-ended line (0x0D ∷ 0x0A ∷ behind) behind h refl
 
 -- a line before a CR with no LF behind it
 pub lines_of-cr : (line behind : List ℕ) → HasNoEnd line → (slice_index behind 0 == 0x0A) ≡ false
     → lines_of (line ++ 0x0D ∷ behind) ≡ line ∷ lines_of behind
 unfolding lines_of
 lines_of-cr line behind h no_lf =
-    let ends : lines_of (0x0D ∷ behind) ≡ [] ∷ lines_of behind = rw no_lf refl in
-    lines_of-front line (0x0D ∷ behind) h ∙ ap (onto_front line) ends ∙ onto_front-first line (lines_of behind)
+    lines_of-ended line (0x0D ∷ behind) behind h (rw no_lf refl)
 
 -- a line without an end
 pub lines_of-last : (byte : ℕ) (line : List ℕ) → HasNoEnd (byte ∷ line) → lines_of (byte ∷ line) ≡ (byte ∷ line) ∷ []

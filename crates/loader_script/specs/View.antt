@@ -1,0 +1,41 @@
+-- How commands, their causes and faults are seen.
+use Rattle.std.specs.Prelude.{◌≡◌, ℕ, List, Result, Ok, Err}
+use Rattle.loader_machine.specs.declared.script.ScriptCause.{ScriptCause}
+use Rattle.loader_machine.specs.declared.script.ScriptCause.TheVariants.{TooManyLines, BadWord, UnknownCommand, BanksFirst, WrongCount, BadNumber, BankTwice, Memory}
+use Rattle.loader_machine.specs.declared.script.ScriptFault.{ScriptFault}
+use Rattle.loader_machine.specs.Command as machine
+use Rattle.loader_machine.specs.Script.{IsFirstBadLine}
+use Rattle.loader_script.specs.declared.command.Command.{Command}
+use Rattle.loader_script.specs.declared.command.Command.TheVariants.{Banks, Load, Bytes}
+
+-- a command with its list and its path as their bytes
+abbrev pub command : Command → machine.Command
+command (Banks list) = machine.Banks list
+command (Load path) = machine.Load path
+command (Bytes user segment at size) = machine.Bytes user segment at size
+
+-- what was read is this, unless memory ran out
+abbrev pub IsRead : Result Command ScriptCause → Result machine.Command ScriptCause → Type 0
+IsRead (Ok found) read = read ≡ Ok (command found)
+IsRead (Err TooManyLines) read = read ≡ Err TooManyLines
+IsRead (Err BadWord) read = read ≡ Err BadWord
+IsRead (Err UnknownCommand) read = read ≡ Err UnknownCommand
+IsRead (Err BanksFirst) read = read ≡ Err BanksFirst
+IsRead (Err WrongCount) read = read ≡ Err WrongCount
+IsRead (Err BadNumber) read = read ≡ Err BadNumber
+IsRead (Err BankTwice) read = read ≡ Err BankTwice
+IsRead (Err Memory) read = Unit {0}
+
+-- the text's line with this number is its first bad one, for the first cause; for want of memory the number is 0
+abbrev pub IsRefusedFor : ScriptCause → ℕ → List ℕ → Type 0
+IsRefusedFor TooManyLines line text = IsFirstBadLine text line TooManyLines
+IsRefusedFor BadWord line text = IsFirstBadLine text line BadWord
+IsRefusedFor UnknownCommand line text = IsFirstBadLine text line UnknownCommand
+IsRefusedFor BanksFirst line text = IsFirstBadLine text line BanksFirst
+IsRefusedFor WrongCount line text = IsFirstBadLine text line WrongCount
+IsRefusedFor BadNumber line text = IsFirstBadLine text line BadNumber
+IsRefusedFor BankTwice line text = IsFirstBadLine text line BankTwice
+IsRefusedFor Memory line text = line ≡ 0
+
+abbrev pub IsRefused : ScriptFault → List ℕ → Type 0
+IsRefused fault text = IsRefusedFor fault.cause fault.line text

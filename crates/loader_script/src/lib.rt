@@ -1,0 +1,11 @@
+//! Scripts of the System Loader: a text is read into its commands, or refused at its first bad line.
+#![tactic(auto)]
+
+mod command;
+mod lines;
+
+mod words;
+
+pub use command::{BankList, Command};
+pub use loader_machine::{ScriptCause, ScriptFault};
+
