@@ -14,17 +14,21 @@ command (Banks list) = machine.Banks list
 command (Load path) = machine.Load path
 command (Bytes user segment at size) = machine.Bytes user segment at size
 
--- what was read is this, unless memory ran out
-abbrev pub IsRead : Result Command ScriptCause → Result machine.Command ScriptCause → Type 0
-IsRead (Ok found) read = read ≡ Ok (command found)
-IsRead (Err TooManyLines) read = read ≡ Err TooManyLines
-IsRead (Err BadWord) read = read ≡ Err BadWord
-IsRead (Err UnknownCommand) read = read ≡ Err UnknownCommand
-IsRead (Err BanksFirst) read = read ≡ Err BanksFirst
-IsRead (Err WrongCount) read = read ≡ Err WrongCount
-IsRead (Err BadNumber) read = read ≡ Err BadNumber
-IsRead (Err BankTwice) read = read ≡ Err BankTwice
-IsRead (Err Memory) read = Unit {0}
+-- a cause is this answer, unless memory ran out
+abbrev pub IsCause : {A : Type 0} → ScriptCause → Result A ScriptCause → Type 0
+IsCause TooManyLines read = read ≡ Err TooManyLines
+IsCause BadWord read = read ≡ Err BadWord
+IsCause UnknownCommand read = read ≡ Err UnknownCommand
+IsCause BanksFirst read = read ≡ Err BanksFirst
+IsCause WrongCount read = read ≡ Err WrongCount
+IsCause BadNumber read = read ≡ Err BadNumber
+IsCause BankTwice read = read ≡ Err BankTwice
+IsCause Memory read = Unit {0}
+
+-- what was read, as it is seen, is this answer, unless memory ran out
+abbrev pub IsRead : {A B : Type 0} → (A → B) → Result A ScriptCause → Result B ScriptCause → Type 0
+IsRead seen (Ok found) read = read ≡ Ok (seen found)
+IsRead seen (Err cause) read = IsCause cause read
 
 -- the text's line with this number is its first bad one, for the first cause; for want of memory the number is 0
 abbrev pub IsRefusedFor : ScriptCause → ℕ → List ℕ → Type 0

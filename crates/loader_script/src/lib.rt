@@ -3,6 +3,8 @@
 
 mod command;
 mod lines;
+mod numbers;
+mod parsing;
 
 mod words;
 
