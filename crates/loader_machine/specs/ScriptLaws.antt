@@ -1,9 +1,10 @@
 -- Laws of scripts: how a text is read line by line, and that a text is one script, or has one first bad line, and not both.
-use Rattle.std.proofs.Common.{◌≡◌, ℕ, ◌+◌, ◌<◌, ◌≤◌, Bool, true, false, cond, List, [], ◌∷◌, ◌++◌, length, Result, Ok, Err, refl, sym, ap, subst, ◌∙◌, arith}
+use Rattle.std.proofs.Common.{◌≡◌, ℕ, suc, ◌+◌, ◌<◌, ◌≤◌, Bool, true, false, cond, List, [], ◌∷◌, ◌++◌, length, Result, Ok, Err, refl, sym, ap, subst, ◌∙◌, arith}
 use Rattle.std.specs.Prelude.{◌||◌, ◌&&◌, ◌==◌, not, filter, slice_index}
 use Rattle.std.specs.List.{AllByRecursion, onto_first}
 use Rattle.std.proofs.lemmas.List.{length-append, append-nil}
 use Rattle.std.proofs.lemmas.List.Elements.{filter-append}
+use Rattle.std.proofs.lemmas.List.Sums.{length-filter, count_by-le-length}
 use Rattle.loader_machine.specs.declared.script.ScriptCause.{ScriptCause}
 use Rattle.loader_machine.specs.Command.{Command}
 use Rattle.loader_machine.specs.Script.{lines_of, is_skipped, written, line_command, Give, AreGood, is_start, most_lines, IsBad, OneTooMany, NoCommand, IsFirstBadLine, IsScript}
@@ -127,6 +128,19 @@ AreGood-push lines commands line command good more is gives = record {
     few = omega (arith, length-append lines (line ∷ []));
     give = rw (written-append lines [] line is) (Give-push (written lines) commands line command good.give gives);
   }
+
+-- each written line gives a command
+length-Give : (is_first : Bool) (lines : List (List ℕ)) (commands : List Command) → Give is_first lines commands → length commands ≡ length lines
+length-Give is_first [] [] give = refl
+length-Give is_first [] (c ∷ commands) give = absurd give
+length-Give is_first (line ∷ lines) [] give = absurd give
+length-Give is_first (line ∷ lines) (c ∷ commands) give = ap suc (length-Give false lines commands give.1)
+
+-- there are at most as many commands as lines
+pub AreGood-few : (lines : List (List ℕ)) (commands : List Command) → AreGood lines commands → length commands ≤ most_lines
+AreGood-few lines commands good =
+    let same = length-Give true (written lines) commands good.give in
+    omega (arith, good.few, same, length-filter (λ l. not (is_skipped l)) lines, count_by-le-length (λ l. not (is_skipped l)) lines)
 
 -- ---- one answer
 

@@ -3,3 +3,4 @@ pub mod FirstWord
 pub mod Digits
 pub mod BankNumbers
 pub mod Counts
+pub mod Come

@@ -1,3 +1,4 @@
 pub mod Banks
 pub mod View
 pub mod Words
+pub mod Lines

@@ -5,9 +5,10 @@ mod command;
 mod lines;
 mod numbers;
 mod parsing;
-
+mod script;
 mod words;
 
 pub use command::{BankList, Command};
 pub use loader_machine::{ScriptCause, ScriptFault};
+pub use script::{Script, read_script};
 

@@ -1,6 +1,6 @@
 //! Words read as a command.
 
-ghost use Rattle.std.specs.Prelude.{◌≡◌, ◌≢◌, ◌==◌, ◌<◌, false, ◌≤◌, ◌∷◌, [], true, length, IfOk, IfErr, MatchOption, bytes_eq, codes};
+ghost use Rattle.std.specs.Prelude.{◌≡◌, Err, if◌then◌else◌, ◌≢◌, ◌==◌, ◌<◌, false, ◌≤◌, ◌∷◌, [], true, length, IfOk, IfErr, MatchOption, bytes_eq, codes};
 ghost use Rattle.std.specs.List.{list_all, list_any};
 ghost use Rattle.loader_machine.specs.Script.{words_of, is_word, stands_twice, banks_of, load_of, bytes_of, are_bytes_numbers, number_of, command_of, line_command};
 ghost use Rattle.loader_script.specs.Words.{bank_numbers};
@@ -150,4 +150,60 @@ fn bytes(words: &mut Words) -> Result<Command, ScriptCause>
         Some(found) => Ok(found),
         None => Err(ScriptCause::BadNumber),
     }
+}
+
+/// The command of the words behind `banks`, where it may stand.
+fn first_command(alloc: Global, words: &mut Words, is_first: bool) -> Result<Command, ScriptCause>
+    ensures { IsRead command result (if is_first then banks_of words.old else Err ScriptCause.BanksFirst) }
+{
+    if !is_first {
+        return Err(ScriptCause::BanksFirst);
+    }
+    banks(alloc, words)
+}
+
+/// The command that the words of a line give, where it is the first one of a script or isn't.
+#[tactic(auto, unfolding(loader_machine::specs::Script::command_of))]
+fn command_of(alloc: Global, line: &[u8], is_first: bool) -> Result<Command, ScriptCause>
+    requires { list_all is_word (words_of line.now) ≡ true }
+    ensures { IsRead command result (command_of is_first (words_of line.now)) }
+{
+    let mut words = Words::of(line);
+    let Some(name) = words.next() else {
+        return Err(ScriptCause::UnknownCommand);
+    };
+    if is_name(name, "banks") {
+        return first_command(alloc, &mut words, is_first);
+    }
+    if is_name(name, "load") {
+        if is_first {
+            return Err(ScriptCause::BanksFirst);
+        }
+        return load(alloc, &mut words);
+    }
+    if is_name(name, "bytes") {
+        if is_first {
+            return Err(ScriptCause::BanksFirst);
+        }
+        return bytes(&mut words);
+    }
+    Err(ScriptCause::UnknownCommand)
+}
+
+/// Whether the word is this name of a command.
+fn is_name(word: &[u8], name: &str) -> bool
+    ensures { result ≡ bytes_eq word.now name.now }
+{
+    word == name.as_bytes()
+}
+
+/// The command of a line that isn't skipped.
+#[tactic(auto, unfolding(loader_machine::specs::Script::line_command, loader_machine::specs::Script::is_well_formed))]
+pub(crate) fn line_command(alloc: Global, line: &[u8], is_first: bool) -> Result<Command, ScriptCause>
+    ensures { IsRead command result (line_command is_first line.now) }
+{
+    if !is_well_formed(line) {
+        return Err(ScriptCause::BadWord);
+    }
+    command_of(alloc, line, is_first)
 }
