@@ -31,19 +31,19 @@ lines_on text rest line behind done is more = rw append_assoc (is ∙ ap (λ (l 
 pub come_on : (text rest line behind : List ℕ) (before : ℕ) (old new : List Command) → HasCome text rest before old
     → lines_of rest ≡ line ∷ lines_of behind → HasTaken before line old new → HasCome text behind (before + 1) new
 come_on text rest line behind before old new come more (Skipped less is same) = record {
-    done = come.done ++ line ∷ [];
-    lines = lines_on text rest line behind come.done come.lines more;
-    count = omega (arith, come.count, length-append come.done (line ∷ []));
-    good = subst (λ (commands : List Command). AreGood (come.done ++ line ∷ []) commands) (sym same)
+  done = come.done ++ line ∷ [];
+  lines = lines_on text rest line behind come.done come.lines more;
+  count = omega (arith, come.count, length-append come.done (line ∷ []));
+  good = subst (λ (commands : List Command). AreGood (come.done ++ line ∷ []) commands) (sym same)
       (AreGood-push_skipped come.done old line come.good (omega (arith, come.count)) is);
-  }
+}
 come_on text rest line behind before old new come more (Gave less is command gives same) = record {
-    done = come.done ++ line ∷ [];
-    lines = lines_on text rest line behind come.done come.lines more;
-    count = omega (arith, come.count, length-append come.done (line ∷ []));
-    good = subst (λ (commands : List Command). AreGood (come.done ++ line ∷ []) commands) (sym same)
+  done = come.done ++ line ∷ [];
+  lines = lines_on text rest line behind come.done come.lines more;
+  count = omega (arith, come.count, length-append come.done (line ∷ []));
+  good = subst (λ (commands : List Command). AreGood (come.done ++ line ∷ []) commands) (sym same)
       (AreGood-push come.done old line command come.good (omega (arith, come.count)) is gives);
-  }
+}
 
 -- nothing is left
 pub come_through : (text rest : List ℕ) (before : ℕ) (commands : List Command) → HasCome text rest before commands → length rest ≡ 0
@@ -56,15 +56,15 @@ come_through text (byte ∷ rest) before commands come none = absurd (omega arit
 first_bad : (text rest line behind : List ℕ) (before : ℕ) (commands : List Command) (cause : ScriptCause) → HasCome text rest before commands
     → lines_of rest ≡ line ∷ lines_of behind → IsBad before (is_start commands) line cause → IsFirstBadLine text (before + 1) cause
 first_bad text rest line behind before commands cause come more bad = record {
-    before = come.done;
-    line = line;
-    behind = lines_of behind;
-    lines = come.lines ∙ ap (λ (l : List (List ℕ)). come.done ++ l) more;
-    number_is = omega (arith, come.count);
-    commands = commands;
-    good = come.good;
-    bad = subst (λ (n : ℕ). IsBad n (is_start commands) line cause) come.count bad;
-  }
+  before = come.done;
+  line = line;
+  behind = lines_of behind;
+  lines = come.lines ∙ ap (λ (l : List (List ℕ)). come.done ++ l) more;
+  number_is = omega (arith, come.count);
+  commands = commands;
+  good = come.good;
+  bad = subst (λ (n : ℕ). IsBad n (is_start commands) line cause) come.count bad;
+}
 
 -- the next line is bad
 pub come_to_bad : (text rest line behind : List ℕ) (before : ℕ) (commands : List Command) (cause : ScriptCause) → HasCome text rest before commands

@@ -29,7 +29,7 @@ digits_fit word i value read more few =
 pub one_more : (word : List ℕ) (i value digit : ℕ) → HasRead word i value → i < length word → is_hex_digit (get_or word i 0) ≡ true
     → digit ≡ digit_value (get_or word i 0) → digit < 16 → HasRead word (i + 1) (value * 16 + digit)
 one_more word i value digit read more is same less = record {
-    digits = list_all_more is_hex_digit word i 0 more ∙ and_from _ _ read.digits is;
-    number = ap (λ (d : ℕ). value * 16 + d) same ∙ ap (λ (n : ℕ). n * 16 + digit_value (get_or word i 0)) read.number ∙ sym (digits_value_more 16 word i more);
-    small = let power : 16 ^ (i + 1) ≡ 16 ^ i * 16 = pow-add 16 i 1 in omega (arith, read.small);
-  }
+  digits = list_all_more is_hex_digit word i 0 more ∙ and_from _ _ read.digits is;
+  number = ap (λ (d : ℕ). value * 16 + d) same ∙ ap (λ (n : ℕ). n * 16 + digit_value (get_or word i 0)) read.number ∙ sym (digits_value_more 16 word i more);
+  small = let power : 16 ^ (i + 1) ≡ 16 ^ i * 16 = pow-add 16 i 1 in omega (arith, read.small);
+}

@@ -22,7 +22,7 @@ pub lines_of_first : (text : List ℕ) (i : ℕ) (behind : List ℕ) → positio
 lines_of_first text i behind is ends =
     let found = position-Some is_end_byte text i 0 is in
     subst (λ (t : List ℕ). lines_of t ≡ take i text ∷ lines_of behind) (take-append-drop i text)
-      (lines_of-ended (take i text) (drop i text) behind (no_end_before text i found.2) ends)
+    (lines_of-ended (take i text) (drop i text) behind (no_end_before text i found.2) ends)
 
 none_from : (b : Bool) (n : ℕ) → cond b (Some n) None ≡ None → b ≡ false
 none_from true n e = absurd cc

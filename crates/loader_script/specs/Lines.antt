@@ -9,7 +9,7 @@ use Rattle.loader_machine.specs.Script.{most_lines, is_skipped, line_command, is
 pub data HasTaken (before : ℕ) (line : List ℕ) (old new : List Command) : Type 0 where
   Skipped : before < most_lines → is_skipped line ≡ true → new ≡ old → HasTaken before line old new
   Gave : before < most_lines → is_skipped line ≡ false → (command : Command) → line_command (is_start old) line ≡ Ok command
-    → new ≡ old ++ command ∷ [] → HasTaken before line old new
+      → new ≡ old ++ command ∷ [] → HasTaken before line old new
 
 -- the line is bad for this cause, unless memory ran out
 abbrev pub IsBadFor : ℕ → Bool → List ℕ → ScriptCause → Type 0

@@ -45,9 +45,13 @@ impl BankList {
 #[derive(Debug, Drop)]
 pub enum Command {
     /// The banks of memory to begin with.
-    Banks { list: BankList },
+    Banks {
+        list: BankList,
+    },
     /// A load file to be loaded.
-    Load { path: Name },
+    Load {
+        path: Name,
+    },
     /// Bytes of a user's segment to be shown, from the offset `at` on.
     Bytes {
         user: u16,

@@ -12,3 +12,5 @@ pub use command::{BankList, Command};
 pub use loader_machine::{ScriptCause, ScriptFault};
 pub use script::{Script, read_script};
 
+#[cfg(test)]
+mod tests;

@@ -8,7 +8,8 @@ ghost use Rattle.loader_machine.specs.ScriptLaws.{is_end_byte};
 fn first_end(text: &[u8]) -> Option<usize>
     ensures { result ≡ position is_end_byte text.now }
 {
-    text.iter().position(|byte| *byte == b'\n' || *byte == b'\r')
+    text.iter()
+        .position(|byte| *byte == b'\n' || *byte == b'\r')
 }
 
 /// What stands behind the line end at the front, which is LF, CR or CR LF.

@@ -1,6 +1,6 @@
 //! Words read as a command.
 
-ghost use Rattle.std.specs.Prelude.{◌≡◌, Err, if◌then◌else◌, ◌≢◌, ◌==◌, ◌<◌, false, ◌≤◌, ◌∷◌, [], true, length, IfOk, IfErr, MatchOption, bytes_eq, codes};
+ghost use Rattle.std.specs.Prelude.{◌≡◌, ◌≢◌, ◌==◌, ◌<◌, false, ◌≤◌, ◌∷◌, [], true, length, IfOk, IfErr, MatchOption, bytes_eq, codes};
 ghost use Rattle.std.specs.List.{list_all, list_any};
 ghost use Rattle.loader_machine.specs.Script.{words_of, is_word, stands_twice, banks_of, load_of, bytes_of, are_bytes_numbers, number_of, command_of, line_command};
 ghost use Rattle.loader_script.specs.Words.{bank_numbers};
@@ -152,14 +152,11 @@ fn bytes(words: &mut Words) -> Result<Command, ScriptCause>
     }
 }
 
-/// The command of the words behind `banks`, where it may stand.
-fn first_command(alloc: Global, words: &mut Words, is_first: bool) -> Result<Command, ScriptCause>
-    ensures { IsRead command result (if is_first then banks_of words.old else Err ScriptCause.BanksFirst) }
+/// Whether the word is this name of a command.
+fn is_name(word: &[u8], name: &str) -> bool
+    ensures { result ≡ bytes_eq word.now name.now }
 {
-    if !is_first {
-        return Err(ScriptCause::BanksFirst);
-    }
-    banks(alloc, words)
+    word == name.as_bytes()
 }
 
 /// The command that the words of a line give, where it is the first one of a script or isn't.
@@ -172,34 +169,31 @@ fn command_of(alloc: Global, line: &[u8], is_first: bool) -> Result<Command, Scr
     let Some(name) = words.next() else {
         return Err(ScriptCause::UnknownCommand);
     };
-    if is_name(name, "banks") {
-        return first_command(alloc, &mut words, is_first);
+    let is_banks = is_name(name, "banks");
+    let is_load = is_name(name, "load");
+    let is_bytes = is_name(name, "bytes");
+    if !is_banks && !is_load && !is_bytes {
+        return Err(ScriptCause::UnknownCommand);
     }
-    if is_name(name, "load") {
-        if is_first {
-            return Err(ScriptCause::BanksFirst);
-        }
+    if is_banks != is_first {
+        return Err(ScriptCause::BanksFirst);
+    }
+    if is_banks {
+        return banks(alloc, &mut words);
+    }
+    if is_load {
         return load(alloc, &mut words);
     }
-    if is_name(name, "bytes") {
-        if is_first {
-            return Err(ScriptCause::BanksFirst);
-        }
-        return bytes(&mut words);
-    }
-    Err(ScriptCause::UnknownCommand)
-}
-
-/// Whether the word is this name of a command.
-fn is_name(word: &[u8], name: &str) -> bool
-    ensures { result ≡ bytes_eq word.now name.now }
-{
-    word == name.as_bytes()
+    bytes(&mut words)
 }
 
 /// The command of a line that isn't skipped.
 #[tactic(auto, unfolding(loader_machine::specs::Script::line_command, loader_machine::specs::Script::is_well_formed))]
-pub(crate) fn line_command(alloc: Global, line: &[u8], is_first: bool) -> Result<Command, ScriptCause>
+pub(crate) fn line_command(
+    alloc: Global,
+    line: &[u8],
+    is_first: bool,
+) -> Result<Command, ScriptCause>
     ensures { IsRead command result (line_command is_first line.now) }
 {
     if !is_well_formed(line) {

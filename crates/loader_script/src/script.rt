@@ -70,7 +70,12 @@ fn is_start(commands: &[Command]) -> bool
 }
 
 /// Reads one more line, behind so many others.
-fn take_line(alloc: Global, line: &[u8], before: u32, commands: &mut Vec<Command>) -> Result<(), ScriptCause>
+fn take_line(
+    alloc: Global,
+    line: &[u8],
+    before: u32,
+    commands: &mut Vec<Command>,
+) -> Result<(), ScriptCause>
     requires { before ≤ most_lines }
     ensures ok { OnOk result (HasTaken before line.now (map command commands.old.items) (map command commands.new.items)) }
     ensures err { IfErr result (IsBadFor before (is_start (map command commands.old.items)) line.now) }

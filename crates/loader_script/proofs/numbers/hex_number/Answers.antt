@@ -12,4 +12,4 @@ overflow_add-value c =
 pub digits-preserved : goal.digits-preserved
 digits-preserved c =
     one_more c.args.word.now c.digits.byte-index c.digits.value c.in_ok-digit.digit c.digits.invariant c.digits-test.true
-      c.in_ok-digit.ensures.value.0 c.in_ok-digit.ensures.value.1 c.in_ok-digit.ensures.small
+    c.in_ok-digit.ensures.value.0 c.in_ok-digit.ensures.value.1 c.in_ok-digit.ensures.small
