@@ -8,3 +8,4 @@ pub mod Memory
 pub mod Command
 pub mod Script
 pub mod ScriptLaws
+pub mod ScriptCommandLaws

@@ -1,5 +1,5 @@
 -- Laws of scripts: how a text is read line by line, and that a text is one script, or has one first bad line, and not both.
-use Rattle.std.proofs.Common.{◌≡◌, ℕ, suc, ◌+◌, ◌<◌, ◌≤◌, Bool, true, false, cond, List, [], ◌∷◌, ◌++◌, length, Result, Ok, Err, refl, sym, ap, subst, ◌∙◌, arith}
+use Rattle.std.proofs.Common.{◌≡◌, ℕ, suc, ◌+◌, ◌<◌, ◌≤◌, Bool, true, false, cond, ◌⊎◌, inl, inr, List, [], ◌∷◌, ◌++◌, length, Result, Ok, Err, refl, sym, ap, subst, ◌∙◌, arith}
 use Rattle.std.specs.Prelude.{◌||◌, ◌&&◌, ◌==◌, not, filter, slice_index}
 use Rattle.std.specs.List.{AllByRecursion, onto_first}
 use Rattle.std.proofs.lemmas.List.{length-append, append-nil}
@@ -202,3 +202,50 @@ pub no_script : (text : List ℕ) (commands : List Command) (number : ℕ) (caus
 no_script text commands number cause script first =
     not_good first.before first.behind first.line cause first.commands commands first.good first.bad
       (subst (λ (lines : List (List ℕ)). AreGood lines commands) first.lines script)
+
+-- two lists that are one, parted at an element each
+sides : (a b xs ys : List (List ℕ)) (x y : List ℕ) → a ++ x ∷ xs ≡ b ++ y ∷ ys
+    → ((a ≡ b) × (x ≡ y)) ⊎ (((r : List (List ℕ)) × (b ≡ a ++ x ∷ r)) ⊎ ((r : List (List ℕ)) × (a ≡ b ++ y ∷ r)))
+sides [] [] xs ys x y e = inl (refl, cc)
+sides [] (z ∷ b) xs ys x y e = let first : z ≡ x = cc in inr (inl (b, ap (λ (l : List ℕ). l ∷ b) first))
+sides (z ∷ a) [] xs ys x y e = let first : z ≡ y = cc in inr (inr (a, ap (λ (l : List ℕ). l ∷ a) first))
+sides (z ∷ a) (w ∷ b) xs ys x y e =
+    let first : z ≡ w = cc in
+    let rest : a ++ x ∷ xs ≡ b ++ y ∷ ys = cc in
+    elim (sides a b xs ys x y rest) [
+      | inl same ↦ inl (ap (λ (l : List ℕ). l ∷ a) first ∙ ap (λ (ls : List (List ℕ)). w ∷ ls) same.0, same.1)
+      | inr (inl longer) ↦ inr (inl (longer.0, ap (λ (l : List ℕ). l ∷ b) (sym first) ∙ ap (λ (ls : List (List ℕ)). z ∷ ls) longer.1))
+      | inr (inr shorter) ↦ inr (inr (shorter.0, ap (λ (l : List ℕ). l ∷ a) first ∙ ap (λ (ls : List (List ℕ)). w ∷ ls) shorter.1))
+    ]
+
+same_err : (r : Result Command ScriptCause) (a b : ScriptCause) → r ≡ Err a → r ≡ Err b → a ≡ b
+same_err r a b p q = cc
+
+-- a line is bad for one cause
+bad_same : (before : ℕ) (is_first : Bool) (line : List ℕ) (a b : ScriptCause) → IsBad before is_first line a → IsBad before is_first line b → a ≡ b
+bad_same before is_first line a b (OneTooMany all x) (OneTooMany same y) = x ∙ sym y
+bad_same before is_first line a b (OneTooMany all x) (NoCommand less is none) = absurd (omega arith)
+bad_same before is_first line a b (NoCommand less is none) (OneTooMany all x) = absurd (omega arith)
+bad_same before is_first line a b (NoCommand less is none) (NoCommand more this gone) = same_err (line_command is_first line) a b none gone
+
+-- a text has one first bad line, with one cause
+pub IsFirstBadLine-same : (text : List ℕ) (m n : ℕ) (a b : ScriptCause) → IsFirstBadLine text m a → IsFirstBadLine text n b → (m ≡ n) × (a ≡ b)
+IsFirstBadLine-same text m n a b p q =
+    elim (sides p.before q.before p.behind q.behind p.line q.line (sym p.lines ∙ q.lines)) [
+      | inl same ↦ at_one same.0 same.1
+      | inr (inl longer) ↦ absurd (not_good p.before longer.0 p.line a p.commands q.commands p.good p.bad
+        (subst (λ (lines : List (List ℕ)). AreGood lines q.commands) longer.1 q.good))
+      | inr (inr shorter) ↦ absurd (not_good q.before shorter.0 q.line b q.commands p.commands q.good q.bad
+        (subst (λ (lines : List (List ℕ)). AreGood lines p.commands) shorter.1 p.good))
+    ]
+  where
+    at_one : p.before ≡ q.before → p.line ≡ q.line → (m ≡ n) × (a ≡ b)
+    at_one before line =
+        let moved : AreGood p.before q.commands = subst (λ (lines : List (List ℕ)). AreGood lines q.commands) (sym before) q.good in
+        let commands : q.commands ≡ p.commands = Give-same true (written p.before) q.commands p.commands moved.give p.good.give in
+        let bad : IsBad (length p.before) (is_start p.commands) p.line b =
+        subst (λ (l : List ℕ). IsBad (length p.before) (is_start p.commands) l b) (sym line)
+          (subst (λ (cs : List Command). IsBad (length p.before) (is_start cs) q.line b) commands
+            (subst (λ (lines : List (List ℕ)). IsBad (length lines) (is_start q.commands) q.line b) (sym before) q.bad)) in
+        let count : length p.before ≡ length q.before = ap (λ (lines : List (List ℕ)). length lines) before in
+        (omega (arith, p.number_is, q.number_is), bad_same (length p.before) (is_start p.commands) p.line a b p.bad bad)

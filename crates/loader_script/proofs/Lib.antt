@@ -4,3 +4,4 @@ pub mod Digits
 pub mod BankNumbers
 pub mod Counts
 pub mod Come
+pub mod JoinedWords

@@ -2,6 +2,7 @@
 #![tactic(auto)]
 
 mod command;
+mod laws;
 mod lines;
 mod numbers;
 mod parsing;
@@ -9,6 +10,7 @@ mod script;
 mod words;
 
 pub use command::{BankList, Command};
+pub use laws::{scripts_are_read_in_one_way, texts_are_lines};
 pub use loader_machine::{ScriptCause, ScriptFault};
 pub use script::{Script, read_script};
 
