@@ -7,3 +7,6 @@ pub mod Placement
 pub mod Memory
 pub mod Room
 pub mod Command
+pub mod Script
+pub mod ScriptLaws
+pub mod ScriptCommandLaws
