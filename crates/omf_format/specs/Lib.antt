@@ -6,6 +6,8 @@ pub mod Record
 pub mod Reading
 pub mod File
 pub mod Plain
+pub mod Cells
+pub mod Loadable
 pub mod Expression
 pub mod Value
 pub mod FieldLaws
