@@ -7,6 +7,8 @@ pub mod Record
 pub mod Reading
 pub mod File
 pub mod Plain
+pub mod Cells
+pub mod Loadable
 pub mod Expression
 pub mod Value
 pub mod FieldLaws
@@ -15,6 +17,8 @@ pub mod WrittenHeader
 pub mod RecordLaws
 pub mod FileLaws
 pub mod PlainLaws
+pub mod LoadableLaws
+pub mod CellLaws
 pub mod TermLaws
 pub mod TreeLaws
 pub mod ExpressionLaws

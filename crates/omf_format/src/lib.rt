@@ -4,8 +4,10 @@
 
 mod expression;
 mod fault;
+mod load;
 mod value;
 
 pub use expression::ExprFault;
 pub use fault::{Field, FileCause, FileFault, Flaw, HeaderFault, RecordFault};
+pub use load::{LoadCause, LoadFault};
 pub use value::{Value, ValueFault};
