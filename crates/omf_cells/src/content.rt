@@ -15,6 +15,18 @@ pub fn content_size(rec: &Rec) -> u64
         Rec::End => 0,
         Rec::Const { bytes } | Rec::LongConst { bytes } => bytes.len() as u64,
         Rec::Space { n } => u64::from(*n),
+        Rec::Align { .. }
+        | Rec::Org { .. }
+        | Rec::Reloc { .. }
+        | Rec::InterSeg { .. }
+        | Rec::ShortReloc { .. }
+        | Rec::ShortInterSeg { .. }
+        | Rec::Super { .. }
+        | Rec::Using { .. }
+        | Rec::Strong { .. }
+        | Rec::Label { .. }
+        | Rec::Equate { .. }
+        | Rec::Formula { .. } => 0,
     }
 }
 
@@ -26,6 +38,18 @@ pub fn content_byte(rec: &Rec, at: usize) -> u8
     match rec {
         Rec::Const { bytes } | Rec::LongConst { bytes } => bytes[at],
         Rec::End | Rec::Space { .. } => 0,
+        Rec::Align { .. }
+        | Rec::Org { .. }
+        | Rec::Reloc { .. }
+        | Rec::InterSeg { .. }
+        | Rec::ShortReloc { .. }
+        | Rec::ShortInterSeg { .. }
+        | Rec::Super { .. }
+        | Rec::Using { .. }
+        | Rec::Strong { .. }
+        | Rec::Label { .. }
+        | Rec::Equate { .. }
+        | Rec::Formula { .. } => 0,
     }
 }
 
@@ -40,5 +64,17 @@ pub fn write_content(rec: &Rec, out: &mut [u8], at: usize)
             out[at..at + bytes.len()].copy_from_slice(bytes);
         }
         Rec::Space { n } => out[at..at + *n as usize].fill(0),
+        Rec::Align { .. }
+        | Rec::Org { .. }
+        | Rec::Reloc { .. }
+        | Rec::InterSeg { .. }
+        | Rec::ShortReloc { .. }
+        | Rec::ShortInterSeg { .. }
+        | Rec::Super { .. }
+        | Rec::Using { .. }
+        | Rec::Strong { .. }
+        | Rec::Label { .. }
+        | Rec::Equate { .. }
+        | Rec::Formula { .. } => {}
     }
 }

@@ -41,6 +41,18 @@ fn refusal(rec: &Rec) -> Option<LoadCause>
 {
     match rec {
         Rec::End | Rec::Const { .. } | Rec::LongConst { .. } | Rec::Space { .. } => None,
+        Rec::Reloc { .. }
+        | Rec::InterSeg { .. }
+        | Rec::ShortReloc { .. }
+        | Rec::ShortInterSeg { .. }
+        | Rec::Super { .. } => Some(LoadCause::Unsupported),
+        Rec::Align { .. }
+        | Rec::Org { .. }
+        | Rec::Using { .. }
+        | Rec::Strong { .. }
+        | Rec::Label { .. }
+        | Rec::Equate { .. }
+        | Rec::Formula { .. } => Some(LoadCause::NotLoadFile),
     }
 }
 

@@ -216,13 +216,7 @@ fn formula_name(code: u8) -> &'static str
 
 /// Appends a formula.
 #[tactic(auto, unfolding(crate::specs::Listing::formula_text))]
-fn put_formula(
-    line: &mut Line,
-    code: u8,
-    count: u8,
-    n: u32,
-    expr: &[u8],
-) -> Result<(), LineFault>
+fn put_formula(line: &mut Line, code: u8, count: u8, n: u32, expr: &[u8]) -> Result<(), LineFault>
     ensures { OnOk result (line.new ≡ line.old ++ formula_text code count n expr.now) }
 {
     line.text(formula_name(code))?;
@@ -352,14 +346,7 @@ fn put_record(line: &mut Line, rec: &Rec) -> Result<(), LineFault>
             file,
             segment,
             offset,
-        } => put_interseg(
-            line,
-            (*count, *shift),
-            *location,
-            *file,
-            *segment,
-            *offset,
-        ),
+        } => put_interseg(line, (*count, *shift), *location, *file, *segment, *offset),
         Rec::ShortReloc {
             count,
             shift,

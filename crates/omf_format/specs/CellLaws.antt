@@ -9,7 +9,7 @@ use Rattle.std.proofs.lemmas.List.Concat.{flat_map-cons}
 use Rattle.omf_format.specs.declared.load.LoadCause.TheVariants.{Sequence, DataTooLong}
 use Rattle.omf_format.specs.declared.load.LoadFault.{LoadFault}
 use Rattle.omf_format.specs.Header.{first_of}
-use Rattle.omf_format.specs.Record.{Record, End, Const, LongConst, Space}
+use Rattle.omf_format.specs.Record.{Record, End, Const, LongConst, Align, Org, Space, Reloc, InterSeg, ShortReloc, ShortInterSeg, Super, Using, Strong, Label, Equate, Formula}
 use Rattle.omf_format.specs.File.{Segment, IsSegment, AreSegments}
 use Rattle.omf_format.specs.Plain.{body_bytes}
 use Rattle.omf_format.specs.Cells.{Byte, Patch, segment_bytes, patched, patches_in, patches_of, cells, segment_at}
@@ -21,6 +21,18 @@ no_patch s End e = refl
 no_patch s (Const bytes) e = refl
 no_patch s (LongConst bytes) e = refl
 no_patch s (Space n) e = refl
+no_patch s (Reloc count shift location offset) e = absurd cc
+no_patch s (InterSeg count shift location file segment offset) e = absurd cc
+no_patch s (ShortReloc count shift location offset) e = absurd cc
+no_patch s (ShortInterSeg count shift location segment offset) e = absurd cc
+no_patch s (Super form bytes) e = absurd cc
+no_patch s (Align n) e = refl
+no_patch s (Org n) e = refl
+no_patch s (Using name) e = refl
+no_patch s (Strong name) e = refl
+no_patch s (Label global name size form private) e = refl
+no_patch s (Equate global name size form private expr) e = refl
+no_patch s (Formula code count n expr) e = refl
 
 no_patches : (s : Segment) (founds : List (ℕ × Record)) → AllByRecursion (λ (found : ℕ × Record). record_refusal found.1 ≡ None) founds
     → flat_map (λ (found : ℕ × Record). patches_in s found.1) founds ≡ []

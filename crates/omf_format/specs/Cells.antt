@@ -1,8 +1,10 @@
 -- What a load segment stands for in memory: a list of cells, none of which has an address
 -- (GS/OS Reference, appendix F, "Segment body": CONST, LCONST and DS, and LENGTH and RESSPC of "Segment header").
-use Rattle.std.specs.Prelude.{ℕ, zero, suc, ◌+◌, ◌-◌, ℤ, List, [], ◌∷◌, ◌++◌, length, take, drop, map, replicate, Option, None, slice_get, option_and_then}
+use Rattle.std.specs.Prelude.{ℕ, zero, suc, ◌+◌, ◌-◌, ◌==◌, nat_le, if◌then◌else◌, ℤ, pos, negsuc, List, [], ◌∷◌, ◌++◌, length, take, drop, map, replicate, Option, None, slice_get, option_and_then}
 use Rattle.std.specs.List.{flat_map}
-use Rattle.omf_format.specs.Record.{Record, End, Const, LongConst, Space}
+use Rattle.omf_format.specs.Record.{Record, End, Const, LongConst, Align, Org, Space, Reloc, InterSeg, ShortReloc, ShortInterSeg, Super, Using, Strong, Label, Equate, Formula}
+use Rattle.omf_format.specs.Number.{number_at}
+use Rattle.omf_format.specs.Super.{locations_left}
 use Rattle.omf_format.specs.File.{Segment}
 use Rattle.omf_format.specs.Plain.{body_bytes}
 
@@ -43,12 +45,35 @@ abbrev pub patched : List Cell → List Patch → List Cell
 patched cells [] = cells
 patched cells (p ∷ patches) = patched (with_patch cells p) patches
 
--- the patches that a record of the segment gives
+-- a SUPER's patch at a location of its segment, by its type: the offset is the number in the two bytes there, and the
+-- target is the segment itself, or the one that the third byte there or the type names
+abbrev pub super_patch : Segment → ℕ → ℕ → Patch
+super_patch s form at =
+    let offset = number_at 2 at (segment_bytes s) in
+    if form == 0 then record { location = at; count = 2; file = 1; segment = s.fields.seg_num; offset = offset; shift = pos 0 }
+    else if form == 1 then record { location = at; count = 3; file = 1; segment = s.fields.seg_num; offset = offset; shift = pos 0 }
+    else if form == 2 then record { location = at; count = 3; file = 1; segment = number_at 1 (at + 2) (segment_bytes s); offset = offset; shift = pos 0 }
+    else if nat_le form 25 then record { location = at; count = 2; file = 1; segment = form - 13; offset = offset; shift = pos 0 }
+    else record { location = at; count = 2; file = 1; segment = form - 25; offset = offset; shift = negsuc 15 }
+
+-- the patches that a record of the segment gives; RELOC and cRELOC name the segment itself
 abbrev pub patches_in : Segment → Record → List Patch
 patches_in s End = []
 patches_in s (Const bytes) = []
 patches_in s (LongConst bytes) = []
 patches_in s (Space n) = []
+patches_in s (Align n) = []
+patches_in s (Org n) = []
+patches_in s (Reloc count shift location offset) = record { location = location; count = count; file = 1; segment = s.fields.seg_num; offset = offset; shift = shift } ∷ []
+patches_in s (InterSeg count shift location file segment offset) = record { location = location; count = count; file = file; segment = segment; offset = offset; shift = shift } ∷ []
+patches_in s (ShortReloc count shift location offset) = record { location = location; count = count; file = 1; segment = s.fields.seg_num; offset = offset; shift = shift } ∷ []
+patches_in s (ShortInterSeg count shift location segment offset) = record { location = location; count = count; file = 1; segment = segment; offset = offset; shift = shift } ∷ []
+patches_in s (Super form bytes) = map (super_patch s form) (locations_left 0 0 bytes)
+patches_in s (Using name) = []
+patches_in s (Strong name) = []
+patches_in s (Label global name size form private) = []
+patches_in s (Equate global name size form private expr) = []
+patches_in s (Formula code count n expr) = []
 
 -- those of all records, in file order
 unfoldable pub patches_of : Segment → List Patch

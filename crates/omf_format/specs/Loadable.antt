@@ -1,6 +1,6 @@
 -- Load files: which files are loaded, and the first fault of every other file, by phases. Each phase goes through the
 -- segments in order, and a later one begins where the earlier ones found nothing (GS/OS Reference, appendix F).
-use Rattle.std.specs.Prelude.{◌≡◌, ◌<◌, ℕ, ◌+◌, not, ◌||◌, List, [], ◌∷◌, length, drop, Option, Some, None, option_map, Result, Ok, Err, nat_lt, ◌==◌, Bool}
+use Rattle.std.specs.Prelude.{◌≡◌, ◌<◌, ℕ, ◌+◌, not, ◌||◌, List, [], ◌∷◌, length, drop, codes, Option, Some, None, option_map, Result, Ok, Err, nat_lt, ◌==◌, Bool}
 use Rattle.std.specs.List.{AllByRecursion}
 use Rattle.std.specs.Option.{option_or}
 use Rattle.std.specs.Str.{bytes_eq}
@@ -14,7 +14,7 @@ use Rattle.omf_format.specs.declared.load.LoadCause.{LoadCause}
 use Rattle.omf_format.specs.declared.load.LoadCause.TheVariants.{NotLoadFile, Truncated, BadHeader, Unsupported, BadRecord, Sequence, DataTooLong, Memory}
 use Rattle.omf_format.specs.declared.load.LoadFault.{LoadFault}
 use Rattle.omf_format.specs.Header.{Fields, fields_of, header_fault, displacement_of, form_of, first_of}
-use Rattle.omf_format.specs.Record.{Record, End, Const, LongConst, Space}
+use Rattle.omf_format.specs.Record.{Record, End, Const, LongConst, Align, Org, Space, Reloc, InterSeg, ShortReloc, ShortInterSeg, Super, Using, Strong, Label, Equate, Formula}
 use Rattle.omf_format.specs.Reading.{Reader, next_answer, HandsOut}
 use Rattle.omf_format.specs.File.{Segment, body_reader, IsHeader, AreSegments, IsFile}
 use Rattle.omf_format.specs.Plain.{body_bytes}
@@ -25,12 +25,12 @@ Fault = LoadCause × ℕ
 
 -- ---- phase 1: header, name and type, and then the records one by one
 
--- `ExpressLoad` and `~ExpressLoad`, the names of segments for the Express Loader
-abbrev pub express_names : List ℕ
-express_names = 69 ∷ 120 ∷ 112 ∷ 114 ∷ 101 ∷ 115 ∷ 115 ∷ 76 ∷ 111 ∷ 97 ∷ 100 ∷ []
+-- `ExpressLoad`, which may stand behind `~`, is the name of segments for the Express Loader
+abbrev pub express_name : List ℕ
+express_name = codes "ExpressLoad"
 
 abbrev pub is_express : List ℕ → Bool
-is_express name = bytes_eq name express_names || bytes_eq name (126 ∷ express_names)
+is_express name = bytes_eq name express_name || bytes_eq name (126 ∷ express_name)
 
 -- why a load file can't have a segment of this name and type, the name first: a jump table, a pathname segment and a
 -- segment for the Express Loader aren't read, and a library dictionary belongs to a library
@@ -42,12 +42,24 @@ segment_refusal f = first_of (
     ∷ (form_of f.kind == 0x08, NotLoadFile)
     ∷ [])
 
--- why a load segment can't have this record
+-- why a load segment can't have this record: patches aren't read, and every other record belongs to an object file
 abbrev pub record_refusal : Record → Option LoadCause
 record_refusal End = None
 record_refusal (Const bytes) = None
 record_refusal (LongConst bytes) = None
 record_refusal (Space n) = None
+record_refusal (Reloc count shift location offset) = Some Unsupported
+record_refusal (InterSeg count shift location file segment offset) = Some Unsupported
+record_refusal (ShortReloc count shift location offset) = Some Unsupported
+record_refusal (ShortInterSeg count shift location segment offset) = Some Unsupported
+record_refusal (Super form bytes) = Some Unsupported
+record_refusal (Align n) = Some NotLoadFile
+record_refusal (Org n) = Some NotLoadFile
+record_refusal (Using name) = Some NotLoadFile
+record_refusal (Strong name) = Some NotLoadFile
+record_refusal (Label global name size form private) = Some NotLoadFile
+record_refusal (Equate global name size form private expr) = Some NotLoadFile
+record_refusal (Formula code count n expr) = Some NotLoadFile
 
 -- a header's fault: its cause, and the segment's start plus the displacement of the field; no check says Memory
 abbrev pub told_header : ℕ → HeaderFault → Fault
