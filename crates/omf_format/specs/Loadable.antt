@@ -1,6 +1,6 @@
 -- Load files: which files are loaded, and the first fault of every other file, by phases. Each phase goes through the
 -- segments in order, and a later one begins where the earlier ones found nothing (GS/OS Reference, appendix F).
-use Rattle.std.specs.Prelude.{◌≡◌, ◌<◌, ℕ, ◌+◌, not, ◌||◌, List, [], ◌∷◌, length, drop, Option, Some, None, option_map, Result, Ok, Err, nat_lt, ◌==◌, Bool}
+use Rattle.std.specs.Prelude.{◌≡◌, ◌<◌, ℕ, ◌+◌, not, ◌||◌, codes, List, [], ◌∷◌, length, drop, Option, Some, None, option_map, Result, Ok, Err, nat_lt, ◌==◌, Bool}
 use Rattle.std.specs.List.{AllByRecursion}
 use Rattle.std.specs.Option.{option_or}
 use Rattle.std.specs.Str.{bytes_eq}
@@ -25,12 +25,9 @@ Fault = LoadCause × ℕ
 
 -- ---- phase 1: header, name and type, and then the records one by one
 
--- `ExpressLoad` and `~ExpressLoad`, the names of segments for the Express Loader
-abbrev pub express_names : List ℕ
-express_names = 69 ∷ 120 ∷ 112 ∷ 114 ∷ 101 ∷ 115 ∷ 115 ∷ 76 ∷ 111 ∷ 97 ∷ 100 ∷ []
-
+-- the names of segments for the Express Loader
 abbrev pub is_express : List ℕ → Bool
-is_express name = bytes_eq name express_names || bytes_eq name (126 ∷ express_names)
+is_express name = bytes_eq name (codes "ExpressLoad") || bytes_eq name (codes "~ExpressLoad")
 
 -- why a load file can't have a segment of this name and type, the name first: a jump table, a pathname segment and a
 -- segment for the Express Loader aren't read, and a library dictionary belongs to a library
