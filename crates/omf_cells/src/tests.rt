@@ -51,7 +51,8 @@ fn each_fault_has_its_place(rt: HostRuntime) {
     assert_eq!(rt; cut, fault(LoadCause::Truncated, 1, 0x2B));
     assert_eq!(rt; fault_of_one(alloc, &[]), None);
 
-    // DISPNAME, VERSION, the types, a code that no record has, an ALIGN, a cRELOC, and the length of the LCONST.
+    // DISPNAME, VERSION, the types, a code that no record has, an ALIGN, a cRELOC, an LEXPR
+    // without an operand, and the length of the LCONST.
     for (at, value, cause, place) in [
         (0x28, 0x2B, LoadCause::BadHeader, 0x28),
         (0x0F, 1, LoadCause::Unsupported, 0x0F),
@@ -61,6 +62,7 @@ fn each_fault_has_its_place(rt: HostRuntime) {
         (0x37, 0xF4, LoadCause::Unsupported, 0x37),
         (0x37, 0xE0, LoadCause::NotLoadFile, 0x37),
         (0x37, 0xF5, LoadCause::Unsupported, 0x37),
+        (0x37, 0xF3, LoadCause::BadRecord, 0x37),
         (0x38, 0x09, LoadCause::Truncated, 0x40),
         (0x22, 0x02, LoadCause::Sequence, 0),
     ] {
