@@ -6,3 +6,5 @@ pub mod Fits
 pub mod Placement
 pub mod Memory
 pub mod Command
+pub mod Script
+pub mod ScriptLaws
