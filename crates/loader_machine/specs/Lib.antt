@@ -8,3 +8,7 @@ pub mod Memory
 pub mod Command
 pub mod Script
 pub mod ScriptLaws
+pub mod Machine
+pub mod Step
+pub mod Transcript
+pub mod Replies

@@ -1,6 +1,6 @@
 -- Memory of banks with blocks under handles, and what each call makes of it.
-use Rattle.std.specs.Prelude.{◌≡◌, ◌≢◌, ℕ, Bool, true, false, zero, suc, ◌-◌, ◌+◌, ◌==◌, ◌&&◌, ◌<◌, ◌≤◌, List, [], ◌∷◌, map, take, length, replicate, count_by, sum_by, All, Contains, Option, Some, None, IsSome, IsSomeAnd, slice_get, slice_index, slice_index_or, if◌then◌else◌}
-use Rattle.std.specs.Option.{option_map_or, option_map, option_and_then}
+use Rattle.std.specs.Prelude.{◌≡◌, ◌≢◌, ℕ, Bool, true, false, zero, suc, ◌-◌, ◌+◌, ◌==◌, ◌&&◌, ◌<◌, ◌≤◌, List, [], ◌∷◌, map, take, length, replicate, count_by, sum_by, Contains, Option, Some, None, IsSome, IsSomeAnd, slice_get, slice_index, slice_index_or, if◌then◌else◌}
+use Rattle.std.specs.Option.{option_map_or, option_and_then}
 use Rattle.std.specs.List.{list_any}
 use Rattle.loader_machine.specs.declared.handles.Handle.{Handle}
 use Rattle.loader_machine.specs.declared.slots.Slot.{Slot}

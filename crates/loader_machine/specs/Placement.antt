@@ -1,5 +1,5 @@
 -- Which blocks are purged for a want, and where it goes.
-use Rattle.std.specs.Prelude.{◌≡◌, ℕ, Bool, false, ◌==◌, ◌&&◌, ◌||◌, not, nat_lt, ◌<◌, ◌≤◌, List, map, count_by, Option, None, is_some, unwrap_or, if◌then◌else◌}
+use Rattle.std.specs.Prelude.{ℕ, Bool, false, ◌==◌, ◌&&◌, ◌||◌, not, nat_lt, ◌<◌, ◌≤◌, List, map, count_by, None, is_some, unwrap_or, if◌then◌else◌}
 use Rattle.std.specs.Option.{option_map_or}
 use Rattle.loader_machine.specs.declared.slots.Slot.{Slot}
 use Rattle.loader_machine.specs.declared.slots.Content.TheVariants.{Used}

@@ -1,6 +1,6 @@
 -- Laws of scripts: how a text is read line by line, and that a text is one script, or has one first bad line, and not both.
-use Rattle.std.proofs.Common.{◌≡◌, ℕ, ◌+◌, ◌<◌, ◌≤◌, Bool, true, false, cond, List, [], ◌∷◌, ◌++◌, length, Result, Ok, Err, refl, sym, ap, subst, ◌∙◌, arith}
-use Rattle.std.specs.Prelude.{◌||◌, ◌&&◌, ◌==◌, not, filter, slice_index}
+use Rattle.std.proofs.Common.{◌≡◌, ℕ, ◌<◌, Bool, true, false, cond, List, [], ◌∷◌, ◌++◌, length, Result, Ok, Err, refl, sym, ap, subst, ◌∙◌, arith}
+use Rattle.std.specs.Prelude.{◌||◌, ◌&&◌, ◌==◌, not, slice_index}
 use Rattle.std.specs.List.{AllByRecursion, onto_first}
 use Rattle.std.proofs.lemmas.List.{length-append, append-nil}
 use Rattle.std.proofs.lemmas.List.Elements.{filter-append}
@@ -32,7 +32,7 @@ unfolding lines_of onto_front
 lines_of-front [] behind h = refl
 lines_of-front (byte ∷ line) behind h =
     no_end_step (byte == 0x0A) (byte == 0x0D) (not (slice_index (line ++ behind) 0 == 0x0A)) ([] ∷ lines_of (line ++ behind)) (lines_of (line ++ behind)) (onto_first byte (lines_of (line ++ behind))) h.0
-      ∙ ap (λ (lines : List (List ℕ)). onto_first byte lines) (lines_of-front line behind h.1)
+    ∙ ap (λ (lines : List (List ℕ)). onto_first byte lines) (lines_of-front line behind h.1)
 
 onto_front-first : (line : List ℕ) (lines : List (List ℕ)) → onto_front line ([] ∷ lines) ≡ line ∷ lines
 unfolding onto_front
@@ -67,7 +67,7 @@ pub lines_of-last : (byte : ℕ) (line : List ℕ) → HasNoEnd (byte ∷ line) 
 unfolding lines_of
 lines_of-last byte line h =
     subst (λ (text : List ℕ). lines_of text ≡ onto_front (byte ∷ line) []) (append-nil (byte ∷ line)) (lines_of-front (byte ∷ line) [] h)
-      ∙ onto_front-last byte line
+    ∙ onto_front-last byte line
 
 -- nothing has no line
 pub lines_of-nil : lines_of [] ≡ []
@@ -110,18 +110,18 @@ AreGood-nil = record { few = omega arith; give = tt }
 pub AreGood-push_skipped : (lines : List (List ℕ)) (commands : List Command) (line : List ℕ) → AreGood lines commands
     → length lines < most_lines → is_skipped line ≡ true → AreGood (lines ++ line ∷ []) commands
 AreGood-push_skipped lines commands line good more skipped = record {
-    few = omega (arith, length-append lines (line ∷ []));
-    give = rw (written-push_skipped lines line skipped) good.give;
-  }
+  few = omega (arith, length-append lines (line ∷ []));
+  give = rw (written-push_skipped lines line skipped) good.give;
+}
 
 -- good lines and one that gives a command are good
 pub AreGood-push : (lines : List (List ℕ)) (commands : List Command) (line : List ℕ) (command : Command) → AreGood lines commands
     → length lines < most_lines → is_skipped line ≡ false → line_command (is_start commands) line ≡ Ok command
     → AreGood (lines ++ line ∷ []) (commands ++ command ∷ [])
 AreGood-push lines commands line command good more is gives = record {
-    few = omega (arith, length-append lines (line ∷ []));
-    give = rw (written-append lines [] line is) (Give-push (written lines) commands line command good.give gives);
-  }
+  few = omega (arith, length-append lines (line ∷ []));
+  give = rw (written-append lines [] line is) (Give-push (written lines) commands line command good.give gives);
+}
 
 -- ---- one answer
 
@@ -182,4 +182,4 @@ pub no_script : (text : List ℕ) (commands : List Command) (number : ℕ) (caus
     → IsFirstBadLine text number cause → ⊥
 no_script text commands number cause script first =
     not_good first.before first.behind first.line cause first.commands commands first.good first.bad
-      (subst (λ (lines : List (List ℕ)). AreGood lines commands) first.lines script)
+    (subst (λ (lines : List (List ℕ)). AreGood lines commands) first.lines script)
