@@ -103,7 +103,7 @@ no_run r before all reader last fault p e q ended =
 -- ---- segments
 
 -- one segment starts at each place
-segment_same : (a b : Segment) (file : List ℕ) → IsSegment a file → IsSegment b file → a.start ≡ b.start → a ≡ b
+pub segment_same : (a b : Segment) (file : List ℕ) → IsSegment a file → IsSegment b file → a.start ≡ b.start → a ≡ b
 segment_same a b file p q start =
     let fields : a.fields ≡ b.fields = p.header.fields ∙ ap (λ (s : ℕ). fields_of (drop s file)) start ∙ sym q.header.fields in
     let reader : body_reader a.start a.fields file ≡ body_reader b.start b.fields file =

@@ -16,6 +16,8 @@ pub mod WrittenHeader
 pub mod RecordLaws
 pub mod FileLaws
 pub mod PlainLaws
+pub mod LoadableLaws
+pub mod CellLaws
 pub mod TermLaws
 pub mod TreeLaws
 pub mod ExpressionLaws
