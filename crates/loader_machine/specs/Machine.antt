@@ -41,7 +41,7 @@ abbrev pub first_id : ℕ
 first_id = 0x1001
 
 -- the user with an ID, if it was made
-abbrev pub user_of : List User → ℕ → Option User
+abbrev pub user_of : {U : Type 0} → List U → ℕ → Option U
 user_of users id = if nat_lt id first_id then None else slice_get users (id - first_id)
 
 -- the handle of the segment with a number, from 1, if it has one
