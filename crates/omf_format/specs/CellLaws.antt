@@ -6,14 +6,13 @@ use Rattle.std.specs.Option.{option_or}
 use Rattle.std.proofs.lemmas.Bool.{eqb-true, ltb-false}
 use Rattle.std.proofs.lemmas.List.{length-append, length-replicate}
 use Rattle.std.proofs.lemmas.List.Concat.{flat_map-cons}
-use Rattle.omf_format.specs.declared.load.LoadCause.{LoadCause}
 use Rattle.omf_format.specs.declared.load.LoadCause.TheVariants.{Sequence, DataTooLong}
 use Rattle.omf_format.specs.declared.load.LoadFault.{LoadFault}
 use Rattle.omf_format.specs.Header.{first_of}
 use Rattle.omf_format.specs.Record.{Record, End, Const, LongConst, Space}
 use Rattle.omf_format.specs.File.{Segment, IsSegment, AreSegments}
 use Rattle.omf_format.specs.Plain.{body_bytes}
-use Rattle.omf_format.specs.Cells.{Cell, Byte, Patch, segment_bytes, patched, patches_in, patches_of, cells, segment_at}
+use Rattle.omf_format.specs.Cells.{Byte, Patch, segment_bytes, patched, patches_in, patches_of, cells, segment_at}
 use Rattle.omf_format.specs.Loadable.{Fault, record_refusal, IsLoadSegment, in_segment, first_in, shape_fault, later_fault, IsLoadable}
 
 -- a record that isn't refused gives no patch

@@ -1,16 +1,15 @@
 -- A file has one list of load segments, or one first fault, and not both.
-use Rattle.std.proofs.Common.{◌≡◌, ℕ, suc, ◌+◌, ◌<◌, true, List, [], ◌∷◌, length, drop, Option, Some, None, Result, Ok, Err, refl, sym, ap, subst, ◌∙◌, arith}
+use Rattle.std.proofs.Common.{◌≡◌, ℕ, suc, ◌+◌, ◌<◌, true, List, [], ◌∷◌, length, drop, Option, Some, None, Ok, refl, sym, ap, subst, ◌∙◌, arith}
 use Rattle.std.specs.Prelude.{option_map}
 use Rattle.std.specs.List.{AllByRecursion}
-use Rattle.omf_format.specs.declared.fault.RecordFault.{RecordFault}
 use Rattle.omf_format.specs.declared.load.LoadCause.{LoadCause}
 use Rattle.omf_format.specs.declared.load.LoadFault.{LoadFault}
 use Rattle.omf_format.specs.Header.{Fields, fields_of, header_fault}
 use Rattle.omf_format.specs.Record.{Record}
 use Rattle.omf_format.specs.Reading.{Reader, next_answer, after_next, HandsOut}
 use Rattle.omf_format.specs.File.{Segment, body_reader, IsHeader, IsSegment, AreSegments, IsFile}
-use Rattle.omf_format.specs.FileLaws.{segment_same, same_found, file_same, open_at_some}
-use Rattle.omf_format.specs.Loadable.{Fault, segment_refusal, record_refusal, told_header, front_fault, answer_fault, IsLoadSegment, HasReadFault, OfFront, OfRecord, IsReadFault, in_segment, later_fault, IsLaterFault, IsLoadable, IsFirstLoadFault, IsEmpty, OfReading, OfSegments}
+use Rattle.omf_format.specs.FileLaws.{segment_same, file_same, open_at_some}
+use Rattle.omf_format.specs.Loadable.{Fault, segment_refusal, record_refusal, front_fault, answer_fault, IsLoadSegment, HasReadFault, OfFront, OfRecord, in_segment, later_fault, IsLoadable, IsFirstLoadFault, IsEmpty, OfReading, OfSegments}
 
 abbrev Found : Type 0
 Found = ℕ × Record

@@ -1,0 +1,86 @@
+-- The fault of a header, a name or a type, or of a record, is that of its segment.
+use Rattle.std.proofs.Common.{◌≡◌, ℕ, ◌^◌, ◌<◌, ◌≤◌, List, length, drop, Option, Some, None, refl, sym, ap, subst, ◌∙◌, arith}
+use Rattle.std.proofs.lemmas.List.{length-drop}
+use Rattle.omf_format.specs.declared.fault.HeaderFault.{HeaderFault}
+use Rattle.omf_format.specs.declared.fault.HeaderFault.TheVariants as header
+use Rattle.omf_format.specs.declared.load.LoadCause.{LoadCause}
+use Rattle.omf_format.specs.declared.load.LoadCause.TheVariants.{NotLoadFile, Truncated, BadHeader, Unsupported, BadRecord, Sequence, DataTooLong, Memory}
+use Rattle.omf_format.specs.declared.load.LoadFault.{LoadFault}
+use Rattle.omf_format.specs.Header.{Fields, fields_of, header_fault}
+use Rattle.omf_format.specs.HeaderLaws.{fault_fits}
+use Rattle.omf_format.specs.Reading.{Reader, HandsOut}
+use Rattle.omf_format.specs.File.{body_reader, IsHeader}
+use Rattle.omf_format.specs.Loadable.{Fault, segment_refusal, told_header, front_fault, HasReadFault, OfFront, OfRecord}
+use Rattle.omf_header.specs.View.{IsRefused}
+use Rattle.omf_records.specs.Segments.{HasPlace}
+use Rattle.omf_cells.specs.Load.{UnlessMemory, IsReadRefused, IsHeaderFault}
+use Rattle.omf_cells.specs.Walk.{HasBodyFault}
+
+-- the place of a header's fault fits 32 bits, as the file does
+pub has_place : (of : HeaderFault) (start : ℕ) (bytes file : List ℕ) → bytes ≡ drop start file → start < length file → length file < 2 ^ 32 → IsRefused of bytes → HasPlace of start
+has_place (header.Truncated n) start bytes file is inside short refused =
+    let n-is : n ≡ length bytes = fault_fits bytes (header.Truncated n) refused in
+    omega (arith, ap length is, length-drop start file, n-is)
+has_place (header.Unsupported field) start bytes file is inside short refused =
+    let long : 44 ≤ length bytes = fault_fits bytes (header.Unsupported field) refused in
+    omega (arith, ap length is, length-drop start file, long)
+has_place (header.BadField field) start bytes file is inside short refused =
+    let long : 44 ≤ length bytes = fault_fits bytes (header.BadField field) refused in
+    omega (arith, ap length is, length-drop start file, long)
+has_place header.Memory start bytes file is inside short refused = tt
+
+-- a fault with a cause other than memory
+pub unless : (c : LoadCause) (fault : LoadFault) (P : Type 0) → (c ≡ Memory → ⊥) → P → UnlessMemory c fault P
+unless NotLoadFile fault P named h = h
+unless Truncated fault P named h = h
+unless BadHeader fault P named h = h
+unless Unsupported fault P named h = h
+unless BadRecord fault P named h = h
+unless Sequence fault P named h = h
+unless DataTooLong fault P named h = h
+unless Memory fault P named h = absurd (named refl)
+
+-- a clause that follows from another one
+pub unless_then : (c : LoadCause) (fault : LoadFault) (P Q : Type 0) → (P → Q) → UnlessMemory c fault P → UnlessMemory c fault Q
+unless_then NotLoadFile fault P Q f h = f h
+unless_then Truncated fault P Q f h = f h
+unless_then BadHeader fault P Q f h = f h
+unless_then Unsupported fault P Q f h = f h
+unless_then BadRecord fault P Q f h = f h
+unless_then Sequence fault P Q f h = f h
+unless_then DataTooLong fault P Q f h = f h
+unless_then Memory fault P Q f h = h
+
+abbrev some_header : HeaderFault → Option HeaderFault
+some_header of = Some of
+
+-- a header at fault
+pub of_header : (of : HeaderFault) (start : ℕ) (bytes file : List ℕ) → bytes ≡ drop start file → header_fault bytes ≡ Some of → HasReadFault start file (told_header start of)
+unfolding front_fault
+of_header of start bytes file is e =
+    let there : header_fault (drop start file) ≡ some_header of = ap header_fault (sym is) ∙ e in
+    OfFront (rw there refl)
+
+-- a name or type that is refused
+pub of_kind : (f : Fields) (cause : LoadCause) (start : ℕ) (file : List ℕ) → IsHeader start f file → segment_refusal f ≡ Some cause → HasReadFault start file (cause, start)
+unfolding front_fault
+of_kind f cause start file is e =
+    let passes' : header_fault (drop start file) ≡ None = is.passes in
+    let there : segment_refusal (fields_of (drop start file)) ≡ Some cause = ap segment_refusal (sym is.fields) ∙ e in
+    OfFront (rw (passes', there) refl)
+
+-- as a refusal of the segment
+pub refused_header : (of : HeaderFault) (number start : ℕ) (bytes file : List ℕ) (fault : LoadFault) → bytes ≡ drop start file → IsRefused of bytes → IsHeaderFault of start number fault → IsReadRefused fault number start file
+refused_header (header.Truncated n) number start bytes file fault is refused says =
+    subst (λ (x : LoadFault). IsReadRefused x number start file) (sym says) (refl, of_header (header.Truncated n) start bytes file is refused)
+refused_header (header.Unsupported field) number start bytes file fault is refused says =
+    subst (λ (x : LoadFault). IsReadRefused x number start file) (sym says) (refl, of_header (header.Unsupported field) start bytes file is refused)
+refused_header (header.BadField field) number start bytes file fault is refused says =
+    subst (λ (x : LoadFault). IsReadRefused x number start file) (sym says) (refl, of_header (header.BadField field) start bytes file is refused)
+refused_header header.Memory number start bytes file fault is refused says =
+    subst (λ (c : LoadCause). UnlessMemory c fault ((fault.segment ≡ number) × HasReadFault start file (fault.cause, fault.at))) (sym says.0) (says.1, says.2)
+
+-- a body's fault
+pub of_body : (start : ℕ) (f : Fields) (file : List ℕ) (reader : Reader) (fault : Fault) → IsHeader start f file → segment_refusal f ≡ None → reader ≡ body_reader start f file → HasBodyFault reader fault → HasReadFault start file fault
+of_body start f file reader fault header' front is has =
+    OfRecord f has.before has.at header' front (subst (λ (r : Reader). HandsOut r has.before has.at) is has.run) has.pass has.fails

@@ -1,0 +1,176 @@
+-- The views of a load file, and the segments that they show.
+use Rattle.std.proofs.Common.{◌≡◌, ℕ, zero, suc, ◌+◌, ◌-◌, ◌^◌, ◌<◌, ◌≤◌, List, [], ◌∷◌, ◌++◌, length, drop, map, get_or, replicate, All, Option, Some, None, inl, inr, refl, sym, ap, subst, ◌∙◌, arith}
+use Rattle.std.specs.Prelude.{not, nat_lt, ◌==◌, slice_get, option_map, option_and_then, IsSomeAnd}
+use Rattle.std.specs.Option.{option_or}
+use Rattle.std.proofs.Math.Seq.{drop-cons}
+use Rattle.std.proofs.lemmas.List.{length-map}
+use Rattle.std.proofs.lemmas.List.Elements.{All-get_or}
+use Rattle.std.proofs.lemmas.Option.{slice_get_within, slice_get_past, get_or_from_slice_get, slice_get-map}
+use Rattle.omf_format.specs.declared.load.LoadCause.TheVariants.{Sequence, DataTooLong}
+use Rattle.omf_format.specs.declared.load.LoadFault.{LoadFault}
+use Rattle.omf_format.specs.Header.{first_of}
+use Rattle.omf_format.specs.Reading.{Reader}
+use Rattle.omf_format.specs.File.{Segment, body_reader}
+use Rattle.omf_format.specs.FileLaws.{segments_fit}
+use Rattle.omf_format.specs.Plain.{body_bytes}
+use Rattle.omf_format.specs.Cells.{Cell, Byte, segment_bytes, cells, segment_at, cell_at}
+use Rattle.omf_format.specs.CellLaws.{cells-bytes, length-segment_bytes, loadable_at}
+use Rattle.omf_format.specs.Loadable.{Fault, in_segment, first_in, shape_fault, later_fault}
+use Rattle.omf_records.specs.declared.segment.SegmentView.{SegmentView}
+use Rattle.omf_records.specs.Segments.{Placed, placed}
+use Rattle.omf_cells.specs.View.{segment_of}
+use Rattle.omf_cells.specs.Walk.{content}
+use Rattle.omf_cells.specs.Load.{IsLoadView, AreLoadViews, Shows, IsOutside, HasLength, HasBytes}
+use Rattle.omf_cells.proofs.Walks.{get-front, get-behind}
+
+-- the segment that a view shows
+abbrev pub shown : SegmentView → Segment
+shown v = segment_of (placed v)
+
+-- a reader of its body has its bytes to give
+pub body_content : (p : Placed) → body_bytes (segment_of p) ≡ content (body_reader p.start p.fields p.file)
+unfolding body_bytes content
+body_content p = refl
+
+-- ---- phase 2
+
+-- what phase 2 finds in the segment that a view shows
+pub shape_fault-of : (number : ℕ) (v : SegmentView) (reader : Reader) → reader ≡ body_reader v.start (placed v).fields v.file.now
+    → shape_fault number (shown v) ≡ first_of ((not (v.header.seg_num == number), (Sequence, v.start)) ∷ (nat_lt v.header.length (length (content reader)), (DataTooLong, v.start)) ∷ [])
+unfolding shape_fault
+shape_fault-of number v reader at =
+    let size : length (body_bytes (shown v)) ≡ length (content reader) = ap length (body_content (placed v) ∙ ap content (sym at)) in
+    ap (λ (n : ℕ). first_of {F = Fault} ((not (v.header.seg_num == number), (Sequence, v.start)) ∷ (nat_lt v.header.length n, (DataTooLong, v.start)) ∷ [])) size
+
+-- the first fault of the views from one on
+abbrev pub shapes_from : ℕ → List SegmentView → Option LoadFault
+shapes_from number views = first_in shape_fault number (map shown views)
+
+-- one view, and then the others
+pub shapes_from-next : (views : List SegmentView) (i number : ℕ) (v : SegmentView) (fault : Option LoadFault) → i < length views → v ≡ get_or views i v
+    → fault ≡ option_map (in_segment number) (shape_fault number (shown v)) → shapes_from number (drop i views) ≡ option_or fault (shapes_from (number + 1) (drop (suc i) views))
+shapes_from-next views i number v fault lt is of =
+    ap (shapes_from number) (drop-cons views i v lt)
+    ∙ ap (λ (w : SegmentView). shapes_from number (w ∷ drop (suc i) views)) (sym is)
+    ∙ ap (λ (o : Option LoadFault). option_or o (shapes_from (number + 1) (drop (suc i) views))) (sym of)
+
+-- behind the last view there is none
+pub shapes_from-past : (views : List SegmentView) (i number : ℕ) → length views ≤ i → shapes_from number (drop i views) ≡ None
+shapes_from-past views i number past = ap (shapes_from number) (drop-past i views past)
+  where
+    drop-past : (k : ℕ) (xs : List SegmentView) → length xs ≤ k → drop k xs ≡ []
+    drop-past zero [] h = refl
+    drop-past zero (x ∷ xs) h = absurd (omega arith)
+    drop-past (suc k) [] h = refl
+    drop-past (suc k) (x ∷ xs) h = drop-past k xs (omega arith)
+
+-- the first fault after phase 1 is that of all views
+pub later_fault-is : (views : List SegmentView) → later_fault (map shown views) ≡ shapes_from 1 views
+unfolding later_fault
+later_fault-is views = refl
+
+-- ---- the segments by their numbers
+
+segment_at-some : (segments : List Segment) (number : ℕ) → 0 < number → segment_at segments number ≡ slice_get segments (number - 1)
+segment_at-some segments zero more = absurd (omega arith)
+segment_at-some segments (suc k) more = let same : k ≡ suc k - 1 = omega arith in ap (slice_get segments) same
+
+load_view_at : (file : List ℕ) (views : List SegmentView) (k : ℕ) (v : SegmentView) → All (IsLoadView file) views → slice_get views k ≡ Some v → IsLoadView file v
+load_view_at file views k v all is =
+    subst (IsLoadView file) (get_or_from_slice_get views k v v is) (All-get_or (IsLoadView file) views k v (slice_get_within views k v is) all)
+
+pub shows : (views : List SegmentView) (number : ℕ) (v : SegmentView) → AreLoadViews views → 0 < number → slice_get views (number - 1) ≡ Some v → Shows (map shown views) number v
+shows views number v is more found =
+    let here : segment_at (map shown views) number ≡ Some (shown v) =
+    segment_at-some (map shown views) number more ∙ slice_get-map shown views (number - 1) ∙ ap (option_map shown) found in
+    let view = load_view_at is.file views (number - 1) v is.each found in
+    record {
+      here = here;
+      short = omega (arith, ap length view.file', is.short);
+      view = subst (λ (f : List ℕ). IsLoadView f v) (sym view.file') view;
+      shape = (loadable_at is.file (map shown views) is.loadable number (shown v) here).shape;
+    }
+
+-- a load file has fewer than 2 ^ 32 segments
+pub few_views : (views : List SegmentView) → AreLoadViews views → length views < 2 ^ 32
+few_views views is =
+    omega (arith, segments_fit (map shown views) 0 is.file (length is.file) is.loadable.is_file, length-map views shown, is.short)
+
+-- ---- cells
+
+-- the bytes of the segment that a view shows
+bytes-shown : (v : SegmentView) (reader : Reader) → reader ≡ body_reader v.start (placed v).fields v.file.now
+    → segment_bytes (shown v) ≡ content reader ++ replicate (v.header.length - length (content reader)) 0
+unfolding segment_bytes
+bytes-shown v reader at =
+    ap (λ (l : List ℕ). l ++ replicate (v.header.length - length l) 0) (body_content (placed v) ∙ ap content (sym at))
+
+-- LENGTH has room for the bytes of its body
+pub content_fits : (segments : List Segment) (number : ℕ) (v : SegmentView) (reader : Reader) → Shows segments number v → reader ≡ body_reader v.start (placed v).fields v.file.now → length (content reader) ≤ v.header.length
+content_fits segments number v reader is at =
+    let size : length (body_bytes (shown v)) ≡ length (content reader) = ap length (body_content (placed v) ∙ ap content (sym at)) in
+    omega (arith, size, is.shape.fits)
+
+-- a cell of the segment is the byte there
+cell_at-shown : (segments : List Segment) (number at : ℕ) (v : SegmentView) → Shows segments number v → cell_at segments number at ≡ slice_get (map Byte (segment_bytes (shown v))) at
+cell_at-shown segments number at v is =
+    ap (option_and_then (λ (s : Segment). slice_get (cells s) at)) is.here ∙ ap (λ (l : List Cell). slice_get l at) (cells-bytes (shown v) is.view.pass)
+
+-- past LENGTH there is none
+pub cell_past : (segments : List Segment) (number at : ℕ) (v : SegmentView) → Shows segments number v → v.header.length ≤ at → cell_at segments number at ≡ None
+cell_past segments number at v is past =
+    let len = length-segment_bytes (shown v) is.shape.fits in
+    cell_at-shown segments number at v is
+    ∙ slice_get_past (map Byte (segment_bytes (shown v))) at (omega (arith, length-map (segment_bytes (shown v)) Byte, len))
+
+-- a byte of the body
+pub cell_some : (segments : List Segment) (number at : ℕ) (v : SegmentView) (reader : Reader) (b : ℕ) → Shows segments number v → reader ≡ body_reader v.start (placed v).fields v.file.now
+    → slice_get (content reader) at ≡ Some b → cell_at segments number at ≡ Some (Byte b)
+cell_some segments number at v reader b is of found =
+    let rest : List ℕ = replicate (v.header.length - length (content reader)) 0 in
+    cell_at-shown segments number at v is
+    ∙ slice_get-map Byte (segment_bytes (shown v)) at
+    ∙ ap (λ (l : List ℕ). option_map Byte (slice_get l at)) (bytes-shown v reader of)
+    ∙ ap (option_map Byte) (get-front (content reader) rest at (slice_get_within (content reader) at b found) ∙ found)
+
+get-replicate : (k n : ℕ) → n < k → slice_get {X = ℕ} (replicate k 0) n ≡ Some 0
+get-replicate zero n lt = absurd (omega arith)
+get-replicate (suc k) zero lt = refl
+get-replicate (suc k) (suc n) lt = get-replicate k n (omega arith)
+
+past_none : (xs : List ℕ) (k : ℕ) → slice_get xs k ≡ None → length xs ≤ k
+past_none [] k e = omega arith
+past_none (x ∷ xs) zero e = absurd cc
+past_none (x ∷ xs) (suc k) e = let rest = past_none xs k e in omega arith
+
+-- a zero behind it
+pub cell_zero : (segments : List Segment) (number at : ℕ) (v : SegmentView) (reader : Reader) → Shows segments number v → reader ≡ body_reader v.start (placed v).fields v.file.now
+    → slice_get (content reader) at ≡ None → at < v.header.length → cell_at segments number at ≡ Some (Byte 0)
+cell_zero segments number at v reader is of none lt =
+    let past = past_none (content reader) at none in
+    let n = at - length (content reader) in
+    let rest : List ℕ = replicate (v.header.length - length (content reader)) 0 in
+    cell_at-shown segments number at v is
+    ∙ slice_get-map Byte (segment_bytes (shown v)) at
+    ∙ ap (λ (l : List ℕ). option_map Byte (slice_get l at)) (bytes-shown v reader of)
+    ∙ ap (option_map Byte) (get-behind (content reader) rest at n (omega arith) ∙ get-replicate (v.header.length - length (content reader)) n (omega arith))
+
+-- ---- a segment's bytes as a whole
+
+pub has_length : (segments : List Segment) (number n : ℕ) (v : SegmentView) → HasLength segments number n → Shows segments number v → v.header.length ≡ n
+has_length segments number n v has is = subst (λ (o : Option Segment). IsSomeAnd o (λ (s : Segment). s.fields.length ≡ n)) is.here has
+
+pub has_bytes : (segments : List Segment) (number : ℕ) (v : SegmentView) (reader : Reader) (bytes : List ℕ) → Shows segments number v → reader ≡ body_reader v.start (placed v).fields v.file.now
+    → bytes ≡ content reader ++ replicate (v.header.length - length (content reader)) 0 → HasBytes segments number bytes
+has_bytes segments number v reader bytes is of same =
+    let all : cells (shown v) ≡ map Byte bytes = cells-bytes (shown v) is.view.pass ∙ ap (map Byte) (bytes-shown v reader of ∙ sym same) in
+    subst (λ (o : Option Segment). IsSomeAnd o (λ (s : Segment). cells s ≡ map Byte bytes)) (sym is.here) all
+
+-- outside the numbers there is no segment
+pub outside : (segments : List Segment) (number : ℕ) → IsOutside segments number → segment_at segments number ≡ None
+outside segments zero is = refl
+outside segments (suc k) (inl zero-is) = absurd (omega arith)
+outside segments (suc k) (inr past) = slice_get_past segments k (omega arith)
+
+pub no_length : (segments : List Segment) (number n : ℕ) → HasLength segments number n → IsOutside segments number → ⊥
+no_length segments number n has is = subst (λ (o : Option Segment). IsSomeAnd o (λ (s : Segment). s.fields.length ≡ n)) (outside segments number is) has

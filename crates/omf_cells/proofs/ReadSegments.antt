@@ -1,0 +1,74 @@
+-- The segments of a load file, as far as they were read.
+use Rattle.std.proofs.Common.{◌≡◌, ℕ, ◌+◌, ◌*◌, ◌<◌, ◌≤◌, List, [], ◌∷◌, ◌++◌, length, map, All, Some, refl, sym, subst, arith}
+use Rattle.std.specs.List.{AllByRecursion}
+use Rattle.std.proofs.lemmas.List.{map-append, length-append, length-map}
+use Rattle.std.proofs.lemmas.List.Elements.{All-push}
+use Rattle.omf_format.specs.declared.load.LoadFault.{LoadFault}
+use Rattle.omf_format.specs.File.{Segment, AreSegments}
+use Rattle.omf_format.specs.FileLaws.{LiesIn, header_lies, AreSegments-append, segments_fit}
+use Rattle.omf_format.specs.Loadable.{HasReadFault, IsLoadSegment, later_fault, IsFirstLoadFault, OfReading, OfSegments}
+use Rattle.omf_records.specs.declared.segment.SegmentView.{SegmentView}
+use Rattle.omf_records.specs.Segments.{placed}
+use Rattle.omf_cells.specs.Load.{IsRefused, IsReadRefused, IsLoadView}
+use Rattle.omf_cells.proofs.FrontFaults.{unless_then}
+use Rattle.omf_cells.proofs.LoadViews.{shown}
+
+-- these views are the segments from the file's front up to this displacement, and pass phase 1
+pub record Read (file : List ℕ) (views : List SegmentView) (start number : ℕ) : Type 0 where
+  pub are : AreSegments (map shown views) 0 file start
+  pub pass : AllByRecursion IsLoadSegment (map shown views)
+  pub each : All (IsLoadView file) views
+  pub count : number ≡ length views + 1
+  pub within : start ≤ length file
+
+pub view_lies : (file : List ℕ) (v : SegmentView) → IsLoadView file v → LiesIn v.start (placed v).fields file
+view_lies file v is = header_lies v.start (placed v).fields file is.segment.header
+
+all-append : (segments : List Segment) (s : Segment) → AllByRecursion IsLoadSegment segments → IsLoadSegment s → AllByRecursion IsLoadSegment (segments ++ s ∷ [])
+all-append [] s all one = (one, tt)
+all-append (t ∷ segments) s all one = (all.0, all-append segments s all.1 one)
+
+-- one segment more
+pub read_more : (file : List ℕ) (views : List SegmentView) (v : SegmentView) (start number : ℕ) → Read file views start number → v.start ≡ start → start < length file → IsLoadView file v
+    → Read file (views ++ v ∷ []) (start + v.header.byte_count) (number + 1)
+read_more file views v start number read at more is =
+    let lies = view_lies file v is in
+    let one : AreSegments (shown v ∷ []) start file (start + v.header.byte_count) = (at, more, is.segment, refl) in
+    let whole : map shown (views ++ v ∷ []) ≡ map shown views ++ shown v ∷ [] = map-append shown views (v ∷ []) in
+    record {
+      are = subst (λ (l : List Segment). AreSegments l 0 file (start + v.header.byte_count)) (sym whole) (AreSegments-append (map shown views) (shown v ∷ []) 0 file start (start + v.header.byte_count) read.are one);
+      pass = subst (AllByRecursion IsLoadSegment) (sym whole) (all-append (map shown views) (shown v) read.pass is.pass);
+      each = All-push (IsLoadView file) views v read.each is;
+      count = omega (arith, length-append views (v ∷ []), read.count);
+      within = omega (arith, lies.within, at);
+    }
+
+-- a segment that is refused behind the others has the file's first fault
+pub refused_in : (file : List ℕ) (views : List SegmentView) (fault : LoadFault) (start number : ℕ) → Read file views start number → start < length file → IsReadRefused fault number start file → IsRefused fault file
+refused_in file views fault start number read more is = unless_then fault.cause fault _ (IsFirstLoadFault file fault) first is
+  where
+    first : (fault.segment ≡ number) × HasReadFault start file (fault.cause, fault.at) → IsFirstLoadFault file fault
+    first h = OfReading record {
+      before = map shown views;
+      at = start;
+      sound = read.are;
+      pass = read.pass;
+      more = more;
+      number = omega (arith, h.0, read.count, length-map views shown);
+      here = h.1;
+    }
+
+-- as many segments as fit the file
+pub few_read : (file : List ℕ) (views : List SegmentView) (start number : ℕ) → Read file views start number → 10 * number ≤ start + 10
+few_read file views start number read = omega (arith, segments_fit (map shown views) 0 file start read.are, length-map views shown, read.count)
+
+-- where the file ends, a later phase finds the first fault of the segments
+pub is_later : (file : List ℕ) (views : List SegmentView) (start number : ℕ) (fault : LoadFault) → Read file views start number → length file ≤ start → later_fault (map shown views) ≡ Some fault → IsFirstLoadFault file fault
+is_later file views start number fault read end found =
+    let same : start ≡ length file = omega (arith, read.within) in
+    OfSegments record {
+      segments = map shown views;
+      is_file = subst (AreSegments (map shown views) 0 file) same read.are;
+      pass = read.pass;
+      here = found;
+    }

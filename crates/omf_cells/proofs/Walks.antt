@@ -1,0 +1,104 @@
+-- The bytes that a body puts into its segment, as far as its reader has come.
+use Rattle.std.proofs.Common.{◌≡◌, ℕ, zero, suc, ◌+◌, ◌≤◌, ◌<◌, true, List, [], ◌∷◌, ◌++◌, length, take, drop, Some, None, Ok, Err, refl, sym, ap, ◌∙◌, append_assoc, arith}
+use Rattle.std.specs.Prelude.{slice_get}
+use Rattle.std.specs.List.{flat_map}
+use Rattle.std.proofs.Math.Seq.{take-append_seam}
+use Rattle.std.proofs.lemmas.List.{append-nil, length-append}
+use Rattle.std.proofs.lemmas.List.Concat.{flat_map-cons}
+use Rattle.omf_format.specs.declared.fault.RecordFault.{RecordFault}
+use Rattle.omf_format.specs.Record.{Record, content_of}
+use Rattle.omf_format.specs.Reading.{Reader, next_answer, after_next, HandsOut}
+use Rattle.omf_format.specs.FileLaws.{Answer, gave, same_found, open_at_some, open_at_fault}
+use Rattle.omf_cells.specs.View.{records_of}
+use Rattle.omf_cells.specs.Walk.{IsBody, content}
+
+abbrev bytes_of : List (ℕ × Record) → List ℕ
+bytes_of founds = flat_map (λ (found : ℕ × Record). content_of found.1) founds
+
+abbrev failed : RecordFault → Answer
+failed fault = Err fault
+
+-- the records so far put these bytes into the segment, and those that are left put the rest
+pub record Left (start at : Reader) (bytes : List ℕ) : Type 0 where
+  pub back : List (ℕ × Record)
+  pub last : Reader
+  pub run : HandsOut at back last
+  pub ended : last.ended ≡ true
+  pub whole : content start ≡ bytes ++ flat_map (λ (found : ℕ × Record). content_of found.1) back
+
+-- so many bytes
+abbrev pub SoFar : Reader → Reader → ℕ → Type 0
+SoFar start at size = (bytes : List ℕ) × Left start at bytes × (size ≡ length bytes)
+
+pub left_all : (r : Reader) → IsBody r → Left r r []
+unfolding content
+left_all r is = record { back = records_of r; last = is.last; run = is.run; ended = is.ended; whole = refl }
+
+pub left_more : (start at : Reader) (found : ℕ × Record) (bytes : List ℕ) → Left start at bytes → next_answer at ≡ Ok (Some found) → Left start (after_next at) (bytes ++ content_of found.1)
+left_more start at found bytes left e = by_back left.back left.run left.whole
+  where
+    by_back : (back : List (ℕ × Record)) → HandsOut at back left.last → content start ≡ bytes ++ bytes_of back → Left start (after_next at) (bytes ++ content_of found.1)
+    by_back [] run whole = absurd (open_at_some at found e (ap (λ (r : Reader). r.ended) run ∙ left.ended))
+    by_back (other ∷ back) run whole =
+        let same : other ≡ found = same_found other found (sym run.0 ∙ e) in
+        record {
+          back = back;
+          last = left.last;
+          run = run.1;
+          ended = left.ended;
+          whole =
+              whole
+              ∙ ap (λ (l : List ℕ). bytes ++ l) (flat_map-cons (λ (f : ℕ × Record). content_of f.1) other back)
+              ∙ ap (λ (f : ℕ × Record). bytes ++ (content_of f.1 ++ bytes_of back)) same
+              ∙ sym (append_assoc bytes (content_of found.1) (bytes_of back));
+        }
+
+pub left_none : (start at : Reader) (bytes : List ℕ) → Left start at bytes → next_answer at ≡ Ok None → content start ≡ bytes
+left_none start at bytes left e = by_back left.back left.run left.whole
+  where
+    by_back : (back : List (ℕ × Record)) → HandsOut at back left.last → content start ≡ bytes ++ bytes_of back → content start ≡ bytes
+    by_back [] run whole = whole ∙ append-nil bytes
+    by_back (other ∷ back) run whole = let clash : gave other ≡ Ok None = sym run.0 ∙ e in absurd cc
+
+pub left_fault : (start at : Reader) (bytes : List ℕ) (fault : RecordFault) → Left start at bytes → next_answer at ≡ Err fault → ⊥
+left_fault start at bytes fault left e = by_back left.back left.run
+  where
+    by_back : (back : List (ℕ × Record)) → HandsOut at back left.last → ⊥
+    by_back [] run = open_at_fault at fault e (ap (λ (r : Reader). r.ended) run ∙ left.ended)
+    by_back (other ∷ back) run = let clash : gave other ≡ failed fault = sym run.0 ∙ e in cc
+
+-- what came so far isn't more than the whole
+pub left_within : (start at : Reader) (bytes : List ℕ) → Left start at bytes → length bytes ≤ length (content start)
+left_within start at bytes left = omega (arith, ap length left.whole, length-append bytes (bytes_of left.back))
+
+-- ---- places in lists
+
+-- an item of the second list
+pub get-behind : (xs ys : List ℕ) (k n : ℕ) → k ≡ length xs + n → slice_get (xs ++ ys) k ≡ slice_get ys n
+get-behind [] ys k n is = let same : k ≡ n = omega arith in ap (slice_get ys) same
+get-behind (x ∷ xs) ys zero n is = absurd (omega arith)
+get-behind (x ∷ xs) ys (suc k) n is = get-behind xs ys k n (omega arith)
+
+-- an item of the first one
+pub get-front : (xs ys : List ℕ) (k : ℕ) → k < length xs → slice_get (xs ++ ys) k ≡ slice_get xs k
+get-front [] ys k lt = absurd (omega arith)
+get-front (x ∷ xs) ys zero lt = refl
+get-front (x ∷ xs) ys (suc k) lt = get-front xs ys k (omega arith)
+
+-- the byte at a place of the next record
+pub left_get : (start at : Reader) (found : ℕ × Record) (bytes : List ℕ) (k n : ℕ) → Left start at bytes → next_answer at ≡ Ok (Some found) → k ≡ length bytes + n → n < length (content_of found.1)
+    → slice_get (content start) k ≡ slice_get (content_of found.1) n
+left_get start at found bytes k n left e is lt =
+    let more = left_more start at found bytes left e in
+    ap (λ (l : List ℕ). slice_get l k) more.whole
+    ∙ get-front (bytes ++ content_of found.1) (bytes_of more.back) k (omega (arith, length-append bytes (content_of found.1)))
+    ∙ get-behind bytes (content_of found.1) k n is
+
+-- a front that was written, and what was written behind it
+pub written_more : (out bytes c : List ℕ) (at : ℕ) → take at out ≡ bytes → at ≡ length bytes
+    → take (at + length c) (take at out ++ c ++ drop (at + length c) out) ≡ bytes ++ c
+written_more out bytes c at written size =
+    let len : at + length c ≡ length (take at out ++ c) = omega (arith, length-append (take at out) c, ap length written) in
+    ap (λ (n : ℕ). take n (take at out ++ c ++ drop (at + length c) out)) len
+    ∙ take-append_seam (take at out ++ c) (drop (at + length c) out)
+    ∙ ap (λ (l : List ℕ). l ++ c) written

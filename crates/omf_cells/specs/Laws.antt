@@ -1,0 +1,28 @@
+-- Laws of load files, in the format's own words.
+use Rattle.std.specs.Prelude.{◌≡◌, ℕ, List, length, map, Some}
+use Rattle.omf_format.specs.declared.load.LoadFault.{LoadFault}
+use Rattle.omf_format.specs.File.{Segment}
+use Rattle.omf_format.specs.Cells.{Byte, segment_bytes, cells, segment_at}
+use Rattle.omf_format.specs.Loadable.{IsLoadable, IsFirstLoadFault}
+
+-- a file is one list of load segments at most
+abbrev pub OneLoadFile : Type 0
+OneLoadFile = (file : List ℕ) (a b : List Segment) → IsLoadable file a → IsLoadable file b → a ≡ b
+
+-- a load file has no first fault
+abbrev pub LoadableHasNoFault : Type 0
+LoadableHasNoFault = (file : List ℕ) (segments : List Segment) (fault : LoadFault) → IsLoadable file segments → IsFirstLoadFault file fault → ⊥
+
+-- a file has one first fault at most
+abbrev pub OneFirstFault : Type 0
+OneFirstFault = (file : List ℕ) (a b : LoadFault) → IsFirstLoadFault file a → IsFirstLoadFault file b → a ≡ b
+
+-- a segment of a load file has LENGTH cells
+abbrev pub HasLengthCells : Type 0
+HasLengthCells = (file : List ℕ) (segments : List Segment) (number : ℕ) (s : Segment) → IsLoadable file segments → segment_at segments number ≡ Some s
+    → length (cells s) ≡ s.fields.length
+
+-- they are the bytes of its records and then zeros
+abbrev pub CellsAreBytes : Type 0
+CellsAreBytes = (file : List ℕ) (segments : List Segment) (number : ℕ) (s : Segment) → IsLoadable file segments → segment_at segments number ≡ Some s
+    → cells s ≡ map Byte (segment_bytes s)

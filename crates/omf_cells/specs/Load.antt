@@ -1,0 +1,91 @@
+-- What a load file is seen as, and why a file isn't one.
+use Rattle.std.specs.Prelude.{◌≡◌, ◌⊎◌, ◌<◌, ◌+◌, ◌^◌, ℕ, List, length, map, All, Some, None, IsSomeAnd}
+use Rattle.omf_format.specs.declared.fault.HeaderFault.{HeaderFault}
+use Rattle.omf_format.specs.declared.fault.HeaderFault.TheVariants as header
+use Rattle.omf_format.specs.declared.load.LoadCause.{LoadCause}
+use Rattle.omf_format.specs.declared.load.LoadCause.TheVariants.{NotLoadFile, Truncated, BadHeader, Unsupported, BadRecord, Sequence, DataTooLong, Memory}
+use Rattle.omf_format.specs.declared.load.LoadFault.{LoadFault}
+use Rattle.omf_format.specs.Header.{Fields}
+use Rattle.omf_format.specs.File.{Segment, IsHeader, IsSegment}
+use Rattle.omf_format.specs.Cells.{Byte, cells, segment_at}
+use Rattle.omf_format.specs.Loadable.{segment_refusal, told_header, in_segment, HasReadFault, IsLoadSegment, IsLoadable, IsFirstLoadFault}
+use Rattle.omf_format.specs.CellLaws.{IsShaped}
+use Rattle.omf_records.specs.declared.segment.SegmentView.{SegmentView}
+use Rattle.omf_records.specs.Segments.{placed}
+use Rattle.omf_cells.specs.View.{segment_of}
+
+-- a fault of want of memory has no place, and every other one is this
+abbrev pub UnlessMemory : LoadCause → LoadFault → Type 0 → Type 0
+UnlessMemory NotLoadFile fault P = P
+UnlessMemory Truncated fault P = P
+UnlessMemory BadHeader fault P = P
+UnlessMemory Unsupported fault P = P
+UnlessMemory BadRecord fault P = P
+UnlessMemory Sequence fault P = P
+UnlessMemory DataTooLong fault P = P
+UnlessMemory Memory fault P = (fault.segment ≡ 0) × (fault.at ≡ 0)
+
+-- the fault is the first one of the file, unless memory ran out
+abbrev pub IsRefused : LoadFault → List ℕ → Type 0
+IsRefused fault file = UnlessMemory fault.cause fault (IsFirstLoadFault file fault)
+
+-- the fault is the one that phase 1 finds in the segment with this number that starts there, unless memory ran out
+abbrev pub IsReadRefused : LoadFault → ℕ → ℕ → List ℕ → Type 0
+IsReadRefused fault number start file = UnlessMemory fault.cause fault ((fault.segment ≡ number) × HasReadFault start file (fault.cause, fault.at))
+
+-- a header's fault as one of the load file, in the segment with this number
+abbrev pub IsHeaderFault : HeaderFault → ℕ → ℕ → LoadFault → Type 0
+IsHeaderFault (header.Truncated n) start number fault = fault ≡ in_segment number (told_header start (header.Truncated n))
+IsHeaderFault (header.Unsupported field) start number fault = fault ≡ in_segment number (told_header start (header.Unsupported field))
+IsHeaderFault (header.BadField field) start number fault = fault ≡ in_segment number (told_header start (header.BadField field))
+IsHeaderFault header.Memory start number fault = (fault.cause ≡ Memory) × (fault.segment ≡ 0) × (fault.at ≡ 0)
+
+-- a header that phase 1 lets pass stands there
+pub record IsLoadHeader (start : ℕ) (f : Fields) (file : List ℕ) : Type 0 where
+  pub header : IsHeader start f file
+  pub front : segment_refusal f ≡ None
+
+-- the view shows a segment of the file that phase 1 lets pass
+pub record IsLoadView (file : List ℕ) (v : SegmentView) : Type 0 where
+  pub file' : v.file.now ≡ file
+  pub segment : IsSegment (segment_of (placed v)) file
+  pub pass : IsLoadSegment (segment_of (placed v))
+
+-- the views show segments of one file, fewer than 2 ^ 32 - 1
+pub record AreShown (views : List SegmentView) : Type 0 where
+  pub file : List ℕ
+  pub short : length file < 2 ^ 32
+  pub few : length views + 1 < 2 ^ 32
+  pub each : All (IsLoadView file) views
+
+-- the views of a load file show its segments
+pub record AreLoadViews (views : List SegmentView) : Type 0 where
+  pub file : List ℕ
+  pub short : length file < 2 ^ 32
+  pub each : All (IsLoadView file) views
+  pub loadable : IsLoadable file (map (λ v. segment_of (placed v)) views)
+
+-- ---- what the calls of a load file tell
+
+-- no segment has this number
+abbrev pub IsOutside : List Segment → ℕ → Type 0
+IsOutside segments number = (number ≡ 0) ⊎ (length segments < number)
+
+-- the segment with this number has these fields
+abbrev pub HasFields : List Segment → ℕ → Fields → Type 0
+HasFields segments number f = IsSomeAnd (segment_at segments number) (λ s. s.fields ≡ f)
+
+-- there is a segment with this number, and its LENGTH is so many bytes
+abbrev pub HasLength : List Segment → ℕ → ℕ → Type 0
+HasLength segments number n = IsSomeAnd (segment_at segments number) (λ s. s.fields.length ≡ n)
+
+-- the cells of the segment with this number are these bytes
+abbrev pub HasBytes : List Segment → ℕ → List ℕ → Type 0
+HasBytes segments number bytes = IsSomeAnd (segment_at segments number) (λ s. cells s ≡ map Byte bytes)
+
+-- the view shows the segment with this number, which is of a load file
+pub record Shows (segments : List Segment) (number : ℕ) (v : SegmentView) : Type 0 where
+  pub here : segment_at segments number ≡ Some (segment_of (placed v))
+  pub short : length v.file.now < 2 ^ 32
+  pub view : IsLoadView v.file.now v
+  pub shape : IsShaped number (segment_of (placed v))

@@ -1,0 +1,111 @@
+//! The front of a load segment: its header, and then its name and type.
+
+ghost use Rattle.std.specs.Prelude.{◌≡◌, ◌+◌, ◌<◌, ◌≤◌, ◌^◌, length, drop, IfOk, IfErr, Some};
+ghost use Rattle.omf_format.specs.Header.{displacement_of, form_of};
+ghost use Rattle.omf_format.specs.Loadable.{is_express, segment_refusal};
+ghost use Rattle.omf_header.specs.View.{fields};
+ghost use Rattle.omf_records.specs.Segments.{HasPlace};
+ghost use Rattle.omf_cells.specs.Load.{IsLoadHeader, IsReadRefused, IsHeaderFault};
+
+use omf_format::{Field, HeaderFault, LoadCause, LoadFault};
+use omf_header::{Header, read_header};
+use std::alloc::Global;
+
+/// The header that stands there, in the segment with this number.
+pub fn front_at(alloc: Global, file: &[u8], start: u32, number: u32) -> Result<Header, LoadFault>
+    requires short { length file.now < 2 ^ 32 }
+    requires inside { start < length file.now }
+    ensures ok { IfOk result (λ header. IsLoadHeader start (fields header) file.now) }
+    ensures err { IfErr result (λ fault. IsReadRefused fault number start file.now) }
+{
+    let header = match read_header(alloc, from(file, start as usize)) {
+        Ok(header) => header,
+        Err(fault) => return Err(header_fault(fault, number, start)),
+    };
+    match refusal(&header) {
+        Some(cause) => Err(LoadFault {
+            cause,
+            segment: number,
+            at: start,
+        }),
+        None => Ok(header),
+    }
+}
+
+/// The bytes from a displacement on.
+fn from(bytes: &[u8], at: usize) -> &[u8]
+    requires { at ≤ length bytes.now }
+    ensures value { result.now ≡ drop at bytes.now }
+    ensures size { length result.now ≤ length bytes.now }
+{
+    &bytes[at..]
+}
+
+/// Why a load file can't have a segment of this name and type.
+#[tactic(auto, unfolding(omf_format::specs::Loadable::segment_refusal))]
+fn refusal(header: &Header) -> Option<LoadCause>
+    ensures value { result ≡ segment_refusal (fields header.now) }
+    ensures named { result ≡ Some LoadCause.Memory → ⊥ }
+{
+    if is_express(header.name.bytes()) {
+        return Some(LoadCause::Unsupported);
+    }
+    match header.kind.form() {
+        0x02 | 0x04 => Some(LoadCause::Unsupported),
+        0x08 => Some(LoadCause::NotLoadFile),
+        _ => None,
+    }
+}
+
+/// A name of segments for the Express Loader.
+fn is_express(name: &[u8]) -> bool
+    ensures { result ≡ is_express name.now }
+{
+    name == b"ExpressLoad".as_slice() || name == b"~ExpressLoad".as_slice()
+}
+
+/// A header's fault as one of the load file.
+fn header_fault(fault: HeaderFault, segment: u32, start: u32) -> LoadFault
+    requires { HasPlace fault start }
+    ensures { IsHeaderFault fault start segment result }
+{
+    match fault {
+        HeaderFault::Truncated(size) => LoadFault {
+            cause: LoadCause::Truncated,
+            segment,
+            at: start + size,
+        },
+        HeaderFault::Unsupported(field) => LoadFault {
+            cause: LoadCause::Unsupported,
+            segment,
+            at: start + displacement_of(field),
+        },
+        HeaderFault::BadField(field) => LoadFault {
+            cause: LoadCause::BadHeader,
+            segment,
+            at: start + displacement_of(field),
+        },
+        HeaderFault::Memory => LoadFault {
+            cause: LoadCause::Memory,
+            segment: 0,
+            at: 0,
+        },
+    }
+}
+
+/// Where in the header a field stands.
+fn displacement_of(field: Field) -> u32
+    ensures value { result ≡ displacement_of field }
+    ensures small { result < 44 }
+{
+    match field {
+        Field::NumLen => 0x0E,
+        Field::Version => 0x0F,
+        Field::BankSize => 0x10,
+        Field::Kind => 0x14,
+        Field::NumSex => 0x20,
+        Field::DispName => 0x28,
+        Field::DispData => 0x2A,
+        Field::ResSpc => 0x04,
+    }
+}

@@ -1,0 +1,16 @@
+//! Laws of load files. These functions do nothing: each is there for its contract.
+
+ghost use Rattle.omf_cells.specs.Laws.{OneLoadFile, LoadableHasNoFault, OneFirstFault, HasLengthCells, CellsAreBytes};
+
+/// A file is one list of load segments, or has one first fault, and not both.
+pub fn load_files_are_read_in_one_way()
+    ensures one_list { OneLoadFile }
+    ensures no_fault { LoadableHasNoFault }
+    ensures one_fault { OneFirstFault }
+{}
+
+/// A load segment without patches is the bytes of its records, and then zeros up to LENGTH.
+pub fn load_segments_have_length_cells()
+    ensures length { HasLengthCells }
+    ensures bytes { CellsAreBytes }
+{}

@@ -1,0 +1,19 @@
+//! Load files as lists of cells: what each segment holds in memory before it has a place, and why a file isn't loaded
+//! (GS/OS Reference, appendix F).
+#![tactic(auto)]
+
+mod body;
+mod cell;
+mod content;
+mod front;
+mod laws;
+mod load;
+mod reading;
+mod records;
+mod shape;
+
+pub use cell::Cell;
+pub use laws::{load_files_are_read_in_one_way, load_segments_have_length_cells};
+pub use load::LoadFile;
+pub use omf_format::{LoadCause, LoadFault};
+pub use reading::read_load;

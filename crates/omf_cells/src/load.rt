@@ -1,0 +1,94 @@
+//! A load file, as it was read.
+
+ghost use Rattle.std.specs.Prelude.{◌≡◌, ◌⊎◌, ◌<◌, ◌≤◌, ◌^◌, length, IsNone, MatchOption, option_map};
+ghost use Rattle.omf_format.specs.Cells.{cell_at};
+ghost use Rattle.omf_header.specs.View.{fields};
+ghost use Rattle.omf_cells.specs.View.{view};
+ghost use Rattle.omf_cells.specs.Load.{IsOutside, HasFields, HasLength, HasBytes, Shows};
+
+use crate::body::{byte_at, write_body};
+use crate::cell::Cell;
+use omf_header::Header;
+use omf_records::SegmentView;
+use std::marker::Model;
+
+/// A load file. Contracts see the list of its segments. It holds no more than the file's headers, and a call goes over a
+/// segment's records again.
+#[derive(Debug, Drop)]
+pub struct LoadFile<'a> {
+    pub(crate) views: Vec<SegmentView<'a>>,
+}
+
+impl<'a> Model for LoadFile<'a> {
+    ghost use Rattle.std.specs.Prelude.{List, map};
+    ghost use Rattle.omf_format.specs.File.{Segment};
+    ghost use Rattle.omf_records.specs.Segments.{placed};
+    ghost use Rattle.omf_cells.specs.View.{segment_of};
+    ghost use Rattle.omf_cells.specs.Load.{AreLoadViews};
+
+    ghost Value = { List Segment };
+
+    ghost view = { λ load. map (λ v. segment_of (placed v)) load.views.items };
+
+    ghost invariant = { λ load. AreLoadViews load.views.items };
+}
+
+impl<'a> LoadFile<'a> {
+    /// How many segments there are.
+    pub fn count(&self) -> u32
+        ensures { result ≡ length self.now }
+    {
+        self.views.len() as u32
+    }
+
+    /// The segment with this number, from 1.
+    fn segment(&self, number: u32) -> Option<&SegmentView<'a>>
+        ensures { MatchOption result (IsOutside self.now number) (λ view. Shows self.now number view.now) }
+    {
+        if number == 0 {
+            return None;
+        }
+        match self.views.get(number as usize - 1) {
+            Some(view) => Some(view),
+            None => None,
+        }
+    }
+
+    /// The header of the segment with this number, from 1.
+    pub fn header(&self, segment: u32) -> Option<&Header>
+        ensures { MatchOption result (IsOutside self.now segment) (λ header. HasFields self.now segment (fields header.now)) }
+    {
+        match self.segment(segment) {
+            Some(view) => Some(&view.header),
+            None => None,
+        }
+    }
+
+    /// The cell at an offset, from 0, of the segment with this number, from 1. No memory is taken.
+    pub fn cell(&self, segment: u32, at: u32) -> Option<Cell>
+        ensures { option_map view result ≡ cell_at self.now segment at }
+    {
+        let view = match self.segment(segment) {
+            Some(view) => view,
+            None => return None,
+        };
+        if at >= view.header.length {
+            return None;
+        }
+        match byte_at(view.records(), at) {
+            Some(byte) => Some(Cell::Byte(byte)),
+            None => Some(Cell::Byte(0)),
+        }
+    }
+
+    /// Writes the bytes of the segment with this number, from 1, whose cells all are bytes. No memory is taken.
+    pub fn data_into(&self, segment: u32, out: &mut [u8])
+        requires { HasLength self.now segment (length out.old) }
+        ensures { HasBytes self.now segment out.new }
+    {
+        match self.segment(segment) {
+            Some(view) => write_body(view.records(), out),
+            None => unreachable!(),
+        }
+    }
+}

@@ -1,0 +1,73 @@
+//! Reading a load file: each segment in order, header, name and type before its records, and then the segments together.
+
+ghost use Rattle.std.specs.Prelude.{◌≡◌, ◌<◌, ◌^◌, length, OnOk, IfOk, IfErr};
+ghost use Rattle.omf_format.specs.Loadable.{IsLoadable};
+ghost use Rattle.omf_records.specs.Segments.{placed};
+ghost use Rattle.omf_cells.specs.Load.{IsLoadView, IsReadRefused, IsRefused};
+
+use crate::front::front_at;
+use crate::load::LoadFile;
+use crate::records::check_records;
+use crate::shape::check_shapes;
+use omf_format::{LoadCause, LoadFault};
+use omf_records::SegmentView;
+use std::alloc::Global;
+
+/// The segment with this number that starts there, its front and its records checked.
+fn segment_from(
+    alloc: Global,
+    file: &[u8],
+    start: u32,
+    number: u32,
+) -> Result<SegmentView<'_>, LoadFault>
+    requires short { length file.now < 2 ^ 32 }
+    requires inside { start < length file.now }
+    ensures start { IfOk result (λ view. view.start ≡ start) }
+    ensures ok { IfOk result (λ view. IsLoadView file.now view) }
+    ensures err { IfErr result (λ fault. IsReadRefused fault number start file.now) }
+{
+    let header = match front_at(alloc, file, start, number) {
+        Ok(header) => header,
+        Err(fault) => return Err(fault),
+    };
+    let view = SegmentView {
+        start,
+        header,
+        file,
+    };
+    match check_records(view.records(), number) {
+        Ok(()) => Ok(view),
+        Err(fault) => Err(fault),
+    }
+}
+
+/// The load file. It is refused exactly where it has a first fault, or memory runs out.
+pub fn read_load<'a>(alloc: Global, file: &'a [u8]) -> Result<LoadFile<'a>, LoadFault>
+    requires { length file.now < 2 ^ 32 }
+    ensures ok { IfOk result (λ load. IsLoadable file.now load) }
+    ensures refused { IfErr result (λ fault. IsRefused fault file.now) }
+{
+    if file.is_empty() {
+        return Err(LoadFault {
+            cause: LoadCause::NotLoadFile,
+            segment: 0,
+            at: 0,
+        });
+    }
+    let mut views = Vec::new(alloc);
+    let mut start = 0;
+    let mut number = 1;
+    'segments: while start < file.len() {
+        let view = match segment_from(alloc, file, start as u32, number) {
+            Ok(view) => view,
+            Err(fault) => return Err(fault),
+        };
+        start += view.header.byte_count as usize;
+        number += 1;
+        views.push(view)?;
+    }
+    match check_shapes(&views) {
+        Some(fault) => Err(fault),
+        None => Ok(LoadFile { views }),
+    }
+}

@@ -1,0 +1,69 @@
+//! The records of a load segment, checked one by one.
+
+ghost use Rattle.std.specs.Prelude.{◌≡◌, Some, OnOk, IfErr};
+ghost use Rattle.omf_format.specs.Loadable.{record_refusal, told_record, in_segment};
+ghost use Rattle.omf_records.specs.View.{view};
+ghost use Rattle.omf_cells.specs.Walk.{IsLoadBody, HasBodyFault};
+
+use omf_format::{LoadCause, LoadFault, RecordFault};
+use omf_records::{Rec, Records};
+
+/// Goes over the records up to END.
+pub fn check_records(records: Records, number: u32) -> Result<(), LoadFault>
+    ensures ok { OnOk result (IsLoadBody records.entry) }
+    ensures number { IfErr result (λ fault. fault.segment ≡ number) }
+    ensures fault { IfErr result (λ fault. HasBodyFault records.entry (fault.cause, fault.at)) }
+    ensures named { IfErr result (λ fault. fault.cause ≡ LoadCause.Memory → ⊥) }
+{
+    let mut records = records;
+    'records: loop {
+        match records.next() {
+            Ok(None) => return Ok(()),
+            Ok(Some(found)) => match refusal(&found.1) {
+                Some(cause) => {
+                    return Err(LoadFault {
+                        cause,
+                        segment: number,
+                        at: found.0,
+                    });
+                }
+                None => {}
+            },
+            Err(fault) => return Err(record_fault(fault, number)),
+        }
+    }
+}
+
+/// Why a load segment can't have this record.
+fn refusal(rec: &Rec) -> Option<LoadCause>
+    ensures value { result ≡ record_refusal (view rec.now) }
+    ensures named { result ≡ Some LoadCause.Memory → ⊥ }
+{
+    match rec {
+        Rec::End | Rec::Const { .. } | Rec::LongConst { .. } | Rec::Space { .. } => None,
+    }
+}
+
+/// A record's fault as one of the load file.
+fn record_fault(fault: RecordFault, segment: u32) -> LoadFault
+    ensures value { result ≡ in_segment segment (told_record fault) }
+    ensures named { result.cause ≡ LoadCause.Memory → ⊥ }
+{
+    match fault {
+        RecordFault::Truncated(at) => LoadFault {
+            cause: LoadCause::Truncated,
+            segment,
+            at,
+        },
+        RecordFault::Unsupported(_, at) => LoadFault {
+            cause: LoadCause::Unsupported,
+            segment,
+            at,
+        },
+        RecordFault::BadRecord(at) => LoadFault {
+            cause: LoadCause::BadRecord,
+            segment,
+            at,
+        },
+    }
+}

@@ -1,0 +1,52 @@
+//! The segments of a load file, each with its number and the size of its data checked.
+
+ghost use Rattle.std.specs.Prelude.{◌≡◌, ◌<◌, ◌^◌, length, map, option_map, IfSome};
+ghost use Rattle.omf_format.specs.Loadable.{shape_fault, in_segment, later_fault};
+ghost use Rattle.omf_records.specs.Segments.{placed};
+ghost use Rattle.omf_cells.specs.View.{segment_of};
+ghost use Rattle.omf_cells.specs.Load.{IsLoadView, AreShown};
+
+use crate::body::is_longer;
+use omf_format::{LoadCause, LoadFault};
+use omf_records::SegmentView;
+
+/// What is wrong with the segment that has this number.
+fn fault_of(view: &SegmentView, number: u32) -> Option<LoadFault>
+    requires short { length view.now.file.now < 2 ^ 32 }
+    requires shown { IsLoadView view.now.file.now view.now }
+    ensures value { result ≡ option_map (in_segment number) (shape_fault number (segment_of (placed view.now))) }
+    ensures named { IfSome result (λ fault. fault.cause ≡ LoadCause.Memory → ⊥) }
+{
+    if u32::from(view.header.seg_num) != number {
+        return Some(LoadFault {
+            cause: LoadCause::Sequence,
+            segment: number,
+            at: view.start,
+        });
+    }
+    if is_longer(view.records(), view.header.length) {
+        return Some(LoadFault {
+            cause: LoadCause::DataTooLong,
+            segment: number,
+            at: view.start,
+        });
+    }
+    None
+}
+
+/// The first fault of the segments, in order.
+pub fn check_shapes(views: &Vec<SegmentView>) -> Option<LoadFault>
+    requires { AreShown views.now.items }
+    ensures value { result ≡ later_fault (map (λ v. segment_of (placed v)) views.now.items) }
+    ensures named { IfSome result (λ fault. fault.cause ≡ LoadCause.Memory → ⊥) }
+{
+    let mut number = 1;
+    'views: for view in views {
+        match fault_of(view, number) {
+            Some(fault) => return Some(fault),
+            None => {}
+        }
+        number += 1;
+    }
+    None
+}
