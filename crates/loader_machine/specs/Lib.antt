@@ -12,3 +12,4 @@ pub mod Machine
 pub mod Step
 pub mod Transcript
 pub mod Replies
+pub mod ScriptCommandLaws

@@ -1,6 +1,6 @@
 -- Scripts: the lines of a text, the words of a line, and the command that the words give. Scripts are this project's own.
 use Rattle.std.specs.Prelude.{◌≡◌, ℕ, ◌+◌, ◌<◌, ◌≤◌, Bool, true, false, not, ◌&&◌, ◌||◌, ◌==◌, nat_le, List, [], ◌∷◌, ◌++◌, length, map, filter, slice_index, codes, bytes_eq, Result, Ok, Err, if◌then◌else◌}
-use Rattle.std.specs.List.{list_all, list_any, slice_split, onto_first}
+use Rattle.std.specs.List.{AllByRecursion, list_all, list_any, slice_split, onto_first}
 use Rattle.std.specs.Str.Parse.{digits_value}
 use Rattle.loader_machine.specs.declared.script.ScriptCause.{ScriptCause}
 use Rattle.loader_machine.specs.declared.script.ScriptCause.TheVariants.{TooManyLines, BadWord, UnknownCommand, BanksFirst, WrongCount, BadNumber, BankTwice}
@@ -107,6 +107,19 @@ command_of is_first (name ∷ words) =
     else if bytes_eq name (codes "load") then (if is_first then Err BanksFirst else load_of words)
     else if bytes_eq name (codes "bytes") then (if is_first then Err BanksFirst else bytes_of words)
     else Err UnknownCommand
+
+-- what the values of every command keep, as a script's first one or not
+abbrev pub IsCommand : Bool → Command → Type 0
+IsCommand is_first (Banks banks) = (is_first ≡ true) × (1 ≤ length banks) × (length banks ≤ 256)
+    × AllByRecursion (λ bank. bank ≤ 0xFF) banks × (stands_twice banks ≡ false)
+IsCommand is_first (Load path) = (is_first ≡ false) × (1 ≤ length path) × (length path ≤ 255) × (is_word path ≡ true)
+IsCommand is_first (Bytes user segment at size) = (is_first ≡ false) × (user ≤ 0xFFFF) × (segment ≤ 0xFFFF)
+    × (at ≤ 0xFFFFFFFF) × (1 ≤ size) × (size ≤ 0x100)
+
+-- the same of a list of commands, of which the first is a script's first one or not
+abbrev pub AreCommands : Bool → List Command → Type 0
+AreCommands is_first [] = Unit {0}
+AreCommands is_first (command ∷ commands) = IsCommand is_first command × AreCommands false commands
 
 -- the command of a line that isn't skipped
 unfoldable pub line_command : Bool → List ℕ → Result Command ScriptCause

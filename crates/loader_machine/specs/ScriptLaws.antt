@@ -1,9 +1,10 @@
 -- Laws of scripts: how a text is read line by line, and that a text is one script, or has one first bad line, and not both.
-use Rattle.std.proofs.Common.{◌≡◌, ℕ, ◌<◌, Bool, true, false, cond, List, [], ◌∷◌, ◌++◌, length, Result, Ok, Err, refl, sym, ap, subst, ◌∙◌, arith}
-use Rattle.std.specs.Prelude.{◌||◌, ◌&&◌, ◌==◌, not, slice_index}
+use Rattle.std.proofs.Common.{◌≡◌, ℕ, suc, ◌+◌, ◌<◌, ◌≤◌, Bool, true, false, cond, ◌⊎◌, inl, inr, List, [], ◌∷◌, ◌++◌, length, Result, Ok, Err, refl, sym, ap, subst, ◌∙◌, arith}
+use Rattle.std.specs.Prelude.{◌||◌, ◌&&◌, ◌==◌, not, filter, slice_index}
 use Rattle.std.specs.List.{AllByRecursion, onto_first}
 use Rattle.std.proofs.lemmas.List.{length-append, append-nil}
 use Rattle.std.proofs.lemmas.List.Elements.{filter-append}
+use Rattle.std.proofs.lemmas.List.Sums.{length-filter, count_by-le-length}
 use Rattle.loader_machine.specs.declared.script.ScriptCause.{ScriptCause}
 use Rattle.loader_machine.specs.Command.{Command}
 use Rattle.loader_machine.specs.Script.{lines_of, is_skipped, written, line_command, Give, AreGood, is_start, most_lines, IsBad, OneTooMany, NoCommand, IsFirstBadLine, IsScript}
@@ -32,7 +33,7 @@ unfolding lines_of onto_front
 lines_of-front [] behind h = refl
 lines_of-front (byte ∷ line) behind h =
     no_end_step (byte == 0x0A) (byte == 0x0D) (not (slice_index (line ++ behind) 0 == 0x0A)) ([] ∷ lines_of (line ++ behind)) (lines_of (line ++ behind)) (onto_first byte (lines_of (line ++ behind))) h.0
-    ∙ ap (λ (lines : List (List ℕ)). onto_first byte lines) (lines_of-front line behind h.1)
+      ∙ ap (λ (lines : List (List ℕ)). onto_first byte lines) (lines_of-front line behind h.1)
 
 onto_front-first : (line : List ℕ) (lines : List (List ℕ)) → onto_front line ([] ∷ lines) ≡ line ∷ lines
 unfolding onto_front
@@ -44,30 +45,35 @@ unfolding onto_front
 onto_front-last byte [] = refl
 onto_front-last byte (next ∷ line) = ap (λ (all : List (List ℕ)). onto_first byte all) (onto_front-last next line)
 
+-- a line without an end in it, before the rest of a text that begins with an end
+pub lines_of-ended : (line rest behind : List ℕ) → HasNoEnd line → lines_of rest ≡ [] ∷ lines_of behind
+    → lines_of (line ++ rest) ≡ line ∷ lines_of behind
+lines_of-ended line rest behind h ends =
+    lines_of-front line rest h ∙ ap (onto_front line) ends ∙ onto_front-first line (lines_of behind)
+
 -- a line before LF
 pub lines_of-lf : (line behind : List ℕ) → HasNoEnd line → lines_of (line ++ 0x0A ∷ behind) ≡ line ∷ lines_of behind
 unfolding lines_of
-lines_of-lf line behind h = lines_of-front line (0x0A ∷ behind) h ∙ onto_front-first line (lines_of behind)
+lines_of-lf line behind h = lines_of-ended line (0x0A ∷ behind) behind h refl
 
 -- a line before CR LF
 pub lines_of-cr_lf : (line behind : List ℕ) → HasNoEnd line → lines_of (line ++ 0x0D ∷ 0x0A ∷ behind) ≡ line ∷ lines_of behind
 unfolding lines_of
-lines_of-cr_lf line behind h = lines_of-front line (0x0D ∷ 0x0A ∷ behind) h ∙ onto_front-first line (lines_of behind)
+lines_of-cr_lf line behind h = lines_of-ended line (0x0D ∷ 0x0A ∷ behind) behind h refl
 
 -- a line before a CR with no LF behind it
 pub lines_of-cr : (line behind : List ℕ) → HasNoEnd line → (slice_index behind 0 == 0x0A) ≡ false
     → lines_of (line ++ 0x0D ∷ behind) ≡ line ∷ lines_of behind
 unfolding lines_of
 lines_of-cr line behind h no_lf =
-    let ends : lines_of (0x0D ∷ behind) ≡ [] ∷ lines_of behind = rw no_lf refl in
-    lines_of-front line (0x0D ∷ behind) h ∙ ap (onto_front line) ends ∙ onto_front-first line (lines_of behind)
+    lines_of-ended line (0x0D ∷ behind) behind h (rw no_lf refl)
 
 -- a line without an end
 pub lines_of-last : (byte : ℕ) (line : List ℕ) → HasNoEnd (byte ∷ line) → lines_of (byte ∷ line) ≡ (byte ∷ line) ∷ []
 unfolding lines_of
 lines_of-last byte line h =
     subst (λ (text : List ℕ). lines_of text ≡ onto_front (byte ∷ line) []) (append-nil (byte ∷ line)) (lines_of-front (byte ∷ line) [] h)
-    ∙ onto_front-last byte line
+      ∙ onto_front-last byte line
 
 -- nothing has no line
 pub lines_of-nil : lines_of [] ≡ []
@@ -110,18 +116,31 @@ AreGood-nil = record { few = omega arith; give = tt }
 pub AreGood-push_skipped : (lines : List (List ℕ)) (commands : List Command) (line : List ℕ) → AreGood lines commands
     → length lines < most_lines → is_skipped line ≡ true → AreGood (lines ++ line ∷ []) commands
 AreGood-push_skipped lines commands line good more skipped = record {
-  few = omega (arith, length-append lines (line ∷ []));
-  give = rw (written-push_skipped lines line skipped) good.give;
-}
+    few = omega (arith, length-append lines (line ∷ []));
+    give = rw (written-push_skipped lines line skipped) good.give;
+  }
 
 -- good lines and one that gives a command are good
 pub AreGood-push : (lines : List (List ℕ)) (commands : List Command) (line : List ℕ) (command : Command) → AreGood lines commands
     → length lines < most_lines → is_skipped line ≡ false → line_command (is_start commands) line ≡ Ok command
     → AreGood (lines ++ line ∷ []) (commands ++ command ∷ [])
 AreGood-push lines commands line command good more is gives = record {
-  few = omega (arith, length-append lines (line ∷ []));
-  give = rw (written-append lines [] line is) (Give-push (written lines) commands line command good.give gives);
-}
+    few = omega (arith, length-append lines (line ∷ []));
+    give = rw (written-append lines [] line is) (Give-push (written lines) commands line command good.give gives);
+  }
+
+-- each written line gives a command
+length-Give : (is_first : Bool) (lines : List (List ℕ)) (commands : List Command) → Give is_first lines commands → length commands ≡ length lines
+length-Give is_first [] [] give = refl
+length-Give is_first [] (c ∷ commands) give = absurd give
+length-Give is_first (line ∷ lines) [] give = absurd give
+length-Give is_first (line ∷ lines) (c ∷ commands) give = ap suc (length-Give false lines commands give.1)
+
+-- there are at most as many commands as lines
+pub AreGood-few : (lines : List (List ℕ)) (commands : List Command) → AreGood lines commands → length commands ≤ most_lines
+AreGood-few lines commands good =
+    let same = length-Give true (written lines) commands good.give in
+    omega (arith, good.few, same, length-filter (λ l. not (is_skipped l)) lines, count_by-le-length (λ l. not (is_skipped l)) lines)
 
 -- ---- one answer
 
@@ -182,4 +201,51 @@ pub no_script : (text : List ℕ) (commands : List Command) (number : ℕ) (caus
     → IsFirstBadLine text number cause → ⊥
 no_script text commands number cause script first =
     not_good first.before first.behind first.line cause first.commands commands first.good first.bad
-    (subst (λ (lines : List (List ℕ)). AreGood lines commands) first.lines script)
+      (subst (λ (lines : List (List ℕ)). AreGood lines commands) first.lines script)
+
+-- two lists that are one, parted at an element each
+sides : (a b xs ys : List (List ℕ)) (x y : List ℕ) → a ++ x ∷ xs ≡ b ++ y ∷ ys
+    → ((a ≡ b) × (x ≡ y)) ⊎ (((r : List (List ℕ)) × (b ≡ a ++ x ∷ r)) ⊎ ((r : List (List ℕ)) × (a ≡ b ++ y ∷ r)))
+sides [] [] xs ys x y e = inl (refl, cc)
+sides [] (z ∷ b) xs ys x y e = let first : z ≡ x = cc in inr (inl (b, ap (λ (l : List ℕ). l ∷ b) first))
+sides (z ∷ a) [] xs ys x y e = let first : z ≡ y = cc in inr (inr (a, ap (λ (l : List ℕ). l ∷ a) first))
+sides (z ∷ a) (w ∷ b) xs ys x y e =
+    let first : z ≡ w = cc in
+    let rest : a ++ x ∷ xs ≡ b ++ y ∷ ys = cc in
+    elim (sides a b xs ys x y rest) [
+      | inl same ↦ inl (ap (λ (l : List ℕ). l ∷ a) first ∙ ap (λ (ls : List (List ℕ)). w ∷ ls) same.0, same.1)
+      | inr (inl longer) ↦ inr (inl (longer.0, ap (λ (l : List ℕ). l ∷ b) (sym first) ∙ ap (λ (ls : List (List ℕ)). z ∷ ls) longer.1))
+      | inr (inr shorter) ↦ inr (inr (shorter.0, ap (λ (l : List ℕ). l ∷ a) first ∙ ap (λ (ls : List (List ℕ)). w ∷ ls) shorter.1))
+    ]
+
+same_err : (r : Result Command ScriptCause) (a b : ScriptCause) → r ≡ Err a → r ≡ Err b → a ≡ b
+same_err r a b p q = cc
+
+-- a line is bad for one cause
+bad_same : (before : ℕ) (is_first : Bool) (line : List ℕ) (a b : ScriptCause) → IsBad before is_first line a → IsBad before is_first line b → a ≡ b
+bad_same before is_first line a b (OneTooMany all x) (OneTooMany same y) = x ∙ sym y
+bad_same before is_first line a b (OneTooMany all x) (NoCommand less is none) = absurd (omega arith)
+bad_same before is_first line a b (NoCommand less is none) (OneTooMany all x) = absurd (omega arith)
+bad_same before is_first line a b (NoCommand less is none) (NoCommand more this gone) = same_err (line_command is_first line) a b none gone
+
+-- a text has one first bad line, with one cause
+pub IsFirstBadLine-same : (text : List ℕ) (m n : ℕ) (a b : ScriptCause) → IsFirstBadLine text m a → IsFirstBadLine text n b → (m ≡ n) × (a ≡ b)
+IsFirstBadLine-same text m n a b p q =
+    elim (sides p.before q.before p.behind q.behind p.line q.line (sym p.lines ∙ q.lines)) [
+      | inl same ↦ at_one same.0 same.1
+      | inr (inl longer) ↦ absurd (not_good p.before longer.0 p.line a p.commands q.commands p.good p.bad
+        (subst (λ (lines : List (List ℕ)). AreGood lines q.commands) longer.1 q.good))
+      | inr (inr shorter) ↦ absurd (not_good q.before shorter.0 q.line b q.commands p.commands q.good q.bad
+        (subst (λ (lines : List (List ℕ)). AreGood lines p.commands) shorter.1 p.good))
+    ]
+  where
+    at_one : p.before ≡ q.before → p.line ≡ q.line → (m ≡ n) × (a ≡ b)
+    at_one before line =
+        let moved : AreGood p.before q.commands = subst (λ (lines : List (List ℕ)). AreGood lines q.commands) (sym before) q.good in
+        let commands : q.commands ≡ p.commands = Give-same true (written p.before) q.commands p.commands moved.give p.good.give in
+        let bad : IsBad (length p.before) (is_start p.commands) p.line b =
+        subst (λ (l : List ℕ). IsBad (length p.before) (is_start p.commands) l b) (sym line)
+          (subst (λ (cs : List Command). IsBad (length p.before) (is_start cs) q.line b) commands
+            (subst (λ (lines : List (List ℕ)). IsBad (length lines) (is_start q.commands) q.line b) (sym before) q.bad)) in
+        let count : length p.before ≡ length q.before = ap (λ (lines : List (List ℕ)). length lines) before in
+        (omega (arith, p.number_is, q.number_is), bad_same (length p.before) (is_start p.commands) p.line a b p.bad bad)

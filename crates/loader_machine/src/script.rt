@@ -1,5 +1,7 @@
 //! Why a script is refused.
 
+use std::alloc::{AllocError, AllocFailed};
+
 /// What is wrong with a line of a script: the first cause in this order.
 #[derive(Clone, Copy, PartialEq, Eq, Debug)]
 pub enum ScriptCause {
@@ -27,4 +29,26 @@ pub struct ScriptFault {
     pub cause: ScriptCause,
     /// The line's number, from 1; skipped lines count too.
     pub line: u32,
+}
+
+impl From<AllocError> for ScriptCause {
+    ghost use Rattle.std.specs.Prelude.{◌≡◌};
+    ghost use Rattle.loader_machine.specs.declared.script.ScriptCause.TheVariants as causes;
+
+    ghost from_gives = { λ _ cause. cause ≡ causes.Memory };
+
+    fn from(_: AllocError) -> ScriptCause {
+        ScriptCause::Memory
+    }
+}
+
+impl<T: Drop> From<AllocFailed<T>> for ScriptCause {
+    ghost use Rattle.std.specs.Prelude.{◌≡◌};
+    ghost use Rattle.loader_machine.specs.declared.script.ScriptCause.TheVariants as causes;
+
+    ghost from_gives = { λ _ cause. cause ≡ causes.Memory };
+
+    fn from(_: AllocFailed<T>) -> ScriptCause {
+        ScriptCause::Memory
+    }
 }

@@ -1,0 +1,62 @@
+//! The commands of a script, with the values of their words.
+
+ghost use Rattle.std.specs.Prelude.{◌≡◌, ◌≤◌, length};
+
+use omf_base::Name;
+use std::marker::Model;
+
+/// 1 to 256 numbers of banks. Contracts see the list of them.
+#[derive(Debug, Drop)]
+pub struct BankList {
+    banks: Vec<u8>,
+}
+
+impl Model for BankList {
+    ghost use Rattle.std.specs.Prelude.{ℕ, List};
+    ghost use Rattle.loader_script.specs.Banks.{AreBanks};
+
+    ghost Value = { List ℕ };
+
+    ghost view = { λ list. list.banks.items };
+
+    ghost invariant = { λ list. AreBanks list.banks.items };
+}
+
+impl BankList {
+    pub(crate) fn new(banks: Vec<u8>) -> BankList
+        requires some { 1 ≤ length banks.items }
+        requires few { length banks.items ≤ 256 }
+        ensures { result ≡ banks.items }
+    {
+        BankList { banks }
+    }
+
+    /// The banks, in the order in which they were named.
+    pub fn bytes(&self) -> &[u8]
+        ensures value { result.now ≡ self.now }
+        ensures some { 1 ≤ length self.now }
+        ensures few { length self.now ≤ 256 }
+    {
+        self.banks.as_slice()
+    }
+}
+
+/// A command of a script.
+#[derive(Debug, Drop)]
+pub enum Command {
+    /// The banks of memory to begin with.
+    Banks {
+        list: BankList,
+    },
+    /// A load file to be loaded.
+    Load {
+        path: Name,
+    },
+    /// Bytes of a user's segment to be shown, from the offset `at` on.
+    Bytes {
+        user: u16,
+        segment: u16,
+        at: u32,
+        length: u32,
+    },
+}

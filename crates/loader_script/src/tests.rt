@@ -1,0 +1,87 @@
+// What no clause says: that memory is enough, and what the definitions make of scripts written out.
+use crate::{Command, ScriptCause, ScriptFault, read_script};
+use std::alloc::{AllocError, Global};
+use std::test::Fail;
+
+fn refused(cause: ScriptCause, line: u32) -> ScriptFault {
+    ScriptFault { cause, line }
+}
+
+/// A text of so many line ends.
+fn ends(alloc: Global, count: usize) -> Result<Vec<u8>, AllocError> {
+    vec![in alloc; b'\n'; count]
+}
+
+#[test]
+fn each_cause_has_its_line(rt: HostRuntime) -> Result<(), Fail> {
+    let alloc = rt.alloc();
+    for (text, cause, line) in [
+        ("banks  02\n", ScriptCause::BadWord, 1),
+        ("banks 02 \n", ScriptCause::BadWord, 1),
+        (";\n\nbanks\t02\n", ScriptCause::BadWord, 3),
+        ("banks 02\nroom\nlod x", ScriptCause::UnknownCommand, 2),
+        ("load a\n", ScriptCause::BanksFirst, 1),
+        ("banks 02\n\nbanks 03\n", ScriptCause::BanksFirst, 3),
+        ("banks\n", ScriptCause::WrongCount, 1),
+        ("banks 02\nload a b\n", ScriptCause::WrongCount, 2),
+        ("banks 02\nbytes 1 2 g\n", ScriptCause::WrongCount, 2),
+        ("banks 02\nbytes 1 2 0 101\n", ScriptCause::BadNumber, 2),
+        ("banks 02\nbytes 1 2 0 0\n", ScriptCause::BadNumber, 2),
+        ("banks 0a\n", ScriptCause::BadNumber, 1),
+        ("banks 000000002\n", ScriptCause::BadNumber, 1),
+        ("banks 02 03 002\n", ScriptCause::BankTwice, 1),
+    ] {
+        assert_eq!(rt;
+            read_script(alloc, text.as_bytes()).err(),
+            Some(refused(cause, line)),
+            "{text}"
+        );
+    }
+    Ok(())
+}
+
+#[test]
+fn a_text_has_at_most_65536_lines(rt: HostRuntime) -> Result<(), Fail> {
+    let alloc = rt.alloc();
+    let mut text = ends(alloc, 65536)?;
+    assert_eq!(rt; read_script(alloc, &text)?.count(), 0);
+    text.push(b';')?;
+    assert_eq!(rt;
+        read_script(alloc, &text).err(),
+        Some(refused(ScriptCause::TooManyLines, 65537))
+    );
+    Ok(())
+}
+
+#[test]
+fn lines_end_with_lf_cr_or_both(rt: HostRuntime) -> Result<(), Fail> {
+    let script = read_script(
+        rt.alloc(),
+        b"banks 02 E1\r\n; a comment\r\rload a/b\nbytes 1 00FFFF FFFFFFFF 100",
+    )?;
+    assert_eq!(rt; script.count(), 3);
+    match script.get(0) {
+        Some(Command::Banks { list }) => assert_eq!(rt; list.bytes(), [0x02, 0xE1].as_slice()),
+        _ => panic!(rt; "not banks"),
+    }
+    match script.get(1) {
+        Some(Command::Load { path }) => assert_eq!(rt; path.bytes(), b"a/b".as_slice()),
+        _ => panic!(rt; "not load"),
+    }
+    match script.get(2) {
+        Some(
+            Command::Bytes {
+                user,
+                segment,
+                at,
+                length,
+            },
+        ) => assert_eq!(rt;
+            (*user, *segment, *at, *length),
+            (1, 0xFFFF, 0xFFFF_FFFF, 256)
+        ),
+        _ => panic!(rt; "not bytes"),
+    }
+    assert!(rt; script.get(3).is_none());
+    Ok(())
+}
