@@ -1,9 +1,12 @@
 -- Laws of load files, in the format's own words.
 use Rattle.std.specs.Prelude.{◌≡◌, ℕ, List, length, map, Some}
+use Rattle.omf_format.specs.declared.fault.FileFault.{FileFault}
+use Rattle.omf_format.specs.declared.fault.HeaderFault.{HeaderFault}
+use Rattle.omf_format.specs.declared.fault.RecordFault.{RecordFault}
 use Rattle.omf_format.specs.declared.load.LoadFault.{LoadFault}
-use Rattle.omf_format.specs.File.{Segment}
+use Rattle.omf_format.specs.File.{Segment, SaysHeader, SaysRecord}
 use Rattle.omf_format.specs.Cells.{Byte, segment_bytes, cells, segment_at}
-use Rattle.omf_format.specs.Loadable.{IsLoadable, IsFirstLoadFault}
+use Rattle.omf_format.specs.Loadable.{told_header, told_record, load_cause, IsLoadable, IsFirstLoadFault}
 
 -- a file is one list of load segments at most
 abbrev pub OneLoadFile : Type 0
@@ -16,6 +19,14 @@ LoadableHasNoFault = (file : List ℕ) (segments : List Segment) (fault : LoadFa
 -- a file has one first fault at most
 abbrev pub OneFirstFault : Type 0
 OneFirstFault = (file : List ℕ) (a b : LoadFault) → IsFirstLoadFault file a → IsFirstLoadFault file b → a ≡ b
+
+-- a header's fault has the cause and the place that it has in any file
+abbrev pub HeaderFaultKeeps : Type 0
+HeaderFaultKeeps = (of : HeaderFault) (start : ℕ) (fault : FileFault) → SaysHeader of start fault → told_header start of ≡ (load_cause fault.cause, fault.at)
+
+-- and so has a record's
+abbrev pub RecordFaultKeeps : Type 0
+RecordFaultKeeps = (of : RecordFault) (fault : FileFault) → SaysRecord of fault → told_record of ≡ (load_cause fault.cause, fault.at)
 
 -- a segment of a load file has LENGTH cells
 abbrev pub HasLengthCells : Type 0

@@ -1,12 +1,18 @@
 //! Laws of load files. These functions do nothing: each is there for its contract.
 
-ghost use Rattle.omf_cells.specs.Laws.{OneLoadFile, LoadableHasNoFault, OneFirstFault, HasLengthCells, CellsAreBytes};
+ghost use Rattle.omf_cells.specs.Laws.{OneLoadFile, LoadableHasNoFault, OneFirstFault, HeaderFaultKeeps, RecordFaultKeeps, HasLengthCells, CellsAreBytes};
 
 /// A file is one list of load segments, or has one first fault, and not both.
 pub fn load_files_are_read_in_one_way()
     ensures one_list { OneLoadFile }
     ensures no_fault { LoadableHasNoFault }
     ensures one_fault { OneFirstFault }
+{}
+
+/// The faults that any file may have are told with the same cause and place.
+pub fn faults_keep_their_places()
+    ensures header { HeaderFaultKeeps }
+    ensures record { RecordFaultKeeps }
 {}
 
 /// A load segment without patches is the bytes of its records, and then zeros up to LENGTH.

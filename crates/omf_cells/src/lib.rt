@@ -11,9 +11,13 @@ mod load;
 mod reading;
 mod records;
 mod shape;
+#[cfg(test)]
+mod tests;
 
 pub use cell::Cell;
-pub use laws::{load_files_are_read_in_one_way, load_segments_have_length_cells};
+pub use laws::{
+    faults_keep_their_places, load_files_are_read_in_one_way, load_segments_have_length_cells,
+};
 pub use load::LoadFile;
 pub use omf_format::{LoadCause, LoadFault};
 pub use reading::read_load;

@@ -8,6 +8,8 @@ use Rattle.omf_format.specs.declared.fault.HeaderFault.{HeaderFault}
 use Rattle.omf_format.specs.declared.fault.HeaderFault.TheVariants as header
 use Rattle.omf_format.specs.declared.fault.RecordFault.{RecordFault}
 use Rattle.omf_format.specs.declared.fault.RecordFault.TheVariants as record_faults
+use Rattle.omf_format.specs.declared.fault.FileCause.{FileCause}
+use Rattle.omf_format.specs.declared.fault.FileCause.TheVariants as causes
 use Rattle.omf_format.specs.declared.load.LoadCause.{LoadCause}
 use Rattle.omf_format.specs.declared.load.LoadCause.TheVariants.{NotLoadFile, Truncated, BadHeader, Unsupported, BadRecord, Sequence, DataTooLong, Memory}
 use Rattle.omf_format.specs.declared.load.LoadFault.{LoadFault}
@@ -47,7 +49,7 @@ record_refusal (Const bytes) = None
 record_refusal (LongConst bytes) = None
 record_refusal (Space n) = None
 
--- a header's fault: its cause, and the segment's start plus the displacement of the field
+-- a header's fault: its cause, and the segment's start plus the displacement of the field; no check says Memory
 abbrev pub told_header : ℕ → HeaderFault → Fault
 told_header start (header.Truncated n) = (Truncated, start + n)
 told_header start (header.Unsupported field) = (Unsupported, start + displacement_of field)
@@ -59,6 +61,14 @@ abbrev pub told_record : RecordFault → Fault
 told_record (record_faults.Truncated at) = (Truncated, at)
 told_record (record_faults.Unsupported code at) = (Unsupported, at)
 told_record (record_faults.BadRecord at) = (BadRecord, at)
+
+-- a cause that a load file shares with every file
+abbrev pub load_cause : FileCause → LoadCause
+load_cause causes.Truncated = Truncated
+load_cause causes.BadHeader = BadHeader
+load_cause causes.Unsupported = Unsupported
+load_cause causes.BadRecord = BadRecord
+load_cause causes.Memory = Memory
 
 -- what is wrong with the header there, or else with its name or type, for which it is the segment's start
 unfoldable pub front_fault : ℕ → List ℕ → Option Fault

@@ -1,0 +1,147 @@
+// What no clause says: that the definitions are those of the field, and that memory is enough.
+use crate::{Cell, LoadCause, LoadFault, read_load};
+use std::alloc::Global;
+use std::test::Fail;
+
+/// A load file of one code segment: 3 bytes and then 5 zeros.
+const ONE: [u8; 64] = [
+    0x40, 0, 0, 0, 5, 0, 0, 0, 8, 0, 0, 0, 0, 0, 4, 2, 0, 0, 1, 0, 0, 0, 0, 0, 0, 0, 0, 0, 0, 0, 0,
+    0, 0, 0, 1, 0, 0, 0, 0, 0, 0x2C, 0, 0x37, 0, 0x20, 0x20, 0x20, 0x20, 0x20, 0x20, 0x20, 0x20,
+    0x20, 0x20, 0, 0xF2, 3, 0, 0, 0, 0xA9, 0x01, 0x60, 0,
+];
+
+/// Where the header of the second of two such segments stands.
+const SECOND: usize = 64;
+
+fn put(bytes: &mut [u8], changes: &[(usize, u8)]) {
+    for (at, value) in changes {
+        if let Some(byte) = bytes.get_mut(*at) {
+            *byte = *value;
+        }
+    }
+}
+
+/// The fault of the file with bytes changed at displacements.
+fn fault_of_one(alloc: Global, changes: &[(usize, u8)]) -> Option<LoadFault> {
+    let mut bytes = ONE;
+    put(&mut bytes, changes);
+    read_load(alloc, &bytes).err()
+}
+
+/// The fault of a file of two such segments, numbered in order, with bytes changed at displacements.
+fn fault_of_two(alloc: Global, changes: &[(usize, u8)]) -> Option<LoadFault> {
+    let mut bytes = [0; 128];
+    bytes[..SECOND].copy_from_slice(&ONE);
+    bytes[SECOND..].copy_from_slice(&ONE);
+    bytes[SECOND + 0x22] = 2;
+    put(&mut bytes, changes);
+    read_load(alloc, &bytes).err()
+}
+
+fn fault(cause: LoadCause, segment: u32, at: u32) -> Option<LoadFault> {
+    Some(LoadFault { cause, segment, at })
+}
+
+#[test]
+fn each_fault_has_its_place(rt: HostRuntime) {
+    let alloc = rt.alloc();
+    let empty = read_load(alloc, &[]).err();
+    assert_eq!(rt; empty, fault(LoadCause::NotLoadFile, 0, 0));
+    let cut = read_load(alloc, &ONE[..43]).err();
+    assert_eq!(rt; cut, fault(LoadCause::Truncated, 1, 0x2B));
+    assert_eq!(rt; fault_of_one(alloc, &[]), None);
+
+    // DISPNAME, VERSION, the types, a code that no record has, and the length of the LCONST.
+    for (at, value, cause, place) in [
+        (0x28, 0x2B, LoadCause::BadHeader, 0x28),
+        (0x0F, 1, LoadCause::Unsupported, 0x0F),
+        (0x14, 0x02, LoadCause::Unsupported, 0),
+        (0x14, 0x04, LoadCause::Unsupported, 0),
+        (0x14, 0x08, LoadCause::NotLoadFile, 0),
+        (0x37, 0xF4, LoadCause::Unsupported, 0x37),
+        (0x38, 0x09, LoadCause::Truncated, 0x40),
+        (0x22, 0x02, LoadCause::Sequence, 0),
+    ] {
+        assert_eq!(rt; fault_of_one(alloc, &[(at, value)]), fault(cause, 1, place));
+    }
+
+    // LENGTH 2 without RESSPC has no room for 3 bytes, and LENGTH 3 has.
+    let long = fault_of_one(alloc, &[(0x04, 0), (0x08, 2)]);
+    assert_eq!(rt; long, fault(LoadCause::DataTooLong, 1, 0));
+    let full = fault_of_one(alloc, &[(0x04, 0), (0x08, 3)]);
+    assert_eq!(rt; full, None);
+}
+
+#[test]
+fn phases_come_one_behind_another(rt: HostRuntime) {
+    let alloc = rt.alloc();
+    assert_eq!(rt; fault_of_two(alloc, &[]), None);
+    let second = fault_of_two(alloc, &[(SECOND + 0x22, 1)]);
+    assert_eq!(rt; second, fault(LoadCause::Sequence, 2, 64));
+
+    // Too much data in the first segment comes before the number of the second.
+    let first = fault_of_two(alloc, &[(0x04, 0), (0x08, 2), (SECOND + 0x22, 1)]);
+    assert_eq!(rt; first, fault(LoadCause::DataTooLong, 1, 0));
+
+    // A type or record of the second segment comes before either, and a number before too much data of one segment.
+    let kind = fault_of_two(alloc, &[(0x22, 9), (SECOND + 0x14, 0x08)]);
+    assert_eq!(rt; kind, fault(LoadCause::NotLoadFile, 2, 64));
+    let code = fault_of_two(alloc, &[(0x22, 9), (SECOND + 0x37, 0xF4)]);
+    assert_eq!(rt; code, fault(LoadCause::Unsupported, 2, 64 + 0x37));
+    let both = fault_of_one(alloc, &[(0x22, 9), (0x04, 0), (0x08, 2)]);
+    assert_eq!(rt; both, fault(LoadCause::Sequence, 1, 0));
+
+    // The first segment's type comes before the second one's header.
+    let early = fault_of_two(alloc, &[(0x14, 0x04), (SECOND + 0x0F, 1)]);
+    assert_eq!(rt; early, fault(LoadCause::Unsupported, 1, 0));
+}
+
+#[test]
+fn express_load_is_not_read(rt: HostRuntime) {
+    // The name is that of LABLEN 11 at DISPNAME + 10, and the body, one END, stands behind it.
+    let alloc = rt.alloc();
+    let mut bytes = [0; 66];
+    bytes[..54].copy_from_slice(&ONE[..54]);
+    put(&mut bytes, &[(0x00, 66), (0x0D, 11), (0x2A, 65)]);
+    for (name, kind, want) in [
+        (b"ExpressLoad", 0x00, fault(LoadCause::Unsupported, 1, 0)),
+        (b"~ExpressLoa", 0x00, None),
+        (b"expressload", 0x00, None),
+        (b"ExpressLoad", 0x08, fault(LoadCause::Unsupported, 1, 0)),
+        (b"expressload", 0x08, fault(LoadCause::NotLoadFile, 1, 0)),
+    ] {
+        bytes[54..65].copy_from_slice(name);
+        bytes[0x14] = kind;
+        assert_eq!(rt; read_load(alloc, &bytes).err(), want);
+    }
+}
+
+#[test]
+fn cells_are_bytes_and_zeros(rt: HostRuntime) -> Result<(), Fail> {
+    let alloc = rt.alloc();
+    let load = read_load(alloc, &ONE)?;
+    assert_eq!(rt; load.count(), 1);
+    let want = [0xA9, 0x01, 0x60, 0, 0, 0, 0, 0];
+    for (at, byte) in want.iter().enumerate() {
+        assert_eq!(rt; load.cell(1, at as u32), Some(Cell::Byte(*byte)));
+    }
+    assert_eq!(rt; load.cell(1, 8), None);
+    assert_eq!(rt; load.cell(0, 0), None);
+    assert_eq!(rt; load.cell(2, 0), None);
+    assert_eq!(rt; load.header(1).map(|header| header.length), Some(8));
+    assert!(rt; load.header(0).is_none());
+    assert!(rt; load.header(2).is_none());
+    Ok(())
+}
+
+#[test]
+fn data_is_written_as_a_whole(rt: HostRuntime) -> Result<(), Fail> {
+    let alloc = rt.alloc();
+    let load = read_load(alloc, &ONE)?;
+    let length = load.header(1).expect(&rt, "there is a segment").length;
+    let mut out = vec![in alloc; 0xFFu8; length as usize]?;
+    load.data_into(1, &mut out);
+    let want = [0xA9, 0x01, 0x60, 0, 0, 0, 0, 0];
+    assert_eq!(rt; out.as_slice(), want.as_slice());
+    Ok(())
+}
