@@ -11,10 +11,14 @@ unfoldable pub entry_text : Option ℕ → List ℕ
 entry_text None = codes "none"
 entry_text (Some address) = hexadecimal 6 address
 
+-- a byte in two digits, behind a space
+unfoldable pub other_text : ℕ → List ℕ
+other_text byte = codes " " ++ hexadecimal 2 byte
+
 -- two digits for each byte, with one space between them
 unfoldable pub shown_text : List ℕ → List ℕ
 shown_text [] = []
-shown_text (byte ∷ bytes) = hexadecimal 2 byte ++ flat_map (λ other. codes " " ++ hexadecimal 2 other) bytes
+shown_text (byte ∷ bytes) = hexadecimal 2 byte ++ flat_map other_text bytes
 
 -- the name of a refusal; NoRoom is followed by the segment's number in four digits
 unfoldable pub refused_text : LoaderFault → List ℕ

@@ -6,3 +6,6 @@ pub mod Linked
 pub mod FewWords
 pub mod Runs
 pub mod Listings
+pub mod Scripts
+pub mod UnderWay
+pub mod ScriptWords

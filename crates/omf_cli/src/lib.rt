@@ -10,6 +10,8 @@ mod listing;
 mod load_file;
 mod members;
 mod printing;
+mod replies;
+mod run;
 mod status;
 mod tool;
 mod words;
