@@ -16,7 +16,6 @@ failed cause = Err cause
 same_ok : (r : Result Command ScriptCause) (a b : Command) → r ≡ Ok a → r ≡ Ok b → a ≡ b
 same_ok r a b p q = cc
 
-
 -- a test that was passed or wasn't
 err_or : (b : Bool) (cause : ScriptCause) (read : Result Command ScriptCause) (command : Command) → cond b (Err cause) read ≡ Ok command
     → (b ≡ false) × (read ≡ Ok command)
@@ -93,12 +92,12 @@ unfolding command_of
 command_keeps is_first [] command are e = let clash : failed UnknownCommand ≡ Ok command = e in absurd cc
 command_keeps is_first (name ∷ words) command are e =
     by_name (bytes_eq name (codes "banks")) (bytes_eq name (codes "load")) (bytes_eq name (codes "bytes")) is_first
-      (and_parts (is_word name) (list_all is_word words) are).1 e
+    (and_parts (is_word name) (list_all is_word words) are).1 e
   where
     by_name : (banks load bytes is_first : Bool) → list_all is_word words ≡ true
         → cond banks (cond is_first (banks_of words) (Err BanksFirst))
-          (cond load (cond is_first (Err BanksFirst) (load_of words))
-            (cond bytes (cond is_first (Err BanksFirst) (bytes_of words)) (Err UnknownCommand))) ≡ Ok command
+        (cond load (cond is_first (Err BanksFirst) (load_of words))
+        (cond bytes (cond is_first (Err BanksFirst) (bytes_of words)) (Err UnknownCommand))) ≡ Ok command
         → IsCommand is_first command
     by_name true load bytes true are e = banks_keep words command e
     by_name true load bytes false are e = let clash : failed BanksFirst ≡ Ok command = e in absurd cc

@@ -1,6 +1,6 @@
 -- Laws of scripts: how a text is read line by line, and that a text is one script, or has one first bad line, and not both.
-use Rattle.std.proofs.Common.{◌≡◌, ℕ, suc, ◌+◌, ◌<◌, ◌≤◌, Bool, true, false, cond, ◌⊎◌, inl, inr, List, [], ◌∷◌, ◌++◌, length, Result, Ok, Err, refl, sym, ap, subst, ◌∙◌, arith}
-use Rattle.std.specs.Prelude.{◌||◌, ◌&&◌, ◌==◌, not, filter, slice_index}
+use Rattle.std.proofs.Common.{◌≡◌, ℕ, suc, ◌<◌, ◌≤◌, Bool, true, false, cond, ◌⊎◌, inl, inr, List, [], ◌∷◌, ◌++◌, length, Result, Ok, Err, refl, sym, ap, subst, ◌∙◌, arith}
+use Rattle.std.specs.Prelude.{◌||◌, ◌&&◌, ◌==◌, not, slice_index}
 use Rattle.std.specs.List.{AllByRecursion, onto_first}
 use Rattle.std.proofs.lemmas.List.{length-append, append-nil}
 use Rattle.std.proofs.lemmas.List.Elements.{filter-append}
@@ -33,7 +33,7 @@ unfolding lines_of onto_front
 lines_of-front [] behind h = refl
 lines_of-front (byte ∷ line) behind h =
     no_end_step (byte == 0x0A) (byte == 0x0D) (not (slice_index (line ++ behind) 0 == 0x0A)) ([] ∷ lines_of (line ++ behind)) (lines_of (line ++ behind)) (onto_first byte (lines_of (line ++ behind))) h.0
-      ∙ ap (λ (lines : List (List ℕ)). onto_first byte lines) (lines_of-front line behind h.1)
+    ∙ ap (λ (lines : List (List ℕ)). onto_first byte lines) (lines_of-front line behind h.1)
 
 onto_front-first : (line : List ℕ) (lines : List (List ℕ)) → onto_front line ([] ∷ lines) ≡ line ∷ lines
 unfolding onto_front
@@ -73,7 +73,7 @@ pub lines_of-last : (byte : ℕ) (line : List ℕ) → HasNoEnd (byte ∷ line) 
 unfolding lines_of
 lines_of-last byte line h =
     subst (λ (text : List ℕ). lines_of text ≡ onto_front (byte ∷ line) []) (append-nil (byte ∷ line)) (lines_of-front (byte ∷ line) [] h)
-      ∙ onto_front-last byte line
+    ∙ onto_front-last byte line
 
 -- nothing has no line
 pub lines_of-nil : lines_of [] ≡ []
@@ -116,18 +116,18 @@ AreGood-nil = record { few = omega arith; give = tt }
 pub AreGood-push_skipped : (lines : List (List ℕ)) (commands : List Command) (line : List ℕ) → AreGood lines commands
     → length lines < most_lines → is_skipped line ≡ true → AreGood (lines ++ line ∷ []) commands
 AreGood-push_skipped lines commands line good more skipped = record {
-    few = omega (arith, length-append lines (line ∷ []));
-    give = rw (written-push_skipped lines line skipped) good.give;
-  }
+  few = omega (arith, length-append lines (line ∷ []));
+  give = rw (written-push_skipped lines line skipped) good.give;
+}
 
 -- good lines and one that gives a command are good
 pub AreGood-push : (lines : List (List ℕ)) (commands : List Command) (line : List ℕ) (command : Command) → AreGood lines commands
     → length lines < most_lines → is_skipped line ≡ false → line_command (is_start commands) line ≡ Ok command
     → AreGood (lines ++ line ∷ []) (commands ++ command ∷ [])
 AreGood-push lines commands line command good more is gives = record {
-    few = omega (arith, length-append lines (line ∷ []));
-    give = rw (written-append lines [] line is) (Give-push (written lines) commands line command good.give gives);
-  }
+  few = omega (arith, length-append lines (line ∷ []));
+  give = rw (written-append lines [] line is) (Give-push (written lines) commands line command good.give gives);
+}
 
 -- each written line gives a command
 length-Give : (is_first : Bool) (lines : List (List ℕ)) (commands : List Command) → Give is_first lines commands → length commands ≡ length lines
@@ -201,7 +201,7 @@ pub no_script : (text : List ℕ) (commands : List Command) (number : ℕ) (caus
     → IsFirstBadLine text number cause → ⊥
 no_script text commands number cause script first =
     not_good first.before first.behind first.line cause first.commands commands first.good first.bad
-      (subst (λ (lines : List (List ℕ)). AreGood lines commands) first.lines script)
+    (subst (λ (lines : List (List ℕ)). AreGood lines commands) first.lines script)
 
 -- two lists that are one, parted at an element each
 sides : (a b xs ys : List (List ℕ)) (x y : List ℕ) → a ++ x ∷ xs ≡ b ++ y ∷ ys
@@ -234,9 +234,9 @@ IsFirstBadLine-same text m n a b p q =
     elim (sides p.before q.before p.behind q.behind p.line q.line (sym p.lines ∙ q.lines)) [
       | inl same ↦ at_one same.0 same.1
       | inr (inl longer) ↦ absurd (not_good p.before longer.0 p.line a p.commands q.commands p.good p.bad
-        (subst (λ (lines : List (List ℕ)). AreGood lines q.commands) longer.1 q.good))
+          (subst (λ (lines : List (List ℕ)). AreGood lines q.commands) longer.1 q.good))
       | inr (inr shorter) ↦ absurd (not_good q.before shorter.0 q.line b q.commands p.commands q.good q.bad
-        (subst (λ (lines : List (List ℕ)). AreGood lines p.commands) shorter.1 p.good))
+          (subst (λ (lines : List (List ℕ)). AreGood lines p.commands) shorter.1 p.good))
     ]
   where
     at_one : p.before ≡ q.before → p.line ≡ q.line → (m ≡ n) × (a ≡ b)
@@ -245,7 +245,7 @@ IsFirstBadLine-same text m n a b p q =
         let commands : q.commands ≡ p.commands = Give-same true (written p.before) q.commands p.commands moved.give p.good.give in
         let bad : IsBad (length p.before) (is_start p.commands) p.line b =
         subst (λ (l : List ℕ). IsBad (length p.before) (is_start p.commands) l b) (sym line)
-          (subst (λ (cs : List Command). IsBad (length p.before) (is_start cs) q.line b) commands
-            (subst (λ (lines : List (List ℕ)). IsBad (length lines) (is_start q.commands) q.line b) (sym before) q.bad)) in
+        (subst (λ (cs : List Command). IsBad (length p.before) (is_start cs) q.line b) commands
+        (subst (λ (lines : List (List ℕ)). IsBad (length lines) (is_start q.commands) q.line b) (sym before) q.bad)) in
         let count : length p.before ≡ length q.before = ap (λ (lines : List (List ℕ)). length lines) before in
         (omega (arith, p.number_is, q.number_is), bad_same (length p.before) (is_start p.commands) p.line a b p.bad bad)

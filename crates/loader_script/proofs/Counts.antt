@@ -1,6 +1,5 @@
 -- Commands with another number of words than they take.
-use Rattle.std.proofs.Common.{◌≡◌, ◌≢◌, ℕ, List, [], ◌∷◌, length, Result, Err, refl}
-use Rattle.loader_machine.specs.declared.script.ScriptCause.{ScriptCause}
+use Rattle.std.proofs.Common.{◌≡◌, ◌≢◌, ℕ, List, [], ◌∷◌, length, Err, refl}
 use Rattle.loader_machine.specs.declared.script.ScriptCause.TheVariants.{WrongCount}
 use Rattle.loader_machine.specs.Script.{load_of, bytes_of}
 

@@ -8,7 +8,7 @@ ghost use Rattle.loader_machine.specs.Script.{words_of, is_word, is_well_formed}
 use std::marker::Model;
 
 /// The words of a line that are left. Contracts see the list of them.
-#[derive(Debug, Drop)]
+#[derive(Drop)]
 pub(crate) struct Words<'a> {
     rest: &'a [u8],
     more: bool,
