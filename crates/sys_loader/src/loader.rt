@@ -1,6 +1,7 @@
 //! The loader.
 
 ghost use Rattle.std.specs.Prelude.{◌≡◌, ℕ, ◌+◌, ◌-◌, ◌<◌, ◌≤◌, [], List, length, take, drop, vec_capacity, IfOk, IfErr, OnErr, ◌∷◌, ◌^◌, string_bytes, Some, MatchOption, MatchResult};
+ghost use Rattle.omf_io.specs.Counts.{Rose};
 ghost use Rattle.omf_io.specs.Files.{FileMap};
 ghost use Rattle.loader_machine.specs.Machine.{Machine, max_users, first_id, user_of};
 ghost use Rattle.loader_machine.specs.Step.{StepsBytes, Shown, Refused};
@@ -151,6 +152,8 @@ impl Loader {
     ) -> Result<Started, LoaderFault>
         ensures held { F.held files.new ≡ F.held files.old }
         ensures never_falls { F.faults files.old ≤ F.faults files.new }
+        ensures asked { length self.old.users < max_users → Rose (F.asked files.old) (F.asked files.new) }
+        ensures unasked { max_users ≤ length self.old.users → F.asked files.new ≡ F.asked files.old }
         ensures loaded { HasLoaded (F.held files.old) self.old path.now result self.new (F.faults files.old) (F.faults files.new) }
     {
         if self.users.len() == MAX_USERS {
@@ -170,6 +173,10 @@ impl Loader {
     pub fn load<F: Files>(&mut self, files: &mut F, path: &str) -> Result<Started, LoaderFault>
         ensures held { F.held files.new ≡ F.held files.old }
         ensures never_falls { F.faults files.old ≤ F.faults files.new }
+
+        // The file is read unless 255 users were made.
+        ensures asked { length self.old.users < max_users → Rose (F.asked files.old) (F.asked files.new) }
+        ensures unasked { max_users ≤ length self.old.users → F.asked files.new ≡ F.asked files.old }
 
         // Over files that are told, and with which the loader agrees, it is the machine's step.
         ensures meets { (held : FileMap) (state : Machine) → F.held files.old ≡ Some held → Agrees held self.old state

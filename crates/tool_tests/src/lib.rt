@@ -7,3 +7,5 @@ mod dumping;
 mod headers;
 #[cfg(test)]
 mod linking;
+#[cfg(test)]
+mod running;
