@@ -9,3 +9,4 @@ pub mod Listings
 pub mod Scripts
 pub mod UnderWay
 pub mod ScriptWords
+pub mod Loadables
