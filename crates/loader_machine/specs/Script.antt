@@ -112,7 +112,7 @@ command_of is_first (name ∷ words) =
 abbrev pub IsCommand : Bool → Command → Type 0
 IsCommand is_first (Banks banks) = (is_first ≡ true) × (1 ≤ length banks) × (length banks ≤ 256)
     × AllByRecursion (λ bank. bank ≤ 0xFF) banks × (stands_twice banks ≡ false)
-IsCommand is_first (Load path) = (is_first ≡ false) × (1 ≤ length path) × (length path ≤ 255)
+IsCommand is_first (Load path) = (is_first ≡ false) × (1 ≤ length path) × (length path ≤ 255) × (is_word path ≡ true)
 IsCommand is_first (Bytes user segment at size) = (is_first ≡ false) × (user ≤ 0xFFFF) × (segment ≤ 0xFFFF)
     × (at ≤ 0xFFFFFFFF) × (1 ≤ size) × (size ≤ 0x100)
 

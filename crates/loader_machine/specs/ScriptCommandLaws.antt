@@ -64,7 +64,7 @@ load_keep [] command are e = let clash : failed WrongCount ≡ Ok command = e in
 load_keep (path ∷ []) command are e =
     let word = (and_parts _ _ are).0 in
     let sizes = and_parts _ _ (and_parts _ _ word).0 in
-    let keep : IsCommand false (Load path) = (refl, leb-true _ _ sizes.0, leb-true _ _ sizes.1) in
+    let keep : IsCommand false (Load path) = (refl, leb-true _ _ sizes.0, leb-true _ _ sizes.1, word) in
     subst (IsCommand false) (same_ok (Ok (Load path)) (Load path) command refl e) keep
 load_keep (path ∷ more ∷ words) command are e = let clash : failed WrongCount ≡ Ok command = e in absurd cc
 

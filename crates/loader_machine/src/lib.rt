@@ -8,7 +8,7 @@ mod script;
 mod slots;
 mod wants;
 
-pub use faults::{BanksFault, BlockFault, PlaceFault};
+pub use faults::{BanksFault, BlockFault, LoaderFault, PlaceFault};
 pub use handles::{Handle, Stale};
 pub use script::{ScriptCause, ScriptFault};
 pub use slots::{Content, Slot};

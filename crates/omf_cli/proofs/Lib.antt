@@ -7,3 +7,7 @@ pub mod FewWords
 pub mod Runs
 pub mod Listings
 pub mod Constants
+pub mod Scripts
+pub mod UnderWay
+pub mod ScriptWords
+pub mod Loadables

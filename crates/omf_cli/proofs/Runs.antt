@@ -10,11 +10,21 @@ use Rattle.omf_io.specs.Files.{FileMap}
 use Rattle.omf_cli.specs.declared.ending.LinkEnd.TheVariants as end
 use Rattle.omf_cli.specs.declared.status.Status.{Status}
 use Rattle.omf_cli.specs.declared.status.Status.TheVariants as status
-use Rattle.omf_cli.specs.Words.{IsLink, IsDump, Reads, IsUsage}
+use Rattle.omf_cli.specs.Words.{IsLink, IsDump, IsRun, Reads, IsUsage}
 use Rattle.omf_cli.specs.Lines.{usage_line, cannot_read_line, cannot_write_line, refused_line}
-use Rattle.omf_cli.specs.Tool.{Outside, Prints, EndsUsage, EndsUnread, EndsRefused, EndsUnwritten, EndsListed, EndsFaulty, EndsWith, AsUsage, AsListed, AsFaulty, AsUnread, AsRefused, AsUnwritten, IsInput, CannotBeRead, GetsDone, GetsListed, HasRun}
+use Rattle.omf_cli.specs.Tool.{Outside, Prints, EndsUsage, EndsUnread, EndsRefused, EndsUnwritten, EndsListed, EndsFaulty, EndsBadScript, EndsRan, EndsCut, EndsWith, AsUsage, AsListed, AsFaulty, AsBadScript, AsUnread, AsRefused, AsUnwritten, IsInput, CannotBeRead, GetsDone, GetsListed, HasRun}
 use Rattle.omf_cli.specs.Listing.{cause_name}
 use Rattle.omf_cli.specs.declared.ending.Dumped.TheVariants as dumped
+use Rattle.omf_cli.specs.declared.ending.ScriptRead.TheVariants as script
+use Rattle.omf_cli.specs.Run.{script_cause_name, script_line, IsReplied, IsCut}
+use Rattle.omf_cli.specs.Running.{HasFinished}
+use Rattle.loader_machine.specs.Command.{Command}
+use Rattle.loader_machine.specs.Script.{IsScript}
+use Rattle.loader_machine.specs.ScriptLaws.{no_script}
+use Rattle.loader_machine.specs.declared.script.ScriptFault.{ScriptFault}
+use Rattle.omf_cli.specs.Tool.{outside, GetsRun}
+use Rattle.omf_cli.specs.Ending.{HasReadFile, HasReadScript}
+use Rattle.std.proofs.Common.{◌⊎◌}
 use Rattle.omf_format.specs.declared.fault.FileFault.{FileFault}
 use Rattle.omf_format.specs.FileLaws.{no_file}
 use Rattle.omf_cli.specs.Ending.{HasEnded, HasDumped, HasPrinted, Whole, Part, Nothing, IsPrinted}
@@ -23,7 +33,7 @@ use Rattle.omf_cli.specs.Ending.{HasEnded, HasDumped, HasPrinted, Whole, Part, N
 pub tells : (words : List (List ℕ)) (o : Outside) (text : List ℕ) (wanted result : Status) (line : Result (List ℕ) LineFault) → EndsWith words o text → (Prints text o → HasRun wanted words o)
     → IfOk line (λ t. t ≡ text) → IsPrinted line wanted result o.written o.new_written o.print_faults o.new_print_faults → HasRun result words o
 tells words o text wanted result (Err fault) ends whole is printed =
-    subst (λ (s : Status). HasRun s words o) (sym printed.0) (inr (text, ends), (printed.1, printed.2))
+    subst (λ (s : Status). HasRun s words o) (sym printed.0) (inl (inr (text, ends), (printed.1, printed.2)))
 tells words o text wanted result (Ok t) ends whole is printed =
     let same : HasPrinted text wanted result o.written o.new_written o.print_faults o.new_print_faults =
     subst (λ (u : List ℕ). HasPrinted u wanted result o.written o.new_written o.print_faults o.new_print_faults) is printed in
@@ -31,8 +41,8 @@ tells words o text wanted result (Ok t) ends whole is printed =
   where
     by_print : HasPrinted text wanted result o.written o.new_written o.print_faults o.new_print_faults → HasRun result words o
     by_print (Whole is written count) = subst (λ (s : Status). HasRun s words o) (sym is) (whole (written, count))
-    by_print (Part is front is_front written rose) = subst (λ (s : Status). HasRun s words o) (sym is) (text, ends, ((front, is_front, written), rose))
-    by_print (Nothing is written count) = subst (λ (s : Status). HasRun s words o) (sym is) (inr (text, ends), (written, count))
+    by_print (Part is front is_front written rose) = subst (λ (s : Status). HasRun s words o) (sym is) (text, inl ends, ((front, is_front, written), rose))
+    by_print (Nothing is written count) = subst (λ (s : Status). HasRun s words o) (sym is) (inl (inr (text, ends), (written, count)))
 
 -- ---- each end
 
@@ -89,7 +99,7 @@ tells_faulty words o input fault result line form ended is printed =
       line = refl;
       files = (ended.files, ended.count);
     } in
-    tells words o text status.Refused result line (AsFaulty ends) (λ p. (text, inr ends, p)) is printed
+    tells words o text status.Refused result line (AsFaulty ends) (λ p. (text, inr (inl ends), p)) is printed
 
 pub tells_listed : (words : List (List ℕ)) (o : Outside) (input text : List ℕ) (result : Status) → IsDump words input
     → HasDumped (dumped.Listed text) input o.held o.new_held o.faults o.new_faults
@@ -103,7 +113,7 @@ tells_listed words o input text result form ended printed =
       listing = ended.why;
       files = (ended.files, ended.count);
     } in
-    tells words o text status.Done result (Ok text) (AsListed ends) (λ p. inr (text, ends, p)) refl printed
+    tells words o text status.Done result (Ok text) (AsListed ends) (λ p. inr (text, inl ends, p)) refl printed
 
 pub tells_unwritten : (words : List (List ℕ)) (o : Outside) (output input : List ℕ) (result : Status) (line : Result (List ℕ) LineFault) → IsLink words output input
     → HasEnded end.Unwritten output input o.held o.new_held o.faults o.new_faults
@@ -175,3 +185,77 @@ not_faulty words o input fault form ended gets =
 -- the words are of one form
 pub one_form : (words : List (List ℕ)) (output input path : List ℕ) → IsLink words output input → IsDump words path → ⊥
 one_form words output input path p q = let both : codes "link" ∷ output ∷ input ∷ [] ≡ codes "dump" ∷ path ∷ [] = sym p.words' ∙ q.words' in cc
+
+pub not_run_and_linked : (words : List (List ℕ)) (output input path : List ℕ) → IsLink words output input → IsRun words path → ⊥
+not_run_and_linked words output input path p q = let both : codes "link" ∷ output ∷ input ∷ [] ≡ codes "run" ∷ path ∷ [] = sym p.words' ∙ q.words' in cc
+
+first_word : (a b : List ℕ) (x y : List ℕ) → a ∷ x ∷ [] ≡ b ∷ y ∷ [] → a ≡ b
+first_word a b x y e = cc
+
+pub not_run_and_dumped : (words : List (List ℕ)) (input path : List ℕ) → IsDump words input → IsRun words path → ⊥
+not_run_and_dumped words input path p q = let same : codes "dump" ≡ codes "run" = first_word (codes "dump") (codes "run") input path (sym p.words' ∙ q.words') in cc
+
+-- ---- scripts
+
+pub tells_bad_script : (words : List (List ℕ)) (o : Outside) (input : List ℕ) (fault : ScriptFault) (result : Status) (line : Result (List ℕ) LineFault) → IsRun words input
+    → HasReadScript (script.Refused fault) input o.held o.new_held o.faults o.new_faults
+    → IfOk line (λ t. t ≡ script_line (script_cause_name fault.cause) fault.line) → IsPrinted line status.Refused result o.written o.new_written o.print_faults o.new_print_faults → HasRun result words o
+tells_bad_script words o input fault result line form ended is printed =
+    let text = script_line (script_cause_name fault.cause) fault.line in
+    let ends : EndsBadScript words o text = record {
+      input = input;
+      form = form;
+      file = ended.file;
+      read = ended.read;
+      fault = fault;
+      first = ended.why;
+      line = refl;
+      files = (ended.files, ended.count);
+    } in
+    tells words o text status.Refused result line (AsBadScript ends) (λ p. (text, inr (inr ends), p)) is printed
+
+-- a script that was read whole was run
+module _ (words : List (List ℕ)) (input : List ℕ) (commands : List Command) (form : IsRun words input) (h h₁ h₂ : Option FileMap) (f f₁ f₂ : ℕ) (w w₂ : Option (List ℕ)) (p p₂ : ℕ)
+    (was : HasReadFile (λ file. IsScript file commands) input h h₁ f f₁) where
+  abbrev here : Outside
+  here = outside h h₂ f f₂ w w₂ p p₂
+
+  from_start : (result : Status) → HasFinished result commands (outside h₁ h₂ f₁ f₂ w w₂ p p₂) → HasFinished result commands here
+  from_start result done = subst (λ (x : Option FileMap). HasFinished result commands (outside x h₂ f f₂ w w₂ p p₂)) was.files
+      (subst (λ (n : ℕ). HasFinished result commands (outside h₁ h₂ n f₂ w w₂ p p₂)) was.count done)
+
+  by_status : (result : Status) → HasFinished result commands here → HasRun result words here
+  by_status status.Done done =
+      inr (done.0, inr (record { input = input; form = form; file = was.file; read = was.read; commands = commands; script = was.why; replied = done.1; files = done.2 }), done.3)
+  by_status status.CannotPrint done =
+      (done.0, inr (record { input = input; form = form; file = was.file; read = was.read; commands = commands; script = was.why; replied = done.1; files = done.2 }), done.3)
+  by_status status.Memory done =
+      inr (done.0, record { input = input; form = form; file = was.file; read = was.read; commands = commands; script = was.why; replied = done.1; files = done.2 }, done.3)
+  by_status status.Refused done = absurd done
+  by_status status.Usage done = absurd done
+  by_status status.CannotRead done = absurd done
+  by_status status.CannotWrite done = absurd done
+
+  pub tells_ran : (result : Status) → HasFinished result commands (outside h₁ h₂ f₁ f₂ w w₂ p p₂) → HasRun result words here
+  tells_ran result done = by_status result (from_start result done)
+
+  -- and to its end, where the sink doesn't fail
+  pub gets_run : (result : Status) → HasFinished result commands (outside h₁ h₂ f₁ f₂ w w₂ p p₂) → GetsRun words here → (result ≡ status.Done) ⊎ (result ≡ status.Memory)
+  gets_run status.Done done gets = inl refl
+  gets_run status.CannotPrint done gets = absurd (gets.calm_print done.3.1)
+  gets_run status.Memory done gets = inr refl
+  gets_run status.Refused done gets = absurd done
+  gets_run status.Usage done gets = absurd done
+  gets_run status.CannotRead done gets = absurd done
+  gets_run status.CannotWrite done gets = absurd done
+
+-- a script isn't refused
+same_script : (words : List (List ℕ)) (a b : List ℕ) → IsRun words a → IsRun words b → a ≡ b
+same_script words a b p q = let both : codes "run" ∷ a ∷ [] ≡ codes "run" ∷ b ∷ [] = sym p.words' ∙ q.words' in cc
+
+pub not_bad_script : (words : List (List ℕ)) (o : Outside) (input : List ℕ) (fault : ScriptFault) → IsRun words input → HasReadScript (script.Refused fault) input o.held o.new_held o.faults o.new_faults → GetsRun words o → ⊥
+not_bad_script words o input fault form ended gets =
+    let same = same_script words input gets.input form gets.form in
+    let read = subst (λ (path : List ℕ). IsInput path o.held ended.file) same ended.read in
+    let file = read_held o.held gets.told gets.input gets.file ended.file gets.is_told gets.held' read in
+    no_script ended.file gets.commands fault.line fault.cause (subst (λ (text : List ℕ). IsScript text gets.commands) (sym file) gets.script) ended.why

@@ -11,6 +11,9 @@ use Rattle.omf_cli.specs.declared.status.Status.{Status}
 use Rattle.omf_cli.specs.declared.status.Status.TheVariants as status
 use Rattle.omf_cli.specs.declared.ending.Dumped.{Dumped}
 use Rattle.omf_cli.specs.declared.ending.Dumped.TheVariants as dumped
+use Rattle.omf_cli.specs.declared.ending.ScriptRead.{ScriptRead}
+use Rattle.omf_cli.specs.declared.ending.ScriptRead.TheVariants as script
+use Rattle.loader_machine.specs.Script.{IsScript, HasScriptFault}
 use Rattle.omf_format.specs.File.{IsFirstFault}
 use Rattle.omf_cli.specs.Listing.{IsListing}
 use Rattle.omf_cli.specs.Tool.{IsInput, CannotBeRead}
@@ -66,6 +69,20 @@ HasDumped (dumped.Listed text) input held new_held faults new_faults = HasReadFi
 HasDumped (dumped.Refused fault) input held new_held faults new_faults = HasReadFile (λ file. IsFirstFault file fault) input held new_held faults new_faults
 HasDumped dumped.Unread input held new_held faults new_faults = CannotBeRead input held faults new_faults × (new_held ≡ held)
 HasDumped dumped.Memory input held new_held faults new_faults = (new_held ≡ held) × (new_faults ≡ faults)
+
+-- what reading a script says of the store and of the text
+abbrev pub HasReadScript : ScriptRead → List ℕ → Option FileMap → Option FileMap → ℕ → ℕ → Type 0
+HasReadScript (script.Commands commands) input held new_held faults new_faults = HasReadFile (λ file. IsScript file commands) input held new_held faults new_faults
+HasReadScript (script.Refused fault) input held new_held faults new_faults = HasReadFile (λ file. HasScriptFault file fault) input held new_held faults new_faults
+HasReadScript script.Unread input held new_held faults new_faults = CannotBeRead input held faults new_faults × (new_held ≡ held)
+HasReadScript script.Memory input held new_held faults new_faults = (new_held ≡ held) × (new_faults ≡ faults)
+
+-- the same of the text alone
+abbrev pub IsReadingOf : ScriptRead → List ℕ → Type 0
+IsReadingOf (script.Commands commands) text = IsScript text commands
+IsReadingOf (script.Refused fault) text = HasScriptFault text fault
+IsReadingOf script.Unread text = ⊥
+IsReadingOf script.Memory text = Unit {0}
 
 -- a line was printed whole, with the wanted status; or a front of it, where the sink failed; or nothing, where memory ran out
 pub data HasPrinted (text : List ℕ) (wanted result : Status) (written new_written : Option (List ℕ)) (faults new_faults : ℕ) : Type 0 where

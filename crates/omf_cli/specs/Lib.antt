@@ -5,7 +5,9 @@ pub mod Link
 pub mod Words
 pub mod Lines
 pub mod Listing
+pub mod Run
 pub mod Tool
+pub mod Running
 pub mod Code
 pub mod Ending
 pub mod Laws

@@ -10,8 +10,12 @@ use Rattle.omf_io.specs.Files.{FileMap, max_file, with_file, ReadFailed}
 use Rattle.omf_io.specs.Sinks.{with_text}
 use Rattle.omf_cli.specs.declared.status.Status.{Status}
 use Rattle.omf_cli.specs.declared.status.Status.TheVariants.{Done, Refused, Usage, CannotRead, CannotWrite, CannotPrint, Memory}
-use Rattle.omf_cli.specs.Words.{IsLink, IsDump, Reads, IsUsage}
+use Rattle.omf_cli.specs.Words.{IsLink, IsDump, IsRun, Reads, IsUsage}
 use Rattle.omf_cli.specs.Listing.{IsListing, cause_name}
+use Rattle.omf_cli.specs.Run.{IsReplied, IsCut, script_cause_name, script_line}
+use Rattle.loader_machine.specs.declared.script.ScriptFault.{ScriptFault}
+use Rattle.loader_machine.specs.Command.{Command}
+use Rattle.loader_machine.specs.Script.{IsScript, HasScriptFault}
 use Rattle.omf_cli.specs.Lines.{usage_line, cannot_read_line, cannot_write_line, refused_line}
 
 -- the files, the text that was printed and the counts of faults, before the run and after it
@@ -117,6 +121,39 @@ pub record EndsFaulty (words : List (List ℕ)) (o : Outside) (text : List ℕ) 
   pub line : text ≡ refused_line (cause_name fault.cause) 1 fault.segment fault.at
   pub files : IsUntouched o
 
+-- the input was read and is a script, and the text is that of replies to its commands
+pub record EndsRan (words : List (List ℕ)) (o : Outside) (text : List ℕ) : Type 0 where
+  pub input : List ℕ
+  pub form : IsRun words input
+  pub file : List ℕ
+  pub read : IsInput input o.held file
+  pub commands : List Command
+  pub script : IsScript file commands
+  pub replied : IsReplied o.held commands text o.faults o.new_faults
+  pub files : o.new_held ≡ o.held
+
+-- the same of a front of its commands
+pub record EndsCut (words : List (List ℕ)) (o : Outside) (text : List ℕ) : Type 0 where
+  pub input : List ℕ
+  pub form : IsRun words input
+  pub file : List ℕ
+  pub read : IsInput input o.held file
+  pub commands : List Command
+  pub script : IsScript file commands
+  pub replied : IsCut o.held commands text o.faults o.new_faults
+  pub files : o.new_held ≡ o.held
+
+-- the input was read to be run, and this is its first bad line
+pub record EndsBadScript (words : List (List ℕ)) (o : Outside) (text : List ℕ) : Type 0 where
+  pub input : List ℕ
+  pub form : IsRun words input
+  pub file : List ℕ
+  pub read : IsInput input o.held file
+  pub fault : ScriptFault
+  pub first : HasScriptFault file fault
+  pub line : text ≡ script_line (script_cause_name fault.cause) fault.line
+  pub files : IsUntouched o
+
 -- the input was read to be linked, and is empty or no plain object file
 pub record EndsRefused (words : List (List ℕ)) (o : Outside) (text : List ℕ) : Type 0 where
   pub output : List ℕ
@@ -148,21 +185,22 @@ pub data EndsWith (words : List (List ℕ)) (o : Outside) (text : List ℕ) : Ty
   AsUsage : EndsUsage words o text → EndsWith words o text
   AsListed : EndsListed words o text → EndsWith words o text
   AsFaulty : EndsFaulty words o text → EndsWith words o text
+  AsBadScript : EndsBadScript words o text → EndsWith words o text
   AsUnread : EndsUnread words o text → EndsWith words o text
   AsRefused : EndsRefused words o text → EndsWith words o text
   AsUnwritten : EndsUnwritten words o text → EndsWith words o text
 
 -- a run over these words that ends with the status
 abbrev pub HasRun : Status → List (List ℕ) → Outside → Type 0
-HasRun Done words o = (EndsDone words o × IsSilent o) ⊎ ((text : List ℕ) × EndsListed words o text × Prints text o)
+HasRun Done words o = (EndsDone words o × IsSilent o) ⊎ ((text : List ℕ) × (EndsListed words o text ⊎ EndsRan words o text) × Prints text o)
 HasRun Usage words o = (text : List ℕ) × EndsUsage words o text × Prints text o
 HasRun CannotRead words o = (text : List ℕ) × EndsUnread words o text × Prints text o
-HasRun Refused words o = (text : List ℕ) × (EndsRefused words o text ⊎ EndsFaulty words o text) × Prints text o
+HasRun Refused words o = (text : List ℕ) × (EndsRefused words o text ⊎ (EndsFaulty words o text ⊎ EndsBadScript words o text)) × Prints text o
 HasRun CannotWrite words o = (text : List ℕ) × EndsUnwritten words o text × Prints text o
 -- a text of these couldn't be printed whole
-HasRun CannotPrint words o = (text : List ℕ) × EndsWith words o text × FailsToPrint text o
--- memory ran out in the command, or for its text, of which nothing was printed
-HasRun Memory words o = (IsUntouched o ⊎ ((text : List ℕ) × EndsWith words o text)) × IsSilent o
+HasRun CannotPrint words o = (text : List ℕ) × (EndsWith words o text ⊎ EndsCut words o text) × FailsToPrint text o
+-- memory ran out in the command, or for its text, of which nothing was printed; or in a script, whose replies so far were printed
+HasRun Memory words o = ((IsUntouched o ⊎ ((text : List ℕ) × EndsWith words o text)) × IsSilent o) ⊎ ((text : List ℕ) × EndsCut words o text × Prints text o)
 
 -- The command gets done: the store tells a plain input of the words' form, and no count rose.
 pub record GetsDone (words : List (List ℕ)) (o : Outside) : Type 0 where
@@ -190,5 +228,19 @@ pub record GetsListed (words : List (List ℕ)) (o : Outside) : Type 0 where
   pub small : length file ≤ max_file
   pub text : List ℕ
   pub listing : IsListing file text
+  pub calm : Rose o.faults o.new_faults → ⊥
+  pub calm_print : Rose o.print_faults o.new_print_faults → ⊥
+
+-- The script gets run to its end: the store tells a script of the words' form, and no count rose.
+pub record GetsRun (words : List (List ℕ)) (o : Outside) : Type 0 where
+  pub input : List ℕ
+  pub form : IsRun words input
+  pub told : FileMap
+  pub is_told : o.held ≡ Some told
+  pub file : List ℕ
+  pub held' : get told input ≡ Some file
+  pub small : length file ≤ max_file
+  pub commands : List Command
+  pub script : IsScript file commands
   pub calm : Rose o.faults o.new_faults → ⊥
   pub calm_print : Rose o.print_faults o.new_print_faults → ⊥

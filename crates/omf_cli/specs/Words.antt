@@ -21,12 +21,19 @@ pub record IsDump (words : List (List ℕ)) (input : List ℕ) : Type 0 where
   pub words' : words ≡ codes "dump" ∷ input ∷ []
   pub input' : IsPath input
 
+-- the words are `run SCRIPT`
+pub record IsRun (words : List (List ℕ)) (input : List ℕ) : Type 0 where
+  pub words' : words ≡ codes "run" ∷ input ∷ []
+  pub input' : IsPath input
+
 -- the words ask for a command that reads this input
 pub data Reads (words : List (List ℕ)) (input : List ℕ) : Type 0 where
   ToLink : (output : List ℕ) → IsLink words output input → Reads words input
   ToDump : IsDump words input → Reads words input
+  ToRun : IsRun words input → Reads words input
 
 -- the words are none of the forms that are built
 pub record IsUsage (words : List (List ℕ)) : Type 0 where
   pub no_link : (output input : List ℕ) → IsLink words output input → ⊥
   pub no_dump : (input : List ℕ) → IsDump words input → ⊥
+  pub no_run : (input : List ℕ) → IsRun words input → ⊥

@@ -1,5 +1,6 @@
 //! How a command over one file ends, before anything is printed of it.
 
+use loader_script::{Script, ScriptFault};
 use omf_base::Line;
 use omf_format::FileFault;
 
@@ -26,6 +27,18 @@ pub enum Dumped {
     Listed(Line),
     /// The input's first fault.
     Refused(FileFault),
+    /// The input couldn't be read.
+    Unread,
+    Memory,
+}
+
+/// What reading a script gives.
+#[derive(Debug, Drop)]
+pub enum ScriptRead {
+    /// The commands.
+    Commands(Script),
+    /// The script's first bad line.
+    Refused(ScriptFault),
     /// The input couldn't be read.
     Unread,
     Memory,

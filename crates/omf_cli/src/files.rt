@@ -1,11 +1,12 @@
 //! Commands over files of a store.
 
 ghost use Rattle.std.specs.Prelude.{◌<◌, ◌^◌, length};
-ghost use Rattle.omf_cli.specs.Ending.{HasEnded, HasDumped, IsDumpOf};
+ghost use Rattle.omf_cli.specs.Ending.{HasEnded, HasDumped, IsDumpOf, HasReadScript, IsReadingOf};
 
-use crate::ending::{Dumped, LinkEnd};
+use crate::ending::{Dumped, LinkEnd, ScriptRead};
 use crate::link::{LinkFault, link_plain};
 use crate::listing::listing;
+use loader_script::{ScriptCause, read_script};
 use omf_base::LineFault;
 use omf_io::{Files, ReadFault, WriteFault};
 use omf_records::{FileCause, segments};
@@ -68,5 +69,37 @@ fn dump_bytes(alloc: Global, file: &[u8]) -> Dumped
     match listing(alloc, &list) {
         Ok(text) => Dumped::Listed(text),
         Err(LineFault::Memory) => Dumped::Memory,
+    }
+}
+
+/// Reads the input, and the commands of the script that it is.
+pub fn script_file<F: Files>(alloc: Global, input: &str, files: &mut F) -> ScriptRead
+    ensures { HasReadScript result input.now (F.held files.old) (F.held files.new) (F.faults files.old) (F.faults files.new) }
+{
+    match files.read(alloc, input) {
+        Ok(bytes) => script_bytes(alloc, &bytes),
+        Err(ReadFault::Absent) => ScriptRead::Unread,
+        Err(ReadFault::TooLong) => ScriptRead::Unread,
+        Err(ReadFault::Failed) => ScriptRead::Unread,
+        Err(ReadFault::Memory) => ScriptRead::Memory,
+    }
+}
+
+/// The commands of a script, or its first bad line.
+fn script_bytes(alloc: Global, text: &[u8]) -> ScriptRead
+    ensures { IsReadingOf result text.now }
+{
+    match read_script(alloc, text) {
+        Ok(script) => ScriptRead::Commands(script),
+        Err(fault) => match fault.cause {
+            ScriptCause::Memory => ScriptRead::Memory,
+            ScriptCause::TooManyLines => ScriptRead::Refused(fault),
+            ScriptCause::BadWord => ScriptRead::Refused(fault),
+            ScriptCause::UnknownCommand => ScriptRead::Refused(fault),
+            ScriptCause::BanksFirst => ScriptRead::Refused(fault),
+            ScriptCause::WrongCount => ScriptRead::Refused(fault),
+            ScriptCause::BadNumber => ScriptRead::Refused(fault),
+            ScriptCause::BankTwice => ScriptRead::Refused(fault),
+        },
     }
 }

@@ -10,10 +10,12 @@ mod listing;
 mod load_file;
 mod members;
 mod printing;
+mod replies;
+mod run;
 mod status;
 mod tool;
 mod words;
 
-pub use laws::written_is_a_load_file;
+pub use laws::{linked_is_loadable, written_is_a_load_file};
 pub use status::Status;
 pub use tool::run_tool;

@@ -3,9 +3,11 @@
 ghost use Rattle.std.specs.Prelude.{◌≡◌, ◌++◌, IfOk};
 ghost use Rattle.omf_cli.specs.Lines.{line, usage_line, refused_line};
 ghost use Rattle.omf_cli.specs.Listing.{cause_name};
+ghost use Rattle.omf_cli.specs.Run.{script_cause_name, script_line};
 ghost use Rattle.omf_cli.specs.Ending.{HasPrinted, IsPrinted};
 
 use crate::status::Status;
+use loader_script::ScriptCause;
 use omf_base::{Line, LineFault, Spot};
 use omf_io::{Sink, SinkFault};
 use omf_records::FileCause;
@@ -59,6 +61,35 @@ pub fn cause_name(cause: FileCause) -> &'static str
         FileCause::Unsupported => "Unsupported",
         FileCause::BadRecord => "BadRecord",
         FileCause::Memory => "Memory",
+    }
+}
+
+/// The line that says why a script is refused, and at which line of it.
+pub fn script_line(alloc: Global, cause: &str, number: u32) -> Result<Line, LineFault>
+    ensures { IfOk result (λ text. text ≡ script_line cause.now number) }
+{
+    let mut line = Line::new(alloc);
+    line.text("refused ")?;
+    line.text(cause)?;
+    line.text(" ")?;
+    line.dec(number)?;
+    line.text("\n")?;
+    Ok(line)
+}
+
+/// The name of a cause against a script, as it is printed.
+pub fn script_cause_name(cause: ScriptCause) -> &'static str
+    ensures { result.now ≡ script_cause_name cause }
+{
+    match cause {
+        ScriptCause::TooManyLines => "TooManyLines",
+        ScriptCause::BadWord => "BadWord",
+        ScriptCause::UnknownCommand => "UnknownCommand",
+        ScriptCause::BanksFirst => "BanksFirst",
+        ScriptCause::WrongCount => "WrongCount",
+        ScriptCause::BadNumber => "BadNumber",
+        ScriptCause::BankTwice => "BankTwice",
+        ScriptCause::Memory => "Memory",
     }
 }
 

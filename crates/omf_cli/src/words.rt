@@ -1,7 +1,7 @@
 //! The words of a command line.
 
 ghost use Rattle.std.specs.Prelude.{◌≡◌, ◌↔◌, ◌≤◌, ℕ, List, IsTrue, length, MatchOption, string_bytes};
-ghost use Rattle.omf_cli.specs.Words.{IsPath, IsLink, IsDump, words_of};
+ghost use Rattle.omf_cli.specs.Words.{IsPath, IsLink, IsDump, IsRun, words_of};
 
 /// A path is a word of 1 to 255 bytes.
 fn is_path(word: &str) -> bool
@@ -34,6 +34,21 @@ pub fn dump_path(words: &Vec<String>) -> Option<&str>
     };
     let input = input.as_str();
     if name.as_str() == "dump" && is_path(input) {
+        Some(input)
+    } else {
+        None
+    }
+}
+
+/// The words `run SCRIPT`: the script's path.
+pub fn run_path(words: &Vec<String>) -> Option<&str>
+    ensures { MatchOption result ((input : List ℕ) → IsRun (words_of words.now.items) input → ⊥) (λ path. IsRun (words_of words.now.items) path.now) }
+{
+    let [name, input] = words.as_slice() else {
+        return None;
+    };
+    let input = input.as_str();
+    if name.as_str() == "run" && is_path(input) {
         Some(input)
     } else {
         None

@@ -9,3 +9,5 @@ mod every_record;
 mod headers;
 #[cfg(test)]
 mod linking;
+#[cfg(test)]
+mod running;

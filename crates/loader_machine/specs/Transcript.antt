@@ -1,0 +1,31 @@
+-- Whole scripts: the replies to a list of commands.
+use Rattle.std.specs.Prelude.{◌≡◌, ◌⊎◌, ℕ, ◌+◌, ◌≤◌, List, [], ◌∷◌, IsSome}
+use Rattle.omf_io.specs.Files.{FileMap}
+use Rattle.loader_machine.specs.declared.faults.LoaderFault.TheVariants.{CannotRead}
+use Rattle.loader_machine.specs.Command.{Command}
+use Rattle.loader_machine.specs.Machine.{Machine, empty}
+use Rattle.loader_machine.specs.Step.{Reply, Refused, Steps, reads}
+
+-- a command is answered: by its step's reply; or, where it reads a file, also by `cannot read`, which leaves the state. The
+-- number counts the latter.
+abbrev pub IsAnswered : FileMap → Machine → Command → Reply → ℕ → Machine → Type 0
+IsAnswered held state command reply others next =
+    (Steps held state command reply next × (others ≡ 0))
+    ⊎ ((reply ≡ Refused CannotRead) × IsSome (reads state command) × (next ≡ state) × (others ≡ 1))
+
+-- the commands are answered in order from a state on, and lead to the last state; so many of them are answered by `cannot read`
+-- in the place of their step's reply
+abbrev pub AreAnswered : FileMap → Machine → List Command → List Reply → ℕ → Machine → Type 0
+AreAnswered held state [] [] others last = (others ≡ 0) × (last ≡ state)
+AreAnswered held state [] (reply ∷ replies) others last = ⊥
+AreAnswered held state (command ∷ commands) [] others last = ⊥
+AreAnswered held state (command ∷ commands) (reply ∷ replies) others last =
+    (here : ℕ) × (later : ℕ) × (next : Machine) × IsAnswered held state command reply here next
+    × AreAnswered held next commands replies later last × (others ≡ here + later)
+
+-- the replies to the commands from the empty state on; at most so many are `cannot read` in the place of the step's reply
+pub record Trans (held : FileMap) (commands : List Command) (replies : List Reply) (most : ℕ) : Type 0 where
+  pub others : ℕ
+  pub last : Machine
+  pub answered : AreAnswered held (empty []) commands replies others last
+  pub bound : others ≤ most

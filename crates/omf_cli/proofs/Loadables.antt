@@ -1,0 +1,118 @@
+-- The load file of a plain object file is loadable.
+use Rattle.std.proofs.Common.{◌≡◌, ℕ, Bool, true, false, eqb, ltb, ◌+◌, ◌-◌, ◌*◌, ◌/◌, ◌%◌, ◌<◌, ◌≤◌, List, [], ◌∷◌, ◌++◌, length, map, take, drop, replicate, Option, Some, None, refl, sym, ap, subst, ◌∙◌, arith}
+use Rattle.std.specs.Prelude.{not, ◌||◌, nat_lt}
+use Rattle.std.specs.List.{AllByRecursion, list_any}
+use Rattle.std.specs.Str.{bytes_eq}
+use Rattle.std.proofs.lemmas.Bool.{eqb-true}
+use Rattle.std.proofs.lemmas.Bool.Decides.{nat_tests}
+use Rattle.std.proofs.lemmas.Slice.Eq.{bytes_eq-Decides}
+use Rattle.std.proofs.lemmas.List.{length-append, length-replicate, length-take}
+use Rattle.omf_format.specs.declared.load.LoadCause.{LoadCause}
+use Rattle.omf_format.specs.Number.{number_at}
+use Rattle.omf_format.specs.HeaderLaws.{IsBytes}
+use Rattle.omf_format.specs.Header.{Fields, fields_of, form_of, first_of}
+use Rattle.omf_format.specs.Record.{Record, End, Const, LongConst, Space}
+use Rattle.omf_format.specs.File.{Segment, IsHeader, IsFile}
+use Rattle.omf_format.specs.Name.{without_trailing}
+use Rattle.omf_format.specs.Plain.{body_bytes, memory_bytes, is_object, cleared, loaded_bytes, IsPlainSegment, IsPlain, written, IsLinkedTo, IsLoadFile}
+use Rattle.omf_format.specs.PlainLaws.{is_load_file, length-without_trailing}
+use Rattle.omf_format.specs.Cells.{Byte, segment_bytes, cells}
+use Rattle.omf_format.specs.CellLaws.{cells-bytes}
+use Rattle.omf_format.specs.Loadable.{express_names, is_express, segment_refusal, record_refusal, shape_fault, later_fault, IsLoadSegment, IsLoadable}
+use Rattle.omf_cli.specs.Laws.{IsLoadOf}
+
+-- ---- the name
+
+-- a load name has at most ten bytes
+short_name : (start : ℕ) (f : Fields) (file : List ℕ) → IsHeader start f file → length f.load_name ≤ 10
+unfolding fields_of
+short_name start f file header = rw header.fields (omega (arith, length-take 10 (drop (number_at 2 0x28 (drop start file)) (drop start file))))
+
+-- so it is no name of a segment for the Express Loader
+other_text : (name other : List ℕ) → length name < length other → bytes_eq name other ≡ false
+other_text name other shorter = go (bytes_eq name other) refl
+  where
+    go : (b : Bool) → bytes_eq name other ≡ b → b ≡ false
+    go true is = absurd (omega (arith, ap length ((bytes_eq-Decides name other).0 is)))
+    go false is = refl
+
+not_express : (name : List ℕ) → length name ≤ 10 → is_express name ≡ false
+not_express name few =
+    let one : bytes_eq name express_names ≡ false = other_text name express_names (omega arith) in
+    let two : bytes_eq name (126 ∷ express_names) ≡ false = other_text name (126 ∷ express_names) (omega arith) in
+    rw (one, two) refl
+
+-- ---- the type
+
+same_form : (kind : ℕ) → form_of (cleared kind) ≡ form_of kind
+same_form kind = omega arith
+
+other_type : (form t : ℕ) → is_object t ≡ false → is_object form ≡ true → eqb form t ≡ false
+other_type form t none is = go (eqb form t) refl
+  where
+    go : (b : Bool) → eqb form t ≡ b → b ≡ false
+    go true same = let both : true ≡ false = sym is ∙ ap is_object (eqb-true form t same) ∙ none in absurd (cc)
+    go false same = refl
+
+not_listed : (form : ℕ) → is_object form ≡ true → (eqb form 0x02 ≡ false) × (eqb form 0x04 ≡ false) × (eqb form 0x08 ≡ false)
+not_listed form is = (other_type form 0x02 refl is, other_type form 0x04 refl is, other_type form 0x08 refl is)
+
+-- ---- the segment
+
+front_passes : (f : Fields) → is_express f.name ≡ false → is_object (form_of f.kind) ≡ true → segment_refusal f ≡ None
+unfolding segment_refusal
+front_passes f name object = let types = not_listed (form_of f.kind) object in rw (name, types.0, types.1, types.2) refl
+
+records_pass : (records : List (ℕ × Record)) → AllByRecursion (λ (found : ℕ × Record). record_refusal found.1 ≡ None) records
+records_pass [] = tt
+records_pass (found ∷ records) = (passes found.1, records_pass records)
+  where
+    passes : (r : Record) → record_refusal r ≡ None
+    passes End = refl
+    passes (Const bytes) = refl
+    passes (LongConst bytes) = refl
+    passes (Space n) = refl
+
+-- LENGTH is that of the bytes in memory
+module _ (s : Segment) (bytes : List ℕ) (memory : memory_bytes s ≡ bytes) (size : s.fields.length ≡ length bytes) where
+  all : length (body_bytes s) + s.fields.res_spc ≡ s.fields.length
+  unfolding memory_bytes
+  all = omega (arith, ap length memory, size, length-append (body_bytes s) (replicate s.fields.res_spc 0), length-replicate {A = ℕ} s.fields.res_spc 0)
+
+  shape_passes : s.fields.seg_num ≡ 1 → shape_fault 1 s ≡ None
+  unfolding shape_fault
+  shape_passes number =
+      let one : eqb s.fields.seg_num 1 ≡ true = grind (arith, nat_tests) in
+      let fits : nat_lt s.fields.length (length (body_bytes s)) ≡ false = below s.fields.length (length (body_bytes s)) (omega (arith, all)) in
+      rw (one, fits) refl
+    where
+      below : (a b : ℕ) → b ≤ a → nat_lt a b ≡ false
+      below a b le = grind (arith, nat_tests)
+
+  bytes_are : segment_bytes s ≡ bytes
+  unfolding segment_bytes memory_bytes
+  bytes_are =
+      let zeros : s.fields.length - length (body_bytes s) ≡ s.fields.res_spc = omega (arith, all) in
+      ap (λ (n : ℕ). body_bytes s ++ replicate n 0) zeros ∙ memory
+
+pub loads_as : (first : Segment) (others : List Segment) (file : List ℕ) → IsBytes file → IsFile (first ∷ others) file → IsPlain (first ∷ others) → IsLoadOf (first ∷ others) (written (first ∷ others))
+unfolding later_fault
+loads_as first others file fits is plain =
+    let load = is_load_file first others file fits is plain in
+    let s = load.segment in
+    let name : length s.fields.name ≤ 10 = omega (arith, ap length load.name, length-without_trailing 32 first.fields.load_name, short_name first.start first.fields file is.2.header) in
+    let object : is_object (form_of s.fields.kind) ≡ true = ap (λ (k : ℕ). is_object (form_of k)) load.kind ∙ ap is_object (same_form first.fields.kind) ∙ plain.each.0.object in
+    let pass : IsLoadSegment s = record { front = front_passes s.fields (not_express s.fields.name name) object; records = records_pass s.records } in
+    let shape = shape_passes s (loaded_bytes (first ∷ others)) load.memory load.length' load.seg_num in
+    record {
+      segment = s;
+      loadable = record { is_file = load.is_file; some = λ none. absurd (cc); pass = (pass, tt); sound = rw shape refl };
+      cells_are = cells-bytes s pass ∙ ap (map Byte) (bytes_are s (loaded_bytes (first ∷ others)) load.memory load.length');
+    }
+
+pub linked_is : (file output : List ℕ) → IsBytes file → (linked : IsLinkedTo file output) → IsLoadOf linked.segments output
+linked_is file output fits linked = go linked.segments linked.is_file linked.plain linked.is_written
+  where
+    go : (segments : List Segment) → IsFile segments file → IsPlain segments → output ≡ written segments → IsLoadOf segments output
+    go [] is plain same = absurd (plain.some refl)
+    go (first ∷ others) is plain same = subst (IsLoadOf (first ∷ others)) (sym same) (loads_as first others file fits is plain)

@@ -1,0 +1,82 @@
+-- Which files can be loaded.
+use Rattle.std.proofs.Common.{◌≡◌, ℕ, ◌+◌, ◌<◌, List, [], ◌∷◌, ◌++◌, length, map, Option, Some, None, IsSomeAnd, refl, sym, ap, subst, ◌∙◌, arith}
+use Rattle.std.specs.List.{flat_map, AllByRecursion}
+use Rattle.omf_format.specs.declared.load.LoadCause.{LoadCause}
+use Rattle.omf_format.specs.declared.load.LoadCause.TheVariants.{NotLoadFile, Truncated, BadHeader, Unsupported, BadRecord, Sequence, DataTooLong, Memory}
+use Rattle.omf_format.specs.declared.load.LoadFault.{LoadFault}
+use Rattle.omf_format.specs.Header.{Fields}
+use Rattle.omf_format.specs.Record.{Record, End, Const, LongConst, Space}
+use Rattle.omf_format.specs.File.{Segment}
+use Rattle.omf_format.specs.Cells.{Byte, Cell, cells, patches_in, patches_of, segment_at}
+use Rattle.omf_format.specs.Loadable.{IsLoadable, IsFirstLoadFault}
+use Rattle.omf_format.specs.LoadableLaws.{loadable_same, loadable_sound}
+use Rattle.omf_cells.specs.Load.{IsRefused, UnlessMemory, HasFields}
+use Rattle.loader_machine.specs.Machine.{CanLoad, IsPlainLoad, byte_of, stands}
+use Rattle.sys_loader.specs.Files.{IsPlainHeader, IsNoLoad, refusal_of}
+
+-- no record of a load file patches anything
+none_in : (s : Segment) (record' : Record) → patches_in s record' ≡ []
+none_in s End = refl
+none_in s (Const bytes) = refl
+none_in s (LongConst bytes) = refl
+none_in s (Space n) = refl
+
+no_patch : (s : Segment) (records : List (ℕ × Record)) → flat_map (λ found. patches_in s found.1) records ≡ []
+no_patch s [] = refl
+no_patch s (found ∷ records) = rw (none_in s found.1) (no_patch s records)
+
+unpatched : (s : Segment) → patches_of s ≡ []
+unfolding patches_of
+unpatched s = no_patch s s.records
+
+-- a file with a first fault can't be loaded
+pub refused_is : (file : List ℕ) (fault : LoadFault) → IsRefused fault file → IsNoLoad file (refusal_of fault.cause)
+refused_is file fault refused = go fault.cause refused
+  where
+    no : IsFirstLoadFault file fault → (segments : List Segment) → CanLoad file segments → ⊥
+    no first segments can = loadable_sound file segments fault can.loadable first
+
+    go : (cause : LoadCause) → UnlessMemory cause fault (IsFirstLoadFault file fault) → IsNoLoad file (refusal_of cause)
+    go NotLoadFile first = no first
+    go Truncated first = no first
+    go BadHeader first = no first
+    go Unsupported first = no first
+    go BadRecord first = no first
+    go Sequence first = no first
+    go DataTooLong first = no first
+    go Memory free = tt
+
+-- nor one of another number of segments
+pub not_one : (file : List ℕ) (load : List Segment) → IsLoadable file load → ¬ (length load ≡ 1) → (segments : List Segment) → CanLoad file segments → ⊥
+not_one file load is other segments can = other (ap length (loadable_same file load segments is can.loadable) ∙ can.one)
+
+plain_header : (load : List Segment) (f : Fields) → AllByRecursion IsPlainLoad load → HasFields load 1 f → IsPlainHeader f
+plain_header [] f plain has = absurd has
+plain_header (s ∷ load) f plain has =
+    let p = plain.0 in
+    subst IsPlainHeader has (record { static = p.static; not_skipped = p.not_skipped; no_table = p.no_table; no_stack = p.no_stack; org = p.org; align = p.align })
+
+-- nor one whose segment isn't plain
+pub not_plain : (file : List ℕ) (load : List Segment) (f : Fields) → IsLoadable file load → HasFields load 1 f → ¬ IsPlainHeader f → (segments : List Segment) → CanLoad file segments → ⊥
+not_plain file load f is has other segments can =
+    let same = loadable_same file segments load can.loadable is in
+    other (plain_header load f (subst (AllByRecursion IsPlainLoad) same can.plain) has)
+
+all_plain : (load : List Segment) (f : Fields) → length load ≡ 1 → HasFields load 1 f → IsPlainHeader f → AllByRecursion IsPlainLoad load
+all_plain [] f one has p = tt
+all_plain (s ∷ []) f one has p =
+    let q : IsPlainHeader s.fields = subst IsPlainHeader (sym has) p in
+    (record { static = q.static; not_skipped = q.not_skipped; no_table = q.no_table; no_stack = q.no_stack; org = q.org; align = q.align; unpatched = unpatched s }, tt)
+all_plain (s ∷ t ∷ load) f one has p = absurd (omega arith)
+
+-- every other one can be loaded
+pub can_load : (file : List ℕ) (load : List Segment) (f : Fields) → IsLoadable file load → length load ≡ 1 → HasFields load 1 f → IsPlainHeader f → CanLoad file load
+can_load file load f is one has p = record { loadable = is; one = one; plain = all_plain load f one has p }
+
+-- what stands in memory for cells that are bytes is those bytes
+pub stands-bytes : (places : ℕ → ℕ) (s : Segment) (bytes : List ℕ) → cells s ≡ map Byte bytes → stands places s ≡ bytes
+stands-bytes places s bytes is = ap (map (byte_of places)) is ∙ back bytes
+  where
+    back : (bytes : List ℕ) → map (byte_of places) (map Byte bytes) ≡ bytes
+    back [] = refl
+    back (byte ∷ bytes) = ap (λ rest. byte ∷ rest) (back bytes)

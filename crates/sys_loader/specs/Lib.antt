@@ -1,0 +1,5 @@
+pub mod Loaded
+pub mod View
+pub mod Files
+pub mod Calls
+pub mod Meets
