@@ -42,10 +42,15 @@ no_patches s (found ∷ founds) all =
     ∙ ap (λ (l : List Patch). l ++ flat_map (λ (f : ℕ × Record). patches_in s f.1) founds) (no_patch s found.1 all.0)
     ∙ no_patches s founds all.1
 
--- the cells of a segment that passes phase 1 are its bytes
+-- a segment that passes phase 1 has no patch
+pub unpatched : (s : Segment) → IsLoadSegment s → patches_of s ≡ []
+unfolding patches_of
+unpatched s pass = no_patches s s.records pass.records
+
+-- its cells are its bytes
 pub cells-bytes : (s : Segment) → IsLoadSegment s → cells s ≡ map Byte (segment_bytes s)
-unfolding cells patches_of
-cells-bytes s pass = ap (patched (map Byte (segment_bytes s))) (no_patches s s.records pass.records)
+unfolding cells
+cells-bytes s pass = ap (patched (map Byte (segment_bytes s))) (unpatched s pass)
 
 -- where LENGTH has room for the bytes of the records, the bytes are LENGTH in all
 pub length-segment_bytes : (s : Segment) → length (body_bytes s) ≤ s.fields.length → length (segment_bytes s) ≡ s.fields.length

@@ -1,33 +1,18 @@
 -- Which files can be loaded.
-use Rattle.std.proofs.Common.{◌≡◌, ℕ, ◌+◌, ◌<◌, List, [], ◌∷◌, ◌++◌, length, map, Option, Some, None, IsSomeAnd, refl, sym, ap, subst, ◌∙◌, arith}
-use Rattle.std.specs.List.{flat_map, AllByRecursion}
+use Rattle.std.proofs.Common.{◌≡◌, ℕ, List, [], ◌∷◌, length, map, refl, sym, ap, subst, ◌∙◌, arith}
+use Rattle.std.specs.List.{AllByRecursion}
 use Rattle.omf_format.specs.declared.load.LoadCause.{LoadCause}
 use Rattle.omf_format.specs.declared.load.LoadCause.TheVariants.{NotLoadFile, Truncated, BadHeader, Unsupported, BadRecord, Sequence, DataTooLong, Memory}
 use Rattle.omf_format.specs.declared.load.LoadFault.{LoadFault}
 use Rattle.omf_format.specs.Header.{Fields}
-use Rattle.omf_format.specs.Record.{Record, End, Const, LongConst, Space}
 use Rattle.omf_format.specs.File.{Segment}
-use Rattle.omf_format.specs.Cells.{Byte, Cell, cells, patches_in, patches_of, segment_at}
-use Rattle.omf_format.specs.Loadable.{IsLoadable, IsFirstLoadFault}
+use Rattle.omf_format.specs.Cells.{Byte, cells}
+use Rattle.omf_format.specs.Loadable.{IsLoadSegment, IsLoadable, IsFirstLoadFault}
+use Rattle.omf_format.specs.CellLaws.{unpatched}
 use Rattle.omf_format.specs.LoadableLaws.{loadable_same, loadable_sound}
 use Rattle.omf_cells.specs.Load.{IsRefused, UnlessMemory, HasFields}
 use Rattle.loader_machine.specs.Machine.{CanLoad, IsPlainLoad, byte_of, stands}
 use Rattle.sys_loader.specs.Files.{IsPlainHeader, IsNoLoad, refusal_of}
-
--- no record of a load file patches anything
-none_in : (s : Segment) (record' : Record) → patches_in s record' ≡ []
-none_in s End = refl
-none_in s (Const bytes) = refl
-none_in s (LongConst bytes) = refl
-none_in s (Space n) = refl
-
-no_patch : (s : Segment) (records : List (ℕ × Record)) → flat_map (λ found. patches_in s found.1) records ≡ []
-no_patch s [] = refl
-no_patch s (found ∷ records) = rw (none_in s found.1) (no_patch s records)
-
-unpatched : (s : Segment) → patches_of s ≡ []
-unfolding patches_of
-unpatched s = no_patch s s.records
 
 -- a file with a first fault can't be loaded
 pub refused_is : (file : List ℕ) (fault : LoadFault) → IsRefused fault file → IsNoLoad file (refusal_of fault.cause)
@@ -62,16 +47,16 @@ not_plain file load f is has other segments can =
     let same = loadable_same file segments load can.loadable is in
     other (plain_header load f (subst (AllByRecursion IsPlainLoad) same can.plain) has)
 
-all_plain : (load : List Segment) (f : Fields) → length load ≡ 1 → HasFields load 1 f → IsPlainHeader f → AllByRecursion IsPlainLoad load
-all_plain [] f one has p = tt
-all_plain (s ∷ []) f one has p =
+all_plain : (load : List Segment) (f : Fields) → AllByRecursion IsLoadSegment load → length load ≡ 1 → HasFields load 1 f → IsPlainHeader f → AllByRecursion IsPlainLoad load
+all_plain [] f pass one has p = tt
+all_plain (s ∷ []) f pass one has p =
     let q : IsPlainHeader s.fields = subst IsPlainHeader (sym has) p in
-    (record { static = q.static; not_skipped = q.not_skipped; no_table = q.no_table; no_stack = q.no_stack; org = q.org; align = q.align; unpatched = unpatched s }, tt)
-all_plain (s ∷ t ∷ load) f one has p = absurd (omega arith)
+    (record { static = q.static; not_skipped = q.not_skipped; no_table = q.no_table; no_stack = q.no_stack; org = q.org; align = q.align; unpatched = unpatched s pass.0 }, tt)
+all_plain (s ∷ t ∷ load) f pass one has p = absurd (omega arith)
 
 -- every other one can be loaded
 pub can_load : (file : List ℕ) (load : List Segment) (f : Fields) → IsLoadable file load → length load ≡ 1 → HasFields load 1 f → IsPlainHeader f → CanLoad file load
-can_load file load f is one has p = record { loadable = is; one = one; plain = all_plain load f one has p }
+can_load file load f is one has p = record { loadable = is; one = one; plain = all_plain load f is.pass one has p }
 
 -- what stands in memory for cells that are bytes is those bytes
 pub stands-bytes : (places : ℕ → ℕ) (s : Segment) (bytes : List ℕ) → cells s ≡ map Byte bytes → stands places s ≡ bytes
