@@ -1,24 +1,22 @@
 -- The load file of a plain object file is loadable.
-use Rattle.std.proofs.Common.{◌≡◌, ℕ, Bool, true, false, eqb, ltb, ◌+◌, ◌-◌, ◌*◌, ◌/◌, ◌%◌, ◌<◌, ◌≤◌, List, [], ◌∷◌, ◌++◌, length, map, take, drop, replicate, Option, Some, None, refl, sym, ap, subst, ◌∙◌, arith}
-use Rattle.std.specs.Prelude.{not, ◌||◌, nat_lt}
-use Rattle.std.specs.List.{AllByRecursion, list_any}
+use Rattle.std.proofs.Common.{◌≡◌, ℕ, Bool, true, false, eqb, ◌+◌, ◌-◌, ◌<◌, ◌≤◌, List, [], ◌∷◌, ◌++◌, length, map, drop, replicate, None, refl, sym, ap, subst, ◌∙◌, arith}
+use Rattle.std.specs.Prelude.{nat_lt}
+use Rattle.std.specs.List.{AllByRecursion}
 use Rattle.std.specs.Str.{bytes_eq}
 use Rattle.std.proofs.lemmas.Bool.{eqb-true}
 use Rattle.std.proofs.lemmas.Bool.Decides.{nat_tests}
 use Rattle.std.proofs.lemmas.Slice.Eq.{bytes_eq-Decides}
 use Rattle.std.proofs.lemmas.List.{length-append, length-replicate, length-take}
-use Rattle.omf_format.specs.declared.load.LoadCause.{LoadCause}
 use Rattle.omf_format.specs.Number.{number_at}
 use Rattle.omf_format.specs.HeaderLaws.{IsBytes}
-use Rattle.omf_format.specs.Header.{Fields, fields_of, form_of, first_of}
-use Rattle.omf_format.specs.Record.{Record, End, Const, LongConst, Space}
+use Rattle.omf_format.specs.Header.{Fields, fields_of, form_of}
+use Rattle.omf_format.specs.Record.{Record, End, Const, LongConst, Align, Org, Space, Reloc, InterSeg, ShortReloc, ShortInterSeg, Super, Using, Strong, Label, Equate, Formula, is_constant}
 use Rattle.omf_format.specs.File.{Segment, IsHeader, IsFile}
-use Rattle.omf_format.specs.Name.{without_trailing}
-use Rattle.omf_format.specs.Plain.{body_bytes, memory_bytes, is_object, cleared, loaded_bytes, IsPlainSegment, IsPlain, written, IsLinkedTo, IsLoadFile}
+use Rattle.omf_format.specs.Plain.{body_bytes, memory_bytes, is_object, cleared, loaded_bytes, IsPlain, written, IsLinkedTo}
 use Rattle.omf_format.specs.PlainLaws.{is_load_file, length-without_trailing}
-use Rattle.omf_format.specs.Cells.{Byte, segment_bytes, cells}
+use Rattle.omf_format.specs.Cells.{Byte, segment_bytes}
 use Rattle.omf_format.specs.CellLaws.{cells-bytes}
-use Rattle.omf_format.specs.Loadable.{express_names, is_express, segment_refusal, record_refusal, shape_fault, later_fault, IsLoadSegment, IsLoadable}
+use Rattle.omf_format.specs.Loadable.{express_name, is_express, segment_refusal, record_refusal, shape_fault, later_fault, IsLoadSegment}
 use Rattle.omf_cli.specs.Laws.{IsLoadOf}
 
 -- ---- the name
@@ -38,8 +36,8 @@ other_text name other shorter = go (bytes_eq name other) refl
 
 not_express : (name : List ℕ) → length name ≤ 10 → is_express name ≡ false
 not_express name few =
-    let one : bytes_eq name express_names ≡ false = other_text name express_names (omega arith) in
-    let two : bytes_eq name (126 ∷ express_names) ≡ false = other_text name (126 ∷ express_names) (omega arith) in
+    let one : bytes_eq name express_name ≡ false = other_text name express_name (omega arith) in
+    let two : bytes_eq name (126 ∷ express_name) ≡ false = other_text name (126 ∷ express_name) (omega arith) in
     rw (one, two) refl
 
 -- ---- the type
@@ -63,15 +61,28 @@ front_passes : (f : Fields) → is_express f.name ≡ false → is_object (form_
 unfolding segment_refusal
 front_passes f name object = let types = not_listed (form_of f.kind) object in rw (name, types.0, types.1, types.2) refl
 
-records_pass : (records : List (ℕ × Record)) → AllByRecursion (λ (found : ℕ × Record). record_refusal found.1 ≡ None) records
-records_pass [] = tt
-records_pass (found ∷ records) = (passes found.1, records_pass records)
-  where
-    passes : (r : Record) → record_refusal r ≡ None
-    passes End = refl
-    passes (Const bytes) = refl
-    passes (LongConst bytes) = refl
-    passes (Space n) = refl
+-- constants are no patches and belong to load files
+constant_passes : (r : Record) → is_constant r ≡ true → record_refusal r ≡ None
+constant_passes End is = refl
+constant_passes (Const bytes) is = refl
+constant_passes (LongConst bytes) is = refl
+constant_passes (Space n) is = refl
+constant_passes (Align n) is = absurd cc
+constant_passes (Org n) is = absurd cc
+constant_passes (Reloc count shift location offset) is = absurd cc
+constant_passes (InterSeg count shift location file segment offset) is = absurd cc
+constant_passes (ShortReloc count shift location offset) is = absurd cc
+constant_passes (ShortInterSeg count shift location segment offset) is = absurd cc
+constant_passes (Super form bytes) is = absurd cc
+constant_passes (Using name) is = absurd cc
+constant_passes (Strong name) is = absurd cc
+constant_passes (Label global name size form private) is = absurd cc
+constant_passes (Equate global name size form private expr) is = absurd cc
+constant_passes (Formula code count n expr) is = absurd cc
+
+records_pass : (records : List (ℕ × Record)) → AllByRecursion (λ (found : ℕ × Record). is_constant found.1 ≡ true) records → AllByRecursion (λ (found : ℕ × Record). record_refusal found.1 ≡ None) records
+records_pass [] all = tt
+records_pass (found ∷ records) all = (constant_passes found.1 all.0, records_pass records all.1)
 
 -- LENGTH is that of the bytes in memory
 module _ (s : Segment) (bytes : List ℕ) (memory : memory_bytes s ≡ bytes) (size : s.fields.length ≡ length bytes) where
@@ -102,7 +113,7 @@ loads_as first others file fits is plain =
     let s = load.segment in
     let name : length s.fields.name ≤ 10 = omega (arith, ap length load.name, length-without_trailing 32 first.fields.load_name, short_name first.start first.fields file is.2.header) in
     let object : is_object (form_of s.fields.kind) ≡ true = ap (λ (k : ℕ). is_object (form_of k)) load.kind ∙ ap is_object (same_form first.fields.kind) ∙ plain.each.0.object in
-    let pass : IsLoadSegment s = record { front = front_passes s.fields (not_express s.fields.name name) object; records = records_pass s.records } in
+    let pass : IsLoadSegment s = record { front = front_passes s.fields (not_express s.fields.name name) object; records = records_pass s.records load.constant.each } in
     let shape = shape_passes s (loaded_bytes (first ∷ others)) load.memory load.length' load.seg_num in
     record {
       segment = s;

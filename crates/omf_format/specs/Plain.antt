@@ -115,7 +115,8 @@ pub record IsLinkedTo (file output : List ℕ) : Type 0 where
 abbrev pub IsUnbuilt : List ℕ → Type 0
 IsUnbuilt file = (segments : List Segment) → IsFile segments file → IsPlain segments → ⊥
 
--- what a load file of one segment is: the stated fields, and in memory the members' bytes in order, LENGTH in all
+-- what a load file of one segment is: the stated fields, constants alone, and in memory the members' bytes in order, LENGTH in
+-- all
 pub record IsLoadFile (first : Segment) (segments : List Segment) (output : List ℕ) : Type 0 where
   pub segment : Segment
   pub is_file : IsFile (segment ∷ []) output
@@ -127,5 +128,6 @@ pub record IsLoadFile (first : Segment) (segments : List Segment) (output : List
   pub align : segment.fields.align ≡ 0
   pub load_name : segment.fields.load_name ≡ first.fields.load_name
   pub name : segment.fields.name ≡ without_trailing 32 first.fields.load_name
+  pub constant : HasConstants segment
   pub memory : memory_bytes segment ≡ loaded_bytes segments
   pub length' : segment.fields.length ≡ length (loaded_bytes segments)

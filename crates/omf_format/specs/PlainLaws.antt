@@ -14,12 +14,12 @@ use Rattle.omf_format.specs.Name.{without_trailing}
 use Rattle.omf_format.specs.Header.{Fields, fields_of, names_end, form_of, is_listed, written_fields, header_bytes, IsWritable}
 use Rattle.omf_format.specs.HeaderLaws.{IsBytes, IsSound, sound_from_none}
 use Rattle.omf_format.specs.WrittenHeader.{FitsWritten, length-header, fields_of-written, header_fault-written}
-use Rattle.omf_format.specs.Record.{Record, End, LongConst, spelling, content_of}
+use Rattle.omf_format.specs.Record.{Record, End, LongConst, spelling, is_constant, content_of}
 use Rattle.omf_format.specs.FieldLaws.{IsBytes-drop}
 use Rattle.omf_format.specs.RecordLaws.{front-again}
 use Rattle.omf_format.specs.Reading.{Reader, front, told, moved, next_answer, after_next, HandsOut}
 use Rattle.omf_format.specs.File.{Segment, body_reader, IsSegment, AreSegments, IsFile}
-use Rattle.omf_format.specs.Plain.{body_bytes, memory_bytes, IsPlainSegment, total_length, IsPlain, lesser_bank, least_bank, cleared, loaded_bytes, data_of, written_body, load_fields, written, IsLoadFile}
+use Rattle.omf_format.specs.Plain.{body_bytes, memory_bytes, HasConstants, IsPlainSegment, total_length, IsPlain, lesser_bank, least_bank, cleared, loaded_bytes, data_of, written_body, load_fields, written, IsLoadFile}
 
 -- ---- trailing items
 
@@ -152,6 +152,11 @@ unfolding written_records
 records_content [] end = refl
 records_content (x ∷ xs) end = append-nil (x ∷ xs)
 
+records_constant : (xs : List ℕ) (end : ℕ) → AllByRecursion (λ (found : ℕ × Record). is_constant found.1 ≡ true) (written_records xs end)
+unfolding written_records
+records_constant [] end = (refl, tt)
+records_constant (x ∷ xs) end = (refl, (refl, tt))
+
 length-written_body : (xs : List ℕ) → length (written_body xs) ≤ length xs + 6
 unfolding written_body spelling
 length-written_body [] = omega arith
@@ -256,6 +261,10 @@ load_is_segment first segments g =
       ended = refl;
     }
 
+load_constant : (first : Segment) (segments : List Segment) → HasConstants (load_segment first segments)
+unfolding load_segment
+load_constant first segments = record { each = records_constant (data_of (loaded_bytes segments)) (written_fields (load_fields first segments) (length (body_of segments))).byte_count }
+
 load_memory : (first : Segment) (segments : List Segment) → memory_bytes (load_segment first segments) ≡ loaded_bytes segments
 unfolding memory_bytes body_bytes load_segment load_fields
 load_memory first segments =
@@ -287,6 +296,7 @@ is_load_file first others file fits is plain =
       align = refl;
       load_name = refl;
       name = refl;
+      constant = load_constant first segments;
       memory = load_memory first segments;
       length' = refl;
     }

@@ -1,4 +1,4 @@
-use Rattle.std.proofs.Common.{◌≡◌, true, ℕ, List, length}
+use Rattle.std.proofs.Common.{length}
 use Rattle.omf_cli.proofs.Constants.{Constant}
 use Rattle.omf_cli.proofs.content.are_constant.Given as goal
 

@@ -1,6 +1,5 @@
 use Rattle.std.proofs.Common.{sym, subst, ◌∙◌}
-use Rattle.omf_format.specs.File.{Segment}
-use Rattle.omf_format.specs.Plain.{HasConstants, IsPlainSegment}
+use Rattle.omf_format.specs.Plain.{HasConstants}
 use Rattle.omf_header.specs.View.{fields}
 use Rattle.omf_cli.specs.Members.{AsksNoPlace}
 use Rattle.omf_cli.proofs.members.is_plain.Goals as goal
