@@ -2,7 +2,7 @@
 // rules of the listing.
 use crate::dumping::dumps;
 use omf_cli::Status;
-use omf_records::{Rec, put_record};
+use omf_records::{Locations, Rec, put_record};
 use std::alloc::{AllocError, Global};
 use std::test::Fail;
 
@@ -129,4 +129,15 @@ fn records_are_written(rt: HostRuntime) -> Result<(), Fail> {
     ];
     assert_eq!(rt; written.as_slice(), wanted.as_slice());
     Ok(())
+}
+
+// Two pages are passed over, and the third has two locations; the fourth has one, and after 127 pages more comes one.
+#[test]
+fn locations_go_page_by_page(rt: HostRuntime) {
+    let mut locations = Locations::of(&[0x82, 0x01, 0x01, 0x05, 0x00, 0xFF, 0xFF, 0x00, 0x10]);
+    for want in [0x201, 0x205, 0x3FF, (4 + 127) * 256 + 0x10] {
+        assert_eq!(rt; locations.next(), Some(want));
+    }
+    assert_eq!(rt; locations.next(), None);
+    assert_eq!(rt; locations.next(), None);
 }
