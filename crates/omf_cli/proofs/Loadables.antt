@@ -1,7 +1,7 @@
 -- The load file of a plain object file is loadable.
 use Rattle.std.proofs.Common.{◌≡◌, ℕ, Bool, true, false, eqb, ltb, ◌+◌, ◌-◌, ◌*◌, ◌/◌, ◌%◌, ◌<◌, ◌≤◌, List, [], ◌∷◌, ◌++◌, length, map, take, drop, replicate, Option, Some, None, refl, sym, ap, subst, ◌∙◌, arith}
 use Rattle.std.specs.Prelude.{not, ◌||◌, nat_lt}
-use Rattle.std.specs.List.{AllByRecursion, list_any}
+use Rattle.std.specs.List.{AllByRecursion, flat_map, list_any}
 use Rattle.std.specs.Str.{bytes_eq}
 use Rattle.std.proofs.lemmas.Bool.{eqb-true}
 use Rattle.std.proofs.lemmas.Bool.Decides.{nat_tests}
@@ -16,7 +16,7 @@ use Rattle.omf_format.specs.File.{Segment, IsHeader, IsFile}
 use Rattle.omf_format.specs.Name.{without_trailing}
 use Rattle.omf_format.specs.Plain.{body_bytes, memory_bytes, is_object, cleared, loaded_bytes, IsPlainSegment, IsPlain, written, IsLinkedTo, IsLoadFile}
 use Rattle.omf_format.specs.PlainLaws.{is_load_file, length-without_trailing}
-use Rattle.omf_format.specs.Cells.{Byte, segment_bytes, cells}
+use Rattle.omf_format.specs.Cells.{Byte, segment_bytes, cells, patches_in, patches_of}
 use Rattle.omf_format.specs.CellLaws.{cells-bytes}
 use Rattle.omf_format.specs.Loadable.{express_names, is_express, segment_refusal, record_refusal, shape_fault, later_fault, IsLoadSegment, IsLoadable}
 use Rattle.omf_cli.specs.Laws.{IsLoadOf}
@@ -57,6 +57,9 @@ other_type form t none is = go (eqb form t) refl
 not_listed : (form : ℕ) → is_object form ≡ true → (eqb form 0x02 ≡ false) × (eqb form 0x04 ≡ false) × (eqb form 0x08 ≡ false)
 not_listed form is = (other_type form 0x02 refl is, other_type form 0x04 refl is, other_type form 0x08 refl is)
 
+no_table : (form : ℕ) → is_object form ≡ true → form ≡ 0x02 → ⊥
+no_table form is table = let both : true ≡ false = sym is ∙ ap is_object table in cc
+
 -- ---- the segment
 
 front_passes : (f : Fields) → is_express f.name ≡ false → is_object (form_of f.kind) ≡ true → segment_refusal f ≡ None
@@ -95,6 +98,21 @@ module _ (s : Segment) (bytes : List ℕ) (memory : memory_bytes s ≡ bytes) (s
       let zeros : s.fields.length - length (body_bytes s) ≡ s.fields.res_spc = omega (arith, all) in
       ap (λ (n : ℕ). body_bytes s ++ replicate n 0) zeros ∙ memory
 
+-- no record of a load file gives a patch
+no_patch : (s : Segment) (records : List (ℕ × Record)) → flat_map (λ found. patches_in s found.1) records ≡ []
+no_patch s [] = refl
+no_patch s (found ∷ records) = rw (none_in found.1) (no_patch s records)
+  where
+    none_in : (r : Record) → patches_in s r ≡ []
+    none_in End = refl
+    none_in (Const bytes) = refl
+    none_in (LongConst bytes) = refl
+    none_in (Space n) = refl
+
+unpatched : (s : Segment) → patches_of s ≡ []
+unfolding patches_of
+unpatched s = no_patch s s.records
+
 pub loads_as : (first : Segment) (others : List Segment) (file : List ℕ) → IsBytes file → IsFile (first ∷ others) file → IsPlain (first ∷ others) → IsLoadOf (first ∷ others) (written (first ∷ others))
 unfolding later_fault
 loads_as first others file fits is plain =
@@ -104,10 +122,27 @@ loads_as first others file fits is plain =
     let object : is_object (form_of s.fields.kind) ≡ true = ap (λ (k : ℕ). is_object (form_of k)) load.kind ∙ ap is_object (same_form first.fields.kind) ∙ plain.each.0.object in
     let pass : IsLoadSegment s = record { front = front_passes s.fields (not_express s.fields.name name) object; records = records_pass s.records } in
     let shape = shape_passes s (loaded_bytes (first ∷ others)) load.memory load.length' load.seg_num in
+    let loadable : IsLoadable (written (first ∷ others)) (s ∷ []) = record { is_file = load.is_file; some = λ none. absurd (cc); pass = (pass, tt); sound = rw shape refl } in
     record {
       segment = s;
-      loadable = record { is_file = load.is_file; some = λ none. absurd (cc); pass = (pass, tt); sound = rw shape refl };
+      loadable = loadable;
       cells_are = cells-bytes s pass ∙ ap (map Byte) (bytes_are s (loaded_bytes (first ∷ others)) load.memory load.length');
+      can_load = λ static kept no_stack. record {
+        loadable = loadable;
+        one = refl;
+        plain = (
+          record {
+            static = static;
+            not_skipped = kept;
+            no_table = λ table. absurd (no_table (form_of s.fields.kind) object table);
+            no_stack = no_stack;
+            org = load.org;
+            align = load.align;
+            unpatched = unpatched s;
+          },
+          tt,
+        );
+      };
     }
 
 pub linked_is : (file output : List ℕ) → IsBytes file → (linked : IsLinkedTo file output) → IsLoadOf linked.segments output
