@@ -1,6 +1,6 @@
 -- A loader that agrees with a state answers as the machine's step does, and agrees with the next state.
-use Rattle.std.proofs.Common.{◌≡◌, ◌≢◌, ◌⊎◌, inl, inr, ℕ, zero, suc, true, false, cond, ◌+◌, ◌-◌, ◌<◌, ◌≤◌, List, [], ◌∷◌, ◌++◌, length, length-append, map, take, drop, Option, Some, None, IsSome, IsSomeAnd, nat_lt, Result, Ok, Err, IfOk, IfErr, refl, sym, ap, subst, ◌∙◌, arith}
-use Rattle.std.specs.Prelude.{slice_get, unwrap_or}
+use Rattle.std.proofs.Common.{◌≡◌, ◌≢◌, ◌⊎◌, inl, inr, ℕ, zero, suc, true, false, cond, ◌+◌, ◌-◌, ◌<◌, ◌≤◌, List, [], ◌∷◌, ◌++◌, length, map, take, drop, Option, Some, None, IsSome, IsSomeAnd, nat_lt, Result, Ok, Err, IfOk, IfErr, refl, sym, ap, subst, ◌∙◌, arith}
+use Rattle.std.specs.Prelude.{slice_get}
 use Rattle.std.specs.Option.{option_map, option_and_then}
 use Rattle.std.specs.FinMap as map
 use Rattle.std.proofs.lemmas.Option.{slice_get-map}
@@ -8,22 +8,19 @@ use Rattle.std.proofs.lemmas.List.{length-map, length-drop, drop-append-le, take
 use Rattle.omf_format.specs.File.{Segment}
 use Rattle.omf_format.specs.Cells.{segment_at, segment_bytes}
 use Rattle.omf_format.specs.CellLaws.{cells-bytes, length-segment_bytes, loadable_at}
-use Rattle.omf_format.specs.LoadableLaws.{loadable_same}
-use Rattle.omf_io.specs.declared.files.ReadFault.TheVariants as read
 use Rattle.omf_io.specs.Counts.{Told, Rose, IsFront}
-use Rattle.omf_io.specs.Files.{FileMap, max_file, ReadFailed}
-use Rattle.loader_machine.specs.declared.handles.Handle.{Handle}
+use Rattle.omf_io.specs.Files.{FileMap}
 use Rattle.loader_machine.specs.declared.slots.Slot.{Slot}
 use Rattle.loader_machine.specs.declared.wants.Block.{Block}
 use Rattle.loader_machine.specs.declared.faults.LoaderFault.{LoaderFault}
 use Rattle.loader_machine.specs.declared.faults.LoaderFault.TheVariants.{NoUser, NoSegment, OutOfSegment, TooManyUsers, CannotRead, Unbuilt, NoRoom, Memory}
 use Rattle.loader_machine.specs.Slots.{get}
 use Rattle.loader_machine.specs.Memory.{bytes_at}
-use Rattle.loader_machine.specs.Machine.{User, Machine, first_id, max_users, user_of, address_of, place_of, places_of, HoldsFile, LacksFile, CanLoad, HoldsLoad, wanted, entry_of, stands, byte_of}
+use Rattle.loader_machine.specs.Machine.{Machine, first_id, max_users, user_of, place_of, places_of, HoldsFile, LacksFile, CanLoad, HoldsLoad, stands}
 use Rattle.loader_machine.specs.Step as step
 use Rattle.sys_loader.specs.declared.loader.Started.{Started}
 use Rattle.sys_loader.specs.Loaded.{Kept, Loaded, user_in, UserAgrees, Agrees}
-use Rattle.sys_loader.specs.Calls.{IsRead, IsUnread, HasBegun, HasStarted, IsLoadFault, HasLoaded, HasLent, IsLentFault}
+use Rattle.sys_loader.specs.Calls.{IsRead, IsUnread, HasBegun, IsLoadFault, HasLoaded, HasLent, IsLentFault}
 use Rattle.sys_loader.specs.Meets.{MeetsRefusal, MeetsLoad}
 use Rattle.sys_loader.proofs.Lists.{slice_get-push}
 use Rattle.sys_loader.proofs.Loads.{stands-bytes}

@@ -1,5 +1,5 @@
 -- Which files can be loaded.
-use Rattle.std.proofs.Common.{◌≡◌, ℕ, ◌+◌, ◌<◌, List, [], ◌∷◌, ◌++◌, length, map, Option, Some, None, IsSomeAnd, refl, sym, ap, subst, ◌∙◌, arith}
+use Rattle.std.proofs.Common.{◌≡◌, ℕ, List, [], ◌∷◌, length, map, refl, sym, ap, subst, ◌∙◌, arith}
 use Rattle.std.specs.List.{flat_map, AllByRecursion}
 use Rattle.omf_format.specs.declared.load.LoadCause.{LoadCause}
 use Rattle.omf_format.specs.declared.load.LoadCause.TheVariants.{NotLoadFile, Truncated, BadHeader, Unsupported, BadRecord, Sequence, DataTooLong, Memory}
@@ -7,7 +7,7 @@ use Rattle.omf_format.specs.declared.load.LoadFault.{LoadFault}
 use Rattle.omf_format.specs.Header.{Fields}
 use Rattle.omf_format.specs.Record.{Record, End, Const, LongConst, Space}
 use Rattle.omf_format.specs.File.{Segment}
-use Rattle.omf_format.specs.Cells.{Byte, Cell, cells, patches_in, patches_of, segment_at}
+use Rattle.omf_format.specs.Cells.{Byte, cells, patches_in, patches_of}
 use Rattle.omf_format.specs.Loadable.{IsLoadable, IsFirstLoadFault}
 use Rattle.omf_format.specs.LoadableLaws.{loadable_same, loadable_sound}
 use Rattle.omf_cells.specs.Load.{IsRefused, UnlessMemory, HasFields}

@@ -1,13 +1,13 @@
 -- Where every block is locked, none is purged.
-use Rattle.std.proofs.Common.{◌≡◌, ℕ, suc, Bool, true, false, cond, List, [], ◌∷◌, length, map, Option, Some, None, refl, sym, ap, ◌∙◌, arith}
-use Rattle.std.specs.Prelude.{◌&&◌, not, nat_lt, ◌<◌, is_some, ◌==◌}
+use Rattle.std.proofs.Common.{◌≡◌, ℕ, suc, Bool, true, false, cond, List, [], ◌∷◌, map, Option, Some, None, refl, ap, ◌∙◌}
+use Rattle.std.specs.Prelude.{◌&&◌, not, is_some, ◌==◌}
 use Rattle.std.specs.Option.{option_map_or}
 use Rattle.loader_machine.specs.declared.slots.Slot.{Slot}
 use Rattle.loader_machine.specs.declared.wants.Block.{Block}
-use Rattle.loader_machine.specs.declared.slots.Content.TheVariants.{Free, Used, Retired}
-use Rattle.loader_machine.specs.Slots.{slot_at, new_slot}
+use Rattle.loader_machine.specs.declared.slots.Content.TheVariants.{Used}
+use Rattle.loader_machine.specs.Slots.{slot_at}
 use Rattle.loader_machine.specs.Fits.{block_in}
-use Rattle.loader_machine.specs.Placement.{can_purge, is_gone, rank, emptied_where, emptied}
+use Rattle.loader_machine.specs.Placement.{can_purge, is_gone, emptied_where, emptied}
 use Rattle.sys_loader.specs.Loaded.{IsLocked}
 
 locked_no_purge : (a b : Bool) (l : Bool) → l ≡ true → (a && not l && b) ≡ false

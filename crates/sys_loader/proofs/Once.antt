@@ -1,8 +1,6 @@
 -- A command has one reply in a state, and leads to one next state.
-use Rattle.std.proofs.Common.{◌≡◌, ◌⊎◌, inl, inr, ℕ, true, ◌+◌, ◌<◌, ◌≤◌, List, [], ◌∷◌, ◌++◌, length, take, drop, Option, Some, None, IsSomeAnd, refl, sym, ap, subst, ◌∙◌, arith}
-use Rattle.std.specs.FinMap as map
+use Rattle.std.proofs.Common.{◌≡◌, inl, inr, ℕ, true, ◌<◌, List, [], ◌∷◌, ◌++◌, length, take, drop, Option, Some, None, IsSomeAnd, refl, sym, ap, subst, ◌∙◌, arith}
 use Rattle.std.proofs.lemmas.Bool.{cases_lt}
-use Rattle.omf_format.specs.Header.{Fields}
 use Rattle.omf_format.specs.File.{Segment}
 use Rattle.omf_format.specs.Cells.{segment_at}
 use Rattle.omf_format.specs.LoadableLaws.{loadable_same}
@@ -13,11 +11,11 @@ use Rattle.loader_machine.specs.declared.wants.Want.{Want}
 use Rattle.loader_machine.specs.declared.wants.Block.{Block}
 use Rattle.loader_machine.specs.declared.faults.LoaderFault.{LoaderFault}
 use Rattle.loader_machine.specs.declared.faults.LoaderFault.TheVariants.{NoUser, NoSegment, OutOfSegment, TooManyUsers, CannotRead, Unbuilt, NoRoom, Memory}
-use Rattle.loader_machine.specs.Slots.{new_handle, after_take}
+use Rattle.loader_machine.specs.Slots.{after_take}
 use Rattle.loader_machine.specs.Placement.{emptied, GoesTo, HasNoRoom}
 use Rattle.loader_machine.specs.Memory.{placed}
 use Rattle.loader_machine.specs.Command.{Command, Banks, Load, Bytes}
-use Rattle.loader_machine.specs.Machine.{User, Machine, empty, max_users, first_id, user_of, places_of, HoldsFile, LacksFile, CanLoad, HoldsLoad, wanted, entry_of, stands}
+use Rattle.loader_machine.specs.Machine.{User, Machine, user_of, places_of, HoldsFile, LacksFile, CanLoad, HoldsLoad, wanted, entry_of, stands}
 use Rattle.loader_machine.specs.Step.{Reply, Okay, Started, Shown, Refused, IsStarted, IsLoadRefusal, StepsLoad, IsShown, LacksSegment, IsOutside, IsBytesRefusal, StepsBytes, Steps}
 
 -- ---- one thing at most

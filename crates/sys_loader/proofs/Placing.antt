@@ -1,18 +1,17 @@
 -- A placement among locked blocks: the block is in the lowest free slot, and every other slot stays.
-use Rattle.std.proofs.Common.{◌≡◌, ◌≢◌, ℕ, Bool, true, false, cond, ◌<◌, ◌≤◌, ◌∷◌, [], List, length, Option, Some, None, IsSome, IsSomeAnd, get_or, refl, sym, ap, subst, ◌∙◌, arith}
-use Rattle.std.specs.Prelude.{◌==◌, Contains, slice_set}
-use Rattle.std.specs.Option.{option_map, option_map_or, option_and_then}
-use Rattle.std.proofs.Math.ListN.{set, length-set}
+use Rattle.std.proofs.Common.{◌≡◌, ◌≢◌, ℕ, true, cond, ◌<◌, List, length, Option, Some, None, refl, sym, ap, ◌∙◌, arith}
+use Rattle.std.specs.Prelude.{◌==◌}
+use Rattle.std.specs.Option.{option_map}
+use Rattle.std.proofs.Math.ListN.{set}
 use Rattle.std.proofs.lemmas.Bool.Decides.{nat_tests}
 use Rattle.std.proofs.lemmas.List.{get_or-set_same, get_or-set_other}
 use Rattle.std.proofs.lemmas.List.Quantifiers.{position-Some}
 use Rattle.loader_machine.specs.declared.handles.Handle.{Handle}
 use Rattle.loader_machine.specs.declared.slots.Slot.{Slot}
-use Rattle.loader_machine.specs.declared.slots.Content.TheVariants.{Free, Used, Retired}
+use Rattle.loader_machine.specs.declared.slots.Content.TheVariants.{Used}
 use Rattle.loader_machine.specs.declared.wants.Want.{Want}
 use Rattle.loader_machine.specs.declared.wants.Block.{Block}
-use Rattle.loader_machine.specs.Slots.{slot_at, new_slot, get, is_free, lowest_free, new_handle, after_take, used_value}
-use Rattle.loader_machine.specs.Placement.{emptied}
+use Rattle.loader_machine.specs.Slots.{slot_at, new_slot, get, is_free, lowest_free, new_handle, after_take}
 use Rattle.loader_machine.specs.Memory.{Memory, IsPlaced, placed}
 use Rattle.sys_loader.specs.Loaded.{IsLocked}
 use Rattle.sys_loader.proofs.Locked.{emptied-locked}

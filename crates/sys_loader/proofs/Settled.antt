@@ -1,23 +1,20 @@
 -- Where a segment was settled, the loader has begun it, and is sound again.
-use Rattle.std.proofs.Common.{◌≡◌, ◌≢◌, inl, inr, ℕ, zero, suc, true, ◌+◌, ◌<◌, ◌≤◌, List, [], ◌∷◌, ◌++◌, length, replicate, Option, Some, None, IsSome, IsSomeAnd, get_or, refl, sym, ap, subst, ◌∙◌, arith}
-use Rattle.std.specs.Prelude.{Contains, slice_get, slice_index_or, slice_set}
-use Rattle.std.proofs.Math.ListN.{set, length-set, get_or-eq_default}
+use Rattle.std.proofs.Common.{◌≡◌, ◌≢◌, inl, inr, ℕ, zero, suc, true, ◌+◌, ◌<◌, ◌≤◌, List, [], ◌∷◌, ◌++◌, length, replicate, Option, Some, IsSomeAnd, refl, sym, ap, subst, ◌∙◌, arith}
+use Rattle.std.specs.Prelude.{Contains}
+use Rattle.std.proofs.Math.ListN.{set, get_or-eq_default}
 use Rattle.std.proofs.lemmas.Bool.{cases_lt}
 use Rattle.std.proofs.lemmas.List.{get_or-set_same, get_or-set_other, length-replicate}
 use Rattle.omf_format.specs.Header.{Fields}
 use Rattle.omf_format.specs.File.{Segment}
 use Rattle.omf_cells.specs.Load.{HasFields}
-use Rattle.omf_io.specs.Counts.{IsFront}
 use Rattle.loader_machine.specs.declared.handles.Handle.{Handle}
 use Rattle.loader_machine.specs.declared.slots.Slot.{Slot}
 use Rattle.loader_machine.specs.declared.wants.Want.{Want}
 use Rattle.loader_machine.specs.declared.wants.Block.{Block}
-use Rattle.loader_machine.specs.Slots.{slot_at, get, new_handle, after_take}
-use Rattle.loader_machine.specs.Placement.{emptied}
-use Rattle.loader_machine.specs.Memory.{Memory, bytes_at, IsThere, IsPlaced, placed}
-use Rattle.loader_machine.specs.Machine.{first_id, max_users, wanted, entry_of, stands}
-use Rattle.sys_loader.specs.declared.loader.Started.{Started}
-use Rattle.sys_loader.specs.Loaded.{Kept, Loaded, IsSound}
+use Rattle.loader_machine.specs.Slots.{get}
+use Rattle.loader_machine.specs.Memory.{Memory, bytes_at, IsThere, placed}
+use Rattle.loader_machine.specs.Machine.{first_id, max_users, wanted, entry_of}
+use Rattle.sys_loader.specs.Loaded.{Kept, IsSound}
 use Rattle.sys_loader.specs.Calls.{HasBegun}
 use Rattle.sys_loader.specs.Files.{Begins, IsSettled}
 use Rattle.sys_loader.proofs.Loads.{stands-bytes}

@@ -1,32 +1,24 @@
 -- What a placement makes of a sound loader: the block is in the first free slot, and all others stay.
-use Rattle.std.proofs.Common.{◌≡◌, ◌≢◌, ◌⊎◌, inl, inr, ℕ, zero, suc, Bool, true, false, cond, ◌+◌, ◌<◌, ◌≤◌, List, [], ◌∷◌, ◌++◌, length, length-append, replicate, Option, Some, None, IsSome, IsSomeAnd, get_or, nat_lt, ◌-◌, refl, sym, ap, subst, ◌∙◌, arith}
-use Rattle.std.specs.Prelude.{◌==◌, slice_get, slice_set, Contains, position}
-use Rattle.std.specs.Option.{option_map, option_map_or, option_and_then}
+use Rattle.std.proofs.Common.{◌≡◌, ℕ, zero, suc, Bool, true, false, cond, ◌<◌, ◌≤◌, List, [], length, replicate, Option, Some, None, IsSome, IsSomeAnd, get_or, nat_lt, ◌-◌, refl, sym, ap, ◌∙◌, arith}
+use Rattle.std.specs.Prelude.{◌==◌, slice_get, position}
+use Rattle.std.specs.Option.{option_and_then}
 use Rattle.std.specs.List.{position_or_len}
-use Rattle.std.proofs.Math.ListN.{set, length-set}
 use Rattle.std.proofs.lemmas.List.{length-replicate}
-use Rattle.std.proofs.lemmas.Bool.{cases_lt, cases_eq}
-use Rattle.std.proofs.lemmas.Bool.Decides.{nat_tests}
-use Rattle.std.proofs.lemmas.List.{get_or-set_same, get_or-set_other}
 use Rattle.std.proofs.lemmas.List.Sums.{position_or_len_is}
-use Rattle.std.proofs.lemmas.Option.{slice_get-get_or, slice_get_within}
 use Rattle.std.proofs.lemmas.Grind.{common_steps}
 use Rattle.loader_machine.specs.declared.handles.Handle.{Handle}
 use Rattle.loader_machine.specs.declared.slots.Slot.{Slot}
 use Rattle.loader_machine.specs.declared.slots.Content.{Content}
 use Rattle.loader_machine.specs.declared.slots.Content.TheVariants.{Free, Used, Retired}
-use Rattle.loader_machine.specs.declared.wants.Want.{Want}
 use Rattle.loader_machine.specs.declared.wants.Block.{Block}
-use Rattle.loader_machine.specs.Slots.{slot_at, new_slot, get, is_free, lowest_free, new_handle, after_take, used_value}
+use Rattle.loader_machine.specs.Slots.{slot_at, new_slot, get, is_free, lowest_free, new_handle, used_value}
 use Rattle.loader_machine.specs.Fits.{block_in}
-use Rattle.loader_machine.specs.Placement.{emptied}
 use Rattle.loader_machine.specs.declared.faults.BlockFault.{BlockFault}
 use Rattle.loader_machine.specs.declared.faults.BlockFault.TheVariants.{Stale, Empty}
-use Rattle.loader_machine.specs.Memory.{Memory, bytes_at, address_in, IsThere, KeepsBut, IsPlaced, placed, IsBlockRefusal}
+use Rattle.loader_machine.specs.Memory.{Memory, bytes_at, address_in, IsBlockRefusal}
 use Rattle.loader_machine.specs.Machine.{max_users, first_id, user_of}
-use Rattle.sys_loader.specs.Loaded.{Kept, Loaded, IsKept, IsLocked, IsSound}
-use Rattle.sys_loader.proofs.Lists.{slice_get-push, none_within}
-use Rattle.sys_loader.proofs.Locked.{emptied-locked}
+use Rattle.sys_loader.specs.Loaded.{Kept, Loaded, IsSound}
+use Rattle.sys_loader.proofs.Lists.{none_within}
 
 -- a block that a live handle reaches is in its slot
 there_in : (generation of : ℕ) (content : Content Block) → IsSomeAnd (cond (generation == of) (used_value content) None) (λ block. IsSome block.at)

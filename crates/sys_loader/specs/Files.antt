@@ -1,5 +1,5 @@
 -- What is taken of a load file of one segment, and how its segment is put into memory. No public clause cites this module.
-use Rattle.std.specs.Prelude.{◌≡◌, ℕ, ◌≤◌, true, List, [], ◌∷◌, ◌++◌, length, map, Some, IsSomeAnd}
+use Rattle.std.specs.Prelude.{◌≡◌, ℕ, ◌≤◌, true, List, ◌++◌, length, map, IsSomeAnd}
 use Rattle.omf_format.specs.declared.load.LoadCause.{LoadCause}
 use Rattle.omf_format.specs.declared.load.LoadCause.TheVariants as cause
 use Rattle.omf_format.specs.Header.{Fields, form_of}

@@ -1,4 +1,4 @@
-use Rattle.std.proofs.Common.{◌≡◌, ◌≤◌, List, [], map, ap, sym, subst, arith, refl}
+use Rattle.std.proofs.Common.{◌≡◌, List, [], map, ap, sym, subst, arith, refl}
 use Rattle.loader_machine.specs.Memory.{new_slots}
 use Rattle.sys_loader.specs.Loaded.{Kept, IsSound}
 use Rattle.sys_loader.specs.View.{kept}

@@ -1,10 +1,9 @@
-use Rattle.std.proofs.Common.{◌≡◌, ◌+◌, ◌≤◌, ◌<◌, ◌∷◌, ◌++◌, [], List, length, map, refl, sym, ap, subst, ◌∙◌, arith}
-use Rattle.std.specs.Prelude.{string_bytes}
+use Rattle.std.proofs.Common.{◌+◌, length, map, refl, ap, arith}
 use Rattle.std.proofs.lemmas.List.{length-map}
 use Rattle.omf_header.specs.View.{fields}
 use Rattle.sys_loader.specs.Loaded.{Loaded}
 use Rattle.sys_loader.specs.View.{kept}
-use Rattle.sys_loader.proofs.Starting.{at_most, has_slot, users_few, no_room, lies_here, sound_after, begun_after}
+use Rattle.sys_loader.proofs.Starting.{at_most, has_slot, no_room, lies_here, sound_after, begun_after}
 use Rattle.sys_loader.proofs.loader.Loader.start.Goals as goal
 
 pub settle-requires-clause-fits : goal.settle-requires-clause-fits
