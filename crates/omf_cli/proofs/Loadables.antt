@@ -1,22 +1,20 @@
 -- The load file of a plain object file is loadable.
-use Rattle.std.proofs.Common.{◌≡◌, ℕ, Bool, true, false, eqb, ltb, ◌+◌, ◌-◌, ◌*◌, ◌/◌, ◌%◌, ◌<◌, ◌≤◌, List, [], ◌∷◌, ◌++◌, length, map, take, drop, replicate, Option, Some, None, refl, sym, ap, subst, ◌∙◌, arith}
-use Rattle.std.specs.Prelude.{not, ◌||◌, nat_lt}
-use Rattle.std.specs.List.{AllByRecursion, flat_map, list_any}
+use Rattle.std.proofs.Common.{◌≡◌, ℕ, Bool, true, false, eqb, ◌+◌, ◌-◌, ◌<◌, ◌≤◌, List, [], ◌∷◌, ◌++◌, length, map, drop, replicate, None, refl, sym, ap, subst, ◌∙◌, arith}
+use Rattle.std.specs.Prelude.{nat_lt}
+use Rattle.std.specs.List.{AllByRecursion, flat_map}
 use Rattle.std.specs.Str.{bytes_eq}
 use Rattle.std.proofs.lemmas.Bool.{eqb-true}
 use Rattle.std.proofs.lemmas.Bool.Decides.{nat_tests}
 use Rattle.std.proofs.lemmas.Slice.Eq.{bytes_eq-Decides}
 use Rattle.std.proofs.lemmas.List.{length-append, length-replicate, length-take}
-use Rattle.omf_format.specs.declared.load.LoadCause.{LoadCause}
 use Rattle.omf_format.specs.Number.{number_at}
 use Rattle.omf_format.specs.HeaderLaws.{IsBytes}
-use Rattle.omf_format.specs.Header.{Fields, fields_of, form_of, first_of}
+use Rattle.omf_format.specs.Header.{Fields, fields_of, form_of}
 use Rattle.omf_format.specs.Record.{Record, End, Const, LongConst, Space}
 use Rattle.omf_format.specs.File.{Segment, IsHeader, IsFile}
-use Rattle.omf_format.specs.Name.{without_trailing}
-use Rattle.omf_format.specs.Plain.{body_bytes, memory_bytes, is_object, cleared, loaded_bytes, IsPlainSegment, IsPlain, written, IsLinkedTo, IsLoadFile}
+use Rattle.omf_format.specs.Plain.{body_bytes, memory_bytes, is_object, cleared, loaded_bytes, IsPlain, written, IsLinkedTo}
 use Rattle.omf_format.specs.PlainLaws.{is_load_file, length-without_trailing}
-use Rattle.omf_format.specs.Cells.{Byte, segment_bytes, cells, patches_in, patches_of}
+use Rattle.omf_format.specs.Cells.{Byte, segment_bytes, patches_in, patches_of}
 use Rattle.omf_format.specs.CellLaws.{cells-bytes}
 use Rattle.omf_format.specs.Loadable.{express_names, is_express, segment_refusal, record_refusal, shape_fault, later_fault, IsLoadSegment, IsLoadable}
 use Rattle.omf_cli.specs.Laws.{IsLoadOf}

@@ -1,35 +1,31 @@
 -- Runs of scripts, one command more at a time.
-use Rattle.std.proofs.Common.{◌≡◌, ◌≢◌, ◌⊎◌, inl, inr, ℕ, zero, suc, Bool, true, false, cond, ◌+◌, ◌-◌, ◌^◌, ◌<◌, ◌≤◌, min, List, [], ◌∷◌, ◌++◌, length, length-append, take, drop, count_by, Option, Some, None, IsSome, nat_lt, Result, Ok, Err, IfOk, IfErr, refl, sym, ap, subst, ◌∙◌, arith, append_assoc, zero-add}
-use Rattle.std.specs.Prelude.{slice_get}
-use Rattle.std.specs.Option.{option_map}
+use Rattle.std.proofs.Common.{◌≡◌, ◌≢◌, inl, inr, ℕ, Bool, true, false, cond, ◌+◌, ◌<◌, ◌≤◌, List, [], ◌∷◌, ◌++◌, length, length-append, Option, Some, None, IsSome, nat_lt, Result, Ok, Err, IfOk, refl, sym, ap, subst, ◌∙◌, arith, append_assoc, zero-add}
 use Rattle.std.proofs.lemmas.Grind.{flat_map-append}
 use Rattle.std.proofs.lemmas.List.Sums.{sum_by-append}
 use Rattle.std.proofs.lemmas.List.{length-map, append-nil}
 use Rattle.std.proofs.lemmas.Bool.Decides.{nat_tests}
 use Rattle.omf_base.specs.declared.line.LineFault.{LineFault}
-use Rattle.omf_io.specs.declared.files.ReadFault.TheVariants as read
-use Rattle.omf_io.specs.Counts.{Rose, ToldOr, IsFront}
+use Rattle.omf_io.specs.Counts.{Rose, ToldOr}
 use Rattle.omf_io.specs.Files.{FileMap}
 use Rattle.omf_io.specs.Sinks.{with_text}
 use Rattle.loader_machine.specs.declared.faults.LoaderFault.{LoaderFault}
 use Rattle.loader_machine.specs.declared.faults.LoaderFault.TheVariants.{NoUser, NoSegment, OutOfSegment, TooManyUsers, CannotRead, Unbuilt, NoRoom, Memory}
-use Rattle.loader_machine.specs.Command.{Command, Banks, Load, Bytes}
+use Rattle.loader_machine.specs.Command.{Command, Load, Bytes}
 use Rattle.loader_machine.specs.Machine.{Machine, empty, max_users}
 use Rattle.loader_machine.specs.Step as step
 use Rattle.loader_machine.specs.Step.{Reply, Steps, reads}
 use Rattle.loader_machine.specs.Transcript.{IsAnswered, AreAnswered, Trans}
 use Rattle.loader_machine.specs.Replies.{reply_line, replies_text}
-use Rattle.loader_machine.specs.Script.{IsCommand, AreCommands}
 use Rattle.sys_loader.specs.declared.loader.Started.{Started}
 use Rattle.sys_loader.specs.Loaded.{Loaded, Agrees, user_in}
 use Rattle.sys_loader.specs.Calls.{IsUnread, HasLoaded, IsLoadFault, IsLentFault}
-use Rattle.sys_loader.specs.Meets.{MeetsLoad, AgreesEmpty}
+use Rattle.sys_loader.specs.Meets.{MeetsLoad}
 use Rattle.omf_cli.specs.declared.status.Status.{Status}
 use Rattle.omf_cli.specs.declared.status.Status.TheVariants as status
-use Rattle.omf_cli.specs.Run.{RoseBy, is_unread, is_unread_fault, unread, IsReplied, IsCut}
-use Rattle.omf_cli.specs.Tool.{Outside, outside, IsSilent, Prints, FailsToPrint}
+use Rattle.omf_cli.specs.Run.{RoseBy, is_unread, is_unread_fault, unread, IsReplied}
+use Rattle.omf_cli.specs.Tool.{Outside}
 use Rattle.omf_cli.specs.Ending.{HasPrinted, Whole, Part, Nothing, IsPrinted}
-use Rattle.omf_cli.specs.Running.{IsAnswer, HasRefused, IsFirstLoader, HasAnswered, AreReplied, IsUnderWay, HasFinished}
+use Rattle.omf_cli.specs.Running.{IsAnswer, HasRefused, HasAnswered, AreReplied}
 
 -- ---- counts
 

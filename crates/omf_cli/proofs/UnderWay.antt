@@ -1,10 +1,8 @@
 -- A run of a script on its way: it begins, it goes on, it stops, and it ends.
-use Rattle.std.proofs.Common.{◌≡◌, ◌≢◌, ◌⊎◌, inl, inr, ℕ, zero, suc, Bool, true, false, cond, ◌+◌, ◌<◌, ◌≤◌, List, [], ◌∷◌, ◌++◌, length, take, drop, Option, Some, None, Result, Ok, Err, IfOk, refl, sym, ap, subst, ◌∙◌, arith, append_assoc, add-one}
+use Rattle.std.proofs.Common.{◌≡◌, ◌≢◌, inl, ℕ, zero, suc, Bool, true, false, ◌+◌, ◌≤◌, List, [], ◌∷◌, ◌++◌, length, take, Option, Some, None, Result, IfOk, refl, sym, ap, subst, ◌∙◌, arith, append_assoc, add-one}
 use Rattle.std.specs.Prelude.{slice_get}
-use Rattle.std.specs.Option.{option_map}
-use Rattle.std.proofs.lemmas.List.{append-nil}
 use Rattle.omf_base.specs.declared.line.LineFault.{LineFault}
-use Rattle.omf_io.specs.Counts.{Rose, ToldOr, IsFront}
+use Rattle.omf_io.specs.Counts.{Rose, ToldOr}
 use Rattle.omf_io.specs.Files.{FileMap}
 use Rattle.omf_io.specs.Sinks.{with_text}
 use Rattle.loader_machine.specs.Command.{Command, Banks, Load, Bytes}
@@ -18,11 +16,11 @@ use Rattle.loader_machine.specs.Script.{IsCommand, AreCommands}
 use Rattle.sys_loader.specs.Loaded.{Loaded, Agrees}
 use Rattle.omf_cli.specs.declared.status.Status.{Status}
 use Rattle.omf_cli.specs.declared.status.Status.TheVariants as status
-use Rattle.omf_cli.specs.Run.{RoseBy, unread, IsReplied, IsCut}
-use Rattle.omf_cli.specs.Tool.{Outside, outside, IsSilent, Prints, FailsToPrint}
+use Rattle.omf_cli.specs.Run.{RoseBy}
+use Rattle.omf_cli.specs.Tool.{Outside, outside}
 use Rattle.omf_cli.specs.Ending.{IsPrinted}
 use Rattle.omf_cli.specs.Running.{IsAnswer, IsFirstLoader, HasAnswered, AreReplied, IsUnderWay, HasFinished}
-use Rattle.omf_cli.proofs.Scripts.{rose_none, same_rose, answered_line, more_replied, replied_is, with_text-more, with_text-none}
+use Rattle.omf_cli.proofs.Scripts.{same_rose, answered_line, more_replied, replied_is, with_text-more, with_text-none}
 
 -- what stands for the loader before there is one
 abbrev pub no_loader : Loaded

@@ -2,7 +2,6 @@
 use Rattle.std.specs.Prelude.{◌≡◌, ◌≢◌, ◌⊎◌, ℕ, false, ◌≤◌, List, [], ◌∷◌, length, Option}
 use Rattle.omf_io.specs.Counts.{ToldOr}
 use Rattle.omf_io.specs.Files.{FileMap}
-use Rattle.omf_io.specs.Sinks.{with_text}
 use Rattle.loader_machine.specs.declared.faults.LoaderFault.{LoaderFault}
 use Rattle.loader_machine.specs.declared.faults.LoaderFault.TheVariants as loader_fault
 use Rattle.loader_machine.specs.Command.{Command, Banks, Load, Bytes}

@@ -1,4 +1,4 @@
-use Rattle.std.proofs.Common.{subst, sym, List, ℕ}
+use Rattle.std.proofs.Common.{subst, List, ℕ}
 use Rattle.loader_machine.specs.declared.faults.BanksFault.TheVariants.{BankTwice}
 use Rattle.loader_machine.specs.Memory.{IsBanksRefusal}
 use Rattle.omf_cli.proofs.ScriptWords.{not_twice}

@@ -1,5 +1,4 @@
-use Rattle.std.proofs.Common.{◌≡◌, ◌+◌, ◌∷◌, ◌++◌, [], List, take, drop, refl, sym, ap, subst, ◌∙◌, arith}
-use Rattle.loader_machine.specs.Command as machine
+use Rattle.std.proofs.Common.{take, subst, arith}
 use Rattle.loader_script.specs.View as view
 use Rattle.omf_cli.specs.Tool.{outside}
 use Rattle.omf_cli.specs.declared.status.Status.{Status}

@@ -1,4 +1,3 @@
-use Rattle.std.proofs.Common.{refl, arith}
 use Rattle.loader_machine.specs.Command as machine
 use Rattle.loader_machine.specs.Step as step
 use Rattle.omf_cli.specs.Tool.{outside}
