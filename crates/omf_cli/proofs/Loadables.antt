@@ -15,8 +15,8 @@ use Rattle.omf_format.specs.File.{Segment, IsHeader, IsFile}
 use Rattle.omf_format.specs.Plain.{body_bytes, memory_bytes, is_object, cleared, loaded_bytes, IsPlain, written, IsLinkedTo}
 use Rattle.omf_format.specs.PlainLaws.{is_load_file, length-without_trailing}
 use Rattle.omf_format.specs.Cells.{Byte, segment_bytes}
-use Rattle.omf_format.specs.CellLaws.{cells-bytes}
-use Rattle.omf_format.specs.Loadable.{express_name, is_express, segment_refusal, record_refusal, shape_fault, later_fault, IsLoadSegment}
+use Rattle.omf_format.specs.CellLaws.{unpatched, cells-bytes}
+use Rattle.omf_format.specs.Loadable.{express_name, is_express, segment_refusal, record_refusal, shape_fault, later_fault, IsLoadSegment, IsLoadable}
 use Rattle.omf_cli.specs.Laws.{IsLoadOf}
 
 -- ---- the name
@@ -54,6 +54,9 @@ other_type form t none is = go (eqb form t) refl
 
 not_listed : (form : ℕ) → is_object form ≡ true → (eqb form 0x02 ≡ false) × (eqb form 0x04 ≡ false) × (eqb form 0x08 ≡ false)
 not_listed form is = (other_type form 0x02 refl is, other_type form 0x04 refl is, other_type form 0x08 refl is)
+
+no_table : (form : ℕ) → is_object form ≡ true → form ≡ 0x02 → ⊥
+no_table form is table = let both : true ≡ false = sym is ∙ ap is_object table in cc
 
 -- ---- the segment
 
@@ -115,10 +118,27 @@ loads_as first others file fits is plain =
     let object : is_object (form_of s.fields.kind) ≡ true = ap (λ (k : ℕ). is_object (form_of k)) load.kind ∙ ap is_object (same_form first.fields.kind) ∙ plain.each.0.object in
     let pass : IsLoadSegment s = record { front = front_passes s.fields (not_express s.fields.name name) object; records = records_pass s.records load.constant.each } in
     let shape = shape_passes s (loaded_bytes (first ∷ others)) load.memory load.length' load.seg_num in
+    let loadable : IsLoadable (written (first ∷ others)) (s ∷ []) = record { is_file = load.is_file; some = λ none. absurd (cc); pass = (pass, tt); sound = rw shape refl } in
     record {
       segment = s;
-      loadable = record { is_file = load.is_file; some = λ none. absurd (cc); pass = (pass, tt); sound = rw shape refl };
+      loadable = loadable;
       cells_are = cells-bytes s pass ∙ ap (map Byte) (bytes_are s (loaded_bytes (first ∷ others)) load.memory load.length');
+      can_load = λ static kept no_stack. record {
+        loadable = loadable;
+        one = refl;
+        plain = (
+          record {
+            static = static;
+            not_skipped = kept;
+            no_table = λ table. absurd (no_table (form_of s.fields.kind) object table);
+            no_stack = no_stack;
+            org = load.org;
+            align = load.align;
+            unpatched = unpatched s pass;
+          },
+          tt,
+        );
+      };
     }
 
 pub linked_is : (file output : List ℕ) → IsBytes file → (linked : IsLinkedTo file output) → IsLoadOf linked.segments output

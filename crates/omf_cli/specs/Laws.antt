@@ -1,10 +1,12 @@
 -- What the load file of a plain object file is, in the format's own words.
-use Rattle.std.specs.Prelude.{◌≡◌, ℕ, List, [], ◌∷◌, map}
+use Rattle.std.specs.Prelude.{◌≡◌, ◌≢◌, ℕ, IsBitSet, List, [], ◌∷◌, map}
+use Rattle.omf_format.specs.Header.{form_of}
 use Rattle.omf_format.specs.HeaderLaws.{IsBytes}
 use Rattle.omf_format.specs.File.{Segment, IsFile}
 use Rattle.omf_format.specs.Plain.{IsPlain, written, loaded_bytes, IsLinkedTo, IsLoadFile}
 use Rattle.omf_format.specs.Cells.{Byte, cells}
 use Rattle.omf_format.specs.Loadable.{IsLoadable}
+use Rattle.loader_machine.specs.Machine.{CanLoad}
 
 -- the load file of plain members is a file of one segment: it has the stated fields, and in memory the members' bytes in order and the zeros behind them, LENGTH in all
 abbrev pub WrittenIsLoadFile : Type 0
@@ -12,10 +14,12 @@ WrittenIsLoadFile = (first : Segment) (others : List Segment) (file : List ℕ) 
     → IsLoadFile first (first ∷ others) (written (first ∷ others))
 
 -- The file is a load file of one segment, whose cells are the members' bytes in order, each member's with its zeros behind them.
+-- The loader can load it unless KIND says that it is dynamic, skipped, or a direct page and stack.
 pub record IsLoadOf (segments : List Segment) (output : List ℕ) : Type 0 where
   pub segment : Segment
   pub loadable : IsLoadable output (segment ∷ [])
   pub cells_are : cells segment ≡ map Byte (loaded_bytes segments)
+  pub can_load : ¬ IsBitSet segment.fields.kind 15 → ¬ IsBitSet segment.fields.kind 9 → form_of segment.fields.kind ≢ 0x12 → CanLoad output (segment ∷ [])
 
 -- what a plain object file is linked to is loadable, and stands for the linked bytes
 abbrev pub LinkedIsLoadable : Type 0

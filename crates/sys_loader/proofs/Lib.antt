@@ -7,3 +7,4 @@ pub mod Loads
 pub mod Agreeing
 pub mod Settled
 pub mod Starting
+pub mod Once

@@ -3,3 +3,4 @@ pub mod View
 pub mod Files
 pub mod Calls
 pub mod Meets
+pub mod Laws

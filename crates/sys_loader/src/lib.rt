@@ -3,9 +3,11 @@
 
 mod file;
 mod header;
+mod laws;
 mod loader;
 mod memory;
 mod user;
 
+pub use laws::commands_have_one_reply;
 pub use loader::{Loader, Started};
 pub use loader_machine::{BanksFault, LoaderFault};
