@@ -84,10 +84,10 @@ fn the_first_fault_is_told(rt: HostRuntime) -> Result<(), Fail> {
 }
 
 /// The object with another body, BYTECNT being the file's length.
-fn with_body(alloc: Global, body: &[u8]) -> Result<Vec<u8>, AllocError> {
+fn with_body(alloc: Global, body: &[u8]) -> Result<Vec<u8>, Fail> {
     let mut file = OBJECT[..0x38].to_vec(alloc)?;
     file.extend_from_slice(body)?;
-    let size = (file.len() as u32).to_le_bytes();
+    let size = u32::try_from(file.len())?.to_le_bytes();
     for place in 0..4 {
         if let Some(byte) = file.get_mut(place) {
             *byte = size[place];

@@ -3,7 +3,7 @@
 use crate::dumping::dumps;
 use omf_cli::Status;
 use omf_records::{Locations, Rec, put_record};
-use std::alloc::{AllocError, Global};
+use std::alloc::Global;
 use std::test::Fail;
 
 /// Every record under LABLEN 0.
@@ -55,9 +55,9 @@ fn every_record_is_listed(rt: HostRuntime) -> Result<(), Fail> {
 }
 
 /// The bytes with this number in the place of BYTECNT.
-fn with_size(alloc: Global, bytes: &[u8]) -> Result<Vec<u8>, AllocError> {
+fn with_size(alloc: Global, bytes: &[u8]) -> Result<Vec<u8>, Fail> {
     let mut file = bytes.to_vec(alloc)?;
-    let size = (bytes.len() as u32).to_le_bytes();
+    let size = u32::try_from(bytes.len())?.to_le_bytes();
     for place in 0..4 {
         if let Some(byte) = file.get_mut(place) {
             *byte = size[place];
