@@ -1,11 +1,9 @@
 -- Constants alone, as far as a reader has come.
-use Rattle.std.proofs.Common.{◌≡◌, ℕ, true, false, List, [], ◌∷◌, ◌++◌, Some, None, Ok, Err, refl, sym, ap, subst, ◌∙◌}
+use Rattle.std.proofs.Common.{◌≡◌, ℕ, true, false, List, [], ◌∷◌, ◌++◌, Some, None, Ok, refl, sym, ap, subst, ◌∙◌}
 use Rattle.std.specs.List.{AllByRecursion}
-use Rattle.omf_format.specs.declared.fault.RecordFault.{RecordFault}
 use Rattle.omf_format.specs.Record.{Record, is_constant}
 use Rattle.omf_format.specs.Reading.{Reader, next_answer, after_next, HandsOut}
-use Rattle.omf_format.specs.FileLaws.{same_found, ended_at_none, open_at_some, HandsOut-append, HandsOut-rest, HandsOut-same, no_run}
-use Rattle.omf_records.specs.Segments.{ComesToEnd}
+use Rattle.omf_format.specs.FileLaws.{same_found, ended_at_none, open_at_some, HandsOut-append, HandsOut-rest, HandsOut-same}
 
 abbrev IsConstant : ℕ × Record → Type 0
 IsConstant found = is_constant found.1 ≡ true
@@ -52,7 +50,3 @@ constant_not start at last found founds so_far e run ended all not =
         let same : other ≡ found = same_found other found (sym run'.0 ∙ e) in
         let is : is_constant found.1 ≡ true = subst IsConstant same all'.0 in
         absurd cc
-
--- no fault comes
-pub constant_fails : (start at : Reader) (fault : RecordFault) → ComesToEnd start → Constant start at → next_answer at ≡ Err fault → ⊥
-constant_fails start at fault comes so_far e = no_run start so_far.before comes.records at comes.last fault so_far.run e comes.run comes.ended

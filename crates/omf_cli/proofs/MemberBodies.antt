@@ -1,13 +1,16 @@
 -- The content of a segment that a view shows.
-use Rattle.std.proofs.Common.{◌≡◌, ℕ, ◌+◌, true, List, ◌++◌, length, replicate, refl, sym, ap, subst, ◌∙◌, arith}
+use Rattle.std.proofs.Common.{◌≡◌, ℕ, ◌+◌, true, List, ◌++◌, length, replicate, IsTrue, refl, sym, ap, subst, ◌∙◌, arith}
+use Rattle.std.specs.List.{AllByRecursion}
 use Rattle.omf_format.specs.Header.{Fields}
+use Rattle.omf_format.specs.Record.{Record, is_constant}
 use Rattle.omf_format.specs.Reading.{Reader, HandsOut}
 use Rattle.omf_format.specs.File.{Segment, body_reader}
-use Rattle.omf_format.specs.Plain.{body_bytes, memory_bytes, IsPlainSegment}
+use Rattle.omf_format.specs.FileLaws.{HandsOut-same}
+use Rattle.omf_format.specs.Plain.{body_bytes, memory_bytes, HasConstants, IsPlainSegment}
 use Rattle.omf_header.specs.View.{fields}
 use Rattle.omf_records.specs.declared.segment.SegmentView.{SegmentView}
 use Rattle.omf_records.specs.Segments.{ComesToEnd}
-use Rattle.omf_cli.specs.Content.{IsContent, HasContent}
+use Rattle.omf_cli.specs.Content.{IsContent, HasContent, HasConstantContent}
 use Rattle.omf_cli.specs.Members.{IsAt}
 use Rattle.omf_cli.proofs.Bodies.{content_same}
 
@@ -28,8 +31,27 @@ member_content s v reader at is =
 pub member_size : (s : Segment) (v : SegmentView) (reader : Reader) (n : ℕ) → IsAt s v → reader ≡ body_reader v.start (fields v.header) v.file.now → HasContent reader n → n ≡ length (body_bytes s)
 member_size s v reader n at is has = has.2 ∙ ap length (content_same reader has.0 (body_bytes s) has.1 (member_content s v reader at is))
 
-pub has_member_size : (s : Segment) (v : SegmentView) (reader : Reader) → IsAt s v → reader ≡ body_reader v.start (fields v.header) v.file.now → HasContent reader (length (body_bytes s))
-has_member_size s v reader at is = (body_bytes s, member_content s v reader at is, refl)
+-- a body of constants is that of a segment of constants, and its size that of the segment's bytes
+pub constant_member : (s : Segment) (v : SegmentView) (reader : Reader) (n : ℕ) → IsAt s v → reader ≡ body_reader v.start (fields v.header) v.file.now → HasConstantContent reader n
+    → HasConstants s × (n ≡ length (body_bytes s))
+constant_member s v reader n at is has =
+    let all = member_run s v reader at is in
+    let same : has.content.founds ≡ s.records = HandsOut-same reader has.content.founds s.records has.content.last all.0 has.content.run all.1 has.content.ended all.2 in (
+      record { each = subst (AllByRecursion (λ (found : ℕ × Record). IsTrue (is_constant found.1))) same has.constant },
+      has.count ∙ ap length (content_same reader has.bytes (body_bytes s) has.content (member_content s v reader at is)),
+    )
+
+pub has_constant_member : (s : Segment) (v : SegmentView) (reader : Reader) → IsAt s v → reader ≡ body_reader v.start (fields v.header) v.file.now → HasConstants s
+    → HasConstantContent reader (length (body_bytes s))
+unfolding body_bytes
+has_constant_member s v reader at is has =
+    let all = member_run s v reader at is in
+    record {
+      bytes = body_bytes s;
+      content = record { founds = s.records; last = all.0; run = all.1; ended = all.2; content = refl };
+      constant = has.each;
+      count = refl;
+    }
 
 -- a view's body comes to END
 pub comes_at : (s : Segment) (v : SegmentView) → IsAt s v → ComesToEnd (body_reader v.start (fields v.header) v.file.now)

@@ -1,12 +1,10 @@
 //! The bytes that the records of a body put into their segment.
 
-ghost use Rattle.std.specs.Prelude.{◌≡◌, ◌↔◌, true, ℕ, ◌<◌, ◌≤◌, ◌++◌, ◌+◌, ◌^◌, List, vec_len, length, replicate, IsTrue, OnOk, IfSome, IfNone};
-ghost use Rattle.std.specs.List.{AllByRecursion};
-ghost use Rattle.omf_format.specs.Record.{Record, is_constant, content_of};
-ghost use Rattle.omf_format.specs.Reading.{Reader, HandsOut};
+ghost use Rattle.std.specs.Prelude.{◌≡◌, ℕ, ◌<◌, ◌≤◌, ◌++◌, ◌+◌, ◌^◌, vec_len, length, replicate, OnOk, IfSome, IfNone};
+ghost use Rattle.omf_format.specs.Record.{is_constant, content_of};
 ghost use Rattle.omf_records.specs.View.{view};
 ghost use Rattle.omf_records.specs.Segments.{ComesToEnd};
-ghost use Rattle.omf_cli.specs.Content.{HasContent, AppendsContent};
+ghost use Rattle.omf_cli.specs.Content.{HasContent, HasConstantContent, AppendsContent};
 
 use omf_records::{Rec, Records};
 use std::alloc::AllocError;
@@ -45,31 +43,12 @@ fn is_constant(rec: &Rec) -> bool
     )
 }
 
-/// Whether the records are END, CONST, LCONST and DS.
-pub fn are_constant(records: Records) -> bool
+/// How many bytes the records put into the segment, or None where one isn't END, CONST, LCONST or DS, or where they are more
+/// than `most`.
+pub fn constant_size(records: Records, most: u32) -> Option<u32>
     requires { ComesToEnd records }
-    ensures { (founds : List (ℕ × Record)) (last : Reader) → HandsOut records.entry founds last → last.ended ≡ true
-        → (IsTrue result ↔ AllByRecursion (λ found. IsTrue (is_constant found.1)) founds) }
-{
-    let mut records = records;
-    'records: loop {
-        match records.next() {
-            Ok(None) => return true,
-            Ok(Some(found)) => {
-                if !is_constant(&found.1) {
-                    return false;
-                }
-            }
-            Err(_) => unreachable!(),
-        }
-    }
-}
-
-/// How many bytes the records put into the segment, or None where they are more than `most`.
-pub fn body_size(records: Records, most: u32) -> Option<u32>
-    requires { ComesToEnd records }
-    ensures size { IfSome result (λ n. (n ≤ most) × HasContent records.entry n) }
-    ensures more { IfNone result ((n : ℕ) → HasContent records.entry n → most < n) }
+    ensures size { IfSome result (λ n. (n ≤ most) × HasConstantContent records.entry n) }
+    ensures none { IfNone result ((n : ℕ) → HasConstantContent records.entry n → most < n) }
 {
     let mut records = records;
     let mut size = 0u64;
@@ -77,6 +56,9 @@ pub fn body_size(records: Records, most: u32) -> Option<u32>
         match records.next() {
             Ok(None) => return Some(size as u32),
             Ok(Some(found)) => {
+                if !is_constant(&found.1) {
+                    return None;
+                }
                 size += content_size(&found.1);
                 if size > u64::from(most) {
                     return None;

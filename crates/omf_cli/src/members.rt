@@ -7,7 +7,7 @@ ghost use Rattle.omf_header.specs.View.{fields};
 ghost use Rattle.omf_records.specs.Segments.{placed, IsPlaced, ComesToEnd, views_of};
 ghost use Rattle.omf_cli.specs.Members.{IsAt, HasFile, AsksNoPlace, AreMembers};
 
-use crate::content::{are_constant, body_size};
+use crate::content::constant_size;
 use omf_header::Header;
 use omf_records::{SegmentList, SegmentView};
 
@@ -21,26 +21,18 @@ fn is_object(form: u8) -> bool
     !matches!(form, 0x02 | 0x04 | 0x08)
 }
 
-/// LENGTH counts the body's bytes and RESSPC.
+/// The records are END, CONST, LCONST and DS, and LENGTH counts their bytes and RESSPC.
 fn is_sized(view: &SegmentView) -> bool
     requires header { IsPlaced (placed view.now) }
     requires comes { ComesToEnd (body_reader view.now.start (fields view.now.header) view.now.file.now) }
-    ensures { (s : Segment) → IsAt s view.now → (IsTrue result ↔ (length (body_bytes s) + s.fields.res_spc ≡ s.fields.length)) }
+    ensures { (s : Segment) → IsAt s view.now
+        → (IsTrue result ↔ (HasConstants s × (length (body_bytes s) + s.fields.res_spc ≡ s.fields.length))) }
 {
-    match body_size(view.records(), view.header.length) {
+    match constant_size(view.records(), view.header.length) {
         Some(size) => u64::from(size) + u64::from(view.header.res_spc)
             == u64::from(view.header.length),
         None => false,
     }
-}
-
-/// The records are END, CONST, LCONST and DS.
-fn has_constants(view: &SegmentView) -> bool
-    requires header { IsPlaced (placed view.now) }
-    requires comes { ComesToEnd (body_reader view.now.start (fields view.now.header) view.now.file.now) }
-    ensures { (s : Segment) → IsAt s view.now → (IsTrue result ↔ HasConstants s) }
-{
-    are_constant(view.records())
 }
 
 /// The header is of an object file's segment that asks for no place.
@@ -57,9 +49,6 @@ fn is_plain(view: &SegmentView) -> bool
     ensures { (s : Segment) → IsAt s view.now → (IsTrue result ↔ IsPlainSegment s) }
 {
     if !asks_no_place(&view.header) {
-        return false;
-    }
-    if !has_constants(view) {
         return false;
     }
     is_sized(view)

@@ -5,7 +5,7 @@ ghost use Rattle.omf_format.specs.Field.{Gives};
 ghost use Rattle.omf_format.specs.Expression.{expression_field};
 ghost use Rattle.omf_format.specs.Super.{are_pages, lows_behind, is_super};
 ghost use Rattle.omf_format.specs.Record.{IsRecord};
-ghost use Rattle.omf_format.specs.Reading.{constant_field, long_constant_field, align_field, org_field, space_field, patch_field, reloc_field, interseg_field, short_reloc_field, short_interseg_field, super_field, using_field, strong_field, attributes_field, label_field, equate_field, formula_field, distance_field, front};
+ghost use Rattle.omf_format.specs.Reading.{constant_field, long_constant_field, align_field, org_field, space_field, patch_field, reloc_field, interseg_field, short_reloc_field, short_interseg_field, super_field, using_field, strong_field, attributes_field, label_field, equate_field, formula_field, distance_field, rows, by_code, front};
 ghost use Rattle.omf_records.specs.View.{view};
 
 use crate::record::Rec;
@@ -339,6 +339,38 @@ fn distance(rest: &[u8], lab_len: u8) -> Result<(Rec<'_>, &[u8]), Flaw>
     Ok((rec, rest))
 }
 
+/// The record behind a code from $E0 on, which is a function of its own so that the commonest records need no large frame.
+#[inline(never)]
+#[tactic(auto, unfolding(omf_format::specs::Reading::rows))]
+fn by_code(code: u8, rest: &[u8], lab_len: u8) -> Result<(Rec<'_>, &[u8]), Flaw>
+    ensures gives { Gives (λ x. (view x.0, x.1.now)) result (by_code (rows lab_len) code rest.now) }
+    ensures no_longer { IfOk result (λ x. length x.1.now ≤ length rest.now) }
+{
+    match code {
+        0xE0 => align(rest),
+        0xE1 => org(rest),
+        0xE2 => reloc(rest),
+        0xE3 => interseg(rest),
+        0xE4 => using(rest, lab_len),
+        0xE5 => strong(rest, lab_len),
+        0xE6 => label(rest, lab_len, true),
+        0xE7 => equate(rest, lab_len, true),
+        0xEB => formula(rest, lab_len, 0xEB),
+        0xEC => formula(rest, lab_len, 0xEC),
+        0xED => formula(rest, lab_len, 0xED),
+        0xEE => distance(rest, lab_len),
+        0xEF => label(rest, lab_len, false),
+        0xF0 => equate(rest, lab_len, false),
+        0xF1 => space(rest),
+        0xF2 => long_constant(rest),
+        0xF3 => formula(rest, lab_len, 0xF3),
+        0xF5 => short_reloc(rest),
+        0xF6 => short_interseg(rest),
+        0xF7 => super_record(rest),
+        _ => Err(Flaw::Unread),
+    }
+}
+
 /// The record, and the bytes behind it.
 #[inline]
 #[tactic(auto, unfolding(omf_format::specs::Reading::front, omf_format::specs::Reading::rows))]
@@ -350,27 +382,12 @@ fn read_front(bytes: &[u8], lab_len: u8) -> Result<(Rec<'_>, &[u8]), Flaw>
         [] => Err(Flaw::Cut),
         [0x00, rest @ ..] => Ok((Rec::End, rest)),
         [n @ 0x01..=0xDF, rest @ ..] => constant(rest, *n),
-        [0xE0, rest @ ..] => align(rest),
-        [0xE1, rest @ ..] => org(rest),
-        [0xE2, rest @ ..] => reloc(rest),
-        [0xE3, rest @ ..] => interseg(rest),
-        [0xE4, rest @ ..] => using(rest, lab_len),
-        [0xE5, rest @ ..] => strong(rest, lab_len),
-        [0xE6, rest @ ..] => label(rest, lab_len, true),
-        [0xE7, rest @ ..] => equate(rest, lab_len, true),
-        [0xEB, rest @ ..] => formula(rest, lab_len, 0xEB),
-        [0xEC, rest @ ..] => formula(rest, lab_len, 0xEC),
-        [0xED, rest @ ..] => formula(rest, lab_len, 0xED),
-        [0xEE, rest @ ..] => distance(rest, lab_len),
-        [0xEF, rest @ ..] => label(rest, lab_len, false),
-        [0xF0, rest @ ..] => equate(rest, lab_len, false),
         [0xF1, rest @ ..] => space(rest),
         [0xF2, rest @ ..] => long_constant(rest),
-        [0xF3, rest @ ..] => formula(rest, lab_len, 0xF3),
-        [0xF5, rest @ ..] => short_reloc(rest),
-        [0xF6, rest @ ..] => short_interseg(rest),
-        [0xF7, rest @ ..] => super_record(rest),
-        [_, ..] => Err(Flaw::Unread),
+        [code, rest @ ..] => match by_code(*code, rest, lab_len) {
+            Ok((rec, rest)) => Ok((rec, rest)),
+            Err(flaw) => Err(flaw),
+        },
     }
 }
 

@@ -47,6 +47,7 @@ impl<'a> Records<'a> {
 
     /// The next record, with the displacement of its code in the file. END is handed out, and None comes after it.
     /// After a fault the same fault comes again. What stands behind END in the segment isn't read.
+    #[inline]
     #[tactic(auto, unfolding(omf_format::specs::Reading::next_answer, omf_format::specs::Reading::after_next))]
     pub fn next(&mut self) -> Result<Option<(u32, Rec<'a>)>, RecordFault>
         ensures answer { seen result ≡ next_answer self.old }
@@ -73,6 +74,8 @@ impl<'a> Records<'a> {
     }
 
     /// A flaw of the next record, with its place.
+    #[cold]
+    #[inline(never)]
     fn fault(&self, flaw: Flaw) -> RecordFault
         ensures { result ≡ fault_at self.now flaw }
     {
