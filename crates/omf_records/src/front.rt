@@ -372,7 +372,7 @@ fn by_code(code: u8, rest: &[u8], lab_len: u8) -> Result<(Rec<'_>, &[u8]), Flaw>
 }
 
 /// The record, and the bytes behind it.
-#[inline]
+#[inline(always)]
 #[tactic(auto, unfolding(omf_format::specs::Reading::front, omf_format::specs::Reading::rows))]
 fn read_front(bytes: &[u8], lab_len: u8) -> Result<(Rec<'_>, &[u8]), Flaw>
     ensures gives { Gives (λ x. (view x.0, x.1.now)) result (front lab_len bytes.now) }
@@ -392,7 +392,7 @@ fn read_front(bytes: &[u8], lab_len: u8) -> Result<(Rec<'_>, &[u8]), Flaw>
 }
 
 /// The record, which is one of the format, and the bytes behind it.
-#[inline]
+#[inline(always)]
 pub fn record_at_front(bytes: &[u8], lab_len: u8) -> Result<(Rec<'_>, &[u8]), Flaw>
     ensures gives { Gives (λ x. (view x.0, x.1.now)) result (front lab_len bytes.now) }
     ensures formed { IfOk result (λ x. IsRecord lab_len (view x.0)) }
