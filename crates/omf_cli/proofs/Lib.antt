@@ -1,3 +1,4 @@
+pub mod Walks
 pub mod Bodies
 pub mod MemberBodies
 pub mod MemberLists
@@ -6,7 +7,6 @@ pub mod Linked
 pub mod FewWords
 pub mod Runs
 pub mod Listings
-pub mod Constants
 pub mod Scripts
 pub mod UnderWay
 pub mod ScriptWords

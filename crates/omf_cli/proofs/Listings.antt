@@ -1,53 +1,15 @@
--- The listing of a file, as far as it has come.
-use Rattle.std.proofs.Common.{◌≡◌, ℕ, zero, suc, ◌+◌, true, List, [], ◌∷◌, ◌++◌, take, Some, None, Ok, Err, refl, sym, ap, ◌∙◌, append_assoc, arith}
+-- The listing of a file's segments, as far as it has come.
+use Rattle.std.proofs.Common.{◌≡◌, ℕ, zero, suc, ◌+◌, List, [], ◌∷◌, ◌++◌, take, Some, sym, ap, ◌∙◌, append_assoc, arith}
 use Rattle.std.specs.List.{flat_map}
 use Rattle.std.proofs.lemmas.List.{append-nil}
-use Rattle.std.proofs.lemmas.Grind.{flat_map-append}
-use Rattle.omf_format.specs.declared.fault.RecordFault.{RecordFault}
 use Rattle.omf_format.specs.Record.{Record}
-use Rattle.omf_format.specs.Reading.{Reader, next_answer, after_next, HandsOut}
-use Rattle.omf_format.specs.FileLaws.{ended_at_none, HandsOut-append, HandsOut-same, no_run}
-use Rattle.omf_records.specs.Segments.{ComesToEnd}
 use Rattle.std.specs.Prelude.{slice_get}
 use Rattle.omf_format.specs.Header.{Fields}
 use Rattle.omf_format.specs.File.{Segment}
 use Rattle.omf_cli.specs.Listing.{segment_line, record_line, segment_text, listing_from}
 
--- ---- records
-
 abbrev lines_of : List (ℕ × Record) → List ℕ
 lines_of founds = flat_map record_line founds
-
--- the way from one reader to another, and the lines of its records
-pub record Showed (start at : Reader) (lines : List ℕ) : Type 0 where
-  pub before : List (ℕ × Record)
-  pub run : HandsOut start before at
-  pub is : lines ≡ flat_map record_line before
-
-pub showed_none : (r : Reader) → Showed r r []
-showed_none r = record { before = []; run = refl; is = refl }
-
-pub showed_more : (start at next : Reader) (found : ℕ × Record) (lines : List ℕ) → Showed start at lines → next_answer at ≡ Ok (Some found) → next ≡ after_next at
-    → Showed start next (lines ++ record_line found)
-showed_more start at next found lines showed e after = record {
-  before = showed.before ++ found ∷ [];
-  run = HandsOut-append start showed.before (found ∷ []) at next showed.run (e, sym after);
-  is =
-      ap (λ (l : List ℕ). l ++ record_line found) showed.is
-      ∙ ap (λ (l : List ℕ). lines_of showed.before ++ l) (sym (append-nil (record_line found)))
-      ∙ sym (flat_map-append record_line showed.before (found ∷ []));
-}
-
--- at the end all lines were shown
-pub showed_all : (start at last : Reader) (lines : List ℕ) (founds : List (ℕ × Record)) → Showed start at lines → next_answer at ≡ Ok None → HandsOut start founds last → last.ended ≡ true → lines ≡ lines_of founds
-showed_all start at last lines founds showed e run ended =
-    showed.is ∙ ap lines_of (HandsOut-same start showed.before founds at last showed.run run (ended_at_none at e) ended)
-
--- no fault comes
-pub none_fails : (start at : Reader) (lines : List ℕ) (fault : RecordFault) → ComesToEnd start → Showed start at lines → next_answer at ≡ Err fault → ⊥
-none_fails start at lines fault comes showed e = no_run start showed.before comes.records at comes.last fault showed.run e comes.run comes.ended
-
--- ---- segments
 
 -- the line of a segment and those of its records
 pub segment_text_is : (number start : ℕ) (f : Fields) (s : Segment) → s.start ≡ start → s.fields ≡ f → segment_line number start f ++ flat_map record_line s.records ≡ segment_text number s

@@ -1,13 +1,16 @@
-use Rattle.std.proofs.Common.{◌≤◌, length}
-use Rattle.omf_cli.proofs.Bodies.{SoFar}
-use Rattle.omf_cli.proofs.Constants.{Constant}
+use Rattle.std.proofs.Common.{◌≡◌, ◌≤◌, List, ℕ, length}
+use Rattle.omf_format.specs.Record.{Record}
+use Rattle.omf_format.specs.Reading.{HandsOut}
+use Rattle.omf_cli.proofs.Bodies.{content, AreConstant}
 use Rattle.omf_cli.proofs.content.constant_size.Given as goal
 
 -- the records so far are constants, and put this many bytes into the segment
 abbrev pub invariant-records : goal.invariant-records
 invariant-records l = record {
-  so_far : SoFar l.initial.records l.records l.size;
-  constant : Constant l.initial.records l.records;
+  before : List (ℕ × Record);
+  run : HandsOut l.initial.records before l.records;
+  constant : AreConstant before;
+  size' : l.size ≡ length (content before);
   within : l.size ≤ l.most;
 }
 
