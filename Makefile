@@ -2,8 +2,9 @@
 # make demo    builds it, and runs the main job on real files
 # make test    proves everything and runs every test
 # make bench   measures the program's speed
+# make refuse  runs the examples with each allocation refused in turn
 
-.PHONY: build demo test bench
+.PHONY: build demo test bench refuse
 
 build:
 	tools/build
@@ -18,3 +19,6 @@ test:
 
 bench: build
 	bench/run build/omf
+
+refuse: build
+	tools/refuse build/omf

@@ -207,5 +207,5 @@ pub fn free_bytes(bank: u32) -> u32
     ensures value { result ≡ last_free bank - first bank }
     ensures small { result ≤ 0x10000 }
 {
-    free_end(bank).saturating_sub(first_free(bank))
+    free_end(bank) - first_free(bank)
 }

@@ -6,13 +6,13 @@ use Rattle.omf_base.specs.declared.line.LineFault.{LineFault}
 use Rattle.omf_format.specs.File.{Segment, IsFile}
 use Rattle.omf_format.specs.Plain.{IsPlain}
 use Rattle.omf_io.specs.Counts.{Told}
-use Rattle.omf_io.specs.Files.{FileMap}
+use Rattle.omf_io.specs.Files.{FileMap, IsRead, IsUnread}
 use Rattle.omf_cli.specs.declared.ending.LinkEnd.TheVariants as end
 use Rattle.omf_cli.specs.declared.status.Status.{Status}
 use Rattle.omf_cli.specs.declared.status.Status.TheVariants as status
 use Rattle.omf_cli.specs.Words.{IsLink, IsDump, IsRun, Reads, IsUsage}
 use Rattle.omf_cli.specs.Lines.{usage_line, cannot_read_line, cannot_write_line, refused_line}
-use Rattle.omf_cli.specs.Tool.{Outside, Prints, EndsUsage, EndsUnread, EndsRefused, EndsUnwritten, EndsListed, EndsFaulty, EndsBadScript, EndsWith, AsUsage, AsListed, AsFaulty, AsBadScript, AsUnread, AsRefused, AsUnwritten, IsInput, CannotBeRead, GetsDone, GetsListed, HasRun}
+use Rattle.omf_cli.specs.Tool.{Outside, Prints, EndsUsage, EndsUnread, EndsRefused, EndsUnwritten, EndsListed, EndsFaulty, EndsBadScript, EndsWith, AsUsage, AsListed, AsFaulty, AsBadScript, AsUnread, AsRefused, AsUnwritten, GetsDone, GetsListed, HasRun}
 use Rattle.omf_cli.specs.Listing.{cause_name}
 use Rattle.omf_cli.specs.declared.ending.Dumped.TheVariants as dumped
 use Rattle.omf_cli.specs.declared.ending.ScriptRead.TheVariants as script
@@ -53,7 +53,7 @@ tells_usage words o result line usage held count is printed =
     tells words o usage_line status.Usage result line (AsUsage ends) (λ p. (usage_line, ends, p)) is printed
 
 pub tells_unread : (words : List (List ℕ)) (o : Outside) (input : List ℕ) (result : Status) (line : Result (List ℕ) LineFault) → Reads words input
-    → CannotBeRead input o.held o.faults o.new_faults × (o.new_held ≡ o.held)
+    → IsUnread o.held input o.faults o.new_faults × (o.new_held ≡ o.held)
     → IfOk line (λ t. t ≡ cannot_read_line input) → IsPrinted line status.CannotRead result o.written o.new_written o.print_faults o.new_print_faults → HasRun result words o
 tells_unread words o input result line form ended is printed =
     let text = cannot_read_line input in
@@ -152,7 +152,7 @@ no_plain [] file none is plain = plain.some refl
 no_plain (s ∷ segments) file none is plain = absurd (omega (arith, ap length none))
 
 -- the input that was read is the held one
-read_held : (held : Option FileMap) (told : FileMap) (path file other : List ℕ) → held ≡ Some told → get told path ≡ Some file → IsInput path held other → other ≡ file
+read_held : (held : Option FileMap) (told : FileMap) (path file other : List ℕ) → held ≡ Some told → get told path ≡ Some file → IsRead held path other → other ≡ file
 read_held held told path file other is found read =
     let same : Told (Some told) (λ files. get files path ≡ Some other) = subst (λ (h : Option FileMap). Told h (λ files. get files path ≡ Some other)) is read.1 in
     by_some (sym same ∙ found)
@@ -166,7 +166,7 @@ read_held held told path file other is found read =
 pub not_empty : (words : List (List ℕ)) (o : Outside) (output input : List ℕ) → IsLink words output input → HasEnded end.Empty output input o.held o.new_held o.faults o.new_faults → GetsDone words o → ⊥
 not_empty words o output input form ended gets =
     let same = same_input words output input gets.output gets.input form gets.form in
-    let read = subst (λ (path : List ℕ). IsInput path o.held ended.file) same ended.read in
+    let read = subst (λ (path : List ℕ). IsRead o.held path ended.file) same ended.read in
     let file = read_held o.held gets.told gets.input gets.file ended.file gets.is_told gets.held' read in
     no_plain gets.linked.segments gets.file (sym file ∙ ended.why) gets.linked.is_file gets.linked.plain
 
@@ -178,7 +178,7 @@ same_path words a b p q = let both : codes "dump" ∷ a ∷ [] ≡ codes "dump" 
 pub not_faulty : (words : List (List ℕ)) (o : Outside) (input : List ℕ) (fault : FileFault) → IsDump words input → HasDumped (dumped.Refused fault) input o.held o.new_held o.faults o.new_faults → GetsListed words o → ⊥
 not_faulty words o input fault form ended gets =
     let same = same_path words input gets.input form gets.form in
-    let read = subst (λ (path : List ℕ). IsInput path o.held ended.file) same ended.read in
+    let read = subst (λ (path : List ℕ). IsRead o.held path ended.file) same ended.read in
     let file = read_held o.held gets.told gets.input gets.file ended.file gets.is_told gets.held' read in
     no_file ended.file fault gets.listing.segments ended.why (subst (IsFile gets.listing.segments) (sym file) gets.listing.is_file)
 
@@ -256,6 +256,6 @@ same_script words a b p q = let both : codes "run" ∷ a ∷ [] ≡ codes "run" 
 pub not_bad_script : (words : List (List ℕ)) (o : Outside) (input : List ℕ) (fault : ScriptFault) → IsRun words input → HasReadScript (script.Refused fault) input o.held o.new_held o.faults o.new_faults → GetsRun words o → ⊥
 not_bad_script words o input fault form ended gets =
     let same = same_script words input gets.input form gets.form in
-    let read = subst (λ (path : List ℕ). IsInput path o.held ended.file) same ended.read in
+    let read = subst (λ (path : List ℕ). IsRead o.held path ended.file) same ended.read in
     let file = read_held o.held gets.told gets.input gets.file ended.file gets.is_told gets.held' read in
     no_script ended.file gets.commands fault.line fault.cause (subst (λ (text : List ℕ). IsScript text gets.commands) (sym file) gets.script) ended.why

@@ -6,7 +6,7 @@ use Rattle.std.proofs.lemmas.List.{length-map, append-nil}
 use Rattle.std.proofs.lemmas.Bool.Decides.{nat_tests}
 use Rattle.omf_base.specs.declared.line.LineFault.{LineFault}
 use Rattle.omf_io.specs.Counts.{Rose, ToldOr}
-use Rattle.omf_io.specs.Files.{FileMap}
+use Rattle.omf_io.specs.Files.{FileMap, IsUnread}
 use Rattle.omf_io.specs.Sinks.{with_text}
 use Rattle.loader_machine.specs.declared.faults.LoaderFault.{LoaderFault}
 use Rattle.loader_machine.specs.declared.faults.LoaderFault.TheVariants.{NoUser, NoSegment, OutOfSegment, TooManyUsers, CannotRead, Unbuilt, NoRoom, Memory}
@@ -18,7 +18,7 @@ use Rattle.loader_machine.specs.Transcript.{IsAnswered, AreAnswered, Trans}
 use Rattle.loader_machine.specs.Replies.{reply_line, replies_text}
 use Rattle.sys_loader.specs.declared.loader.Started.{Started}
 use Rattle.sys_loader.specs.Loaded.{Loaded, Agrees, user_in}
-use Rattle.sys_loader.specs.Calls.{IsUnread, HasLoaded, IsLoadFault, IsLentFault}
+use Rattle.sys_loader.specs.Calls.{HasLoaded, IsLoadFault, IsLentFault}
 use Rattle.sys_loader.specs.Meets.{MeetsLoad}
 use Rattle.omf_cli.specs.declared.status.Status.{Status}
 use Rattle.omf_cli.specs.declared.status.Status.TheVariants as status

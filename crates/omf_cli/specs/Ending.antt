@@ -3,7 +3,7 @@ use Rattle.std.specs.Prelude.{◌≡◌, ℕ, List, [], Option, Result, Ok, Err}
 use Rattle.omf_base.specs.declared.line.LineFault.{LineFault}
 use Rattle.omf_format.specs.Plain.{IsLinkedTo, IsUnbuilt}
 use Rattle.omf_io.specs.Counts.{Rose, IsFront}
-use Rattle.omf_io.specs.Files.{FileMap, with_file}
+use Rattle.omf_io.specs.Files.{FileMap, with_file, IsRead, IsUnread}
 use Rattle.omf_io.specs.Sinks.{with_text}
 use Rattle.omf_cli.specs.declared.ending.LinkEnd.{LinkEnd}
 use Rattle.omf_cli.specs.declared.ending.LinkEnd.TheVariants.{Done, Unread, Empty, Unbuilt, Unwritten, Memory}
@@ -16,12 +16,11 @@ use Rattle.omf_cli.specs.declared.ending.ScriptRead.TheVariants as script
 use Rattle.loader_machine.specs.Script.{IsScript, HasScriptFault}
 use Rattle.omf_format.specs.File.{IsFirstFault}
 use Rattle.omf_cli.specs.Listing.{IsListing}
-use Rattle.omf_cli.specs.Tool.{IsInput, CannotBeRead}
 
 -- the output stands at its path
 pub record HasLinked (output input : List ℕ) (held new_held : Option FileMap) (faults new_faults : ℕ) : Type 0 where
   pub file : List ℕ
-  pub read : IsInput input held file
+  pub read : IsRead held input file
   pub bytes : List ℕ
   pub linked : IsLinkedTo file bytes
   pub files : new_held ≡ with_file held output bytes
@@ -30,7 +29,7 @@ pub record HasLinked (output input : List ℕ) (held new_held : Option FileMap) 
 -- of the input that was read this holds, and the store is as before
 pub record HasReadFile (P : List ℕ → Type 0) (input : List ℕ) (held new_held : Option FileMap) (faults new_faults : ℕ) : Type 0 where
   pub file : List ℕ
-  pub read : IsInput input held file
+  pub read : IsRead held input file
   pub why : P file
   pub files : new_held ≡ held
   pub count : new_faults ≡ faults
@@ -38,7 +37,7 @@ pub record HasReadFile (P : List ℕ → Type 0) (input : List ℕ) (held new_he
 -- a front of the output stands at its path
 pub record HasFailed (output input : List ℕ) (held new_held : Option FileMap) (faults new_faults : ℕ) : Type 0 where
   pub file : List ℕ
-  pub read : IsInput input held file
+  pub read : IsRead held input file
   pub bytes : List ℕ
   pub linked : IsLinkedTo file bytes
   pub front : List ℕ
@@ -49,7 +48,7 @@ pub record HasFailed (output input : List ℕ) (held new_held : Option FileMap) 
 -- what each end says of the store
 abbrev pub HasEnded : LinkEnd → List ℕ → List ℕ → Option FileMap → Option FileMap → ℕ → ℕ → Type 0
 HasEnded Done output input held new_held faults new_faults = HasLinked output input held new_held faults new_faults
-HasEnded Unread output input held new_held faults new_faults = CannotBeRead input held faults new_faults × (new_held ≡ held)
+HasEnded Unread output input held new_held faults new_faults = IsUnread held input faults new_faults × (new_held ≡ held)
 HasEnded Empty output input held new_held faults new_faults = HasReadFile (λ file. file ≡ []) input held new_held faults new_faults
 HasEnded Unbuilt output input held new_held faults new_faults =
     HasReadFile (λ file. (file ≡ [] → ⊥) × IsUnbuilt file) input held new_held faults new_faults
@@ -67,14 +66,14 @@ IsDumpOf dumped.Memory file = Unit {0}
 abbrev pub HasDumped : Dumped → List ℕ → Option FileMap → Option FileMap → ℕ → ℕ → Type 0
 HasDumped (dumped.Listed text) input held new_held faults new_faults = HasReadFile (λ file. IsListing file text) input held new_held faults new_faults
 HasDumped (dumped.Refused fault) input held new_held faults new_faults = HasReadFile (λ file. IsFirstFault file fault) input held new_held faults new_faults
-HasDumped dumped.Unread input held new_held faults new_faults = CannotBeRead input held faults new_faults × (new_held ≡ held)
+HasDumped dumped.Unread input held new_held faults new_faults = IsUnread held input faults new_faults × (new_held ≡ held)
 HasDumped dumped.Memory input held new_held faults new_faults = (new_held ≡ held) × (new_faults ≡ faults)
 
 -- what reading a script says of the store and of the text
 abbrev pub HasReadScript : ScriptRead → List ℕ → Option FileMap → Option FileMap → ℕ → ℕ → Type 0
 HasReadScript (script.Commands commands) input held new_held faults new_faults = HasReadFile (λ file. IsScript file commands) input held new_held faults new_faults
 HasReadScript (script.Refused fault) input held new_held faults new_faults = HasReadFile (λ file. HasScriptFault file fault) input held new_held faults new_faults
-HasReadScript script.Unread input held new_held faults new_faults = CannotBeRead input held faults new_faults × (new_held ≡ held)
+HasReadScript script.Unread input held new_held faults new_faults = IsUnread held input faults new_faults × (new_held ≡ held)
 HasReadScript script.Memory input held new_held faults new_faults = (new_held ≡ held) × (new_faults ≡ faults)
 
 -- the same of the text alone

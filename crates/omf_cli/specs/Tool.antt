@@ -4,9 +4,8 @@ use Rattle.std.specs.FinMap.{get}
 use Rattle.omf_format.specs.declared.fault.FileFault.{FileFault}
 use Rattle.omf_format.specs.File.{IsFirstFault}
 use Rattle.omf_format.specs.Plain.{IsLinkedTo, IsUnbuilt}
-use Rattle.omf_io.specs.declared.files.ReadFault.TheVariants as read
-use Rattle.omf_io.specs.Counts.{Rose, Told, IsFront}
-use Rattle.omf_io.specs.Files.{FileMap, max_file, with_file, ReadFailed}
+use Rattle.omf_io.specs.Counts.{Rose, IsFront}
+use Rattle.omf_io.specs.Files.{FileMap, max_file, with_file, IsRead, IsUnread}
 use Rattle.omf_io.specs.Sinks.{with_text}
 use Rattle.omf_cli.specs.declared.status.Status.{Status}
 use Rattle.omf_cli.specs.declared.status.Status.TheVariants.{Done, Refused, Usage, CannotRead, CannotWrite, CannotPrint, Memory}
@@ -63,16 +62,6 @@ FailsToPrint text o =
 abbrev pub IsUntouched : Outside → Type 0
 IsUntouched o = (o.new_held ≡ o.held) × (o.new_faults ≡ o.faults)
 
--- the input that was read: the held file, where files are told
-abbrev pub IsInput : List ℕ → Option FileMap → List ℕ → Type 0
-IsInput path held file = (length file ≤ max_file) × Told held (λ files. get files path ≡ Some file)
-
--- a read of the path answered that it isn't held, that its file is too long, or that it failed
-abbrev pub CannotBeRead : List ℕ → Option FileMap → ℕ → ℕ → Type 0
-CannotBeRead path held faults new_faults =
-    ReadFailed read.Absent held path faults new_faults
-    ⊎ (ReadFailed read.TooLong held path faults new_faults ⊎ ReadFailed read.Failed held path faults new_faults)
-
 -- ---- how a run ends
 
 -- the output is that of the input, and stands at its path
@@ -81,7 +70,7 @@ pub record EndsDone (words : List (List ℕ)) (o : Outside) : Type 0 where
   pub input : List ℕ
   pub form : IsLink words output input
   pub file : List ℕ
-  pub read : IsInput input o.held file
+  pub read : IsRead o.held input file
   pub bytes : List ℕ
   pub linked : IsLinkedTo file bytes
   pub files : o.new_held ≡ with_file o.held output bytes
@@ -98,7 +87,7 @@ pub record EndsListed (words : List (List ℕ)) (o : Outside) (text : List ℕ) 
   pub input : List ℕ
   pub form : IsDump words input
   pub file : List ℕ
-  pub read : IsInput input o.held file
+  pub read : IsRead o.held input file
   pub listing : IsListing file text
   pub files : IsUntouched o
 
@@ -106,7 +95,7 @@ pub record EndsListed (words : List (List ℕ)) (o : Outside) (text : List ℕ) 
 pub record EndsUnread (words : List (List ℕ)) (o : Outside) (text : List ℕ) : Type 0 where
   pub input : List ℕ
   pub form : Reads words input
-  pub cause : CannotBeRead input o.held o.faults o.new_faults
+  pub cause : IsUnread o.held input o.faults o.new_faults
   pub files : o.new_held ≡ o.held
   pub line : text ≡ cannot_read_line input
 
@@ -115,7 +104,7 @@ pub record EndsFaulty (words : List (List ℕ)) (o : Outside) (text : List ℕ) 
   pub input : List ℕ
   pub form : IsDump words input
   pub file : List ℕ
-  pub read : IsInput input o.held file
+  pub read : IsRead o.held input file
   pub fault : FileFault
   pub first : IsFirstFault file fault
   pub line : text ≡ refused_line (cause_name fault.cause) 1 fault.segment fault.at
@@ -126,7 +115,7 @@ pub record EndsRan (words : List (List ℕ)) (o : Outside) (text : List ℕ) : T
   pub input : List ℕ
   pub form : IsRun words input
   pub file : List ℕ
-  pub read : IsInput input o.held file
+  pub read : IsRead o.held input file
   pub commands : List Command
   pub script : IsScript file commands
   pub replied : IsReplied o.held commands text o.faults o.new_faults
@@ -137,7 +126,7 @@ pub record EndsCut (words : List (List ℕ)) (o : Outside) (text : List ℕ) : T
   pub input : List ℕ
   pub form : IsRun words input
   pub file : List ℕ
-  pub read : IsInput input o.held file
+  pub read : IsRead o.held input file
   pub commands : List Command
   pub script : IsScript file commands
   pub replied : IsCut o.held commands text o.faults o.new_faults
@@ -148,7 +137,7 @@ pub record EndsBadScript (words : List (List ℕ)) (o : Outside) (text : List �
   pub input : List ℕ
   pub form : IsRun words input
   pub file : List ℕ
-  pub read : IsInput input o.held file
+  pub read : IsRead o.held input file
   pub fault : ScriptFault
   pub first : HasScriptFault file fault
   pub line : text ≡ script_line (script_cause_name fault.cause) fault.line
@@ -160,7 +149,7 @@ pub record EndsRefused (words : List (List ℕ)) (o : Outside) (text : List ℕ)
   pub input : List ℕ
   pub form : IsLink words output input
   pub file : List ℕ
-  pub read : IsInput input o.held file
+  pub read : IsRead o.held input file
   pub cause : ((file ≡ []) × (text ≡ refused_line (codes "Empty") 0 0 0))
       ⊎ ((file ≡ [] → ⊥) × IsUnbuilt file × (text ≡ refused_line (codes "Unbuilt") 0 0 0))
   pub files : IsUntouched o
@@ -171,7 +160,7 @@ pub record EndsUnwritten (words : List (List ℕ)) (o : Outside) (text : List �
   pub input : List ℕ
   pub form : IsLink words output input
   pub file : List ℕ
-  pub read : IsInput input o.held file
+  pub read : IsRead o.held input file
   pub bytes : List ℕ
   pub linked : IsLinkedTo file bytes
   pub front : List ℕ

@@ -1,5 +1,5 @@
 -- Stores of files: what is held, and what a read and a write may answer.
-use Rattle.std.specs.Prelude.{◌≡◌, ◌≢◌, ℕ, ◌<◌, ◌≤◌, List, length, Option, None, Some, IsSomeAnd}
+use Rattle.std.specs.Prelude.{◌≡◌, ◌≢◌, ◌⊎◌, ℕ, ◌<◌, ◌≤◌, List, length, Option, None, Some, IsSomeAnd}
 use Rattle.std.specs.Option.{option_map}
 use Rattle.std.specs.FinMap.{FinMap, get, insert}
 use Rattle.std.specs.Cmp.Lexicographic.{slice_cmp}
@@ -35,6 +35,16 @@ ReadFailed read.TooLong held path before now =
     ToldOr held (Rose before now) (λ files. IsSomeAnd (get files path) (λ bytes. max_file < length bytes) × (now ≡ before))
 ReadFailed read.Failed held path before now = Rose before now
 ReadFailed read.Memory held path before now = now ≡ before
+
+-- the file that a read gave: the held one, where files are told
+abbrev pub IsRead : Option FileMap → List ℕ → List ℕ → Type 0
+IsRead held path file = (length file ≤ max_file) × Told held (λ files. get files path ≡ Some file)
+
+-- a read answered that the path isn't held, that its file is too long, or that it failed
+abbrev pub IsUnread : Option FileMap → List ℕ → ℕ → ℕ → Type 0
+IsUnread held path before now =
+    ReadFailed read.Absent held path before now
+    ⊎ (ReadFailed read.TooLong held path before now ⊎ ReadFailed read.Failed held path before now)
 
 -- what a write that took all the bytes did
 abbrev pub HasWritten : List ℕ → Option FileMap → Option FileMap → List ℕ → ℕ → ℕ → Type 0

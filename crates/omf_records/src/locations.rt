@@ -30,8 +30,11 @@ impl<'a> Locations<'a> {
     /// The locations of these subrecords. A location is an offset in the segment, and may lie above 32 bits.
     pub fn of(bytes: &'a [u8]) -> Locations<'a>
         requires { length bytes.now < 2 ^ 32 }
-        ensures { (pages : List Page) → AllByRecursion IsPage pages → bytes.now ≡ flat_map page_text pages
+        ensures pages { (pages : List Page) → AllByRecursion IsPage pages → bytes.now ≡ flat_map page_text pages
             → result ≡ locations_from 0 pages }
+
+        // Of other bytes they are those that come before the bytes end.
+        ensures any { result ≡ locations_left 0 0 bytes.now }
     {
         Locations {
             left: bytes,

@@ -9,7 +9,7 @@ use Rattle.omf_format.specs.File.{Segment}
 use Rattle.omf_format.specs.Cells.{segment_at, segment_bytes}
 use Rattle.omf_format.specs.CellLaws.{cells-bytes, length-segment_bytes, loadable_at}
 use Rattle.omf_io.specs.Counts.{Told, Rose, IsFront}
-use Rattle.omf_io.specs.Files.{FileMap}
+use Rattle.omf_io.specs.Files.{FileMap, IsRead, IsUnread}
 use Rattle.loader_machine.specs.declared.slots.Slot.{Slot}
 use Rattle.loader_machine.specs.declared.wants.Block.{Block}
 use Rattle.loader_machine.specs.declared.faults.LoaderFault.{LoaderFault}
@@ -20,7 +20,7 @@ use Rattle.loader_machine.specs.Machine.{Machine, first_id, max_users, user_of, 
 use Rattle.loader_machine.specs.Step as step
 use Rattle.sys_loader.specs.declared.loader.Started.{Started}
 use Rattle.sys_loader.specs.Loaded.{Kept, Loaded, user_in, UserAgrees, Agrees}
-use Rattle.sys_loader.specs.Calls.{IsRead, IsUnread, HasBegun, IsLoadFault, HasLoaded, HasLent, IsLentFault}
+use Rattle.sys_loader.specs.Calls.{HasBegun, IsLoadFault, HasLoaded, HasLent, IsLentFault}
 use Rattle.sys_loader.specs.Meets.{MeetsRefusal, MeetsLoad}
 use Rattle.sys_loader.proofs.Lists.{slice_get-push}
 use Rattle.sys_loader.proofs.Loads.{stands-bytes}

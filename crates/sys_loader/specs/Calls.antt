@@ -1,10 +1,8 @@
 -- What each call of a loader does, whether the store tells its files or not.
-use Rattle.std.specs.Prelude.{◌≡◌, ◌≢◌, ◌⊎◌, ℕ, ◌+◌, ◌<◌, ◌≤◌, true, List, [], ◌∷◌, ◌++◌, length, take, drop, Option, Some, None, IsSome, IsSomeAnd, slice_get, Result, Ok, Err}
-use Rattle.std.specs.FinMap.{get}
+use Rattle.std.specs.Prelude.{◌≡◌, ◌≢◌, ℕ, ◌+◌, ◌<◌, ◌≤◌, true, List, [], ◌∷◌, ◌++◌, length, take, drop, Option, Some, None, IsSome, IsSomeAnd, slice_get, Result, Ok, Err}
 use Rattle.omf_format.specs.File.{Segment}
-use Rattle.omf_io.specs.declared.files.ReadFault.TheVariants as read
-use Rattle.omf_io.specs.Counts.{Told, IsFront}
-use Rattle.omf_io.specs.Files.{FileMap, max_file, ReadFailed}
+use Rattle.omf_io.specs.Counts.{IsFront}
+use Rattle.omf_io.specs.Files.{FileMap, IsRead, IsUnread}
 use Rattle.loader_machine.specs.declared.handles.Handle.{Handle}
 use Rattle.loader_machine.specs.declared.faults.LoaderFault.{LoaderFault}
 use Rattle.loader_machine.specs.declared.faults.LoaderFault.TheVariants.{NoUser, NoSegment, OutOfSegment, TooManyUsers, CannotRead, Unbuilt, NoRoom, Memory}
@@ -14,16 +12,6 @@ use Rattle.loader_machine.specs.Memory.{placed, bytes_at}
 use Rattle.loader_machine.specs.Machine.{max_users, first_id, user_of, CanLoad, wanted, entry_of, stands}
 use Rattle.sys_loader.specs.declared.loader.Started.{Started}
 use Rattle.sys_loader.specs.Loaded.{Kept, Loaded}
-
--- the file that a read gave: the held one, where files are told
-abbrev pub IsRead : Option FileMap → List ℕ → List ℕ → Type 0
-IsRead held path file = (length file ≤ max_file) × Told held (λ files. get files path ≡ Some file)
-
--- a read answered that the path isn't held, that its file is too long, or that it failed
-abbrev pub IsUnread : Option FileMap → List ℕ → ℕ → ℕ → Type 0
-IsUnread held path before now =
-    ReadFailed read.Absent held path before now
-    ⊎ (ReadFailed read.TooLong held path before now ⊎ ReadFailed read.Failed held path before now)
 
 -- the segment is in a new block where it goes, locked with level 0, which begins with its bytes; there is one user more, and
 -- the blocks of the users before it are as they were
