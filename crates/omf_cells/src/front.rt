@@ -1,14 +1,14 @@
 //! The front of a load segment: its header, and then its name and type.
 
 ghost use Rattle.std.specs.Prelude.{◌≡◌, ◌+◌, ◌<◌, ◌≤◌, ◌^◌, length, drop, IfOk, IfErr, Some};
-ghost use Rattle.omf_format.specs.Header.{displacement_of, form_of};
+ghost use Rattle.omf_format.specs.Header.{form_of};
 ghost use Rattle.omf_format.specs.Loadable.{is_express, segment_refusal};
 ghost use Rattle.omf_header.specs.View.{fields};
 ghost use Rattle.omf_records.specs.Segments.{HasPlace};
 ghost use Rattle.omf_cells.specs.Load.{IsLoadHeader, IsReadRefused, IsHeaderFault};
 
-use omf_format::{Field, HeaderFault, LoadCause, LoadFault};
-use omf_header::{Header, read_header};
+use omf_format::{HeaderFault, LoadCause, LoadFault};
+use omf_header::{Header, displacement_of, read_header};
 use std::alloc::Global;
 
 /// The header that stands there, in the segment with this number.
@@ -90,22 +90,5 @@ fn header_fault(fault: HeaderFault, segment: u32, start: u32) -> LoadFault
             segment: 0,
             at: 0,
         },
-    }
-}
-
-/// Where in the header a field stands.
-fn displacement_of(field: Field) -> u32
-    ensures value { result ≡ displacement_of field }
-    ensures small { result < 44 }
-{
-    match field {
-        Field::NumLen => 0x0E,
-        Field::Version => 0x0F,
-        Field::BankSize => 0x10,
-        Field::Kind => 0x14,
-        Field::NumSex => 0x20,
-        Field::DispName => 0x28,
-        Field::DispData => 0x2A,
-        Field::ResSpc => 0x04,
     }
 }

@@ -1,15 +1,14 @@
 //! The headers and records of a file's segments, checked in order.
 
 ghost use Rattle.std.specs.Prelude.{◌≡◌, ◌+◌, ◌<◌, ◌≤◌, ◌^◌, length, drop, OnOk, IfOk, IfErr};
-ghost use Rattle.omf_format.specs.Header.{displacement_of};
 ghost use Rattle.omf_format.specs.File.{body_reader, IsHeader, SaysRecord};
 ghost use Rattle.omf_header.specs.View.{fields};
 ghost use Rattle.omf_records.specs.Segments.{placed, IsPlaced, ComesToEnd, StandsAt, HasRecordFault, IsSegmentFault, IsHeaderFault, HasPlace};
 
 use crate::reading::Records;
 use crate::segment::SegmentView;
-use omf_format::{Field, FileCause, FileFault, HeaderFault, RecordFault};
-use omf_header::{Header, read_header};
+use omf_format::{FileCause, FileFault, HeaderFault, RecordFault};
+use omf_header::{Header, displacement_of, read_header};
 use std::alloc::Global;
 
 /// The header that stands there, in the segment with this number.
@@ -60,23 +59,6 @@ fn file_fault(fault: HeaderFault, segment: u32, start: u32) -> FileFault
             segment: 0,
             at: 0,
         },
-    }
-}
-
-/// Where in the header a field stands.
-fn displacement_of(field: Field) -> u32
-    ensures value { result ≡ displacement_of field }
-    ensures small { result < 44 }
-{
-    match field {
-        Field::NumLen => 0x0E,
-        Field::Version => 0x0F,
-        Field::BankSize => 0x10,
-        Field::Kind => 0x14,
-        Field::NumSex => 0x20,
-        Field::DispName => 0x28,
-        Field::DispData => 0x2A,
-        Field::ResSpc => 0x04,
     }
 }
 

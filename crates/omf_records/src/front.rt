@@ -339,7 +339,7 @@ fn distance(rest: &[u8], lab_len: u8) -> Result<(Rec<'_>, &[u8]), Flaw>
     Ok((rec, rest))
 }
 
-/// The record behind a code from $E0 on, which is a function of its own so that the commonest records need no large frame.
+/// The record behind a code from $E0 on. It is no part of the loops over records, which would grow large and slow by it.
 #[inline(never)]
 #[tactic(auto, unfolding(omf_format::specs::Reading::rows))]
 fn by_code(code: u8, rest: &[u8], lab_len: u8) -> Result<(Rec<'_>, &[u8]), Flaw>
@@ -384,6 +384,7 @@ fn read_front(bytes: &[u8], lab_len: u8) -> Result<(Rec<'_>, &[u8]), Flaw>
         [n @ 0x01..=0xDF, rest @ ..] => constant(rest, *n),
         [0xF1, rest @ ..] => space(rest),
         [0xF2, rest @ ..] => long_constant(rest),
+        // Taken apart here, so that the records above are handed on without a way through memory.
         [code, rest @ ..] => match by_code(*code, rest, lab_len) {
             Ok((rec, rest)) => Ok((rec, rest)),
             Err(flaw) => Err(flaw),
