@@ -371,6 +371,18 @@ fn by_code(code: u8, rest: &[u8], lab_len: u8) -> Result<(Rec<'_>, &[u8]), Flaw>
     }
 }
 
+/// The same, taken apart: the record that it gives goes through memory, and the commoner records needn't.
+#[inline(always)]
+fn rarer(code: u8, rest: &[u8], lab_len: u8) -> Result<(Rec<'_>, &[u8]), Flaw>
+    ensures gives { Gives (λ x. (view x.0, x.1.now)) result (by_code (rows lab_len) code rest.now) }
+    ensures no_longer { IfOk result (λ x. length x.1.now ≤ length rest.now) }
+{
+    match by_code(code, rest, lab_len) {
+        Ok((rec, rest)) => Ok((rec, rest)),
+        Err(flaw) => Err(flaw),
+    }
+}
+
 /// The record, and the bytes behind it.
 #[inline(always)]
 #[tactic(auto, unfolding(omf_format::specs::Reading::front, omf_format::specs::Reading::rows))]
@@ -384,11 +396,7 @@ fn read_front(bytes: &[u8], lab_len: u8) -> Result<(Rec<'_>, &[u8]), Flaw>
         [n @ 0x01..=0xDF, rest @ ..] => constant(rest, *n),
         [0xF1, rest @ ..] => space(rest),
         [0xF2, rest @ ..] => long_constant(rest),
-        // Taken apart here, so that the records above are handed on without a way through memory.
-        [code, rest @ ..] => match by_code(*code, rest, lab_len) {
-            Ok((rec, rest)) => Ok((rec, rest)),
-            Err(flaw) => Err(flaw),
-        },
+        [code, rest @ ..] => rarer(*code, rest, lab_len),
     }
 }
 
