@@ -197,10 +197,10 @@ one_byte : (b : ℕ) (bytes : List ℕ) → little_number 1 (b ∷ bytes) ≡ b
 one_byte b bytes = omega arith
 
 -- a number of one byte is a byte
-pub number_field-byte : (bytes : List ℕ) → number_field 1 bytes ≡ byte_field bytes
+pub number_of_byte : (bytes : List ℕ) → number_field 1 bytes ≡ byte_field bytes
 unfolding number_field byte_field number_at
-number_field-byte [] = refl
-number_field-byte (b ∷ bytes) =
+number_of_byte [] = refl
+number_of_byte (b ∷ bytes) =
     let some : ltb (suc (length bytes)) 1 ≡ false = le-ltb _ _ (omega arith) in
     let is : little_number 1 (b ∷ bytes) ≡ b = one_byte b bytes in
     rw (some, is) refl

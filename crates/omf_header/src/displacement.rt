@@ -14,13 +14,7 @@ pub fn displacement_of(version: u8, field: Field) -> u32
         Field::NumLen => 0x0E,
         Field::Version => 0x0F,
         Field::BankSize => 0x10,
-        Field::Kind => {
-            if version == 1 {
-                0x0C
-            } else {
-                0x14
-            }
-        }
+        Field::Kind => { if version == 1 { 0x0C } else { 0x14 } }
         Field::NumSex => 0x20,
         Field::DispName => 0x28,
         Field::DispData => 0x2A,

@@ -1,5 +1,5 @@
-use Rattle.std.proofs.Common.{◌∙◌, ap, sym}
-use Rattle.omf_format.specs.Expression.{Expression, placed_terms, terms_in, terms_of, Spells}
+use Rattle.std.proofs.Common.{◌∙◌, ap}
+use Rattle.omf_format.specs.Expression.{Expression, terms_in}
 use Rattle.omf_format.specs.ExpressionLaws.{terms_are}
 use Rattle.omf_expr.proofs.expr.Expr.terms.Goals as goal
 

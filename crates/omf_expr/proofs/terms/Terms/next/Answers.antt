@@ -1,6 +1,6 @@
 use Rattle.std.proofs.Common.{◌≡◌, ℕ, ◌-◌, List, [], length, drop, sym, ap, ◌∙◌}
 use Rattle.std.specs.Prelude.{slice_get}
-use Rattle.omf_format.specs.Expression.{Term, terms_in}
+use Rattle.omf_format.specs.Expression.{Term}
 use Rattle.omf_expr.specs.View.{view}
 use Rattle.omf_expr.proofs.TermRuns.{left_more, left_none, left_cut}
 use Rattle.omf_expr.proofs.terms.Terms.next.Goals as goal

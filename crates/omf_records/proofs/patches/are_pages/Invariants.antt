@@ -1,6 +1,6 @@
 use Rattle.std.proofs.Common.{◌≡◌, ◌≤◌, drop}
 use Rattle.omf_format.specs.Super.{end_pages}
-use Rattle.omf_records.proofs.front.are_pages.Given as goal
+use Rattle.omf_records.proofs.patches.are_pages.Given as goal
 
 -- what is left ends with a subrecord exactly where the whole does
 abbrev pub invariant-bytes : goal.invariant-bytes
