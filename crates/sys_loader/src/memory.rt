@@ -5,6 +5,7 @@ ghost use Rattle.loader_machine.specs.Slots.{get, new_handle, slot_at};
 ghost use Rattle.loader_machine.specs.Fits.{IsWant};
 ghost use Rattle.loader_machine.specs.Placement.{HasNoRoom};
 ghost use Rattle.loader_machine.specs.Memory.{IsPlaced, bytes_at};
+ghost use Rattle.omf_cells.specs.Load.{HasPatches};
 ghost use Rattle.sys_loader.specs.Loaded.{IsLocked};
 ghost use Rattle.sys_loader.specs.Files.{HasAtMost, IsSettled};
 
@@ -57,6 +58,7 @@ pub fn settle(
     user: u16,
 ) -> Result<Handle, LoaderFault>
     requires one { length load.now ≡ 1 }
+    requires unpatched { ¬ HasPatches load.now 1 }
     requires want { IsWant want.now }
     requires fits { HasAtMost load.now want.now.size }
     requires slot { IsSome (new_handle banks.old.slots) }
