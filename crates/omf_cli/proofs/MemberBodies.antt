@@ -11,17 +11,11 @@ use Rattle.omf_header.specs.View.{fields}
 use Rattle.omf_records.specs.declared.segment.SegmentView.{SegmentView}
 use Rattle.omf_records.specs.Segments.{ComesToEnd}
 use Rattle.omf_cli.specs.Content.{IsContent, HasContent, HasConstantContent}
-use Rattle.omf_cli.specs.Members.{IsAt}
+use Rattle.omf_records.specs.Members.{IsAt}
+use Rattle.omf_records.specs.MemberLaws.{member_run}
 use Rattle.omf_cli.proofs.Bodies.{content_same}
 
--- a reader of the view's body hands out the segment's records
-pub member_run : (s : Segment) (v : SegmentView) (reader : Reader) → IsAt s v → reader ≡ body_reader v.start (fields v.header) v.file.now → (last : Reader) × HandsOut reader s.records last × (last.ended ≡ true)
-member_run s v reader at is =
-    let same : body_reader s.start s.fields v.file.now ≡ reader =
-    ap (λ (n : ℕ). body_reader n s.fields v.file.now) at.start ∙ ap (λ (f : Fields). body_reader v.start f v.file.now) at.fields' ∙ sym is in
-    (at.segment.last, subst (λ (r : Reader). HandsOut r s.records at.segment.last) same at.segment.records, at.segment.ended)
-
--- and has the segment's bytes to give
+-- a reader of the view's body has the segment's bytes to give
 pub member_content : (s : Segment) (v : SegmentView) (reader : Reader) → IsAt s v → reader ≡ body_reader v.start (fields v.header) v.file.now → IsContent reader (body_bytes s)
 unfolding body_bytes
 member_content s v reader at is =

@@ -1,21 +1,11 @@
--- The segments of a file, as their views show them.
+-- Plain object files, as the views of their segments show them.
 use Rattle.std.specs.Prelude.{◌≡◌, true, List, ℕ}
 use Rattle.omf_format.specs.Header.{Fields, form_of}
-use Rattle.omf_format.specs.File.{Segment, IsSegment, IsFile}
+use Rattle.omf_format.specs.File.{Segment, IsFile}
 use Rattle.omf_format.specs.Plain.{is_object, IsPlainSegment, IsPlain, total_length, least_bank}
-use Rattle.omf_header.specs.View.{fields}
 use Rattle.omf_records.specs.declared.segment.SegmentView.{SegmentView}
-use Rattle.omf_records.specs.Segments.{Placed, views_of, IsListOf}
-
--- the view is of this segment
-pub record IsAt (s : Segment) (v : SegmentView) : Type 0 where
-  pub start : s.start ≡ v.start
-  pub fields' : s.fields ≡ fields v.header
-  pub segment : IsSegment s v.file.now
-
--- the list is that of some file's segments
-abbrev pub HasFile : List Placed → Type 0
-HasFile list = (file : List ℕ) × IsListOf list file
+use Rattle.omf_records.specs.Segments.{Placed, views_of}
+use Rattle.omf_records.specs.Members.{IsAt}
 
 -- the header is of an object file's segment that asks for no place
 pub record AsksNoPlace (f : Fields) : Type 0 where

@@ -4,7 +4,8 @@ ghost use Rattle.std.specs.Prelude.{◌≡◌, ◌<◌, ◌≤◌, ◌+◌, ◌^
 ghost use Rattle.omf_format.specs.File.{Segment, IsFile};
 ghost use Rattle.omf_format.specs.Plain.{IsPlain, IsLinkedTo, IsUnbuilt, memory_bytes, loaded_bytes, written};
 ghost use Rattle.omf_records.specs.Segments.{placed, IsPlaced, views_of};
-ghost use Rattle.omf_cli.specs.Members.{IsAt, IsPlainView, HasPlain, HasMembers};
+ghost use Rattle.omf_records.specs.Members.{IsAt};
+ghost use Rattle.omf_cli.specs.Members.{IsPlainView, HasPlain, HasMembers};
 ghost use Rattle.omf_cli.specs.Link.{IsNotLinked, unlinked};
 
 use crate::content::{append_body, append_zeros};

@@ -5,7 +5,8 @@ ghost use Rattle.omf_format.specs.File.{Segment, IsFile, body_reader};
 ghost use Rattle.omf_format.specs.Plain.{HasConstants, IsPlainSegment, IsPlain, is_object, lesser_bank, body_bytes};
 ghost use Rattle.omf_header.specs.View.{fields};
 ghost use Rattle.omf_records.specs.Segments.{placed, IsPlaced, ComesToEnd, views_of};
-ghost use Rattle.omf_cli.specs.Members.{IsAt, HasFile, AsksNoPlace, AreMembers};
+ghost use Rattle.omf_records.specs.Members.{IsAt, HasFile};
+ghost use Rattle.omf_cli.specs.Members.{AsksNoPlace, AreMembers};
 
 use crate::content::constant_size;
 use omf_header::Header;

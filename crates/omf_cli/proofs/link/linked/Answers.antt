@@ -4,7 +4,7 @@ use Rattle.omf_header.specs.View.{fields}
 use Rattle.omf_records.specs.Segments.{placed}
 use Rattle.omf_cli.proofs.Ends.{if_ok}
 use Rattle.omf_cli.proofs.Linked.{listed_of, bank_fits, memory_fits, same_bank, made_is_written}
-use Rattle.omf_cli.proofs.MemberLists.{views}
+use Rattle.omf_records.specs.MemberLaws.{views}
 use Rattle.omf_cli.proofs.link.linked.Goals as goal
 
 pub load_file-requires-clause-listed : goal.load_file-requires-clause-listed

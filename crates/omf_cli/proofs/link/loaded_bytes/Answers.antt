@@ -3,7 +3,8 @@ use Rattle.std.specs.Prelude.{slice_get}
 use Rattle.omf_format.specs.Header.{Fields}
 use Rattle.omf_format.specs.Plain.{memory_bytes}
 use Rattle.omf_records.specs.Segments.{placed}
-use Rattle.omf_cli.proofs.MemberLists.{views, loaded_none, loaded_more, loaded_fits, length_fits, member_of_plain}
+use Rattle.omf_records.specs.MemberLaws.{views}
+use Rattle.omf_cli.proofs.MemberLists.{loaded_none, loaded_more, loaded_fits, length_fits, member_of_plain}
 use Rattle.omf_cli.proofs.link.loaded_bytes.Goals as goal
 
 pub members-init : goal.members-init

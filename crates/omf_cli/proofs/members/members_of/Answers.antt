@@ -2,7 +2,8 @@ use Rattle.std.proofs.Common.{◌≡◌, ◌+◌, ◌-◌, ◌≤◌, ℕ, lengt
 use Rattle.std.specs.Prelude.{slice_get}
 use Rattle.omf_format.specs.Header.{Fields}
 use Rattle.omf_records.specs.Segments.{placed}
-use Rattle.omf_cli.proofs.MemberLists.{PlainSoFar, views, view_comes, plain_more, member_of_plain, length_of_plain, plain_all, room_of_plain, first_shows, some_segment, length-views}
+use Rattle.omf_records.specs.MemberLaws.{views, view_comes}
+use Rattle.omf_cli.proofs.MemberLists.{PlainSoFar, plain_more, member_of_plain, length_of_plain, plain_all, room_of_plain, first_shows, some_segment, length-views}
 use Rattle.omf_cli.proofs.members.members_of.Goals as goal
 
 pub is_member-requires-clause-comes : goal.is_member-requires-clause-comes

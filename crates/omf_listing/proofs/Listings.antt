@@ -6,7 +6,7 @@ use Rattle.omf_format.specs.Record.{Record}
 use Rattle.std.specs.Prelude.{slice_get}
 use Rattle.omf_format.specs.Header.{Fields}
 use Rattle.omf_format.specs.File.{Segment}
-use Rattle.omf_cli.specs.Listing.{segment_line, record_line, segment_text, listing_from}
+use Rattle.omf_listing.specs.Listing.{segment_line, record_line, segment_text, listing_from}
 
 abbrev lines_of : List (ℕ × Record) → List ℕ
 lines_of founds = flat_map record_line founds

@@ -2,9 +2,9 @@ use Rattle.std.proofs.Common.{◌≡◌, ℕ, [], ◌∷◌, ◌++◌, List, sym
 use Rattle.std.specs.List.{flat_map}
 use Rattle.omf_format.specs.Record.{Record}
 use Rattle.omf_records.specs.View.{view}
-use Rattle.omf_cli.specs.Listing.{record_line}
-use Rattle.omf_cli.proofs.Walks.{walk_on, walk_ends, walk_fails, gives_more}
-use Rattle.omf_cli.proofs.listing.put_records.Goals as goal
+use Rattle.omf_listing.specs.Listing.{record_line}
+use Rattle.omf_records.specs.WalkLaws.{walk_on, walk_ends, walk_fails, gives_more}
+use Rattle.omf_listing.proofs.listing.put_records.Goals as goal
 
 pub returns-in-Ok-None : goal.returns-in-Ok-None
 returns-in-Ok-None c founds last run ended =

@@ -2,13 +2,11 @@
 use Rattle.std.specs.Prelude.{◌≡◌, ℕ, suc, ◌+◌, ◌&&◌, not, ℤ, List, [], ◌∷◌, ◌++◌, length, take, map, codes, nat_le, nat_lt, ◌==◌, if◌then◌else◌}
 use Rattle.std.specs.List.{flat_map}
 use Rattle.omf_base.specs.Digits.{decimal, hexadecimal}
-use Rattle.omf_format.specs.declared.fault.FileCause.{FileCause}
-use Rattle.omf_format.specs.declared.fault.FileCause.TheVariants.{Truncated, BadHeader, Unsupported, BadRecord, Memory}
 use Rattle.omf_format.specs.Header.{Fields}
 use Rattle.omf_format.specs.Field.{shift_byte}
 use Rattle.omf_format.specs.Record.{Record, End, Const, LongConst, Align, Org, Space, Reloc, InterSeg, ShortReloc, ShortInterSeg, Super, Using, Strong, Label, Equate, Formula, IsRecord}
 use Rattle.omf_format.specs.File.{Segment, IsFile}
-use Rattle.omf_cli.specs.Lines.{line}
+use Rattle.omf_base.specs.Lines.{line}
 
 -- a byte of a name in quotes: one outside $20 to $7E, and the quote itself, is shown as `?`
 abbrev pub shown : ℕ → ℕ
@@ -127,14 +125,6 @@ pub record IsListing (file text : List ℕ) : Type 0 where
   pub segments : List Segment
   pub is_file : IsFile segments file
   pub is : text ≡ listing_from 1 segments
-
--- the name of a cause
-abbrev pub cause_name : FileCause → List ℕ
-cause_name Truncated = codes "Truncated"
-cause_name BadHeader = codes "BadHeader"
-cause_name Unsupported = codes "Unsupported"
-cause_name BadRecord = codes "BadRecord"
-cause_name Memory = codes "Memory"
 
 -- the record has a spelling under some LABLEN
 abbrev pub HasSpelling : Record → Type 0

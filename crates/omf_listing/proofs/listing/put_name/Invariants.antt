@@ -1,6 +1,6 @@
 use Rattle.std.proofs.Common.{◌≡◌, ◌∷◌, ◌++◌, take, map}
-use Rattle.omf_cli.specs.Listing.{printed}
-use Rattle.omf_cli.proofs.listing.put_name.Given as goal
+use Rattle.omf_listing.specs.Listing.{printed}
+use Rattle.omf_listing.proofs.listing.put_name.Given as goal
 
 -- the bytes so far were appended
 abbrev pub invariant-bytes : goal.invariant-bytes

@@ -1,20 +1,20 @@
 //! The listing of a file: a line for each segment, and a line for each of its records.
 
-ghost use Rattle.std.specs.Prelude.{◌≡◌, ◌++◌, ◌<◌, ◌≤◌, ◌+◌, ◌-◌, ◌^◌, ℕ, true, List, length, take, codes, OnOk, IfOk};
+ghost use Rattle.std.specs.Prelude.{◌≡◌, ◌++◌, ◌<◌, ◌≤◌, ◌+◌, ◌-◌, ◌^◌, ℕ, true, List, length, take, codes, OnOk, IfOk, IfErr};
 ghost use Rattle.std.specs.List.{flat_map};
 ghost use Rattle.omf_format.specs.Record.{Record};
 ghost use Rattle.omf_format.specs.Reading.{Reader, HandsOut};
 ghost use Rattle.omf_format.specs.File.{Segment, IsFile, body_reader};
 ghost use Rattle.omf_header.specs.View.{fields};
 ghost use Rattle.omf_records.specs.View.{view};
-ghost use Rattle.omf_records.specs.Segments.{placed, IsPlaced, ComesToEnd, views_of};
-ghost use Rattle.omf_cli.specs.Members.{IsAt, HasFile};
-ghost use Rattle.omf_cli.specs.Lines.{line};
-ghost use Rattle.omf_cli.specs.Listing.{shown, quoted, hex_bytes, first_bytes, labelled, numbers_text, names_text, segment_line, field, printed, name_text, expression_text, constant_text, patch_text, label_text, formula_name, formula_text, record_text, record_line, segment_text, listing_from, HasSpelling};
+ghost use Rattle.omf_records.specs.Segments.{placed, IsPlaced, ComesToEnd, views_of, IsRefused};
+ghost use Rattle.omf_records.specs.Members.{IsAt, HasFile};
+ghost use Rattle.omf_base.specs.Lines.{line};
+ghost use Rattle.omf_listing.specs.Listing.{shown, quoted, hex_bytes, first_bytes, labelled, numbers_text, names_text, segment_line, field, printed, name_text, expression_text, constant_text, patch_text, label_text, formula_name, formula_text, record_text, record_line, segment_text, listing_from, IsListing, HasSpelling};
 
 use omf_base::{Line, LineFault};
 use omf_header::Header;
-use omf_records::{Rec, Records, SegmentList, SegmentView};
+use omf_records::{FileCause, FileFault, Rec, Records, SegmentList, SegmentView, segments};
 use std::alloc::Global;
 
 /// A byte of a name in quotes.
@@ -438,7 +438,7 @@ fn put_segment(line: &mut Line, number: u32, view: &SegmentView) -> Result<(), L
 }
 
 /// The lines of all segments of a file.
-pub fn listing(alloc: Global, list: &SegmentList) -> Result<Line, LineFault>
+fn listing(alloc: Global, list: &SegmentList) -> Result<Line, LineFault>
     requires { HasFile list.now }
     ensures { (segments : List Segment) (file : List ℕ) → IsFile segments file → list.now ≡ views_of file segments
         → IfOk result (λ text. text ≡ listing_from 1 segments) }
@@ -451,4 +451,26 @@ pub fn listing(alloc: Global, list: &SegmentList) -> Result<Line, LineFault>
         }
     }
     Ok(line)
+}
+
+/// The listing of a file, or its first fault: a line for each segment, in order, with its number from 1, where it starts and
+/// what its header says, and behind it a line for each of its records, with its displacement in the file, its name and its
+/// fields.
+pub fn list_file(alloc: Global, file: &[u8]) -> Result<Line, FileFault>
+    requires { length file.now < 2 ^ 32 }
+    ensures listed { IfOk result (λ text. IsListing file.now text) }
+    ensures refused { IfErr result (λ fault. IsRefused fault file.now) }
+{
+    let list = match segments(alloc, file) {
+        Ok(list) => list,
+        Err(fault) => return Err(fault),
+    };
+    match listing(alloc, &list) {
+        Ok(text) => Ok(text),
+        Err(LineFault::Memory) => Err(FileFault {
+            cause: FileCause::Memory,
+            segment: 0,
+            at: 0,
+        }),
+    }
 }

@@ -2,8 +2,8 @@ use Rattle.std.proofs.Common.{◌≡◌, List, ℕ, ◌++◌, length}
 use Rattle.std.specs.List.{flat_map}
 use Rattle.omf_format.specs.Record.{Record}
 use Rattle.omf_format.specs.Reading.{HandsOut}
-use Rattle.omf_cli.specs.Listing.{record_line}
-use Rattle.omf_cli.proofs.listing.put_records.Given as goal
+use Rattle.omf_listing.specs.Listing.{record_line}
+use Rattle.omf_listing.proofs.listing.put_records.Given as goal
 
 -- the lines of the records so far were appended
 abbrev pub invariant-records : goal.invariant-records

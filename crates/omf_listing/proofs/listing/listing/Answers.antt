@@ -1,10 +1,10 @@
 use Rattle.std.proofs.Common.{◌≡◌, ◌+◌, ◌-◌, ◌++◌, ℕ, List, Some, take, ap, ◌∙◌, arith}
 use Rattle.std.specs.Prelude.{slice_get}
 use Rattle.omf_records.specs.Segments.{placed}
-use Rattle.omf_cli.specs.Listing.{segment_text, listing_from}
-use Rattle.omf_cli.proofs.MemberLists.{views, view_comes}
-use Rattle.omf_cli.proofs.Listings.{listing_more}
-use Rattle.omf_cli.proofs.listing.listing.Goals as goal
+use Rattle.omf_listing.specs.Listing.{segment_text, listing_from}
+use Rattle.omf_records.specs.MemberLaws.{views, view_comes}
+use Rattle.omf_listing.proofs.Listings.{listing_more}
+use Rattle.omf_listing.proofs.listing.listing.Goals as goal
 
 pub put_segment-requires-clause-comes : goal.put_segment-requires-clause-comes
 put_segment-requires-clause-comes c =

@@ -1,11 +1,11 @@
 use Rattle.std.proofs.Common.{◌≡◌, ◌++◌, ℕ, List, ap, ◌∙◌, append_assoc}
 use Rattle.std.specs.List.{flat_map}
-use Rattle.omf_cli.specs.Listing.{segment_line, record_line, segment_text}
+use Rattle.omf_listing.specs.Listing.{segment_line, record_line, segment_text}
 use Rattle.omf_header.specs.View.{fields}
-use Rattle.omf_cli.proofs.Ends.{on_ok}
-use Rattle.omf_cli.proofs.MemberBodies.{member_run}
-use Rattle.omf_cli.proofs.Listings.{segment_text_is}
-use Rattle.omf_cli.proofs.listing.put_segment.Goals as goal
+use Rattle.omf_listing.proofs.Ends.{on_ok}
+use Rattle.omf_records.specs.MemberLaws.{member_run}
+use Rattle.omf_listing.proofs.Listings.{segment_text_is}
+use Rattle.omf_listing.proofs.listing.put_segment.Goals as goal
 
 pub returns : goal.returns
 returns c s at =

@@ -1,6 +1,6 @@
 use Rattle.std.proofs.Common.{◌≡◌, ◌++◌, take}
-use Rattle.omf_cli.specs.Listing.{hex_bytes}
-use Rattle.omf_cli.proofs.listing.put_hex.Given as goal
+use Rattle.omf_listing.specs.Listing.{hex_bytes}
+use Rattle.omf_listing.proofs.listing.put_hex.Given as goal
 
 -- the bytes so far were appended
 abbrev pub invariant-bytes : goal.invariant-bytes

@@ -1,6 +1,6 @@
 use Rattle.std.proofs.Common.{◌≡◌, ◌∷◌, ◌++◌, take, map}
-use Rattle.omf_cli.specs.Listing.{shown}
-use Rattle.omf_cli.proofs.listing.put_quoted.Given as goal
+use Rattle.omf_listing.specs.Listing.{shown}
+use Rattle.omf_listing.proofs.listing.put_quoted.Given as goal
 
 -- the bytes so far were appended
 abbrev pub invariant-bytes : goal.invariant-bytes

@@ -1,8 +1,8 @@
 use Rattle.std.proofs.Common.{◌≡◌, List, ℕ, take}
 use Rattle.omf_format.specs.File.{Segment, IsFile}
 use Rattle.omf_records.specs.Segments.{views_of}
-use Rattle.omf_cli.specs.Listing.{listing_from}
-use Rattle.omf_cli.proofs.listing.listing.Given as goal
+use Rattle.omf_listing.specs.Listing.{listing_from}
+use Rattle.omf_listing.proofs.listing.listing.Given as goal
 
 -- the segments so far were listed
 abbrev pub invariant-segments : goal.invariant-segments
