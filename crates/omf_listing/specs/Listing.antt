@@ -1,10 +1,10 @@
 -- The listing of a file: a line for each segment, and a line for each of its records.
-use Rattle.std.specs.Prelude.{◌≡◌, ℕ, suc, ◌+◌, ◌&&◌, not, ℤ, List, [], ◌∷◌, ◌++◌, length, take, map, codes, nat_le, nat_lt, ◌==◌, if◌then◌else◌}
+use Rattle.std.specs.Prelude.{◌≡◌, ℕ, suc, ◌+◌, ◌*◌, ◌&&◌, not, ℤ, List, [], ◌∷◌, ◌++◌, length, take, map, codes, nat_le, nat_lt, ◌==◌, if◌then◌else◌}
 use Rattle.std.specs.List.{flat_map}
 use Rattle.omf_base.specs.Digits.{decimal, hexadecimal}
 use Rattle.omf_format.specs.Header.{Fields}
-use Rattle.omf_format.specs.Field.{shift_byte}
-use Rattle.omf_format.specs.Record.{Record, End, Const, LongConst, Align, Org, Space, Reloc, InterSeg, ShortReloc, ShortInterSeg, Super, Using, Strong, Label, Equate, Formula, IsRecord}
+use Rattle.omf_format.specs.Field.{Layout, length_width_of, shift_byte}
+use Rattle.omf_format.specs.Record.{Record, End, Const, LongConst, Align, Org, Space, Reloc, InterSeg, ShortReloc, ShortInterSeg, Super, Using, Strong, Label, Equate, Formula, Entry, IsRecord}
 use Rattle.omf_format.specs.File.{Segment, IsFile}
 use Rattle.omf_base.specs.Lines.{line}
 
@@ -68,9 +68,9 @@ constant_text bytes = field 8 (length bytes) ++ codes " " ++ first_bytes bytes
 unfoldable pub patch_text : ℕ → ℤ → List ℕ
 patch_text count shift = field 2 count ++ field 2 (shift_byte shift)
 
--- a label's name, its size, its type and its private byte
-unfoldable pub label_text : List ℕ → ℕ → ℕ → ℕ → List ℕ
-label_text name size form private = name_text name ++ field 4 size ++ field 2 form ++ field 2 private
+-- a label's name, its length, which has so many bytes in the file, its type and its private byte
+unfoldable pub label_text : ℕ → List ℕ → ℕ → ℕ → ℕ → List ℕ
+label_text width name size form private = name_text name ++ field (2 * width) size ++ field 2 form ++ field 2 private
 
 -- which formula the code means
 abbrev pub formula_name : ℕ → List ℕ
@@ -85,35 +85,37 @@ formula_name code =
 unfoldable pub formula_text : ℕ → ℕ → ℕ → List ℕ → List ℕ
 formula_text code count n expr = formula_name code ++ field 2 count ++ (if code == 0xEE then field 8 n else []) ++ expression_text expr
 
--- a record's name and its fields; of a SUPER the length, which counts its type and its subrecords, and the type
-unfoldable pub record_text : Record → List ℕ
-record_text End = codes " END"
-record_text (Const bytes) = codes " CONST" ++ constant_text bytes
-record_text (LongConst bytes) = codes " LCONST" ++ constant_text bytes
-record_text (Align n) = codes " ALIGN" ++ field 8 n
-record_text (Org n) = codes " ORG" ++ field 8 n
-record_text (Space n) = codes " DS" ++ field 8 n
-record_text (Reloc count shift location offset) = codes " RELOC" ++ patch_text count shift ++ field 8 location ++ field 8 offset
-record_text (InterSeg count shift location file segment offset) =
+-- a record's name and its fields, where the length of a label has so many bytes; of a SUPER the length, which counts its
+-- type and its subrecords, and the type
+unfoldable pub record_text : ℕ → Record → List ℕ
+record_text width End = codes " END"
+record_text width (Const bytes) = codes " CONST" ++ constant_text bytes
+record_text width (LongConst bytes) = codes " LCONST" ++ constant_text bytes
+record_text width (Align n) = codes " ALIGN" ++ field 8 n
+record_text width (Org n) = codes " ORG" ++ field 8 n
+record_text width (Space n) = codes " DS" ++ field 8 n
+record_text width (Reloc count shift location offset) = codes " RELOC" ++ patch_text count shift ++ field 8 location ++ field 8 offset
+record_text width (InterSeg count shift location file segment offset) =
     codes " INTERSEG" ++ patch_text count shift ++ field 8 location ++ field 4 file ++ field 4 segment ++ field 8 offset
-record_text (ShortReloc count shift location offset) = codes " cRELOC" ++ patch_text count shift ++ field 4 location ++ field 4 offset
-record_text (ShortInterSeg count shift location segment offset) =
+record_text width (ShortReloc count shift location offset) = codes " cRELOC" ++ patch_text count shift ++ field 4 location ++ field 4 offset
+record_text width (ShortInterSeg count shift location segment offset) =
     codes " cINTERSEG" ++ patch_text count shift ++ field 4 location ++ field 2 segment ++ field 4 offset
-record_text (Super form bytes) = codes " SUPER" ++ field 8 (length bytes + 1) ++ field 2 form
-record_text (Using name) = codes " USING" ++ name_text name
-record_text (Strong name) = codes " STRONG" ++ name_text name
-record_text (Label global name size form private) = (if global then codes " GLOBAL" else codes " LOCAL") ++ label_text name size form private
-record_text (Equate global name size form private expr) =
-    (if global then codes " GEQU" else codes " EQU") ++ label_text name size form private ++ expression_text expr
-record_text (Formula code count n expr) = formula_text code count n expr
+record_text width (Super form bytes) = codes " SUPER" ++ field 8 (length bytes + 1) ++ field 2 form
+record_text width (Using name) = codes " USING" ++ name_text name
+record_text width (Strong name) = codes " STRONG" ++ name_text name
+record_text width (Label global name size form private) = (if global then codes " GLOBAL" else codes " LOCAL") ++ label_text width name size form private
+record_text width (Equate global name size form private expr) =
+    (if global then codes " GEQU" else codes " EQU") ++ label_text width name size form private ++ expression_text expr
+record_text width (Formula code count n expr) = formula_text code count n expr
+record_text width (Entry segment offset name) = codes " ENTRY" ++ field 4 segment ++ field 8 offset ++ name_text name
 
 -- a record: its displacement in the file, its name and its fields
-unfoldable pub record_line : ℕ × Record → List ℕ
-record_line found = line (hexadecimal 8 found.0 ++ record_text found.1)
+unfoldable pub record_line : ℕ → ℕ × Record → List ℕ
+record_line width found = line (hexadecimal 8 found.0 ++ record_text width found.1)
 
 -- a segment and its records
 unfoldable pub segment_text : ℕ → Segment → List ℕ
-segment_text number s = segment_line number s.start s.fields ++ flat_map record_line s.records
+segment_text number s = segment_line number s.start s.fields ++ flat_map (record_line (length_width_of s.fields.version)) s.records
 
 -- segments one behind another, of which the first has this number
 abbrev pub listing_from : ℕ → List Segment → List ℕ
@@ -126,6 +128,6 @@ pub record IsListing (file text : List ℕ) : Type 0 where
   pub is_file : IsFile segments file
   pub is : text ≡ listing_from 1 segments
 
--- the record has a spelling under some LABLEN
+-- the record has a spelling under some layout
 abbrev pub HasSpelling : Record → Type 0
-HasSpelling r = (lab_len : ℕ) × IsRecord lab_len r
+HasSpelling r = (layout : Layout) × IsRecord layout r

@@ -1,15 +1,13 @@
 //! The listing of a file: a line for each segment, and a line for each of its records.
 
-ghost use Rattle.std.specs.Prelude.{◌≡◌, ◌++◌, ◌<◌, ◌≤◌, ◌+◌, ◌-◌, ◌^◌, ℕ, true, List, length, take, codes, OnOk, IfOk, IfErr};
+ghost use Rattle.std.specs.Prelude.{◌≡◌, ◌++◌, ◌<◌, ◌≤◌, ◌+◌, ◌-◌, ◌*◌, ◌^◌, length, take, codes, OnOk, IfOk, IfErr};
 ghost use Rattle.std.specs.List.{flat_map};
-ghost use Rattle.omf_format.specs.Record.{Record};
-ghost use Rattle.omf_format.specs.Reading.{Reader, HandsOut};
-ghost use Rattle.omf_format.specs.File.{Segment, IsFile, body_reader};
+ghost use Rattle.omf_format.specs.Field.{length_width_of};
+ghost use Rattle.omf_format.specs.Reading.{records_of, IsBody};
 ghost use Rattle.omf_header.specs.View.{fields};
 ghost use Rattle.omf_records.specs.View.{view};
-ghost use Rattle.omf_records.specs.Segments.{placed, IsPlaced, ComesToEnd, views_of, IsRefused};
-ghost use Rattle.omf_records.specs.Members.{IsAt, HasFile};
-ghost use Rattle.omf_base.specs.Lines.{line};
+ghost use Rattle.omf_records.specs.Segments.{IsSound, IsRefused};
+ghost use Rattle.omf_records.specs.Segments.{shown as shown_segment};
 ghost use Rattle.omf_listing.specs.Listing.{shown, quoted, hex_bytes, first_bytes, labelled, numbers_text, names_text, segment_line, field, printed, name_text, expression_text, constant_text, patch_text, label_text, formula_name, formula_text, record_text, record_line, segment_text, listing_from, IsListing, HasSpelling};
 
 use omf_base::{Line, LineFault};
@@ -184,19 +182,34 @@ fn put_patch(line: &mut Line, count: u8, shift: i8) -> Result<(), LineFault>
     put_field(line, 2, u32::from(shift.cast_unsigned()))
 }
 
-/// Appends a label's name, its size, its type and its private byte.
+/// How many digits show the length of a label: two for each of its bytes in the file.
+#[tactic(auto, unfolding(omf_format::specs::Field::length_width_of))]
+fn length_digits(version: u8) -> u32
+    ensures value { result ≡ 2 * length_width_of version }
+    ensures some { 1 ≤ result }
+    ensures most { result ≤ 8 }
+{
+    if version == 1 {
+        2
+    } else {
+        4
+    }
+}
+
+/// Appends a label's name, its length, its type and its private byte.
 #[tactic(auto, unfolding(crate::specs::Listing::label_text))]
 fn put_label(
     line: &mut Line,
+    version: u8,
     name: &[u8],
     size: u16,
     form: u8,
     private: u8,
 ) -> Result<(), LineFault>
-    ensures { OnOk result (line.new ≡ line.old ++ label_text name.now size form private) }
+    ensures { OnOk result (line.new ≡ line.old ++ label_text (length_width_of version) name.now size form private) }
 {
     put_name(line, name)?;
-    put_field(line, 4, u32::from(size))?;
+    put_field(line, length_digits(version), u32::from(size))?;
     put_field(line, 2, u32::from(form))?;
     put_field(line, 2, u32::from(private))
 }
@@ -314,11 +327,21 @@ fn put_super(line: &mut Line, form: u8, size: u32) -> Result<(), LineFault>
     put_field(line, 2, u32::from(form))
 }
 
-/// Appends a record's name and fields.
+/// The same of an ENTRY.
+fn put_entry(line: &mut Line, segment: u16, offset: u32, name: &[u8]) -> Result<(), LineFault>
+    ensures { OnOk result (line.new ≡ line.old ++ (codes " ENTRY" ++ field 4 segment ++ field 8 offset ++ name_text name.now)) }
+{
+    line.text(" ENTRY")?;
+    put_field(line, 4, u32::from(segment))?;
+    put_field(line, 8, offset)?;
+    put_name(line, name)
+}
+
+/// Appends a record's name and fields, of a segment of a version.
 #[tactic(auto, unfolding(crate::specs::Listing::record_text))]
-fn put_record(line: &mut Line, rec: &Rec) -> Result<(), LineFault>
+fn put_record(line: &mut Line, version: u8, rec: &Rec) -> Result<(), LineFault>
     requires { HasSpelling (view rec.now) }
-    ensures { OnOk result (line.new ≡ line.old ++ record_text (view rec.now)) }
+    ensures { OnOk result (line.new ≡ line.old ++ record_text (length_width_of version) (view rec.now)) }
 {
     match rec {
         Rec::End => line.text(" END"),
@@ -377,7 +400,7 @@ fn put_record(line: &mut Line, rec: &Rec) -> Result<(), LineFault>
             private,
         } => {
             line.text(if *global { " GLOBAL" } else { " LOCAL" })?;
-            put_label(line, name, *length, *form, *private)
+            put_label(line, version, name, *length, *form, *private)
         }
         Rec::Equate {
             global,
@@ -388,7 +411,7 @@ fn put_record(line: &mut Line, rec: &Rec) -> Result<(), LineFault>
             expr,
         } => {
             line.text(if *global { " GEQU" } else { " EQU" })?;
-            put_label(line, name, *length, *form, *private)?;
+            put_label(line, version, name, *length, *form, *private)?;
             put_expression(line, expr)
         }
         Rec::Formula {
@@ -397,51 +420,53 @@ fn put_record(line: &mut Line, rec: &Rec) -> Result<(), LineFault>
             n,
             expr,
         } => put_formula(line, *code, *count, *n, expr),
+        Rec::Entry {
+            segment,
+            offset,
+            name,
+        } => put_entry(line, *segment, *offset, name),
     }
 }
 
 /// Appends the line of a record.
 #[tactic(auto, unfolding(crate::specs::Listing::record_line))]
-fn put_record_line(line: &mut Line, at: u32, rec: &Rec) -> Result<(), LineFault>
+fn put_record_line(line: &mut Line, version: u8, at: u32, rec: &Rec) -> Result<(), LineFault>
     requires { HasSpelling (view rec.now) }
-    ensures { OnOk result (line.new ≡ line.old ++ record_line (at, view rec.now)) }
+    ensures { OnOk result (line.new ≡ line.old ++ record_line (length_width_of version) (at, view rec.now)) }
 {
     line.hex(at, 8)?;
-    put_record(line, rec)?;
+    put_record(line, version, rec)?;
     line.text("\n")
 }
 
-/// Appends the lines of a body's records.
-fn put_records(line: &mut Line, records: Records) -> Result<(), LineFault>
-    requires { ComesToEnd records }
-    ensures { (founds : List (ℕ × Record)) (last : Reader) → HandsOut records.entry founds last → last.ended ≡ true
-        → OnOk result (line.new ≡ line.old ++ flat_map record_line founds) }
+/// Appends the lines of a body's records, of a segment of a version.
+fn put_records(line: &mut Line, version: u8, records: Records) -> Result<(), LineFault>
+    requires { IsBody records }
+    ensures { OnOk result (line.new ≡ line.old ++ flat_map (record_line (length_width_of version)) (records_of records.entry)) }
 {
     let mut records = records;
     'records: loop {
         match records.next() {
             Ok(None) => return Ok(()),
-            Ok(Some(found)) => put_record_line(line, found.0, &found.1)?,
+            Ok(Some(found)) => put_record_line(line, version, found.0, &found.1)?,
             Err(_) => unreachable!(),
         }
     }
 }
 
 /// Appends the lines of a segment and of its records.
+#[tactic(auto, unfolding(crate::specs::Listing::segment_text))]
 fn put_segment(line: &mut Line, number: u32, view: &SegmentView) -> Result<(), LineFault>
-    requires header { IsPlaced (placed view.now) }
-    requires comes { ComesToEnd (body_reader view.now.start (fields view.now.header) view.now.file.now) }
-    ensures { (s : Segment) → IsAt s view.now → OnOk result (line.new ≡ line.old ++ segment_text number s) }
+    requires { IsSound view.now }
+    ensures { OnOk result (line.new ≡ line.old ++ segment_text number (shown_segment view.now)) }
 {
     put_segment_line(line, number, view.start, &view.header)?;
-    put_records(line, view.records())
+    put_records(line, view.header.version, view.records())
 }
 
 /// The lines of all segments of a file.
 fn listing(alloc: Global, list: &SegmentList) -> Result<Line, LineFault>
-    requires { HasFile list.now }
-    ensures { (segments : List Segment) (file : List ℕ) → IsFile segments file → list.now ≡ views_of file segments
-        → IfOk result (λ text. text ≡ listing_from 1 segments) }
+    ensures { IfOk result (λ text. text ≡ listing_from 1 list.now) }
 {
     let mut line = Line::new(alloc);
     'segments: for place in 0..list.count() {

@@ -5,9 +5,8 @@ use Rattle.std.proofs.lemmas.List.{append-nil}
 use Rattle.std.proofs.lemmas.Grind.{flat_map-append}
 use Rattle.omf_format.specs.declared.fault.RecordFault.{RecordFault}
 use Rattle.omf_format.specs.Record.{Record}
-use Rattle.omf_format.specs.Reading.{Reader, next_answer, after_next, HandsOut}
+use Rattle.omf_format.specs.Reading.{Reader, next_answer, after_next, HandsOut, records_of, IsBody}
 use Rattle.omf_format.specs.FileLaws.{same_found, ended_at_none, open_at_some, HandsOut-append, HandsOut-rest, HandsOut-same, no_run}
-use Rattle.omf_records.specs.Segments.{ComesToEnd}
 
 -- one record more
 pub walk_on : (start at next : Reader) (before : List (ℕ × Record)) (found : ℕ × Record) → HandsOut start before at → next_answer at ≡ Ok (Some found) → next ≡ after_next at
@@ -32,8 +31,8 @@ walk_goes start at last before founds found run e all ended =
         (back, whole ∙ ap (λ (f : ℕ × Record). before ++ f ∷ back) same)
 
 -- no fault comes
-pub walk_fails : (start at : Reader) (before : List (ℕ × Record)) (fault : RecordFault) → ComesToEnd start → HandsOut start before at → next_answer at ≡ Err fault → ⊥
-walk_fails start at before fault comes run e = no_run start before comes.records at comes.last fault run e comes.run comes.ended
+pub walk_fails : (start at : Reader) (before : List (ℕ × Record)) (fault : RecordFault) → IsBody start → HandsOut start before at → next_answer at ≡ Err fault → ⊥
+walk_fails start at before fault comes run e = no_run start before (records_of start) at comes.last fault run e comes.run comes.ended
 
 -- what a record gives comes behind what those before it gave
 pub gives_more : (f : ℕ × Record → List ℕ) (before : List (ℕ × Record)) (found : ℕ × Record) → flat_map f before ++ f found ≡ flat_map f (before ++ found ∷ [])
