@@ -6,17 +6,10 @@ use Rattle.std.proofs.lemmas.Bool.{cases_Bool, eqb-true, eqb-false, ne_eqb}
 use Rattle.std.proofs.lemmas.List.{take_all, append-nil}
 use Rattle.std.proofs.lemmas.List.Sums.{sum_by-cons}
 use Rattle.std.proofs.lemmas.Grind.{flat_map-append}
-use Rattle.omf_format.specs.Header.{Fields}
-use Rattle.omf_format.specs.Reading.{Reader, HandsOut}
-use Rattle.omf_format.specs.File.{Segment, body_reader, IsSegment, AreSegments, IsFile}
+use Rattle.omf_format.specs.File.{Segment}
 use Rattle.omf_format.specs.Plain.{memory_bytes, IsPlainSegment, IsPlain, total_length, first_name, HasRoom, lesser_bank, least_bank, loaded_bytes}
 use Rattle.omf_format.specs.PlainLaws.{length-loaded}
-use Rattle.omf_header.specs.View.{fields}
-use Rattle.omf_records.specs.declared.segment.SegmentView.{SegmentView}
-use Rattle.omf_records.specs.Segments.{Placed, placed, views_of, ComesToEnd}
-use Rattle.omf_records.specs.Members.{IsAt, HasFile}
-use Rattle.omf_records.specs.MemberLaws.{Views, views}
-use Rattle.omf_cli.specs.Members.{HasPlain, AreMembers}
+use Rattle.omf_cli.specs.Members.{AreMembers}
 
 -- ---- the places so far
 
@@ -183,30 +176,22 @@ room_of_plain segments k total bank so_far past plain =
     let bank_is : bank ≡ least_bank segments = so_far.bank' ∙ ap least_bank whole in
     subst (λ (t : ℕ). Room t bank) (sym total_is) (subst (Room (total_length segments)) (sym bank_is) (least-joins (total_length segments) segments plain.room))
 
--- the first view shows the load name
-pub first_shows : (list : List Placed) (segments : List Segment) (file : List ℕ) (v : SegmentView) → IsFile segments file → list ≡ views_of file segments → slice_get list 0 ≡ Some (placed v) → v.header.load_name ≡ first_name segments
-first_shows list segments file v is same e =
-    let seen = views list segments file 0 v is same e in
-    sym (ap (λ (f : Fields). f.load_name) seen.at.fields') ∙ sym (first segments seen.s seen.found)
-  where
-    first : (segments : List Segment) (s : Segment) → slice_get segments 0 ≡ Some s → first_name segments ≡ s.fields.load_name
-    first [] s e = absurd cc
-    first (t ∷ segments) s e = let same' : t ≡ s = cc in ap (λ (u : Segment). u.fields.load_name) same'
+-- the first segment has the load name
+pub first_shows : (segments : List Segment) (s : Segment) → slice_get segments 0 ≡ Some s → s.fields.load_name ≡ first_name segments
+first_shows [] s e = absurd cc
+first_shows (t ∷ segments) s e = let same : s ≡ t = cc in ap (λ (u : Segment). u.fields.load_name) same
 
--- a file with a view has a segment
-pub some_segment : (list : List Placed) (segments : List Segment) (file : List ℕ) (v : SegmentView) → list ≡ views_of file segments → slice_get list 0 ≡ Some (placed v) → segments ≡ [] → ⊥
-some_segment list segments file v same e none =
-    let empty : list ≡ [] = same ∙ ap (views_of file) none in
-    let clash : nothing ≡ Some (placed v) = ap (λ (l : List Placed). slice_get l 0) (sym empty) ∙ e in
+pub some_segment : (segments : List Segment) (s : Segment) → slice_get segments 0 ≡ Some s → segments ≡ [] → ⊥
+some_segment segments s e none =
+    let clash : nothing ≡ Some s = ap (λ (l : List Segment). slice_get l 0) (sym none) ∙ e in
     cc
   where
-    nothing : Option Placed
+    nothing : Option Segment
     nothing = None
 
--- there are as many views as segments
-pub length-views : (file : List ℕ) (segments : List Segment) → length (views_of file segments) ≡ length segments
-length-views file [] = refl
-length-views file (s ∷ segments) = ap suc (length-views file segments)
+pub none_there : (segments : List Segment) → length segments ≤ 0 → segments ≡ []
+none_there [] few = refl
+none_there (s ∷ segments) few = absurd (omega arith)
 
 -- ---- the members in memory
 
@@ -238,7 +223,3 @@ loaded_more segments k s found =
 
 pub loaded_all : (segments : List Segment) (k : ℕ) → length segments ≤ k → loaded_bytes (take k segments) ≡ loaded_bytes segments
 loaded_all segments k past = ap loaded_bytes (take_all k segments past)
-
--- a list of a plain file's segments is one of a file's
-pub plain_file : (list : List Placed) → HasPlain list → HasFile list
-plain_file list has = (has.file, record { segments = has.segments; is_file = has.is_file; views = has.views })
