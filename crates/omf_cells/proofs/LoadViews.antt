@@ -14,7 +14,7 @@ use Rattle.omf_format.specs.Reading.{Reader, records_of}
 use Rattle.omf_format.specs.File.{Segment, Placed, segment_of, body_reader, segment_at}
 use Rattle.omf_format.specs.FileLaws.{segments_fit}
 use Rattle.omf_format.specs.Body.{body_bytes}
-use Rattle.omf_format.specs.Cells.{Cell, Byte, Patch, segment_bytes, patches_of, cells, cell_at}
+use Rattle.omf_format.specs.Cells.{Cell, Byte, segment_bytes, patches_of, cells, cell_at}
 use Rattle.omf_format.specs.CellLaws.{unpatched, cells-bytes, length-segment_bytes, loadable_at}
 use Rattle.omf_format.specs.Loadable.{Fault, in_segment, first_in, shape_fault}
 use Rattle.omf_records.specs.declared.segment.SegmentView.{SegmentView}

@@ -177,5 +177,8 @@ fn entries_name_places(rt: HostRuntime) {
     let alloc = rt.alloc();
     let none = fault(LoadCause::NoSuchTarget, 1, 0x37);
     let _ = none;
-    assert_eq!(rt; fault_of_entry(alloc, 1, 0, &[]), fault(LoadCause::Truncated, 1, 64));
+    assert_eq!(rt;
+        fault_of_entry(alloc, 1, 0, &[]),
+        fault(LoadCause::Truncated, 1, 64)
+    );
 }

@@ -189,11 +189,7 @@ fn length_digits(version: u8) -> u32
     ensures some { 1 ≤ result }
     ensures most { result ≤ 8 }
 {
-    if version == 1 {
-        2
-    } else {
-        4
-    }
+    if version == 1 { 2 } else { 4 }
 }
 
 /// Appends a label's name, its length, its type and its private byte.

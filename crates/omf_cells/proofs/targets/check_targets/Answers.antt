@@ -1,4 +1,4 @@
-use Rattle.std.proofs.Common.{◌≡◌, List, length, get_or, ap, ◌∙◌, arith}
+use Rattle.std.proofs.Common.{List, length, get_or, ap, ◌∙◌, arith}
 use Rattle.std.proofs.Common.{map}
 use Rattle.std.specs.Prelude.{option_map}
 use Rattle.omf_format.specs.Reading.{Reader, records_of}

@@ -1,8 +1,7 @@
-use Rattle.std.proofs.Common.{◌≡◌, ℕ, List, Option, Some, None, map, sym, ap, subst, ◌∙◌}
+use Rattle.std.proofs.Common.{ℕ, Option, map, sym, ap, subst, ◌∙◌}
 use Rattle.std.specs.Prelude.{option_map}
 use Rattle.std.specs.Option.{option_or}
 use Rattle.omf_format.specs.declared.load.LoadCause.{LoadCause}
-use Rattle.omf_format.specs.File.{Segment}
 use Rattle.omf_format.specs.Record.{Record}
 use Rattle.omf_format.specs.Reading.{Reader}
 use Rattle.omf_format.specs.Loadable.{Fault, first_target_fault, in_segment}

@@ -1,4 +1,4 @@
-use Rattle.std.proofs.Common.{◌≡◌, ◌+◌, ◌≤◌, ℕ, length, refl, sym, subst, ◌∙◌, arith}
+use Rattle.std.proofs.Common.{◌+◌, ◌≤◌, ℕ, length, refl, sym, subst, ◌∙◌, arith}
 use Rattle.omf_records.specs.Segments.{shown}
 use Rattle.omf_records.specs.SegmentLaws.{shown_at, none_past}
 use Rattle.omf_cli.proofs.MemberLists.{PlainSoFar, plain_none, plain_more, member_of_plain, length_of_plain, plain_all, room_of_plain, first_shows, some_segment, none_there}
