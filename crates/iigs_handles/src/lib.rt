@@ -8,5 +8,5 @@ mod table;
 mod tests;
 
 pub use law::dead_stay_dead;
-pub use loader_machine::{Content, Handle, Slot, Stale};
+pub use iigs_meaning::{Content, Handle, Slot, Stale};
 pub use table::{Handles, HandlesFault, SLOTS};

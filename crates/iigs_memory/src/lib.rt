@@ -17,4 +17,4 @@ mod tests;
 pub use banks::Banks;
 pub use iigs_handles::Handle;
 pub use law::wants_go_to_one_address;
-pub use loader_machine::{BanksFault, Block, BlockFault, BlockState, PlaceFault, Want};
+pub use iigs_meaning::{BanksFault, Block, BlockFault, BlockState, PlaceFault, Want};

@@ -10,4 +10,5 @@ mod user;
 
 pub use laws::commands_have_one_reply;
 pub use loader::{Loader, Started};
-pub use loader_machine::{BanksFault, LoaderFault};
+pub use iigs_meaning::BanksFault;
+pub use loader_machine::LoaderFault;
