@@ -7,6 +7,6 @@ mod table;
 #[cfg(test)]
 mod tests;
 
-pub use law::dead_stay_dead;
 pub use iigs_meaning::{Content, Handle, Slot, Stale};
+pub use law::dead_stay_dead;
 pub use table::{Handles, HandlesFault, SLOTS};

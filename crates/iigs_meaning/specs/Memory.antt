@@ -1,5 +1,5 @@
 -- Memory of banks with blocks under handles, their bytes, and what each call makes of it.
-use Rattle.std.specs.Prelude.{◌≡◌, ◌≢◌, ℕ, Bool, ◌<◌, ◌≤◌, List, [], ◌∷◌, map, length, replicate, count_by, false, Contains, Some, IsSome, IsSomeAnd, slice_get, slice_index_or}
+use Rattle.std.specs.Prelude.{◌≡◌, ◌≢◌, ℕ, Bool, ◌≤◌, List, [], ◌∷◌, map, length, replicate, count_by, false, Contains, Some, IsSome, IsSomeAnd, slice_get, slice_index_or}
 use Rattle.std.specs.Option.{option_map_or}
 use Rattle.iigs_meaning.specs.declared.handles.Handle.{Handle}
 use Rattle.iigs_meaning.specs.declared.wants.Want.{Want}

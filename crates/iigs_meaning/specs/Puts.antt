@@ -1,6 +1,6 @@
 -- Blocks put where their wants go, over banks and slots alone. What makes room for a want is a parameter. These are this
 -- project's own rules.
-use Rattle.std.specs.Prelude.{◌≡◌, ◌↔◌, ℕ, Bool, true, ◌==◌, ◌<◌, ◌≤◌, List, [], ◌∷◌, map, take, length, count_by, Option, Some, None, IsSome, IsSomeAnd, slice_get, if◌then◌else◌}
+use Rattle.std.specs.Prelude.{◌≡◌, ◌↔◌, ℕ, Bool, true, ◌==◌, ◌<◌, ◌≤◌, List, [], ◌∷◌, map, take, length, count_by, Some, None, IsSome, IsSomeAnd, slice_get, if◌then◌else◌}
 use Rattle.std.specs.Option.{option_map_or}
 use Rattle.iigs_meaning.specs.declared.handles.Handle.{Handle}
 use Rattle.iigs_meaning.specs.declared.slots.Slot.{Slot}

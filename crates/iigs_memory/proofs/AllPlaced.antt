@@ -7,7 +7,7 @@ use Rattle.iigs_meaning.specs.declared.wants.Block.{Block}
 use Rattle.iigs_meaning.specs.Slots.{slot_at, is_free}
 use Rattle.iigs_meaning.specs.Puts.{Purges, slots_for, without_user_in}
 use Rattle.iigs_meaning.specs.Blocks.{AreApart}
-use Rattle.iigs_meaning.specs.Memory.{Memory, AreAllPlaced}
+use Rattle.iigs_meaning.specs.Memory.{AreAllPlaced}
 use Rattle.iigs_memory.specs.Spots.{IsBoundedSlot}
 use Rattle.iigs_memory.specs.Store.{IsStore, memory_of}
 use Rattle.iigs_memory.specs.declared.table.Put.{Put}
@@ -70,4 +70,3 @@ module _ (banks buffer : List ℕ) (old now : List (Slot Block)) (spots turns ma
           ∙ sym (bytes_at_is banks buffer old place);
     };
   }
-

@@ -14,7 +14,7 @@ use Rattle.iigs_meaning.specs.Fits.{IsWant, HoldsByte, IsApart, block_in}
 use Rattle.iigs_meaning.specs.Placement.{emptied_where, emptied, is_gone, GoesTo}
 use Rattle.iigs_meaning.specs.Puts.{placed, Purges, Puts, PutsAnew}
 use Rattle.iigs_meaning.specs.Blocks.{AreApart}
-use Rattle.iigs_meaning.specs.Memory.{Memory, KeepsBut, bytes_at}
+use Rattle.iigs_meaning.specs.Memory.{KeepsBut, bytes_at}
 use Rattle.iigs_memory.specs.Offsets.{offset_of}
 use Rattle.iigs_memory.specs.Spots.{IsBounded, IsBoundedSlot}
 use Rattle.iigs_memory.specs.Store.{memory_of, extent, Spans, IsStore}

@@ -130,7 +130,7 @@ module _ (held : FileMap) (old new : Loaded) (state : Machine) (path : List ℕ)
         h = begun.h;
         puts = rw (← agrees.banks, ← agrees.slots) begun.puts;
         id_is = begun.id ∙ ap (λ n. first_id + n) same;
-        entry_is = rw (← agrees.banks, ← agrees.slots) begun.entry;
+        entry_is = begun.entry;
         banks = begun.banks ∙ agrees.banks;
         users = refl;
       }

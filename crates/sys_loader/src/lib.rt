@@ -8,7 +8,7 @@ mod loader;
 mod memory;
 mod user;
 
+pub use iigs_meaning::BanksFault;
 pub use laws::commands_have_one_reply;
 pub use loader::{Loader, Started};
-pub use iigs_meaning::BanksFault;
 pub use loader_machine::LoaderFault;

@@ -1,6 +1,4 @@
-use Rattle.std.proofs.Common.{◌≤◌, ◌∙◌, arith, length, count_by, vec_capacity}
-use Rattle.iigs_meaning.specs.Slots.{is_free}
-use Rattle.iigs_meaning.specs.Puts.{slots_for}
+use Rattle.std.proofs.Common.{◌∙◌, arith, vec_capacity}
 use Rattle.iigs_memory.proofs.AllPlaced.{start_bounded, start_sound, all_lengths, all_inside, all_store, all_placed}
 use Rattle.iigs_memory.proofs.banks.Banks.place_all.Goals as goal
 
