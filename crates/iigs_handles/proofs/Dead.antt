@@ -6,13 +6,13 @@ use Rattle.std.proofs.lemmas.List.Quantifiers.{position-Some}
 use Rattle.std.proofs.Math.ListN.{set, get_or-eq_default}
 use Rattle.std.proofs.lemmas.Bool.{cases_lt, cases_eq}
 use Rattle.std.proofs.lemmas.Bool.Decides.{nat_tests}
-use Rattle.loader_machine.specs.declared.handles.Handle.{Handle}
-use Rattle.loader_machine.specs.declared.slots.Slot.{Slot}
-use Rattle.loader_machine.specs.declared.slots.Content.{Content}
-use Rattle.loader_machine.specs.declared.slots.Content.TheVariants.{Free, Used, Retired}
-use Rattle.loader_machine.specs.Slots.{is_free, is_free_content, slot_at, new_slot, get, used_value, released, IsDead, IsLive, with_slot, after_take, after_release}
-use Rattle.loader_machine.specs.Runs.{Call, after_call, after_all}
-use Rattle.loader_machine.specs.Runs.Call.{take, look, change, release, left}
+use Rattle.iigs_meaning.specs.declared.handles.Handle.{Handle}
+use Rattle.iigs_meaning.specs.declared.slots.Slot.{Slot}
+use Rattle.iigs_meaning.specs.declared.slots.Content.{Content}
+use Rattle.iigs_meaning.specs.declared.slots.Content.TheVariants.{Free, Used, Retired}
+use Rattle.iigs_meaning.specs.Slots.{is_free, is_free_content, slot_at, new_slot, get, used_value, released, IsDead, IsLive, with_slot, after_take, after_release}
+use Rattle.iigs_meaning.specs.Runs.{Call, after_call, after_all}
+use Rattle.iigs_meaning.specs.Runs.Call.{take, look, change, release, left}
 
 module _ {T : Type 0} where
   -- a slot goes on: its generation doesn't fall, and a retired one stays so

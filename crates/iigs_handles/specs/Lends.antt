@@ -1,11 +1,11 @@
 -- What a table of handles ends as, where a value in it is lent to be written.
 use Rattle.std.specs.Prelude.{List, Result}
 use Rattle.std.specs.Borrow.{Lends, LendsIfOk, Fml, RattleType, MutBor}
-use Rattle.loader_machine.specs.declared.handles.Handle.{Handle}
-use Rattle.loader_machine.specs.declared.slots.Slot.{Slot}
-use Rattle.loader_machine.specs.declared.slots.Content.TheVariants.{Used}
-use Rattle.loader_machine.specs.contracts.slots.Slot.{the_row as slot_row}
-use Rattle.loader_machine.specs.Slots.{with_value}
+use Rattle.iigs_meaning.specs.declared.handles.Handle.{Handle}
+use Rattle.iigs_meaning.specs.declared.slots.Slot.{Slot}
+use Rattle.iigs_meaning.specs.declared.slots.Content.TheVariants.{Used}
+use Rattle.iigs_meaning.specs.contracts.slots.Slot.{the_row as slot_row}
+use Rattle.iigs_meaning.specs.Slots.{with_value}
 use Rattle.iigs_handles.specs.contracts.table.Handles.{the_row}
 
 module _ (T : RattleType) where

@@ -1,8 +1,8 @@
 -- What the fields of a table of handles keep. No public clause cites this module.
 use Rattle.std.specs.Prelude.{◌≡◌, ℕ, List, length, count_by}
 use Rattle.std.specs.List.{position_or_len}
-use Rattle.loader_machine.specs.declared.slots.Slot.{Slot}
-use Rattle.loader_machine.specs.Slots.{is_free}
+use Rattle.iigs_meaning.specs.declared.slots.Slot.{Slot}
+use Rattle.iigs_meaning.specs.Slots.{is_free}
 
 module _ {T : Type 0} where
   -- there are 4,096 slots, `first` is the place of the lowest free one, and `free` counts those that are free

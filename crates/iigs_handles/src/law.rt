@@ -1,6 +1,6 @@
 //! The law of released handles, over whole runs of calls.
 
-ghost use Rattle.loader_machine.specs.Runs.{DeadStayDead, ReleasedReachesNothing};
+ghost use Rattle.iigs_meaning.specs.Runs.{DeadStayDead, ReleasedReachesNothing};
 
 /// A handle that was released is stale for ever, whatever is called in between and whatever its slot holds by then.
 /// The function does nothing; its contract is the law.

@@ -7,6 +7,6 @@ mod table;
 #[cfg(test)]
 mod tests;
 
+pub use iigs_meaning::{Content, Handle, Slot, Stale};
 pub use law::dead_stay_dead;
-pub use loader_machine::{Content, Handle, Slot, Stale};
 pub use table::{Handles, HandlesFault, SLOTS};

@@ -6,9 +6,9 @@ ghost use Rattle.std.specs.Result.{result_ok};
 ghost use Rattle.std.specs.List.{position_or_len};
 ghost use Rattle.std.specs.Borrow.{sem, Lends};
 ghost use Rattle.iigs_handles.specs.Lends.{lends_content};
-ghost use Rattle.loader_machine.specs.Slots.{get, is_free as passes_free, slot_at, new_slot, new_handle, after_take, after_release, used_value, with_value, released as released_slot};
+ghost use Rattle.iigs_meaning.specs.Slots.{get, is_free as passes_free, slot_at, new_slot, new_handle, after_take, after_release, used_value, with_value, released as released_slot};
 
-use loader_machine::{Content, Handle, Slot, Stale};
+use iigs_meaning::{Content, Handle, Slot, Stale};
 use std::alloc::{AllocError, Global};
 use std::marker::Model;
 use std::mem;
@@ -49,7 +49,7 @@ pub struct Handles<T> {
 
 impl<T> Model for Handles<T> {
     ghost use Rattle.std.specs.Prelude.{List};
-    ghost use Rattle.loader_machine.specs.declared.slots.Slot.{Slot};
+    ghost use Rattle.iigs_meaning.specs.declared.slots.Slot.{Slot};
 
     ghost Value = { List (Slot T) };
 

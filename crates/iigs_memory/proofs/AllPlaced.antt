@@ -1,17 +1,17 @@
 -- What is left once several blocks were placed.
 use Rattle.std.proofs.Common.{◌≡◌, ℕ, Bool, true, false, ◌≤◌, List, map, All, length, count_by, refl, sym, ◌∙◌, inr}
 use Rattle.std.proofs.lemmas.List.{length-map}
-use Rattle.loader_machine.specs.declared.slots.Slot.{Slot}
-use Rattle.loader_machine.specs.declared.wants.Want.{Want}
-use Rattle.loader_machine.specs.declared.wants.Block.{Block}
-use Rattle.loader_machine.specs.declared.faults.PlaceFault.{PlaceFault}
-use Rattle.loader_machine.specs.declared.faults.PlaceFault.TheVariants.{Stale, NotEmpty, NoHandle, NoRoom}
-use Rattle.loader_machine.specs.Slots.{slot_at, is_free}
-use Rattle.loader_machine.specs.Memory.{Memory, AreApart, slots_for, without_user_in, AreAllPlaced, IsPlaceAllRefusal}
+use Rattle.iigs_meaning.specs.declared.slots.Slot.{Slot}
+use Rattle.iigs_meaning.specs.declared.wants.Want.{Want}
+use Rattle.iigs_meaning.specs.declared.wants.Block.{Block}
+use Rattle.iigs_meaning.specs.Slots.{slot_at, is_free}
+use Rattle.iigs_meaning.specs.Puts.{Purges, slots_for, without_user_in}
+use Rattle.iigs_meaning.specs.Blocks.{AreApart}
+use Rattle.iigs_meaning.specs.Memory.{AreAllPlaced}
 use Rattle.iigs_memory.specs.Spots.{IsBoundedSlot}
 use Rattle.iigs_memory.specs.Store.{IsStore, memory_of}
 use Rattle.iigs_memory.specs.declared.table.Put.{Put}
-use Rattle.iigs_memory.specs.Alls.{handle_of, AllPut, FitIn, IsAllRefusal, cleared}
+use Rattle.iigs_memory.specs.Alls.{handle_of, AllPut, FitIn, cleared}
 use Rattle.iigs_memory.proofs.Keeps.{bytes_at_is}
 use Rattle.iigs_memory.proofs.Stores.{Stays, stays_bytes, users_stay, apart_stays}
 use Rattle.iigs_memory.proofs.Changed.{users_bounded}
@@ -53,9 +53,11 @@ module _ (banks buffer : List ℕ) (old now : List (Slot Block)) (spots turns ma
     made_room = m;
   }
 
-  pub all_placed : AreAllPlaced (memory_of banks old buffer) user fresh wants (map handle_of puts) (memory_of banks now (cleared banks wants puts buffer))
-  all_placed = record {
-    slots = all.places;
+  pub all_placed : length wants ≤ count_by is_free (slots_for old user fresh)
+      → AreAllPlaced Purges (memory_of banks old buffer) user fresh wants (map handle_of puts) (memory_of banks now (cleared banks wants puts buffer))
+  all_placed enough = record {
+    enough = enough;
+    puts = all.places;
     zeros = λ i want h is at. bytes_at_is banks (cleared banks wants puts buffer) now h.slot
         ∙ cleared_zeros banks user now all.bounded all.sound wants puts buffer store.room all.blocks i want h is at;
     kept = record {
@@ -68,20 +70,3 @@ module _ (banks buffer : List ℕ) (old now : List (Slot Block)) (spots turns ma
           ∙ sym (bytes_at_is banks buffer old place);
     };
   }
-
-pub refused_all : (memory : Memory) (user : ℕ) (fresh : Bool) (wants : List Want) (fault : PlaceFault) → length wants ≤ count_by is_free (slots_for memory.slots user fresh)
-    → IsAllRefusal memory.banks user (slots_for memory.slots user fresh) wants fault → IsPlaceAllRefusal memory user fresh wants fault
-refused_all memory user fresh wants Stale enough never = never
-refused_all memory user fresh wants NotEmpty enough never = never
-refused_all memory user fresh wants NoHandle enough never = absurd never
-refused_all memory user fresh wants (NoRoom i) enough lacks = (
-  enough,
-  record {
-    want = lacks.want;
-    is = lacks.is;
-    handles = lacks.handles;
-    last = lacks.last;
-    before = lacks.before;
-    none = lacks.none;
-  },
-)

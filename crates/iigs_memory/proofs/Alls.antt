@@ -5,15 +5,16 @@ use Rattle.std.proofs.Math.ListN.{set}
 use Rattle.std.proofs.lemmas.List.{length-replicate, map-append, take_more, length-take}
 use Rattle.std.proofs.lemmas.List.Sums.{sum_by-set, sum_by-cons}
 use Rattle.std.proofs.lemmas.List.Quantifiers.{position-Some}
-use Rattle.loader_machine.specs.declared.handles.Handle.{Handle}
-use Rattle.loader_machine.specs.declared.slots.Slot.{Slot}
-use Rattle.loader_machine.specs.declared.slots.Content.TheVariants.{Used}
-use Rattle.loader_machine.specs.declared.wants.Want.{Want}
-use Rattle.loader_machine.specs.declared.wants.Block.{Block}
-use Rattle.loader_machine.specs.Slots.{slot_at, new_slot, is_free, after_take, new_handle, lowest_free}
-use Rattle.loader_machine.specs.Fits.{IsWant, block_in}
-use Rattle.loader_machine.specs.Placement.{can_purge, emptied_where, emptied, is_gone, GoesTo, rank}
-use Rattle.loader_machine.specs.Memory.{placed, PlacesAll, AreApart}
+use Rattle.iigs_meaning.specs.declared.handles.Handle.{Handle}
+use Rattle.iigs_meaning.specs.declared.slots.Slot.{Slot}
+use Rattle.iigs_meaning.specs.declared.slots.Content.TheVariants.{Used}
+use Rattle.iigs_meaning.specs.declared.wants.Want.{Want}
+use Rattle.iigs_meaning.specs.declared.wants.Block.{Block}
+use Rattle.iigs_meaning.specs.Slots.{slot_at, new_slot, is_free, after_take, new_handle, lowest_free}
+use Rattle.iigs_meaning.specs.Fits.{IsWant, block_in}
+use Rattle.iigs_meaning.specs.Placement.{can_purge, emptied_where, emptied, is_gone, rank}
+use Rattle.iigs_meaning.specs.Puts.{placed, Purges, Puts, PutsAll}
+use Rattle.iigs_meaning.specs.Blocks.{AreApart}
 use Rattle.iigs_memory.specs.Spots.{IsBoundedSlot}
 use Rattle.iigs_memory.specs.Offsets.{offset_of}
 use Rattle.iigs_memory.specs.declared.table.Put.{Put}
@@ -22,23 +23,21 @@ use Rattle.iigs_memory.specs.Alls.{handle_of, BlocksAre, NotAmong, AllPut, clear
 use Rattle.iigs_memory.proofs.Takes.{gone_handle, emptied_free}
 use Rattle.iigs_memory.proofs.Stores.{StaysIn, slot_at-map}
 use Rattle.iigs_memory.proofs.Changed.{set_other, set_here, taken}
-use Rattle.iigs_memory.proofs.Puts.{PutFacts, put_facts}
+use Rattle.iigs_memory.proofs.Puts.{PutFacts, put_is, put_facts}
 
 -- the buffer with one block's bytes zeros
 abbrev pub clear_one : ℕ → ℕ → List ℕ → List ℕ
 clear_one start size buffer = take start buffer ++ (replicate size 0 ++ drop (start + size) buffer)
 
 -- one more at the end
-pub places_more : (banks : List ℕ) (user : ℕ) (start : List (Slot Block)) (wants : List Want) (hs : List Handle) (now next : List (Slot Block)) (want : Want) (h : Handle) (count address : ℕ)
-    → PlacesAll banks user start wants hs now → GoesTo banks now want count address → new_handle now ≡ Some h
-    → next ≡ after_take (emptied now count) (placed want address user true 0)
-    → PlacesAll banks user start (wants ++ want ∷ []) (hs ++ h ∷ []) next
-places_more banks user start [] [] now next want h count address done goes handle is =
-    (count, address, subst (λ (s : List (Slot Block)). GoesTo banks s want count address) done goes, rw (← done) handle, rw (← done) is)
-places_more banks user start [] (g ∷ hs) now next want h count address done goes handle is = absurd done
-places_more banks user start (w ∷ wants) [] now next want h count address done goes handle is = absurd done
-places_more banks user start (w ∷ wants) (g ∷ hs) now next want h count address done goes handle is =
-    (done.0, done.1, done.2, done.3, places_more banks user (after_take (emptied start done.0) (placed w done.1 user true 0)) wants hs now next want h count address done.4 goes handle is)
+pub puts_more : (banks : List ℕ) (user : ℕ) (start : List (Slot Block)) (wants : List Want) (hs : List Handle) (now next : List (Slot Block)) (want : Want) (h : Handle)
+    → PutsAll Purges banks user start wants hs now → Puts Purges banks now want user true 0 h next
+    → PutsAll Purges banks user start (wants ++ want ∷ []) (hs ++ h ∷ []) next
+puts_more banks user start [] [] now next want h done one = (next, subst (λ (s : List (Slot Block)). Puts Purges banks s want user true 0 h next) done one, refl)
+puts_more banks user start [] (g ∷ hs) now next want h done one = absurd done
+puts_more banks user start (w ∷ wants) [] now next want h done one = absurd done
+puts_more banks user start (w ∷ wants) (g ∷ hs) now next want h done one =
+    (done.0, done.1, puts_more banks user done.0 wants hs now next want h done.2 one)
 
 -- a locked block stays
 locked_stays : (slots : List (Slot Block)) (count : ℕ) (slot : Slot Block) (block : Block) → block.locked ≡ true → block_in slot ≡ Some block
@@ -144,7 +143,7 @@ pub all_more : (banks : List ℕ) (user : ℕ) (start now next : List (Slot Bloc
 all_more banks user start now next wants puts want put small is_want all done =
     let facts : PutFacts banks now want put next = put_facts banks now next want user true 0 put small is_want all.bounded all.sound (omega arith) done in
     record {
-      places = rw (map-append handle_of puts (put ∷ [])) (places_more banks user start wants (map handle_of puts) now next want put.handle done.count put.at all.places done.goes done.handle done.slots);
+      places = rw (map-append handle_of puts (put ∷ [])) (puts_more banks user start wants (map handle_of puts) now next want put.handle all.places (put_is banks now next want user true 0 put done));
       bounded = facts.bounded;
       sound = facts.sound;
       len = facts.len ∙ all.len;

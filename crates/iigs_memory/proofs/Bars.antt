@@ -1,8 +1,8 @@
 -- What bars a block in one bank.
 use Rattle.std.proofs.Common.{◌≡◌, ℕ, ◌+◌, ◌*◌, ◌/◌, ◌%◌, ◌^◌, ◌<◌, ◌≤◌, max, min, List, arith, All, Contains, subst, ◌-◌, inl, inr}
 use Rattle.std.proofs.lemmas.Bool.{cases_lt}
-use Rattle.loader_machine.specs.declared.wants.Want.{Want}
-use Rattle.loader_machine.specs.Free.{first_free, free_end, IsFree}
+use Rattle.iigs_meaning.specs.declared.wants.Want.{Want}
+use Rattle.iigs_meaning.specs.Free.{first_free, free_end, IsFree}
 use Rattle.iigs_memory.specs.declared.open.Span.{Span}
 use Rattle.iigs_memory.specs.Open.{Permits, Allows, AllowsNone, IsSpan, IsClear, ClearIn, BarredUpTo, IsNextStand, IsOpen}
 

@@ -2,7 +2,7 @@
 use Rattle.std.proofs.Common.{inl, inr, ℕ, ◌+◌, ◌<◌, ◌≤◌, List, length, get_or, arith}
 use Rattle.std.specs.List.Sorted.{IsNonDecreasingBy}
 use Rattle.std.proofs.lemmas.Bool.{cases_lt}
-use Rattle.loader_machine.specs.declared.wants.Want.{Want}
+use Rattle.iigs_meaning.specs.declared.wants.Want.{Want}
 use Rattle.iigs_memory.specs.declared.spots.Spot.{Spot}
 use Rattle.iigs_memory.specs.Open.{IsNextOpen}
 use Rattle.iigs_memory.specs.Spots.{FitsAmong, IsLeastAmong, IsBeside, IsPast}

@@ -6,15 +6,15 @@ use Rattle.std.proofs.lemmas.List.{get_or-set_same, get_or-set_other}
 use Rattle.std.proofs.lemmas.Bool.{cases_lt, cases_eq}
 use Rattle.std.proofs.lemmas.List.Elements.{All-map}
 use Rattle.std.proofs.lemmas.List.Quantifiers.{position-Some}
-use Rattle.loader_machine.specs.declared.handles.Handle.{Handle}
-use Rattle.loader_machine.specs.declared.slots.Slot.{Slot}
-use Rattle.loader_machine.specs.declared.slots.Content.{Content}
-use Rattle.loader_machine.specs.declared.slots.Content.TheVariants.{Free, Used, Retired}
-use Rattle.loader_machine.specs.declared.wants.Block.{Block}
-use Rattle.loader_machine.specs.Slots.{slot_at, new_slot, get, used_value, with_slot, released, after_take, after_release, is_free, is_free_content, new_handle, lowest_free}
-use Rattle.loader_machine.specs.Fits.{block_in}
-use Rattle.loader_machine.specs.Placement.{emptied_where, emptied, is_gone}
-use Rattle.loader_machine.specs.Memory.{without_user, without_user_in}
+use Rattle.iigs_meaning.specs.declared.handles.Handle.{Handle}
+use Rattle.iigs_meaning.specs.declared.slots.Slot.{Slot}
+use Rattle.iigs_meaning.specs.declared.slots.Content.{Content}
+use Rattle.iigs_meaning.specs.declared.slots.Content.TheVariants.{Free, Used, Retired}
+use Rattle.iigs_meaning.specs.declared.wants.Block.{Block}
+use Rattle.iigs_meaning.specs.Slots.{slot_at, new_slot, get, used_value, with_slot, released, after_take, after_release, is_free, is_free_content, new_handle, lowest_free}
+use Rattle.iigs_meaning.specs.Fits.{block_in}
+use Rattle.iigs_meaning.specs.Placement.{emptied_where, emptied, is_gone}
+use Rattle.iigs_meaning.specs.Puts.{without_user, without_user_in}
 use Rattle.iigs_memory.specs.Spots.{IsBounded, IsBoundedSlot}
 use Rattle.iigs_memory.proofs.Extents.{each_slot, all_slots}
 use Rattle.iigs_memory.proofs.Stores.{StaysIn, Stays, released_none}

@@ -4,13 +4,14 @@ use Rattle.std.specs.Option.{option_and_then}
 use Rattle.std.proofs.Math.ListN.{set}
 use Rattle.std.proofs.lemmas.List.{length-replicate}
 use Rattle.std.proofs.lemmas.Bool.{cases_eq}
-use Rattle.loader_machine.specs.declared.handles.Handle.{Handle}
-use Rattle.loader_machine.specs.declared.slots.Slot.{Slot}
-use Rattle.loader_machine.specs.declared.wants.Want.{Want}
-use Rattle.loader_machine.specs.declared.wants.Block.{Block}
-use Rattle.loader_machine.specs.Slots.{slot_at}
-use Rattle.loader_machine.specs.Fits.{block_in}
-use Rattle.loader_machine.specs.Memory.{AreApart, placed}
+use Rattle.iigs_meaning.specs.declared.handles.Handle.{Handle}
+use Rattle.iigs_meaning.specs.declared.slots.Slot.{Slot}
+use Rattle.iigs_meaning.specs.declared.wants.Want.{Want}
+use Rattle.iigs_meaning.specs.declared.wants.Block.{Block}
+use Rattle.iigs_meaning.specs.Slots.{slot_at}
+use Rattle.iigs_meaning.specs.Fits.{block_in}
+use Rattle.iigs_meaning.specs.Puts.{placed}
+use Rattle.iigs_meaning.specs.Blocks.{AreApart}
 use Rattle.iigs_memory.specs.Offsets.{offset_of, bytes_below}
 use Rattle.iigs_memory.specs.Spots.{IsBoundedSlot}
 use Rattle.iigs_memory.specs.Store.{extent, extent_of, bytes_in}

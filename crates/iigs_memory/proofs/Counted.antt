@@ -1,7 +1,7 @@
 -- How many numbers below a limit have a property.
 use Rattle.std.proofs.Common.{◌≡◌, ◌⊎◌, inl, inr, ℕ, zero, suc, ◌+◌, ◌-◌, ◌<◌, ◌≤◌, ◌↔◌, arith, refl, ap, subst}
-use Rattle.loader_machine.specs.Room.{CountsBelow}
-use Rattle.loader_machine.specs.Room.CountsBelow.{none, one_more, no_more}
+use Rattle.iigs_meaning.specs.Room.{CountsBelow}
+use Rattle.iigs_meaning.specs.Room.CountsBelow.{none, one_more, no_more}
 
 -- the same count under other names of its numbers
 pub counts_at : (P : ℕ → Type 0) (limit other count number : ℕ) → limit ≡ other → count ≡ number → CountsBelow P limit count → CountsBelow P other number

@@ -6,7 +6,7 @@ use Rattle.std.proofs.lemmas.Bool.{eqb-true}
 use Rattle.std.proofs.lemmas.Bool.Decides.{nat_tests}
 use Rattle.std.proofs.lemmas.Map.Views.{list_any-from_Contains, Contains-from_any}
 use Rattle.std.proofs.Common.{◌-◌}
-use Rattle.loader_machine.specs.Free.{free_end, first_free}
+use Rattle.iigs_meaning.specs.Free.{free_end, first_free}
 use Rattle.iigs_memory.specs.Sizes.{free_below}
 use Rattle.iigs_memory.specs.Offsets.{is_named, bytes_below}
 

@@ -4,12 +4,12 @@ use Rattle.std.specs.Option.{option_map_or, option_and_then}
 use Rattle.std.proofs.Math.ListN.{get_or-eq_default}
 use Rattle.std.proofs.lemmas.List.{get_or_default}
 use Rattle.std.proofs.lemmas.Bool.{cases_lt}
-use Rattle.loader_machine.specs.declared.slots.Slot.{Slot}
-use Rattle.loader_machine.specs.declared.wants.Block.{Block}
-use Rattle.loader_machine.specs.Slots.{slot_at, new_slot}
-use Rattle.loader_machine.specs.Free.{bank_of}
-use Rattle.loader_machine.specs.Fits.{HoldsByte, block_in}
-use Rattle.loader_machine.specs.Memory.{AreApart, address_in}
+use Rattle.iigs_meaning.specs.declared.slots.Slot.{Slot}
+use Rattle.iigs_meaning.specs.declared.wants.Block.{Block}
+use Rattle.iigs_meaning.specs.Slots.{slot_at, new_slot}
+use Rattle.iigs_meaning.specs.Free.{bank_of}
+use Rattle.iigs_meaning.specs.Fits.{HoldsByte, block_in}
+use Rattle.iigs_meaning.specs.Blocks.{AreApart, address_in}
 use Rattle.iigs_memory.specs.Offsets.{bytes_below, offset_of}
 use Rattle.iigs_memory.specs.Spots.{IsBounded, IsBoundedSlot}
 use Rattle.iigs_memory.specs.Overlay.{written_over}

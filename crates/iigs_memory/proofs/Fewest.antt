@@ -3,7 +3,7 @@ use Rattle.std.proofs.Common.{◌≡◌, inl, inr, ℕ, false, ◌==◌, ◌+◌
 use Rattle.std.specs.List.Sorted.{IsNonDecreasingBy}
 use Rattle.std.proofs.lemmas.Bool.{cases_lt}
 use Rattle.std.proofs.lemmas.Bool.Decides.{nat_tests}
-use Rattle.loader_machine.specs.declared.wants.Want.{Want}
+use Rattle.iigs_meaning.specs.declared.wants.Want.{Want}
 use Rattle.iigs_memory.specs.declared.spots.Spot.{Spot}
 use Rattle.iigs_memory.specs.Spots.{FitsAmong, IsLeastAmong, IsFewestAmong, FitsWithNone, limit_of}
 

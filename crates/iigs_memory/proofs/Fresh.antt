@@ -1,10 +1,10 @@
 -- A store without blocks.
 use Rattle.std.proofs.Common.{◌≡◌, ℕ, zero, suc, ◌<◌, ◌≤◌, List, replicate, All, length, refl}
 use Rattle.std.proofs.lemmas.List.{length-replicate}
-use Rattle.loader_machine.specs.declared.wants.Block.{Block}
-use Rattle.loader_machine.specs.Slots.{slot_at, new_slot}
-use Rattle.loader_machine.specs.Fits.{HoldsByte}
-use Rattle.loader_machine.specs.Memory.{AreApart, new_slots}
+use Rattle.iigs_meaning.specs.declared.wants.Block.{Block}
+use Rattle.iigs_meaning.specs.Slots.{slot_at, new_slot}
+use Rattle.iigs_meaning.specs.Fits.{HoldsByte}
+use Rattle.iigs_meaning.specs.Blocks.{AreApart, new_slots}
 use Rattle.iigs_memory.specs.Offsets.{bytes_below}
 use Rattle.iigs_memory.specs.Spots.{IsBoundedSlot}
 use Rattle.iigs_memory.specs.Store.{IsStore}

@@ -2,14 +2,14 @@
 use Rattle.std.proofs.Common.{◌≡◌, inr, ℕ, Bool, true, false, cond, ◌<◌, List, [], map, All, length, Option, Some, None, IsSome, IsSomeAnd, IfSome, is_some, refl, ap, ◌∙◌}
 use Rattle.std.proofs.Math.ListN.{set, length-set}
 use Rattle.std.proofs.lemmas.List.{length-map}
-use Rattle.loader_machine.specs.declared.handles.Handle.{Handle}
-use Rattle.loader_machine.specs.declared.slots.Slot.{Slot}
-use Rattle.loader_machine.specs.declared.slots.Content.TheVariants.{Used}
-use Rattle.loader_machine.specs.declared.wants.Block.{Block}
-use Rattle.loader_machine.specs.Slots.{slot_at, get, with_slot, with_value, released, after_release}
-use Rattle.loader_machine.specs.Fits.{block_in}
-use Rattle.loader_machine.specs.Placement.{emptied_where}
-use Rattle.loader_machine.specs.Memory.{KeepsBut}
+use Rattle.iigs_meaning.specs.declared.handles.Handle.{Handle}
+use Rattle.iigs_meaning.specs.declared.slots.Slot.{Slot}
+use Rattle.iigs_meaning.specs.declared.slots.Content.TheVariants.{Used}
+use Rattle.iigs_meaning.specs.declared.wants.Block.{Block}
+use Rattle.iigs_meaning.specs.Slots.{slot_at, get, with_slot, with_value, released, after_release}
+use Rattle.iigs_meaning.specs.Fits.{block_in}
+use Rattle.iigs_meaning.specs.Placement.{emptied_where}
+use Rattle.iigs_meaning.specs.Memory.{KeepsBut}
 use Rattle.iigs_memory.specs.Spots.{IsBounded, IsBoundedSlot}
 use Rattle.iigs_memory.specs.Store.{memory_of, IsStore}
 use Rattle.iigs_memory.proofs.Extents.{each_slot}

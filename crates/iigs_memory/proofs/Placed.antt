@@ -5,14 +5,14 @@ use Rattle.std.proofs.lemmas.Bool.{cases_lt}
 use Rattle.std.proofs.lemmas.Bool.Decides.{nat_tests}
 use Rattle.std.proofs.lemmas.List.Elements.{All-cons, All-head, All-tail, All-map}
 use Rattle.std.proofs.lemmas.List.Sorted.{All-permutation, IsPermutation-sym}
-use Rattle.loader_machine.specs.declared.slots.Slot.{Slot}
-use Rattle.loader_machine.specs.declared.slots.Content.{Content}
-use Rattle.loader_machine.specs.declared.slots.Content.TheVariants.{Free, Used, Retired}
-use Rattle.loader_machine.specs.declared.wants.Want.{Want}
-use Rattle.loader_machine.specs.declared.wants.Block.{Block}
-use Rattle.loader_machine.specs.Free.{bank_of}
-use Rattle.loader_machine.specs.Fits.{Fits, IsWant, IsApart, HoldsByte, block_in}
-use Rattle.loader_machine.specs.Placement.{can_purge, is_gone, rank, emptied_where, emptied, HasNoRoom}
+use Rattle.iigs_meaning.specs.declared.slots.Slot.{Slot}
+use Rattle.iigs_meaning.specs.declared.slots.Content.{Content}
+use Rattle.iigs_meaning.specs.declared.slots.Content.TheVariants.{Free, Used, Retired}
+use Rattle.iigs_meaning.specs.declared.wants.Want.{Want}
+use Rattle.iigs_meaning.specs.declared.wants.Block.{Block}
+use Rattle.iigs_meaning.specs.Free.{bank_of}
+use Rattle.iigs_meaning.specs.Fits.{Fits, IsWant, IsApart, HoldsByte, block_in}
+use Rattle.iigs_meaning.specs.Placement.{can_purge, is_gone, rank, emptied_where, emptied, HasNoRoom}
 use Rattle.iigs_memory.specs.declared.spots.Spot.{Spot}
 use Rattle.iigs_memory.specs.declared.search.Found.{Found}
 use Rattle.iigs_memory.specs.Open.{IsOpen}

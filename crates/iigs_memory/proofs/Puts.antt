@@ -2,24 +2,24 @@
 use Rattle.std.proofs.Common.{◌≡◌, ◌≢◌, inl, inr, ℕ, Bool, true, false, cond, ◌==◌, ◌+◌, ◌-◌, ◌<◌, ◌≤◌, ◌^◌, ◌/◌, List, [], ◌∷◌, ◌++◌, map, take, drop, replicate, All, length, Option, Some, None, IsSome, IsSomeAnd, IfSome, is_some, arith, refl, sym, ap, ◌∙◌, subst}
 use Rattle.std.proofs.Math.ListN.{set, length-set}
 use Rattle.std.proofs.lemmas.List.{length-map, length-replicate, drop-drop}
-use Rattle.loader_machine.specs.declared.handles.Handle.{Handle}
-use Rattle.loader_machine.specs.declared.slots.Slot.{Slot}
-use Rattle.loader_machine.specs.declared.slots.Content.{Content}
-use Rattle.loader_machine.specs.declared.slots.Content.TheVariants.{Free, Used, Retired}
-use Rattle.loader_machine.specs.declared.wants.Want.{Want}
-use Rattle.loader_machine.specs.declared.wants.Block.{Block}
-use Rattle.loader_machine.specs.declared.faults.PlaceFault.{PlaceFault}
-use Rattle.loader_machine.specs.declared.faults.PlaceFault.TheVariants.{Stale, NotEmpty, NoHandle, NoRoom}
-use Rattle.loader_machine.specs.Slots.{slot_at, get, used_value}
-use Rattle.loader_machine.specs.Free.{IsFree}
-use Rattle.loader_machine.specs.Fits.{IsWant, HoldsByte, IsApart, block_in}
-use Rattle.loader_machine.specs.Placement.{emptied_where, emptied, is_gone, GoesTo}
-use Rattle.loader_machine.specs.Memory.{Memory, AreApart, KeepsBut, bytes_at, placed, IsPlaceRefusal, IsReplaceRefusal}
+use Rattle.iigs_meaning.specs.declared.handles.Handle.{Handle}
+use Rattle.iigs_meaning.specs.declared.slots.Slot.{Slot}
+use Rattle.iigs_meaning.specs.declared.slots.Content.{Content}
+use Rattle.iigs_meaning.specs.declared.slots.Content.TheVariants.{Free, Used, Retired}
+use Rattle.iigs_meaning.specs.declared.wants.Want.{Want}
+use Rattle.iigs_meaning.specs.declared.wants.Block.{Block}
+use Rattle.iigs_meaning.specs.Slots.{slot_at, get, used_value}
+use Rattle.iigs_meaning.specs.Free.{IsFree}
+use Rattle.iigs_meaning.specs.Fits.{IsWant, HoldsByte, IsApart, block_in}
+use Rattle.iigs_meaning.specs.Placement.{emptied_where, emptied, is_gone, GoesTo}
+use Rattle.iigs_meaning.specs.Puts.{placed, Purges, Puts, PutsAnew}
+use Rattle.iigs_meaning.specs.Blocks.{AreApart}
+use Rattle.iigs_meaning.specs.Memory.{KeepsBut, bytes_at}
 use Rattle.iigs_memory.specs.Offsets.{offset_of}
 use Rattle.iigs_memory.specs.Spots.{IsBounded, IsBoundedSlot}
 use Rattle.iigs_memory.specs.Store.{memory_of, extent, Spans, IsStore}
 use Rattle.iigs_memory.specs.declared.table.Put.{Put}
-use Rattle.iigs_memory.specs.Table.{IsPut, IsPutRefusal, IsReput, IsReputRefusal}
+use Rattle.iigs_memory.specs.Table.{IsPut, IsReput}
 use Rattle.iigs_memory.proofs.Parts.{overlay, length-overlay}
 use Rattle.iigs_memory.proofs.Extents.{each_slot, in_buffer, holds_to}
 use Rattle.iigs_memory.proofs.Takes.{gone_handle}
@@ -118,6 +118,29 @@ pub record PutFacts (banks : List ℕ) (old : List (Slot Block)) (want : Want) (
 no_byte : (slot : Slot Block) (i : ℕ) → block_in slot ≡ None → ¬ HoldsByte i slot
 no_byte slot i none holds = let no : IsSomeAnd {T = Block} None (λ block. IsSomeAnd block.at (λ first. (first ≤ i) × (i < first + block.want.size))) = rw none at holds in absurd no
 
+-- the same in the words of placement
+pub put_is : (banks : List ℕ) (old new : List (Slot Block)) (want : Want) (user : ℕ) (locked : Bool) (level : ℕ) (put : Put)
+    → IsPut banks old want user locked level put new → Puts Purges banks old want user locked level put.handle new
+put_is banks old new want user locked level put done = record {
+  address = put.at;
+  room = emptied old done.count;
+  makes = record { count = done.count; goes = done.goes; room_is = refl };
+  handle = done.handle;
+  next_is = done.slots;
+}
+
+pub reput_is : (banks : List ℕ) (old new : List (Slot Block)) (h : Handle) (want : Want) (address : ℕ)
+    → IsReput banks old h want address new → PutsAnew Purges banks old h want new
+reput_is banks old new h want address done = record {
+  block = done.block;
+  was = done.was;
+  empty = done.empty;
+  address = address;
+  room = emptied old done.count;
+  makes = record { count = done.count; goes = done.goes; room_is = refl };
+  next_is = done.slots;
+}
+
 pub put_facts : (banks : List ℕ) (old new : List (Slot Block)) (want : Want) (user : ℕ) (locked : Bool) (level : ℕ) (put : Put)
     → All (λ bank. bank < 256) banks → IsWant want → All IsBoundedSlot old → AreApart banks old → level < 256
     → IsPut banks old want user locked level put new → PutFacts banks old want put new
@@ -134,12 +157,6 @@ put_facts banks old new want user locked level put small is_want bounded sound l
       sound = put_apart banks small old want is_want done.count put.at done.goes bounded sound user locked level low put.handle.slot put.handle.generation inside
           (λ i. no_byte (slot_at (emptied old done.count) put.handle.slot) i took.2);
     })
-
-pub refused_place : (memory : Memory) (want : Want) (fault : PlaceFault) → IsPutRefusal memory.banks memory.slots want fault → IsPlaceRefusal memory want fault
-refused_place memory want Stale never = never
-refused_place memory want NotEmpty never = never
-refused_place memory want NoHandle none = none
-refused_place memory want (NoRoom i) none = none
 
 -- a live handle stays live when blocks are emptied
 emptied_live : (test : Block → Bool) (slot : Slot Block) (h : Handle) → IsSome (cond (slot.generation == h.generation) (block_in slot) None)
@@ -199,12 +216,6 @@ reput_facts banks old new h want address small is_want bounded sound done =
       sound = put_apart banks small old want is_want done.count address done.goes bounded sound done.block.user done.block.locked done.block.level low h.slot h.generation inside
           (λ i. no_extent (slot_at (emptied old done.count) h.slot) i (stays_empty (slot_at old h.slot) (slot_at (emptied old done.count) h.slot) (gone_stays old done.count h.slot) empty));
     })
-
-pub refused_replace : (memory : Memory) (h : Handle) (want : Want) (fault : PlaceFault) → IsReputRefusal memory.banks memory.slots h want fault → IsReplaceRefusal memory h want fault
-refused_replace memory h want Stale never = never
-refused_replace memory h want NotEmpty never = never
-refused_replace memory h want NoHandle none = none
-refused_replace memory h want (NoRoom i) none = none
 
 pub is_none : (o : Option ℕ) → is_some o ≡ false → o ≡ None
 is_none None e = refl

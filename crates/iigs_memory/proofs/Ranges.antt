@@ -1,7 +1,7 @@
 -- Blocks lie one after another in the buffer, as they do in memory.
 use Rattle.std.proofs.Common.{◌≡◌, inl, inr, ℕ, Bool, true, cond, zero, suc, ◌+◌, ◌-◌, ◌^◌, ◌<◌, ◌≤◌, List, Contains, arith, refl, ◌∙◌}
 use Rattle.std.proofs.lemmas.Bool.{cases_lt, cases_eq}
-use Rattle.loader_machine.specs.Free.{bank_of}
+use Rattle.iigs_meaning.specs.Free.{bank_of}
 use Rattle.iigs_memory.specs.Offsets.{is_named, bytes_below, offset_of}
 use Rattle.iigs_memory.proofs.Counts.{bytes_below-suc, named-Contains}
 

@@ -3,14 +3,15 @@ use Rattle.std.proofs.Common.{◌≡◌, ◌⊎◌, inl, inr, ℕ, Bool, true, f
 use Rattle.std.specs.Option.{option_map_or}
 use Rattle.std.proofs.lemmas.List.Sums.{sum_by-cons}
 use Rattle.std.proofs.lemmas.List.Elements.{All-head, All-tail}
-use Rattle.loader_machine.specs.declared.slots.Slot.{Slot}
-use Rattle.loader_machine.specs.declared.wants.Block.{Block}
-use Rattle.loader_machine.specs.Slots.{slot_at}
-use Rattle.loader_machine.specs.Free.{bank_of, low_of, first_free, free_end, is_special, IsFree}
-use Rattle.loader_machine.specs.Fits.{block_in, HoldsByte}
-use Rattle.loader_machine.specs.Memory.{Memory, AreApart}
-use Rattle.loader_machine.specs.Room.{CountsBelow, IsRoom}
-use Rattle.loader_machine.specs.Room.CountsBelow.{none}
+use Rattle.iigs_meaning.specs.declared.slots.Slot.{Slot}
+use Rattle.iigs_meaning.specs.declared.wants.Block.{Block}
+use Rattle.iigs_meaning.specs.Slots.{slot_at}
+use Rattle.iigs_meaning.specs.Free.{bank_of, low_of, first_free, free_end, is_special, IsFree}
+use Rattle.iigs_meaning.specs.Fits.{block_in, HoldsByte}
+use Rattle.iigs_meaning.specs.Blocks.{AreApart}
+use Rattle.iigs_meaning.specs.Memory.{Memory}
+use Rattle.iigs_meaning.specs.Room.{CountsBelow, IsRoom}
+use Rattle.iigs_meaning.specs.Room.CountsBelow.{none}
 use Rattle.iigs_memory.specs.Offsets.{is_named}
 use Rattle.iigs_memory.specs.Sizes.{free_below, size_in}
 use Rattle.iigs_memory.specs.Spots.{IsBounded, IsBoundedSlot}
@@ -117,7 +118,7 @@ held_counts (slot ∷ slots) bounded apart =
 
 -- the room and the bytes of the blocks are the free bytes
 pub room_counts : (memory : Memory) → All IsBoundedSlot memory.slots → AreApart memory.banks memory.slots
-    → (room : ℕ) × (room + sum_by size_in memory.slots ≡ free_below memory.banks 256) × CountsBelow (IsRoom memory) (2 ^ 24) room
+    → (room : ℕ) × (room + sum_by size_in memory.slots ≡ free_below memory.banks 256) × CountsBelow (IsRoom memory.banks memory.slots) (2 ^ 24) room
 room_counts memory bounded apart =
     let free : CountsBelow (IsFree memory.banks) (2 ^ 24) (free_below memory.banks 256) = free_counts memory.banks 256 in
     let held : CountsBelow (IsHeld memory.slots) (2 ^ 24) (sum_by size_in memory.slots) = held_counts memory.slots bounded apart.apart in
@@ -125,6 +126,6 @@ room_counts memory bounded apart =
     (λ i held. apart.inside held.0 i held.1) in (
       left.0,
       left.1,
-      counts_same (λ i. IsFree memory.banks i × ¬ IsHeld memory.slots i) (IsRoom memory) (2 ^ 24) left.0 left.2
+      counts_same (λ i. IsFree memory.banks i × ¬ IsHeld memory.slots i) (IsRoom memory.banks memory.slots) (2 ^ 24) left.0 left.2
           (λ i less. (λ both. record { free = both.0; no_block = λ place holds. both.1 (place, holds) }, λ room. (room.free, λ held. room.no_block held.0 held.1))),
     )

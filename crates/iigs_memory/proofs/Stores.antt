@@ -3,15 +3,17 @@ use Rattle.std.proofs.Common.{◌≡◌, ◌≢◌, ◌⊎◌, inl, inr, ℕ, Bo
 use Rattle.std.proofs.Math.ListN.{get_or-eq_default}
 use Rattle.std.proofs.lemmas.List.{get_or-map, length-map}
 use Rattle.std.proofs.lemmas.Bool.{cases_lt, cases_eq}
-use Rattle.loader_machine.specs.declared.slots.Slot.{Slot}
-use Rattle.loader_machine.specs.declared.slots.Content.{Content}
-use Rattle.loader_machine.specs.declared.slots.Content.TheVariants.{Free, Used, Retired}
-use Rattle.loader_machine.specs.declared.wants.Block.{Block}
-use Rattle.loader_machine.specs.Slots.{slot_at, new_slot, released}
-use Rattle.loader_machine.specs.Free.{IsFree}
-use Rattle.loader_machine.specs.Fits.{HoldsByte}
-use Rattle.loader_machine.specs.Placement.{emptied_where}
-use Rattle.loader_machine.specs.Memory.{AreApart, KeepsBut, bytes_at, address_in, without_user, without_user_in}
+use Rattle.iigs_meaning.specs.declared.slots.Slot.{Slot}
+use Rattle.iigs_meaning.specs.declared.slots.Content.{Content}
+use Rattle.iigs_meaning.specs.declared.slots.Content.TheVariants.{Free, Used, Retired}
+use Rattle.iigs_meaning.specs.declared.wants.Block.{Block}
+use Rattle.iigs_meaning.specs.Slots.{slot_at, new_slot, released}
+use Rattle.iigs_meaning.specs.Free.{IsFree}
+use Rattle.iigs_meaning.specs.Fits.{HoldsByte}
+use Rattle.iigs_meaning.specs.Placement.{emptied_where}
+use Rattle.iigs_meaning.specs.Puts.{without_user, without_user_in}
+use Rattle.iigs_meaning.specs.Blocks.{AreApart, address_in}
+use Rattle.iigs_meaning.specs.Memory.{KeepsBut, bytes_at}
 use Rattle.iigs_memory.specs.Offsets.{bytes_below, offset_of}
 use Rattle.iigs_memory.specs.Spots.{IsBoundedSlot}
 use Rattle.iigs_memory.specs.Store.{bytes_in, memory_of, extent, Spans}

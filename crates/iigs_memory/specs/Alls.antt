@@ -1,15 +1,13 @@
 -- Several blocks that are placed in order. No public clause cites this module.
-use Rattle.std.specs.Prelude.{◌≡◌, ◌≢◌, ◌⊎◌, ℕ, true, ◌+◌, ◌<◌, ◌≤◌, ◌^◌, slice_index_or, List, [], ◌∷◌, ◌++◌, map, take, drop, replicate, length, All, Some, None, slice_get}
-use Rattle.loader_machine.specs.declared.handles.Handle.{Handle}
-use Rattle.loader_machine.specs.declared.slots.Slot.{Slot}
-use Rattle.loader_machine.specs.declared.wants.Want.{Want}
-use Rattle.loader_machine.specs.declared.wants.Block.{Block}
-use Rattle.loader_machine.specs.declared.faults.PlaceFault.{PlaceFault}
-use Rattle.loader_machine.specs.declared.faults.PlaceFault.TheVariants.{Stale, NotEmpty, NoHandle, NoRoom}
-use Rattle.loader_machine.specs.Slots.{slot_at}
-use Rattle.loader_machine.specs.Fits.{block_in}
-use Rattle.loader_machine.specs.Placement.{HasNoRoom}
-use Rattle.loader_machine.specs.Memory.{placed, PlacesAll, AreApart}
+use Rattle.std.specs.Prelude.{◌≡◌, ◌≢◌, ◌⊎◌, ℕ, true, ◌+◌, ◌<◌, ◌≤◌, ◌^◌, slice_index_or, List, [], ◌∷◌, ◌++◌, map, take, drop, replicate, length, All, Some, None}
+use Rattle.iigs_meaning.specs.declared.handles.Handle.{Handle}
+use Rattle.iigs_meaning.specs.declared.slots.Slot.{Slot}
+use Rattle.iigs_meaning.specs.declared.wants.Want.{Want}
+use Rattle.iigs_meaning.specs.declared.wants.Block.{Block}
+use Rattle.iigs_meaning.specs.Slots.{slot_at}
+use Rattle.iigs_meaning.specs.Fits.{block_in}
+use Rattle.iigs_meaning.specs.Puts.{Purges, placed, PutsAll}
+use Rattle.iigs_meaning.specs.Blocks.{AreApart}
 use Rattle.iigs_memory.specs.Offsets.{offset_of}
 use Rattle.iigs_memory.specs.Spots.{IsBoundedSlot}
 use Rattle.iigs_memory.specs.Store.{extent}
@@ -32,28 +30,12 @@ NotAmong (put ∷ puts) place = (place ≢ put.handle.slot) × NotAmong puts pla
 
 -- these wants were placed in order
 pub record AllPut (banks : List ℕ) (user : ℕ) (start : List (Slot Block)) (wants : List Want) (puts : List Put) (now : List (Slot Block)) : Type 0 where
-  pub places : PlacesAll banks user start wants (map handle_of puts) now
+  pub places : PutsAll Purges banks user start wants (map handle_of puts) now
   pub bounded : All IsBoundedSlot now
   pub sound : AreApart banks now
   pub len : length now ≡ length start
   pub blocks : BlocksAre user now wants puts
   pub others : (place : ℕ) → NotAmong puts place → (extent (slot_at now place) ≡ None) ⊎ (extent (slot_at now place) ≡ extent (slot_at start place))
-
--- the wants before this one were placed, and it has no room then
-pub record LacksRoom (banks : List ℕ) (user : ℕ) (start : List (Slot Block)) (wants : List Want) (i : ℕ) : Type 0 where
-  pub want : Want
-  pub is : slice_get wants i ≡ Some want
-  pub handles : List Handle
-  pub last : List (Slot Block)
-  pub before : PlacesAll banks user start (take i wants) handles last
-  pub none : HasNoRoom banks last want
-
--- why not all are placed
-abbrev pub IsAllRefusal : List ℕ → ℕ → List (Slot Block) → List Want → PlaceFault → Type 0
-IsAllRefusal banks user start wants Stale = ⊥
-IsAllRefusal banks user start wants NotEmpty = ⊥
-IsAllRefusal banks user start wants NoHandle = ⊥
-IsAllRefusal banks user start wants (NoRoom i) = LacksRoom banks user start wants i
 
 -- the buffer with the bytes of all these blocks zeros
 abbrev pub cleared : List ℕ → List Want → List Put → List ℕ → List ℕ

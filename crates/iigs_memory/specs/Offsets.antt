@@ -1,7 +1,7 @@
 -- Where the bytes of the configured banks stand in one buffer. No public clause cites this module.
 use Rattle.std.specs.Prelude.{◌≡◌, ℕ, Bool, zero, suc, ◌+◌, ◌==◌, ◌<◌, ◌≤◌, List, All, length, slice_index, if◌then◌else◌}
 use Rattle.std.specs.List.{list_any}
-use Rattle.loader_machine.specs.Free.{bank_of, low_of}
+use Rattle.iigs_meaning.specs.Free.{bank_of, low_of}
 
 -- the bank is configured
 abbrev pub is_named : List ℕ → ℕ → Bool

@@ -1,7 +1,7 @@
 -- The parts of a want's fitting that don't look at blocks. No public clause cites this module.
 use Rattle.std.specs.Prelude.{◌≡◌, ℕ, ◌+◌, ◌%◌, ◌^◌, ◌<◌, ◌≤◌, false, List, IfSome, IsTrue}
-use Rattle.loader_machine.specs.declared.wants.Want.{Want}
-use Rattle.loader_machine.specs.Free.{bank_of, low_of, is_special, IsFree}
+use Rattle.iigs_meaning.specs.declared.wants.Want.{Want}
+use Rattle.iigs_meaning.specs.Free.{bank_of, low_of, is_special, IsFree}
 use Rattle.iigs_memory.specs.declared.open.Span.{Span}
 
 -- the want lets its block have bytes in this bank

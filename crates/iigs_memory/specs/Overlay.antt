@@ -2,11 +2,12 @@
 use Rattle.std.specs.Prelude.{ℕ, ◌+◌, ◌-◌, ◌&&◌, nat_le, nat_lt, List, map, length, slice_index, if◌then◌else◌, unwrap_or}
 use Rattle.std.specs.List.{range_with_len, zip}
 use Rattle.std.specs.Borrow.{Lends, Fml, MutBor, Array, u8}
-use Rattle.loader_machine.specs.declared.handles.Handle.{Handle}
-use Rattle.loader_machine.specs.declared.slots.Slot.{Slot}
-use Rattle.loader_machine.specs.declared.wants.Block.{Block}
-use Rattle.loader_machine.specs.Slots.{slot_at}
-use Rattle.loader_machine.specs.Memory.{Memory, address_in}
+use Rattle.iigs_meaning.specs.declared.handles.Handle.{Handle}
+use Rattle.iigs_meaning.specs.declared.slots.Slot.{Slot}
+use Rattle.iigs_meaning.specs.declared.wants.Block.{Block}
+use Rattle.iigs_meaning.specs.Slots.{slot_at}
+use Rattle.iigs_meaning.specs.Blocks.{address_in}
+use Rattle.iigs_meaning.specs.Memory.{Memory}
 use Rattle.iigs_memory.specs.Offsets.{offset_of}
 use Rattle.iigs_memory.specs.contracts.banks.Banks.{the_row}
 

@@ -1,10 +1,10 @@
 -- How many bytes are free memory, and how many blocks have. No public clause cites this module.
 use Rattle.std.specs.Prelude.{ℕ, zero, suc, ◌+◌, ◌-◌, List, if◌then◌else◌}
 use Rattle.std.specs.Option.{option_map_or}
-use Rattle.loader_machine.specs.declared.slots.Slot.{Slot}
-use Rattle.loader_machine.specs.declared.wants.Block.{Block}
-use Rattle.loader_machine.specs.Free.{first_free, free_end}
-use Rattle.loader_machine.specs.Fits.{block_in}
+use Rattle.iigs_meaning.specs.declared.slots.Slot.{Slot}
+use Rattle.iigs_meaning.specs.declared.wants.Block.{Block}
+use Rattle.iigs_meaning.specs.Free.{first_free, free_end}
+use Rattle.iigs_meaning.specs.Fits.{block_in}
 use Rattle.iigs_memory.specs.Offsets.{is_named}
 
 -- how many bytes of free memory the configured banks below this one have

@@ -2,11 +2,11 @@
 use Rattle.std.specs.Prelude.{◌≡◌, ◌⊎◌, ℕ, ◌==◌, ◌+◌, ◌-◌, ◌*◌, ◌^◌, ◌<◌, ◌≤◌, nat_lt, List, All, map, filter_map, length, Option, Some, None, IfSome, unwrap_or, slice_index, if◌then◌else◌}
 use Rattle.std.specs.Option.{option_map, option_and_then}
 use Rattle.std.specs.List.Sorted.{IsPermutation, IsNonDecreasingBy}
-use Rattle.loader_machine.specs.declared.slots.Slot.{Slot}
-use Rattle.loader_machine.specs.declared.wants.Want.{Want}
-use Rattle.loader_machine.specs.declared.wants.Block.{Block}
-use Rattle.loader_machine.specs.Fits.{block_in}
-use Rattle.loader_machine.specs.Placement.{can_purge, emptied_where, emptied, GoesTo}
+use Rattle.iigs_meaning.specs.declared.slots.Slot.{Slot}
+use Rattle.iigs_meaning.specs.declared.wants.Want.{Want}
+use Rattle.iigs_meaning.specs.declared.wants.Block.{Block}
+use Rattle.iigs_meaning.specs.Fits.{block_in}
+use Rattle.iigs_meaning.specs.Placement.{can_purge, emptied_where, emptied, GoesTo}
 use Rattle.iigs_memory.specs.declared.spots.Spot.{Spot}
 use Rattle.iigs_memory.specs.declared.search.Found.{Found}
 use Rattle.iigs_memory.specs.Open.{IsOpen}

@@ -1,13 +1,14 @@
 -- How the bytes of blocks stand in one buffer. No public clause cites this module.
 use Rattle.std.specs.Prelude.{◌≡◌, ℕ, ◌+◌, ◌<◌, ◌≤◌, List, [], All, map, take, drop, length, Option, IsSome, IsSomeAnd}
 use Rattle.std.specs.Option.{option_map, option_map_or, option_and_then}
-use Rattle.loader_machine.specs.declared.slots.Slot.{Slot}
-use Rattle.loader_machine.specs.declared.wants.Block.{Block}
-use Rattle.loader_machine.specs.declared.handles.Handle.{Handle}
-use Rattle.loader_machine.specs.Slots.{get, slot_at}
+use Rattle.iigs_meaning.specs.declared.slots.Slot.{Slot}
+use Rattle.iigs_meaning.specs.declared.wants.Block.{Block}
+use Rattle.iigs_meaning.specs.declared.handles.Handle.{Handle}
+use Rattle.iigs_meaning.specs.Slots.{get, slot_at}
 use Rattle.iigs_memory.specs.declared.part.Part.{Part}
-use Rattle.loader_machine.specs.Fits.{block_in}
-use Rattle.loader_machine.specs.Memory.{Memory, AreApart}
+use Rattle.iigs_meaning.specs.Fits.{block_in}
+use Rattle.iigs_meaning.specs.Blocks.{AreApart}
+use Rattle.iigs_meaning.specs.Memory.{Memory}
 use Rattle.iigs_memory.specs.Offsets.{offset_of, bytes_below}
 use Rattle.iigs_memory.specs.Spots.{IsBoundedSlot}
 

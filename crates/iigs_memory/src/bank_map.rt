@@ -1,12 +1,12 @@
 //! The configured banks, and where their bytes stand in the one buffer that holds them.
 
 ghost use Rattle.std.specs.Prelude.{◌≡◌, ◌+◌, ◌<◌, ◌≤◌, ◌*◌, ◌^◌, ◌≢◌, ℕ, [], All, Contains, IsTrue, IfOk, IfErr, OnOk, MatchOption, length, slice_index, false};
-ghost use Rattle.loader_machine.specs.Memory.{AreDistinctTo, IsFirstTwice, IsBanksRefusal};
+ghost use Rattle.iigs_meaning.specs.Banks.{AreDistinctTo, IsFirstTwice, IsBanksRefusal};
 ghost use Rattle.iigs_memory.specs.Offsets.{bytes_below, offset_of, is_named as names};
 ghost use Rattle.iigs_memory.specs.Sizes.{free_below};
 
 use crate::open::free_bytes;
-use loader_machine::BanksFault;
+use iigs_meaning::BanksFault;
 use std::alloc::{AllocError, Global};
 use std::marker::Model;
 

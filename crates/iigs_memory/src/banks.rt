@@ -4,10 +4,13 @@ ghost use Rattle.std.specs.Prelude.{◌≡◌, ◌++◌, ◌+◌, All, vec_len, 
 ghost use Rattle.std.specs.Option.{option_map};
 ghost use Rattle.std.specs.Result.{result_ok};
 ghost use Rattle.std.specs.Borrow.{sem};
-ghost use Rattle.loader_machine.specs.Slots.{get, with_value};
-ghost use Rattle.loader_machine.specs.Fits.{IsWant};
-ghost use Rattle.loader_machine.specs.Memory.{bytes_at, IsLent, IsBlockRefusal, KeepsBut, Changes, IsFreed, IsStale, IsPurged, IsPlaced, IsPlaceRefusal, AreAllPlaced, IsPlaceAllRefusal, IsReplaced, IsReplaceRefusal, IsNew, IsBanksRefusal, AreApart, new_slots, state_of};
-ghost use Rattle.loader_machine.specs.Room.{CountsBelow, IsRoom};
+ghost use Rattle.iigs_meaning.specs.Slots.{get, with_value};
+ghost use Rattle.iigs_meaning.specs.Fits.{IsWant};
+ghost use Rattle.iigs_meaning.specs.Puts.{Purges, IsPlaceRefusal, IsReplaceRefusal, IsPlaceAllRefusal, slots_for};
+ghost use Rattle.iigs_meaning.specs.Blocks.{IsBlockRefusal, IsStale, AreApart, new_slots, state_of};
+ghost use Rattle.iigs_meaning.specs.Banks.{IsBanksRefusal};
+ghost use Rattle.iigs_meaning.specs.Memory.{bytes_at, IsLent, KeepsBut, Changes, IsFreed, IsPurged, IsPlaced, AreAllPlaced, IsReplaced, IsNew};
+ghost use Rattle.iigs_meaning.specs.Room.{CountsBelow, IsRoom};
 
 use crate::bank_map::BankMap;
 use crate::part::Part;
@@ -17,7 +20,7 @@ use crate::table::{
     used_bytes,
 };
 use iigs_handles::{Handles, HandlesFault, SLOTS};
-use loader_machine::{BanksFault, Block, BlockFault, BlockState, Handle, PlaceFault, Stale, Want};
+use iigs_meaning::{BanksFault, Block, BlockFault, BlockState, Handle, PlaceFault, Stale, Want};
 use std::alloc::{AllocError, Global};
 use std::marker::Model;
 
@@ -37,7 +40,7 @@ pub struct Banks {
 
 impl Model for Banks {
     ghost use Rattle.std.specs.Prelude.{vec_capacity};
-    ghost use Rattle.loader_machine.specs.Memory.{Memory};
+    ghost use Rattle.iigs_meaning.specs.Memory.{Memory};
 
     ghost Value = { Memory };
 
@@ -68,7 +71,7 @@ fn scratch<T>(alloc: Global, count: usize) -> Result<Vec<T>, AllocError>
     Vec::with_capacity(alloc, count)
 }
 
-#[tactic(auto, unfolding(loader_machine::specs::Memory::new_slots))]
+#[tactic(auto, unfolding(iigs_meaning::specs::Blocks::new_slots))]
 fn table(alloc: Global) -> Result<Handles<Block>, AllocError>
     ensures { IfOk result (λ table. table ≡ new_slots) }
 {
@@ -124,7 +127,7 @@ impl Banks {
     // The part of the buffer that a block has which is there.
     fn part_of(&self, h: Handle) -> Result<Part, BlockFault>
         ensures part { IfOk result (IsPart self.now h) }
-        ensures refused { IfErr result (IsBlockRefusal self.now h) }
+        ensures refused { IfErr result (IsBlockRefusal self.now.slots h) }
     {
         let Ok(block) = self.table.look(h) else {
             return Err(BlockFault::Stale);
@@ -142,7 +145,7 @@ impl Banks {
     /// The bytes of a block.
     pub fn block(&self, h: Handle) -> Result<&[u8], BlockFault>
         ensures lent { IfOk result (λ bytes. IsLent self.now h bytes.now) }
-        ensures refused { IfErr result (IsBlockRefusal self.now h) }
+        ensures refused { IfErr result (IsBlockRefusal self.now.slots h) }
     {
         let part = self.part_of(h)?;
         Ok(slice(&self.bytes, part.start, part.end))
@@ -151,7 +154,7 @@ impl Banks {
     /// The bytes of a block, to be written. Of the write itself `lend` says more.
     pub fn block_mut(&mut self, h: Handle) -> Result<&mut [u8], BlockFault>
         ensures lent { IfOk result (λ bytes. IsLent self.old h bytes.now) }
-        ensures refused { IfErr result (IsBlockRefusal self.old h) }
+        ensures refused { IfErr result (IsBlockRefusal self.old.slots h) }
     {
         let part = self.part_of(h)?;
         Ok(self.bytes.slice_mut(part.start..part.end))
@@ -177,7 +180,7 @@ impl Banks {
     fn there(&self, h: Handle) -> Result<Block, BlockFault>
         ensures there { IfOk result (λ block. (get self.now.slots h ≡ Some block) × IsSome block.at) }
         ensures level { IfOk result (λ block. block.level < 256) }
-        ensures refused { IfErr result (IsBlockRefusal self.now h) }
+        ensures refused { IfErr result (IsBlockRefusal self.now.slots h) }
     {
         let Ok(block) = self.table.look(h) else {
             return Err(BlockFault::Stale);
@@ -201,7 +204,7 @@ impl Banks {
     /// Locks a block, so that no placement purges it.
     pub fn lock(&mut self, h: Handle) -> Result<(), BlockFault>
         ensures changed { IfOk result (λ _. Changes self.old h (λ block. record block { locked = true }) self.new) }
-        ensures refused { IfErr result (IsBlockRefusal self.old h) }
+        ensures refused { IfErr result (IsBlockRefusal self.old.slots h) }
         ensures err { OnErr result (self.new ≡ self.old) }
     {
         let block = self.there(h)?;
@@ -218,7 +221,7 @@ impl Banks {
     /// Unlocks a block.
     pub fn unlock(&mut self, h: Handle) -> Result<(), BlockFault>
         ensures changed { IfOk result (λ _. Changes self.old h (λ block. record block { locked = false }) self.new) }
-        ensures refused { IfErr result (IsBlockRefusal self.old h) }
+        ensures refused { IfErr result (IsBlockRefusal self.old.slots h) }
         ensures err { OnErr result (self.new ≡ self.old) }
     {
         let block = self.there(h)?;
@@ -235,7 +238,7 @@ impl Banks {
     /// Sets how willingly a block is purged: 0 never, the highest level first.
     pub fn set_level(&mut self, h: Handle, level: u8) -> Result<(), BlockFault>
         ensures changed { IfOk result (λ _. Changes self.old h (λ block. record block { level = level }) self.new) }
-        ensures refused { IfErr result (IsBlockRefusal self.old h) }
+        ensures refused { IfErr result (IsBlockRefusal self.old.slots h) }
         ensures err { OnErr result (self.new ≡ self.old) }
     {
         let block = self.there(h)?;
@@ -246,7 +249,7 @@ impl Banks {
     /// Releases a handle, and with it its block.
     pub fn free(&mut self, h: Handle) -> Result<(), BlockFault>
         ensures freed { IfOk result (λ _. IsFreed self.old h self.new) }
-        ensures refused { IfErr result (IsStale self.old h) }
+        ensures refused { IfErr result (IsStale self.old.slots h) }
         ensures err { OnErr result (self.new ≡ self.old) }
     {
         let Ok(_) = self.table.release(h) else {
@@ -258,7 +261,7 @@ impl Banks {
     /// What is told of a handle's block, whether it is there or was purged.
     pub fn state(&self, h: Handle) -> Result<BlockState, BlockFault>
         ensures state { result_ok result ≡ option_map state_of (get self.now.slots h) }
-        ensures refused { IfErr result (IsStale self.now h) }
+        ensures refused { IfErr result (IsStale self.now.slots h) }
     {
         match self.table.look(h) {
             Ok(block) => Ok(BlockState {
@@ -288,8 +291,8 @@ impl Banks {
         level: u8,
     ) -> Result<Handle, PlaceFault>
         requires want { IsWant want.now }
-        ensures placed { IfOk result (λ h. IsPlaced self.old want.now user locked level h self.new) }
-        ensures refused { IfErr result (IsPlaceRefusal self.old want.now) }
+        ensures placed { IfOk result (λ h. IsPlaced Purges self.old want.now user locked level h self.new) }
+        ensures refused { IfErr result (IsPlaceRefusal Purges self.old.banks self.old.slots want.now) }
         ensures err { OnErr result (self.new ≡ self.old) }
     {
         let put = match put_block(
@@ -312,8 +315,8 @@ impl Banks {
     /// Places an empty block anew under its handle. It is all zeros, and keeps its user, level and lock.
     pub fn replace(&mut self, h: Handle, want: &Want) -> Result<(), PlaceFault>
         requires want { IsWant want.now }
-        ensures replaced { IfOk result (λ _. IsReplaced self.old h want.now self.new) }
-        ensures refused { IfErr result (IsReplaceRefusal self.old h want.now) }
+        ensures replaced { IfOk result (λ _. IsReplaced Purges self.old h want.now self.new) }
+        ensures refused { IfErr result (IsReplaceRefusal Purges self.old.banks self.old.slots h want.now) }
         ensures err { OnErr result (self.new ≡ self.old) }
     {
         let at = match replace_block(
@@ -342,8 +345,8 @@ impl Banks {
     ) -> Result<(), PlaceFault>
         requires wants { All IsWant wants.now }
         requires lengths { length handles.old ≡ length wants.now }
-        ensures placed { OnOk result (AreAllPlaced self.old user fresh wants.now handles.new self.new) }
-        ensures refused { IfErr result (IsPlaceAllRefusal self.old user fresh wants.now) }
+        ensures placed { OnOk result (AreAllPlaced Purges self.old user fresh wants.now handles.new self.new) }
+        ensures refused { IfErr result (IsPlaceAllRefusal Purges self.old.banks user (slots_for self.old.slots user fresh) wants.now) }
         ensures err { OnErr result (self.new ≡ self.old) }
         ensures handles_kept { OnErr result (handles.new ≡ handles.old) }
     {
@@ -371,9 +374,9 @@ impl Banks {
 
     /// How many bytes of free memory lie in no block.
     pub fn room(&self) -> u32
-        ensures counts { CountsBelow (IsRoom self.now) (2 ^ 24) result }
-        ensures only { (other : ℕ) → CountsBelow (IsRoom self.now) (2 ^ 24) other → other ≡ result }
-        ensures all { (address : ℕ) → IsRoom self.now address → address < 2 ^ 24 }
+        ensures counts { CountsBelow (IsRoom self.now.banks self.now.slots) (2 ^ 24) result }
+        ensures only { (other : ℕ) → CountsBelow (IsRoom self.now.banks self.now.slots) (2 ^ 24) other → other ≡ result }
+        ensures all { (address : ℕ) → IsRoom self.now.banks self.now.slots address → address < 2 ^ 24 }
     {
         let free = self.map.free_bytes();
         let used = used_bytes(self.table.slots());

@@ -16,5 +16,5 @@ mod tests;
 
 pub use banks::Banks;
 pub use iigs_handles::Handle;
+pub use iigs_meaning::{BanksFault, Block, BlockFault, BlockState, PlaceFault, Want};
 pub use law::wants_go_to_one_address;
-pub use loader_machine::{BanksFault, Block, BlockFault, BlockState, PlaceFault, Want};

@@ -1,12 +1,12 @@
 //! Where a want fits beside no block: the free memory of the configured banks and what the want asks of it.
 
 ghost use Rattle.std.specs.Prelude.{◌≡◌, ℕ, ◌+◌, ◌-◌, ◌*◌, ◌%◌, ◌^◌, ◌≢◌, ◌⊎◌, ◌<◌, ◌≤◌, ◌↔◌, MatchOption, IfSome, IsTrue, false, true};
-ghost use Rattle.loader_machine.specs.Fits.{IsWant};
-ghost use Rattle.loader_machine.specs.Free.{bank_of, low_of, is_special as special, first_free as first, free_end as last_free};
+ghost use Rattle.iigs_meaning.specs.Fits.{IsWant};
+ghost use Rattle.iigs_meaning.specs.Free.{bank_of, low_of, is_special as special, first_free as first, free_end as last_free};
 ghost use Rattle.iigs_memory.specs.Open.{Permits, AllowsNone, ClearIn, BarredUpTo, IsSpan, IsClear, IsOpen, Stands, IsNextStand, IsNextOpen};
 
 use crate::bank_map::{BANK, BankMap};
-use loader_machine::Want;
+use iigs_meaning::Want;
 
 /// Bytes of a bank, from one low part of an address up to another.
 #[derive(Clone, Copy)]
@@ -15,14 +15,14 @@ pub struct Span {
     pub to: u32,
 }
 
-#[tactic(auto, unfolding(loader_machine::specs::Free::is_special))]
+#[tactic(auto, unfolding(iigs_meaning::specs::Free::is_special))]
 fn is_special(bank: u32) -> bool
     ensures { result ≡ special bank }
 {
     matches!(bank, 0x00 | 0x01 | 0xE0 | 0xE1)
 }
 
-#[tactic(auto, unfolding(loader_machine::specs::Free::first_free))]
+#[tactic(auto, unfolding(iigs_meaning::specs::Free::first_free))]
 fn first_free(bank: u32) -> u32
     ensures value { result ≡ first bank }
     ensures small { result ≤ 0x10000 }
@@ -34,7 +34,7 @@ fn first_free(bank: u32) -> u32
     }
 }
 
-#[tactic(auto, unfolding(loader_machine::specs::Free::free_end))]
+#[tactic(auto, unfolding(iigs_meaning::specs::Free::free_end))]
 fn free_end(bank: u32) -> u32
     ensures value { result ≡ last_free bank }
     ensures small { result ≤ 0x10000 }
@@ -202,7 +202,7 @@ pub fn next_open(map: &BankMap, want: &Want, from: u32) -> Option<u32>
 }
 
 /// How many bytes of a bank are free memory.
-#[tactic(auto, unfolding(loader_machine::specs::Free::is_special, loader_machine::specs::Free::first_free, loader_machine::specs::Free::free_end))]
+#[tactic(auto, unfolding(iigs_meaning::specs::Free::is_special, iigs_meaning::specs::Free::first_free, iigs_meaning::specs::Free::free_end))]
 pub fn free_bytes(bank: u32) -> u32
     ensures value { result ≡ last_free bank - first bank }
     ensures small { result ≤ 0x10000 }

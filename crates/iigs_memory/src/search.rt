@@ -1,16 +1,16 @@
 //! The search for the least address at which a want fits beside blocks.
 
 ghost use Rattle.std.specs.Prelude.{◌≡◌, ◌⊎◌, ℕ, ◌+◌, ◌-◌, ◌^◌, ◌<◌, ◌≤◌, All, length, slice_index_or, MatchOption, vec_capacity};
-ghost use Rattle.loader_machine.specs.Placement.{HasNoRoom};
+ghost use Rattle.iigs_meaning.specs.Placement.{HasNoRoom};
 ghost use Rattle.std.specs.List.Sorted.{IsNonDecreasingBy};
-ghost use Rattle.loader_machine.specs.Fits.{IsWant};
+ghost use Rattle.iigs_meaning.specs.Fits.{IsWant};
 ghost use Rattle.iigs_memory.specs.declared.spots.Spot.{Spot};
 ghost use Rattle.iigs_memory.specs.Spots.{FitsAmong, IsLeastAmong, IsPast, IsFewestAmong, FitsWithNone, limit_of, never, IsBoundedSlot, IsFound};
 
 use crate::bank_map::BankMap;
 use crate::open::next_open;
 use crate::spots::{Spot, survey};
-use loader_machine::{Block, Slot, Want};
+use iigs_meaning::{Block, Slot, Want};
 
 /// Where a want goes, and which blocks are purged for it.
 #[derive(Clone, Copy)]

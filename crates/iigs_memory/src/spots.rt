@@ -5,7 +5,7 @@ ghost use Rattle.std.specs.Option.{option_to_list};
 ghost use Rattle.std.specs.List.Sorted.{IsPermutation, IsNonDecreasingBy};
 ghost use Rattle.iigs_memory.specs.Spots.{never, turn_of as turn_in_order, spot_in, turn_in as kept_turn, spots_of, turns_of, IsBounded, IsBoundedSlot, IsSurvey};
 
-use loader_machine::{Block, Content, Slot};
+use iigs_meaning::{Block, Content, Slot};
 
 /// A block that is there.
 #[derive(Clone, Copy)]
@@ -22,7 +22,7 @@ pub struct Spot {
 pub const NEVER: u32 = u32::MAX;
 
 /// The turn of a block.
-#[tactic(auto, unfolding(loader_machine::specs::Placement::can_purge, crate::specs::Spots::turn_of))]
+#[tactic(auto, unfolding(iigs_meaning::specs::Placement::can_purge, crate::specs::Spots::turn_of))]
 pub fn turn_of(block: &Block) -> u32
     requires bounded { IsBounded block.now }
     ensures { result ≡ turn_in_order block.now }

@@ -2,20 +2,21 @@
 
 ghost use Rattle.std.specs.Prelude.{◌≡◌, ◌++◌, take, drop, replicate, ◌+◌, ◌==◌, ◌<◌, ◌≤◌, ℕ, true, false, All, map, length, count_by, sum_by, ◌^◌, slice_set, vec_capacity, IsSome, IsSomeAnd, IfOk, IfErr, OnErr, OnOk, Some, nat_lt};
 ghost use Rattle.std.specs.Option.{option_map_or};
-ghost use Rattle.loader_machine.specs.Slots.{is_free, slot_at, get, with_value, new_handle};
-ghost use Rattle.loader_machine.specs.Fits.{IsWant, block_in};
-ghost use Rattle.loader_machine.specs.Placement.{emptied_where, can_purge};
-ghost use Rattle.loader_machine.specs.Memory.{AreApart, without_user, without_user_in, slots_for, can_purge_of};
+ghost use Rattle.iigs_meaning.specs.Slots.{is_free, slot_at, get, with_value, new_handle};
+ghost use Rattle.iigs_meaning.specs.Fits.{IsWant, block_in};
+ghost use Rattle.iigs_meaning.specs.Placement.{emptied_where, can_purge};
+ghost use Rattle.iigs_meaning.specs.Puts.{Purges, IsPlaceRefusal, IsReplaceRefusal, IsPlaceAllRefusal, without_user, without_user_in, slots_for};
+ghost use Rattle.iigs_meaning.specs.Blocks.{AreApart, can_purge_of};
 ghost use Rattle.iigs_memory.specs.Sizes.{size_in};
 ghost use Rattle.iigs_memory.specs.Spots.{turn_of as turn_in_order, IsBoundedSlot};
-ghost use Rattle.iigs_memory.specs.Alls.{AllPut, IsAllRefusal, FitIn, cleared, handle_of};
-ghost use Rattle.iigs_memory.specs.Table.{IsPut, IsPutRefusal, IsReput, IsReputRefusal};
+ghost use Rattle.iigs_memory.specs.Alls.{AllPut, FitIn, cleared, handle_of};
+ghost use Rattle.iigs_memory.specs.Table.{IsPut, IsReput};
 
 use crate::bank_map::BankMap;
 use crate::search::find;
 use crate::spots::{Spot, turn_of};
 use iigs_handles::Handles;
-use loader_machine::{Block, Content, Handle, PlaceFault, Slot, Stale, Want};
+use iigs_meaning::{Block, Content, Handle, PlaceFault, Slot, Stale, Want};
 
 /// Puts a block in the place of a live handle's.
 pub fn set(table: &mut Handles<Block>, h: Handle, block: Block)
@@ -115,7 +116,7 @@ fn is_purgeable(table: &Handles<Block>, place: usize, user: u16) -> bool
     can_be_purged(block) && block.user == user
 }
 
-#[tactic(auto, unfolding(loader_machine::specs::Placement::can_purge))]
+#[tactic(auto, unfolding(iigs_meaning::specs::Placement::can_purge))]
 fn can_be_purged(block: &Block) -> bool
     ensures { result ≡ can_purge block.now }
 {
@@ -154,7 +155,7 @@ pub fn put_block(
     requires spots_room { 4096 ≤ vec_capacity spots.old }
     requires turns_room { 4096 ≤ vec_capacity turns.old }
     ensures put { IfOk result (λ put. IsPut map.now table.old want.now user locked level put table.new) }
-    ensures refused { IfErr result (IsPutRefusal map.now table.old want.now) }
+    ensures refused { IfErr result (IsPlaceRefusal Purges map.now table.old want.now) }
     ensures err { OnErr result (table.new ≡ table.old) }
     ensures spots_capacity { vec_capacity spots.old ≤ vec_capacity spots.new }
     ensures turns_capacity { vec_capacity turns.old ≤ vec_capacity turns.new }
@@ -196,7 +197,7 @@ pub fn replace_block(
     requires spots_room { 4096 ≤ vec_capacity spots.old }
     requires turns_room { 4096 ≤ vec_capacity turns.old }
     ensures put { IfOk result (λ address. IsReput map.now table.old h want.now address table.new) }
-    ensures refused { IfErr result (IsReputRefusal map.now table.old h want.now) }
+    ensures refused { IfErr result (IsReplaceRefusal Purges map.now table.old h want.now) }
     ensures err { OnErr result (table.new ≡ table.old) }
     ensures spots_capacity { vec_capacity spots.old ≤ vec_capacity spots.new }
     ensures turns_capacity { vec_capacity turns.old ≤ vec_capacity turns.new }
@@ -269,7 +270,7 @@ pub fn put_all(
     requires turns_room { 4096 ≤ vec_capacity turns.old }
     requires made_room { 4096 ≤ vec_capacity made.old }
     ensures put { OnOk result (AllPut map.now user table.old wants.now made.new.items table.new) }
-    ensures refused { IfErr result (IsAllRefusal map.now user table.old wants.now) }
+    ensures refused { IfErr result (IsPlaceAllRefusal Purges map.now user table.old wants.now) }
     ensures spots_capacity { vec_capacity spots.old ≤ vec_capacity spots.new }
     ensures turns_capacity { vec_capacity turns.old ≤ vec_capacity turns.new }
     ensures made_capacity { vec_capacity made.old ≤ vec_capacity made.new }
@@ -282,6 +283,7 @@ pub fn put_all(
             Err(PlaceFault::NoHandle) => unreachable!(),
             Err(PlaceFault::NotEmpty) => unreachable!(),
             Err(PlaceFault::Stale) => unreachable!(),
+            Err(PlaceFault::Memory) => unreachable!(),
         }
     }
     Ok(())

@@ -1,5 +1,5 @@
 ghost use Rattle.std.specs.Prelude.{◌<◌, IsTrue};
-ghost use Rattle.loader_machine.specs.Fits.{IsWant};
+ghost use Rattle.iigs_meaning.specs.Fits.{IsWant};
 
 use super::*;
 use std::test::Fail;

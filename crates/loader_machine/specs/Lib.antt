@@ -1,11 +1,3 @@
-pub mod Slots
-pub mod Runs
-pub mod Printed
-pub mod Free
-pub mod Fits
-pub mod Placement
-pub mod Memory
-pub mod Room
 pub mod Command
 pub mod Script
 pub mod ScriptLaws

@@ -9,12 +9,12 @@ use Rattle.omf_format.specs.File.{Segment}
 use Rattle.omf_format.specs.Cells.{patches_of}
 use Rattle.omf_format.specs.Loadable.{IsLoadable}
 use Rattle.omf_io.specs.Files.{FileMap, max_file}
-use Rattle.loader_machine.specs.declared.handles.Handle.{Handle}
-use Rattle.loader_machine.specs.declared.slots.Slot.{Slot}
-use Rattle.loader_machine.specs.declared.wants.Want.{Want}
-use Rattle.loader_machine.specs.declared.wants.Block.{Block}
-use Rattle.loader_machine.specs.Slots as slots
-use Rattle.loader_machine.specs.Memory.{new_slots}
+use Rattle.iigs_meaning.specs.declared.handles.Handle.{Handle}
+use Rattle.iigs_meaning.specs.declared.slots.Slot.{Slot}
+use Rattle.iigs_meaning.specs.declared.wants.Want.{Want}
+use Rattle.iigs_meaning.specs.declared.wants.Block.{Block}
+use Rattle.iigs_meaning.specs.Slots as slots
+use Rattle.iigs_meaning.specs.Blocks.{new_slots}
 
 -- a program that was loaded: the path of its file, and for each of its segments in order the handle of its block, if it has one
 pub record User : Type 0 where

@@ -3,12 +3,10 @@ use Rattle.std.specs.Prelude.{◌≡◌, ℕ, ◌+◌, ◌<◌, ◌≤◌, true,
 use Rattle.omf_format.specs.File.{Segment, segment_at}
 use Rattle.omf_format.specs.Cells.{stands}
 use Rattle.omf_io.specs.Files.{FileMap}
-use Rattle.loader_machine.specs.declared.handles.Handle.{Handle}
+use Rattle.iigs_meaning.specs.declared.handles.Handle.{Handle}
 use Rattle.loader_machine.specs.declared.faults.LoaderFault.{LoaderFault}
 use Rattle.loader_machine.specs.declared.faults.LoaderFault.TheVariants.{NoUser, NoSegment, OutOfSegment, TooManyUsers, CannotRead, Unbuilt, NoRoom, Memory}
-use Rattle.loader_machine.specs.Slots.{new_handle, after_take}
-use Rattle.loader_machine.specs.Placement.{emptied, GoesTo, HasNoRoom}
-use Rattle.loader_machine.specs.Memory.{placed}
+use Rattle.iigs_meaning.specs.Puts.{Purges, LacksRoom, Puts}
 use Rattle.loader_machine.specs.Command.{Command, Banks, Load, Bytes}
 use Rattle.loader_machine.specs.Machine.{User, Machine, empty, max_users, first_id, user_of, place_of, places_of, HoldsFile, LacksFile, CanLoad, HoldsLoad, wanted, entry_of}
 
@@ -26,15 +24,11 @@ pub record IsStarted (held : FileMap) (state : Machine) (path : List ℕ) (id : 
   pub few : length state.users < max_users
   pub s : Segment
   pub holds : HoldsLoad held path (s ∷ [])
-  pub count : ℕ
-  pub address : ℕ
-  pub goes : GoesTo state.banks state.slots (wanted s.fields) count address
   pub h : Handle
-  pub handle : new_handle state.slots ≡ Some h
+  pub puts : Puts Purges state.banks state.slots (wanted s.fields) id true 0 h next.slots
   pub id_is : id ≡ first_id + length state.users
-  pub entry_is : entry ≡ entry_of s.fields address
+  pub entry_is : entry ≡ entry_of s.fields puts.address
   pub banks : next.banks ≡ state.banks
-  pub slots : next.slots ≡ after_take (emptied state.slots count) (placed (wanted s.fields) address id true 0)
   pub users : next.users ≡ state.users ++ (record { path = path; handles = Some h ∷ [] }) ∷ []
 
 -- the first of these that holds: 255 users were made; the path can't be read; its file can't be loaded; its segment, which is
@@ -45,7 +39,7 @@ IsLoadRefusal held state path CannotRead = (length state.users < max_users) × L
 IsLoadRefusal held state path Unbuilt = (length state.users < max_users)
     × ((file : List ℕ) × HoldsFile held path file × ((segments : List Segment) → ¬ CanLoad file segments))
 IsLoadRefusal held state path (NoRoom number) = (length state.users < max_users)
-    × ((s : Segment) × HoldsLoad held path (s ∷ []) × HasNoRoom state.banks state.slots (wanted s.fields)) × (number ≡ 1)
+    × ((s : Segment) × HoldsLoad held path (s ∷ []) × LacksRoom Purges state.banks state.slots (wanted s.fields)) × (number ≡ 1)
 IsLoadRefusal held state path NoUser = ⊥
 IsLoadRefusal held state path NoSegment = ⊥
 IsLoadRefusal held state path OutOfSegment = ⊥

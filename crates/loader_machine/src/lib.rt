@@ -1,15 +1,9 @@
-//! What the System Loader's layers speak of: handles and slots, wants and blocks, faults of scripts. The
+//! What the System Loader's layers speak of: commands and faults of scripts, the machine and why it refuses. The
 //! definitions that contracts cite stand in `specs/`.
 #![tactic(auto)]
 
 mod faults;
-mod handles;
 mod script;
-mod slots;
-mod wants;
 
-pub use faults::{BanksFault, BlockFault, LoaderFault, PlaceFault};
-pub use handles::{Handle, Stale};
+pub use faults::LoaderFault;
 pub use script::{ScriptCause, ScriptFault};
-pub use slots::{Content, Slot};
-pub use wants::{Block, BlockState, Want};

@@ -5,8 +5,8 @@ use Rattle.std.proofs.lemmas.Bool.Decides.{nat_tests}
 use Rattle.std.specs.List.{list_all}
 use Rattle.std.specs.Str.{IsUtf8}
 use Rattle.std.proofs.lemmas.Str.{IsUtf8-from_ascii}
-use Rattle.loader_machine.specs.declared.faults.BanksFault.TheVariants.{BankTwice}
-use Rattle.loader_machine.specs.Memory.{IsBanksRefusal}
+use Rattle.iigs_meaning.specs.declared.faults.BanksFault.TheVariants.{BankTwice}
+use Rattle.iigs_meaning.specs.Banks.{IsBanksRefusal}
 use Rattle.loader_machine.specs.Script.{is_word, stands_twice}
 use Rattle.loader_machine.specs.ScriptCommandLaws.{stands_twice-distinct}
 

@@ -7,7 +7,7 @@ use Rattle.omf_io.specs.Files.{FileMap}
 use Rattle.omf_io.specs.Sinks.{with_text}
 use Rattle.loader_machine.specs.Command.{Command, Banks, Load, Bytes}
 use Rattle.loader_machine.specs.Machine.{Machine, empty}
-use Rattle.loader_machine.specs.Memory.{new_slots}
+use Rattle.iigs_meaning.specs.Blocks.{new_slots}
 use Rattle.loader_machine.specs.Step as step
 use Rattle.loader_machine.specs.Step.{Reply}
 use Rattle.loader_machine.specs.Transcript.{IsAnswered}

@@ -10,12 +10,12 @@ use Rattle.omf_format.specs.Cells.{segment_bytes, stands}
 use Rattle.omf_format.specs.CellLaws.{cells-bytes, length-segment_bytes, loadable_at}
 use Rattle.omf_io.specs.Counts.{Told, one_more, IsFront}
 use Rattle.omf_io.specs.Files.{FileMap, IsRead, IsUnread}
-use Rattle.loader_machine.specs.declared.slots.Slot.{Slot}
-use Rattle.loader_machine.specs.declared.wants.Block.{Block}
+use Rattle.iigs_meaning.specs.declared.slots.Slot.{Slot}
+use Rattle.iigs_meaning.specs.declared.wants.Block.{Block}
 use Rattle.loader_machine.specs.declared.faults.LoaderFault.{LoaderFault}
 use Rattle.loader_machine.specs.declared.faults.LoaderFault.TheVariants.{NoUser, NoSegment, OutOfSegment, TooManyUsers, CannotRead, Unbuilt, NoRoom, Memory}
-use Rattle.loader_machine.specs.Slots.{get}
-use Rattle.loader_machine.specs.Memory.{bytes_at}
+use Rattle.iigs_meaning.specs.Slots.{get}
+use Rattle.iigs_meaning.specs.Memory.{bytes_at}
 use Rattle.loader_machine.specs.Machine.{Machine, first_id, max_users, user_of, place_of, places_of, HoldsFile, LacksFile, CanLoad, HoldsLoad}
 use Rattle.loader_machine.specs.Step as step
 use Rattle.sys_loader.specs.declared.loader.Started.{Started}
@@ -127,15 +127,11 @@ module _ (held : FileMap) (old new : Loaded) (state : Machine) (path : List ℕ)
         few = omega (arith, same);
         s = s;
         holds = holds;
-        count = begun.count;
-        address = begun.address;
-        goes = rw (← agrees.banks, ← agrees.slots) begun.goes;
         h = begun.h;
-        handle = rw (← agrees.slots) begun.handle;
+        puts = rw (← agrees.banks, ← agrees.slots) begun.puts;
         id_is = begun.id ∙ ap (λ n. first_id + n) same;
         entry_is = begun.entry;
         banks = begun.banks ∙ agrees.banks;
-        slots = rw (← agrees.slots) begun.slots;
         users = refl;
       }
 

@@ -5,11 +5,11 @@ use Rattle.std.proofs.Math.ListN.{set, length-set}
 use Rattle.std.proofs.lemmas.Bool.{cases_eq}
 use Rattle.std.proofs.lemmas.List.{get_or-set_same, get_or-set_other}
 use Rattle.std.proofs.lemmas.Option.{slice_get_within}
-use Rattle.loader_machine.specs.declared.handles.Handle.{Handle}
-use Rattle.loader_machine.specs.declared.wants.Block.{Block}
-use Rattle.loader_machine.specs.Slots.{slot_at, new_slot, get, is_free, new_handle}
-use Rattle.loader_machine.specs.Fits.{block_in}
-use Rattle.loader_machine.specs.Memory.{Memory, bytes_at, IsThere}
+use Rattle.iigs_meaning.specs.declared.handles.Handle.{Handle}
+use Rattle.iigs_meaning.specs.declared.wants.Block.{Block}
+use Rattle.iigs_meaning.specs.Slots.{slot_at, new_slot, get, is_free, new_handle}
+use Rattle.iigs_meaning.specs.Fits.{block_in}
+use Rattle.iigs_meaning.specs.Memory.{Memory, bytes_at, IsThere}
 use Rattle.loader_machine.specs.Machine.{max_users}
 use Rattle.sys_loader.specs.Loaded.{Kept, IsKept, IsLocked, IsSound}
 use Rattle.sys_loader.proofs.Lists.{slice_get-push}

@@ -2,12 +2,12 @@
 use Rattle.std.proofs.Common.{◌≡◌, ℕ, suc, Bool, true, false, cond, List, [], ◌∷◌, map, Option, Some, None, refl, ap, ◌∙◌}
 use Rattle.std.specs.Prelude.{◌&&◌, not, is_some, ◌==◌}
 use Rattle.std.specs.Option.{option_map_or}
-use Rattle.loader_machine.specs.declared.slots.Slot.{Slot}
-use Rattle.loader_machine.specs.declared.wants.Block.{Block}
-use Rattle.loader_machine.specs.declared.slots.Content.TheVariants.{Used}
-use Rattle.loader_machine.specs.Slots.{slot_at}
-use Rattle.loader_machine.specs.Fits.{block_in}
-use Rattle.loader_machine.specs.Placement.{can_purge, is_gone, emptied_where, emptied}
+use Rattle.iigs_meaning.specs.declared.slots.Slot.{Slot}
+use Rattle.iigs_meaning.specs.declared.wants.Block.{Block}
+use Rattle.iigs_meaning.specs.declared.slots.Content.TheVariants.{Used}
+use Rattle.iigs_meaning.specs.Slots.{slot_at}
+use Rattle.iigs_meaning.specs.Fits.{block_in}
+use Rattle.iigs_meaning.specs.Placement.{can_purge, is_gone, emptied_where, emptied}
 use Rattle.sys_loader.specs.Loaded.{IsLocked}
 
 locked_no_purge : (a b : Bool) (l : Bool) → l ≡ true → (a && not l && b) ≡ false

@@ -5,15 +5,16 @@ use Rattle.omf_format.specs.File.{Segment, segment_at}
 use Rattle.omf_format.specs.Cells.{stands}
 use Rattle.omf_format.specs.LoadableLaws.{loadable_same}
 use Rattle.omf_io.specs.Files.{FileMap, max_file}
-use Rattle.loader_machine.specs.declared.handles.Handle.{Handle}
-use Rattle.loader_machine.specs.declared.slots.Slot.{Slot}
-use Rattle.loader_machine.specs.declared.wants.Want.{Want}
-use Rattle.loader_machine.specs.declared.wants.Block.{Block}
+use Rattle.iigs_meaning.specs.declared.handles.Handle.{Handle}
+use Rattle.iigs_meaning.specs.declared.slots.Slot.{Slot}
+use Rattle.iigs_meaning.specs.declared.wants.Want.{Want}
+use Rattle.iigs_meaning.specs.declared.wants.Block.{Block}
 use Rattle.loader_machine.specs.declared.faults.LoaderFault.{LoaderFault}
 use Rattle.loader_machine.specs.declared.faults.LoaderFault.TheVariants.{NoUser, NoSegment, OutOfSegment, TooManyUsers, CannotRead, Unbuilt, NoRoom, Memory}
-use Rattle.loader_machine.specs.Slots.{after_take}
-use Rattle.loader_machine.specs.Placement.{emptied, GoesTo, HasNoRoom}
-use Rattle.loader_machine.specs.Memory.{placed}
+use Rattle.iigs_meaning.specs.Slots.{after_take}
+use Rattle.iigs_meaning.specs.Fits.{Slots}
+use Rattle.iigs_meaning.specs.Puts.{Purges, LacksRoom, placed}
+use Rattle.iigs_meaning.specs.PlacementLaws.{purges_once}
 use Rattle.loader_machine.specs.Command.{Command, Banks, Load, Bytes}
 use Rattle.loader_machine.specs.Machine.{User, Machine, user_of, places_of, HoldsFile, LacksFile, CanLoad, HoldsLoad, wanted, entry_of}
 use Rattle.loader_machine.specs.Step.{Reply, Okay, Started, Shown, Refused, IsStarted, IsLoadRefusal, StepsLoad, IsShown, LacksSegment, IsOutside, IsBytesRefusal, StepsBytes, Steps}
@@ -44,22 +45,6 @@ not_lacking held path file p (inr long) =
     let there : IsSomeAnd (Some file) (λ f. max_file < length f) = subst (λ (o : Option (List ℕ)). IsSomeAnd o (λ f. max_file < length f)) p.0 long in
     omega (arith, p.1, there)
 
--- a want goes to one place
-one_count : (banks : List ℕ) (slots : List (Slot Block)) (want : Want) (m n a b : ℕ) → GoesTo banks slots want m a → GoesTo banks slots want n b → m < n → ⊥
-one_count banks slots want m n a b p q less = q.fewest m less a p.fits
-
-same_count : (banks : List ℕ) (slots : List (Slot Block)) (want : Want) (m n a b : ℕ) → GoesTo banks slots want m a → GoesTo banks slots want n b → m ≡ n
-same_count banks slots want m n a b p q = elim (cases_lt m n) [
-  | inl lt ↦ absurd (one_count banks slots want m n a b p q lt)
-  | inr ge ↦ elim (cases_lt n m) [
-    | inl lt ↦ absurd (one_count banks slots want n m b a q p lt)
-    | inr le ↦ omega arith
-  ]
-]
-
-same_address : (banks : List ℕ) (slots : List (Slot Block)) (want : Want) (n a b : ℕ) → GoesTo banks slots want n a → GoesTo banks slots want n b → a ≡ b
-same_address banks slots want n a b p q = omega (arith, p.least b q.fits, q.least a p.fits)
-
 -- ---- load
 
 same_started : (i j : ℕ) (a b : Option ℕ) → i ≡ j → a ≡ b → Started i a ≡ Started j b
@@ -76,32 +61,26 @@ module _ (held : FileMap) (state : Machine) (path : List ℕ) where
     s_same : p.s ≡ q.s
     s_same = one_segment held path p.s q.s p.holds q.holds
 
-    q_goes : GoesTo state.banks state.slots (wanted p.s.fields) q.count q.address
-    q_goes = subst (λ (s : Segment). GoesTo state.banks state.slots (wanted s.fields) q.count q.address) (sym s_same) q.goes
-
-    count_same : p.count ≡ q.count
-    count_same = same_count state.banks state.slots (wanted p.s.fields) p.count q.count p.address q.address p.goes q_goes
-
-    address_same : p.address ≡ q.address
-    address_same = same_address state.banks state.slots (wanted p.s.fields) q.count p.address q.address
-        (subst (λ (n : ℕ). GoesTo state.banks state.slots (wanted p.s.fields) n p.address) count_same p.goes) q_goes
+    one_room : (p.puts.address ≡ q.puts.address) × (p.puts.room ≡ q.puts.room)
+    one_room = purges_once.room state.banks state.slots (wanted p.s.fields) p.puts.address q.puts.address p.puts.room q.puts.room p.puts.makes
+        (subst (λ (s : Segment). Purges state.banks state.slots (wanted s.fields) q.puts.address q.puts.room) (sym s_same) q.puts.makes)
 
     id_same : i ≡ j
     id_same = p.id_is ∙ sym q.id_is
 
     h_same : p.h ≡ q.h
-    h_same = the_same p.h q.h (sym p.handle ∙ q.handle)
+    h_same = the_same p.h q.h (sym p.puts.handle ∙ q.puts.handle)
 
     entry_same : a ≡ b
-    entry_same = p.entry_is ∙ ap (λ (s : Segment). entry_of s.fields p.address) s_same ∙ ap (λ (n : ℕ). entry_of q.s.fields n) address_same ∙ sym q.entry_is
+    entry_same = p.entry_is ∙ ap (λ (s : Segment). entry_of s.fields p.puts.address) s_same ∙ ap (λ (n : ℕ). entry_of q.s.fields n) one_room.0 ∙ sym q.entry_is
 
     slots_same : next.slots ≡ last.slots
-    slots_same = p.slots
-        ∙ ap (λ (n : ℕ). after_take (emptied state.slots n) (placed (wanted p.s.fields) p.address i true 0)) count_same
-        ∙ ap (λ (s : Segment). after_take (emptied state.slots q.count) (placed (wanted s.fields) p.address i true 0)) s_same
-        ∙ ap (λ (n : ℕ). after_take (emptied state.slots q.count) (placed (wanted q.s.fields) n i true 0)) address_same
-        ∙ ap (λ (n : ℕ). after_take (emptied state.slots q.count) (placed (wanted q.s.fields) q.address n true 0)) id_same
-        ∙ sym q.slots
+    slots_same = p.puts.next_is
+        ∙ ap (λ (room : Slots). after_take room (placed (wanted p.s.fields) p.puts.address i true 0)) one_room.1
+        ∙ ap (λ (s : Segment). after_take q.puts.room (placed (wanted s.fields) p.puts.address i true 0)) s_same
+        ∙ ap (λ (n : ℕ). after_take q.puts.room (placed (wanted q.s.fields) n i true 0)) one_room.0
+        ∙ ap (λ (n : ℕ). after_take q.puts.room (placed (wanted q.s.fields) q.puts.address n true 0)) id_same
+        ∙ sym q.puts.next_is
 
     users_same : next.users ≡ last.users
     users_same = p.users ∙ ap (λ (h : Handle). state.users ++ (record { path = path; handles = Some h ∷ [] }) ∷ []) h_same ∙ sym q.users
@@ -118,8 +97,8 @@ module _ (held : FileMap) (state : Machine) (path : List ℕ) where
       why.1.2 (p.s ∷ []) (subst (λ (f : List ℕ). CanLoad f (p.s ∷ [])) file p.holds.can)
   not_refused i a next (NoRoom number) p why =
       let s = one_segment held path p.s why.1.0 p.holds why.1.1 in
-      let none : HasNoRoom state.banks state.slots (wanted p.s.fields) = subst (λ (t : Segment). HasNoRoom state.banks state.slots (wanted t.fields)) (sym s) why.1.2 in
-      none p.count p.address p.goes.fits
+      let none : LacksRoom Purges state.banks state.slots (wanted p.s.fields) = subst (λ (t : Segment). LacksRoom Purges state.banks state.slots (wanted t.fields)) (sym s) why.1.2 in
+      none p.puts.address p.puts.room p.puts.makes
   not_refused i a next NoUser p why = why
   not_refused i a next NoSegment p why = why
   not_refused i a next OutOfSegment p why = why

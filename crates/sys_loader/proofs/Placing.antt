@@ -6,13 +6,14 @@ use Rattle.std.proofs.Math.ListN.{set}
 use Rattle.std.proofs.lemmas.Bool.Decides.{nat_tests}
 use Rattle.std.proofs.lemmas.List.{get_or-set_same, get_or-set_other}
 use Rattle.std.proofs.lemmas.List.Quantifiers.{position-Some}
-use Rattle.loader_machine.specs.declared.handles.Handle.{Handle}
-use Rattle.loader_machine.specs.declared.slots.Slot.{Slot}
-use Rattle.loader_machine.specs.declared.slots.Content.TheVariants.{Used}
-use Rattle.loader_machine.specs.declared.wants.Want.{Want}
-use Rattle.loader_machine.specs.declared.wants.Block.{Block}
-use Rattle.loader_machine.specs.Slots.{slot_at, new_slot, get, is_free, lowest_free, new_handle, after_take}
-use Rattle.loader_machine.specs.Memory.{Memory, IsPlaced, placed}
+use Rattle.iigs_meaning.specs.declared.handles.Handle.{Handle}
+use Rattle.iigs_meaning.specs.declared.slots.Slot.{Slot}
+use Rattle.iigs_meaning.specs.declared.slots.Content.TheVariants.{Used}
+use Rattle.iigs_meaning.specs.declared.wants.Want.{Want}
+use Rattle.iigs_meaning.specs.declared.wants.Block.{Block}
+use Rattle.iigs_meaning.specs.Slots.{slot_at, new_slot, get, is_free, lowest_free, new_handle, after_take}
+use Rattle.iigs_meaning.specs.Puts.{Purges, placed}
+use Rattle.iigs_meaning.specs.Memory.{Memory, IsPlaced}
 use Rattle.sys_loader.specs.Loaded.{IsLocked}
 use Rattle.sys_loader.proofs.Locked.{emptied-locked}
 
@@ -57,15 +58,15 @@ get-same slots h block inside = rw (get_or-set_same slots h.slot (slot_of h bloc
 pub get-other : (slots : List (Slot Block)) (h other : Handle) (block : Block) → other.slot ≢ h.slot → get (set slots h.slot (slot_of h block)) other ≡ get slots other
 get-other slots h other block ne = rw (get_or-set_other slots h.slot other.slot (slot_of h block) new_slot ne) refl
 
-module _ (old new : Memory) (want : Want) (user : ℕ) (h : Handle) (locked : (place : ℕ) → IsLocked (slot_at old.slots place)) (is : IsPlaced old want user true 0 h new) where
-  pub slots_are : new.slots ≡ set old.slots h.slot (slot_of h (placed want is.address user true 0))
-  slots_are = is.slots ∙ ap (λ ss. after_take ss (placed want is.address user true 0)) (emptied-locked old.slots is.count locked)
-      ∙ after_take-is old.slots h (placed want is.address user true 0) is.handle
+module _ (old new : Memory) (want : Want) (user : ℕ) (h : Handle) (locked : (place : ℕ) → IsLocked (slot_at old.slots place)) (is : IsPlaced Purges old want user true 0 h new) where
+  pub slots_are : new.slots ≡ set old.slots h.slot (slot_of h (placed want is.puts.address user true 0))
+  slots_are = is.puts.next_is ∙ ap (λ ss. after_take ss (placed want is.puts.address user true 0)) (is.puts.makes.room_is ∙ emptied-locked old.slots is.puts.makes.count locked)
+      ∙ after_take-is old.slots h (placed want is.puts.address user true 0) is.puts.handle
 
   -- the new handle reaches the block
-  pub placed_here : get new.slots h ≡ Some (placed want is.address user true 0)
-  placed_here = rw slots_are (get-same old.slots h (placed want is.address user true 0) (inside_is old.slots h is.handle))
+  pub placed_here : get new.slots h ≡ Some (placed want is.puts.address user true 0)
+  placed_here = rw slots_are (get-same old.slots h (placed want is.puts.address user true 0) (inside_is old.slots h is.puts.handle))
 
   -- and every other handle what it reached before
   pub placed_other : (other : Handle) → other.slot ≢ h.slot → get new.slots other ≡ get old.slots other
-  placed_other other ne = rw slots_are (get-other old.slots h other (placed want is.address user true 0) ne)
+  placed_other other ne = rw slots_are (get-other old.slots h other (placed want is.puts.address user true 0) ne)

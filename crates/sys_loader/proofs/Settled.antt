@@ -7,12 +7,13 @@ use Rattle.std.proofs.lemmas.List.{get_or-set_same, get_or-set_other, length-rep
 use Rattle.omf_format.specs.Header.{Fields}
 use Rattle.omf_format.specs.File.{Segment}
 use Rattle.omf_cells.specs.Load.{HasFields}
-use Rattle.loader_machine.specs.declared.handles.Handle.{Handle}
-use Rattle.loader_machine.specs.declared.slots.Slot.{Slot}
-use Rattle.loader_machine.specs.declared.wants.Want.{Want}
-use Rattle.loader_machine.specs.declared.wants.Block.{Block}
-use Rattle.loader_machine.specs.Slots.{get}
-use Rattle.loader_machine.specs.Memory.{Memory, bytes_at, IsThere, placed}
+use Rattle.iigs_meaning.specs.declared.handles.Handle.{Handle}
+use Rattle.iigs_meaning.specs.declared.slots.Slot.{Slot}
+use Rattle.iigs_meaning.specs.declared.wants.Want.{Want}
+use Rattle.iigs_meaning.specs.declared.wants.Block.{Block}
+use Rattle.iigs_meaning.specs.Slots.{get}
+use Rattle.iigs_meaning.specs.Puts.{placed}
+use Rattle.iigs_meaning.specs.Memory.{Memory, bytes_at, IsThere}
 use Rattle.loader_machine.specs.Machine.{first_id, max_users, wanted, entry_of}
 use Rattle.sys_loader.specs.Loaded.{Kept, IsSound}
 use Rattle.sys_loader.specs.Calls.{HasBegun}
@@ -34,7 +35,7 @@ some_place a b e = cc
 module _ (old new : Memory) (users : List Kept) (load : List Segment) (want : Want) (user : ℕ) (h : Handle) (sound : IsSound old users) (few : length users < max_users)
     (some : 0 < want.size) (settled : IsSettled old load want user h new) where
   abbrev at : ℕ
-  at = settled.is_placed.address
+  at = settled.is_placed.puts.address
 
   abbrev block : Block
   block = placed want at user true 0
@@ -67,7 +68,7 @@ module _ (old new : Memory) (users : List Kept) (load : List Segment) (want : Wa
   here = ap (λ (m : Memory). get m.slots h) settled.new_is ∙ placed_here old settled.placed want user h sound.locked settled.is_placed
 
   pub is_sound : (path : List ℕ) (size : ℕ) → size ≤ want.size → IsSound new (users ++ (record { path = path; handle = h; size = size }) ∷ [])
-  is_sound path size fits = grown old new users sound few h block path size settled.is_placed.handle slots_new refl refl keeps
+  is_sound path size fits = grown old new users sound few h block path size settled.is_placed.puts.handle slots_new refl refl keeps
       (omega (arith, fits, settled.size, ap length bytes_here))
 
   module _ (s : Segment) (f : Fields) (path : List ℕ) (address : ℕ) (entry : Option ℕ) (one : load ≡ s ∷ []) (has : HasFields load 1 f) (asks : want ≡ wanted f)
@@ -87,20 +88,22 @@ module _ (old new : Memory) (users : List Kept) (load : List Segment) (want : Wa
     pub is_begun : HasBegun (record { memory = old; users = users }) path s (record { user = user; entry = entry })
         (record { memory = new; users = users ++ (record { path = path; handle = h; size = f.length }) ∷ [] })
     is_begun = record {
-      count = settled.is_placed.count;
-      address = at;
-      goes = rw (fields_are, ← asks) settled.is_placed.goes;
       h = h;
-      handle = settled.is_placed.handle;
+      puts = record {
+        address = at;
+        room = settled.is_placed.puts.room;
+        makes = rw (fields_are, ← asks) settled.is_placed.puts.makes;
+        handle = settled.is_placed.puts.handle;
+        next_is = rw (fields_are, ← asks) (ap (λ (m : Memory). m.slots) settled.new_is ∙ settled.is_placed.puts.next_is);
+      };
       id = id;
       entry = rw (fields_are, ← address_is) entry_is;
       banks = ap (λ (m : Memory). m.banks) settled.new_is ∙ settled.is_placed.kept.banks;
-      slots = rw (fields_are, ← asks) (ap (λ (m : Memory). m.slots) settled.new_is ∙ settled.is_placed.slots);
       users = rw fields_are refl;
       here = rw (fields_are, ← asks) here;
       begins = λ places. (begins.rest, bytes_here ∙ begins.is ∙ ap (λ bs. bs ++ begins.rest) (sym (stands-bytes places s begins.content begins.cells_are)));
       stay = λ place kept is. (
-        handles_stay old new users sound few h block path f.length settled.is_placed.handle slots_new refl refl keeps (omega (arith, fits, settled.size, ap length bytes_here)) place kept is,
-        bytes_stay old new users sound few h block path f.length settled.is_placed.handle slots_new refl refl keeps (omega (arith, fits, settled.size, ap length bytes_here)) place kept is,
+        handles_stay old new users sound few h block path f.length settled.is_placed.puts.handle slots_new refl refl keeps (omega (arith, fits, settled.size, ap length bytes_here)) place kept is,
+        bytes_stay old new users sound few h block path f.length settled.is_placed.puts.handle slots_new refl refl keeps (omega (arith, fits, settled.size, ap length bytes_here)) place kept is,
       );
     }

@@ -6,16 +6,17 @@ use Rattle.std.specs.List.{position_or_len}
 use Rattle.std.proofs.lemmas.List.{length-replicate}
 use Rattle.std.proofs.lemmas.List.Sums.{position_or_len_is}
 use Rattle.std.proofs.lemmas.Grind.{common_steps}
-use Rattle.loader_machine.specs.declared.handles.Handle.{Handle}
-use Rattle.loader_machine.specs.declared.slots.Slot.{Slot}
-use Rattle.loader_machine.specs.declared.slots.Content.{Content}
-use Rattle.loader_machine.specs.declared.slots.Content.TheVariants.{Free, Used, Retired}
-use Rattle.loader_machine.specs.declared.wants.Block.{Block}
-use Rattle.loader_machine.specs.Slots.{slot_at, new_slot, get, is_free, lowest_free, new_handle, used_value}
-use Rattle.loader_machine.specs.Fits.{block_in}
-use Rattle.loader_machine.specs.declared.faults.BlockFault.{BlockFault}
-use Rattle.loader_machine.specs.declared.faults.BlockFault.TheVariants.{Stale, Empty}
-use Rattle.loader_machine.specs.Memory.{Memory, bytes_at, address_in, IsBlockRefusal}
+use Rattle.iigs_meaning.specs.declared.handles.Handle.{Handle}
+use Rattle.iigs_meaning.specs.declared.slots.Slot.{Slot}
+use Rattle.iigs_meaning.specs.declared.slots.Content.{Content}
+use Rattle.iigs_meaning.specs.declared.slots.Content.TheVariants.{Free, Used, Retired}
+use Rattle.iigs_meaning.specs.declared.wants.Block.{Block}
+use Rattle.iigs_meaning.specs.Slots.{slot_at, new_slot, get, is_free, lowest_free, new_handle, used_value}
+use Rattle.iigs_meaning.specs.Fits.{block_in}
+use Rattle.iigs_meaning.specs.declared.faults.BlockFault.{BlockFault}
+use Rattle.iigs_meaning.specs.declared.faults.BlockFault.TheVariants.{Stale, Empty}
+use Rattle.iigs_meaning.specs.Blocks.{address_in, IsBlockRefusal}
+use Rattle.iigs_meaning.specs.Memory.{Memory, bytes_at}
 use Rattle.loader_machine.specs.Machine.{max_users, first_id, user_of}
 use Rattle.sys_loader.specs.Loaded.{Kept, Loaded, IsSound}
 use Rattle.sys_loader.proofs.Lists.{none_within}
@@ -102,7 +103,7 @@ ready view memory users id kept same sound made =
     let k = sound.kept (id - first_id) kept (made_at users id kept is) in
     record { there = k.there; room = rw k.slot k.room }
 
-pub no_refusal : (memory : Memory) (kept : Kept) (fault : BlockFault) → IsReady memory kept → IsBlockRefusal memory kept.handle fault → ⊥
+pub no_refusal : (memory : Memory) (kept : Kept) (fault : BlockFault) → IsReady memory kept → IsBlockRefusal memory.slots kept.handle fault → ⊥
 no_refusal memory kept fault is refused = go (get memory.slots kept.handle) fault is.there refused
   where
     at_it : (o : Option ℕ) → IsSome o → o ≡ None → ⊥

@@ -3,13 +3,13 @@ use Rattle.std.proofs.Common.{◌≡◌, ℕ, true, ◌+◌, ◌<◌, ◌≤◌,
 use Rattle.omf_format.specs.Header.{Fields}
 use Rattle.omf_format.specs.File.{Segment}
 use Rattle.omf_cells.specs.Load.{HasFields}
-use Rattle.loader_machine.specs.declared.handles.Handle.{Handle}
-use Rattle.loader_machine.specs.declared.wants.Want.{Want}
+use Rattle.iigs_meaning.specs.declared.handles.Handle.{Handle}
+use Rattle.iigs_meaning.specs.declared.wants.Want.{Want}
 use Rattle.loader_machine.specs.declared.faults.LoaderFault.{LoaderFault}
 use Rattle.loader_machine.specs.declared.faults.LoaderFault.TheVariants.{NoRoom}
-use Rattle.loader_machine.specs.Slots.{get, new_handle}
-use Rattle.loader_machine.specs.Placement.{HasNoRoom}
-use Rattle.loader_machine.specs.Memory.{Memory, placed}
+use Rattle.iigs_meaning.specs.Slots.{get, new_handle}
+use Rattle.iigs_meaning.specs.Puts.{Purges, LacksRoom, placed}
+use Rattle.iigs_meaning.specs.Memory.{Memory}
 use Rattle.loader_machine.specs.Machine.{first_id, max_users, wanted, entry_of}
 use Rattle.sys_loader.specs.declared.loader.Started.{Started}
 use Rattle.sys_loader.specs.declared.user.User.{User}
@@ -46,19 +46,19 @@ module _ (view : Loaded) (memory : Memory) (users : List Kept) (same : record { 
   has_slot sound few = rw (next_handle memory users sound (users_few few)) refl
 
   pub no_room : (load : List Segment) (f : Fields) (want : Want) (s : Segment) → load ≡ s ∷ [] → HasFields load 1 f → want ≡ wanted f → (fault : LoaderFault)
-      → (fault ≡ NoRoom 1) × HasNoRoom memory.banks memory.slots want → IsNoRoom view s fault
+      → (fault ≡ NoRoom 1) × LacksRoom Purges memory.banks memory.slots want → IsNoRoom view s fault
   no_room load f want s one has is fault why =
       let fields_are : s.fields ≡ f = subst (λ (segments : List Segment). HasFields segments 1 f) one has in
       let asks : want ≡ wanted s.fields = is ∙ ap wanted (sym fields_are) in
-      let room : HasNoRoom memory.banks memory.slots (wanted s.fields) = subst (HasNoRoom memory.banks memory.slots) asks why.1 in
-      (why.0, subst (λ (m : Memory). HasNoRoom m.banks m.slots (wanted s.fields)) memory_is room)
+      let room : LacksRoom Purges memory.banks memory.slots (wanted s.fields) = subst (LacksRoom Purges memory.banks memory.slots) asks why.1 in
+      (why.0, subst (λ (m : Memory). LacksRoom Purges m.banks m.slots (wanted s.fields)) memory_is room)
 
 -- the block is there
 pub lies_here : (old new : Memory) (users : List Kept) → IsSound old users → (load : List Segment) (want : Want) (user : ℕ) (h : Handle) → IsSettled old load want user h new
     → IsSomeAnd (get new.slots h) (λ block. IsSome block.at)
 lies_here old new users sound load want user h settled =
     let slots : new.slots ≡ settled.placed.slots = ap (λ (m : Memory). m.slots) settled.new_is in
-    let here : get new.slots h ≡ Some (placed want settled.is_placed.address user true 0) = ap (λ table. get table h) slots ∙ placed_here old settled.placed want user h sound.locked settled.is_placed in
+    let here : get new.slots h ≡ Some (placed want settled.is_placed.puts.address user true 0) = ap (λ table. get table h) slots ∙ placed_here old settled.placed want user h sound.locked settled.is_placed in
     rw here refl
 
 map_push : (users more : List User) (user : User) → more ≡ users ++ user ∷ [] → map kept more ≡ map kept users ++ kept user ∷ []

@@ -4,12 +4,12 @@ use Rattle.omf_format.specs.File.{Segment}
 use Rattle.omf_io.specs.Counts.{IsFront}
 use Rattle.omf_io.specs.Files.{FileMap, IsRead, IsUnread}
 use Rattle.omf_format.specs.Cells.{stands}
-use Rattle.loader_machine.specs.declared.handles.Handle.{Handle}
+use Rattle.iigs_meaning.specs.declared.handles.Handle.{Handle}
 use Rattle.loader_machine.specs.declared.faults.LoaderFault.{LoaderFault}
 use Rattle.loader_machine.specs.declared.faults.LoaderFault.TheVariants.{NoUser, NoSegment, OutOfSegment, TooManyUsers, CannotRead, Unbuilt, NoRoom, Memory}
-use Rattle.loader_machine.specs.Slots as handles
-use Rattle.loader_machine.specs.Placement.{emptied, GoesTo, HasNoRoom}
-use Rattle.loader_machine.specs.Memory.{placed, bytes_at}
+use Rattle.iigs_meaning.specs.Slots as handles
+use Rattle.iigs_meaning.specs.Puts.{Purges, LacksRoom, placed, Puts}
+use Rattle.iigs_meaning.specs.Memory.{bytes_at}
 use Rattle.loader_machine.specs.Machine.{max_users, first_id, user_of, CanLoad, wanted, entry_of}
 use Rattle.sys_loader.specs.declared.loader.Started.{Started}
 use Rattle.sys_loader.specs.Loaded.{Kept, Loaded}
@@ -17,17 +17,13 @@ use Rattle.sys_loader.specs.Loaded.{Kept, Loaded}
 -- the segment is in a new block where it goes, locked with level 0, which begins with its bytes; there is one user more, and
 -- the blocks of the users before it are as they were
 pub record HasBegun (old : Loaded) (path : List ℕ) (s : Segment) (started : Started) (new : Loaded) : Type 0 where
-  pub count : ℕ
-  pub address : ℕ
-  pub goes : GoesTo old.memory.banks old.memory.slots (wanted s.fields) count address
   pub h : Handle
-  pub handle : handles.new_handle old.memory.slots ≡ Some h
+  pub puts : Puts Purges old.memory.banks old.memory.slots (wanted s.fields) started.user true 0 h new.memory.slots
   pub id : started.user ≡ first_id + length old.users
-  pub entry : started.entry ≡ entry_of s.fields address
+  pub entry : started.entry ≡ entry_of s.fields puts.address
   pub banks : new.memory.banks ≡ old.memory.banks
-  pub slots : new.memory.slots ≡ handles.after_take (emptied old.memory.slots count) (placed (wanted s.fields) address started.user true 0)
   pub users : new.users ≡ old.users ++ (record { path = path; handle = h; size = s.fields.length }) ∷ []
-  pub here : handles.get new.memory.slots h ≡ Some (placed (wanted s.fields) address started.user true 0)
+  pub here : handles.get new.memory.slots h ≡ Some (placed (wanted s.fields) puts.address started.user true 0)
   pub begins : (places : ℕ → ℕ) → IsFront (stands places s) (bytes_at new.memory h.slot)
   pub stay : (place : ℕ) (kept : Kept) → slice_get old.users place ≡ Some kept
       → (handles.get new.memory.slots kept.handle ≡ handles.get old.memory.slots kept.handle)
@@ -35,7 +31,7 @@ pub record HasBegun (old : Loaded) (path : List ℕ) (s : Segment) (started : St
 
 -- the segment has no room
 abbrev pub IsNoRoom : Loaded → Segment → LoaderFault → Type 0
-IsNoRoom old s fault = (fault ≡ NoRoom 1) × HasNoRoom old.memory.banks old.memory.slots (wanted s.fields)
+IsNoRoom old s fault = (fault ≡ NoRoom 1) × LacksRoom Purges old.memory.banks old.memory.slots (wanted s.fields)
 
 -- the file is one of one plain segment, which has begun
 abbrev pub HasStartedFrom : List ℕ → Loaded → List ℕ → Started → Loaded → Type 0
@@ -49,7 +45,7 @@ IsStartFault file old OutOfSegment = ⊥
 IsStartFault file old TooManyUsers = ⊥
 IsStartFault file old CannotRead = ⊥
 IsStartFault file old Unbuilt = (segments : List Segment) → ¬ CanLoad file segments
-IsStartFault file old (NoRoom number) = ((s : Segment) × CanLoad file (s ∷ []) × HasNoRoom old.memory.banks old.memory.slots (wanted s.fields)) × (number ≡ 1)
+IsStartFault file old (NoRoom number) = ((s : Segment) × CanLoad file (s ∷ []) × LacksRoom Purges old.memory.banks old.memory.slots (wanted s.fields)) × (number ≡ 1)
 IsStartFault file old Memory = Unit {0}
 
 -- a file of one plain segment was read, and its segment has begun
@@ -69,7 +65,7 @@ IsLoadFault held old path before now Unbuilt = (length old.users < max_users)
     × ((file : List ℕ) × IsRead held path file × ((segments : List Segment) → ¬ CanLoad file segments)) × (now ≡ before)
 IsLoadFault held old path before now (NoRoom number) = (length old.users < max_users)
     × ((file : List ℕ) × IsRead held path file × ((s : Segment) × CanLoad file (s ∷ [])
-    × HasNoRoom old.memory.banks old.memory.slots (wanted s.fields))) × (number ≡ 1) × (now ≡ before)
+    × LacksRoom Purges old.memory.banks old.memory.slots (wanted s.fields))) × (number ≡ 1) × (now ≡ before)
 IsLoadFault held old path before now Memory = now ≡ before
 IsLoadFault held old path before now NoUser = ⊥
 IsLoadFault held old path before now NoSegment = ⊥

@@ -6,11 +6,12 @@ use Rattle.omf_format.specs.Header.{Fields, form_of, is_dynamic, is_skipped}
 use Rattle.std.specs.Prelude.{◌≢◌, false, slice_set}
 use Rattle.omf_format.specs.File.{Segment, segment_at}
 use Rattle.omf_format.specs.Cells.{Byte, cells}
-use Rattle.loader_machine.specs.declared.handles.Handle.{Handle}
-use Rattle.loader_machine.specs.declared.wants.Want.{Want}
+use Rattle.iigs_meaning.specs.declared.handles.Handle.{Handle}
+use Rattle.iigs_meaning.specs.declared.wants.Want.{Want}
 use Rattle.loader_machine.specs.declared.faults.LoaderFault.{LoaderFault}
 use Rattle.loader_machine.specs.declared.faults.LoaderFault.TheVariants.{NoUser, NoSegment, OutOfSegment, TooManyUsers, CannotRead, Unbuilt, NoRoom, Memory}
-use Rattle.loader_machine.specs.Memory as memory
+use Rattle.iigs_meaning.specs.Puts.{Purges}
+use Rattle.iigs_meaning.specs.Memory as memory
 use Rattle.loader_machine.specs.Machine.{CanLoad}
 
 -- what a header says of a plain segment
@@ -62,7 +63,7 @@ pub record Begins (segments : List Segment) (bytes : List ℕ) : Type 0 where
 -- the block is placed, and begins with the bytes of the file's first segment
 pub record IsSettled (old : memory.Memory) (segments : List Segment) (want : Want) (user : ℕ) (h : Handle) (new : memory.Memory) : Type 0 where
   pub placed : memory.Memory
-  pub is_placed : memory.IsPlaced old want user true 0 h placed
+  pub is_placed : memory.IsPlaced Purges old want user true 0 h placed
   pub content : List ℕ
   pub begins : Begins segments content
   pub size : length content ≡ want.size

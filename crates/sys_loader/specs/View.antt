@@ -1,6 +1,6 @@
 -- How the loader's Rust values are seen.
 use Rattle.std.specs.Prelude.{List, map, string_bytes}
-use Rattle.loader_machine.specs.Memory.{Memory}
+use Rattle.iigs_meaning.specs.Memory.{Memory}
 use Rattle.sys_loader.specs.declared.user.User.{User}
 use Rattle.sys_loader.specs.Loaded.{Kept, Loaded}
 

@@ -2,11 +2,11 @@
 
 ghost use Rattle.std.specs.Prelude.{◌≡◌, ◌↔◌, ◌<◌, ◌^◌, IsTrue};
 ghost use Rattle.omf_header.specs.View.{fields};
-ghost use Rattle.loader_machine.specs.Fits.{IsWant};
+ghost use Rattle.iigs_meaning.specs.Fits.{IsWant};
 ghost use Rattle.loader_machine.specs.Machine.{wanted, entry_of};
 ghost use Rattle.sys_loader.specs.Files.{IsPlainHeader};
 
-use loader_machine::Want;
+use iigs_meaning::Want;
 use omf_header::Header;
 
 /// The type of a jump table.

@@ -8,6 +8,7 @@ mod loader;
 mod memory;
 mod user;
 
+pub use iigs_meaning::BanksFault;
 pub use laws::commands_have_one_reply;
 pub use loader::{Loader, Started};
-pub use loader_machine::{BanksFault, LoaderFault};
+pub use loader_machine::LoaderFault;

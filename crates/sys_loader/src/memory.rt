@@ -1,10 +1,10 @@
 //! Segments in memory.
 
 ghost use Rattle.std.specs.Prelude.{◌≡◌, ℕ, length, IfOk, IfErr, OnErr, IsSome, IsSomeAnd, Some, true, option_map};
-ghost use Rattle.loader_machine.specs.Slots.{get, new_handle, slot_at};
-ghost use Rattle.loader_machine.specs.Fits.{IsWant};
-ghost use Rattle.loader_machine.specs.Placement.{HasNoRoom};
-ghost use Rattle.loader_machine.specs.Memory.{IsPlaced, bytes_at};
+ghost use Rattle.iigs_meaning.specs.Slots.{get, new_handle, slot_at};
+ghost use Rattle.iigs_meaning.specs.Fits.{IsWant};
+ghost use Rattle.iigs_meaning.specs.Puts.{Purges, LacksRoom};
+ghost use Rattle.iigs_meaning.specs.Memory.{IsPlaced, bytes_at};
 ghost use Rattle.omf_cells.specs.Load.{HasPatches};
 ghost use Rattle.sys_loader.specs.Loaded.{IsLocked};
 ghost use Rattle.sys_loader.specs.Files.{HasAtMost, IsSettled};
@@ -21,8 +21,8 @@ const FIRST: u16 = 1;
 fn place(banks: &mut Banks, want: &Want, user: u16) -> Result<Handle, LoaderFault>
     requires want { IsWant want.now }
     requires slot { IsSome (new_handle banks.old.slots) }
-    ensures placed { IfOk result (λ h. IsPlaced banks.old want.now user true 0 h banks.new) }
-    ensures refused { IfErr result (λ fault. (fault ≡ LoaderFault.NoRoom 1) × HasNoRoom banks.old.banks banks.old.slots want.now) }
+    ensures placed { IfOk result (λ h. IsPlaced Purges banks.old want.now user true 0 h banks.new) }
+    ensures refused { IfErr result (λ fault. (fault ≡ LoaderFault.NoRoom 1) × LacksRoom Purges banks.old.banks banks.old.slots want.now) }
     ensures err { OnErr result (banks.new ≡ banks.old) }
 {
     match banks.place(want, user, true, 0) {
@@ -31,6 +31,7 @@ fn place(banks: &mut Banks, want: &Want, user: u16) -> Result<Handle, LoaderFaul
         Err(PlaceFault::NoHandle) => unreachable!(),
         Err(PlaceFault::NotEmpty) => unreachable!(),
         Err(PlaceFault::Stale) => unreachable!(),
+        Err(PlaceFault::Memory) => unreachable!(),
     }
 }
 
@@ -64,7 +65,7 @@ pub fn settle(
     requires slot { IsSome (new_handle banks.old.slots) }
     requires locked { (place : ℕ) → IsLocked (slot_at banks.old.slots place) }
     ensures settled { IfOk result (λ h. IsSettled banks.old load.now want.now user h banks.new) }
-    ensures refused { IfErr result (λ fault. (fault ≡ LoaderFault.NoRoom 1) × HasNoRoom banks.old.banks banks.old.slots want.now) }
+    ensures refused { IfErr result (λ fault. (fault ≡ LoaderFault.NoRoom 1) × LacksRoom Purges banks.old.banks banks.old.slots want.now) }
     ensures err { OnErr result (banks.new ≡ banks.old) }
 {
     let handle = match place(banks, want, user) {

@@ -1,6 +1,6 @@
 //! Users: programs that were loaded.
 
-use loader_machine::Handle;
+use iigs_meaning::Handle;
 
 /// A user as the loader keeps it.
 #[derive(Drop)]

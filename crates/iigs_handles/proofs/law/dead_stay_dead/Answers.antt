@@ -1,6 +1,6 @@
 use Rattle.iigs_handles.proofs.Dead.{live-iff, dead_is_stale, dead-all, dead_released}
-use Rattle.loader_machine.specs.Slots.{after_release}
-use Rattle.loader_machine.specs.Runs.{after_all}
+use Rattle.iigs_meaning.specs.Slots.{after_release}
+use Rattle.iigs_meaning.specs.Runs.{after_all}
 use Rattle.iigs_handles.proofs.law.dead_stay_dead.Goals as goal
 
 pub returns-clause-law : goal.returns-clause-law

@@ -1,5 +1,5 @@
 use Rattle.std.proofs.Common.{◌≡◌, replicate}
-use Rattle.loader_machine.specs.Slots.{new_slot}
+use Rattle.iigs_meaning.specs.Slots.{new_slot}
 use Rattle.iigs_handles.proofs.table.free_slots.Given as goal
 
 -- so many slots were pushed, all free

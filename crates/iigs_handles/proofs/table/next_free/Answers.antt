@@ -1,7 +1,7 @@
 use Rattle.std.proofs.Common.{◌≤◌, length, sym, arith}
 use Rattle.std.proofs.lemmas.List.Sums.{position_or_len_is}
 use Rattle.std.proofs.lemmas.Grind.{common_steps}
-use Rattle.loader_machine.specs.Slots.{is_free, new_slot}
+use Rattle.iigs_meaning.specs.Slots.{is_free, new_slot}
 use Rattle.iigs_handles.proofs.table.next_free.Goals as goal
 
 pub returns-then-is_free : goal.returns-then-is_free

@@ -1,5 +1,5 @@
 use Rattle.std.proofs.Common.{◌≡◌, ◌<◌, ℕ, false}
-use Rattle.loader_machine.specs.Slots.{is_free, slot_at}
+use Rattle.iigs_meaning.specs.Slots.{is_free, slot_at}
 use Rattle.iigs_handles.proofs.table.next_free.Given as goal
 
 -- no slot so far is free

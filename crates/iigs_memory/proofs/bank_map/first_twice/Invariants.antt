@@ -1,4 +1,4 @@
-use Rattle.loader_machine.specs.Memory.{AreDistinctTo}
+use Rattle.iigs_meaning.specs.Banks.{AreDistinctTo}
 use Rattle.iigs_memory.proofs.bank_map.first_twice.Given as goal
 
 -- none so far is named twice

@@ -1,5 +1,5 @@
 use Rattle.std.proofs.Common.{◌≡◌, ◌+◌, ◌-◌, true, false, refl, sym, ◌∙◌, arith}
-use Rattle.loader_machine.specs.Free.{free_end, first_free}
+use Rattle.iigs_meaning.specs.Free.{free_end, first_free}
 use Rattle.iigs_memory.specs.Sizes.{free_below}
 use Rattle.iigs_memory.specs.Offsets.{is_named}
 use Rattle.iigs_memory.proofs.Counts.{free_below-suc}

@@ -1,5 +1,5 @@
 use Rattle.std.proofs.Common.{ℕ, ◌<◌, ◌≤◌}
-use Rattle.loader_machine.specs.Free.{bank_of}
+use Rattle.iigs_meaning.specs.Free.{bank_of}
 use Rattle.iigs_memory.specs.Open.{Allows}
 use Rattle.iigs_memory.proofs.open.barred.Given as goal
 

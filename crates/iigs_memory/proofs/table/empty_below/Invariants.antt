@@ -1,5 +1,5 @@
 use Rattle.std.proofs.Common.{nat_lt}
-use Rattle.loader_machine.specs.Placement.{emptied_where}
+use Rattle.iigs_meaning.specs.Placement.{emptied_where}
 use Rattle.iigs_memory.specs.Spots.{turn_of}
 use Rattle.iigs_memory.proofs.InPlace.{SoFar}
 use Rattle.iigs_memory.proofs.table.empty_below.Given as goal

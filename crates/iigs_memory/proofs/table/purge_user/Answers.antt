@@ -1,6 +1,6 @@
 use Rattle.std.proofs.Common.{◌≤◌, length}
-use Rattle.loader_machine.specs.Placement.{emptied_where}
-use Rattle.loader_machine.specs.Memory.{can_purge_of}
+use Rattle.iigs_meaning.specs.Placement.{emptied_where}
+use Rattle.iigs_meaning.specs.Blocks.{can_purge_of}
 use Rattle.iigs_memory.proofs.InPlace.{so_far_all}
 use Rattle.iigs_memory.proofs.table.purge_user.Goals as goal
 

@@ -1,8 +1,8 @@
 use Rattle.std.proofs.Common.{◌≡◌, take, count_by, false}
 use Rattle.std.specs.Option.{option_map_or}
-use Rattle.loader_machine.specs.Fits.{block_in}
-use Rattle.loader_machine.specs.Placement.{emptied_where}
-use Rattle.loader_machine.specs.Memory.{can_purge_of}
+use Rattle.iigs_meaning.specs.Fits.{block_in}
+use Rattle.iigs_meaning.specs.Placement.{emptied_where}
+use Rattle.iigs_meaning.specs.Blocks.{can_purge_of}
 use Rattle.iigs_memory.proofs.InPlace.{SoFar}
 use Rattle.iigs_memory.proofs.table.purge_user.Given as goal
 

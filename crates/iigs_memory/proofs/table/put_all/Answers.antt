@@ -1,6 +1,6 @@
 use Rattle.std.proofs.Common.{◌≡◌, ◌≢◌, ◌<◌, ◌+◌, arith, length, count_by, None, IsSome}
-use Rattle.loader_machine.specs.declared.handles.Handle.{Handle}
-use Rattle.loader_machine.specs.Slots.{new_handle, is_free}
+use Rattle.iigs_meaning.specs.declared.handles.Handle.{Handle}
+use Rattle.iigs_meaning.specs.Slots.{new_handle, is_free}
 use Rattle.iigs_memory.proofs.Takes.{some_handle}
 use Rattle.iigs_memory.proofs.Alls.{all_next, free_less}
 use Rattle.iigs_memory.proofs.table.put_all.Goals as goal

@@ -1,5 +1,5 @@
 use Rattle.std.proofs.Common.{◌≡◌, ◌≤◌, ◌+◌, take, length, count_by, vec_len, vec_capacity}
-use Rattle.loader_machine.specs.Slots.{is_free}
+use Rattle.iigs_meaning.specs.Slots.{is_free}
 use Rattle.iigs_memory.specs.Alls.{AllPut}
 use Rattle.iigs_memory.proofs.table.put_all.Given as goal
 

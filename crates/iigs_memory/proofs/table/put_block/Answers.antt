@@ -1,7 +1,8 @@
 use Rattle.std.proofs.Common.{◌≡◌, ◌∙◌, sym, ap, refl, nat_lt, None, IsSome}
-use Rattle.loader_machine.specs.declared.handles.Handle.{Handle}
-use Rattle.loader_machine.specs.Memory.{placed}
-use Rattle.loader_machine.specs.Slots.{new_handle, after_take}
+use Rattle.iigs_meaning.specs.declared.handles.Handle.{Handle}
+use Rattle.iigs_meaning.specs.Puts.{placed}
+use Rattle.iigs_meaning.specs.PlacementLaws.{lacks_room}
+use Rattle.iigs_meaning.specs.Slots.{new_handle, after_take}
 use Rattle.iigs_memory.specs.Spots.{turn_of, IsFound}
 use Rattle.iigs_memory.proofs.Takes.{no_handle, some_handle, emptied_handle}
 use Rattle.iigs_memory.proofs.table.put_block.Goals as goal
@@ -13,7 +14,7 @@ pub returns-in_default-clause-refused : goal.returns-in_default-clause-refused
 returns-in_default-clause-refused c = (
   refl,
   some_handle c.args.table.now (λ none. c.if-left-eq0.false (c.left.ensures ∙ none)),
-  rw (← c.slots.ensures.value) c.in_default.ensures.found,
+  lacks_room c.args.map.now c.args.table.now c.args.want.now (rw (← c.slots.ensures.value) c.in_default.ensures.found),
 )
 
 pub unreachable-requires : goal.unreachable-requires

@@ -1,5 +1,5 @@
 use Rattle.std.proofs.Common.{◌≤◌, length}
-use Rattle.loader_machine.specs.Memory.{without_user_in}
+use Rattle.iigs_meaning.specs.Puts.{without_user_in}
 use Rattle.iigs_memory.proofs.InPlace.{so_far_all}
 use Rattle.iigs_memory.proofs.table.release_user.Goals as goal
 

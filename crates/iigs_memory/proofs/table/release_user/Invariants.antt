@@ -1,4 +1,4 @@
-use Rattle.loader_machine.specs.Memory.{without_user_in}
+use Rattle.iigs_meaning.specs.Puts.{without_user_in}
 use Rattle.iigs_memory.proofs.InPlace.{SoFar}
 use Rattle.iigs_memory.proofs.table.release_user.Given as goal
 

@@ -1,6 +1,6 @@
 use Rattle.std.proofs.Common.{subst, List, ℕ}
-use Rattle.loader_machine.specs.declared.faults.BanksFault.TheVariants.{BankTwice}
-use Rattle.loader_machine.specs.Memory.{IsBanksRefusal}
+use Rattle.iigs_meaning.specs.declared.faults.BanksFault.TheVariants.{BankTwice}
+use Rattle.iigs_meaning.specs.Banks.{IsBanksRefusal}
 use Rattle.omf_cli.proofs.ScriptWords.{not_twice}
 use Rattle.omf_cli.proofs.run.loader_of.Goals as goal
 

@@ -1,5 +1,5 @@
 use Rattle.std.proofs.Common.{◌≡◌, ◌∙◌, sym, ap, true, false}
-use Rattle.loader_machine.specs.Slots.{is_free}
+use Rattle.iigs_meaning.specs.Slots.{is_free}
 use Rattle.iigs_handles.proofs.SlotLemmas.{IsSound-free, IsSound-retire, live_inside, live_taken}
 use Rattle.iigs_handles.proofs.table.Handles.release.Goals as goal
 

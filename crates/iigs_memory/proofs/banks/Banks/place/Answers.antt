@@ -1,10 +1,6 @@
 use Rattle.std.proofs.Common.{vec_capacity, arith}
-use Rattle.iigs_memory.specs.Store.{memory_of}
-use Rattle.iigs_memory.proofs.Puts.{PutFacts, put_facts, put_within, put_store, put_zeros, put_keeps, refused_place, clear_overlay}
+use Rattle.iigs_memory.proofs.Puts.{PutFacts, put_facts, put_within, put_store, put_zeros, put_keeps, put_is, clear_overlay}
 use Rattle.iigs_memory.proofs.banks.Banks.place.Goals as goal
-
-pub returns-in-Err-clause-refused : goal.returns-in-Err-clause-refused
-returns-in-Err-clause-refused c = rw (← c.self.view_is) (refused_place (memory_of c.self.inside.map c.self.inside.table c.self.inside.bytes.items) c.args.want.now c.in-Err.fault c.in-Err.ensures.refused)
 
 pub clear-requires : goal.clear-requires
 clear-requires c =
@@ -26,13 +22,12 @@ returns-clause-placed c =
     let f : PutFacts c.self.inside.map c.self.inside.table c.args.want.now c.in-Ok.put c.put_block.new.table = put_facts c.self.inside.map c.self.inside.table c.put_block.new.table c.args.want.now c.args.user c.args.locked c.args.level c.in-Ok.put
     c.self.invariant.small c.requires.want c.self.invariant.bounded c.self.invariant.sound c.ranges.level.fits c.in-Ok.ensures.put in
     rw (← c.self.view_is, c.clear.ensures, c.offset.ensures.value, clear_overlay) (record {
-      count = c.in-Ok.ensures.put.count;
-      address = c.in-Ok.put.at;
-      goes = c.in-Ok.ensures.put.goes;
-      handle = c.in-Ok.ensures.put.handle;
-      slots = c.in-Ok.ensures.put.slots;
+      puts = put_is c.self.inside.map c.self.inside.table c.put_block.new.table c.args.want.now c.args.user c.args.locked c.args.level c.in-Ok.put c.in-Ok.ensures.put;
       zeros = put_zeros c.self.inside.map c.self.inside.bytes.items c.self.inside.table c.put_block.new.table (vec_capacity c.self.inside.spots) (vec_capacity c.self.inside.turns) (vec_capacity c.self.inside.made) c.self.invariant
           c.in-Ok.put.handle.slot (c.in-Ok.put.at, c.args.want.now.size) f.len f.bounded f.sound f.others f.is;
       kept = put_keeps c.self.inside.map c.self.inside.bytes.items c.self.inside.table c.put_block.new.table (vec_capacity c.self.inside.spots) (vec_capacity c.self.inside.turns) (vec_capacity c.self.inside.made) c.self.invariant
           c.in-Ok.put.handle.slot (c.in-Ok.put.at, c.args.want.now.size) f.len f.bounded f.sound f.others f.is;
     })
+
+pub returns-in-Err-clause-refused : goal.returns-in-Err-clause-refused
+returns-in-Err-clause-refused c = rw (← c.self.view_is) c.in-Err.ensures.refused

@@ -1,8 +1,5 @@
-use Rattle.std.proofs.Common.{◌≤◌, ◌∙◌, arith, length, count_by, vec_capacity}
-use Rattle.loader_machine.specs.Slots.{is_free}
-use Rattle.loader_machine.specs.Memory.{slots_for}
-use Rattle.iigs_memory.specs.Store.{memory_of}
-use Rattle.iigs_memory.proofs.AllPlaced.{start_bounded, start_sound, all_lengths, all_inside, all_store, all_placed, refused_all}
+use Rattle.std.proofs.Common.{◌∙◌, arith, vec_capacity}
+use Rattle.iigs_memory.proofs.AllPlaced.{start_bounded, start_sound, all_lengths, all_inside, all_store, all_placed}
 use Rattle.iigs_memory.proofs.banks.Banks.place_all.Goals as goal
 
 pub put_all-requires-clause-bounded : goal.put_all-requires-clause-bounded
@@ -12,10 +9,7 @@ pub put_all-requires-clause-sound : goal.put_all-requires-clause-sound
 put_all-requires-clause-sound c = rw c.start_plan.ensures (start_sound c.self.inside.map c.self.inside.table c.args.user c.args.fresh c.self.invariant.sound)
 
 pub returns-in-Err-clause-refused : goal.returns-in-Err-clause-refused
-returns-in-Err-clause-refused c =
-    let enough : length c.args.wants.now ≤ count_by is_free (slots_for c.self.inside.table c.args.user c.args.fresh) = rw (← c.start_plan.ensures) (omega (arith, c.left.ensures, c.if-left-wants.false)) in
-    rw (← c.self.view_is) (refused_all (memory_of c.self.inside.map c.self.inside.table c.self.inside.bytes.items) c.args.user c.args.fresh c.args.wants.now c.in-Err.fault
-    enough (rw c.start_plan.ensures at c.in-Err.ensures.refused))
+returns-in-Err-clause-refused c = rw (← c.self.view_is) (rw c.start_plan.ensures at c.in-Err.ensures.refused)
 
 pub clear_all-requires-clause-lengths : goal.clear_all-requires-clause-lengths
 clear_all-requires-clause-lengths c = rw c.deref.ensures.value
@@ -43,4 +37,5 @@ invariant_of-self-2 c = rw (c.copy_from.ensures, c.clear_all.ensures, c.deref.en
 pub returns-clause-placed : goal.returns-clause-placed
 returns-clause-placed c = rw (← c.self.view_is, c.copy_from.ensures, c.clear_all.ensures, c.give.ensures, c.deref.ensures.value, c.deref-2.ensures.value)
     (all_placed c.self.inside.map c.self.inside.bytes.items c.self.inside.table c.put_all.new.table (vec_capacity c.self.inside.spots) (vec_capacity c.self.inside.turns) (vec_capacity c.self.inside.made) c.self.invariant
-    c.args.user c.args.fresh c.args.wants.now c.put_all.new.made.items (rw c.start_plan.ensures at c.in-Ok.ensures.put))
+    c.args.user c.args.fresh c.args.wants.now c.put_all.new.made.items (rw c.start_plan.ensures at c.in-Ok.ensures.put)
+    (rw (← c.start_plan.ensures) (omega (arith, c.left.ensures, c.if-left-wants.false))))

@@ -1,5 +1,5 @@
 use Rattle.std.proofs.Common.{vec_capacity}
-use Rattle.loader_machine.specs.Memory.{can_purge_of}
+use Rattle.iigs_meaning.specs.Blocks.{can_purge_of}
 use Rattle.iigs_memory.proofs.Holds.{store_map}
 use Rattle.iigs_memory.proofs.Stores.{keeps_stays, map_stays}
 use Rattle.iigs_memory.proofs.banks.Banks.purge_user.Goals as goal

@@ -1,10 +1,6 @@
 use Rattle.std.proofs.Common.{vec_capacity, arith}
-use Rattle.iigs_memory.specs.Store.{memory_of}
-use Rattle.iigs_memory.proofs.Puts.{PutFacts, reput_facts, put_within, put_store, put_zeros, put_keeps, refused_replace, clear_overlay}
+use Rattle.iigs_memory.proofs.Puts.{PutFacts, reput_facts, put_within, put_store, put_zeros, put_keeps, reput_is, clear_overlay}
 use Rattle.iigs_memory.proofs.banks.Banks.replace.Goals as goal
-
-pub returns-in-Err-clause-refused : goal.returns-in-Err-clause-refused
-returns-in-Err-clause-refused c = rw (← c.self.view_is) (refused_replace (memory_of c.self.inside.map c.self.inside.table c.self.inside.bytes.items) c.args.h c.args.want.now c.in-Err.fault c.in-Err.ensures.refused)
 
 pub clear-requires : goal.clear-requires
 clear-requires c =
@@ -26,15 +22,12 @@ returns-clause-replaced c =
     let f : PutFacts c.self.inside.map c.self.inside.table c.args.want.now (record { handle = c.args.h; at = c.in-Ok.at }) c.replace_block.new.table = reput_facts c.self.inside.map c.self.inside.table c.replace_block.new.table c.args.h c.args.want.now c.in-Ok.at
     c.self.invariant.small c.requires.want c.self.invariant.bounded c.self.invariant.sound c.in-Ok.ensures.put in
     rw (← c.self.view_is, c.clear.ensures, c.offset.ensures.value, clear_overlay) (record {
-      block = c.in-Ok.ensures.put.block;
-      was = c.in-Ok.ensures.put.was;
-      empty = c.in-Ok.ensures.put.empty;
-      count = c.in-Ok.ensures.put.count;
-      address = c.in-Ok.at;
-      goes = c.in-Ok.ensures.put.goes;
-      slots = c.in-Ok.ensures.put.slots;
+      puts = reput_is c.self.inside.map c.self.inside.table c.replace_block.new.table c.args.h c.args.want.now c.in-Ok.at c.in-Ok.ensures.put;
       zeros = put_zeros c.self.inside.map c.self.inside.bytes.items c.self.inside.table c.replace_block.new.table (vec_capacity c.self.inside.spots) (vec_capacity c.self.inside.turns) (vec_capacity c.self.inside.made) c.self.invariant
           c.args.h.slot (c.in-Ok.at, c.args.want.now.size) f.len f.bounded f.sound f.others f.is;
       kept = put_keeps c.self.inside.map c.self.inside.bytes.items c.self.inside.table c.replace_block.new.table (vec_capacity c.self.inside.spots) (vec_capacity c.self.inside.turns) (vec_capacity c.self.inside.made) c.self.invariant
           c.args.h.slot (c.in-Ok.at, c.args.want.now.size) f.len f.bounded f.sound f.others f.is;
     })
+
+pub returns-in-Err-clause-refused : goal.returns-in-Err-clause-refused
+returns-in-Err-clause-refused c = rw (← c.self.view_is) c.in-Err.ensures.refused

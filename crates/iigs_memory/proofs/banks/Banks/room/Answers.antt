@@ -1,20 +1,20 @@
 use Rattle.std.proofs.Common.{◌≡◌, ◌+◌, ◌-◌, ◌^◌, ap, subst, ◌∙◌, arith, sum_by, ℕ}
-use Rattle.loader_machine.specs.Memory.{Memory}
+use Rattle.iigs_meaning.specs.Memory.{Memory}
 use Rattle.iigs_memory.specs.Sizes.{size_in}
 use Rattle.iigs_memory.specs.Store.{memory_of}
 use Rattle.iigs_memory.proofs.Room.{room_counts}
 use Rattle.iigs_memory.proofs.Counted.{counts_once}
-use Rattle.loader_machine.specs.Room.{CountsBelow, IsRoom}
+use Rattle.iigs_meaning.specs.Room.{CountsBelow, IsRoom}
 use Rattle.iigs_memory.proofs.banks.Banks.room.Goals as goal
 
 -- the room and the bytes of the blocks are the free bytes
 left : (c : goal.After-used_bytes-used) → (room : ℕ) × (room + c.used_bytes-used.result ≡ c.free_bytes-free.result)
-    × CountsBelow (IsRoom c.args.self.now) (2 ^ 24) room
+    × CountsBelow (IsRoom c.args.self.now.banks c.args.self.now.slots) (2 ^ 24) room
 left c =
     let is : memory_of c.self.inside.map c.self.inside.table c.self.inside.bytes.items ≡ c.args.self.now = c.self.view_is in
     let counts = room_counts (memory_of c.self.inside.map c.self.inside.table c.self.inside.bytes.items) c.self.invariant.bounded c.self.invariant.sound in
     let used : c.used_bytes-used.result ≡ sum_by size_in c.self.inside.table = c.used_bytes-used.ensures ∙ ap (sum_by size_in) c.slots.ensures.value in
-    (counts.0, rw (used, c.free_bytes-free.ensures) counts.1, subst (λ (memory : Memory). CountsBelow (IsRoom memory) (2 ^ 24) counts.0) is counts.2)
+    (counts.0, rw (used, c.free_bytes-free.ensures) counts.1, subst (λ (memory : Memory). CountsBelow (IsRoom memory.banks memory.slots) (2 ^ 24) counts.0) is counts.2)
 
 pub overflow_cast-result : goal.overflow_cast-result
 overflow_cast-result c = let room = left c in omega (arith, room.1, c.free_bytes-free.type_inv)
@@ -22,7 +22,7 @@ overflow_cast-result c = let room = left c in omega (arith, room.1, c.free_bytes
 pub overflow_sub-result : goal.overflow_sub-result
 overflow_sub-result c = let room = left c in omega (arith, room.1)
 
-counted : (c : goal.After-used_bytes-used) → CountsBelow (IsRoom c.args.self.now) (2 ^ 24) (c.free_bytes-free.result - c.used_bytes-used.result)
+counted : (c : goal.After-used_bytes-used) → CountsBelow (IsRoom c.args.self.now.banks c.args.self.now.slots) (2 ^ 24) (c.free_bytes-free.result - c.used_bytes-used.result)
 counted c =
     let room = left c in
     let same : room.0 ≡ c.free_bytes-free.result - c.used_bytes-used.result = omega (arith, room.1) in
@@ -32,4 +32,4 @@ pub returns-clause-counts : goal.returns-clause-counts
 returns-clause-counts c = counted c
 
 pub returns-clause-only : goal.returns-clause-only
-returns-clause-only c other counts = counts_once (IsRoom c.args.self.now) (2 ^ 24) other (c.free_bytes-free.result - c.used_bytes-used.result) counts (counted c)
+returns-clause-only c other counts = counts_once (IsRoom c.args.self.now.banks c.args.self.now.slots) (2 ^ 24) other (c.free_bytes-free.result - c.used_bytes-used.result) counts (counted c)

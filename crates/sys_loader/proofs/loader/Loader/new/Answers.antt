@@ -1,5 +1,5 @@
 use Rattle.std.proofs.Common.{◌≡◌, List, [], map, ap, sym, subst, arith, refl}
-use Rattle.loader_machine.specs.Memory.{new_slots}
+use Rattle.iigs_meaning.specs.Blocks.{new_slots}
 use Rattle.sys_loader.specs.Loaded.{Kept, IsSound}
 use Rattle.sys_loader.specs.View.{kept}
 use Rattle.sys_loader.proofs.Sound.{new_sound}

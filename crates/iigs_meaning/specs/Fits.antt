@@ -1,10 +1,14 @@
 -- Where a want fits.
 use Rattle.std.specs.Prelude.{◌≡◌, ◌⊎◌, ℕ, ◌+◌, ◌%◌, ◌<◌, ◌≤◌, false, List, All, Option, IfSome, IsSomeAnd, IsTrue}
-use Rattle.loader_machine.specs.declared.slots.Slot.{Slot}
-use Rattle.loader_machine.specs.declared.wants.Want.{Want}
-use Rattle.loader_machine.specs.declared.wants.Block.{Block}
-use Rattle.loader_machine.specs.Slots.{used_value}
-use Rattle.loader_machine.specs.Free.{bank_of, low_of, is_special, IsFree}
+use Rattle.iigs_meaning.specs.declared.slots.Slot.{Slot}
+use Rattle.iigs_meaning.specs.declared.wants.Want.{Want}
+use Rattle.iigs_meaning.specs.declared.wants.Block.{Block}
+use Rattle.iigs_meaning.specs.Slots.{used_value}
+use Rattle.iigs_meaning.specs.Free.{bank_of, low_of, is_special, IsFree}
+
+-- the slots of a table of blocks
+abbrev pub Slots : Type 0
+Slots = List (Slot Block)
 
 -- a want has a byte at least, and aligns to a byte, a page or a bank
 pub record IsWant (want : Want) : Type 0 where
@@ -28,7 +32,7 @@ IsApart address size slot = (i : ℕ) → address ≤ i → i < address + size �
 -- border of banks lies inside if crossing is forbidden; where the address is a multiple of the alignment, is the fixed
 -- one if there is one, and has the fixed low part if there is one; where all bytes lie in the fixed bank if there is
 -- one; and where no byte is special if that is forbidden.
-pub record Fits (banks : List ℕ) (slots : List (Slot Block)) (want : Want) (address : ℕ) : Type 0 where
+pub record Fits (banks : List ℕ) (slots : Slots) (want : Want) (address : ℕ) : Type 0 where
   pub free : (i : ℕ) → address ≤ i → i < address + want.size → IsFree banks i
   pub apart : All (IsApart address want.size) slots
   pub crossing : IsTrue want.no_cross → (i : ℕ) → address ≤ i → i < address + want.size → bank_of i ≡ bank_of address

@@ -15,7 +15,7 @@ pub struct Handle {
 
 /// Six upper-case hexadecimal digits: four of the slot, then two of the generation.
 impl fmt::Display for Handle {
-    ghost use Rattle.loader_machine.specs.Printed.{six_digits};
+    ghost use Rattle.iigs_meaning.specs.Printed.{six_digits};
 
     ghost output = { λ h. Some (six_digits h.slot h.generation) };
 

@@ -2,10 +2,10 @@
 -- handles of the GS/OS Reference are the model for a name that outlives its block's place.
 use Rattle.std.specs.Prelude.{◌≡◌, ℕ, Bool, true, false, ◌+◌, ◌==◌, ◌<◌, ◌⊎◌, List, Option, Some, None, IsSome, is_some, if◌then◌else◌, slice_index_or, slice_set, position}
 use Rattle.std.specs.Option.{option_map, option_map_or}
-use Rattle.loader_machine.specs.declared.handles.Handle.{Handle}
-use Rattle.loader_machine.specs.declared.slots.Slot.{Slot}
-use Rattle.loader_machine.specs.declared.slots.Content.{Content}
-use Rattle.loader_machine.specs.declared.slots.Content.TheVariants.{Free, Used, Retired}
+use Rattle.iigs_meaning.specs.declared.handles.Handle.{Handle}
+use Rattle.iigs_meaning.specs.declared.slots.Slot.{Slot}
+use Rattle.iigs_meaning.specs.declared.slots.Content.{Content}
+use Rattle.iigs_meaning.specs.declared.slots.Content.TheVariants.{Free, Used, Retired}
 
 -- the generation after which a slot isn't used again
 abbrev pub last_generation : ℕ

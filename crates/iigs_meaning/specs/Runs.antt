@@ -1,8 +1,8 @@
 -- Whole runs of calls on a table of handles, and the law of released handles.
 use Rattle.std.specs.Prelude.{◌≡◌, ◌↔◌, List, [], ◌∷◌, None, IsSome}
-use Rattle.loader_machine.specs.declared.handles.Handle.{Handle}
-use Rattle.loader_machine.specs.declared.slots.Slot.{Slot}
-use Rattle.loader_machine.specs.Slots.{IsLive, IsDead, get, after_take, after_release, with_value}
+use Rattle.iigs_meaning.specs.declared.handles.Handle.{Handle}
+use Rattle.iigs_meaning.specs.declared.slots.Slot.{Slot}
+use Rattle.iigs_meaning.specs.Slots.{IsLive, IsDead, get, after_take, after_release, with_value}
 
 -- a call on a table, with what it puts there
 pub data Call (T : Type 0) : Type 0 where

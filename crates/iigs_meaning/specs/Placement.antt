@@ -1,11 +1,11 @@
 -- Which blocks are purged for a want, and where it goes.
 use Rattle.std.specs.Prelude.{◌≡◌, ℕ, Bool, false, ◌==◌, ◌&&◌, ◌||◌, not, nat_lt, ◌<◌, ◌≤◌, List, map, count_by, None, is_some, unwrap_or, if◌then◌else◌}
 use Rattle.std.specs.Option.{option_map_or}
-use Rattle.loader_machine.specs.declared.slots.Slot.{Slot}
-use Rattle.loader_machine.specs.declared.slots.Content.TheVariants.{Used}
-use Rattle.loader_machine.specs.declared.wants.Want.{Want}
-use Rattle.loader_machine.specs.declared.wants.Block.{Block}
-use Rattle.loader_machine.specs.Fits.{Fits, block_in}
+use Rattle.iigs_meaning.specs.declared.slots.Slot.{Slot}
+use Rattle.iigs_meaning.specs.declared.slots.Content.TheVariants.{Used}
+use Rattle.iigs_meaning.specs.declared.wants.Want.{Want}
+use Rattle.iigs_meaning.specs.declared.wants.Block.{Block}
+use Rattle.iigs_meaning.specs.Fits.{Slots, Fits, block_in}
 
 -- a block that is there is purgeable where it isn't locked and its level isn't 0
 unfoldable pub can_purge : Block → Bool
@@ -17,11 +17,11 @@ goes_before one other = nat_lt other.level one.level
     || (one.level == other.level && nat_lt (unwrap_or one.at 0) (unwrap_or other.at 0))
 
 -- how many purgeable blocks go before this one
-unfoldable pub rank : List (Slot Block) → Block → ℕ
+unfoldable pub rank : Slots → Block → ℕ
 rank slots block = count_by (λ slot. option_map_or (λ one. can_purge one && goes_before one block) (block_in slot) false) slots
 
 -- the block is one of the first so many purgeable ones
-unfoldable pub is_gone : List (Slot Block) → ℕ → Block → Bool
+unfoldable pub is_gone : Slots → ℕ → Block → Bool
 is_gone slots count block = can_purge block && nat_lt (rank slots block) count
 
 -- the slot with its block emptied where that passes the test; an empty block keeps all but its place
@@ -31,22 +31,22 @@ emptied_where test slot = option_map_or
     (block_in slot) slot
 
 -- the slots with the first so many purgeable blocks emptied
-unfoldable pub emptied : List (Slot Block) → ℕ → List (Slot Block)
+unfoldable pub emptied : Slots → ℕ → Slots
 emptied slots count = map (emptied_where (is_gone slots count)) slots
 
 -- the want goes to the least address that fits once the first so many purgeable blocks are emptied, for the fewest
 -- with which any address fits
-pub record GoesTo (banks : List ℕ) (slots : List (Slot Block)) (want : Want) (count address : ℕ) : Type 0 where
+pub record GoesTo (banks : List ℕ) (slots : Slots) (want : Want) (count address : ℕ) : Type 0 where
   pub fits : Fits banks (emptied slots count) want address
   pub least : (other : ℕ) → Fits banks (emptied slots count) want other → address ≤ other
   pub fewest : (fewer : ℕ) → fewer < count → (other : ℕ) → ¬ Fits banks (emptied slots fewer) want other
 
 -- a want goes to one address only, once one number of blocks is emptied
 abbrev pub GoesToOneAddress : Type 0
-GoesToOneAddress = (banks : List ℕ) (slots : List (Slot Block)) (want : Want) (count other_count address other : ℕ)
+GoesToOneAddress = (banks : List ℕ) (slots : Slots) (want : Want) (count other_count address other : ℕ)
     → GoesTo banks slots want count address → GoesTo banks slots want other_count other
     → (count ≡ other_count) × (address ≡ other)
 
 -- the want fits nowhere, whatever is purged
-abbrev pub HasNoRoom : List ℕ → List (Slot Block) → Want → Type 0
+abbrev pub HasNoRoom : List ℕ → Slots → Want → Type 0
 HasNoRoom banks slots want = (count address : ℕ) → ¬ Fits banks (emptied slots count) want address

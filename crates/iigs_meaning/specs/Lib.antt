@@ -1,0 +1,12 @@
+pub mod Slots
+pub mod Runs
+pub mod Printed
+pub mod Free
+pub mod Fits
+pub mod Placement
+pub mod Puts
+pub mod PlacementLaws
+pub mod Blocks
+pub mod Room
+pub mod Banks
+pub mod Memory

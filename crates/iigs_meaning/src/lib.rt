@@ -1,0 +1,13 @@
+//! What memory handles and memory of banks mean: slots and handles, wants, blocks and faults. The definitions that
+//! contracts cite stand in `specs/`.
+#![tactic(auto)]
+
+mod faults;
+mod handles;
+mod slots;
+mod wants;
+
+pub use faults::{BanksFault, BlockFault, PlaceFault};
+pub use handles::{Handle, Stale};
+pub use slots::{Content, Slot};
+pub use wants::{Block, BlockState, Want};
