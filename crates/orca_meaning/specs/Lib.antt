@@ -1,3 +1,13 @@
+pub mod Characters
+pub mod Quotes
+pub mod Operation
+pub mod Line
+pub mod Token
+pub mod Formula
+pub mod Operand
+pub mod Machine
+pub mod Complete
+pub mod Sound
 pub mod Length
 pub mod Matrix
 pub mod MatrixLaws
