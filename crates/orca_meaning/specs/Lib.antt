@@ -2,6 +2,7 @@ pub mod Characters
 pub mod Quotes
 pub mod Operation
 pub mod Line
+pub mod LineLaws
 pub mod Token
 pub mod Formula
 pub mod Operand

@@ -1,0 +1,4 @@
+pub mod Lookup
+pub mod Own
+pub mod Places
+pub mod Reading

@@ -1,0 +1,4 @@
+pub mod Spelling
+pub mod View
+pub mod OwnFields
+pub mod Refusals
