@@ -1,3 +1,5 @@
+pub mod Texts
+pub mod Digits
 pub mod Lookup
 pub mod Own
 pub mod Places

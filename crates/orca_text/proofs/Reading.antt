@@ -61,6 +61,7 @@ bad_cause number at text source cause is first = by_cause cause is first
     neither true b c p q e = p cc
     neither false true c p q e = q cc
     neither false false c p q e = absurd cc
+
     by_cause : (c : TextCause) → line_fault number text ≡ Some c → first_line_fault 1 (lines_of source) ≡ Some (at, c) → IsRefusedFor c at source
     by_cause LineTooLong is first = first
     by_cause TooManyLines is first = first

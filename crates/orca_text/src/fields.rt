@@ -25,10 +25,10 @@ fn is_blank(byte: u8) -> bool
 }
 
 /// The bytes from a place on.
-fn from(text: &[u8], at: u32) -> &[u8]
+pub(crate) fn from(text: &[u8], at: usize) -> &[u8]
     ensures { result.now ≡ drop at text.now }
 {
-    match text.get(at as usize..) {
+    match text.get(at..) {
         Some(rest) => rest,
         None => &[],
     }
@@ -39,7 +39,7 @@ pub(crate) fn part(text: &[u8], span: Span) -> &[u8]
     requires { LiesIn text.now span }
     ensures { result.now ≡ part text.now span }
 {
-    let field = from(text, span.from);
+    let field = from(text, span.from as usize);
     match field.get(..(span.to - span.from) as usize) {
         Some(bytes) => bytes,
         None => field,
@@ -128,10 +128,10 @@ fn three_fields(text: &[u8]) -> Fields
     ensures within { HaveFields text.now (fields result) }
 {
     let label_end = blank_in(text) as u32;
-    let operation = label_end + ink_in(from(text, label_end)) as u32;
-    let operation_end = operation + blank_in(from(text, operation)) as u32;
-    let operand = operation_end + ink_in(from(text, operation_end)) as u32;
-    let operand_end = operand + blank_outside(from(text, operand)) as u32;
+    let operation = label_end + ink_in(from(text, label_end as usize)) as u32;
+    let operation_end = operation + blank_in(from(text, operation as usize)) as u32;
+    let operand = operation_end + ink_in(from(text, operation_end as usize)) as u32;
+    let operand_end = operand + blank_outside(from(text, operand as usize)) as u32;
     Fields {
         label: Span {
             from: 0,

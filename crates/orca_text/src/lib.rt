@@ -2,10 +2,14 @@
 #![tactic(auto)]
 
 mod fields;
+mod formula_term;
 mod line;
 mod lines;
+mod operand_tokens;
 mod operation;
+mod tokens;
 
+pub use formula_term::FormulaTerm;
 pub use line::SourceLine;
 pub use lines::{Lines, read_lines};
 pub use operation::mnemonic_of;

@@ -1,0 +1,106 @@
+//! The operands and operators of formulas, taken from the front of a text (ORCA/M reference manual, "Expressions").
+
+ghost use Rattle.std.specs.Prelude.{◌≡◌, ◌≢◌, ◌+◌, ◌≤◌, ◌<◌, ◌∷◌, true, false, map, length, take, drop, Some, None, IfOk, MatchOption, bytes_eq};
+ghost use Rattle.std.specs.Char.{to_ascii_uppercase};
+ghost use Rattle.std.specs.List.{prefix_len};
+ghost use Rattle.orca_meaning.specs.Characters.{is_name_start, is_name_byte, folded};
+ghost use Rattle.orca_meaning.specs.Token.{seen_as, number_at, name_at, symbol_at, attribute_at, operand_at, other_operand_at, sign_at, operator_at, token_at, spelled_at};
+ghost use Rattle.orca_text.specs.Kept.{fitting, kept_operand, kept_token};
+ghost use Rattle.orca_text.specs.TokenView.{operand, token};
+
+use crate::fields::from;
+use crate::operation::is_spelled;
+use crate::tokens::number_at;
+use omf_base::Name;
+use orca_meaning::{Operands, Operator, Sign};
+use std::alloc::{AllocError, Global};
+
+/// An operand of a formula.
+#[derive(Debug, Drop)]
+pub(crate) enum Operand {
+    /// The location counter.
+    Here,
+    /// A number.
+    Number(u32),
+    /// A number above 4,294,967,295.
+    TooLarge,
+    /// A label.
+    Label(Name),
+    /// The length of a label or a symbol.
+    LengthOf(Name),
+    /// The count of a label or a symbol.
+    CountOf(Name),
+}
+
+/// A token of a formula.
+#[derive(Debug, Drop)]
+pub(crate) enum Token {
+    Value(Operand),
+    Before(Sign),
+    Between(Operator),
+    Opens,
+    Closes,
+}
+
+/// A name that stands at the front, and what stands behind it.
+type FoundName<'a> = Option<(Name, &'a [u8])>;
+
+/// Whether a name may begin with the byte.
+fn is_name_start(byte: u8) -> bool
+    ensures { result ≡ is_name_start byte }
+{
+    byte.is_ascii_alphabetic() || byte == b'_' || byte == b'~'
+}
+
+/// Whether a name may go on with the byte.
+fn is_name_byte(byte: u8) -> bool
+    ensures { result ≡ is_name_byte byte }
+{
+    is_name_start(byte) || byte.is_ascii_digit()
+}
+
+/// How many bytes at the front go on with a name.
+fn name_len(behind: &[u8]) -> usize
+    ensures value { result ≡ prefix_len is_name_byte behind.now }
+    ensures bound { result ≤ length behind.now }
+{
+    let mut count = 0;
+    let mut left = behind;
+    'bytes: while let Some((byte, others)) = left.split_first() {
+        if !is_name_byte(*byte) {
+            return count;
+        }
+        count += 1;
+        left = others;
+    }
+    count
+}
+
+/// Bytes in upper case, as a name.
+fn folded(alloc: Global, bytes: &[u8]) -> Result<Name, AllocError>
+    requires { length bytes.now ≤ 255 }
+    ensures { IfOk result (λ name. name ≡ folded bytes.now) }
+{
+    let mut name = Vec::with_capacity(alloc, bytes.len())?;
+    'bytes: for byte in bytes {
+        name.push(byte.to_ascii_uppercase())?;
+    }
+    Ok(Name::from_vec(name))
+}
+
+/// The longest name at the front, in upper case, and what stands behind it.
+#[tactic(auto, unfolding(orca_meaning::specs::Token::name_at))]
+fn name_at(alloc: Global, text: &[u8]) -> Result<Option<(Name, &[u8])>, AllocError>
+    requires { length text.now ≤ 255 }
+    ensures { IfOk result (λ found. MatchOption found (name_at text.now ≡ None) (λ x. name_at text.now ≡ Some (x.0, x.1.now))) }
+{
+    let Some((first, behind)) = text.split_first() else {
+        return Ok(None);
+    };
+    if !is_name_start(*first) {
+        return Ok(None);
+    }
+    let (bytes, rest) = text.split_at(1 + name_len(behind));
+    let name = folded(alloc, bytes)?;
+    Ok(Some((name, rest)))
+}
