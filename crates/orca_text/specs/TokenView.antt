@@ -1,6 +1,10 @@
 -- How tokens are seen.
-use Rattle.std.specs.Prelude.{Bool, true, false}
+use Rattle.std.specs.Prelude.{ℕ, Bool, true, false, List, Option, Some, None}
+use Rattle.orca_meaning.specs.declared.operators.Operands.{Operands}
+use Rattle.orca_meaning.specs.declared.operators.Operands.TheVariants.{Labels, Symbols}
 use Rattle.orca_meaning.specs.Token as meaning
+use Rattle.orca_text.specs.declared.operand_tokens.Asked.{Asked}
+use Rattle.orca_text.specs.declared.operand_tokens.Asked.TheVariants.{Length, Count}
 use Rattle.orca_text.specs.declared.operand_tokens.Operand.{Operand}
 use Rattle.orca_text.specs.declared.operand_tokens.Operand.TheVariants.{Here, Number, TooLarge, Label, LengthOf, CountOf}
 use Rattle.orca_text.specs.declared.operand_tokens.Token.{Token}
@@ -21,3 +25,22 @@ token (Before sign) = (meaning.Before sign, false)
 token (Between operator) = (meaning.Between operator, false)
 token Opens = (meaning.Opens, false)
 token Closes = (meaning.Closes, false)
+
+-- a number as an operand
+abbrev pub number_operand : Option ℕ → meaning.Operand × Bool
+number_operand (Some n) = (meaning.Number n, false)
+number_operand None = (meaning.Number 0, true)
+
+-- the letter of what is asked, and the operand that it gives of a name
+abbrev pub letter_of : Asked → ℕ
+letter_of Length = 0x4C
+letter_of Count = 0x43
+
+abbrev pub asked : Asked → List ℕ → meaning.Operand
+asked Length name = meaning.LengthOf name
+asked Count name = meaning.CountOf name
+
+-- the name of which something is asked: of a statement a label, elsewhere a symbol
+abbrev pub asked_name : Operands → List ℕ → meaning.Found (List ℕ)
+asked_name Labels text = meaning.name_at text
+asked_name Symbols text = meaning.symbol_at text

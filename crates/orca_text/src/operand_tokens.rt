@@ -4,9 +4,9 @@ ghost use Rattle.std.specs.Prelude.{◌≡◌, ◌≢◌, ◌+◌, ◌≤◌, �
 ghost use Rattle.std.specs.Char.{to_ascii_uppercase};
 ghost use Rattle.std.specs.List.{prefix_len};
 ghost use Rattle.orca_meaning.specs.Characters.{is_name_start, is_name_byte, folded};
-ghost use Rattle.orca_meaning.specs.Token.{seen_as, number_at, name_at, symbol_at, attribute_at, operand_at, other_operand_at, sign_at, operator_at, token_at, spelled_at};
+ghost use Rattle.orca_meaning.specs.Token.{Here, location_at, seen_as, number_at, name_at, symbol_at, attribute_at, operand_at, other_operand_at, sign_at, operator_at, token_at, spelled_at};
 ghost use Rattle.orca_text.specs.Kept.{fitting, kept_operand, kept_token};
-ghost use Rattle.orca_text.specs.TokenView.{operand, token};
+ghost use Rattle.orca_text.specs.TokenView.{operand, token, number_operand, letter_of, asked, asked_name};
 
 use crate::fields::from;
 use crate::operation::is_spelled;
@@ -103,4 +103,159 @@ fn name_at(alloc: Global, text: &[u8]) -> Result<Option<(Name, &[u8])>, AllocErr
     let (bytes, rest) = text.split_at(1 + name_len(behind));
     let name = folded(alloc, bytes)?;
     Ok(Some((name, rest)))
+}
+
+/// The name of a symbol behind `&`, and what stands behind it.
+#[tactic(auto, unfolding(orca_meaning::specs::Token::symbol_at))]
+fn symbol_at(alloc: Global, text: &[u8]) -> Result<Option<(Name, &[u8])>, AllocError>
+    requires { length text.now ≤ 255 }
+    ensures { IfOk result (λ found. MatchOption found (symbol_at text.now ≡ None) (λ x. symbol_at text.now ≡ Some (x.0, x.1.now))) }
+{
+    let Some((first, behind)) = text.split_first() else {
+        return Ok(None);
+    };
+    if *first != b'&' {
+        return Ok(None);
+    }
+    name_at(alloc, behind)
+}
+
+/// What is asked of a name.
+#[derive(Clone, Copy)]
+enum Asked {
+    Length,
+    Count,
+}
+
+/// What the letter before a colon asks of a name.
+fn asked_by(letter: u8) -> Option<Asked>
+    ensures { MatchOption result ((to_ascii_uppercase letter ≢ 0x4C) × (to_ascii_uppercase letter ≢ 0x43)) (λ asked. to_ascii_uppercase letter ≡ letter_of asked) }
+{
+    match letter {
+        b'L' | b'l' => Some(Asked::Length),
+        b'C' | b'c' => Some(Asked::Count),
+        _ => None,
+    }
+}
+
+/// The name that an attribute is asked of.
+fn asked_name(
+    alloc: Global,
+    operands: Operands,
+    text: &[u8],
+) -> Result<Option<(Name, &[u8])>, AllocError>
+    requires { length text.now ≤ 255 }
+    ensures { IfOk result (λ found. MatchOption found (asked_name operands text.now ≡ None) (λ x. asked_name operands text.now ≡ Some (x.0, x.1.now))) }
+{
+    match operands {
+        Operands::Labels => name_at(alloc, text),
+        Operands::Symbols => symbol_at(alloc, text),
+    }
+}
+
+/// `L:` or `C:` before a name.
+#[tactic(auto, unfolding(orca_meaning::specs::Token::attribute_at))]
+fn attribute_at(
+    alloc: Global,
+    operands: Operands,
+    text: &[u8],
+) -> Result<Option<(Operand, &[u8])>, AllocError>
+    requires { length text.now ≤ 255 }
+    ensures { IfOk result (λ found. MatchOption found (attribute_at (asked_name operands) text.now ≡ None)
+        (λ x. seen_as kept_operand (attribute_at (asked_name operands) text.now) ≡ Some (operand x.0, x.1.now))) }
+{
+    let Some((letter, colon_on)) = text.split_first() else {
+        return Ok(None);
+    };
+    let Some((colon, behind)) = colon_on.split_first() else {
+        return Ok(None);
+    };
+    if *colon != b':' {
+        return Ok(None);
+    }
+    let Some(asked) = asked_by(*letter) else {
+        return Ok(None);
+    };
+    let Some((name, rest)) = asked_name(alloc, operands, behind)? else {
+        return Ok(None);
+    };
+    match asked {
+        Asked::Length => Ok(Some((Operand::LengthOf(name), rest))),
+        Asked::Count => Ok(Some((Operand::CountOf(name), rest))),
+    }
+}
+
+/// What stands behind `*` at the front.
+#[tactic(auto, unfolding(orca_meaning::specs::Token::location_at))]
+fn behind_star(text: &[u8]) -> Option<&[u8]>
+    ensures { MatchOption result (location_at text.now ≡ None) (λ rest. location_at text.now ≡ Some (Here, rest.now)) }
+{
+    let Some((first, behind)) = text.split_first() else {
+        return None;
+    };
+    if *first != b'*' {
+        return None;
+    }
+    Some(behind)
+}
+
+/// An operand of a statement that isn't a number.
+fn label_at(alloc: Global, text: &[u8]) -> Result<Option<(Operand, &[u8])>, AllocError>
+    requires { length text.now ≤ 255 }
+    ensures { IfOk result (λ found. MatchOption found (other_operand_at Operands.Labels text.now ≡ None)
+        (λ x. seen_as kept_operand (other_operand_at Operands.Labels text.now) ≡ Some (operand x.0, x.1.now))) }
+{
+    if let Some(behind) = behind_star(text) {
+        return Ok(Some((Operand::Here, behind)));
+    }
+    if let Some(found) = attribute_at(alloc, Operands::Labels, text)? {
+        return Ok(Some(found));
+    }
+    match name_at(alloc, text)? {
+        Some((name, rest)) => Ok(Some((Operand::Label(name), rest))),
+        None => Ok(None),
+    }
+}
+
+/// An operand that isn't a number.
+fn other_operand_at(
+    alloc: Global,
+    operands: Operands,
+    text: &[u8],
+) -> Result<Option<(Operand, &[u8])>, AllocError>
+    requires { length text.now ≤ 255 }
+    ensures { IfOk result (λ found. MatchOption found (other_operand_at operands text.now ≡ None)
+        (λ x. seen_as kept_operand (other_operand_at operands text.now) ≡ Some (operand x.0, x.1.now))) }
+{
+    match operands {
+        Operands::Labels => label_at(alloc, text),
+        Operands::Symbols => attribute_at(alloc, Operands::Symbols, text),
+    }
+}
+
+/// A number as an operand.
+fn number_operand(number: Option<u32>) -> Operand
+    ensures { operand result ≡ number_operand number }
+{
+    match number {
+        Some(n) => Operand::Number(n),
+        None => Operand::TooLarge,
+    }
+}
+
+/// The operand at the front.
+#[tactic(auto, unfolding(orca_meaning::specs::Token::operand_at))]
+fn operand_at(
+    alloc: Global,
+    operands: Operands,
+    text: &[u8],
+) -> Result<Option<(Operand, &[u8])>, AllocError>
+    requires { length text.now ≤ 255 }
+    ensures { IfOk result (λ found. MatchOption found (operand_at operands text.now ≡ None)
+        (λ x. seen_as kept_operand (operand_at operands text.now) ≡ Some (operand x.0, x.1.now))) }
+{
+    if let Some((number, rest)) = number_at(text) {
+        return Ok(Some((number_operand(number), rest)));
+    }
+    other_operand_at(alloc, operands, text)
 }
