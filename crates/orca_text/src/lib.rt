@@ -7,6 +7,7 @@ mod line;
 mod lines;
 mod operand_tokens;
 mod operation;
+mod operator_tokens;
 mod tokens;
 
 pub use formula_term::FormulaTerm;
