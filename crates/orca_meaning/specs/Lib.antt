@@ -6,9 +6,11 @@ pub mod LineLaws
 pub mod Token
 pub mod Formula
 pub mod Operand
+pub mod TokenLaws
 pub mod Machine
 pub mod Complete
 pub mod Sound
+pub mod Front
 pub mod Length
 pub mod Matrix
 pub mod MatrixLaws
