@@ -11,6 +11,7 @@ pub mod Machine
 pub mod Complete
 pub mod Sound
 pub mod Front
+pub mod FormulaLaws
 pub mod Length
 pub mod Matrix
 pub mod MatrixLaws
