@@ -12,6 +12,7 @@ pub mod Complete
 pub mod Sound
 pub mod Front
 pub mod FormulaLaws
+pub mod OperandLaws
 pub mod Length
 pub mod Matrix
 pub mod MatrixLaws
