@@ -4,3 +4,4 @@ pub mod Lookup
 pub mod Own
 pub mod Places
 pub mod Reading
+pub mod Steps

@@ -2,6 +2,7 @@
 #![tactic(auto)]
 
 mod fields;
+mod formula;
 mod formula_term;
 mod line;
 mod lines;
@@ -9,6 +10,7 @@ mod operand_tokens;
 mod operation;
 mod operator_tokens;
 mod tokens;
+mod waiting;
 
 pub use formula_term::FormulaTerm;
 pub use line::SourceLine;
