@@ -5,7 +5,7 @@ use Rattle.std.specs.Option.{option_or}
 use Rattle.omf_format.specs.Expression.{Term, Tree, terms_of}
 use Rattle.orca_meaning.specs.declared.operators.Operator as operators
 use Rattle.orca_meaning.specs.declared.operators.Operands.{Operands}
-use Rattle.orca_meaning.specs.Token.{Token, Value, Before, Between, Opens, Closes, Found, seen_as, byte_at, operator_at, spelled_at, token_at, expects_behind, Stand}
+use Rattle.orca_meaning.specs.Token.{Token, Value, Before, Between, Opens, Closes, Found, seen_as, byte_at, operator_at, operator_token_at, token_at, expects_behind, Stand}
 use Rattle.orca_meaning.specs.Formula.{Formula, IsFormula, tokens_of, tree_of, StandsAt, MeansAt}
 use Rattle.orca_meaning.specs.Machine.{Wait, Bracket, Pending, State, state, reduced, closed, step, and_then, run, ended, finish, start, postfix}
 use Rattle.orca_meaning.specs.Complete.{complete}
@@ -165,7 +165,7 @@ byte-token wanted t (byte ∷ behind) x is = by_test (eqb byte wanted) is
 
 -- where no operator stands, only a closing parenthesis can
 pub only_closes : (o : Operands) (text : List ℕ) (t : Token) (behind : List ℕ) → operator_at text ≡ None → token_at o false text ≡ Some (t, behind) → t ≡ Closes
-unfolding token_at
+unfolding operator_token_at
 only_closes o text t behind none is = by_byte (byte_at 0x29 Closes text) refl is
   where
     by_byte : (f : Found Token) → byte_at 0x29 Closes text ≡ f → option_or f (seen_as Between (operator_at text)) ≡ Some (t, behind) → t ≡ Closes

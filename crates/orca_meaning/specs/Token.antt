@@ -133,11 +133,18 @@ unfoldable pub byte_at : ℕ → Token → List ℕ → Found Token
 byte_at wanted token [] = None
 byte_at wanted token (byte ∷ behind) = if byte == wanted then Some (token, behind) else None
 
--- the token at the front, where an operand is expected, and where an operator is
-unfoldable pub token_at : Operands → Bool → List ℕ → Found Token
-token_at operands true text =
+-- the token at the front where an operand is expected: a parenthesis, an operator before an operand, or an operand
+unfoldable pub operand_token_at : Operands → List ℕ → Found Token
+operand_token_at operands text =
     option_or (byte_at 0x28 Opens text) (option_or (seen_as Before (sign_at text)) (seen_as Value (operand_at operands text)))
-token_at operands false text = option_or (byte_at 0x29 Closes text) (seen_as Between (operator_at text))
+
+-- the token behind an operand: a parenthesis, or an operator between two
+unfoldable pub operator_token_at : List ℕ → Found Token
+operator_token_at text = option_or (byte_at 0x29 Closes text) (seen_as Between (operator_at text))
+
+abbrev pub token_at : Operands → Bool → List ℕ → Found Token
+token_at operands true text = operand_token_at operands text
+token_at operands false text = operator_token_at text
 
 -- whether an operand is expected behind a token
 abbrev pub expects_behind : Token → Bool

@@ -14,7 +14,7 @@ use Rattle.orca_meaning.specs.declared.operators.Operands.TheVariants.{Labels, S
 use Rattle.orca_meaning.specs.declared.operators.Operator as operators
 use Rattle.orca_meaning.specs.declared.operators.Sign as signs_type
 use Rattle.orca_meaning.specs.Characters.{is_name_start, is_name_byte, folded}
-use Rattle.orca_meaning.specs.Token.{Operand, Here, Number, Label, LengthOf, CountOf, Token, Value, Before, Between, Opens, Closes, Found, seen_as, digits_at, text_at, number_at, name_at, symbol_at, asked_by, attribute_at, location_at, other_operand_at, operand_at, spelled_at, signs, operators, sign_at, operator_at, byte_at, token_at, expects_behind, Stand}
+use Rattle.orca_meaning.specs.Token.{Operand, Here, Number, Label, LengthOf, CountOf, Token, Value, Before, Between, Opens, Closes, Found, seen_as, digits_at, text_at, number_at, name_at, symbol_at, asked_by, attribute_at, location_at, other_operand_at, operand_at, spelled_at, signs, operators, sign_at, operator_at, byte_at, operand_token_at, operator_token_at, token_at, expects_behind, Stand}
 
 -- ---- what is found
 
@@ -244,7 +244,7 @@ fine_value text None is = tt
 fine_value text (Some x) is = is
 
 fine_found : (o : Operands) (e : Bool) (text : List ℕ) → IsFine text (token_at o e text)
-unfolding token_at
+unfolding operand_token_at operator_token_at
 fine_found o true text =
     fine_token_or text (byte_at 0x28 Opens text) _ (fine_byte 0x28 Opens text (λ behind less. less))
     (fine_token_or text (seen_as Before (sign_at text)) _ (fine_before text (sign_at text) (sign-shorter text)) (fine_value text (operand_at o text) (fine_operand o text)))

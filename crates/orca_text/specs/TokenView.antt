@@ -7,8 +7,10 @@ use Rattle.orca_text.specs.declared.operand_tokens.Asked.{Asked}
 use Rattle.orca_text.specs.declared.operand_tokens.Asked.TheVariants.{Length, Count}
 use Rattle.orca_text.specs.declared.operand_tokens.Operand.{Operand}
 use Rattle.orca_text.specs.declared.operand_tokens.Operand.TheVariants.{Here, Number, TooLarge, Label, LengthOf, CountOf}
-use Rattle.orca_text.specs.declared.operand_tokens.Token.{Token}
-use Rattle.orca_text.specs.declared.operand_tokens.Token.TheVariants.{Value, Before, Between, Opens, Closes}
+use Rattle.orca_text.specs.declared.operand_tokens.OperandToken.{OperandToken}
+use Rattle.orca_text.specs.declared.operand_tokens.OperandToken.TheVariants.{Value, Before, Opens}
+use Rattle.orca_text.specs.declared.operand_tokens.OperatorToken.{OperatorToken}
+use Rattle.orca_text.specs.declared.operand_tokens.OperatorToken.TheVariants.{Between, Closes}
 use Rattle.orca_text.specs.Kept.{kept_value}
 
 abbrev pub operand : Operand → meaning.Operand × Bool
@@ -19,12 +21,14 @@ operand (Label name) = (meaning.Label name, false)
 operand (LengthOf name) = (meaning.LengthOf name, false)
 operand (CountOf name) = (meaning.CountOf name, false)
 
-abbrev pub token : Token → meaning.Token × Bool
-token (Value o) = kept_value (operand o)
-token (Before sign) = (meaning.Before sign, false)
-token (Between operator) = (meaning.Between operator, false)
-token Opens = (meaning.Opens, false)
-token Closes = (meaning.Closes, false)
+abbrev pub operand_token : OperandToken → meaning.Token × Bool
+operand_token (Value o) = kept_value (operand o)
+operand_token (Before sign) = (meaning.Before sign, false)
+operand_token Opens = (meaning.Opens, false)
+
+abbrev pub operator_token : OperatorToken → meaning.Token
+operator_token (Between operator) = meaning.Between operator
+operator_token Closes = meaning.Closes
 
 -- a number as an operand
 abbrev pub number_operand : Option ℕ → meaning.Operand × Bool

@@ -3,13 +3,13 @@
 ghost use Rattle.std.specs.Prelude.{◌≡◌, ◌≤◌, ◌<◌, ◌∷◌, ◌++◌, ◌&&◌, [], map, length, IfOk, OnOk, IfSome, IfNone, MatchOption, Some, None, true, false};
 ghost use Rattle.orca_meaning.specs.Formula.{sign_code, operator_code, operator_level, term_of};
 ghost use Rattle.orca_meaning.specs.Machine.{Bracket, Pending, state, reduced, step, closed, ended};
-ghost use Rattle.orca_text.specs.TokenView.{operand, token};
+ghost use Rattle.orca_text.specs.TokenView.{operand, operand_token, operator_token};
 ghost use Rattle.orca_text.specs.Closing.{Closes};
 ghost use Rattle.orca_text.specs.View.{term};
 ghost use Rattle.orca_text.specs.WaitView.{wait};
 
 use crate::formula_term::FormulaTerm;
-use crate::operand_tokens::{Operand, Token};
+use crate::operand_tokens::{Operand, OperandToken, OperatorToken, operand_token, operator_token};
 use crate::waiting::{Wait, Waiting};
 use orca_meaning::{Operator, Sign};
 use std::alloc::{AllocError, Global};

@@ -1,15 +1,15 @@
 //! The operands and operators of formulas, taken from the front of a text (ORCA/M reference manual, "Expressions").
 
-ghost use Rattle.std.specs.Prelude.{◌≡◌, ◌≢◌, ◌+◌, ◌≤◌, ◌<◌, ◌∷◌, true, false, map, length, take, drop, Some, None, IfOk, MatchOption, bytes_eq};
+ghost use Rattle.std.specs.Prelude.{◌≡◌, ◌≢◌, ℕ, List, ◌+◌, ◌≤◌, ◌<◌, ◌∷◌, true, false, map, length, take, drop, Some, None, IfOk, MatchOption, bytes_eq};
 ghost use Rattle.std.specs.Char.{to_ascii_uppercase};
 ghost use Rattle.std.specs.List.{prefix_len};
 ghost use Rattle.orca_meaning.specs.Characters.{is_name_start, is_name_byte, folded};
-ghost use Rattle.orca_meaning.specs.Token.{Here, location_at, seen_as, number_at, name_at, symbol_at, attribute_at, operand_at, other_operand_at, sign_at, operator_at, token_at, spelled_at};
+ghost use Rattle.orca_meaning.specs.Token.{Here, location_at, seen_as, number_at, name_at, symbol_at, attribute_at, operand_at, other_operand_at, byte_at, operand_token_at, operator_token_at, Opens, Closes};
 ghost use Rattle.orca_text.specs.Kept.{fitting, kept_operand, kept_token};
-ghost use Rattle.orca_text.specs.TokenView.{operand, token, number_operand, letter_of, asked, asked_name};
+ghost use Rattle.orca_text.specs.TokenView.{operand, operand_token, operator_token, number_operand, letter_of, asked, asked_name};
 
 use crate::fields::from;
-use crate::operation::is_spelled;
+use crate::operator_tokens::{operator_at, sign_at};
 use crate::tokens::number_at;
 use omf_base::Name;
 use orca_meaning::{Operands, Operator, Sign};
@@ -32,18 +32,25 @@ pub(crate) enum Operand {
     CountOf(Name),
 }
 
-/// A token of a formula.
+/// A token where an operand is expected.
 #[derive(Debug, Drop)]
-pub(crate) enum Token {
+pub(crate) enum OperandToken {
+    /// An operand.
     Value(Operand),
+    /// An operator before one.
     Before(Sign),
-    Between(Operator),
+    /// A parenthesis before one.
     Opens,
-    Closes,
 }
 
-/// A name that stands at the front, and what stands behind it.
-type FoundName<'a> = Option<(Name, &'a [u8])>;
+/// A token behind an operand.
+#[derive(Clone, Copy, Debug)]
+pub(crate) enum OperatorToken {
+    /// An operator between two.
+    Between(Operator),
+    /// The end of a parenthesis.
+    Closes,
+}
 
 /// Whether a name may begin with the byte.
 fn is_name_start(byte: u8) -> bool
@@ -258,4 +265,54 @@ fn operand_at(
         return Ok(Some((number_operand(number), rest)));
     }
     other_operand_at(alloc, operands, text)
+}
+
+/// What stands behind a byte at the front.
+fn behind_byte(text: &[u8], wanted: u8) -> Option<&[u8]>
+    ensures { MatchOption result ((behind : List ℕ) → text.now ≢ wanted ∷ behind) (λ rest. text.now ≡ wanted ∷ rest.now) }
+{
+    let Some((first, behind)) = text.split_first() else {
+        return None;
+    };
+    if *first != wanted {
+        return None;
+    }
+    Some(behind)
+}
+
+/// The token at the front, where an operand is expected.
+#[tactic(auto, unfolding(orca_meaning::specs::Token::operand_token_at, orca_meaning::specs::Token::byte_at))]
+pub(crate) fn operand_token(
+    alloc: Global,
+    operands: Operands,
+    text: &[u8],
+) -> Result<Option<(OperandToken, &[u8])>, AllocError>
+    requires { length text.now ≤ 255 }
+    ensures { IfOk result (λ found. MatchOption found (operand_token_at operands text.now ≡ None)
+        (λ x. seen_as kept_token (operand_token_at operands text.now) ≡ Some (operand_token x.0, x.1.now))) }
+{
+    if let Some(behind) = behind_byte(text, b'(') {
+        return Ok(Some((OperandToken::Opens, behind)));
+    }
+    if let Some((sign, behind)) = sign_at(text) {
+        return Ok(Some((OperandToken::Before(sign), behind)));
+    }
+    match operand_at(alloc, operands, text)? {
+        Some((operand, behind)) => Ok(Some((OperandToken::Value(operand), behind))),
+        None => Ok(None),
+    }
+}
+
+/// The token at the front, behind an operand.
+#[tactic(auto, unfolding(orca_meaning::specs::Token::operator_token_at, orca_meaning::specs::Token::byte_at))]
+pub(crate) fn operator_token(text: &[u8]) -> Option<(OperatorToken, &[u8])>
+    ensures { MatchOption result (operator_token_at text.now ≡ None) (λ x. operator_token_at text.now ≡ Some (operator_token x.0, x.1.now)) }
+{
+    if let Some(behind) = behind_byte(text, b')') {
+        return Some((OperatorToken::Closes, behind));
+    }
+    match operator_at(text) {
+        Some((operator, behind)) => Some((OperatorToken::Between(operator), behind)),
+        None => None,
+    }
 }
