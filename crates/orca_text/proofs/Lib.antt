@@ -1,4 +1,5 @@
 pub mod Texts
+pub mod Whole
 pub mod Digits
 pub mod Lookup
 pub mod Own

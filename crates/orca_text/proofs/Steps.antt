@@ -1,12 +1,18 @@
 -- What is closed, by what waits on top.
 use Rattle.std.proofs.Common.{◌≡◌, ℕ, ◌<◌, ◌≤◌, List, [], ◌∷◌, ◌++◌, Bool, true, false, Option, Some, None, map, refl, sym, ap, subst, ◌∙◌, arith}
+use Rattle.std.specs.Prelude.{◌||◌}
 use Rattle.std.proofs.lemmas.Bool.{le-leb}
 use Rattle.std.proofs.lemmas.List.{map-append}
 use Rattle.omf_format.specs.Expression.{Term, Operator}
+use Rattle.orca_meaning.specs.declared.operators.Operator as operators
+use Rattle.orca_meaning.specs.Formula.{operator_code, operator_level}
+use Rattle.orca_meaning.specs.declared.operators.Operands.{Operands}
+use Rattle.orca_meaning.specs.Token.{Between, Closes, operator_token_at}
 use Rattle.orca_meaning.specs.Machine.{Wait, Bracket, Pending, State, state, reduced, closed, step, ended}
 use Rattle.orca_meaning.specs.Complete.{stuck}
 use Rattle.orca_text.specs.declared.formula_term.FormulaTerm.{FormulaTerm}
 use Rattle.orca_text.specs.declared.formula_term.FormulaTerm.TheVariants as coded
+use Rattle.orca_text.specs.Next.{Steps, IsEnd, Unmatched, IsStuck, NotWhole}
 use Rattle.orca_text.specs.View.{term}
 
 pub none_tight : (level : ℕ) (out : List Term) (ws : List Wait) → ws ≡ [] → reduced level out ws ≡ (out, ws)
@@ -48,3 +54,35 @@ closed_pending x out ws rest level code e is = rw (← e, is) (refl, refl)
 pub closed_nothing : (x : Pair) (out : List Term) (ws : List Wait) → (out, ws) ≡ x → ws ≡ [] → (closed x ≡ None) × (ended x ≡ Some out)
 unfolding closed ended
 closed_nothing x out ws e is = rw (← e, is) (refl, refl)
+
+-- ---- an operator
+
+operator_step : (operator : operators.Operator) (out out' : List Term) (ws ws' : List Wait) → (out', ws') ≡ reduced (operator_level operator) out ws
+    → step (state out ws false) (Between operator) ≡ Some (state out' (Pending (operator_level operator) (operator_code operator) ∷ ws') true)
+unfolding step
+operator_step operator out out' ws ws' e =
+    ap (λ (x : Pair). Some (state x.0 (Pending (operator_level operator) (operator_code operator) ∷ x.1) true)) (sym e)
+
+pub operator_pushed : (operator : operators.Operator) (tight : ℕ) (out out' : List Term) (ws ws' new : List Wait) → tight ≡ operator_level operator → (out', ws') ≡ reduced tight out ws
+    → new ≡ Pending (operator_level operator) (operator_code operator) ∷ ws' → step (state out ws false) (Between operator) ≡ Some (state out' new true)
+operator_pushed operator tight out out' ws ws' new level e pushed =
+    operator_step operator out out' ws ws' (e ∙ ap (λ (n : ℕ). reduced n out ws) level) ∙ ap (λ (w : List Wait). Some (state out' w true)) (sym pushed)
+
+-- ---- a closing parenthesis
+
+or_false : (b : Bool) → b ≡ (b || false)
+or_false true = refl
+or_false false = refl
+
+pub shut_steps : (o : Operands) (large : Bool) (left behind : List ℕ) (out out' : List Term) (ws ws' : List Wait) → operator_token_at left ≡ Some (Closes, behind)
+    → closed (reduced 6 out ws) ≡ Some (state out' ws' false) → Steps o (state out ws false) (state out' ws' false) large large left behind
+unfolding step
+shut_steps o large left behind out out' ws ws' found shut = record { token = Closes; found = found; steps = shut; grows = or_false large }
+
+pub whole_end : (left behind : List ℕ) (out out' : List Term) (ws : List Wait) → operator_token_at left ≡ Some (Closes, behind)
+    → (closed (reduced 6 out ws) ≡ None) × (ended (reduced 6 out ws) ≡ Some out') → IsEnd (state out ws false) left out'
+whole_end left behind out out' ws found both = record { expects = refl; stops = Unmatched behind found both.0; whole = both.1 }
+
+pub open_stuck : (o : Operands) (left behind : List ℕ) (out : List Term) (ws : List Wait) → operator_token_at left ≡ Some (Closes, behind)
+    → (closed (reduced 6 out ws) ≡ None) × (ended (reduced 6 out ws) ≡ None) → IsStuck o (state out ws false) left
+open_stuck o left behind out ws found both = NotWhole refl (Unmatched behind found both.0) both.1

@@ -4,5 +4,7 @@ pub mod WaitView
 pub mod OwnFields
 pub mod Refusals
 pub mod Closing
+pub mod FormulaAt
 pub mod Kept
+pub mod Next
 pub mod TokenView

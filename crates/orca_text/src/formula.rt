@@ -1,17 +1,20 @@
 //! A formula read token by token, to its terms in postfix order.
 
-ghost use Rattle.std.specs.Prelude.{◌≡◌, ◌≤◌, ◌<◌, ◌∷◌, ◌++◌, ◌&&◌, [], map, length, IfOk, OnOk, IfSome, IfNone, MatchOption, Some, None, true, false};
+ghost use Rattle.std.specs.Prelude.{◌≡◌, ℕ, List, Bool, ◌≤◌, ◌<◌, ◌∷◌, ◌++◌, ◌&&◌, [], map, length, IfOk, OnOk, IfSome, IfNone, MatchOption, Some, None, true, false};
 ghost use Rattle.orca_meaning.specs.Formula.{sign_code, operator_code, operator_level, term_of};
 ghost use Rattle.orca_meaning.specs.Machine.{Bracket, Pending, state, reduced, step, closed, ended};
 ghost use Rattle.orca_text.specs.TokenView.{operand, operand_token, operator_token};
+ghost use Rattle.orca_meaning.specs.Token.{Between};
 ghost use Rattle.orca_text.specs.Closing.{Closes};
+ghost use Rattle.orca_text.specs.FormulaAt.{IsFormulaAt, HasNoFormula};
+ghost use Rattle.orca_text.specs.Next.{IsNext};
 ghost use Rattle.orca_text.specs.View.{term};
 ghost use Rattle.orca_text.specs.WaitView.{wait};
 
-use crate::formula_term::FormulaTerm;
+use crate::formula_term::{Formula, FormulaTerm};
 use crate::operand_tokens::{Operand, OperandToken, OperatorToken, operand_token, operator_token};
 use crate::waiting::{Wait, Waiting};
-use orca_meaning::{Operator, Sign};
+use orca_meaning::{Operands, Operator, Sign};
 use std::alloc::{AllocError, Global};
 
 /// The level of an operator between two operands.
@@ -141,5 +144,188 @@ fn close(out: &mut Vec<FormulaTerm>, waiting: &mut Waiting) -> Result<Closing, A
         Wait::Bracket => Ok(Closing::Shut),
         Wait::Before(_) => Ok(Closing::Open),
         Wait::Between(_) => Ok(Closing::Open),
+    }
+}
+
+/// Whether a token is a number that is too large.
+fn is_too_large(next: &OperandToken) -> bool
+    ensures { result ≡ (operand_token next.now).1 }
+{
+    match next {
+        OperandToken::Value(Operand::TooLarge) => true,
+        OperandToken::Value(Operand::Here) => false,
+        OperandToken::Value(Operand::Number(_)) => false,
+        OperandToken::Value(Operand::Label(_)) => false,
+        OperandToken::Value(Operand::LengthOf(_)) => false,
+        OperandToken::Value(Operand::CountOf(_)) => false,
+        OperandToken::Before(_) => false,
+        OperandToken::Opens => false,
+    }
+}
+
+/// Takes a token where an operand is expected: whether one is expected behind it too.
+#[tactic(auto, using(crate::proofs::Steps::map_push), unfolding(orca_meaning::specs::Machine::step))]
+fn take_operand(
+    out: &mut Vec<FormulaTerm>,
+    waiting: &mut Waiting,
+    next: OperandToken,
+) -> Result<bool, AllocError>
+    ensures ok { IfOk result (λ again. step (state (map term out.old.items) waiting.old true) (operand_token next).0
+        ≡ Some (state (map term out.new.items) waiting.new again)) }
+{
+    match next {
+        OperandToken::Value(operand) => {
+            out.push(operand_term(operand))?;
+            Ok(false)
+        }
+        OperandToken::Before(sign) => {
+            waiting.push(Wait::Before(sign))?;
+            Ok(true)
+        }
+        OperandToken::Opens => {
+            waiting.push(Wait::Bracket)?;
+            Ok(true)
+        }
+    }
+}
+
+/// Takes an operator between two operands.
+fn take_operator(
+    out: &mut Vec<FormulaTerm>,
+    waiting: &mut Waiting,
+    operator: Operator,
+) -> Result<(), AllocError>
+    ensures ok { OnOk result (step (state (map term out.old.items) waiting.old false) (Between operator)
+        ≡ Some (state (map term out.new.items) waiting.new true)) }
+{
+    reduce(out, waiting, level(operator))?;
+    waiting.push(Wait::Between(operator))?;
+    Ok(())
+}
+
+/// How a formula goes on.
+enum Next<'a> {
+    /// Behind one more token, where an operand is expected or not.
+    Goes(bool, &'a [u8]),
+    /// It ends where it stands.
+    Ends,
+    /// No formula stands there.
+    Fails,
+}
+
+/// Takes what stands where an operand is expected.
+fn operand_next<'a>(
+    alloc: Global,
+    operands: Operands,
+    left: &'a [u8],
+    out: &mut Vec<FormulaTerm>,
+    waiting: &mut Waiting,
+    large: &mut bool,
+) -> Result<Next<'a>, AllocError>
+    requires { length left.now ≤ 255 }
+    ensures { IfOk result (λ next. IsNext operands (state (map term out.old.items) waiting.old true) large.old left.now next (map term out.new.items) waiting.new large.new) }
+{
+    let Some((next, behind)) = operand_token(alloc, operands, left)? else {
+        return Ok(Next::Fails);
+    };
+    *large = *large || is_too_large(&next);
+    let again = take_operand(out, waiting, next)?;
+    Ok(Next::Goes(again, behind))
+}
+
+/// Takes what stands behind an operand.
+fn operator_next<'a>(
+    left: &'a [u8],
+    out: &mut Vec<FormulaTerm>,
+    waiting: &mut Waiting,
+) -> Result<Next<'a>, AllocError>
+    ensures { (operands : Operands) (large : Bool) → IfOk result (λ next. IsNext operands (state (map term out.old.items) waiting.old false) large left.now next (map term out.new.items) waiting.new large) }
+{
+    match operator_token(left) {
+        Some((OperatorToken::Between(operator), behind)) => {
+            take_operator(out, waiting, operator)?;
+            Ok(Next::Goes(true, behind))
+        }
+        Some((OperatorToken::Closes, behind)) => match close(out, waiting)? {
+            Closing::Shut => Ok(Next::Goes(false, behind)),
+            Closing::Whole => Ok(Next::Ends),
+            Closing::Open => Ok(Next::Fails),
+        },
+        None => match close(out, waiting)? {
+            Closing::Whole => Ok(Next::Ends),
+            Closing::Shut => Ok(Next::Fails),
+            Closing::Open => Ok(Next::Fails),
+        },
+    }
+}
+
+/// Takes one more token, where an operand is expected or not.
+fn take_next<'a>(
+    alloc: Global,
+    operands: Operands,
+    expects: bool,
+    left: &'a [u8],
+    out: &mut Vec<FormulaTerm>,
+    waiting: &mut Waiting,
+    large: &mut bool,
+) -> Result<Next<'a>, AllocError>
+    requires { length left.now ≤ 255 }
+    ensures { IfOk result (λ next. IsNext operands (state (map term out.old.items) waiting.old expects) large.old left.now next (map term out.new.items) waiting.new large.new) }
+{
+    if expects {
+        return operand_next(alloc, operands, left, out, waiting, large);
+    }
+    operator_next(left, out, waiting)
+}
+
+/// A formula at the front of a text.
+#[derive(Debug, Drop)]
+pub struct FormulaAt<'a> {
+    /// Its terms in postfix order, with 0 for each number that is too large.
+    pub formula: Formula,
+    /// Whether a number in it is above 4,294,967,295.
+    pub large: bool,
+    /// What stands behind it.
+    pub rest: &'a [u8],
+}
+
+/// The formula that stands at the front of a text of at most 255 bytes, as far as operators go on, if one does.
+pub fn formula_at<'a>(
+    alloc: Global,
+    operands: Operands,
+    text: &'a [u8],
+) -> Result<Option<FormulaAt<'a>>, AllocError>
+    requires { length text.now ≤ 255 }
+    ensures found { IfOk result (λ found. IfSome found (λ x. IsFormulaAt operands text.now x.formula x.large x.rest.now)) }
+    ensures none { IfOk result (λ found. IfNone found (HasNoFormula operands text.now)) }
+{
+    let mut out = Vec::new(alloc);
+    let mut waiting = Waiting::new(alloc);
+    let mut large = false;
+    let mut expects = true;
+    let mut left = text;
+    'tokens: loop {
+        match take_next(
+            alloc,
+            operands,
+            expects,
+            left,
+            &mut out,
+            &mut waiting,
+            &mut large,
+        )? {
+            Next::Goes(again, behind) => {
+                expects = again;
+                left = behind;
+            }
+            Next::Ends => {
+                return Ok(Some(FormulaAt {
+                    formula: Formula::of(out),
+                    large,
+                    rest: left,
+                }));
+            }
+            Next::Fails => return Ok(None),
+        }
     }
 }

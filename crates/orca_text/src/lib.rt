@@ -12,7 +12,8 @@ mod operator_tokens;
 mod tokens;
 mod waiting;
 
-pub use formula_term::FormulaTerm;
+pub use formula::{FormulaAt, formula_at};
+pub use formula_term::{Formula, FormulaTerm};
 pub use line::SourceLine;
 pub use lines::{Lines, read_lines};
 pub use operation::mnemonic_of;
