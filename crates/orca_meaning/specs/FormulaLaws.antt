@@ -3,6 +3,7 @@ use Rattle.std.proofs.Common.{◌≡◌, ℕ, ◌+◌, ◌^◌, ◌<◌, ◌≤�
 use Rattle.std.specs.Prelude.{◌||◌}
 use Rattle.std.specs.List.{list_any}
 use Rattle.std.proofs.lemmas.Bool.{leb-false}
+use Rattle.std.proofs.lemmas.List.Folds.{list_any-append}
 use Rattle.omf_format.specs.Expression as expression
 use Rattle.omf_format.specs.Expression.{Term, Constant, Location, Tree, Leaf, Unary, Binary, terms_of, terms_text, depth, IsTree, IsExpression, operand_count}
 use Rattle.orca_meaning.specs.declared.operators.Operands.{Operands}
@@ -113,14 +114,6 @@ one_tree o text t u r s p q =
     (sym p.means ∙ same_tree p.formula q.formula same.0 ∙ q.means, same.1)
 
 -- ---- an expression
-
-list_any-append : {A : Type 0} (p : A → Bool) (a b : List A) → list_any p (a ++ b) ≡ (list_any p a || list_any p b)
-list_any-append p [] b = refl
-list_any-append p (x ∷ a) b = by_test (p x) (list_any-append p a b)
-  where
-    by_test : (c : Bool) → list_any p (a ++ b) ≡ (list_any p a || list_any p b) → (c || list_any p (a ++ b)) ≡ ((c || list_any p a) || list_any p b)
-    by_test true is = refl
-    by_test false is = is
 
 or_false : (a b : Bool) → (a || b) ≡ false → (a ≡ false) × (b ≡ false)
 or_false true b e = absurd cc

@@ -72,7 +72,7 @@ run-push s m a t is = run-append s a (t ∷ []) ∙ ap (λ (r : Option State). a
     by_step None = refl
     by_step (Some x) = refl
 
-run-fails : (s m : State) (a more : List Token) (t : Token) → run s a ≡ Some m → step m t ≡ None → run s (a ++ t ∷ more) ≡ None
+pub run-fails : (s m : State) (a more : List Token) (t : Token) → run s a ≡ Some m → step m t ≡ None → run s (a ++ t ∷ more) ≡ None
 unfolding run and_then
 run-fails s m a more t is none =
     run-append s a (t ∷ more) ∙ ap (λ (r : Option State). and_then r (λ x. run x (t ∷ more))) is ∙ ap (λ (r : Option State). and_then r (λ x. run x more)) none
@@ -141,7 +141,7 @@ ended-not_closed (out, []) terms is = refl
 ended-not_closed (out, w ∷ ws) terms is = absurd cc
 
 -- no operator stands at the front of a parenthesis
-byte-found : (wanted : ℕ) (t : Token) (text : List ℕ) (x : Token × List ℕ) → byte_at wanted t text ≡ Some x → text ≡ wanted ∷ x.1
+pub byte-found : (wanted : ℕ) (t : Token) (text : List ℕ) (x : Token × List ℕ) → byte_at wanted t text ≡ Some x → text ≡ wanted ∷ x.1
 unfolding byte_at
 byte-found wanted t [] x is = absurd cc
 byte-found wanted t (byte ∷ behind) x is = by_test (eqb byte wanted) refl is
