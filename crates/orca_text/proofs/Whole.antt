@@ -87,8 +87,10 @@ value_stepped s operand kept large new same large_is is = by_expects s.expects i
   where
     terms : kept_terms s.out ++ term_of kept ∷ [] ≡ kept_terms (s.out ++ term_of operand ∷ [])
     terms = ap (λ (t : Term). kept_terms s.out ++ t ∷ []) same ∙ sym (kept-append s.out (term_of operand ∷ []))
+
     grows : list_any is_large (s.out ++ term_of operand ∷ []) ≡ (list_any is_large s.out || large)
     grows = list_any-append is_large s.out (term_of operand ∷ []) ∙ ap (λ (b : Bool). list_any is_large s.out || b) (sym (or_false (is_large (term_of operand))) ∙ sym large_is)
+
     by_expects : (e : Bool) → cond e (Some (state (kept_terms s.out ++ term_of kept ∷ []) s.waiting false)) None ≡ Some new
         → (cond e (Some (value_state s operand)) None ≡ Some (value_state s operand)) × (new ≡ kept_state (value_state s operand)) × (list_any is_large (value_state s operand).out ≡ (list_any is_large s.out || large))
     by_expects true is = (refl, sym (same_state _ new is) ∙ ap (λ (o : List Term). state o s.waiting false) terms, grows)
@@ -106,7 +108,7 @@ number_stepped s n new is = as_stepped s (Number n) new (by_test (ltb n (2 ^ 32)
     by_test : (b : Bool) → ltb n (2 ^ 32) ≡ b
         → step (kept_state s) (kept_value (cond b (Number n, false) (Number 0, true))).0 ≡ Some new
         → (step s (Value (Number n)) ≡ Some (value_state s (Number n))) × (new ≡ kept_state (value_state s (Number n)))
-            × (list_any is_large (value_state s (Number n)).out ≡ (list_any is_large s.out || (kept_value (cond b (Number n, false) (Number 0, true))).1))
+        × (list_any is_large (value_state s (Number n)).out ≡ (list_any is_large s.out || (kept_value (cond b (Number n, false) (Number 0, true))).1))
     by_test true test is =
         let number : n ≡ kept_number n = rw test refl in
         let small : false ≡ leb (2 ^ 32) n = sym (lt-leb (2 ^ 32) n (ltb-true n (2 ^ 32) test)) in
@@ -183,7 +185,10 @@ run-nil s = refl
 
 pub under_way : (o : Operands) (text : List ℕ) (out : List Term) (waiting : List Wait) → out ≡ [] → waiting ≡ [] → UnderWay o text text (state out waiting true) false
 under_way o text out waiting none nothing = record {
-  done = []; real = start; stands = refl; ran = run-nil start;
+  done = [];
+  real = start;
+  stands = refl;
+  ran = run-nil start;
   kept_is = ap (λ (l : List Term). state l waiting true) none ∙ ap (λ (w : List Wait). state [] w true) nothing;
   large_is = refl;
 }
@@ -197,7 +202,8 @@ pub goes_on : (o : Operands) (text left behind : List ℕ) (kept new : State) (l
 goes_on o text left behind kept new large larger u s =
     let real = stepped u.real s.token new (subst (λ (k : State). step k (kept_token s.token).0 ≡ Some new) u.kept_is s.steps) in
     record {
-      done = u.done ++ s.token ∷ []; real = real.next;
+      done = u.done ++ s.token ∷ [];
+      real = real.next;
       stands = stand_push o true text u.done left behind s.token u.stands (subst (λ (e : Bool). token_at o e left ≡ Some (s.token, behind)) (expects_is o text left kept large u) s.found);
       ran = run-push start u.real u.done s.token u.ran ∙ real.steps;
       kept_is = real.same;
@@ -299,18 +305,23 @@ no_formula o text left kept large u stuck tree rest means =
   where
     f : Formula
     f = means.formula
+
     all : Taken (tokens_of means.formula) (terms_of (tree_of means.formula))
     all = taken (tokens_of means.formula) (terms_of (tree_of means.formula)) (complete means.formula means.stands.formed)
+
     clash_expects : u.real.expects ≡ false → kept.expects ≡ true → ⊥
     clash_expects p q = let e : true ≡ false = sym q ∙ ap (λ (s : State). s.expects) u.kept_is ∙ p in absurd cc
+
     kept_ended : ended (reduced 6 kept.out kept.waiting) ≡ None → ended (reduced 6 u.real.out u.real.waiting) ≡ None
     kept_ended none =
         ended-kept_none (reduced 6 u.real.out u.real.waiting).0 (reduced 6 u.real.out u.real.waiting).1
         (ap ended (sym (reduced-kept 6 u.real.out u.real.waiting)) ∙ ap (λ (s : State). ended (reduced 6 s.out s.waiting)) (sym u.kept_is) ∙ none)
+
     kept_closed : closed (reduced 6 kept.out kept.waiting) ≡ None → closed (reduced 6 u.real.out u.real.waiting) ≡ None
     kept_closed none =
         closed-kept_none (reduced 6 u.real.out u.real.waiting).0 (reduced 6 u.real.out u.real.waiting).1
         (ap closed (sym (reduced-kept 6 u.real.out u.real.waiting)) ∙ ap (λ (s : State). closed (reduced 6 s.out s.waiting)) (sym u.kept_is) ∙ none)
+
     -- the whole formula was taken
     at_end : tokens_of means.formula ≡ u.done → IsStuck o kept left → ⊥
     at_end same stuck =
@@ -324,12 +335,14 @@ no_formula o text left kept large u stuck tree rest means =
             ap (λ (s : State). ended (reduced 6 s.out s.waiting)) (sym last) ∙ all.done in
             let e : Some (terms_of (tree_of means.formula)) ≡ None = sym some ∙ kept_ended none in
             absurd cc
+
     -- another token of it stands there
     at_token : (t : Token) (more : List Token) → tokens_of means.formula ≡ u.done ++ t ∷ more → (behind : List ℕ) → token_at o (expects_after true u.done) left ≡ Some (t, behind) → IsStuck o kept left → ⊥
     at_token t more is behind found stuck = by_stuck (subst (λ (e : Bool). token_at o e left ≡ Some (t, behind)) (sym (expects_is o text left kept large u)) found) stuck
       where
         no_token : (x : Found Token) → x ≡ None → x ≡ Some (t, behind) → ⊥
         no_token x p q = let e : None ≡ Some (t, behind) = sym p ∙ q in absurd cc
+
         by_stops : operator_token_at left ≡ Some (t, behind) → u.real.expects ≡ false → Stops kept left → ⊥
         by_stops found expects (NoToken none) = no_token (operator_token_at left) none found
         by_stops found expects (Unmatched other closes not_closed) =
@@ -339,10 +352,12 @@ no_formula o text left kept large u stuck tree rest means =
             let none : run start (tokens_of means.formula) ≡ None = ap (run start) is ∙ run-fails start u.real u.done more t u.ran fails in
             let e : None ≡ Some all.last = sym none ∙ all.ran in
             absurd cc
+
         by_stuck : token_at o kept.expects left ≡ Some (t, behind) → IsStuck o kept left → ⊥
         by_stuck found (NoOperand expects none) = no_token (operand_token_at o left) none (subst (λ (e : Bool). token_at o e left ≡ Some (t, behind)) expects found)
         by_stuck found (NotWhole expects stops none) =
             by_stops (subst (λ (e : Bool). token_at o e left ≡ Some (t, behind)) expects found) (sym (ap (λ (s : State). s.expects) u.kept_is) ∙ expects) stops
+
     by_order : (done : List Token) → u.done ≡ done → Compared o true u.done (tokens_of means.formula) left rest → ⊥
     by_order done same (Longer [] is stand) = at_end (is ∙ append-nil u.done) stuck
     by_order done same (Longer (t ∷ more) is stand) = at_token t more is stand.0 stand.1 stuck

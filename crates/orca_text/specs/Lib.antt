@@ -6,5 +6,7 @@ pub mod Refusals
 pub mod Closing
 pub mod FormulaAt
 pub mod Kept
+pub mod Peak
+pub mod OperandView
 pub mod Next
 pub mod TokenView

@@ -5,15 +5,15 @@ use Rattle.orca_meaning.specs.declared.operators.Operands.TheVariants.{Labels, S
 use Rattle.orca_meaning.specs.Token as meaning
 use Rattle.orca_text.specs.declared.operand_tokens.Asked.{Asked}
 use Rattle.orca_text.specs.declared.operand_tokens.Asked.TheVariants.{Length, Count}
-use Rattle.orca_text.specs.declared.operand_tokens.Operand.{Operand}
-use Rattle.orca_text.specs.declared.operand_tokens.Operand.TheVariants.{Here, Number, TooLarge, Label, LengthOf, CountOf}
+use Rattle.orca_text.specs.declared.operand_tokens.FormulaOperand.{FormulaOperand}
+use Rattle.orca_text.specs.declared.operand_tokens.FormulaOperand.TheVariants.{Here, Number, TooLarge, Label, LengthOf, CountOf}
 use Rattle.orca_text.specs.declared.operand_tokens.OperandToken.{OperandToken}
 use Rattle.orca_text.specs.declared.operand_tokens.OperandToken.TheVariants.{Value, Before, Opens}
 use Rattle.orca_text.specs.declared.operand_tokens.OperatorToken.{OperatorToken}
 use Rattle.orca_text.specs.declared.operand_tokens.OperatorToken.TheVariants.{Between, Closes}
 use Rattle.orca_text.specs.Kept.{kept_value}
 
-abbrev pub operand : Operand → meaning.Operand × Bool
+abbrev pub operand : FormulaOperand → meaning.Operand × Bool
 operand Here = (meaning.Here, false)
 operand (Number n) = (meaning.Number n, false)
 operand TooLarge = (meaning.Number 0, true)

@@ -12,7 +12,9 @@ ghost use Rattle.orca_text.specs.View.{term};
 ghost use Rattle.orca_text.specs.WaitView.{wait};
 
 use crate::formula_term::{Formula, FormulaTerm};
-use crate::operand_tokens::{Operand, OperandToken, OperatorToken, operand_token, operator_token};
+use crate::operand_tokens::{
+    FormulaOperand, OperandToken, OperatorToken, operand_token, operator_token,
+};
 use crate::waiting::{Wait, Waiting};
 use orca_meaning::{Operands, Operator, Sign};
 use std::alloc::{AllocError, Global};
@@ -68,16 +70,16 @@ fn sign_code(sign: Sign) -> u8
 }
 
 /// The operand as a term. 0 stands for a number that is too large.
-fn operand_term(of: Operand) -> FormulaTerm
+fn operand_term(of: FormulaOperand) -> FormulaTerm
     ensures { term result ≡ term_of (operand of).0 }
 {
     match of {
-        Operand::Here => FormulaTerm::Location,
-        Operand::Number(n) => FormulaTerm::Constant(n),
-        Operand::TooLarge => FormulaTerm::Constant(0),
-        Operand::Label(name) => FormulaTerm::Named(0x83, name),
-        Operand::LengthOf(name) => FormulaTerm::Named(0x84, name),
-        Operand::CountOf(name) => FormulaTerm::Named(0x86, name),
+        FormulaOperand::Here => FormulaTerm::Location,
+        FormulaOperand::Number(n) => FormulaTerm::Constant(n),
+        FormulaOperand::TooLarge => FormulaTerm::Constant(0),
+        FormulaOperand::Label(name) => FormulaTerm::Named(0x83, name),
+        FormulaOperand::LengthOf(name) => FormulaTerm::Named(0x84, name),
+        FormulaOperand::CountOf(name) => FormulaTerm::Named(0x86, name),
     }
 }
 
@@ -152,12 +154,12 @@ fn is_too_large(next: &OperandToken) -> bool
     ensures { result ≡ (operand_token next.now).1 }
 {
     match next {
-        OperandToken::Value(Operand::TooLarge) => true,
-        OperandToken::Value(Operand::Here) => false,
-        OperandToken::Value(Operand::Number(_)) => false,
-        OperandToken::Value(Operand::Label(_)) => false,
-        OperandToken::Value(Operand::LengthOf(_)) => false,
-        OperandToken::Value(Operand::CountOf(_)) => false,
+        OperandToken::Value(FormulaOperand::TooLarge) => true,
+        OperandToken::Value(FormulaOperand::Here) => false,
+        OperandToken::Value(FormulaOperand::Number(_)) => false,
+        OperandToken::Value(FormulaOperand::Label(_)) => false,
+        OperandToken::Value(FormulaOperand::LengthOf(_)) => false,
+        OperandToken::Value(FormulaOperand::CountOf(_)) => false,
         OperandToken::Before(_) => false,
         OperandToken::Opens => false,
     }

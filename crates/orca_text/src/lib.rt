@@ -2,10 +2,12 @@
 #![tactic(auto)]
 
 mod fields;
+mod forms;
 mod formula;
 mod formula_term;
 mod line;
 mod lines;
+mod operand;
 mod operand_tokens;
 mod operation;
 mod operator_tokens;

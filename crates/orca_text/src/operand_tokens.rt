@@ -17,7 +17,7 @@ use std::alloc::{AllocError, Global};
 
 /// An operand of a formula.
 #[derive(Debug, Drop)]
-pub(crate) enum Operand {
+pub(crate) enum FormulaOperand {
     /// The location counter.
     Here,
     /// A number.
@@ -36,7 +36,7 @@ pub(crate) enum Operand {
 #[derive(Debug, Drop)]
 pub(crate) enum OperandToken {
     /// An operand.
-    Value(Operand),
+    Value(FormulaOperand),
     /// An operator before one.
     Before(Sign),
     /// A parenthesis before one.
@@ -166,7 +166,7 @@ fn attribute_at(
     alloc: Global,
     operands: Operands,
     text: &[u8],
-) -> Result<Option<(Operand, &[u8])>, AllocError>
+) -> Result<Option<(FormulaOperand, &[u8])>, AllocError>
     requires { length text.now ≤ 255 }
     ensures { IfOk result (λ found. MatchOption found (attribute_at (asked_name operands) text.now ≡ None)
         (λ x. seen_as kept_operand (attribute_at (asked_name operands) text.now) ≡ Some (operand x.0, x.1.now))) }
@@ -187,8 +187,8 @@ fn attribute_at(
         return Ok(None);
     };
     match asked {
-        Asked::Length => Ok(Some((Operand::LengthOf(name), rest))),
-        Asked::Count => Ok(Some((Operand::CountOf(name), rest))),
+        Asked::Length => Ok(Some((FormulaOperand::LengthOf(name), rest))),
+        Asked::Count => Ok(Some((FormulaOperand::CountOf(name), rest))),
     }
 }
 
@@ -207,19 +207,19 @@ fn behind_star(text: &[u8]) -> Option<&[u8]>
 }
 
 /// An operand of a statement that isn't a number.
-fn label_at(alloc: Global, text: &[u8]) -> Result<Option<(Operand, &[u8])>, AllocError>
+fn label_at(alloc: Global, text: &[u8]) -> Result<Option<(FormulaOperand, &[u8])>, AllocError>
     requires { length text.now ≤ 255 }
     ensures { IfOk result (λ found. MatchOption found (other_operand_at Operands.Labels text.now ≡ None)
         (λ x. seen_as kept_operand (other_operand_at Operands.Labels text.now) ≡ Some (operand x.0, x.1.now))) }
 {
     if let Some(behind) = behind_star(text) {
-        return Ok(Some((Operand::Here, behind)));
+        return Ok(Some((FormulaOperand::Here, behind)));
     }
     if let Some(found) = attribute_at(alloc, Operands::Labels, text)? {
         return Ok(Some(found));
     }
     match name_at(alloc, text)? {
-        Some((name, rest)) => Ok(Some((Operand::Label(name), rest))),
+        Some((name, rest)) => Ok(Some((FormulaOperand::Label(name), rest))),
         None => Ok(None),
     }
 }
@@ -229,7 +229,7 @@ fn other_operand_at(
     alloc: Global,
     operands: Operands,
     text: &[u8],
-) -> Result<Option<(Operand, &[u8])>, AllocError>
+) -> Result<Option<(FormulaOperand, &[u8])>, AllocError>
     requires { length text.now ≤ 255 }
     ensures { IfOk result (λ found. MatchOption found (other_operand_at operands text.now ≡ None)
         (λ x. seen_as kept_operand (other_operand_at operands text.now) ≡ Some (operand x.0, x.1.now))) }
@@ -241,12 +241,12 @@ fn other_operand_at(
 }
 
 /// A number as an operand.
-fn number_operand(number: Option<u32>) -> Operand
+fn number_operand(number: Option<u32>) -> FormulaOperand
     ensures { operand result ≡ number_operand number }
 {
     match number {
-        Some(n) => Operand::Number(n),
-        None => Operand::TooLarge,
+        Some(n) => FormulaOperand::Number(n),
+        None => FormulaOperand::TooLarge,
     }
 }
 
@@ -256,7 +256,7 @@ fn operand_at(
     alloc: Global,
     operands: Operands,
     text: &[u8],
-) -> Result<Option<(Operand, &[u8])>, AllocError>
+) -> Result<Option<(FormulaOperand, &[u8])>, AllocError>
     requires { length text.now ≤ 255 }
     ensures { IfOk result (λ found. MatchOption found (operand_at operands text.now ≡ None)
         (λ x. seen_as kept_operand (operand_at operands text.now) ≡ Some (operand x.0, x.1.now))) }
