@@ -15,11 +15,12 @@ use Rattle.orca_meaning.specs.declared.forms.Prefix.TheVariants.{Bare, Less, Bar
 use Rattle.orca_meaning.specs.declared.lines.TextCause.{TextCause}
 use Rattle.orca_meaning.specs.declared.lines.TextCause.TheVariants.{LineTooLong, TooManyLines, BadOperand, BadNumber, Memory}
 use Rattle.orca_meaning.specs.declared.mnemonics.Mnemonic.{Mnemonic}
-use Rattle.orca_meaning.specs.declared.modes.Mode.TheVariants as modes
+use Rattle.orca_meaning.specs.declared.forms.OperandUse.{OperandUse}
+use Rattle.orca_meaning.specs.declared.forms.OperandUse.TheVariants as uses
 use Rattle.orca_meaning.specs.declared.operators.Operands.TheVariants.{Labels}
 use Rattle.orca_meaning.specs.Characters.{folded}
 use Rattle.orca_meaning.specs.Formula.{MeansAt, pending, has_large}
-use Rattle.orca_meaning.specs.Operation.{has_mode}
+use Rattle.orca_meaning.specs.Operation.{use_of}
 
 -- ---- before the formula
 
@@ -137,9 +138,15 @@ pub record Meaning : Type 0 where
   pub prefix : Prefix
   pub trees : List Tree
 
--- `A` alone, where the mnemonic has the accumulator mode
+abbrev pub means_accumulator : OperandUse → Bool
+means_accumulator uses.Never = false
+means_accumulator uses.Accumulator = true
+means_accumulator uses.Signature = false
+means_accumulator uses.Always = false
+
+-- `A` alone, of a mnemonic with the accumulator mode
 abbrev pub is_accumulator : Option Mnemonic → List ℕ → Bool
-is_accumulator (Some mnemonic) text = has_mode mnemonic modes.Accumulator && bytes_eq (codes "A") (folded text)
+is_accumulator (Some mnemonic) text = means_accumulator (use_of mnemonic) && bytes_eq (folded text) (codes "A")
 is_accumulator None text = false
 
 abbrev pub opening : Option Mnemonic → List ℕ → Opening

@@ -5,12 +5,14 @@ use Rattle.orca_meaning.specs.declared.lines.TextCause.{TextCause}
 use Rattle.orca_meaning.specs.declared.lines.TextCause.TheVariants.{LineTooLong, TooManyLines, BadOperand, BadNumber, Memory}
 use Rattle.orca_meaning.specs.declared.lines.TextFault.{TextFault}
 use Rattle.orca_meaning.specs.declared.mnemonics.Mnemonic.{Mnemonic}
+use Rattle.orca_meaning.specs.declared.operators.Operands.TheVariants.{Labels}
+use Rattle.orca_meaning.specs.Formula.{MeansAt}
 use Rattle.orca_meaning.specs.Line.{part}
 use Rattle.orca_meaning.specs.Operation.{mnemonic_of}
 use Rattle.orca_meaning.specs.Operand.{Meaning, IsGoodOperand, IsRefusedFor}
 use Rattle.orca_text.specs.declared.line.SourceLine.{SourceLine}
 use Rattle.orca_text.specs.declared.operand.Operand.{Operand}
-use Rattle.orca_text.specs.Peak.{peak}
+use Rattle.orca_text.specs.FormulaAt.{IsFormulaAt}
 
 -- the terms of the first tree, and of the second
 abbrev pub first_terms : List Tree → List Term
@@ -57,6 +59,15 @@ pub record IsOperandFault (line : SourceLine) (fault : TextFault) : Type 0 where
   pub cause_is : IsRefusedFor fault.cause (line_mnemonic line) (line_operand line)
 
 -- ---- one formula or two
+
+-- a comma stands at the front, and behind it a formula up to the end
+pub record IsSecond (rest : List ℕ) (terms : List Term) (large : Bool) : Type 0 where
+  pub behind : List ℕ
+  pub comma : rest ≡ 0x2C ∷ behind
+  pub formula : IsFormulaAt Labels behind terms large []
+
+abbrev pub HasNoSecond : List ℕ → Type 0
+HasNoSecond rest = (behind : List ℕ) (tree : Tree) → rest ≡ 0x2C ∷ behind → MeansAt Labels behind tree [] → ⊥
 
 -- a formula is too deep, or has a number that is too large
 abbrev pub IsRefusedHere : TextCause → ℕ → Bool → Type 0

@@ -37,7 +37,8 @@ pub(crate) fn from(text: &[u8], at: usize) -> &[u8]
 /// The bytes of a field.
 pub(crate) fn part(text: &[u8], span: Span) -> &[u8]
     requires { LiesIn text.now span }
-    ensures { result.now ≡ part text.now span }
+    ensures value { result.now ≡ part text.now span }
+    ensures bound { length result.now ≤ length text.now }
 {
     let field = from(text, span.from as usize);
     match field.get(..(span.to - span.from) as usize) {

@@ -300,6 +300,7 @@ pub fn formula_at<'a>(
     requires { length text.now ≤ 255 }
     ensures found { IfOk result (λ found. IfSome found (λ x. IsFormulaAt operands text.now x.formula x.large x.rest.now)) }
     ensures none { IfOk result (λ found. IfNone found (HasNoFormula operands text.now)) }
+    ensures bound { IfOk result (λ found. IfSome found (λ x. length x.rest.now ≤ length text.now)) }
 {
     let mut out = Vec::new(alloc);
     let mut waiting = Waiting::new(alloc);

@@ -52,7 +52,8 @@ impl SourceLine {
     /// The bytes of one of its fields.
     pub fn part(&self, span: Span) -> &[u8]
         requires { LiesIn self.now.text span }
-        ensures { result.now ≡ part self.now.text span }
+        ensures value { result.now ≡ part self.now.text span }
+        ensures short { length result.now ≤ 255 }
     {
         fields::part(self.text.bytes(), span)
     }

@@ -268,7 +268,7 @@ fn operand_at(
 }
 
 /// What stands behind a byte at the front.
-fn behind_byte(text: &[u8], wanted: u8) -> Option<&[u8]>
+pub(crate) fn behind_byte(text: &[u8], wanted: u8) -> Option<&[u8]>
     ensures { MatchOption result ((behind : List ℕ) → text.now ≢ wanted ∷ behind) (λ rest. text.now ≡ wanted ∷ rest.now) }
 {
     let Some((first, behind)) = text.split_first() else {
