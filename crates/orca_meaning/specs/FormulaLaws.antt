@@ -41,11 +41,11 @@ abbrev all_built : List Term → List Tree → List Tree
 all_built [] trees = trees
 all_built (term ∷ terms) trees = all_built terms (built term trees)
 
-sign_has_one : (sign : signs.Sign) → operand_count (sign_code sign) ≡ 1
+pub sign_has_one : (sign : signs.Sign) → operand_count (sign_code sign) ≡ 1
 sign_has_one Negate = refl
 sign_has_one Not = refl
 
-operator_has_two : (operator : operators.Operator) → operand_count (operator_code operator) ≡ 2
+pub operator_has_two : (operator : operators.Operator) → operand_count (operator_code operator) ≡ 2
 operator_has_two Multiply = refl
 operator_has_two Divide = refl
 operator_has_two Shift = refl

@@ -5,4 +5,5 @@ pub mod Lookup
 pub mod Own
 pub mod Places
 pub mod Reading
+pub mod OperandIs
 pub mod Steps

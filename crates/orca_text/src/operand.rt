@@ -194,13 +194,15 @@ fn formula_operand(
     if let Some(form) = form_behind(opening, first.rest) {
         return one_formula(here, form, prefix, first);
     }
-    if opening != Opening::Open {
-        return Err(TextCause::BadOperand);
-    }
-    match second_formula(alloc, first.rest) {
-        Ok(Some(second)) => two_formulas(here, prefix, first, second),
-        Ok(None) => Err(TextCause::BadOperand),
-        Err(_) => Err(TextCause::Memory),
+    match opening {
+        Opening::Open => match second_formula(alloc, first.rest) {
+            Ok(Some(second)) => two_formulas(here, prefix, first, second),
+            Ok(None) => Err(TextCause::BadOperand),
+            Err(_) => Err(TextCause::Memory),
+        },
+        Opening::Hash => Err(TextCause::BadOperand),
+        Opening::Round => Err(TextCause::BadOperand),
+        Opening::Square => Err(TextCause::BadOperand),
     }
 }
 
