@@ -5,6 +5,7 @@ mod field;
 mod line;
 mod name;
 mod number;
+mod split;
 mod spot;
 mod trailing;
 
@@ -14,6 +15,7 @@ pub use field::{
 pub use line::{Line, LineFault};
 pub use name::{Name, NameFault};
 pub use number::number_at;
+pub use split::split_line;
 pub use spot::Spot;
 pub use trailing::without_trailing;
 

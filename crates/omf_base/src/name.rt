@@ -57,6 +57,14 @@ impl Name {
         Ok(Name { bytes })
     }
 
+    /// The name whose bytes these are. It takes no memory.
+    pub fn from_vec(bytes: Vec<u8>) -> Name
+        requires { length bytes.items ≤ 255 }
+        ensures { result ≡ bytes.items }
+    {
+        Name { bytes }
+    }
+
     /// The bytes of the name.
     pub fn bytes(&self) -> &[u8]
         ensures value { result.now ≡ self.now }

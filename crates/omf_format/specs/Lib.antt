@@ -1,5 +1,6 @@
 pub mod Number
 pub mod Name
+pub mod Lines
 pub mod Field
 pub mod Header
 pub mod Super

@@ -1,10 +1,16 @@
 //! What assembly source means: the definitions that the assembler's crates cite.
 #![tactic(auto)]
 
+mod forms;
+mod lines;
 mod matrix_laws;
 mod mnemonics;
 mod modes;
+mod operators;
 
+pub use forms::{Form, Index, Opening, OperandUse, Prefix};
+pub use lines::{Span, TextCause, TextFault};
 pub use matrix_laws::matrix_has_laws;
 pub use mnemonics::Mnemonic;
 pub use modes::Mode;
+pub use operators::{Operands, Operator, Sign};

@@ -1,0 +1,116 @@
+-- Source lines and their fields (ORCA/M reference manual, "The assembly language statement").
+use Rattle.std.specs.Prelude.{◌≡◌, ℕ, ◌+◌, ◌-◌, ◌≤◌, Bool, true, not, ◌||◌, ◌==◌, nat_lt, List, [], ◌∷◌, length, take, drop, slice_index, Option, Some, None, if◌then◌else◌}
+use Rattle.std.specs.List.{position_or_len, list_all}
+use Rattle.orca_meaning.specs.declared.forms.OperandUse.{OperandUse}
+use Rattle.orca_meaning.specs.declared.forms.OperandUse.TheVariants.{Never, Accumulator, Signature, Always}
+use Rattle.orca_meaning.specs.declared.lines.Span.{Span}
+use Rattle.orca_meaning.specs.declared.lines.TextCause.{TextCause}
+use Rattle.orca_meaning.specs.declared.lines.TextCause.TheVariants.{LineTooLong, TooManyLines}
+use Rattle.orca_meaning.specs.Characters.{is_blank}
+use Rattle.orca_meaning.specs.Quotes.{outside_from}
+use Rattle.orca_meaning.specs.Operation.{operation_use}
+
+-- ---- fields
+
+-- a byte that is no blank
+abbrev pub is_ink : ℕ → Bool
+is_ink byte = not (is_blank byte)
+
+-- a line that is blank, or begins with `*`, `;` or `!`
+abbrev pub is_comment : List ℕ → Bool
+is_comment [] = true
+is_comment (first ∷ behind) = first == 0x2A || first == 0x3B || first == 0x21 || list_all is_blank (first ∷ behind)
+
+-- the places of a line's fields
+pub record Fields : Type 0 where
+  pub label : Span
+  pub operation : Span
+  pub operand : Span
+
+abbrev pub span : ℕ → ℕ → Span
+span from to = record { from = from; to = to }
+
+-- the bytes of a field
+abbrev pub part : List ℕ → Span → List ℕ
+part text s = take (s.to - s.from) (drop s.from text)
+
+-- where the first blank at a place or behind it stands, the first byte that is none, and the first blank outside quotes;
+-- the line's end where there is none
+abbrev pub next_blank : List ℕ → ℕ → ℕ
+next_blank text at = at + position_or_len is_blank (drop at text)
+
+abbrev pub next_ink : List ℕ → ℕ → ℕ
+next_ink text at = at + position_or_len is_ink (drop at text)
+
+abbrev pub next_outside : List ℕ → ℕ → ℕ
+next_outside text at = at + outside_from is_blank None (drop at text)
+
+-- The label begins in column 1, and blanks part the fields. The operand is the third field, and ends at the first blank
+-- outside quotes.
+unfoldable pub three_fields : List ℕ → Fields
+three_fields text =
+    let label_end = next_blank text 0 in
+    let operation = next_ink text label_end in
+    let operation_end = next_blank text operation in
+    let operand = next_ink text operation_end in
+    record { label = span 0 label_end; operation = span operation operation_end; operand = span operand (next_outside text operand) }
+
+-- the third field, or nothing where the operation takes no operand, or may lack it and a comment begins there
+abbrev pub operand_span : OperandUse → List ℕ → Span → Span
+operand_span Never text third = span third.from third.from
+operand_span Accumulator text third = if slice_index text third.from == 0x3B then span third.from third.from else third
+operand_span Signature text third = if slice_index text third.from == 0x3B then span third.from third.from else third
+operand_span Always text third = third
+
+abbrev pub statement_fields : List ℕ → Fields → Fields
+statement_fields text fields =
+    record fields { operand = operand_span (operation_use (part text fields.operation)) text fields.operand }
+
+-- a comment has no fields
+abbrev pub no_fields : Fields
+no_fields = record { label = span 0 0; operation = span 0 0; operand = span 0 0 }
+
+unfoldable pub fields_of : List ℕ → Fields
+fields_of text = if is_comment text then no_fields else statement_fields text (three_fields text)
+
+-- ---- lines
+
+-- a line of a source, with its file and its number from 1
+pub record Line : Type 0 where
+  pub file : ℕ
+  pub number : ℕ
+  pub text : List ℕ
+  pub fields : Fields
+
+abbrev pub line_of : ℕ → ℕ → List ℕ → Line
+line_of file number text = record { file = file; number = number; text = text; fields = fields_of text }
+
+-- these lines, of which the first has this number
+unfoldable pub numbered : ℕ → ℕ → List (List ℕ) → List Line
+numbered file number [] = []
+numbered file number (text ∷ texts) = line_of file number text ∷ numbered file (number + 1) texts
+
+-- a line has at most 255 bytes, and a source at most 65,536 lines
+abbrev pub line_fault : ℕ → List ℕ → Option TextCause
+line_fault number text =
+    if nat_lt 255 (length text) then Some LineTooLong
+    else if nat_lt 65536 number then Some TooManyLines
+    else None
+
+-- the first of these lines with a fault, the first of them having this number: its number and its cause
+abbrev pub or_later : ℕ → Option TextCause → Option (ℕ × TextCause) → Option (ℕ × TextCause)
+or_later number (Some cause) later = Some (number, cause)
+or_later number None later = later
+
+unfoldable pub first_line_fault : ℕ → List (List ℕ) → Option (ℕ × TextCause)
+first_line_fault number [] = None
+first_line_fault number (text ∷ texts) = or_later number (line_fault number text) (first_line_fault (number + 1) texts)
+
+-- the spans lie in the text
+abbrev pub LiesIn : List ℕ → Span → Type 0
+LiesIn text s = (s.from ≤ s.to) × (s.to ≤ length text)
+
+pub record HaveFields (text : List ℕ) (fields : Fields) : Type 0 where
+  pub label : LiesIn text fields.label
+  pub operation : LiesIn text fields.operation
+  pub operand : LiesIn text fields.operand

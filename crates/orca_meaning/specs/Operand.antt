@@ -1,0 +1,207 @@
+-- Operands: their forms (WDC 65C816 data sheet, addressing modes; ORCA/M reference manual, "The operand field").
+use Rattle.std.specs.Prelude.{◌≡◌, ℕ, ◌≤◌, Bool, true, false, ◌&&◌, ◌||◌, ◌==◌, List, [], ◌∷◌, length, drop, codes, bytes_eq, Option, Some, None, is_some, if◌then◌else◌}
+use Rattle.std.specs.Char.{to_ascii_uppercase}
+use Rattle.std.specs.List.{list_any, AllByRecursion}
+use Rattle.std.specs.Option.{option_map}
+use Rattle.omf_format.specs.Expression.{Tree}
+use Rattle.orca_meaning.specs.declared.forms.Form.{Form}
+use Rattle.orca_meaning.specs.declared.forms.Form.TheVariants.{Nothing, Accumulator, Immediate, Plain, IndexX, IndexY, IndexS, Paren, ParenY, ParenX, ParenSY, Bracket, BracketY, Pair, Other}
+use Rattle.orca_meaning.specs.declared.forms.Index.{Index}
+use Rattle.orca_meaning.specs.declared.forms.Index.TheVariants.{Absent, X, Y, S}
+use Rattle.orca_meaning.specs.declared.forms.Opening.{Opening}
+use Rattle.orca_meaning.specs.declared.forms.Opening.TheVariants.{Open, Hash, Round, Square}
+use Rattle.orca_meaning.specs.declared.forms.Prefix.{Prefix}
+use Rattle.orca_meaning.specs.declared.forms.Prefix.TheVariants.{Bare, Less, Bar, Greater, Caret}
+use Rattle.orca_meaning.specs.declared.lines.TextCause.{TextCause}
+use Rattle.orca_meaning.specs.declared.lines.TextCause.TheVariants.{LineTooLong, TooManyLines, BadOperand, BadNumber, Memory}
+use Rattle.orca_meaning.specs.declared.mnemonics.Mnemonic.{Mnemonic}
+use Rattle.orca_meaning.specs.declared.forms.OperandUse.{OperandUse}
+use Rattle.orca_meaning.specs.declared.forms.OperandUse.TheVariants as uses
+use Rattle.orca_meaning.specs.declared.operators.Operands.TheVariants.{Labels}
+use Rattle.orca_meaning.specs.Characters.{folded}
+use Rattle.orca_meaning.specs.Formula.{MeansAt, pending, has_large}
+use Rattle.orca_meaning.specs.Operation.{use_of}
+
+-- ---- before the formula
+
+-- `#` and `[` open an operand, and `(` where the operation is an instruction; elsewhere `(` belongs to the formula
+abbrev pub opening_of : Bool → List ℕ → Opening
+opening_of is_instruction [] = Open
+opening_of is_instruction (byte ∷ behind) =
+    if byte == 0x23 then Hash
+    else if byte == 0x28 && is_instruction then Round
+    else if byte == 0x5B then Square
+    else Open
+
+abbrev pub behind_opening : Opening → List ℕ → List ℕ
+behind_opening Open text = text
+behind_opening Hash text = drop 1 text
+behind_opening Round text = drop 1 text
+behind_opening Square text = drop 1 text
+
+-- `<`, `>` and `^` behind `#`
+abbrev pub immediate_prefix : ℕ → Prefix
+immediate_prefix byte = if byte == 0x3C then Less else if byte == 0x3E then Greater else if byte == 0x5E then Caret else Bare
+
+-- `<`, `>`, and `|` or `!` elsewhere
+abbrev pub address_prefix : ℕ → Prefix
+address_prefix byte =
+    if byte == 0x3C then Less else if byte == 0x3E then Greater else if byte == 0x7C || byte == 0x21 then Bar else Bare
+
+abbrev pub prefix_by : Opening → ℕ → Prefix
+prefix_by Open byte = address_prefix byte
+prefix_by Hash byte = immediate_prefix byte
+prefix_by Round byte = address_prefix byte
+prefix_by Square byte = address_prefix byte
+
+abbrev pub prefix_of : Opening → List ℕ → Prefix
+prefix_of opening [] = Bare
+prefix_of opening (byte ∷ behind) = prefix_by opening byte
+
+abbrev pub behind_prefix : Prefix → List ℕ → List ℕ
+behind_prefix Bare text = text
+behind_prefix Less text = drop 1 text
+behind_prefix Bar text = drop 1 text
+behind_prefix Greater text = drop 1 text
+behind_prefix Caret text = drop 1 text
+
+-- ---- behind the formula
+
+-- the register of an index, in upper or lower case
+abbrev pub register_of : ℕ → Option Index
+register_of letter =
+    let capital = to_ascii_uppercase letter in
+    if capital == 0x58 then Some X else if capital == 0x59 then Some Y else if capital == 0x53 then Some S else None
+
+abbrev pub index_or : Option Index → List ℕ → List ℕ → Index × List ℕ
+index_or (Some index) text behind = (index, behind)
+index_or None text behind = (Absent, text)
+
+-- the index at the front, a comma and a register, and what stands behind it
+unfoldable pub index_at : List ℕ → Index × List ℕ
+index_at [] = (Absent, [])
+index_at (byte ∷ []) = (Absent, byte ∷ [])
+index_at (comma ∷ letter ∷ behind) =
+    index_or (if comma == 0x2C then register_of letter else None) (comma ∷ letter ∷ behind) behind
+
+-- the index of a whole text, if it is one or nothing
+abbrev pub index_alone : Index × List ℕ → Option Index
+index_alone (index, []) = Some index
+index_alone (index, byte ∷ behind) = None
+
+unfoldable pub whole_index : List ℕ → Option Index
+whole_index text = index_alone (index_at text)
+
+-- an index or none, the closing byte, and an index or none up to the end
+abbrev pub closed_by : ℕ → Index × List ℕ → Option (Index × Index)
+closed_by close (inner, []) = None
+closed_by close (inner, byte ∷ behind) = if byte == close then option_map (λ outer. (inner, outer)) (whole_index behind) else None
+
+unfoldable pub indexes_around : ℕ → List ℕ → Option (Index × Index)
+indexes_around close text = closed_by close (index_at text)
+
+-- the forms by their indexes, those in and behind the parentheses or brackets; what mnemonics have is listed first
+abbrev pub plain_form : Index → Form
+plain_form Absent = Plain
+plain_form X = IndexX
+plain_form Y = IndexY
+plain_form S = IndexS
+
+abbrev pub round_form : Index × Index → Form
+round_form (Absent, Absent) = Paren
+round_form (Absent, Y) = ParenY
+round_form (X, Absent) = ParenX
+round_form (S, Y) = ParenSY
+round_form _ = Other
+
+abbrev pub square_form : Index × Index → Form
+square_form (Absent, Absent) = Bracket
+square_form (Absent, Y) = BracketY
+square_form _ = Other
+
+abbrev pub immediate_form : List ℕ → Option Form
+immediate_form [] = Some Immediate
+immediate_form (byte ∷ behind) = None
+
+-- the form of an operand by its opening and what stands behind its formula
+abbrev pub form_behind : Opening → List ℕ → Option Form
+form_behind Open rest = option_map plain_form (whole_index rest)
+form_behind Hash rest = immediate_form rest
+form_behind Round rest = option_map round_form (indexes_around 0x29 rest)
+form_behind Square rest = option_map square_form (indexes_around 0x5D rest)
+
+-- ---- operands
+
+-- an operand: its form, its prefix and the expressions that its formulas mean
+pub record Meaning : Type 0 where
+  pub form : Form
+  pub prefix : Prefix
+  pub trees : List Tree
+
+abbrev pub means_accumulator : OperandUse → Bool
+means_accumulator uses.Never = false
+means_accumulator uses.Accumulator = true
+means_accumulator uses.Signature = false
+means_accumulator uses.Always = false
+
+-- `A` alone, of a mnemonic with the accumulator mode
+abbrev pub is_accumulator : Option Mnemonic → List ℕ → Bool
+is_accumulator (Some mnemonic) text = means_accumulator (use_of mnemonic) && bytes_eq (folded text) (codes "A")
+is_accumulator None text = false
+
+abbrev pub opening : Option Mnemonic → List ℕ → Opening
+opening mnemonic text = opening_of (is_some mnemonic) text
+
+abbrev pub prefix : Option Mnemonic → List ℕ → Prefix
+prefix mnemonic text = prefix_of (opening mnemonic text) (behind_opening (opening mnemonic text) text)
+
+-- where the formula begins
+abbrev pub body : Option Mnemonic → List ℕ → List ℕ
+body mnemonic text = behind_prefix (prefix mnemonic text) (behind_opening (opening mnemonic text) text)
+
+-- what an operand's text is, in a line with this mnemonic or none
+pub data IsOperand (mnemonic : Option Mnemonic) (text : List ℕ) (meaning : Meaning) : Type 0 where
+  IsMissing : text ≡ [] → meaning ≡ record { form = Nothing; prefix = Bare; trees = [] } → IsOperand mnemonic text meaning
+  IsInAccumulator : is_accumulator mnemonic text ≡ true → meaning ≡ record { form = Accumulator; prefix = Bare; trees = [] }
+      → IsOperand mnemonic text meaning
+  IsOne : is_accumulator mnemonic text ≡ false → (tree : Tree) (rest : List ℕ) (form : Form)
+      → MeansAt Labels (body mnemonic text) tree rest → form_behind (opening mnemonic text) rest ≡ Some form
+      → meaning ≡ record { form = form; prefix = prefix mnemonic text; trees = tree ∷ [] } → IsOperand mnemonic text meaning
+  IsTwo : is_accumulator mnemonic text ≡ false → opening mnemonic text ≡ Open → (first second : Tree) (behind : List ℕ)
+      → MeansAt Labels (body mnemonic text) first (0x2C ∷ behind) → whole_index (0x2C ∷ behind) ≡ None
+      → MeansAt Labels behind second [] → meaning ≡ record { form = Pair; prefix = prefix mnemonic text; trees = first ∷ second ∷ [] }
+      → IsOperand mnemonic text meaning
+
+-- how many values the location counter counts: in an instruction it is written as two
+abbrev pub values_here : Option Mnemonic → ℕ
+values_here (Some mnemonic) = 2
+values_here None = 1
+
+-- no formula has more than 64 pending values
+abbrev pub AreShallow : Option Mnemonic → List Tree → Type 0
+AreShallow mnemonic trees = AllByRecursion (λ tree. pending (values_here mnemonic) tree ≤ 64) trees
+
+-- an operand with which nothing is wrong
+pub record IsGoodOperand (mnemonic : Option Mnemonic) (text : List ℕ) (meaning : Meaning) : Type 0 where
+  pub is : IsOperand mnemonic text meaning
+  pub shallow : AreShallow mnemonic meaning.trees
+  pub small : list_any has_large meaning.trees ≡ false
+
+-- none of the forms, or a formula that is too deep
+abbrev pub IsBadOperand : Option Mnemonic → List ℕ → Type 0
+IsBadOperand mnemonic text = (meaning : Meaning) → IsOperand mnemonic text meaning → AreShallow mnemonic meaning.trees → ⊥
+
+-- an operand with a number that is too large
+pub record HasBadNumber (mnemonic : Option Mnemonic) (text : List ℕ) : Type 0 where
+  pub meaning : Meaning
+  pub is : IsOperand mnemonic text meaning
+  pub shallow : AreShallow mnemonic meaning.trees
+  pub large : list_any has_large meaning.trees ≡ true
+
+-- what an operand is refused for, unless memory ran out
+abbrev pub IsRefusedFor : TextCause → Option Mnemonic → List ℕ → Type 0
+IsRefusedFor LineTooLong mnemonic text = ⊥
+IsRefusedFor TooManyLines mnemonic text = ⊥
+IsRefusedFor BadOperand mnemonic text = IsBadOperand mnemonic text
+IsRefusedFor BadNumber mnemonic text = HasBadNumber mnemonic text
+IsRefusedFor Memory mnemonic text = Unit {0}

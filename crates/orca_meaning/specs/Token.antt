@@ -1,0 +1,161 @@
+-- The tokens of formulas (ORCA/M reference manual, "Expressions" and "Constants").
+use Rattle.std.specs.Prelude.{◌≡◌, ℕ, ◌+◌, Bool, true, false, ◌&&◌, ◌||◌, ◌==◌, nat_lt, nat_le, List, [], ◌∷◌, length, take, drop, codes, bytes_eq, Option, Some, None, if◌then◌else◌}
+use Rattle.std.specs.Char.{is_digit, to_ascii_uppercase}
+use Rattle.std.specs.List.{prefix_len, position_or_len}
+use Rattle.std.specs.Option.{option_map, option_or}
+use Rattle.std.specs.Str.Parse.{digits_value}
+use Rattle.byteorder.specs.Endian.{little_number}
+use Rattle.orca_meaning.specs.declared.operators.Operands.{Operands}
+use Rattle.orca_meaning.specs.declared.operators.Operands.TheVariants.{Labels, Symbols}
+use Rattle.orca_meaning.specs.declared.operators.Operator.{Operator}
+use Rattle.orca_meaning.specs.declared.operators.Operator.TheVariants.{Multiply, Divide, Shift, Add, Subtract, Less, Greater, LessOrEqual, GreaterOrEqual, NotEqual, Equal, And, Or, Eor}
+use Rattle.orca_meaning.specs.declared.operators.Sign.{Sign}
+use Rattle.orca_meaning.specs.declared.operators.Sign.TheVariants.{Negate, Not}
+use Rattle.orca_meaning.specs.Characters.{is_letter, is_name_start, is_name_byte, folded}
+
+-- an operand of a formula: the location counter, a number, a label, or the length or the count of a label or symbol
+pub data Operand : Type 0 where
+  Here : Operand
+  Number : (n : ℕ) → Operand
+  Label : (name : List ℕ) → Operand
+  LengthOf : (name : List ℕ) → Operand
+  CountOf : (name : List ℕ) → Operand
+
+-- a token of a formula: an operand, an operator before one, an operator between two, a parenthesis
+pub data Token : Type 0 where
+  Value : (operand : Operand) → Token
+  Before : (sign : Sign) → Token
+  Between : (operator : Operator) → Token
+  Opens : Token
+  Closes : Token
+
+-- what was found at the front of a text, and the bytes behind it
+abbrev pub Found : Type 0 → Type 0
+Found A = Option (A × List ℕ)
+
+abbrev pub seen_as : {A B : Type 0} → (A → B) → Found A → Found B
+seen_as f found = option_map (λ x. (f x.0, x.1)) found
+
+-- ---- numbers
+
+-- the number that the digits of a base at the front write
+unfoldable pub digits_at : ℕ → List ℕ → Found ℕ
+digits_at base text =
+    let n = prefix_len (λ byte. is_digit byte base) text in
+    if n == 0 then None else Some (digits_value base (take n text), drop n text)
+
+-- the number of one to four bytes up to the closing quote, the first of them lowest
+unfoldable pub text_at : ℕ → List ℕ → Found ℕ
+text_at quote behind =
+    let n = position_or_len (λ byte. byte == quote) behind in
+    if nat_le 1 n && nat_le n 4 && nat_lt n (length behind) then Some (little_number n behind, drop (n + 1) behind) else None
+
+-- a number: hexadecimal behind `$`, binary behind `%`, octal behind `@`, a text in quotes, or decimal
+unfoldable pub number_at : List ℕ → Found ℕ
+number_at [] = None
+number_at (byte ∷ behind) =
+    if byte == 0x24 then digits_at 16 behind
+    else if byte == 0x25 then digits_at 2 behind
+    else if byte == 0x40 then digits_at 8 behind
+    else if byte == 0x27 || byte == 0x22 then text_at byte behind
+    else digits_at 10 (byte ∷ behind)
+
+-- ---- names
+
+-- the longest name at the front, in upper case
+unfoldable pub name_at : List ℕ → Found (List ℕ)
+name_at [] = None
+name_at (byte ∷ behind) =
+    let n = prefix_len is_name_byte behind in
+    if is_name_start byte then Some (folded (byte ∷ take n behind), drop n behind) else None
+
+-- the name of a symbol behind `&`
+unfoldable pub symbol_at : List ℕ → Found (List ℕ)
+symbol_at [] = None
+symbol_at (byte ∷ behind) = if byte == 0x26 then name_at behind else None
+
+-- what is asked of a name by this letter before a colon
+abbrev pub asked_by : ℕ → Found (List ℕ) → Found Operand
+asked_by letter name =
+    if to_ascii_uppercase letter == 0x4C then seen_as LengthOf name
+    else if to_ascii_uppercase letter == 0x43 then seen_as CountOf name
+    else None
+
+-- `L:` or `C:` before what a reader finds
+unfoldable pub attribute_at : (List ℕ → Found (List ℕ)) → List ℕ → Found Operand
+attribute_at name [] = None
+attribute_at name (letter ∷ []) = None
+attribute_at name (letter ∷ colon ∷ behind) = if colon == 0x3A then asked_by letter (name behind) else None
+
+-- ---- operands
+
+-- the location counter `*`
+unfoldable pub location_at : List ℕ → Found Operand
+location_at [] = None
+location_at (byte ∷ behind) = if byte == 0x2A then Some (Here, behind) else None
+
+-- the operand at the front that isn't a number
+abbrev pub other_operand_at : Operands → List ℕ → Found Operand
+other_operand_at Labels text = option_or (location_at text) (option_or (attribute_at name_at text) (seen_as Label (name_at text)))
+other_operand_at Symbols text = attribute_at symbol_at text
+
+unfoldable pub operand_at : Operands → List ℕ → Found Operand
+operand_at operands text = option_or (seen_as Number (number_at text)) (other_operand_at operands text)
+
+-- ---- operators
+
+-- the first row of a table whose spelling stands at the front, in upper or lower case
+unfoldable pub spelled_at : {A : Type 0} → List (List ℕ × A) → List ℕ → Found A
+spelled_at [] text = None
+spelled_at (row ∷ rows) text =
+    if bytes_eq row.0 (folded (take (length row.0) text)) then Some (row.1, drop (length row.0) text) else spelled_at rows text
+
+abbrev pub signs : List (List ℕ × Sign)
+signs = (codes "-", Negate) ∷ (codes ".NOT.", Not) ∷ []
+
+-- the longer spellings stand first
+abbrev pub operators : List (List ℕ × Operator)
+operators =
+    (codes "<=", LessOrEqual) ∷ (codes ">=", GreaterOrEqual) ∷ (codes "<>", NotEqual) ∷ (codes "<", Less) ∷ (codes ">", Greater) ∷
+    (codes "=", Equal) ∷ (codes "*", Multiply) ∷ (codes "/", Divide) ∷ (codes "|", Shift) ∷ (codes "+", Add) ∷
+    (codes "-", Subtract) ∷ (codes ".AND.", And) ∷ (codes ".OR.", Or) ∷ (codes ".EOR.", Eor) ∷ []
+
+unfoldable pub sign_at : List ℕ → Found Sign
+sign_at text = spelled_at signs text
+
+unfoldable pub operator_at : List ℕ → Found Operator
+operator_at text = spelled_at operators text
+
+-- ---- tokens
+
+-- this token, where this byte stands at the front
+unfoldable pub byte_at : ℕ → Token → List ℕ → Found Token
+byte_at wanted token [] = None
+byte_at wanted token (byte ∷ behind) = if byte == wanted then Some (token, behind) else None
+
+-- the token at the front where an operand is expected: a parenthesis, an operator before an operand, or an operand
+unfoldable pub operand_token_at : Operands → List ℕ → Found Token
+operand_token_at operands text =
+    option_or (byte_at 0x28 Opens text) (option_or (seen_as Before (sign_at text)) (seen_as Value (operand_at operands text)))
+
+-- the token behind an operand: a parenthesis, or an operator between two
+unfoldable pub operator_token_at : List ℕ → Found Token
+operator_token_at text = option_or (byte_at 0x29 Closes text) (seen_as Between (operator_at text))
+
+abbrev pub token_at : Operands → Bool → List ℕ → Found Token
+token_at operands true text = operand_token_at operands text
+token_at operands false text = operator_token_at text
+
+-- whether an operand is expected behind a token
+abbrev pub expects_behind : Token → Bool
+expects_behind (Value operand) = false
+expects_behind (Before sign) = true
+expects_behind (Between operator) = true
+expects_behind Opens = true
+expects_behind Closes = false
+
+-- these tokens stand one behind another at the front of the text, and then the rest
+abbrev pub Stand : Operands → Bool → List ℕ → List Token → List ℕ → Type 0
+Stand operands expects text [] rest = rest ≡ text
+Stand operands expects text (token ∷ tokens) rest =
+    (behind : List ℕ) × (token_at operands expects text ≡ Some (token, behind)) × Stand operands (expects_behind token) behind tokens rest

@@ -1,0 +1,9 @@
+pub mod Texts
+pub mod Whole
+pub mod Digits
+pub mod Lookup
+pub mod Own
+pub mod Places
+pub mod Reading
+pub mod OperandIs
+pub mod Steps

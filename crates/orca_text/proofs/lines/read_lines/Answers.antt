@@ -1,0 +1,16 @@
+use Rattle.std.proofs.Common.{sym, ◌∙◌}
+use Rattle.std.proofs.lemmas.Bool.{eqb-true}
+use Rattle.orca_text.proofs.Reading.{read_on, read_bad, read_all}
+use Rattle.orca_text.proofs.lines.read_lines.Goals as goal
+
+pub returns-in-Some-clause-refused : goal.returns-in-Some-clause-refused
+returns-in-Some-clause-refused c = read_bad _ _ _ _ _ _ _ _ c.lines.invariant c.split_line.ensures.lines (sym c.in-Some.ensures)
+
+pub lines-preserved : goal.lines-preserved
+lines-preserved c = read_on _ _ _ _ _ _ _ _ c.lines.invariant c.split_line.ensures.lines (sym c.in_default.ensures) c.in-Ok.ensures.ok
+
+pub returns-clause-lines : goal.returns-clause-lines
+returns-clause-lines c = (read_all _ _ _ _ _ c.lines.invariant (eqb-true _ _ (sym c.is_empty.ensures ∙ c.lines-test.false))).0
+
+pub returns-clause-good : goal.returns-clause-good
+returns-clause-good c = (read_all _ _ _ _ _ c.lines.invariant (eqb-true _ _ (sym c.is_empty.ensures ∙ c.lines-test.false))).1

@@ -1,0 +1,12 @@
+use Rattle.std.proofs.Common.{◌≡◌, ◌<◌, ◌^◌, ◌+◌, ◌≤◌, length, drop, take, ℕ}
+use Rattle.std.specs.Char.{is_digit}
+use Rattle.std.specs.List.{prefix_len}
+use Rattle.std.specs.Str.Parse.{digits_value, digits_value_after}
+use Rattle.orca_text.proofs.Digits.{HasDigits}
+use Rattle.orca_text.proofs.tokens.digits_at.Given as goal
+
+abbrev pub invariant-digits : goal.invariant-digits
+invariant-digits l = HasDigits l.base l.text l.left l.value
+
+abbrev pub decreases-digits : goal.decreases-digits
+decreases-digits l = length l.left

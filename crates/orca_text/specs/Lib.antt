@@ -1,0 +1,12 @@
+pub mod Spelling
+pub mod View
+pub mod WaitView
+pub mod OwnFields
+pub mod Refusals
+pub mod Closing
+pub mod FormulaAt
+pub mod Kept
+pub mod Peak
+pub mod OperandView
+pub mod Next
+pub mod TokenView

@@ -1,0 +1,236 @@
+//! The fields of a source line.
+
+ghost use Rattle.std.specs.Prelude.{◌≡◌, ◌≤◌, ◌+◌, ◌-◌, ◌<◌, length, drop, take, position, Option, None, slice_index};
+ghost use Rattle.std.specs.List.{position_or_len, list_all};
+ghost use Rattle.orca_meaning.specs.Characters.{is_blank};
+ghost use Rattle.orca_meaning.specs.Quotes.{outside_from, quote_behind};
+ghost use Rattle.orca_meaning.specs.Line.{is_ink, is_comment, three_fields, operand_span, statement_fields, fields_of, part, LiesIn, HaveFields};
+ghost use Rattle.orca_text.specs.View.{fields};
+
+use crate::operation::operation_use;
+use orca_meaning::{OperandUse, Span};
+
+/// The places of a line's fields.
+#[derive(Clone, Copy)]
+pub(crate) struct Fields {
+    pub(crate) label: Span,
+    pub(crate) operation: Span,
+    pub(crate) operand: Span,
+}
+
+fn is_blank(byte: u8) -> bool
+    ensures { result ≡ is_blank byte }
+{
+    byte == b' ' || byte == b'\t'
+}
+
+/// The bytes from a place on.
+pub(crate) fn from(text: &[u8], at: usize) -> &[u8]
+    ensures { result.now ≡ drop at text.now }
+{
+    match text.get(at..) {
+        Some(rest) => rest,
+        None => &[],
+    }
+}
+
+/// The bytes of a field.
+pub(crate) fn part(text: &[u8], span: Span) -> &[u8]
+    requires { LiesIn text.now span }
+    ensures value { result.now ≡ part text.now span }
+    ensures bound { length result.now ≤ length text.now }
+{
+    let field = from(text, span.from as usize);
+    match field.get(..(span.to - span.from) as usize) {
+        Some(bytes) => bytes,
+        None => field,
+    }
+}
+
+fn first_blank(rest: &[u8]) -> Option<usize>
+    ensures { result ≡ position is_blank rest.now }
+{
+    rest.iter().position(|byte| is_blank(*byte))
+}
+
+#[tactic(auto, using(crate::proofs::Places::found, crate::proofs::Places::none))]
+fn blank_in(rest: &[u8]) -> usize
+    ensures value { result ≡ position_or_len is_blank rest.now }
+    ensures bound { result ≤ length rest.now }
+{
+    match first_blank(rest) {
+        Some(at) => at,
+        None => rest.len(),
+    }
+}
+
+fn first_ink(rest: &[u8]) -> Option<usize>
+    ensures { result ≡ position is_ink rest.now }
+{
+    rest.iter().position(|byte| !is_blank(*byte))
+}
+
+#[tactic(auto, using(crate::proofs::Places::found, crate::proofs::Places::none))]
+fn ink_in(rest: &[u8]) -> usize
+    ensures value { result ≡ position_or_len is_ink rest.now }
+    ensures bound { result ≤ length rest.now }
+{
+    match first_ink(rest) {
+        Some(at) => at,
+        None => rest.len(),
+    }
+}
+
+/// Which quote is open behind a byte.
+fn quote_behind(quote: Option<u8>, byte: u8) -> Option<u8>
+    ensures { result ≡ quote_behind quote byte }
+{
+    match quote {
+        None => {
+            if byte == b'\'' || byte == b'"' {
+                return Some(byte);
+            }
+            None
+        }
+        Some(open) => {
+            if byte == open {
+                return None;
+            }
+            Some(open)
+        }
+    }
+}
+
+/// How many bytes stand before the first blank outside quotes.
+#[tactic(auto, unfolding(orca_meaning::specs::Quotes::outside_from))]
+fn blank_outside(rest: &[u8]) -> usize
+    ensures value { result ≡ outside_from is_blank None rest.now }
+    ensures bound { result ≤ length rest.now }
+{
+    let mut quote = None;
+    let mut count = 0;
+    let mut left = rest;
+    'bytes: while let Some((byte, behind)) = left.split_first() {
+        if quote.is_none() && is_blank(*byte) {
+            return count;
+        }
+        quote = quote_behind(quote, *byte);
+        count += 1;
+        left = behind;
+    }
+    count
+}
+
+/// The label, the operation, and the third field.
+#[tactic(auto, unfolding(orca_meaning::specs::Line::three_fields))]
+fn three_fields(text: &[u8]) -> Fields
+    requires { length text.now ≤ 255 }
+    ensures value { fields result ≡ three_fields text.now }
+    ensures within { HaveFields text.now (fields result) }
+{
+    let label_end = blank_in(text) as u32;
+    let operation = label_end + ink_in(from(text, label_end as usize)) as u32;
+    let operation_end = operation + blank_in(from(text, operation as usize)) as u32;
+    let operand = operation_end + ink_in(from(text, operation_end as usize)) as u32;
+    let operand_end = operand + blank_outside(from(text, operand as usize)) as u32;
+    Fields {
+        label: Span {
+            from: 0,
+            to: label_end,
+        },
+        operation: Span {
+            from: operation,
+            to: operation_end,
+        },
+        operand: Span {
+            from: operand,
+            to: operand_end,
+        },
+    }
+}
+
+/// Whether all bytes are blank.
+fn is_empty(text: &[u8]) -> bool
+    ensures { result ≡ list_all is_blank text.now }
+{
+    text.iter().all(|byte| is_blank(*byte))
+}
+
+/// Whether the line is blank, or begins with `*`, `;` or `!`.
+fn is_comment(text: &[u8]) -> bool
+    ensures { result ≡ is_comment text.now }
+{
+    match text.split_first() {
+        Some((first, _)) => { *first == b'*' || *first == b';' || *first == b'!' || is_empty(text) }
+        None => true,
+    }
+}
+
+/// Whether a semicolon stands at a place.
+fn is_semicolon_at(text: &[u8], at: u32) -> bool
+    ensures { result ≡ Rattle.std.specs.Prelude.nat_eq (slice_index text.now at) 0x3B }
+{
+    match text.get(at as usize) {
+        Some(byte) => *byte == b';',
+        None => false,
+    }
+}
+
+/// The third field, or nothing where the operation doesn't take it.
+fn operand_span(text: &[u8], third: Span, operand_use: OperandUse) -> Span
+    ensures { result ≡ operand_span operand_use text.now third }
+{
+    let nothing = Span {
+        from: third.from,
+        to: third.from,
+    };
+    match operand_use {
+        OperandUse::Never => nothing,
+        OperandUse::Accumulator => {
+            if is_semicolon_at(text, third.from) {
+                return nothing;
+            }
+            third
+        }
+        OperandUse::Signature => {
+            if is_semicolon_at(text, third.from) {
+                return nothing;
+            }
+            third
+        }
+        OperandUse::Always => third,
+    }
+}
+
+/// The fields of a line that isn't a comment.
+fn statement_fields(text: &[u8]) -> Fields
+    requires { length text.now ≤ 255 }
+    ensures value { fields result ≡ statement_fields text.now (three_fields text.now) }
+    ensures within { HaveFields text.now (fields result) }
+{
+    let three = three_fields(text);
+    let operand_use = operation_use(part(text, three.operation));
+    Fields {
+        label: three.label,
+        operation: three.operation,
+        operand: operand_span(text, three.operand, operand_use),
+    }
+}
+
+/// The fields of a line. A comment has none.
+#[tactic(auto, unfolding(orca_meaning::specs::Line::fields_of))]
+pub(crate) fn fields_of(text: &[u8]) -> Fields
+    requires { length text.now ≤ 255 }
+    ensures value { fields result ≡ fields_of text.now }
+    ensures within { HaveFields text.now (fields result) }
+{
+    if is_comment(text) {
+        let nothing = Span { from: 0, to: 0 };
+        return Fields {
+            label: nothing,
+            operation: nothing,
+            operand: nothing,
+        };
+    }
+    statement_fields(text)
+}

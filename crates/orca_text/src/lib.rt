@@ -1,0 +1,22 @@
+//! Lines and operands of assembly source (ORCA/M reference manual; WDC 65C816 data sheet, addressing modes).
+#![tactic(auto)]
+
+mod fields;
+mod forms;
+mod formula;
+mod formula_term;
+mod line;
+mod lines;
+mod operand;
+mod operand_tokens;
+mod operation;
+mod operator_tokens;
+mod tokens;
+mod waiting;
+
+pub use formula::{FormulaAt, formula_at};
+pub use formula_term::{Formula, FormulaTerm};
+pub use line::SourceLine;
+pub use lines::{Lines, read_lines};
+pub use operation::mnemonic_of;
+pub use orca_meaning::{Form, Mnemonic, OperandUse, Operands, Prefix, Span, TextCause, TextFault};

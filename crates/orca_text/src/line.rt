@@ -1,0 +1,60 @@
+//! A line of a source.
+
+ghost use Rattle.std.specs.Prelude.{◌≡◌, ◌≤◌, length, IfOk};
+ghost use Rattle.orca_meaning.specs.Line.{line_of, part, LiesIn};
+
+use crate::fields::{self, fields_of};
+use omf_base::{Name, NameFault};
+use orca_meaning::Span;
+use std::alloc::{AllocError, Global};
+
+/// A line of a source, or one that the expansion of macros gave, with the places of its fields. A comment has three empty
+/// fields. Only a line with a label, or with what begins with a comment sign, lacks an operation.
+#[derive(Debug, Drop)]
+pub struct SourceLine {
+    /// The file: 0 is the source, and macro files count from 1.
+    pub file: u32,
+    /// The line's number in its file, from 1.
+    pub line: u32,
+    /// Its bytes, without its end.
+    pub text: Name,
+    /// What begins in column 1.
+    pub label: Span,
+    /// The next field.
+    pub operation: Span,
+    /// The third field, up to the first blank outside quotes. It is empty where the operation takes no operand.
+    pub operand: Span,
+}
+
+impl SourceLine {
+    ghost use Rattle.orca_text.specs.View.{line};
+
+    /// The line of these bytes, which are at most 255.
+    pub fn of(alloc: Global, file: u32, number: u32, text: &[u8]) -> Result<SourceLine, AllocError>
+        requires { length text.now ≤ 255 }
+        ensures { IfOk result (λ l. line l ≡ line_of file number text.now) }
+    {
+        let fields = fields_of(text);
+        match Name::of(alloc, text) {
+            Ok(text) => Ok(SourceLine {
+                file,
+                line: number,
+                text,
+                label: fields.label,
+                operation: fields.operation,
+                operand: fields.operand,
+            }),
+            Err(NameFault::TooLong) => unreachable!(),
+            Err(NameFault::Memory) => Err(AllocError),
+        }
+    }
+
+    /// The bytes of one of its fields.
+    pub fn part(&self, span: Span) -> &[u8]
+        requires { LiesIn self.now.text span }
+        ensures value { result.now ≡ part self.now.text span }
+        ensures short { length result.now ≤ 255 }
+    {
+        fields::part(self.text.bytes(), span)
+    }
+}

@@ -1,0 +1,113 @@
+//! The operators of formulas, taken from the front of a text.
+
+ghost use Rattle.std.specs.Prelude.{◌≡◌, ◌≢◌, ◌≤◌, ◌<◌, ◌∷◌, length, take, drop, Some, None, MatchOption, bytes_eq, true, false};
+ghost use Rattle.std.specs.Bool.{MatchBool};
+ghost use Rattle.orca_meaning.specs.Characters.{folded};
+ghost use Rattle.orca_meaning.specs.Token.{sign_at, operator_at, spelled_at};
+
+use crate::operation::is_spelled;
+use orca_meaning::{Operator, Sign};
+
+/// What stands behind a spelling at the front, in upper or lower case.
+fn behind_word<'a>(text: &'a [u8], spelling: &[u8]) -> Option<&'a [u8]>
+    ensures { MatchOption result (bytes_eq spelling.now (folded (take (length spelling.now) text.now)) ≡ false)
+        (λ rest. (bytes_eq spelling.now (folded (take (length spelling.now) text.now)) ≡ true) × (rest.now ≡ drop (length spelling.now) text.now)) }
+{
+    if text.len() < spelling.len() {
+        return None;
+    }
+    let (front, rest) = text.split_at(spelling.len());
+    if is_spelled(front, spelling) {
+        return Some(rest);
+    }
+    None
+}
+
+/// The operator before an operand that stands at the front.
+#[tactic(auto, unfolding(orca_meaning::specs::Token::sign_at, orca_meaning::specs::Token::spelled_at))]
+pub(crate) fn sign_at(text: &[u8]) -> Option<(Sign, &[u8])>
+    ensures { MatchOption result (sign_at text.now ≡ None) (λ x. sign_at text.now ≡ Some (x.0, x.1.now)) }
+{
+    let Some((first, behind)) = text.split_first() else {
+        return None;
+    };
+    match *first {
+        b'-' => Some((Sign::Negate, behind)),
+        b'.' => match behind_word(text, b".NOT.") {
+            Some(rest) => Some((Sign::Not, rest)),
+            None => None,
+        },
+        _ => None,
+    }
+}
+
+/// The operator between two operands that stands at the front.
+#[tactic(auto, unfolding(orca_meaning::specs::Token::operator_at, orca_meaning::specs::Token::spelled_at))]
+pub(crate) fn operator_at(text: &[u8]) -> Option<(Operator, &[u8])>
+    ensures { MatchOption result (operator_at text.now ≡ None) (λ x. operator_at text.now ≡ Some (x.0, x.1.now)) }
+{
+    let Some((first, behind)) = text.split_first() else {
+        return None;
+    };
+    match *first {
+        b'+' => Some((Operator::Add, behind)),
+        b'-' => Some((Operator::Subtract, behind)),
+        b'*' => Some((Operator::Multiply, behind)),
+        b'/' => Some((Operator::Divide, behind)),
+        b'|' => Some((Operator::Shift, behind)),
+        b'=' => Some((Operator::Equal, behind)),
+        b'<' => less_at(text, behind),
+        b'>' => greater_at(text, behind),
+        b'.' => word_at(text),
+        _ => None,
+    }
+}
+
+/// The operators that begin with `<`.
+#[tactic(auto, unfolding(orca_meaning::specs::Token::operator_at, orca_meaning::specs::Token::spelled_at))]
+fn less_at<'a>(text: &[u8], behind: &'a [u8]) -> Option<(Operator, &'a [u8])>
+    requires { text.now ≡ 0x3C ∷ behind.now }
+    ensures { MatchOption result (operator_at text.now ≡ None) (λ x. operator_at text.now ≡ Some (x.0, x.1.now)) }
+{
+    let Some((second, rest)) = behind.split_first() else {
+        return Some((Operator::Less, behind));
+    };
+    match *second {
+        b'=' => Some((Operator::LessOrEqual, rest)),
+        b'>' => Some((Operator::NotEqual, rest)),
+        _ => Some((Operator::Less, behind)),
+    }
+}
+
+/// The operators that begin with `>`.
+#[tactic(auto, unfolding(orca_meaning::specs::Token::operator_at, orca_meaning::specs::Token::spelled_at))]
+fn greater_at<'a>(text: &[u8], behind: &'a [u8]) -> Option<(Operator, &'a [u8])>
+    requires { text.now ≡ 0x3E ∷ behind.now }
+    ensures { MatchOption result (operator_at text.now ≡ None) (λ x. operator_at text.now ≡ Some (x.0, x.1.now)) }
+{
+    let Some((second, rest)) = behind.split_first() else {
+        return Some((Operator::Greater, behind));
+    };
+    match *second {
+        b'=' => Some((Operator::GreaterOrEqual, rest)),
+        _ => Some((Operator::Greater, behind)),
+    }
+}
+
+/// The operators that begin with a dot.
+#[tactic(auto, unfolding(orca_meaning::specs::Token::operator_at, orca_meaning::specs::Token::spelled_at))]
+fn word_at(text: &[u8]) -> Option<(Operator, &[u8])>
+    requires { Rattle.std.specs.Prelude.slice_index text.now 0 ≡ 0x2E }
+    ensures { MatchOption result (operator_at text.now ≡ None) (λ x. operator_at text.now ≡ Some (x.0, x.1.now)) }
+{
+    if let Some(rest) = behind_word(text, b".AND.") {
+        return Some((Operator::And, rest));
+    }
+    if let Some(rest) = behind_word(text, b".OR.") {
+        return Some((Operator::Or, rest));
+    }
+    match behind_word(text, b".EOR.") {
+        Some(rest) => Some((Operator::Eor, rest)),
+        None => None,
+    }
+}
