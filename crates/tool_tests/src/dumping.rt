@@ -105,13 +105,16 @@ fn body_told(alloc: Global, body: &[u8], line: &[u8]) -> Result<bool, Fail> {
 #[test]
 fn an_expression_is_listed(rt: HostRuntime) -> Result<(), Fail> {
     let alloc = rt.alloc();
-    let object = with_body(alloc, b"\xEB\x02\x83\x01A\x81\x05\0\0\0\x01\0\0")?;
+    let mut object = with_body(alloc, b"\xEB\x02\x83\x01A\x81\x05\0\0\0\x01\0\0")?;
+    if let Some(length) = object.get_mut(0x08) {
+        *length = 2;
+    }
     assert!(rt;
         dumps(
             alloc,
             &object,
             Status::Done,
-            b"segment 1 at 00000000 kind 0000 length 00000008 resspc 00000000 banksize 00010000 align 00000000 org 00000000 entry 00000000 loadname \"          \" segname \"A\"\n00000038 EXPR 02 83014181050000000100\n00000044 END\n"
+            b"segment 1 at 00000000 kind 0000 length 00000002 resspc 00000000 banksize 00010000 align 00000000 org 00000000 entry 00000000 loadname \"          \" segname \"A\"\n00000038 EXPR 02 83014181050000000100\n00000044 END\n"
         )?
     );
     Ok(())

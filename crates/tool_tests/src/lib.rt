@@ -11,3 +11,5 @@ mod headers;
 mod linking;
 #[cfg(test)]
 mod running;
+#[cfg(test)]
+mod versions;

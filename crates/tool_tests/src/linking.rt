@@ -84,7 +84,7 @@ pub(crate) fn changed(alloc: Global, changes: &[(usize, u8)]) -> Result<Vec<u8>,
 }
 
 /// Links an object while nothing outside fails, and says whether it ended so.
-fn links(
+pub(crate) fn links(
     alloc: Global,
     object: &[u8],
     status: Status,

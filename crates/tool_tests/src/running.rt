@@ -38,7 +38,7 @@ fn run_script(
 }
 
 /// Runs a script while nothing outside fails, and says whether it ended so.
-fn says(
+pub(crate) fn says(
     alloc: Global,
     script: &[u8],
     program: &[u8],
