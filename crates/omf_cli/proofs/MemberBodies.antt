@@ -1,15 +1,14 @@
 -- The content of a segment that a view shows.
-use Rattle.std.proofs.Common.{◌≡◌, ℕ, ◌+◌, true, List, ◌++◌, length, replicate, IsTrue, refl, sym, ap, subst, ◌∙◌, arith}
+use Rattle.std.proofs.Common.{◌≡◌, ℕ, ◌+◌, List, ◌++◌, length, replicate, IsTrue, refl, sym, ap, subst, ◌∙◌, arith}
 use Rattle.std.specs.List.{AllByRecursion}
 use Rattle.omf_format.specs.Header.{Fields}
 use Rattle.omf_format.specs.Record.{Record, is_constant}
-use Rattle.omf_format.specs.Reading.{Reader, HandsOut}
+use Rattle.omf_format.specs.Reading.{Reader}
 use Rattle.omf_format.specs.File.{Segment, body_reader}
 use Rattle.omf_format.specs.FileLaws.{HandsOut-same}
 use Rattle.omf_format.specs.Plain.{body_bytes, memory_bytes, HasConstants, IsPlainSegment}
 use Rattle.omf_header.specs.View.{fields}
 use Rattle.omf_records.specs.declared.segment.SegmentView.{SegmentView}
-use Rattle.omf_records.specs.Segments.{ComesToEnd}
 use Rattle.omf_cli.specs.Content.{IsContent, HasContent, HasConstantContent}
 use Rattle.omf_records.specs.Members.{IsAt}
 use Rattle.omf_records.specs.MemberLaws.{member_run}
@@ -46,13 +45,6 @@ has_constant_member s v reader at is has =
       constant = has.each;
       count = refl;
     }
-
--- a view's body comes to END
-pub comes_at : (s : Segment) (v : SegmentView) → IsAt s v → ComesToEnd (body_reader v.start (fields v.header) v.file.now)
-comes_at s v at =
-    let reader = body_reader v.start (fields v.header) v.file.now in
-    let is = member_content s v reader at refl in
-    record { records = is.founds; last = is.last; run = is.run; ended = is.ended }
 
 -- a plain segment's content is no longer than LENGTH
 pub content_fits : (s : Segment) (v : SegmentView) (reader : Reader) (n : ℕ) → IsAt s v → IsPlainSegment s → reader ≡ body_reader v.start (fields v.header) v.file.now → HasContent reader n → n + v.header.res_spc ≡ v.header.length

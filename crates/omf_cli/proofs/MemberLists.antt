@@ -7,16 +7,13 @@ use Rattle.std.proofs.lemmas.List.{take_all, append-nil}
 use Rattle.std.proofs.lemmas.List.Sums.{sum_by-cons}
 use Rattle.std.proofs.lemmas.Grind.{flat_map-append}
 use Rattle.omf_format.specs.Header.{Fields}
-use Rattle.omf_format.specs.Reading.{Reader, HandsOut}
-use Rattle.omf_format.specs.File.{Segment, body_reader, IsSegment, AreSegments, IsFile}
+use Rattle.omf_format.specs.File.{Segment, IsFile}
 use Rattle.omf_format.specs.Plain.{memory_bytes, IsPlainSegment, IsPlain, total_length, first_name, HasRoom, lesser_bank, least_bank, loaded_bytes}
 use Rattle.omf_format.specs.PlainLaws.{length-loaded}
-use Rattle.omf_header.specs.View.{fields}
 use Rattle.omf_records.specs.declared.segment.SegmentView.{SegmentView}
-use Rattle.omf_records.specs.Segments.{Placed, placed, views_of, ComesToEnd}
-use Rattle.omf_records.specs.Members.{IsAt, HasFile}
-use Rattle.omf_records.specs.MemberLaws.{Views, views}
-use Rattle.omf_cli.specs.Members.{HasPlain, AreMembers}
+use Rattle.omf_records.specs.Segments.{Placed, placed, views_of}
+use Rattle.omf_records.specs.MemberLaws.{views}
+use Rattle.omf_cli.specs.Members.{AreMembers}
 
 -- ---- the places so far
 
@@ -87,9 +84,6 @@ pub record PlainSoFar (segments : List Segment) (k total bank : ℕ) : Type 0 wh
   pub one_name : AllByRecursion (λ s. s.fields.load_name ≡ first_name segments) (take k segments)
   pub total' : total ≡ total_length (take k segments)
   pub bank' : bank ≡ least_bank (take k segments)
-
-pub plain_none : (segments : List Segment) → PlainSoFar segments 0 0 0
-plain_none segments = record { each = tt; one_name = tt; total' = refl; bank' = refl }
 
 pub plain_more : (segments : List Segment) (k total bank : ℕ) (s : Segment) (length' bank_size : ℕ) → PlainSoFar segments k total bank → slice_get segments k ≡ Some s → IsPlainSegment s → s.fields.load_name ≡ first_name segments
     → length' ≡ s.fields.length → bank_size ≡ s.fields.bank_size → PlainSoFar segments (k + 1) (total + length') (lesser_bank bank bank_size)
@@ -235,10 +229,3 @@ loaded_more segments k s found =
     ap (λ (l : List ℕ). flat_map memory_bytes (take k segments) ++ l) (sym (append-nil (memory_bytes s)))
     ∙ sym (flat_map-append memory_bytes (take k segments) (s ∷ []))
     ∙ ap (λ (l : List Segment). flat_map memory_bytes l) (sym (take-found segments k s found))
-
-pub loaded_all : (segments : List Segment) (k : ℕ) → length segments ≤ k → loaded_bytes (take k segments) ≡ loaded_bytes segments
-loaded_all segments k past = ap loaded_bytes (take_all k segments past)
-
--- a list of a plain file's segments is one of a file's
-pub plain_file : (list : List Placed) → HasPlain list → HasFile list
-plain_file list has = (has.file, record { segments = has.segments; is_file = has.is_file; views = has.views })

@@ -10,4 +10,6 @@ mod headers;
 #[cfg(test)]
 mod linking;
 #[cfg(test)]
+mod runner;
+#[cfg(test)]
 mod running;
