@@ -1,5 +1,5 @@
 -- Replies to a script's commands, one more at a time.
-use Rattle.std.proofs.Common.{◌≡◌, ◌≢◌, ◌⊎◌, inl, inr, ℕ, zero, suc, Bool, true, false, cond, ◌+◌, ◌<◌, ◌≤◌, List, [], ◌∷◌, ◌++◌, length, length-append, Option, Some, None, IsSome, nat_lt, Result, Ok, Err, refl, sym, ap, subst, ◌∙◌, arith, append_assoc}
+use Rattle.std.proofs.Common.{◌≡◌, ◌≢◌, ◌⊎◌, inl, inr, ℕ, zero, suc, true, false, cond, ◌+◌, ◌<◌, ◌≤◌, List, [], ◌∷◌, ◌++◌, length, length-append, Option, Some, None, IsSome, nat_lt, Result, Ok, Err, refl, sym, ap, subst, ◌∙◌, arith, append_assoc}
 use Rattle.std.specs.Option.{option_map}
 use Rattle.std.proofs.lemmas.Grind.{flat_map-append}
 use Rattle.std.proofs.lemmas.List.Sums.{sum_by-append}
@@ -24,7 +24,7 @@ use Rattle.sys_loader.specs.Calls.{HasLoaded, IsLoadFault, IsLentFault}
 use Rattle.sys_loader.specs.Meets.{MeetsLoad}
 use Rattle.loader_script.specs.declared.run.Stop.{Stop}
 use Rattle.loader_script.specs.declared.run.Stop.TheVariants as stop
-use Rattle.loader_script.specs.Replied.{is_unread, is_unread_fault, unread, is_full_fault, asks, asked_for, AreReplies, OnceAtMost, IsUnanswered}
+use Rattle.loader_script.specs.Replied.{is_unread, is_unread_fault, unread, asks, asked_for, AreReplies, OnceAtMost, IsUnanswered}
 use Rattle.loader_script.specs.Running.{HasPrinted, HasRefused, IsAnswer, HasAnswered}
 
 -- ---- counts

@@ -1,5 +1,5 @@
 -- A run of a script on its way: it begins, it goes on, it stops, and it ends.
-use Rattle.std.proofs.Common.{◌≡◌, inl, ℕ, zero, suc, Bool, true, false, ◌+◌, ◌≤◌, List, [], ◌∷◌, ◌++◌, length, take, Option, Some, None, Result, Ok, Err, refl, sym, ap, subst, ◌∙◌, arith, append_assoc, add-one}
+use Rattle.std.proofs.Common.{◌≡◌, inl, ℕ, zero, suc, Bool, true, false, ◌+◌, ◌≤◌, List, [], ◌∷◌, ◌++◌, length, take, Option, Some, None, Result, Ok, Err, refl, sym, ap, subst, ◌∙◌, arith, add-one}
 use Rattle.std.specs.Prelude.{slice_get}
 use Rattle.omf_io.specs.Counts.{risen, ToldOr}
 use Rattle.omf_io.specs.Files.{FileMap, StoreSeen}
@@ -16,7 +16,7 @@ use Rattle.sys_loader.specs.Loaded.{Loaded, Agrees}
 use Rattle.loader_script.specs.declared.run.Stop.{Stop}
 use Rattle.loader_script.specs.declared.run.Stop.TheVariants as stop
 use Rattle.loader_script.specs.Replied.{AreReplies, IsUnanswered}
-use Rattle.loader_script.specs.Run.{HandsOut, HasRunAll, StopsPrinting, StopsShort}
+use Rattle.loader_script.specs.Run.{HandsOut, HasRunAll, StopsShort}
 use Rattle.loader_script.specs.Running.{HasPrinted, IsAnswer, IsFirstLoader, HasAnswered, IsUnderWay, HasFinished}
 use Rattle.loader_script.proofs.Transcripts.{answered, more_replied, forget, printed_more, with_text-none}
 

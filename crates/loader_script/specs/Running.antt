@@ -1,7 +1,7 @@
 -- A run of a script on its way: what one command does, and what was done so far. No public clause cites this module.
-use Rattle.std.specs.Prelude.{◌≡◌, ◌≢◌, ◌⊎◌, ℕ, List, [], ◌∷◌, Option, Some, None, Result, Ok, Err}
+use Rattle.std.specs.Prelude.{◌≡◌, ◌≢◌, ◌⊎◌, ℕ, List, [], ◌∷◌, Option, Result, Ok, Err}
 use Rattle.omf_io.specs.Counts.{risen, ToldOr}
-use Rattle.omf_io.specs.Files.{FileMap, StoreSeen}
+use Rattle.omf_io.specs.Files.{StoreSeen}
 use Rattle.omf_io.specs.Sinks.{SinkSeen, with_text, FailsToPrint}
 use Rattle.omf_io.specs.Outside.{Outside}
 use Rattle.loader_machine.specs.Command.{Command, Banks, Load, Bytes}
@@ -19,7 +19,7 @@ use Rattle.loader_script.specs.declared.run.ScriptEnd.{ScriptEnd}
 use Rattle.loader_script.specs.declared.run.ScriptEnd.TheVariants as end
 use Rattle.loader_script.specs.declared.run.Stop.{Stop}
 use Rattle.loader_script.specs.declared.run.Stop.TheVariants.{CannotPrint, Memory}
-use Rattle.loader_script.specs.Replied.{unread, asks, AreReplies, OnceAtMost, IsUnanswered}
+use Rattle.loader_script.specs.Replied.{unread, asks, AreReplies, IsUnanswered}
 use Rattle.loader_script.specs.Run.{HasRunAll, StopsPrinting, StopsShort}
 
 -- what became of a line: it was printed whole, a front of it, or nothing

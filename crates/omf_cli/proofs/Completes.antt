@@ -5,7 +5,7 @@ use Rattle.omf_io.specs.Counts.{one_more, Rose, ToldOr}
 use Rattle.omf_io.specs.Files.{max_file, FileMap, StoreSeen, IsUnread}
 use Rattle.omf_io.specs.Sinks.{SinkSeen, FailsToPrint}
 use Rattle.omf_io.specs.Outside.{Outside}
-use Rattle.loader_machine.specs.Script.{IsScript, HasScriptFault}
+use Rattle.loader_machine.specs.Script.{HasScriptFault}
 use Rattle.loader_machine.specs.ScriptLaws.{no_script}
 use Rattle.omf_cli.specs.declared.status.Status.{Status}
 use Rattle.omf_cli.specs.declared.status.Status.TheVariants as status

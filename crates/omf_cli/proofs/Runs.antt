@@ -1,5 +1,5 @@
 -- How a run ends, from what was done and what was printed.
-use Rattle.std.proofs.Common.{◌≡◌, inl, inr, ℕ, List, [], Option, Result, Ok, Err, IfOk, Vec, ◌∙◌, refl, sym, subst}
+use Rattle.std.proofs.Common.{◌≡◌, inl, inr, ℕ, List, Option, Result, Ok, Err, IfOk, Vec, ◌∙◌, refl, sym, subst}
 use Rattle.std.specs.declared.alloc.Global.{Global}
 use Rattle.omf_base.specs.declared.line.LineFault.{LineFault}
 use Rattle.omf_io.specs.Files.{StoreSeen}
@@ -13,12 +13,11 @@ use Rattle.omf_cli.specs.declared.status.Status.{Status}
 use Rattle.omf_cli.specs.declared.status.Status.TheVariants as status
 use Rattle.omf_cli.specs.declared.making.MakeEnd.{MakeEnd}
 use Rattle.omf_cli.specs.declared.making.MakeEnd.TheVariants as end
-use Rattle.omf_cli.specs.Lines.{cannot_read_line, cannot_write_line, usage_line}
+use Rattle.omf_cli.specs.Lines.{cannot_read_line, cannot_write_line}
 use Rattle.omf_cli.specs.Made.{Made, all_bytes, first_of, AreShort}
 use Rattle.omf_cli.specs.Printing.{Ends, IsPut, Whole, Part, Nothing, IsPrinted}
 use Rattle.omf_cli.specs.Making.{MakesRun, Says, Writes, IsShort, HasCome, HasSaid, AreRead, all_read}
 use Rattle.omf_cli.specs.Script.{ScriptSays, ScriptRun, HasBegun, IsBadScript}
-use Rattle.omf_cli.specs.Tool.{UsageRun}
 
 -- a line for which memory was missing is a text of which nothing was printed
 pub put_line : (line : Result (List ℕ) LineFault) (text : List ℕ) (wanted result : Status) (before now : SinkSeen) → IfOk line (λ t. t ≡ text)
@@ -47,10 +46,6 @@ makes_run makes output inputs came result o = by_end came
     short : Type 0
     short = IsShort inputs o.store o.new_store
 
-    write_line : (out : Option (List ℕ)) (text : List ℕ) → Says status.CannotWrite makes out inputs o.store o.new_store text → o.new_sink ≡ with_text text o.sink
-        → Ends (λ wanted text. Says wanted makes out inputs o.store o.new_store text) done short status.CannotWrite o.sink o.new_sink
-    write_line out text is now = (text, is, now)
-
     by_end : (came : MakeEnd) → HasCome makes output inputs came o.store o.new_store → HasSaid came result o.sink o.new_sink → MakesRun makes output inputs result o
     by_end end.Written come said = subst (λ (s : Status). MakesRun makes output inputs s o) (sym said.0) (inl (come, said.1))
     by_end (end.Text text) come said = ends says done short status.Done result text.items o.sink o.new_sink come (λ now. inr (text.items, come, now)) said
@@ -60,13 +55,6 @@ makes_run makes output inputs came result o = by_end came
     by_end (end.Unwritten path) come said =
         ends says done short status.CannotWrite result (cannot_write_line path.now) o.sink o.new_sink come (λ now. (cannot_write_line path.now, come, now)) said
     by_end end.Memory come said = subst (λ (s : Status). MakesRun makes output inputs s o) (sym said.0) (inl come, said.1)
-
--- a run that prints the usage line
-pub usage_run : (o : Outside) (result : Status) (line : Result (List ℕ) LineFault) → o.new_store ≡ o.store → IfOk line (λ t. t ≡ usage_line)
-    → IsPrinted line status.Usage result o.sink o.new_sink → UsageRun result o
-usage_run o result line kept is printed =
-    ends (λ wanted text. (wanted ≡ status.Usage) × (text ≡ usage_line) × (o.new_store ≡ o.store)) ⊥ ⊥ status.Usage result usage_line o.sink o.new_sink (refl, refl, kept)
-    (λ now. (usage_line, (refl, refl, kept), now)) (put_line line usage_line status.Usage result o.sink o.new_sink is printed)
 
 -- a run of a script that says a text before it begins
 pub script_says : (inputs : List (List ℕ)) (o : Outside) (wanted result : Status) (text : List ℕ) → ScriptSays wanted inputs o text

@@ -1,5 +1,5 @@
 -- What is made of the inputs of a command.
-use Rattle.std.specs.Prelude.{ℕ, ◌≤◌, List, [], ◌∷◌, length, map, Vec, Result, Ok, Err}
+use Rattle.std.specs.Prelude.{ℕ, ◌≤◌, List, [], ◌∷◌, length, map, Vec}
 use Rattle.std.specs.declared.alloc.Global.{Global}
 use Rattle.omf_io.specs.Files.{max_file}
 use Rattle.omf_cli.specs.declared.making.Making.{Making}

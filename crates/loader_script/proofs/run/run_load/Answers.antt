@@ -1,4 +1,3 @@
-use Rattle.std.proofs.Common.{◌≡◌, List, ℕ, sym, subst}
 use Rattle.omf_io.specs.Outside.{outside}
 use Rattle.loader_machine.specs.Command as machine
 use Rattle.loader_machine.specs.Replies.{reply_line}

@@ -1,4 +1,4 @@
-use Rattle.std.proofs.Common.{◌≡◌, ◌≤◌, ◌∙◌, List, ℕ, length, sym, arith}
+use Rattle.std.proofs.Common.{◌≤◌, length, arith}
 use Rattle.omf_io.proofs.Limits.{whole_front}
 use Rattle.omf_io.proofs.streams.read_whole.Goals as goal
 
