@@ -1,0 +1,15 @@
+//! Jump tables: entries through which code reaches dynamic segments (GS/OS Reference, appendix F, jump table segment).
+#![tactic(auto)]
+
+mod entry;
+mod laws;
+mod table;
+mod target;
+
+pub use entry::{Entry, read_entry, set_loaded, set_unloaded, set_user};
+pub use laws::entries_are_read_in_one_way;
+pub use table::{MOST_ENTRIES, Table, TableFault};
+pub use target::Target;
+
+#[cfg(test)]
+mod tests;
