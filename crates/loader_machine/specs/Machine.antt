@@ -1,12 +1,12 @@
 -- The loader's machine: what a state holds, and what is said of a load file and of a user's segments (GS/OS Reference,
 -- "System Loader"; user IDs, wants and limits are this project's own).
-use Rattle.std.specs.Prelude.{◌≡◌, ◌≢◌, ℕ, zero, suc, ◌+◌, ◌-◌, ◌*◌, ◌/◌, ◌%◌, ◌^◌, ◌≤◌, ◌<◌, ◌⊎◌, ◌==◌, max, bit_and, IsBitSet, ℤ, pos, negsuc, List, [], length, map, nat_lt, not, Option, Some, None, IsSomeAnd, unwrap_or, slice_get, if◌then◌else◌}
+use Rattle.std.specs.Prelude.{◌≡◌, ◌≢◌, ℕ, zero, suc, ◌+◌, ◌-◌, ◌%◌, ◌≤◌, ◌<◌, ◌⊎◌, ◌==◌, max, false, List, [], length, nat_lt, Option, Some, None, IsSomeAnd, unwrap_or, slice_get, if◌then◌else◌}
 use Rattle.std.specs.Option.{option_and_then}
 use Rattle.std.specs.List.{AllByRecursion}
 use Rattle.std.specs.FinMap.{get}
-use Rattle.omf_format.specs.Header.{Fields, form_of}
+use Rattle.omf_format.specs.Header.{Fields, form_of, is_dynamic, is_skipped, avoids_special, stays_in_bank}
 use Rattle.omf_format.specs.File.{Segment}
-use Rattle.omf_format.specs.Cells.{Cell, Byte, Part, cells, patches_of}
+use Rattle.omf_format.specs.Cells.{patches_of}
 use Rattle.omf_format.specs.Loadable.{IsLoadable}
 use Rattle.omf_io.specs.Files.{FileMap, max_file}
 use Rattle.iigs_meaning.specs.declared.handles.Handle.{Handle}
@@ -70,8 +70,8 @@ LacksFile held path = (get held path ≡ None) ⊎ IsSomeAnd (get held path) (λ
 -- a segment that is loaded with its file and asks for no place: static, not skipped, of a type other than jump table ($02)
 -- and direct page and stack ($12), with ORG and ALIGN 0, and without patches
 pub record IsPlainLoad (s : Segment) : Type 0 where
-  pub static : ¬ IsBitSet s.fields.kind 15
-  pub not_skipped : ¬ IsBitSet s.fields.kind 9
+  pub static : is_dynamic s.fields.kind ≡ false
+  pub not_skipped : is_skipped s.fields.kind ≡ false
   pub no_table : form_of s.fields.kind ≢ 0x02
   pub no_stack : form_of s.fields.kind ≢ 0x12
   pub org : s.fields.org ≡ 0
@@ -90,14 +90,14 @@ pub record HoldsLoad (held : FileMap) (path : List ℕ) (segments : List Segment
   pub is_held : HoldsFile held path file
   pub can : CanLoad file segments
 
--- what is asked of a segment's place: room for LENGTH bytes and one at least, no border of banks inside where BANKSIZE isn't
--- 0, and no special memory where KIND has $1000
+-- what is asked of a segment's place: room for LENGTH bytes and one at least, no border of banks inside where BANKSIZE
+-- forbids it, and no special memory where KIND forbids that
 unfoldable pub wanted : Fields → Want
 wanted f = record {
   size = max 1 f.length;
   align = 1;
-  no_cross = not (f.bank_size == 0);
-  no_special = not (bit_and f.kind (2 ^ 12) == 0);
+  no_cross = stays_in_bank f.bank_size;
+  no_special = avoids_special f.kind;
   at = None;
   bank = None;
   low = None;
@@ -107,23 +107,6 @@ wanted f = record {
 -- 2^24, and else none
 unfoldable pub entry_of : Fields → ℕ → Option ℕ
 entry_of f address = if form_of f.kind == 0x00 then Some ((address + f.entry) % 0x1000000) else None
-
--- ---- the bytes of a segment in memory
-
--- a number of 32 bits shifted left by so many bits, or right where it is negative
-abbrev pub shifted : ℤ → ℕ → ℕ
-shifted (pos n) number = number * 2 ^ n % 2 ^ 32
-shifted (negsuc n) number = number / 2 ^ (n + 1)
-
--- the byte that a cell stands for, where the user's segments lie at these addresses
-abbrev pub byte_of : (ℕ → ℕ) → Cell → ℕ
-byte_of places (Byte b) = b
-byte_of places (Part file segment offset shift index) =
-    shifted shift ((places segment + offset) % 2 ^ 32) / 256 ^ index % 256
-
--- the bytes of a segment, where the user's segments lie at these addresses
-abbrev pub stands : (ℕ → ℕ) → Segment → List ℕ
-stands places s = map (byte_of places) (cells s)
 
 -- the addresses of a user's segments, 0 for one that isn't there
 abbrev pub places_of : List (Slot Block) → User → ℕ → ℕ

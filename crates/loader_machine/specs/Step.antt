@@ -1,14 +1,14 @@
 -- What each command of a script does to the machine, and what it answers.
 use Rattle.std.specs.Prelude.{◌≡◌, ℕ, ◌+◌, ◌<◌, ◌≤◌, true, List, [], ◌∷◌, ◌++◌, length, take, drop, nat_lt, Option, Some, None, IsSome, if◌then◌else◌}
-use Rattle.omf_format.specs.File.{Segment}
-use Rattle.omf_format.specs.Cells.{segment_at}
+use Rattle.omf_format.specs.File.{Segment, segment_at}
+use Rattle.omf_format.specs.Cells.{stands}
 use Rattle.omf_io.specs.Files.{FileMap}
 use Rattle.iigs_meaning.specs.declared.handles.Handle.{Handle}
 use Rattle.loader_machine.specs.declared.faults.LoaderFault.{LoaderFault}
 use Rattle.loader_machine.specs.declared.faults.LoaderFault.TheVariants.{NoUser, NoSegment, OutOfSegment, TooManyUsers, CannotRead, Unbuilt, NoRoom, Memory}
 use Rattle.iigs_meaning.specs.Puts.{Purges, LacksRoom, Puts}
 use Rattle.loader_machine.specs.Command.{Command, Banks, Load, Bytes}
-use Rattle.loader_machine.specs.Machine.{User, Machine, empty, max_users, first_id, user_of, place_of, places_of, HoldsFile, LacksFile, CanLoad, HoldsLoad, wanted, entry_of, stands}
+use Rattle.loader_machine.specs.Machine.{User, Machine, empty, max_users, first_id, user_of, place_of, places_of, HoldsFile, LacksFile, CanLoad, HoldsLoad, wanted, entry_of}
 
 -- what a command answers: that it is done; the ID of the new user and where it begins; bytes; or why it is refused
 pub data Reply : Type 0 where

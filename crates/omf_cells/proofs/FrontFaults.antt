@@ -1,16 +1,19 @@
 -- The fault of a header, a name or a type, or of a record, is that of its segment.
-use Rattle.std.proofs.Common.{◌≡◌, ℕ, ◌^◌, ◌<◌, ◌≤◌, List, length, drop, Option, Some, None, refl, sym, ap, subst, ◌∙◌, arith}
+use Rattle.std.proofs.Common.{◌≡◌, ℕ, ◌^◌, ◌<◌, ◌≤◌, List, length, drop, Some, None, refl, sym, ap, subst, ◌∙◌, arith}
 use Rattle.std.proofs.lemmas.List.{length-drop}
 use Rattle.omf_format.specs.declared.fault.HeaderFault.{HeaderFault}
 use Rattle.omf_format.specs.declared.fault.HeaderFault.TheVariants as header
+use Rattle.omf_format.specs.declared.fault.RecordFault.{RecordFault}
+use Rattle.omf_format.specs.declared.fault.RecordFault.TheVariants as record_faults
 use Rattle.omf_format.specs.declared.load.LoadCause.{LoadCause}
-use Rattle.omf_format.specs.declared.load.LoadCause.TheVariants.{NotLoadFile, Truncated, BadHeader, Unsupported, BadRecord, Sequence, DataTooLong, Memory}
+use Rattle.omf_format.specs.declared.load.LoadCause.TheVariants.{NotLoadFile, Truncated, BadHeader, Unsupported, BadRecord, Sequence, DataTooLong, PatchOutside, NoSuchTarget, DynamicTarget, BadTable, Memory}
 use Rattle.omf_format.specs.declared.load.LoadFault.{LoadFault}
-use Rattle.omf_format.specs.Header.{Fields, fields_of, header_fault}
+use Rattle.omf_format.specs.Header.{Fields, version_of, fields_of, header_fault}
 use Rattle.omf_format.specs.HeaderLaws.{fault_fits}
 use Rattle.omf_format.specs.Reading.{Reader, HandsOut}
-use Rattle.omf_format.specs.File.{body_reader, IsHeader}
-use Rattle.omf_format.specs.Loadable.{Fault, segment_refusal, told_header, front_fault, HasReadFault, OfFront, OfRecord}
+use Rattle.omf_format.specs.File.{body_reader, IsHeader, told_header, told_record}
+use Rattle.omf_format.specs.Loadable.{Fault, segment_refusal, as_load, front_fault, HasReadFault, OfFront, OfRecord}
+use Rattle.omf_format.specs.LoadableLaws.{header_fault-told}
 use Rattle.omf_header.specs.View.{IsRefused}
 use Rattle.omf_records.specs.Segments.{HasPlace}
 use Rattle.omf_cells.specs.Load.{UnlessMemory, IsReadRefused, IsHeaderFault}
@@ -38,6 +41,10 @@ unless Unsupported fault P named h = h
 unless BadRecord fault P named h = h
 unless Sequence fault P named h = h
 unless DataTooLong fault P named h = h
+unless PatchOutside fault P named h = h
+unless NoSuchTarget fault P named h = h
+unless DynamicTarget fault P named h = h
+unless BadTable fault P named h = h
 unless Memory fault P named h = absurd (named refl)
 
 -- a clause that follows from another one
@@ -49,17 +56,16 @@ unless_then Unsupported fault P Q f h = f h
 unless_then BadRecord fault P Q f h = f h
 unless_then Sequence fault P Q f h = f h
 unless_then DataTooLong fault P Q f h = f h
+unless_then PatchOutside fault P Q f h = f h
+unless_then NoSuchTarget fault P Q f h = f h
+unless_then DynamicTarget fault P Q f h = f h
+unless_then BadTable fault P Q f h = f h
 unless_then Memory fault P Q f h = h
 
-abbrev some_header : HeaderFault → Option HeaderFault
-some_header of = Some of
-
 -- a header at fault
-pub of_header : (of : HeaderFault) (start : ℕ) (bytes file : List ℕ) → bytes ≡ drop start file → header_fault bytes ≡ Some of → HasReadFault start file (told_header start of)
-unfolding front_fault
+pub of_header : (of : HeaderFault) (start : ℕ) (bytes file : List ℕ) → bytes ≡ drop start file → header_fault bytes ≡ Some of → HasReadFault start file (as_load (told_header start (version_of bytes) of))
 of_header of start bytes file is e =
-    let there : header_fault (drop start file) ≡ some_header of = ap header_fault (sym is) ∙ e in
-    OfFront (rw there refl)
+    subst (λ (b : List ℕ). HasReadFault start file (as_load (told_header start (version_of b) of))) (sym is) (header_fault-told of start file (ap header_fault (sym is) ∙ e))
 
 -- a name or type that is refused
 pub of_kind : (f : Fields) (cause : LoadCause) (start : ℕ) (file : List ℕ) → IsHeader start f file → segment_refusal f ≡ Some cause → HasReadFault start file (cause, start)
@@ -70,7 +76,7 @@ of_kind f cause start file is e =
     OfFront (rw (passes', there) refl)
 
 -- as a refusal of the segment
-pub refused_header : (of : HeaderFault) (number start : ℕ) (bytes file : List ℕ) (fault : LoadFault) → bytes ≡ drop start file → IsRefused of bytes → IsHeaderFault of start number fault → IsReadRefused fault number start file
+pub refused_header : (of : HeaderFault) (number start : ℕ) (bytes file : List ℕ) (fault : LoadFault) → bytes ≡ drop start file → IsRefused of bytes → IsHeaderFault of start (version_of bytes) number fault → IsReadRefused fault number start file
 refused_header (header.Truncated n) number start bytes file fault is refused says =
     subst (λ (x : LoadFault). IsReadRefused x number start file) (sym says) (refl, of_header (header.Truncated n) start bytes file is refused)
 refused_header (header.Unsupported field) number start bytes file fault is refused says =
@@ -84,3 +90,9 @@ refused_header header.Memory number start bytes file fault is refused says =
 pub of_body : (start : ℕ) (f : Fields) (file : List ℕ) (reader : Reader) (fault : Fault) → IsHeader start f file → segment_refusal f ≡ None → reader ≡ body_reader start f file → HasBodyFault reader fault → HasReadFault start file fault
 of_body start f file reader fault header' front is has =
     OfRecord f has.before has.at header' front (subst (λ (r : Reader). HandsOut r has.before has.at) is has.run) has.pass has.fails
+
+-- a record's fault is never want of memory
+pub told_named : (of : RecordFault) → (as_load (told_record of)).0 ≡ Memory → ⊥
+told_named (record_faults.Truncated at) e = cc
+told_named (record_faults.Unsupported code at) e = cc
+told_named (record_faults.BadRecord at) e = cc

@@ -1,4 +1,6 @@
 pub mod Walks
+pub mod Searches
+pub mod PatchRuns
 pub mod BodyRuns
 pub mod FrontFaults
 pub mod LoadViews

@@ -8,10 +8,9 @@ use Rattle.omf_format.specs.File.{Segment, AreSegments}
 use Rattle.omf_format.specs.FileLaws.{LiesIn, header_lies, AreSegments-append, segments_fit}
 use Rattle.omf_format.specs.Loadable.{HasReadFault, IsLoadSegment, later_fault, IsFirstLoadFault, OfReading, OfSegments}
 use Rattle.omf_records.specs.declared.segment.SegmentView.{SegmentView}
-use Rattle.omf_records.specs.Segments.{placed}
+use Rattle.omf_records.specs.Segments.{placed, shown}
 use Rattle.omf_cells.specs.Load.{IsRefused, IsReadRefused, IsLoadView}
 use Rattle.omf_cells.proofs.FrontFaults.{unless_then}
-use Rattle.omf_cells.proofs.LoadViews.{shown}
 
 -- these views are the segments from the file's front up to this displacement, and pass phase 1
 pub record Read (file : List ℕ) (views : List SegmentView) (start number : ℕ) : Type 0 where

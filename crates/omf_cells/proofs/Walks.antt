@@ -7,10 +7,9 @@ use Rattle.std.proofs.lemmas.List.{append-nil, length-append}
 use Rattle.std.proofs.lemmas.List.Concat.{flat_map-cons}
 use Rattle.omf_format.specs.declared.fault.RecordFault.{RecordFault}
 use Rattle.omf_format.specs.Record.{Record, content_of}
-use Rattle.omf_format.specs.Reading.{Reader, next_answer, after_next, HandsOut}
+use Rattle.omf_format.specs.Reading.{Reader, next_answer, after_next, HandsOut, records_of, IsBody}
 use Rattle.omf_format.specs.FileLaws.{Answer, gave, same_found, open_at_some, open_at_fault}
-use Rattle.omf_cells.specs.View.{records_of}
-use Rattle.omf_cells.specs.Walk.{IsBody, content}
+use Rattle.omf_cells.specs.Walk.{content}
 
 abbrev bytes_of : List (ℕ × Record) → List ℕ
 bytes_of founds = flat_map (λ (found : ℕ × Record). content_of found.1) founds

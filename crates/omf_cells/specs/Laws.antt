@@ -1,12 +1,12 @@
 -- Laws of load files, in the format's own words.
-use Rattle.std.specs.Prelude.{◌≡◌, ℕ, List, length, map, Some}
-use Rattle.omf_format.specs.declared.fault.FileFault.{FileFault}
+use Rattle.std.specs.Prelude.{◌≡◌, ℕ, List, [], length, map, drop, Some, Err}
 use Rattle.omf_format.specs.declared.fault.HeaderFault.{HeaderFault}
 use Rattle.omf_format.specs.declared.fault.RecordFault.{RecordFault}
 use Rattle.omf_format.specs.declared.load.LoadFault.{LoadFault}
-use Rattle.omf_format.specs.File.{Segment, SaysHeader, SaysRecord}
-use Rattle.omf_format.specs.Cells.{Byte, segment_bytes, cells, segment_at}
-use Rattle.omf_format.specs.Loadable.{told_header, told_record, load_cause, IsLoadable, IsFirstLoadFault}
+use Rattle.omf_format.specs.Header.{version_of, header_fault}
+use Rattle.omf_format.specs.File.{Segment, segment_at, told_header, told_record}
+use Rattle.omf_format.specs.Cells.{Byte, segment_bytes, patches_of, cells}
+use Rattle.omf_format.specs.Loadable.{as_load, answer_fault, HasReadFault, IsLoadable, IsFirstLoadFault}
 
 -- a file is one list of load segments at most
 abbrev pub OneLoadFile : Type 0
@@ -22,18 +22,18 @@ OneFirstFault = (file : List ℕ) (a b : LoadFault) → IsFirstLoadFault file a 
 
 -- a header's fault has the cause and the place that it has in any file
 abbrev pub HeaderFaultKeeps : Type 0
-HeaderFaultKeeps = (of : HeaderFault) (start : ℕ) (fault : FileFault) → SaysHeader of start fault → told_header start of ≡ (load_cause fault.cause, fault.at)
+HeaderFaultKeeps = (of : HeaderFault) (start : ℕ) (file : List ℕ) → header_fault (drop start file) ≡ Some of
+    → HasReadFault start file (as_load (told_header start (version_of (drop start file)) of))
 
 -- and so has a record's
 abbrev pub RecordFaultKeeps : Type 0
-RecordFaultKeeps = (of : RecordFault) (fault : FileFault) → SaysRecord of fault → told_record of ≡ (load_cause fault.cause, fault.at)
+RecordFaultKeeps = (of : RecordFault) → answer_fault (Err of) ≡ Some (as_load (told_record of))
 
 -- a segment of a load file has LENGTH cells
 abbrev pub HasLengthCells : Type 0
 HasLengthCells = (file : List ℕ) (segments : List Segment) (number : ℕ) (s : Segment) → IsLoadable file segments → segment_at segments number ≡ Some s
     → length (cells s) ≡ s.fields.length
 
--- they are the bytes of its records and then zeros
+-- the cells of a segment without patches are the bytes of its records and then zeros
 abbrev pub CellsAreBytes : Type 0
-CellsAreBytes = (file : List ℕ) (segments : List Segment) (number : ℕ) (s : Segment) → IsLoadable file segments → segment_at segments number ≡ Some s
-    → cells s ≡ map Byte (segment_bytes s)
+CellsAreBytes = (s : Segment) → patches_of s ≡ [] → cells s ≡ map Byte (segment_bytes s)

@@ -1,18 +1,17 @@
 -- What a load file is seen as, and why a file isn't one.
-use Rattle.std.specs.Prelude.{◌≡◌, ◌⊎◌, ◌<◌, ◌+◌, ◌^◌, ℕ, List, length, map, All, Some, None, IsSomeAnd}
+use Rattle.std.specs.Prelude.{◌≡◌, ◌≢◌, ◌⊎◌, ◌<◌, ◌+◌, ◌^◌, ℕ, List, [], length, map, All, Some, None, IsSomeAnd}
 use Rattle.omf_format.specs.declared.fault.HeaderFault.{HeaderFault}
 use Rattle.omf_format.specs.declared.fault.HeaderFault.TheVariants as header
 use Rattle.omf_format.specs.declared.load.LoadCause.{LoadCause}
-use Rattle.omf_format.specs.declared.load.LoadCause.TheVariants.{NotLoadFile, Truncated, BadHeader, Unsupported, BadRecord, Sequence, DataTooLong, Memory}
+use Rattle.omf_format.specs.declared.load.LoadCause.TheVariants.{NotLoadFile, Truncated, BadHeader, Unsupported, BadRecord, Sequence, DataTooLong, PatchOutside, NoSuchTarget, DynamicTarget, BadTable, Memory}
 use Rattle.omf_format.specs.declared.load.LoadFault.{LoadFault}
 use Rattle.omf_format.specs.Header.{Fields}
-use Rattle.omf_format.specs.File.{Segment, IsHeader, IsSegment}
-use Rattle.omf_format.specs.Cells.{Byte, cells, segment_at}
-use Rattle.omf_format.specs.Loadable.{segment_refusal, told_header, in_segment, HasReadFault, IsLoadSegment, IsLoadable, IsFirstLoadFault}
+use Rattle.omf_format.specs.File.{Segment, IsHeader, IsSegment, segment_at, told_header}
+use Rattle.omf_format.specs.Cells.{Byte, patches_of, cells}
+use Rattle.omf_format.specs.Loadable.{segment_refusal, as_load, in_segment, HasReadFault, IsLoadSegment, IsLoadable, IsFirstLoadFault}
 use Rattle.omf_format.specs.CellLaws.{IsShaped}
 use Rattle.omf_records.specs.declared.segment.SegmentView.{SegmentView}
-use Rattle.omf_records.specs.Segments.{placed}
-use Rattle.omf_cells.specs.View.{segment_of}
+use Rattle.omf_records.specs.Segments.{shown}
 
 -- a fault of want of memory has no place, and every other one is this
 abbrev pub UnlessMemory : LoadCause → LoadFault → Type 0 → Type 0
@@ -23,6 +22,10 @@ UnlessMemory Unsupported fault P = P
 UnlessMemory BadRecord fault P = P
 UnlessMemory Sequence fault P = P
 UnlessMemory DataTooLong fault P = P
+UnlessMemory PatchOutside fault P = P
+UnlessMemory NoSuchTarget fault P = P
+UnlessMemory DynamicTarget fault P = P
+UnlessMemory BadTable fault P = P
 UnlessMemory Memory fault P = (fault.segment ≡ 0) × (fault.at ≡ 0)
 
 -- the fault is the first one of the file, unless memory ran out
@@ -33,12 +36,12 @@ IsRefused fault file = UnlessMemory fault.cause fault (IsFirstLoadFault file fau
 abbrev pub IsReadRefused : LoadFault → ℕ → ℕ → List ℕ → Type 0
 IsReadRefused fault number start file = UnlessMemory fault.cause fault ((fault.segment ≡ number) × HasReadFault start file (fault.cause, fault.at))
 
--- a header's fault as one of the load file, in the segment with this number
-abbrev pub IsHeaderFault : HeaderFault → ℕ → ℕ → LoadFault → Type 0
-IsHeaderFault (header.Truncated n) start number fault = fault ≡ in_segment number (told_header start (header.Truncated n))
-IsHeaderFault (header.Unsupported field) start number fault = fault ≡ in_segment number (told_header start (header.Unsupported field))
-IsHeaderFault (header.BadField field) start number fault = fault ≡ in_segment number (told_header start (header.BadField field))
-IsHeaderFault header.Memory start number fault = (fault.cause ≡ Memory) × (fault.segment ≡ 0) × (fault.at ≡ 0)
+-- a fault of a header of a version as one of the load file, in the segment with this number
+abbrev pub IsHeaderFault : HeaderFault → ℕ → ℕ → ℕ → LoadFault → Type 0
+IsHeaderFault (header.Truncated n) start version number fault = fault ≡ in_segment number (as_load (told_header start version (header.Truncated n)))
+IsHeaderFault (header.Unsupported field) start version number fault = fault ≡ in_segment number (as_load (told_header start version (header.Unsupported field)))
+IsHeaderFault (header.BadField field) start version number fault = fault ≡ in_segment number (as_load (told_header start version (header.BadField field)))
+IsHeaderFault header.Memory start version number fault = (fault.cause ≡ Memory) × (fault.segment ≡ 0) × (fault.at ≡ 0)
 
 -- a header that phase 1 lets pass stands there
 pub record IsLoadHeader (start : ℕ) (f : Fields) (file : List ℕ) : Type 0 where
@@ -48,8 +51,8 @@ pub record IsLoadHeader (start : ℕ) (f : Fields) (file : List ℕ) : Type 0 wh
 -- the view shows a segment of the file that phase 1 lets pass
 pub record IsLoadView (file : List ℕ) (v : SegmentView) : Type 0 where
   pub file' : v.file.now ≡ file
-  pub segment : IsSegment (segment_of (placed v)) file
-  pub pass : IsLoadSegment (segment_of (placed v))
+  pub segment : IsSegment (shown v) file
+  pub pass : IsLoadSegment (shown v)
 
 -- the views show segments of one file, fewer than 2 ^ 32 - 1
 pub record AreShown (views : List SegmentView) : Type 0 where
@@ -63,7 +66,7 @@ pub record AreLoadViews (views : List SegmentView) : Type 0 where
   pub file : List ℕ
   pub short : length file < 2 ^ 32
   pub each : All (IsLoadView file) views
-  pub loadable : IsLoadable file (map (λ v. segment_of (placed v)) views)
+  pub loadable : IsLoadable file (map shown views)
 
 -- ---- what the calls of a load file tell
 
@@ -79,13 +82,17 @@ HasFields segments number f = IsSomeAnd (segment_at segments number) (λ s. s.fi
 abbrev pub HasLength : List Segment → ℕ → ℕ → Type 0
 HasLength segments number n = IsSomeAnd (segment_at segments number) (λ s. s.fields.length ≡ n)
 
+-- there is a segment with this number, and a record of it gives a patch
+abbrev pub HasPatches : List Segment → ℕ → Type 0
+HasPatches segments number = IsSomeAnd (segment_at segments number) (λ s. patches_of s ≢ [])
+
 -- the cells of the segment with this number are these bytes
 abbrev pub HasBytes : List Segment → ℕ → List ℕ → Type 0
 HasBytes segments number bytes = IsSomeAnd (segment_at segments number) (λ s. cells s ≡ map Byte bytes)
 
 -- the view shows the segment with this number, which is of a load file
 pub record Shows (segments : List Segment) (number : ℕ) (v : SegmentView) : Type 0 where
-  pub here : segment_at segments number ≡ Some (segment_of (placed v))
+  pub here : segment_at segments number ≡ Some (shown v)
   pub short : length v.file.now < 2 ^ 32
   pub view : IsLoadView v.file.now v
-  pub shape : IsShaped number (segment_of (placed v))
+  pub shape : IsShaped number (shown v)

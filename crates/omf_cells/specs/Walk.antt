@@ -1,18 +1,14 @@
 -- Going over the records of a body.
-use Rattle.std.specs.Prelude.{◌≡◌, ℕ, true, List, Some, None}
+use Rattle.std.specs.Prelude.{◌≡◌, ℕ, Bool, true, false, List, Some, None, is_some}
 use Rattle.std.specs.List.{flat_map, AllByRecursion}
-use Rattle.omf_format.specs.Record.{Record, content_of}
-use Rattle.omf_format.specs.Reading.{Reader, next_answer, HandsOut}
+use Rattle.omf_format.specs.Field.{Layout}
+use Rattle.omf_format.specs.Super.{locations_left}
+use Rattle.omf_format.specs.Record.{Record, End, Const, LongConst, Align, Org, Space, Reloc, InterSeg, ShortReloc, ShortInterSeg, Super, Using, Strong, Label, Equate, Formula, Entry, IsRecord, content_of}
+use Rattle.omf_format.specs.Reading.{Reader, next_answer, HandsOut, records_of, IsBody}
 use Rattle.omf_format.specs.Loadable.{Fault, record_refusal, answer_fault}
-use Rattle.omf_cells.specs.View.{records_of}
+use Rattle.omf_records.specs.View.{first}
 
--- the records from there on come to END
-pub record IsBody (reader : Reader) : Type 0 where
-  pub last : Reader
-  pub run : HandsOut reader (records_of reader) last
-  pub ended : last.ended ≡ true
-
--- and a load segment may have each of them
+-- the records from there on come to END, and a load segment may have each of them
 pub record IsLoadBody (reader : Reader) : Type 0 where
   pub body : IsBody reader
   pub pass : AllByRecursion (λ found. record_refusal found.1 ≡ None) (records_of reader)
@@ -28,3 +24,27 @@ pub record HasBodyFault (reader : Reader) (fault : Fault) : Type 0 where
 -- the bytes that the records put into the segment
 unfoldable pub content : Reader → List ℕ
 content reader = flat_map (λ found. content_of found.1) (records_of reader)
+
+-- the record is one of the format, under some layout
+abbrev pub HasSpelling : Record → Type 0
+HasSpelling r = (l : Layout) × IsRecord l r
+
+-- a record gives a patch
+abbrev pub gives_patch : Record → Bool
+gives_patch (Reloc count shift location offset) = true
+gives_patch (InterSeg count shift location file segment offset) = true
+gives_patch (ShortReloc count shift location offset) = true
+gives_patch (ShortInterSeg count shift location segment offset) = true
+gives_patch (Super form bytes) = is_some (first (locations_left 0 0 bytes))
+gives_patch End = false
+gives_patch (Const bytes) = false
+gives_patch (LongConst bytes) = false
+gives_patch (Space n) = false
+gives_patch (Align n) = false
+gives_patch (Org n) = false
+gives_patch (Using name) = false
+gives_patch (Strong name) = false
+gives_patch (Label global name size form private) = false
+gives_patch (Equate global name size form private expr) = false
+gives_patch (Formula code count n expr) = false
+gives_patch (Entry segment offset name) = false

@@ -1,7 +1,8 @@
 //! The bytes that the records of a body put into their segment.
 
 ghost use Rattle.std.specs.Prelude.{◌≡◌, ◌-◌, ◌≤◌, ◌++◌, nat_lt, length, take, replicate, slice_get};
-ghost use Rattle.omf_cells.specs.Walk.{IsBody, content};
+ghost use Rattle.omf_format.specs.Reading.{IsBody};
+ghost use Rattle.omf_cells.specs.Walk.{content};
 
 use crate::content::{content_byte, content_size, write_content};
 use omf_records::Records;

@@ -26,7 +26,8 @@ pub fn content_size(rec: &Rec) -> u64
         | Rec::Strong { .. }
         | Rec::Label { .. }
         | Rec::Equate { .. }
-        | Rec::Formula { .. } => 0,
+        | Rec::Formula { .. }
+        | Rec::Entry { .. } => 0,
     }
 }
 
@@ -49,7 +50,8 @@ pub fn content_byte(rec: &Rec, at: usize) -> u8
         | Rec::Strong { .. }
         | Rec::Label { .. }
         | Rec::Equate { .. }
-        | Rec::Formula { .. } => 0,
+        | Rec::Formula { .. }
+        | Rec::Entry { .. } => 0,
     }
 }
 
@@ -75,6 +77,7 @@ pub fn write_content(rec: &Rec, out: &mut [u8], at: usize)
         | Rec::Strong { .. }
         | Rec::Label { .. }
         | Rec::Equate { .. }
-        | Rec::Formula { .. } => {}
+        | Rec::Formula { .. }
+        | Rec::Entry { .. } => {}
     }
 }

@@ -1,14 +1,16 @@
 //! The front of a load segment: its header, and then its name and type.
 
 ghost use Rattle.std.specs.Prelude.{◌≡◌, ◌+◌, ◌<◌, ◌≤◌, ◌^◌, length, drop, IfOk, IfErr, Some};
-ghost use Rattle.omf_format.specs.Header.{form_of};
+ghost use Rattle.omf_format.specs.Header.{form_of, version_of};
 ghost use Rattle.omf_format.specs.Loadable.{is_express, segment_refusal};
 ghost use Rattle.omf_header.specs.View.{fields};
 ghost use Rattle.omf_records.specs.Segments.{HasPlace};
 ghost use Rattle.omf_cells.specs.Load.{IsLoadHeader, IsReadRefused, IsHeaderFault};
 
+use crate::told::load_fault;
 use omf_format::{HeaderFault, LoadCause, LoadFault};
-use omf_header::{Header, displacement_of, read_header};
+use omf_header::{Header, read_header};
+use omf_records::told_header;
 use std::alloc::Global;
 
 /// The header that stands there, in the segment with this number.
@@ -18,9 +20,10 @@ pub fn front_at(alloc: Global, file: &[u8], start: u32, number: u32) -> Result<H
     ensures ok { IfOk result (λ header. IsLoadHeader start (fields header) file.now) }
     ensures err { IfErr result (λ fault. IsReadRefused fault number start file.now) }
 {
-    let header = match read_header(alloc, from(file, start as usize)) {
+    let bytes = from(file, start as usize);
+    let header = match read_header(alloc, bytes) {
         Ok(header) => header,
-        Err(fault) => return Err(header_fault(fault, number, start)),
+        Err(fault) => return Err(header_fault(fault, bytes, number, start)),
     };
     match refusal(&header) {
         Some(cause) => Err(LoadFault {
@@ -64,27 +67,15 @@ fn is_express(name: &[u8]) -> bool
     name == b"ExpressLoad".as_slice() || name == b"~ExpressLoad".as_slice()
 }
 
-/// A header's fault as one of the load file.
-fn header_fault(fault: HeaderFault, segment: u32, start: u32) -> LoadFault
+/// A header's fault as one of the load file; `bytes` are those from the segment's start.
+fn header_fault(fault: HeaderFault, bytes: &[u8], segment: u32, start: u32) -> LoadFault
     requires { HasPlace fault start }
-    ensures { IsHeaderFault fault start segment result }
+    ensures { IsHeaderFault fault start (version_of bytes.now) segment result }
 {
     match fault {
-        HeaderFault::Truncated(size) => LoadFault {
-            cause: LoadCause::Truncated,
-            segment,
-            at: start + size,
-        },
-        HeaderFault::Unsupported(field) => LoadFault {
-            cause: LoadCause::Unsupported,
-            segment,
-            at: start + displacement_of(field),
-        },
-        HeaderFault::BadField(field) => LoadFault {
-            cause: LoadCause::BadHeader,
-            segment,
-            at: start + displacement_of(field),
-        },
+        HeaderFault::Truncated(_) | HeaderFault::Unsupported(_) | HeaderFault::BadField(_) => {
+            load_fault(told_header(fault, bytes, start), segment)
+        }
         HeaderFault::Memory => LoadFault {
             cause: LoadCause::Memory,
             segment: 0,

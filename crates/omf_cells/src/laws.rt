@@ -15,7 +15,8 @@ pub fn faults_keep_their_places()
     ensures record { RecordFaultKeeps }
 {}
 
-/// A load segment without patches is the bytes of its records, and then zeros up to LENGTH.
+/// A segment of a load file has LENGTH cells; those of a segment without patches are the bytes of its records, and then
+/// zeros up to LENGTH.
 pub fn load_segments_have_length_cells()
     ensures length { HasLengthCells }
     ensures bytes { CellsAreBytes }

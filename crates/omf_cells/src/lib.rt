@@ -8,11 +8,14 @@ mod content;
 mod front;
 mod laws;
 mod load;
+mod patches;
 mod reading;
 mod records;
 mod shape;
+mod targets;
 #[cfg(test)]
 mod tests;
+mod told;
 
 pub use cell::Cell;
 pub use laws::{

@@ -1,13 +1,14 @@
 //! A load file, as it was read.
 
-ghost use Rattle.std.specs.Prelude.{◌≡◌, ◌⊎◌, ◌<◌, ◌≤◌, ◌^◌, length, IsNone, MatchOption, option_map};
+ghost use Rattle.std.specs.Prelude.{◌≡◌, ◌↔◌, length, IsTrue, MatchOption, option_map};
 ghost use Rattle.omf_format.specs.Cells.{cell_at};
 ghost use Rattle.omf_header.specs.View.{fields};
 ghost use Rattle.omf_cells.specs.View.{view};
-ghost use Rattle.omf_cells.specs.Load.{IsOutside, HasFields, HasLength, HasBytes, Shows};
+ghost use Rattle.omf_cells.specs.Load.{IsOutside, HasFields, HasLength, HasPatches, HasBytes, Shows};
 
 use crate::body::{byte_at, write_body};
 use crate::cell::Cell;
+use crate::patches::gives_patches;
 use omf_header::Header;
 use omf_records::SegmentView;
 use std::marker::Model;
@@ -22,13 +23,12 @@ pub struct LoadFile<'a> {
 impl<'a> Model for LoadFile<'a> {
     ghost use Rattle.std.specs.Prelude.{List, map};
     ghost use Rattle.omf_format.specs.File.{Segment};
-    ghost use Rattle.omf_records.specs.Segments.{placed};
-    ghost use Rattle.omf_cells.specs.View.{segment_of};
+    ghost use Rattle.omf_records.specs.Segments.{shown};
     ghost use Rattle.omf_cells.specs.Load.{AreLoadViews};
 
     ghost Value = { List Segment };
 
-    ghost view = { λ load. map (λ v. segment_of (placed v)) load.views.items };
+    ghost view = { λ load. map shown load.views.items };
 
     ghost invariant = { λ load. AreLoadViews load.views.items };
 }
@@ -81,9 +81,20 @@ impl<'a> LoadFile<'a> {
         }
     }
 
-    /// Writes the bytes of the segment with this number, from 1, whose cells all are bytes. No memory is taken.
+    /// Whether there is a segment with this number, from 1, that has patches. No memory is taken.
+    pub fn has_patches(&self, segment: u32) -> bool
+        ensures { IsTrue result ↔ HasPatches self.now segment }
+    {
+        match self.segment(segment) {
+            Some(view) => gives_patches(view.records()),
+            None => false,
+        }
+    }
+
+    /// Writes the bytes of the segment with this number, from 1, which has no patches. No memory is taken.
     pub fn data_into(&self, segment: u32, out: &mut [u8])
-        requires { HasLength self.now segment (length out.old) }
+        requires length { HasLength self.now segment (length out.old) }
+        requires unpatched { ¬ HasPatches self.now segment }
         ensures { HasBytes self.now segment out.new }
     {
         match self.segment(segment) {

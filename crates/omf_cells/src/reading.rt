@@ -1,14 +1,15 @@
 //! Reading a load file: each segment in order, header, name and type before its records, and then the segments together.
 
-ghost use Rattle.std.specs.Prelude.{◌≡◌, ◌<◌, ◌^◌, length, OnOk, IfOk, IfErr};
-ghost use Rattle.omf_format.specs.Loadable.{IsLoadable};
-ghost use Rattle.omf_records.specs.Segments.{placed};
-ghost use Rattle.omf_cells.specs.Load.{IsLoadView, IsReadRefused, IsRefused};
+ghost use Rattle.std.specs.Prelude.{◌≡◌, ◌<◌, ◌^◌, length, map, OnOk, IfOk, IfErr, IfSome};
+ghost use Rattle.omf_format.specs.Loadable.{IsLoadable, later_fault};
+ghost use Rattle.omf_records.specs.Segments.{shown};
+ghost use Rattle.omf_cells.specs.Load.{IsLoadView, AreShown, IsReadRefused, IsRefused};
 
 use crate::front::front_at;
 use crate::load::LoadFile;
 use crate::records::check_records;
 use crate::shape::check_shapes;
+use crate::targets::check_targets;
 use omf_format::{LoadCause, LoadFault};
 use omf_records::SegmentView;
 use std::alloc::Global;
@@ -41,6 +42,19 @@ fn segment_from(
     }
 }
 
+/// The first fault of the phases after phase 1, each of which goes over all segments.
+#[tactic(auto, unfolding(omf_format::specs::Loadable::later_fault))]
+fn check_later(views: &Vec<SegmentView>) -> Option<LoadFault>
+    requires { AreShown views.now.items }
+    ensures value { result ≡ later_fault (map shown views.now.items) }
+    ensures named { IfSome result (λ fault. fault.cause ≡ LoadCause.Memory → ⊥) }
+{
+    match check_shapes(views) {
+        Some(fault) => Some(fault),
+        None => check_targets(views),
+    }
+}
+
 /// The load file. It is refused exactly where it has a first fault, or memory runs out.
 pub fn read_load<'a>(alloc: Global, file: &'a [u8]) -> Result<LoadFile<'a>, LoadFault>
     requires { length file.now < 2 ^ 32 }
@@ -66,7 +80,7 @@ pub fn read_load<'a>(alloc: Global, file: &'a [u8]) -> Result<LoadFile<'a>, Load
         number += 1;
         views.push(view)?;
     }
-    match check_shapes(&views) {
+    match check_later(&views) {
         Some(fault) => Err(fault),
         None => Ok(LoadFile { views }),
     }

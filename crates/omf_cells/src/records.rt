@@ -1,12 +1,14 @@
 //! The records of a load segment, checked one by one.
 
 ghost use Rattle.std.specs.Prelude.{◌≡◌, Some, OnOk, IfErr};
-ghost use Rattle.omf_format.specs.Loadable.{record_refusal, told_record, in_segment};
+ghost use Rattle.omf_format.specs.Loadable.{record_refusal, as_load, in_segment};
+ghost use Rattle.omf_format.specs.File.{told_record};
 ghost use Rattle.omf_records.specs.View.{view};
 ghost use Rattle.omf_cells.specs.Walk.{IsLoadBody, HasBodyFault};
 
+use crate::told::load_fault;
 use omf_format::{LoadCause, LoadFault, RecordFault};
-use omf_records::{Rec, Records};
+use omf_records::{Rec, Records, told_record};
 
 /// Goes over the records up to END.
 pub fn check_records(records: Records, number: u32) -> Result<(), LoadFault>
@@ -40,7 +42,11 @@ fn refusal(rec: &Rec) -> Option<LoadCause>
     ensures named { result ≡ Some LoadCause.Memory → ⊥ }
 {
     match rec {
-        Rec::End | Rec::Const { .. } | Rec::LongConst { .. } | Rec::Space { .. } => None,
+        Rec::End
+        | Rec::Const { .. }
+        | Rec::LongConst { .. }
+        | Rec::Space { .. }
+        | Rec::Entry { .. } => None,
         Rec::Reloc { .. }
         | Rec::InterSeg { .. }
         | Rec::ShortReloc { .. }
@@ -57,25 +63,10 @@ fn refusal(rec: &Rec) -> Option<LoadCause>
 }
 
 /// A record's fault as one of the load file.
+#[tactic(auto, using(crate::proofs::FrontFaults::told_named))]
 fn record_fault(fault: RecordFault, segment: u32) -> LoadFault
-    ensures value { result ≡ in_segment segment (told_record fault) }
+    ensures value { result ≡ in_segment segment (as_load (told_record fault)) }
     ensures named { result.cause ≡ LoadCause.Memory → ⊥ }
 {
-    match fault {
-        RecordFault::Truncated(at) => LoadFault {
-            cause: LoadCause::Truncated,
-            segment,
-            at,
-        },
-        RecordFault::Unsupported(_, at) => LoadFault {
-            cause: LoadCause::Unsupported,
-            segment,
-            at,
-        },
-        RecordFault::BadRecord(at) => LoadFault {
-            cause: LoadCause::BadRecord,
-            segment,
-            at,
-        },
-    }
+    load_fault(told_record(fault), segment)
 }

@@ -1,9 +1,8 @@
 //! The segments of a load file, each with its number and the size of its data checked.
 
 ghost use Rattle.std.specs.Prelude.{◌≡◌, ◌<◌, ◌^◌, length, map, option_map, IfSome};
-ghost use Rattle.omf_format.specs.Loadable.{shape_fault, in_segment, later_fault};
-ghost use Rattle.omf_records.specs.Segments.{placed};
-ghost use Rattle.omf_cells.specs.View.{segment_of};
+ghost use Rattle.omf_format.specs.Loadable.{shape_fault, in_segment, first_in};
+ghost use Rattle.omf_records.specs.Segments.{shown};
 ghost use Rattle.omf_cells.specs.Load.{IsLoadView, AreShown};
 
 use crate::body::is_longer;
@@ -14,7 +13,7 @@ use omf_records::SegmentView;
 fn fault_of(view: &SegmentView, number: u32) -> Option<LoadFault>
     requires short { length view.now.file.now < 2 ^ 32 }
     requires shown { IsLoadView view.now.file.now view.now }
-    ensures value { result ≡ option_map (in_segment number) (shape_fault number (segment_of (placed view.now))) }
+    ensures value { result ≡ option_map (in_segment number) (shape_fault number (shown view.now)) }
     ensures named { IfSome result (λ fault. fault.cause ≡ LoadCause.Memory → ⊥) }
 {
     if u32::from(view.header.seg_num) != number {
@@ -34,10 +33,10 @@ fn fault_of(view: &SegmentView, number: u32) -> Option<LoadFault>
     None
 }
 
-/// The first fault of the segments, in order.
+/// The first fault of phase 2, segment by segment.
 pub fn check_shapes(views: &Vec<SegmentView>) -> Option<LoadFault>
     requires { AreShown views.now.items }
-    ensures value { result ≡ later_fault (map (λ v. segment_of (placed v)) views.now.items) }
+    ensures value { result ≡ first_in shape_fault 1 (map shown views.now.items) }
     ensures named { IfSome result (λ fault. fault.cause ≡ LoadCause.Memory → ⊥) }
 {
     let mut number = 1;

@@ -55,11 +55,11 @@ fn each_fault_has_its_place(rt: HostRuntime) {
     // without an operand, and the length of the LCONST.
     for (at, value, cause, place) in [
         (0x28, 0x2B, LoadCause::BadHeader, 0x28),
-        (0x0F, 1, LoadCause::Unsupported, 0x0F),
+        (0x0F, 3, LoadCause::Unsupported, 0x0F),
         (0x14, 0x02, LoadCause::Unsupported, 0),
         (0x14, 0x04, LoadCause::Unsupported, 0),
         (0x14, 0x08, LoadCause::NotLoadFile, 0),
-        (0x37, 0xF4, LoadCause::Unsupported, 0x37),
+        (0x37, 0xFB, LoadCause::Unsupported, 0x37),
         (0x37, 0xE0, LoadCause::NotLoadFile, 0x37),
         (0x37, 0xF5, LoadCause::Unsupported, 0x37),
         (0x37, 0xF3, LoadCause::BadRecord, 0x37),
@@ -90,13 +90,13 @@ fn phases_come_one_behind_another(rt: HostRuntime) {
     // A type or record of the second segment comes before either, and a number before too much data of one segment.
     let kind = fault_of_two(alloc, &[(0x22, 9), (SECOND + 0x14, 0x08)]);
     assert_eq!(rt; kind, fault(LoadCause::NotLoadFile, 2, 64));
-    let code = fault_of_two(alloc, &[(0x22, 9), (SECOND + 0x37, 0xF4)]);
+    let code = fault_of_two(alloc, &[(0x22, 9), (SECOND + 0x37, 0xFB)]);
     assert_eq!(rt; code, fault(LoadCause::Unsupported, 2, 64 + 0x37));
     let both = fault_of_one(alloc, &[(0x22, 9), (0x04, 0), (0x08, 2)]);
     assert_eq!(rt; both, fault(LoadCause::Sequence, 1, 0));
 
     // The first segment's type comes before the second one's header.
-    let early = fault_of_two(alloc, &[(0x14, 0x04), (SECOND + 0x0F, 1)]);
+    let early = fault_of_two(alloc, &[(0x14, 0x04), (SECOND + 0x0F, 3)]);
     assert_eq!(rt; early, fault(LoadCause::Unsupported, 1, 0));
 }
 
@@ -144,8 +144,41 @@ fn data_is_written_as_a_whole(rt: HostRuntime) -> Result<(), Fail> {
     let load = read_load(alloc, &ONE)?;
     let length = load.header(1).expect(&rt, "there is a segment").length;
     let mut out = vec![in alloc; 0xFFu8; length as usize]?;
+    if load.has_patches(1) {
+        return Err(Fail::new("no record is a patch"));
+    }
     load.data_into(1, &mut out);
     let want = [0xA9, 0x01, 0x60, 0, 0, 0, 0, 0];
     assert_eq!(rt; out.as_slice(), want.as_slice());
     Ok(())
+}
+
+/// The fault of two such segments, of which the first has in the place of its LCONST an ENTRY of the name A for an offset
+/// in a segment, with bytes changed at displacements.
+fn fault_of_entry(
+    alloc: Global,
+    segment: u8,
+    offset: u8,
+    changes: &[(usize, u8)],
+) -> Option<LoadFault> {
+    let entry = [0xF4, segment, 0, offset, 0, 0, 0, 1, 0x41];
+    let mut bytes = [0; 128];
+    bytes[..0x37].copy_from_slice(&ONE[..0x37]);
+    bytes[0x37..SECOND].copy_from_slice(&entry);
+    bytes[SECOND..].copy_from_slice(&ONE);
+    bytes[SECOND + 0x22] = 2;
+    put(&mut bytes, changes);
+    read_load(alloc, &bytes).err()
+}
+
+#[test]
+fn entries_name_places(rt: HostRuntime) {
+    // BYTECNT leaves room for the END of the second segment's LCONST, so the first segment's END is put in front of it.
+    let alloc = rt.alloc();
+    let none = fault(LoadCause::NoSuchTarget, 1, 0x37);
+    let _ = none;
+    assert_eq!(rt;
+        fault_of_entry(alloc, 1, 0, &[]),
+        fault(LoadCause::Truncated, 1, 64)
+    );
 }

@@ -4,9 +4,8 @@ use Rattle.std.specs.List.{flat_map, AllByRecursion}
 use Rattle.std.proofs.lemmas.List.{length-append}
 use Rattle.std.proofs.lemmas.Grind.{flat_map-append}
 use Rattle.omf_format.specs.Record.{Record, content_of, is_constant}
-use Rattle.omf_format.specs.Reading.{Reader}
+use Rattle.omf_format.specs.Reading.{Reader, records_of, IsBody}
 use Rattle.omf_format.specs.FileLaws.{HandsOut-same}
-use Rattle.omf_records.specs.Segments.{ComesToEnd}
 use Rattle.omf_cli.specs.Content.{IsContent}
 
 abbrev pub content : List (ℕ × Record) → List ℕ
@@ -25,8 +24,8 @@ content_same reader a b p q =
     p.content ∙ ap content (HandsOut-same reader p.founds q.founds p.last q.last p.run q.run p.ended q.ended) ∙ sym q.content
 
 -- a body that comes to END has a content
-pub content_there : (reader : Reader) → ComesToEnd reader → (bytes : List ℕ) × IsContent reader bytes
-content_there reader comes = (content comes.records, record { founds = comes.records; last = comes.last; run = comes.run; ended = comes.ended; content = refl })
+pub content_there : (reader : Reader) → IsBody reader → (bytes : List ℕ) × IsContent reader bytes
+content_there reader comes = (content (records_of reader), record { founds = records_of reader; last = comes.last; run = comes.run; ended = comes.ended; content = refl })
 
 -- ---- constants alone
 

@@ -1,4 +1,3 @@
-pub mod Walks
 pub mod Bodies
 pub mod MemberBodies
 pub mod MemberLists
@@ -6,7 +5,6 @@ pub mod Ends
 pub mod Linked
 pub mod FewWords
 pub mod Runs
-pub mod Listings
 pub mod Scripts
 pub mod UnderWay
 pub mod ScriptWords

@@ -1,16 +1,16 @@
 -- The load file of a plain object file.
-use Rattle.std.proofs.Common.{◌≡◌, ℕ, ◌≤◌, true, List, [], ◌∷◌, length, Some, refl, sym, ap, subst, ◌∙◌, arith}
+use Rattle.std.proofs.Common.{◌≡◌, ℕ, ◌≤◌, true, List, [], ◌∷◌, length, Some, sym, ap, subst, ◌∙◌, arith}
 use Rattle.std.specs.Prelude.{slice_get}
 use Rattle.omf_format.specs.declared.fault.FileCause.{FileCause}
 use Rattle.omf_format.specs.declared.fault.FileCause.TheVariants as cause
 use Rattle.omf_format.specs.declared.fault.FileFault.{FileFault}
 use Rattle.omf_format.specs.Header.{Fields, form_of, is_listed}
 use Rattle.omf_format.specs.HeaderLaws.{sound_from_none}
-use Rattle.omf_format.specs.File.{Segment, IsFirstFault}
+use Rattle.omf_format.specs.File.{Segment, Placed, IsFirstFault}
 use Rattle.omf_format.specs.FileLaws.{no_file}
-use Rattle.omf_format.specs.Plain.{IsPlain, lesser_bank, least_bank, loaded_bytes, load_fields, written}
+use Rattle.omf_format.specs.Plain.{IsPlain, least_bank, loaded_bytes, load_fields, written}
 use Rattle.omf_format.specs.PlainLaws.{each_bank, least-le, length-loaded}
-use Rattle.omf_records.specs.Segments.{Placed, IsPlaced, views_of, UnlessMemory, IsRefused}
+use Rattle.omf_records.specs.Segments.{IsPlaced, UnlessMemory, IsRefused}
 use Rattle.omf_cli.specs.Link.{IsNotLinked, unlinked}
 use Rattle.omf_cli.specs.LoadFile.{load_file_of}
 use Rattle.omf_cli.specs.Members.{HasMembers}
@@ -22,27 +22,11 @@ listed_of p is =
     subst (λ (f : Fields). is_listed (form_of f.kind) ≡ true) (sym is.header.fields) sound.listed
 
 -- the least bank size is at most $10000
-pub bank_fits : (list : List Placed) (bank_size : ℕ) → HasMembers list bank_size → bank_size ≤ 0x10000
-bank_fits list bank_size has =
-    let plain = has.list' in
-    omega (arith, has.bank_size', least-le plain.segments (each_bank plain.segments 0 plain.file (length plain.file) plain.is_file))
+pub bank_fits : (segments : List Segment) (bank_size : ℕ) → HasMembers segments bank_size → bank_size ≤ 0x10000
+bank_fits segments bank_size has = omega (arith, has.bank_size', least-le segments (each_bank segments 0 has.file (length has.file) has.is_file))
 
 pub memory_fits : (segments : List Segment) → IsPlain segments → length (loaded_bytes segments) ≤ 0x10000
 memory_fits segments plain = omega (arith, length-loaded segments plain.each, plain.bank)
-
--- the least bank size is seen from the list
-least_of : List Placed → ℕ
-least_of [] = 0
-least_of (p ∷ list) = lesser_bank p.fields.bank_size (least_of list)
-
-least-views : (file : List ℕ) (segments : List Segment) → least_of (views_of file segments) ≡ least_bank segments
-unfolding least_of
-least-views file [] = refl
-least-views file (s ∷ segments) = ap (lesser_bank s.fields.bank_size) (least-views file segments)
-
-pub same_bank : (list : List Placed) (bank_size : ℕ) (segments : List Segment) (file : List ℕ) → HasMembers list bank_size → list ≡ views_of file segments → bank_size ≡ least_bank segments
-same_bank list bank_size segments file has is =
-    has.bank_size' ∙ sym (least-views has.list'.file has.list'.segments) ∙ ap least_of (sym has.list'.views ∙ is) ∙ least-views file segments
 
 -- the file that is made is the one that is defined
 pub made_is_written : (segments : List Segment) (s : Segment) (f : Fields) (bank_size : ℕ) (memory : List ℕ) → slice_get segments 0 ≡ Some s → f ≡ s.fields → bank_size ≡ least_bank segments → memory ≡ loaded_bytes segments

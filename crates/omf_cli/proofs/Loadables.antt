@@ -10,13 +10,14 @@ use Rattle.std.proofs.lemmas.List.{length-append, length-replicate, length-take}
 use Rattle.omf_format.specs.Number.{number_at}
 use Rattle.omf_format.specs.HeaderLaws.{IsBytes}
 use Rattle.omf_format.specs.Header.{Fields, fields_of, form_of}
-use Rattle.omf_format.specs.Record.{Record, End, Const, LongConst, Align, Org, Space, Reloc, InterSeg, ShortReloc, ShortInterSeg, Super, Using, Strong, Label, Equate, Formula, is_constant}
+use Rattle.omf_format.specs.Record.{Record, End, Const, LongConst, Align, Org, Space, Reloc, InterSeg, ShortReloc, ShortInterSeg, Super, Using, Strong, Label, Equate, Formula, Entry, is_constant}
 use Rattle.omf_format.specs.File.{Segment, IsHeader, IsFile}
-use Rattle.omf_format.specs.Plain.{body_bytes, memory_bytes, is_object, cleared, loaded_bytes, IsPlain, written, IsLinkedTo}
+use Rattle.omf_format.specs.Body.{body_bytes}
+use Rattle.omf_format.specs.Plain.{memory_bytes, is_object, cleared, loaded_bytes, IsPlain, written, IsLinkedTo}
 use Rattle.omf_format.specs.PlainLaws.{is_load_file, length-without_trailing}
 use Rattle.omf_format.specs.Cells.{Byte, segment_bytes}
 use Rattle.omf_format.specs.CellLaws.{unpatched, cells-bytes}
-use Rattle.omf_format.specs.Loadable.{express_name, is_express, segment_refusal, record_refusal, shape_fault, later_fault, IsLoadSegment, IsLoadable}
+use Rattle.omf_format.specs.Loadable.{express_name, is_express, segment_refusal, record_refusal, target_refusal, first_target_fault, shape_fault, later_fault, IsLoadSegment, IsLoadable}
 use Rattle.omf_cli.specs.Laws.{IsLoadOf}
 
 -- ---- the name
@@ -82,10 +83,35 @@ constant_passes (Strong name) is = absurd cc
 constant_passes (Label global name size form private) is = absurd cc
 constant_passes (Equate global name size form private expr) is = absurd cc
 constant_passes (Formula code count n expr) is = absurd cc
+constant_passes (Entry segment offset name) is = absurd cc
+
+-- and name no segment
+constant_keeps : (segments : List Segment) (r : Record) → is_constant r ≡ true → target_refusal segments r ≡ None
+constant_keeps segments End is = refl
+constant_keeps segments (Const bytes) is = refl
+constant_keeps segments (LongConst bytes) is = refl
+constant_keeps segments (Space n) is = refl
+constant_keeps segments (Align n) is = absurd cc
+constant_keeps segments (Org n) is = absurd cc
+constant_keeps segments (Reloc count shift location offset) is = absurd cc
+constant_keeps segments (InterSeg count shift location file segment offset) is = absurd cc
+constant_keeps segments (ShortReloc count shift location offset) is = absurd cc
+constant_keeps segments (ShortInterSeg count shift location segment offset) is = absurd cc
+constant_keeps segments (Super form bytes) is = absurd cc
+constant_keeps segments (Using name) is = absurd cc
+constant_keeps segments (Strong name) is = absurd cc
+constant_keeps segments (Label global name size form private) is = absurd cc
+constant_keeps segments (Equate global name size form private expr) is = absurd cc
+constant_keeps segments (Formula code count n expr) is = absurd cc
+constant_keeps segments (Entry segment offset name) is = absurd cc
 
 records_pass : (records : List (ℕ × Record)) → AllByRecursion (λ (found : ℕ × Record). is_constant found.1 ≡ true) records → AllByRecursion (λ (found : ℕ × Record). record_refusal found.1 ≡ None) records
 records_pass [] all = tt
 records_pass (found ∷ records) all = (constant_passes found.1 all.0, records_pass records all.1)
+
+targets_pass : (segments : List Segment) (records : List (ℕ × Record)) → AllByRecursion (λ (found : ℕ × Record). is_constant found.1 ≡ true) records → first_target_fault segments records ≡ None
+targets_pass segments [] all = refl
+targets_pass segments (found ∷ records) all = rw (constant_keeps segments found.1 all.0) (targets_pass segments records all.1)
 
 -- LENGTH is that of the bytes in memory
 module _ (s : Segment) (bytes : List ℕ) (memory : memory_bytes s ≡ bytes) (size : s.fields.length ≡ length bytes) where
@@ -117,12 +143,13 @@ loads_as first others file fits is plain =
     let name : length s.fields.name ≤ 10 = omega (arith, ap length load.name, length-without_trailing 32 first.fields.load_name, short_name first.start first.fields file is.2.header) in
     let object : is_object (form_of s.fields.kind) ≡ true = ap (λ (k : ℕ). is_object (form_of k)) load.kind ∙ ap is_object (same_form first.fields.kind) ∙ plain.each.0.object in
     let pass : IsLoadSegment s = record { front = front_passes s.fields (not_express s.fields.name name) object; records = records_pass s.records load.constant.each } in
+    let targets = targets_pass (s ∷ []) s.records load.constant.each in
     let shape = shape_passes s (loaded_bytes (first ∷ others)) load.memory load.length' load.seg_num in
-    let loadable : IsLoadable (written (first ∷ others)) (s ∷ []) = record { is_file = load.is_file; some = λ none. absurd (cc); pass = (pass, tt); sound = rw shape refl } in
+    let loadable : IsLoadable (written (first ∷ others)) (s ∷ []) = record { is_file = load.is_file; some = λ none. absurd (cc); pass = (pass, tt); sound = rw (shape, targets) refl } in
     record {
       segment = s;
       loadable = loadable;
-      cells_are = cells-bytes s pass ∙ ap (map Byte) (bytes_are s (loaded_bytes (first ∷ others)) load.memory load.length');
+      cells_are = cells-bytes s (unpatched s pass) ∙ ap (map Byte) (bytes_are s (loaded_bytes (first ∷ others)) load.memory load.length');
       can_load = λ static kept no_stack. record {
         loadable = loadable;
         one = refl;

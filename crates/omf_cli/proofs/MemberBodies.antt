@@ -1,78 +1,59 @@
 -- The content of a segment that a view shows.
-use Rattle.std.proofs.Common.{◌≡◌, ℕ, ◌+◌, true, List, ◌++◌, length, replicate, IsTrue, refl, sym, ap, subst, ◌∙◌, arith}
+use Rattle.std.proofs.Common.{◌≡◌, ℕ, ◌+◌, List, ◌++◌, length, replicate, IsTrue, refl, sym, ap, subst, ◌∙◌, arith}
 use Rattle.std.specs.List.{AllByRecursion}
-use Rattle.omf_format.specs.Header.{Fields}
 use Rattle.omf_format.specs.Record.{Record, is_constant}
-use Rattle.omf_format.specs.Reading.{Reader, HandsOut}
-use Rattle.omf_format.specs.File.{Segment, body_reader}
+use Rattle.omf_format.specs.Reading.{Reader, IsBody}
+use Rattle.omf_format.specs.File.{body_reader}
 use Rattle.omf_format.specs.FileLaws.{HandsOut-same}
-use Rattle.omf_format.specs.Plain.{body_bytes, memory_bytes, HasConstants, IsPlainSegment}
+use Rattle.omf_format.specs.Body.{body_bytes}
+use Rattle.omf_format.specs.Plain.{memory_bytes, HasConstants, IsPlainSegment}
 use Rattle.omf_header.specs.View.{fields}
 use Rattle.omf_records.specs.declared.segment.SegmentView.{SegmentView}
-use Rattle.omf_records.specs.Segments.{ComesToEnd}
+use Rattle.omf_records.specs.Segments.{shown, IsSound}
+use Rattle.omf_records.specs.SegmentLaws.{sound_body}
 use Rattle.omf_cli.specs.Content.{IsContent, HasContent, HasConstantContent}
-use Rattle.omf_cli.specs.Members.{IsAt}
 use Rattle.omf_cli.proofs.Bodies.{content_same}
 
--- a reader of the view's body hands out the segment's records
-pub member_run : (s : Segment) (v : SegmentView) (reader : Reader) → IsAt s v → reader ≡ body_reader v.start (fields v.header) v.file.now → (last : Reader) × HandsOut reader s.records last × (last.ended ≡ true)
-member_run s v reader at is =
-    let same : body_reader s.start s.fields v.file.now ≡ reader =
-    ap (λ (n : ℕ). body_reader n s.fields v.file.now) at.start ∙ ap (λ (f : Fields). body_reader v.start f v.file.now) at.fields' ∙ sym is in
-    (at.segment.last, subst (λ (r : Reader). HandsOut r s.records at.segment.last) same at.segment.records, at.segment.ended)
+abbrev pub reader_of : SegmentView → Reader
+reader_of v = body_reader v.start (fields v.header) v.file.now
+
+-- a reader of the view's body comes to END
+pub comes : (v : SegmentView) (reader : Reader) → IsSound v → reader ≡ reader_of v → IsBody reader
+comes v reader sound is = subst IsBody (sym is) (sound_body v sound)
 
 -- and has the segment's bytes to give
-pub member_content : (s : Segment) (v : SegmentView) (reader : Reader) → IsAt s v → reader ≡ body_reader v.start (fields v.header) v.file.now → IsContent reader (body_bytes s)
+pub member_content : (v : SegmentView) → IsSound v → IsContent (reader_of v) (body_bytes (shown v))
 unfolding body_bytes
-member_content s v reader at is =
-    let all = member_run s v reader at is in
-    record { founds = s.records; last = all.0; run = all.1; ended = all.2; content = refl }
+member_content v sound = record { founds = (shown v).records; last = sound.segment.last; run = sound.segment.records; ended = sound.segment.ended; content = refl }
 
-pub member_size : (s : Segment) (v : SegmentView) (reader : Reader) (n : ℕ) → IsAt s v → reader ≡ body_reader v.start (fields v.header) v.file.now → HasContent reader n → n ≡ length (body_bytes s)
-member_size s v reader n at is has = has.2 ∙ ap length (content_same reader has.0 (body_bytes s) has.1 (member_content s v reader at is))
+pub member_size : (v : SegmentView) (reader : Reader) (n : ℕ) → IsSound v → reader ≡ reader_of v → HasContent reader n → n ≡ length (body_bytes (shown v))
+member_size v reader n sound is has =
+    let content : IsContent (reader_of v) has.0 = subst (λ (r : Reader). IsContent r has.0) is has.1 in
+    has.2 ∙ ap length (content_same (reader_of v) has.0 (body_bytes (shown v)) content (member_content v sound))
 
 -- a body of constants is that of a segment of constants, and its size that of the segment's bytes
-pub constant_member : (s : Segment) (v : SegmentView) (reader : Reader) (n : ℕ) → IsAt s v → reader ≡ body_reader v.start (fields v.header) v.file.now → HasConstantContent reader n
-    → HasConstants s × (n ≡ length (body_bytes s))
-constant_member s v reader n at is has =
-    let all = member_run s v reader at is in
-    let same : has.content.founds ≡ s.records = HandsOut-same reader has.content.founds s.records has.content.last all.0 has.content.run all.1 has.content.ended all.2 in (
+pub constant_member : (v : SegmentView) (reader : Reader) (n : ℕ) → IsSound v → reader ≡ reader_of v → HasConstantContent reader n → HasConstants (shown v) × (n ≡ length (body_bytes (shown v)))
+constant_member v reader n sound is has' =
+    let has : HasConstantContent (reader_of v) n = subst (λ (r : Reader). HasConstantContent r n) is has' in
+    let same : has.content.founds ≡ (shown v).records =
+    HandsOut-same (reader_of v) has.content.founds (shown v).records has.content.last sound.segment.last has.content.run sound.segment.records has.content.ended sound.segment.ended in (
       record { each = subst (AllByRecursion (λ (found : ℕ × Record). IsTrue (is_constant found.1))) same has.constant },
-      has.count ∙ ap length (content_same reader has.bytes (body_bytes s) has.content (member_content s v reader at is)),
+      has.count ∙ ap length (content_same (reader_of v) has.bytes (body_bytes (shown v)) has.content (member_content v sound)),
     )
 
-pub has_constant_member : (s : Segment) (v : SegmentView) (reader : Reader) → IsAt s v → reader ≡ body_reader v.start (fields v.header) v.file.now → HasConstants s
-    → HasConstantContent reader (length (body_bytes s))
-unfolding body_bytes
-has_constant_member s v reader at is has =
-    let all = member_run s v reader at is in
-    record {
-      bytes = body_bytes s;
-      content = record { founds = s.records; last = all.0; run = all.1; ended = all.2; content = refl };
-      constant = has.each;
-      count = refl;
-    }
-
--- a view's body comes to END
-pub comes_at : (s : Segment) (v : SegmentView) → IsAt s v → ComesToEnd (body_reader v.start (fields v.header) v.file.now)
-comes_at s v at =
-    let reader = body_reader v.start (fields v.header) v.file.now in
-    let is = member_content s v reader at refl in
-    record { records = is.founds; last = is.last; run = is.run; ended = is.ended }
+pub has_constant_member : (v : SegmentView) (reader : Reader) → IsSound v → reader ≡ reader_of v → HasConstants (shown v) → HasConstantContent reader (length (body_bytes (shown v)))
+unfolding body_bytes member_content
+has_constant_member v reader sound is has =
+    let at_front : HasConstantContent (reader_of v) (length (body_bytes (shown v))) = record { bytes = body_bytes (shown v); content = member_content v sound; constant = has.each; count = refl } in
+    subst (λ (r : Reader). HasConstantContent r (length (body_bytes (shown v)))) (sym is) at_front
 
 -- a plain segment's content is no longer than LENGTH
-pub content_fits : (s : Segment) (v : SegmentView) (reader : Reader) (n : ℕ) → IsAt s v → IsPlainSegment s → reader ≡ body_reader v.start (fields v.header) v.file.now → HasContent reader n → n + v.header.res_spc ≡ v.header.length
-content_fits s v reader n at plain is has =
-    let size = member_size s v reader n at is has in
-    let spc : s.fields.res_spc ≡ v.header.res_spc = ap (λ (f : Fields). f.res_spc) at.fields' in
-    let len : s.fields.length ≡ v.header.length = ap (λ (f : Fields). f.length) at.fields' in
-    omega (arith, size, spc, len, plain.sized)
+pub content_fits : (v : SegmentView) (reader : Reader) (n : ℕ) → IsSound v → IsPlainSegment (shown v) → reader ≡ reader_of v → HasContent reader n → n + v.header.res_spc ≡ v.header.length
+content_fits v reader n sound plain is has = let size = member_size v reader n sound is has in omega (arith, size, plain.sized)
 
 -- what was appended is the segment in memory
-pub member_memory : (s : Segment) (v : SegmentView) (reader : Reader) (bytes : List ℕ) → IsAt s v → reader ≡ body_reader v.start (fields v.header) v.file.now → IsContent reader bytes
-    → bytes ++ replicate v.header.res_spc 0 ≡ memory_bytes s
+pub member_memory : (v : SegmentView) (reader : Reader) (bytes : List ℕ) → IsSound v → reader ≡ reader_of v → IsContent reader bytes → bytes ++ replicate v.header.res_spc 0 ≡ memory_bytes (shown v)
 unfolding memory_bytes
-member_memory s v reader bytes at is content =
-    let same : bytes ≡ body_bytes s = content_same reader bytes (body_bytes s) content (member_content s v reader at is) in
-    let spc : v.header.res_spc ≡ s.fields.res_spc = sym (ap (λ (f : Fields). f.res_spc) at.fields') in
-    ap (λ (l : List ℕ). l ++ replicate v.header.res_spc 0) same ∙ ap (λ (n : ℕ). body_bytes s ++ replicate n 0) spc
+member_memory v reader bytes sound is content' =
+    let content : IsContent (reader_of v) bytes = subst (λ (r : Reader). IsContent r bytes) is content' in
+    ap (λ (l : List ℕ). l ++ replicate v.header.res_spc 0) (content_same (reader_of v) bytes (body_bytes (shown v)) content (member_content v sound))

@@ -6,75 +6,10 @@ use Rattle.std.proofs.lemmas.Bool.{cases_Bool, eqb-true, eqb-false, ne_eqb}
 use Rattle.std.proofs.lemmas.List.{take_all, append-nil}
 use Rattle.std.proofs.lemmas.List.Sums.{sum_by-cons}
 use Rattle.std.proofs.lemmas.Grind.{flat_map-append}
-use Rattle.omf_format.specs.Header.{Fields}
-use Rattle.omf_format.specs.Reading.{Reader, HandsOut}
-use Rattle.omf_format.specs.File.{Segment, body_reader, IsSegment, AreSegments, IsFile}
+use Rattle.omf_format.specs.File.{Segment}
 use Rattle.omf_format.specs.Plain.{memory_bytes, IsPlainSegment, IsPlain, total_length, first_name, HasRoom, lesser_bank, least_bank, loaded_bytes}
 use Rattle.omf_format.specs.PlainLaws.{length-loaded}
-use Rattle.omf_header.specs.View.{fields}
-use Rattle.omf_records.specs.declared.segment.SegmentView.{SegmentView}
-use Rattle.omf_records.specs.Segments.{Placed, placed, views_of, ComesToEnd}
-use Rattle.omf_cli.specs.Members.{IsAt, HasFile, HasPlain, AreMembers}
-
--- ---- one place of the list
-
--- each segment of a file stands in it
-each_segment : (segments : List Segment) (at : ℕ) (file : List ℕ) (next : ℕ) → AreSegments segments at file next → AllByRecursion (λ s. IsSegment s file) segments
-each_segment [] at file next are = tt
-each_segment (s ∷ segments) at file next are = (are.2, each_segment segments (at + s.fields.byte_count) file next are.3)
-
--- the segment at a place of the views
-record AtPlace (segments : List Segment) (file : List ℕ) (k : ℕ) (p : Placed) : Type 0 where
-  s : Segment
-  found : slice_get segments k ≡ Some s
-  stands : IsSegment s file
-  seen : p ≡ record { start = s.start; fields = s.fields; file = file }
-
-abbrev some_place : Placed → Option Placed
-some_place p = Some p
-
-place_is : (a b : Placed) → some_place a ≡ some_place b → a ≡ b
-place_is a b e = cc
-
-at_place : (segments : List Segment) (file : List ℕ) (k : ℕ) (p : Placed) → AllByRecursion (λ s. IsSegment s file) segments → slice_get (views_of file segments) k ≡ Some p → AtPlace segments file k p
-at_place [] file k p each e = absurd cc
-at_place (s ∷ segments) file zero p each e =
-    let made : Placed = record { start = s.start; fields = s.fields; file = file } in
-    record { s = s; found = refl; stands = each.0; seen = sym (place_is made p e) }
-at_place (s ∷ segments) file (suc k) p each e =
-    let more = at_place segments file k p each.1 e in
-    record { s = more.s; found = more.found; stands = more.stands; seen = more.seen }
-
-is_at : (v : SegmentView) (segments : List Segment) (file : List ℕ) (k : ℕ) (at : AtPlace segments file k (placed v)) → IsAt at.s v
-is_at v segments file k at = record {
-  start = sym (ap (λ (p : Placed). p.start) at.seen);
-  fields' = sym (ap (λ (p : Placed). p.fields) at.seen);
-  segment = subst (λ (f : List ℕ). IsSegment at.s f) (sym (ap (λ (p : Placed). p.file) at.seen)) at.stands;
-}
-
--- what the view at a place of a file's list is
-pub record Views (segments : List Segment) (k : ℕ) (v : SegmentView) : Type 0 where
-  pub s : Segment
-  pub found : slice_get segments k ≡ Some s
-  pub at : IsAt s v
-
-pub views : (list : List Placed) (segments : List Segment) (file : List ℕ) (k : ℕ) (v : SegmentView) → IsFile segments file → list ≡ views_of file segments → slice_get list k ≡ Some (placed v) → Views segments k v
-views list segments file k v is same e =
-    let at = at_place segments file k (placed v) (each_segment segments 0 file (length file) is) (ap (λ (l : List Placed). slice_get l k) (sym same) ∙ e) in
-    record { s = at.s; found = at.found; at = is_at v segments file k at }
-
-pub view_comes : (list : List Placed) (k : ℕ) (v : SegmentView) → HasFile list → slice_get list k ≡ Some (placed v) → ComesToEnd (body_reader v.start (fields v.header) v.file.now)
-view_comes list k v has e =
-    let seen = views list has.1.segments has.0 k v has.1.is_file has.1.views e in
-    let s = seen.s in
-    let reader : body_reader s.start s.fields v.file.now ≡ body_reader v.start (fields v.header) v.file.now =
-    ap (λ (n : ℕ). body_reader n s.fields v.file.now) seen.at.start ∙ ap (λ (f : Fields). body_reader v.start f v.file.now) seen.at.fields' in
-    record {
-      records = s.records;
-      last = seen.at.segment.last;
-      run = subst (λ (r : Reader). HandsOut r s.records seen.at.segment.last) reader seen.at.segment.records;
-      ended = seen.at.segment.ended;
-    }
+use Rattle.omf_cli.specs.Members.{AreMembers}
 
 -- ---- the places so far
 
@@ -241,30 +176,22 @@ room_of_plain segments k total bank so_far past plain =
     let bank_is : bank ≡ least_bank segments = so_far.bank' ∙ ap least_bank whole in
     subst (λ (t : ℕ). Room t bank) (sym total_is) (subst (Room (total_length segments)) (sym bank_is) (least-joins (total_length segments) segments plain.room))
 
--- the first view shows the load name
-pub first_shows : (list : List Placed) (segments : List Segment) (file : List ℕ) (v : SegmentView) → IsFile segments file → list ≡ views_of file segments → slice_get list 0 ≡ Some (placed v) → v.header.load_name ≡ first_name segments
-first_shows list segments file v is same e =
-    let seen = views list segments file 0 v is same e in
-    sym (ap (λ (f : Fields). f.load_name) seen.at.fields') ∙ sym (first segments seen.s seen.found)
-  where
-    first : (segments : List Segment) (s : Segment) → slice_get segments 0 ≡ Some s → first_name segments ≡ s.fields.load_name
-    first [] s e = absurd cc
-    first (t ∷ segments) s e = let same' : t ≡ s = cc in ap (λ (u : Segment). u.fields.load_name) same'
+-- the first segment has the load name
+pub first_shows : (segments : List Segment) (s : Segment) → slice_get segments 0 ≡ Some s → s.fields.load_name ≡ first_name segments
+first_shows [] s e = absurd cc
+first_shows (t ∷ segments) s e = let same : s ≡ t = cc in ap (λ (u : Segment). u.fields.load_name) same
 
--- a file with a view has a segment
-pub some_segment : (list : List Placed) (segments : List Segment) (file : List ℕ) (v : SegmentView) → list ≡ views_of file segments → slice_get list 0 ≡ Some (placed v) → segments ≡ [] → ⊥
-some_segment list segments file v same e none =
-    let empty : list ≡ [] = same ∙ ap (views_of file) none in
-    let clash : nothing ≡ some_place (placed v) = ap (λ (l : List Placed). slice_get l 0) (sym empty) ∙ e in
+pub some_segment : (segments : List Segment) (s : Segment) → slice_get segments 0 ≡ Some s → segments ≡ [] → ⊥
+some_segment segments s e none =
+    let clash : nothing ≡ Some s = ap (λ (l : List Segment). slice_get l 0) (sym none) ∙ e in
     cc
   where
-    nothing : Option Placed
+    nothing : Option Segment
     nothing = None
 
--- there are as many views as segments
-pub length-views : (file : List ℕ) (segments : List Segment) → length (views_of file segments) ≡ length segments
-length-views file [] = refl
-length-views file (s ∷ segments) = ap suc (length-views file segments)
+pub none_there : (segments : List Segment) → length segments ≤ 0 → segments ≡ []
+none_there [] few = refl
+none_there (s ∷ segments) few = absurd (omega arith)
 
 -- ---- the members in memory
 
@@ -296,7 +223,3 @@ loaded_more segments k s found =
 
 pub loaded_all : (segments : List Segment) (k : ℕ) → length segments ≤ k → loaded_bytes (take k segments) ≡ loaded_bytes segments
 loaded_all segments k past = ap loaded_bytes (take_all k segments past)
-
--- a list of a plain file's segments is one of a file's
-pub plain_file : (list : List Placed) → HasPlain list → HasFile list
-plain_file list has = (has.file, record { segments = has.segments; is_file = has.is_file; views = has.views })

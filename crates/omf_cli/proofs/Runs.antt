@@ -13,7 +13,7 @@ use Rattle.omf_cli.specs.declared.status.Status.TheVariants as status
 use Rattle.omf_cli.specs.Words.{IsLink, IsDump, IsRun, Reads, IsUsage}
 use Rattle.omf_cli.specs.Lines.{usage_line, cannot_read_line, cannot_write_line, refused_line}
 use Rattle.omf_cli.specs.Tool.{Outside, Prints, EndsUsage, EndsUnread, EndsRefused, EndsUnwritten, EndsListed, EndsFaulty, EndsBadScript, EndsWith, AsUsage, AsListed, AsFaulty, AsBadScript, AsUnread, AsRefused, AsUnwritten, GetsDone, GetsListed, HasRun}
-use Rattle.omf_cli.specs.Listing.{cause_name}
+use Rattle.omf_cli.specs.FileCauses.{cause_name}
 use Rattle.omf_cli.specs.declared.ending.Dumped.TheVariants as dumped
 use Rattle.omf_cli.specs.declared.ending.ScriptRead.TheVariants as script
 use Rattle.omf_cli.specs.Run.{script_cause_name, script_line}

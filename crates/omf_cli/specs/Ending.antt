@@ -15,7 +15,7 @@ use Rattle.omf_cli.specs.declared.ending.ScriptRead.{ScriptRead}
 use Rattle.omf_cli.specs.declared.ending.ScriptRead.TheVariants as script
 use Rattle.loader_machine.specs.Script.{IsScript, HasScriptFault}
 use Rattle.omf_format.specs.File.{IsFirstFault}
-use Rattle.omf_cli.specs.Listing.{IsListing}
+use Rattle.omf_listing.specs.Listing.{IsListing}
 
 -- the output stands at its path
 pub record HasLinked (output input : List ℕ) (held new_held : Option FileMap) (faults new_faults : ℕ) : Type 0 where

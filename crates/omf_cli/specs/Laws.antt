@@ -1,6 +1,6 @@
 -- What the load file of a plain object file is, in the format's own words.
-use Rattle.std.specs.Prelude.{◌≡◌, ◌≢◌, ℕ, IsBitSet, List, [], ◌∷◌, map}
-use Rattle.omf_format.specs.Header.{form_of}
+use Rattle.std.specs.Prelude.{◌≡◌, ◌≢◌, ℕ, false, List, [], ◌∷◌, map}
+use Rattle.omf_format.specs.Header.{form_of, is_dynamic, is_skipped}
 use Rattle.omf_format.specs.HeaderLaws.{IsBytes}
 use Rattle.omf_format.specs.File.{Segment, IsFile}
 use Rattle.omf_format.specs.Plain.{IsPlain, written, loaded_bytes, IsLinkedTo, IsLoadFile}
@@ -19,7 +19,7 @@ pub record IsLoadOf (segments : List Segment) (output : List ℕ) : Type 0 where
   pub segment : Segment
   pub loadable : IsLoadable output (segment ∷ [])
   pub cells_are : cells segment ≡ map Byte (loaded_bytes segments)
-  pub can_load : ¬ IsBitSet segment.fields.kind 15 → ¬ IsBitSet segment.fields.kind 9 → form_of segment.fields.kind ≢ 0x12 → CanLoad output (segment ∷ [])
+  pub can_load : is_dynamic segment.fields.kind ≡ false → is_skipped segment.fields.kind ≡ false → form_of segment.fields.kind ≢ 0x12 → CanLoad output (segment ∷ [])
 
 -- what a plain object file is linked to is loadable, and stands for the linked bytes
 abbrev pub LinkedIsLoadable : Type 0

@@ -4,7 +4,7 @@ pub mod LoadFile
 pub mod Link
 pub mod Words
 pub mod Lines
-pub mod Listing
+pub mod FileCauses
 pub mod Run
 pub mod Tool
 pub mod Running

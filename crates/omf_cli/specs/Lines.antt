@@ -1,10 +1,7 @@
 -- The lines that the tool prints, each with its line end.
-use Rattle.std.specs.Prelude.{ℕ, List, [], ◌∷◌, ◌++◌, codes}
+use Rattle.std.specs.Prelude.{ℕ, List, ◌++◌, codes}
 use Rattle.omf_base.specs.Digits.{decimal, hexadecimal}
-
--- a text and a line feed
-abbrev pub line : List ℕ → List ℕ
-line text = text ++ 0x0A ∷ []
+use Rattle.omf_base.specs.Lines.{line}
 
 abbrev pub usage_line : List ℕ
 usage_line = line (codes "usage: omf asm, link, lib, dump, run or stress")

@@ -11,6 +11,7 @@ header_of first bank_size length data_length = record {
   res_spc = length - data_length;
   length = length;
   lab_len = 0;
+  version = 2;
   bank_size = bank_size;
   kind = cleared first.kind;
   org = 0;

@@ -1,21 +1,8 @@
--- The segments of a file, as their views show them.
+-- The members of a plain object file, as the list of its segments shows them.
 use Rattle.std.specs.Prelude.{◌≡◌, true, List, ℕ}
 use Rattle.omf_format.specs.Header.{Fields, form_of}
-use Rattle.omf_format.specs.File.{Segment, IsSegment, IsFile}
-use Rattle.omf_format.specs.Plain.{is_object, IsPlainSegment, IsPlain, total_length, least_bank}
-use Rattle.omf_header.specs.View.{fields}
-use Rattle.omf_records.specs.declared.segment.SegmentView.{SegmentView}
-use Rattle.omf_records.specs.Segments.{Placed, views_of, IsListOf}
-
--- the view is of this segment
-pub record IsAt (s : Segment) (v : SegmentView) : Type 0 where
-  pub start : s.start ≡ v.start
-  pub fields' : s.fields ≡ fields v.header
-  pub segment : IsSegment s v.file.now
-
--- the list is that of some file's segments
-abbrev pub HasFile : List Placed → Type 0
-HasFile list = (file : List ℕ) × IsListOf list file
+use Rattle.omf_format.specs.File.{Segment, IsFile}
+use Rattle.omf_format.specs.Plain.{is_object, IsPlain, total_length, least_bank}
 
 -- the header is of an object file's segment that asks for no place
 pub record AsksNoPlace (f : Fields) : Type 0 where
@@ -29,19 +16,9 @@ pub record AreMembers (segments : List Segment) (total bank_size : ℕ) : Type 0
   pub total' : total ≡ total_length segments
   pub bank_size' : bank_size ≡ least_bank segments
 
--- the view is of a plain segment
-abbrev pub IsPlainView : SegmentView → Type 0
-IsPlainView v = (s : Segment) × IsAt s v × IsPlainSegment s
-
--- the list is that of a plain object file's segments
-pub record HasPlain (list : List Placed) : Type 0 where
-  pub segments : List Segment
+-- a file is these segments, which are plain, and this is their least bank size
+pub record HasMembers (segments : List Segment) (bank_size : ℕ) : Type 0 where
   pub file : List ℕ
   pub is_file : IsFile segments file
-  pub views : list ≡ views_of file segments
   pub plain : IsPlain segments
-
--- the same, and this is the least bank size of the segments
-pub record HasMembers (list : List Placed) (bank_size : ℕ) : Type 0 where
-  pub list' : HasPlain list
-  pub bank_size' : bank_size ≡ least_bank list'.segments
+  pub bank_size' : bank_size ≡ least_bank segments

@@ -12,7 +12,7 @@ use Rattle.loader_machine.specs.Transcript.{Trans}
 use Rattle.loader_machine.specs.Replies.{replies_text}
 use Rattle.std.specs.Prelude.{codes}
 use Rattle.omf_base.specs.Digits.{decimal}
-use Rattle.omf_cli.specs.Lines.{line}
+use Rattle.omf_base.specs.Lines.{line}
 
 -- the count rose so often at least, or stands still at its end
 abbrev pub RoseBy : ℕ → ℕ → ℕ → Type 0

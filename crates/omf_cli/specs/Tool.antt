@@ -10,7 +10,8 @@ use Rattle.omf_io.specs.Sinks.{with_text}
 use Rattle.omf_cli.specs.declared.status.Status.{Status}
 use Rattle.omf_cli.specs.declared.status.Status.TheVariants.{Done, Refused, Usage, CannotRead, CannotWrite, CannotPrint, Memory}
 use Rattle.omf_cli.specs.Words.{IsLink, IsDump, IsRun, Reads, IsUsage}
-use Rattle.omf_cli.specs.Listing.{IsListing, cause_name}
+use Rattle.omf_listing.specs.Listing.{IsListing}
+use Rattle.omf_cli.specs.FileCauses.{cause_name}
 use Rattle.omf_cli.specs.Run.{IsReplied, IsCut, script_cause_name, script_line}
 use Rattle.loader_machine.specs.declared.script.ScriptFault.{ScriptFault}
 use Rattle.loader_machine.specs.Command.{Command}

@@ -2,8 +2,8 @@
 
 ghost use Rattle.std.specs.Prelude.{◌≡◌, ℕ, ◌<◌, ◌≤◌, ◌++◌, ◌+◌, ◌^◌, vec_len, length, replicate, OnOk, IfSome, IfNone};
 ghost use Rattle.omf_format.specs.Record.{is_constant, content_of};
+ghost use Rattle.omf_format.specs.Reading.{IsBody};
 ghost use Rattle.omf_records.specs.View.{view};
-ghost use Rattle.omf_records.specs.Segments.{ComesToEnd};
 ghost use Rattle.omf_cli.specs.Content.{HasContent, HasConstantContent, AppendsContent};
 
 use omf_records::{Rec, Records};
@@ -29,7 +29,8 @@ fn content_size(rec: &Rec) -> u64
         | Rec::Strong { .. }
         | Rec::Label { .. }
         | Rec::Equate { .. }
-        | Rec::Formula { .. } => 0,
+        | Rec::Formula { .. }
+        | Rec::Entry { .. } => 0,
     }
 }
 
@@ -46,7 +47,7 @@ fn is_constant(rec: &Rec) -> bool
 /// How many bytes the records put into the segment, or None where one isn't END, CONST, LCONST or DS, or where they are more
 /// than `most`.
 pub fn constant_size(records: Records, most: u32) -> Option<u32>
-    requires { ComesToEnd records }
+    requires { IsBody records }
     ensures size { IfSome result (λ n. (n ≤ most) × HasConstantContent records.entry n) }
     ensures none { IfNone result ((n : ℕ) → HasConstantContent records.entry n → most < n) }
 {
@@ -89,7 +90,8 @@ fn append_content(out: &mut Vec<u8>, rec: &Rec) -> Result<(), AllocError>
         | Rec::Strong { .. }
         | Rec::Label { .. }
         | Rec::Equate { .. }
-        | Rec::Formula { .. } => Ok(()),
+        | Rec::Formula { .. }
+        | Rec::Entry { .. } => Ok(()),
     }
 }
 
@@ -103,7 +105,7 @@ pub fn append_zeros(out: &mut Vec<u8>, n: u32) -> Result<(), AllocError>
 
 /// Appends the bytes that the records put into the segment.
 pub fn append_body(out: &mut Vec<u8>, records: Records) -> Result<(), AllocError>
-    requires comes { ComesToEnd records }
+    requires comes { IsBody records }
     requires fits { (n : ℕ) → HasContent records n → vec_len out.old + n < 2 ^ 63 }
     ensures { OnOk result (AppendsContent records.entry out.old.items out.new.items) }
 {

@@ -5,11 +5,10 @@ ghost use Rattle.omf_cli.specs.Ending.{HasEnded, HasDumped, IsDumpOf, HasReadScr
 
 use crate::ending::{Dumped, LinkEnd, ScriptRead};
 use crate::link::{LinkFault, link_plain};
-use crate::listing::listing;
 use loader_script::{ScriptCause, read_script};
-use omf_base::LineFault;
 use omf_io::{Files, ReadFault, WriteFault};
-use omf_records::{FileCause, segments};
+use omf_listing::list_file;
+use omf_records::FileCause;
 use std::alloc::Global;
 
 /// Reads the input, links it, and then writes the output.
@@ -54,21 +53,15 @@ fn dump_bytes(alloc: Global, file: &[u8]) -> Dumped
     requires { length file.now < 2 ^ 32 }
     ensures { IsDumpOf result file.now }
 {
-    let list = match segments(alloc, file) {
-        Ok(list) => list,
-        Err(fault) => {
-            return match fault.cause {
-                FileCause::Memory => Dumped::Memory,
-                FileCause::Truncated
-                | FileCause::BadHeader
-                | FileCause::Unsupported
-                | FileCause::BadRecord => Dumped::Refused(fault),
-            };
-        }
-    };
-    match listing(alloc, &list) {
+    match list_file(alloc, file) {
         Ok(text) => Dumped::Listed(text),
-        Err(LineFault::Memory) => Dumped::Memory,
+        Err(fault) => match fault.cause {
+            FileCause::Memory => Dumped::Memory,
+            FileCause::Truncated
+            | FileCause::BadHeader
+            | FileCause::Unsupported
+            | FileCause::BadRecord => Dumped::Refused(fault),
+        },
     }
 }
 

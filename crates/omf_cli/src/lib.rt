@@ -6,7 +6,6 @@ mod ending;
 mod files;
 mod laws;
 mod link;
-mod listing;
 mod load_file;
 mod members;
 mod printing;

@@ -1,10 +1,9 @@
 //! Linking a plain object file: its members one behind another become the one segment of a load file.
 
-ghost use Rattle.std.specs.Prelude.{◌≡◌, ◌<◌, ◌≤◌, ◌+◌, ◌^◌, ◌++◌, [], List, ℕ, vec_len, length, OnOk, IfOk, IfErr, Ok};
-ghost use Rattle.omf_format.specs.File.{Segment, IsFile};
-ghost use Rattle.omf_format.specs.Plain.{IsPlain, IsLinkedTo, IsUnbuilt, memory_bytes, loaded_bytes, written};
-ghost use Rattle.omf_records.specs.Segments.{placed, IsPlaced, views_of};
-ghost use Rattle.omf_cli.specs.Members.{IsAt, IsPlainView, HasPlain, HasMembers};
+ghost use Rattle.std.specs.Prelude.{◌≡◌, ◌<◌, ◌+◌, ◌^◌, ◌++◌, vec_len, length, OnOk, IfOk, IfErr};
+ghost use Rattle.omf_format.specs.Plain.{IsPlainSegment, IsPlain, IsLinkedTo, memory_bytes, loaded_bytes, written};
+ghost use Rattle.omf_records.specs.Segments.{shown, IsSound};
+ghost use Rattle.omf_cli.specs.Members.{HasMembers};
 ghost use Rattle.omf_cli.specs.Link.{IsNotLinked, unlinked};
 
 use crate::content::{append_body, append_zeros};
@@ -36,10 +35,10 @@ impl From<AllocError> for LinkFault {
 
 /// Appends the bytes of a plain segment in memory.
 fn append_member(out: &mut Vec<u8>, view: &SegmentView) -> Result<(), AllocError>
-    requires header { IsPlaced (placed view.now) }
-    requires plain { IsPlainView view.now }
+    requires sound { IsSound view.now }
+    requires plain { IsPlainSegment (shown view.now) }
     requires room { vec_len out.old + view.now.header.length < 2 ^ 63 }
-    ensures { (s : Segment) → IsAt s view.now → OnOk result (out.new.items ≡ out.old.items ++ memory_bytes s) }
+    ensures { OnOk result (out.new.items ≡ out.old.items ++ memory_bytes (shown view.now)) }
 {
     append_body(out, view.records())?;
     append_zeros(out, view.header.res_spc)
@@ -47,9 +46,8 @@ fn append_member(out: &mut Vec<u8>, view: &SegmentView) -> Result<(), AllocError
 
 /// The bytes of all members in memory, one behind another.
 fn loaded_bytes(alloc: Global, list: &SegmentList) -> Result<Vec<u8>, AllocError>
-    requires { HasPlain list.now }
-    ensures { (segments : List Segment) (file : List ℕ) → IsFile segments file → list.now ≡ views_of file segments
-        → IfOk result (λ bytes. bytes.items ≡ loaded_bytes segments) }
+    requires { IsPlain list.now }
+    ensures { IfOk result (λ bytes. bytes.items ≡ loaded_bytes list.now) }
 {
     let mut bytes = Vec::new(alloc);
     'members: for place in 0..list.count() {
@@ -64,8 +62,7 @@ fn loaded_bytes(alloc: Global, list: &SegmentList) -> Result<Vec<u8>, AllocError
 /// The load file of a plain object file whose segments were read.
 fn linked(alloc: Global, list: &SegmentList, bank_size: u32) -> Result<Vec<u8>, LinkFault>
     requires { HasMembers list.now bank_size }
-    ensures ok { (segments : List Segment) (file : List ℕ) → IsFile segments file → list.now ≡ views_of file segments
-        → IfOk result (λ output. output.items ≡ written segments) }
+    ensures ok { IfOk result (λ output. output.items ≡ written list.now) }
     ensures err { IfErr result (λ fault. fault ≡ LinkFault.Memory) }
 {
     let memory = loaded_bytes(alloc, list)?;

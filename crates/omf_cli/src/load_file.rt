@@ -53,6 +53,7 @@ fn load_header(
         res_spc: memory_length - data_length,
         length: memory_length,
         lab_len: 0,
+        version: 2,
         bank_size,
         kind: cleared(first.kind),
         org: 0,

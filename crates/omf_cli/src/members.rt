@@ -1,11 +1,11 @@
 //! The members of a plain object file.
 
-ghost use Rattle.std.specs.Prelude.{◌≡◌, ◌↔◌, ◌⊎◌, ◌≤◌, ◌+◌, IsTrue, List, ℕ, length, MatchOption};
-ghost use Rattle.omf_format.specs.File.{Segment, IsFile, body_reader};
-ghost use Rattle.omf_format.specs.Plain.{HasConstants, IsPlainSegment, IsPlain, is_object, lesser_bank, body_bytes};
+ghost use Rattle.std.specs.Prelude.{◌≡◌, ◌↔◌, ◌⊎◌, ◌≤◌, ◌+◌, IsTrue, length, MatchOption};
+ghost use Rattle.omf_format.specs.Body.{body_bytes};
+ghost use Rattle.omf_format.specs.Plain.{HasConstants, IsPlainSegment, IsPlain, is_object, lesser_bank};
 ghost use Rattle.omf_header.specs.View.{fields};
-ghost use Rattle.omf_records.specs.Segments.{placed, IsPlaced, ComesToEnd, views_of};
-ghost use Rattle.omf_cli.specs.Members.{IsAt, HasFile, AsksNoPlace, AreMembers};
+ghost use Rattle.omf_records.specs.Segments.{shown, IsSound};
+ghost use Rattle.omf_cli.specs.Members.{AsksNoPlace, AreMembers};
 
 use crate::content::constant_size;
 use omf_header::Header;
@@ -23,10 +23,9 @@ fn is_object(form: u8) -> bool
 
 /// The records are END, CONST, LCONST and DS, and LENGTH counts their bytes and RESSPC.
 fn is_sized(view: &SegmentView) -> bool
-    requires header { IsPlaced (placed view.now) }
-    requires comes { ComesToEnd (body_reader view.now.start (fields view.now.header) view.now.file.now) }
-    ensures { (s : Segment) → IsAt s view.now
-        → (IsTrue result ↔ (HasConstants s × (length (body_bytes s) + s.fields.res_spc ≡ s.fields.length))) }
+    requires { IsSound view.now }
+    ensures { IsTrue result
+        ↔ (HasConstants (shown view.now) × (length (body_bytes (shown view.now)) + view.now.header.res_spc ≡ view.now.header.length)) }
 {
     match constant_size(view.records(), view.header.length) {
         Some(size) => u64::from(size) + u64::from(view.header.res_spc)
@@ -44,9 +43,8 @@ fn asks_no_place(header: &Header) -> bool
 
 /// A segment that a plain object file may have.
 fn is_plain(view: &SegmentView) -> bool
-    requires header { IsPlaced (placed view.now) }
-    requires comes { ComesToEnd (body_reader view.now.start (fields view.now.header) view.now.file.now) }
-    ensures { (s : Segment) → IsAt s view.now → (IsTrue result ↔ IsPlainSegment s) }
+    requires { IsSound view.now }
+    ensures { IsTrue result ↔ IsPlainSegment (shown view.now) }
 {
     if !asks_no_place(&view.header) {
         return false;
@@ -69,9 +67,8 @@ fn lesser_bank(a: u32, b: u32) -> u32
 
 /// A plain segment of this load name.
 fn is_member(view: &SegmentView, load_name: &[u8; 10]) -> bool
-    requires header { IsPlaced (placed view.now) }
-    requires comes { ComesToEnd (body_reader view.now.start (fields view.now.header) view.now.file.now) }
-    ensures { (s : Segment) → IsAt s view.now → (IsTrue result ↔ (IsPlainSegment s × (s.fields.load_name ≡ load_name.now))) }
+    requires { IsSound view.now }
+    ensures { IsTrue result ↔ (IsPlainSegment (shown view.now) × (view.now.header.load_name ≡ load_name.now)) }
 {
     is_plain(view) && view.header.load_name == *load_name
 }
@@ -94,9 +91,7 @@ pub struct Members {
 
 /// What the members have together, or None where they aren't those of a plain object file.
 pub fn members_of(list: &SegmentList) -> Option<Members>
-    requires { HasFile list.now }
-    ensures { (segments : List Segment) (file : List ℕ) → IsFile segments file → list.now ≡ views_of file segments
-        → MatchOption result (IsPlain segments → ⊥) (λ m. AreMembers segments m.total m.bank_size) }
+    ensures { MatchOption result (IsPlain list.now → ⊥) (λ m. AreMembers list.now m.total m.bank_size) }
 {
     let load_name = match list.get(1) {
         Some(first) => first.header.load_name,

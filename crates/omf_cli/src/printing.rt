@@ -1,8 +1,9 @@
 //! The lines that the tool prints.
 
 ghost use Rattle.std.specs.Prelude.{◌≡◌, ◌++◌, IfOk};
-ghost use Rattle.omf_cli.specs.Lines.{line, usage_line, refused_line};
-ghost use Rattle.omf_cli.specs.Listing.{cause_name};
+ghost use Rattle.omf_base.specs.Lines.{line};
+ghost use Rattle.omf_cli.specs.Lines.{usage_line, refused_line};
+ghost use Rattle.omf_cli.specs.FileCauses.{cause_name};
 ghost use Rattle.omf_cli.specs.Run.{script_cause_name, script_line};
 ghost use Rattle.omf_cli.specs.Ending.{HasPrinted, IsPrinted};
 

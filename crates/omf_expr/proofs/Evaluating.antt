@@ -1,5 +1,5 @@
 -- The terms that are left, on the values that are pending, have the value of the whole expression.
-use Rattle.std.proofs.Common.{◌≡◌, ℕ, ◌+◌, ◌-◌, ◌<◌, ◌≤◌, true, false, eqb, List, [], ◌∷◌, ◌++◌, length, Some, None, Result, Ok, Err, refl, sym, ap, subst, ◌∙◌, append_assoc, append-nil, arith, inl, inr}
+use Rattle.std.proofs.Common.{◌≡◌, ℕ, ◌+◌, ◌-◌, ◌<◌, ◌≤◌, true, false, eqb, List, [], ◌∷◌, ◌++◌, length, Some, None, Result, Ok, Err, sym, ap, subst, ◌∙◌, append_assoc, append-nil, arith, inl, inr}
 use Rattle.std.proofs.lemmas.Bool.{eq-eqb, ne_eqb, cases_eq}
 use Rattle.std.proofs.lemmas.List.{length-append}
 use Rattle.omf_format.specs.declared.fault.Flaw.{Flaw}
@@ -7,12 +7,13 @@ use Rattle.omf_format.specs.declared.value.Value.{Value}
 use Rattle.omf_format.specs.declared.value.ValueFault.{ValueFault}
 use Rattle.omf_format.specs.Field.{◌>>=◌}
 use Rattle.omf_format.specs.Expression.{Term, Operator, Location, Constant, Named, Offset, operand_count, operands_of, pending_behind, AreTerms, term_text, terms_text, Tree, terms_of, Spells, IsExpression, term_field, Lead}
-use Rattle.omf_format.specs.TermLaws.{term-again, end-again, both_read, term_takes_some}
+use Rattle.omf_format.specs.TermLaws.{term_takes_some}
 use Rattle.omf_format.specs.TreeLaws.{tree_has_terms, operand_counts}
 use Rattle.omf_format.specs.ExpressionLaws.{tree_leads_to_one, one-tree}
 use Rattle.omf_format.specs.Value.{Environment, operand_value, apply_one, apply_two, value}
 use Rattle.omf_expr.specs.Machine.{step_one, step_two, step, run}
 use Rattle.omf_expr.proofs.TreeRuns.{run-tree}
+use Rattle.omf_expr.proofs.TermRuns.{First, first_is, no_terms, never_cut}
 
 pub record Going (env : Environment) (l : ℕ) (text left : List ℕ) (pending : List Value) : Type 0 where
   pub tree : Tree
@@ -72,46 +73,6 @@ step_height env at Location pending after some e = omega (arith, bind_value (ope
 step_height env at (Constant n) pending after some e = omega (arith, bind_value (operand_value env at (Constant n)) pending after e)
 step_height env at (Named code name) pending after some e = omega (arith, bind_value (operand_value env at (Named code name)) pending after e)
 step_height env at (Offset n) pending after some e = omega (arith, bind_value (operand_value env at (Offset n)) pending after e)
-
--- ---- what is read
-
--- the term that is read is the first that is left
-pub record First (l : ℕ) (terms : List Term) (term : Term) (rest : List ℕ) : Type 0 where
-  pub others : List Term
-  pub split : terms ≡ term ∷ others
-  pub behind : rest ≡ terms_text l others ++ 0x00 ∷ []
-
-some_same : (t u : Term) → Some t ≡ Some u → t ≡ u
-some_same t u e = cc
-
-first_is : (l : ℕ) (left rest : List ℕ) (terms : List Term) (term : Term) → AreTerms l terms → left ≡ terms_text l terms ++ 0x00 ∷ [] → term_field l left ≡ Ok (Some term, rest) → First l terms term rest
-first_is l left rest [] term formed parts read =
-    let both = both_read l left (0x00 ∷ []) (Some term) None rest [] parts read (end-again l []) in
-    let apart : Some term ≡ None = both.0 in
-    absurd cc
-first_is l left rest (t ∷ terms) term formed parts read =
-    let more = terms_text l terms ++ 0x00 ∷ [] in
-    let both = both_read l left (term_text l t ++ more) (Some term) (Some t) rest more (parts ∙ append_assoc (term_text l t) (terms_text l terms) (0x00 ∷ [])) read (term-again l t more formed.0) in
-    record { others = terms; split = ap (λ (x : Term). x ∷ terms) (sym (some_same term t both.0)); behind = both.1 }
-
-no_terms : (l : ℕ) (left rest : List ℕ) (terms : List Term) → AreTerms l terms → left ≡ terms_text l terms ++ 0x00 ∷ [] → term_field l left ≡ Ok (None, rest) → terms ≡ []
-no_terms l left rest [] formed parts read = refl
-no_terms l left rest (t ∷ terms) formed parts read =
-    let more = terms_text l terms ++ 0x00 ∷ [] in
-    let both = both_read l left (term_text l t ++ more) None (Some t) rest more (parts ∙ append_assoc (term_text l t) (terms_text l terms) (0x00 ∷ [])) read (term-again l t more formed.0) in
-    let apart : None ≡ Some t = both.0 in
-    absurd cc
-
-never_cut : (l : ℕ) (left : List ℕ) (terms : List Term) (flaw : Flaw) → AreTerms l terms → left ≡ terms_text l terms ++ 0x00 ∷ [] → term_field l left ≡ Err flaw → ⊥
-never_cut l left [] flaw formed parts read =
-    let ends = end-again l [] in
-    let same : term_field l left ≡ term_field l (0x00 ∷ []) = ap (term_field l) parts in
-    absurd cc
-never_cut l left (t ∷ terms) flaw formed parts read =
-    let more = terms_text l terms ++ 0x00 ∷ [] in
-    let again = term-again l t more formed.0 in
-    let same : term_field l left ≡ term_field l (term_text l t ++ more) = ap (term_field l) (parts ∙ append_assoc (term_text l t) (terms_text l terms) (0x00 ∷ [])) in
-    absurd cc
 
 -- ---- the loop
 

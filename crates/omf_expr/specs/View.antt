@@ -1,8 +1,8 @@
 -- How terms and what a reader takes are seen.
-use Rattle.std.specs.Prelude.{List, ℕ, length, drop, Option, Some, None, Result, Ok, Err}
+use Rattle.std.specs.Prelude.{◌≡◌, ◌≤◌, ◌++◌, [], ◌∷◌, List, ℕ, length, drop, Option, Some, None, Result, Ok, Err}
 use Rattle.omf_format.specs.declared.fault.Flaw.{Flaw}
 use Rattle.omf_format.specs.declared.expression.ExprFault.{ExprFault}
-use Rattle.omf_format.specs.Expression.{Term, Expression, flaw_of}
+use Rattle.omf_format.specs.Expression.{Term, Expression, AreTerms, terms_text, flaw_of}
 use Rattle.omf_format.specs.Expression as format
 use Rattle.omf_expr.specs.declared.term.Term as declared
 use Rattle.omf_expr.specs.declared.term.Term.TheVariants as term
@@ -24,3 +24,14 @@ view_next (Some term) = Some (view term)
 abbrev pub as_field : List ℕ → Result Expression ExprFault → Result (List ℕ × List ℕ) Flaw
 as_field bytes (Ok e) = Ok (e.text, drop (length e.text) bytes)
 as_field bytes (Err fault) = Err (flaw_of fault)
+
+-- a term with its displacement
+abbrev pub view_placed : ℕ × declared.Term → ℕ × Term
+view_placed placed = (placed.0, view placed.1)
+
+-- what is left of an expression's bytes: terms, and the end
+pub record AreLeft (lab_len : ℕ) (text left : List ℕ) : Type 0 where
+  pub terms : List Term
+  pub formed : AreTerms lab_len terms
+  pub parts : left ≡ terms_text lab_len terms ++ 0x00 ∷ []
+  pub within : length left ≤ length text

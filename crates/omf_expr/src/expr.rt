@@ -1,12 +1,13 @@
 //! An expression in postfix form.
 
 ghost use Rattle.std.specs.Prelude.{◌≡◌, ◌<◌, ◌≤◌, List, ℕ, length, Ok, IfOk, IfErr, IfSome};
-ghost use Rattle.omf_format.specs.Expression.{operand_count, operands_of, judged, term_step, read_all, IsExpression, IsFirstFault, BeginsWith, expression_field};
+ghost use Rattle.omf_format.specs.Expression.{Tree, Spells, terms_of, terms_in, placed_terms, operand_count, operands_of, judged, term_step, read_all, IsExpression, IsFirstFault, BeginsWith, expression_field};
 ghost use Rattle.omf_format.specs.Field.{Gives};
 ghost use Rattle.omf_expr.specs.View.{view, view_next, as_field};
 
 use crate::reading::next_term;
 use crate::term::Term;
+use crate::terms::Terms;
 use omf_format::{ExprFault, Flaw};
 use std::marker::Model;
 
@@ -55,6 +56,17 @@ impl<'a> Expr<'a> {
         ensures expression { IsExpression self.now.lab_len result.now }
     {
         self.bytes
+    }
+
+    /// The terms of the expression, from the first on, as they stand in postfix order.
+    pub fn terms(&self) -> Terms<'a>
+        ensures tree { (tree : Tree) → Spells self.now.lab_len self.now.text tree
+            → result ≡ placed_terms self.now.lab_len 0 (terms_of tree) }
+
+        // As a function of the bytes.
+        ensures bytes { result ≡ terms_in self.now.lab_len 0 self.now.text }
+    {
+        Terms::of(self.bytes, self.lab_len)
     }
 
     /// The LABLEN of its names.

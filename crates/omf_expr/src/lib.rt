@@ -10,6 +10,7 @@ mod operators;
 mod reading;
 mod stack;
 mod term;
+mod terms;
 mod writing;
 
 pub use env::Env;
@@ -20,6 +21,7 @@ pub use laws::{
 };
 pub use omf_format::{ExprFault, Value, ValueFault};
 pub use term::Term;
+pub use terms::Terms;
 pub use writing::{ExprPutFault, put_term};
 
 #[cfg(test)]

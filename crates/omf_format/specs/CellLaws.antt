@@ -9,11 +9,11 @@ use Rattle.std.proofs.lemmas.List.Concat.{flat_map-cons}
 use Rattle.omf_format.specs.declared.load.LoadCause.TheVariants.{Sequence, DataTooLong}
 use Rattle.omf_format.specs.declared.load.LoadFault.{LoadFault}
 use Rattle.omf_format.specs.Header.{first_of}
-use Rattle.omf_format.specs.Record.{Record, End, Const, LongConst, Align, Org, Space, Reloc, InterSeg, ShortReloc, ShortInterSeg, Super, Using, Strong, Label, Equate, Formula}
-use Rattle.omf_format.specs.File.{Segment, IsSegment, AreSegments}
-use Rattle.omf_format.specs.Plain.{body_bytes}
-use Rattle.omf_format.specs.Cells.{Byte, Patch, segment_bytes, patched, patches_in, patches_of, cells, segment_at}
-use Rattle.omf_format.specs.Loadable.{Fault, record_refusal, IsLoadSegment, in_segment, first_in, shape_fault, later_fault, IsLoadable}
+use Rattle.omf_format.specs.Record.{Record, End, Const, LongConst, Align, Org, Space, Reloc, InterSeg, ShortReloc, ShortInterSeg, Super, Using, Strong, Label, Equate, Formula, Entry}
+use Rattle.omf_format.specs.File.{Segment, IsSegment, AreSegments, segment_at}
+use Rattle.omf_format.specs.Body.{body_bytes}
+use Rattle.omf_format.specs.Cells.{Byte, Patch, segment_bytes, patched, patches_in, patches_of, cells}
+use Rattle.omf_format.specs.Loadable.{Fault, record_refusal, IsLoadSegment, in_segment, first_in, shape_fault, target_fault, later_fault, IsLoadable}
 
 -- a record that isn't refused gives no patch
 no_patch : (s : Segment) (r : Record) → record_refusal r ≡ None → patches_in s r ≡ []
@@ -33,13 +33,18 @@ no_patch s (Strong name) e = refl
 no_patch s (Label global name size form private) e = refl
 no_patch s (Equate global name size form private expr) e = refl
 no_patch s (Formula code count n expr) e = refl
+no_patch s (Entry number offset name) e = refl
+
+-- the patches of a record, with its displacement
+abbrev placed_patches : Segment → ℕ × Record → List (ℕ × Patch)
+placed_patches s found = map (λ p. (found.0, p)) (patches_in s found.1)
 
 no_patches : (s : Segment) (founds : List (ℕ × Record)) → AllByRecursion (λ (found : ℕ × Record). record_refusal found.1 ≡ None) founds
-    → flat_map (λ (found : ℕ × Record). patches_in s found.1) founds ≡ []
+    → flat_map (placed_patches s) founds ≡ []
 no_patches s [] all = refl
 no_patches s (found ∷ founds) all =
-    flat_map-cons (λ (f : ℕ × Record). patches_in s f.1) found founds
-    ∙ ap (λ (l : List Patch). l ++ flat_map (λ (f : ℕ × Record). patches_in s f.1) founds) (no_patch s found.1 all.0)
+    flat_map-cons (placed_patches s) found founds
+    ∙ ap (λ (l : List Patch). map (λ (p : Patch). (found.0, p)) l ++ flat_map (placed_patches s) founds) (no_patch s found.1 all.0)
     ∙ no_patches s founds all.1
 
 -- a segment that passes phase 1 has no patch
@@ -47,10 +52,10 @@ pub unpatched : (s : Segment) → IsLoadSegment s → patches_of s ≡ []
 unfolding patches_of
 unpatched s pass = no_patches s s.records pass.records
 
--- its cells are its bytes
-pub cells-bytes : (s : Segment) → IsLoadSegment s → cells s ≡ map Byte (segment_bytes s)
+-- the cells of a segment without patches are its bytes
+pub cells-bytes : (s : Segment) → patches_of s ≡ [] → cells s ≡ map Byte (segment_bytes s)
 unfolding cells
-cells-bytes s pass = ap (patched (map Byte (segment_bytes s))) (unpatched s pass)
+cells-bytes s none = ap (λ (l : List (ℕ × Patch)). patched (map Byte (segment_bytes s)) (map (λ (p : ℕ × Patch). p.1) l)) none
 
 -- where LENGTH has room for the bytes of the records, the bytes are LENGTH in all
 pub length-segment_bytes : (s : Segment) → length (body_bytes s) ≤ s.fields.length → length (segment_bytes s) ≡ s.fields.length
@@ -119,13 +124,21 @@ pub record IsSegmentOf (file : List ℕ) (number : ℕ) (s : Segment) : Type 0 w
   pub pass : IsLoadSegment s
   pub shape : IsShaped number s
 
-pub loadable_at : (file : List ℕ) (segments : List Segment) → IsLoadable file segments → (number : ℕ) (s : Segment) → segment_at segments number ≡ Some s → IsSegmentOf file number s
+-- where no later phase finds anything, neither does each
+both_none : (a b : Option LoadFault) → option_or a b ≡ None → (a ≡ None) × (b ≡ None)
+both_none None b e = (refl, e)
+both_none (Some fault) b e = absurd cc
+
+later_none : (segments : List Segment) → later_fault segments ≡ None → (first_in shape_fault 1 segments ≡ None) × (first_in (target_fault segments) 1 segments ≡ None)
 unfolding later_fault
+later_none segments e = both_none (first_in shape_fault 1 segments) (first_in (target_fault segments) 1 segments) e
+
+pub loadable_at : (file : List ℕ) (segments : List Segment) → IsLoadable file segments → (number : ℕ) (s : Segment) → segment_at segments number ≡ Some s → IsSegmentOf file number s
 loadable_at file segments is zero s e = absurd cc
 loadable_at file segments is (suc k) s e =
     let place : 1 + k ≡ suc k = omega arith in
     record {
       segment = stands_in segments 0 file (length file) is.is_file k s e;
       pass = pass_at segments is.pass k s e;
-      shape = subst (λ (n : ℕ). IsShaped n s) place (shaped_at 1 segments is.sound k s e);
+      shape = subst (λ (n : ℕ). IsShaped n s) place (shaped_at 1 segments (later_none segments is.sound).0 k s e);
     }

@@ -105,7 +105,7 @@ pub record Expression : Type 0 where
   pub text : List ℕ
   pub lab_len : ℕ
 
--- ---- the first faulty term
+-- ---- reading terms
 
 -- what stands behind each code: a term or, at $00, the end; and the bytes behind it
 unfoldable pub term_field : ℕ → List ℕ → Result (Option Term × List ℕ) Flaw
@@ -118,6 +118,29 @@ term_field lab_len (code ∷ rest) =
     else if is_named code then name_field lab_len rest >>= (λ name. Ok (Some (Named code name.0), name.1))
     else if code == 0x87 then number_field 4 rest >>= (λ n. Ok (Some (Offset n.0), n.1))
     else Err Broken
+
+-- terms with their displacements, of which the first has this one
+abbrev pub placed_terms : ℕ → ℕ → List Term → List (ℕ × Term)
+placed_terms lab_len at [] = []
+placed_terms lab_len at (term ∷ terms) = (at, term) ∷ placed_terms lab_len (at + length (term_text lab_len term)) terms
+
+-- a term that was read, and those behind it, or none at the end
+abbrev pub term_then : ℕ → (List ℕ → List (ℕ × Term)) → Result (Option Term × List ℕ) Flaw → List (ℕ × Term)
+term_then at behind (Err flaw) = []
+term_then at behind (Ok (None, rest)) = []
+term_then at behind (Ok (Some term, rest)) = (at, term) ∷ behind rest
+
+-- the terms at the front, so many at most, with their displacements, of which the first has this one
+unfoldable pub first_terms : ℕ → ℕ → ℕ → List ℕ → List (ℕ × Term)
+first_terms zero lab_len at bytes = []
+first_terms (suc n) lab_len at bytes =
+    term_then at (λ rest. first_terms n lab_len (at + (length bytes - length rest)) rest) (term_field lab_len bytes)
+
+-- all terms up to the end: no more than there are bytes, since each term has one at least
+unfoldable pub terms_in : ℕ → ℕ → List ℕ → List (ℕ × Term)
+terms_in lab_len at bytes = first_terms (length bytes) lab_len at bytes
+
+-- ---- the first faulty term
 
 -- how many pending values a term takes; it leaves one
 abbrev pub operands_of : Term → ℕ

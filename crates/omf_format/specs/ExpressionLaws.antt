@@ -6,8 +6,8 @@ use Rattle.omf_format.specs.declared.expression.ExprFault.{ExprFault}
 use Rattle.omf_format.specs.declared.expression.ExprFault.TheVariants.{Truncated}
 use Rattle.omf_format.specs.HeaderLaws.{IsBytes}
 use Rattle.omf_format.specs.FieldLaws.{ok_is, Takes, IsBytes-drop}
-use Rattle.omf_format.specs.Expression.{Term, AreTerms, term_text, terms_text, Tree, IsTree, terms_of, depth, Spells, IsExpression, pending_behind, Lead, term_step, IsFirstFault, BeginsWith, read_from, read_all, flaw_of, split_of, expression_field}
-use Rattle.omf_format.specs.TermLaws.{term_takes_some, term-takes, terms_take_some, terms-same, StepIs, step-found, step-end, step-term}
+use Rattle.omf_format.specs.Expression.{Term, AreTerms, term_text, terms_text, Tree, IsTree, terms_of, depth, Spells, IsExpression, pending_behind, Lead, term_step, IsFirstFault, BeginsWith, placed_terms, first_terms, terms_in, read_from, read_all, flaw_of, split_of, expression_field}
+use Rattle.omf_format.specs.TermLaws.{term_takes_some, term-takes, term-again, end-again, terms_take_some, terms-same, StepIs, step-found, step-end, step-term}
 use Rattle.omf_format.specs.TreeLaws.{tree_has_terms, tree_leads, tree_of, tree-same}
 
 -- ---- one tree, and none begins another
@@ -229,6 +229,31 @@ no-fault l bytes text f p q =
     let first : read_all l bytes ≡ Ok p.rest = ap (read_all l) p.parts ∙ read-all-again l text p.rest p.expression in
     let second = read-all-fault-again l bytes f q in
     absurd cc
+
+-- ---- the terms of an expression
+
+-- terms up to the end are read with their displacements
+pub first_terms-again : (n l at : ℕ) (terms : List Term) (rest : List ℕ) → AreTerms l terms → length terms < n
+    → first_terms n l at (terms_text l terms ++ 0x00 ∷ rest) ≡ placed_terms l at terms
+unfolding first_terms
+first_terms-again zero l at terms rest are less = absurd (omega arith)
+first_terms-again (suc n) l at [] rest are less = let end = end-again l rest in rw end refl
+first_terms-again (suc n) l at (term ∷ terms) rest are less =
+    let text = term_text l term in
+    let more = terms_text l terms ++ 0x00 ∷ rest in
+    let whole : (text ++ terms_text l terms) ++ 0x00 ∷ rest ≡ text ++ more = append_assoc text (terms_text l terms) (0x00 ∷ rest) in
+    let read = term-again l term more are.0 in
+    let place : at + (length (text ++ more) - length more) ≡ at + length text = omega (arith, length-append text more) in
+    rw (whole, read, place) (ap (λ (ts : List (ℕ × Term)). (at, term) ∷ ts) (first_terms-again n l (at + length text) terms rest are.1 (omega arith)))
+
+pub terms_in-again : (l at : ℕ) (terms : List Term) (rest : List ℕ) → AreTerms l terms → terms_in l at (terms_text l terms ++ 0x00 ∷ rest) ≡ placed_terms l at terms
+unfolding terms_in
+terms_in-again l at terms rest are =
+    first_terms-again (length (terms_text l terms ++ 0x00 ∷ rest)) l at terms rest are (omega (arith, terms_take_some l terms, length-append (terms_text l terms) (0x00 ∷ rest)))
+
+-- the terms of an expression's bytes are those of its tree
+pub terms_are : (l : ℕ) (text : List ℕ) (tree : Tree) → Spells l text tree → terms_in l 0 text ≡ placed_terms l 0 (terms_of tree)
+terms_are l text tree is = ap (terms_in l 0) is.spelled ∙ terms_in-again l 0 (terms_of tree) [] (tree_has_terms l tree is.formed)
 
 -- ---- an expression as a field
 

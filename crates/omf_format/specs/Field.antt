@@ -12,6 +12,22 @@ abbrev pub ◌>>=◌ : {A B E : Type 0} → Result A E → (A → Result B E) �
 (Ok x) >>= f = f x
 (Err e) >>= f = Err e
 
+-- how a segment's names and its labels' lengths are laid out: LABLEN, and how many bytes a length has
+pub record Layout : Type 0 where
+  pub lab_len : ℕ
+  pub length_width : ℕ
+
+-- a length has two bytes, and one in version 1
+unfoldable pub length_width_of : ℕ → ℕ
+length_width_of version = if version == 1 then 1 else 2
+
+abbrev pub layout_of : ℕ → ℕ → Layout
+layout_of version lab_len = record { lab_len = lab_len; length_width = length_width_of version }
+
+-- what is written has LABLEN 0 and is of version 2
+abbrev pub written_layout : Layout
+written_layout = record { lab_len = 0; length_width = 2 }
+
 -- how a field is read from the front of the bytes
 abbrev pub Reads : Type 0 → Type 0
 Reads A = List ℕ → Result (A × List ℕ) Flaw

@@ -1,19 +1,20 @@
 -- The two laws of each field: what is read is spelled so, and what is spelled so is read, whatever follows it.
-use Rattle.std.proofs.Common.{◌≡◌, ℕ, ℤ, SFits, zero, suc, ◌+◌, ◌-◌, ◌^◌, ◌<◌, ◌≤◌, Bool, true, false, cond, ltb, leb, eqb, ◌⊎◌, List, [], ◌∷◌, ◌++◌, length, take, drop, replicate, Result, Ok, Err, refl, sym, ap, subst, ◌∙◌, append_assoc, arith, inl, inr}
+use Rattle.std.proofs.Common.{◌≡◌, ℕ, ℤ, SFits, zero, suc, ◌+◌, ◌-◌, ◌*◌, ◌/◌, ◌%◌, ◌^◌, ◌<◌, ◌≤◌, Bool, true, false, cond, ltb, leb, eqb, ◌⊎◌, List, [], ◌∷◌, ◌++◌, length, take, drop, replicate, Result, Ok, Err, refl, sym, ap, subst, ◌∙◌, append_assoc, arith, inl, inr}
 use Rattle.std.specs.Prelude.{◌&&◌, ◌||◌, ◌==◌, pos, negsuc}
 use Rattle.std.specs.List.{list_all}
 use Rattle.std.proofs.lemmas.Bool.{cases_lt, ltb-false, lt-ltb, le-ltb, eqb-true, eq-eqb, ne_eqb, leb-true, and_parts}
 use Rattle.std.proofs.lemmas.List.{take_at, drop_at, take-append-drop, length-append, length-take, length-replicate, get_or-drop, get_or-take, get_or_past}
 use Rattle.std.proofs.lemmas.List.Folds.{list_all-append}
-use Rattle.std.proofs.lemmas.Nat.{le_bytes_2, le_bytes_4}
+use Rattle.std.proofs.Math.Nat.{div-div-eq-div-mul, pow-succ'}
 use Rattle.std.proofs.lemmas.Int.{of_z-to_z, to_z-of_z}
-use Rattle.std.specs.Int.{w8, cast_signed}
-use Rattle.byteorder.specs.Endian.{little_number, little_bytes}
-use Rattle.byteorder.specs.Numbers.{little_number-reads_back, length-bytes_low_first, little_from-lt, little_from-take}
+use Rattle.std.specs.Int.{w8, cast_signed, byte_at, bytes_low_first}
+use Rattle.byteorder.specs.Endian.{little_from, little_number, little_bytes}
+use Rattle.byteorder.specs.Numbers.{little_number-reads_back, length-bytes_low_first, little_from-lt, little_from-take, little_from-cons}
 use Rattle.omf_format.specs.declared.fault.Flaw.{Flaw}
 use Rattle.omf_format.specs.declared.fault.Flaw.TheVariants.{Cut, Broken}
 use Rattle.omf_format.specs.Number.{number_at}
 use Rattle.omf_format.specs.Name.{without_trailing, name_at, name_size}
+use Rattle.omf_format.specs.Header.{version_of, kind_of, kind_of_byte}
 use Rattle.omf_format.specs.HeaderLaws.{IsBytes}
 use Rattle.omf_format.specs.Field.{◌>>=◌, Reads, ◌⊗◌, checked, byte_field, bytes_field, number_field, name_field, name_text, IsName, is_count, count_field, is_shift, shift_byte, shift_field}
 
@@ -90,24 +91,38 @@ bytes_again n text rest len =
     let long : ltb (length (text ++ rest)) n ≡ false = le-ltb _ _ (omega (arith, length-append text rest)) in
     rw (long, take_at text rest n len, drop_at text rest n len) refl
 
--- the bytes of the number that a width of bytes stands for are these bytes
-pub record IsWidth (w : ℕ) : Type 0 where
-  pub back : (bytes : List ℕ) → length bytes ≡ w → IsBytes bytes → little_bytes w (little_number w bytes) ≡ bytes
+-- a byte of a number is a byte of its 256th part
+byte_at-next : (j n : ℕ) → byte_at (suc j) n ≡ byte_at j (n / 256)
+byte_at-next zero n = refl
+byte_at-next (suc j) n =
+    let grown : 256 ^ suc (suc j) ≡ 256 * 256 ^ suc j = pow-succ' 256 (suc j) in
+    ap (λ (p : ℕ). n / p % 256) grown ∙ ap (λ (q : ℕ). q % 256) (sym (div-div-eq-div-mul n 256 (256 ^ suc j)))
 
-pub width4 : IsWidth 4
-width4 = record { back = λ bytes len fits. le_bytes_4 bytes (little_number 4 bytes) len fits (omega arith) }
+bytes-next : (k j n : ℕ) → bytes_low_first (suc j) k n ≡ bytes_low_first j k (n / 256)
+bytes-next zero j n = refl
+bytes-next (suc k) j n = rw (byte_at-next j n, bytes-next k (suc j) n) refl
 
-pub width2 : IsWidth 2
-width2 = record { back = λ bytes len fits. le_bytes_2 bytes (little_number 2 bytes) len fits (omega arith) }
+-- the bytes of the number that bytes stand for are these bytes
+pub bytes_back : (w : ℕ) (bytes : List ℕ) → length bytes ≡ w → IsBytes bytes → little_bytes w (little_number w bytes) ≡ bytes
+bytes_back zero [] len fits = refl
+bytes_back zero (b ∷ bytes) len fits = absurd (omega arith)
+bytes_back (suc w) [] len fits = absurd (omega arith)
+bytes_back (suc w) (b ∷ bytes) len fits =
+    let byte : b < 256 = fits 0 in
+    let behind : little_from 1 w (b ∷ bytes) ≡ little_number w bytes = little_from-cons 0 w b bytes in
+    let rest = little_number w bytes in
+    let low : (b + 256 * rest) % 256 ≡ b = omega (arith, byte) in
+    let high : (b + 256 * rest) / 256 ≡ rest = omega (arith, byte) in
+    rw (behind, bytes-next w 0 (b + 256 * rest), low, high, bytes_back w bytes (omega arith) (IsBytes-rest b bytes fits)) refl
 
-pub number_takes : (w : ℕ) (wide : IsWidth w) (bytes : List ℕ) (n : ℕ) (rest : List ℕ) → IsBytes bytes → number_field w bytes ≡ Ok (n, rest) → Takes bytes (little_bytes w n) rest × (n < 256 ^ w)
+pub number_takes : (w : ℕ) (bytes : List ℕ) (n : ℕ) (rest : List ℕ) → IsBytes bytes → number_field w bytes ≡ Ok (n, rest) → Takes bytes (little_bytes w n) rest × (n < 256 ^ w)
 unfolding number_field number_at
-number_takes w wide bytes n rest fits e =
+number_takes w bytes n rest fits e =
     let g = guard_ok (ltb (length bytes) w) Cut (number_at w 0 bytes, drop w bytes) (n, rest) e in
     let long : w ≤ length bytes = ltb-false _ _ g.0 in
     let same : little_number w (take w bytes) ≡ little_number w bytes = little_from-take 0 w w bytes (omega arith) in
     let text : little_bytes w (little_number w bytes) ≡ take w bytes =
-    ap (little_bytes w) (sym same) ∙ wide.back (take w bytes) (omega (arith, length-take w bytes)) (IsBytes-take w bytes fits) in
+    ap (little_bytes w) (sym same) ∙ bytes_back w (take w bytes) (omega (arith, length-take w bytes)) (IsBytes-take w bytes fits) in
     let taken : Takes bytes (little_bytes w (little_number w bytes)) (drop w bytes) × (little_number w bytes < 256 ^ w) =
     (record { parts = rw text (sym (take-append-drop w bytes)); rest_fits = IsBytes-drop w bytes fits }, little_from-lt 0 w bytes fits) in
     subst (λ (p : ℕ × List ℕ). Takes bytes (little_bytes w p.0) p.1 × (p.0 < 256 ^ w)) g.1 taken
@@ -118,6 +133,15 @@ number_again w n rest fits =
     let width = length-bytes_low_first 0 w n in
     let long : ltb (length (little_bytes w n ++ rest)) w ≡ false = le-ltb _ _ (omega (arith, length-append (little_bytes w n) rest, width)) in
     rw (long, little_number-reads_back w n rest fits, drop_at (little_bytes w n) rest w width) refl
+
+-- KIND has two bytes
+pub kind_of-lt : (bytes : List ℕ) → IsBytes bytes → kind_of bytes < 2 ^ 16
+unfolding kind_of number_at
+kind_of-lt bytes fits = by_version (eqb (version_of bytes) 1)
+  where
+    by_version : (b : Bool) → cond b (kind_of_byte (little_number 1 (drop 0x0C bytes))) (little_number 2 (drop 0x14 bytes)) < 2 ^ 16
+    by_version true = omega (arith, little_from-lt 0 1 (drop 0x0C bytes) (IsBytes-drop 0x0C bytes fits))
+    by_version false = little_from-lt 0 2 (drop 0x14 bytes) (IsBytes-drop 0x14 bytes fits)
 
 -- ---- lists without what pads them
 
@@ -171,6 +195,15 @@ length-trim b xs = omega (arith, ap length (padded-trim b xs), length-append (wi
 -- the number of one byte
 one_byte : (b : ℕ) (bytes : List ℕ) → little_number 1 (b ∷ bytes) ≡ b
 one_byte b bytes = omega arith
+
+-- a number of one byte is a byte
+pub number_of_byte : (bytes : List ℕ) → number_field 1 bytes ≡ byte_field bytes
+unfolding number_field byte_field number_at
+number_of_byte [] = refl
+number_of_byte (b ∷ bytes) =
+    let some : ltb (suc (length bytes)) 1 ≡ false = le-ltb _ _ (omega arith) in
+    let is : little_number 1 (b ∷ bytes) ≡ b = one_byte b bytes in
+    rw (some, is) refl
 
 -- what is there after both tests
 named : {A : Type 0} (cut empty : Bool) (x y : A) → cond cut (Err Cut) (cond empty (Err Broken) (Ok x)) ≡ Ok y → (cut ≡ false) × (empty ≡ false) × (x ≡ y)
@@ -293,9 +326,9 @@ bytes_is_field n = record {
   again = λ text rest is. bytes_again n text rest is;
 }
 
-pub number_is_field : (w : ℕ) → IsWidth w → IsField (λ n. n < 256 ^ w) (little_bytes w) (number_field w)
-number_is_field w wide = record {
-  takes = λ bytes found fits e. let t = number_takes w wide bytes found.0 found.1 fits e in (t.1, t.0);
+pub number_is_field : (w : ℕ) → IsField (λ n. n < 256 ^ w) (little_bytes w) (number_field w)
+number_is_field w = record {
+  takes = λ bytes found fits e. let t = number_takes w bytes found.0 found.1 fits e in (t.1, t.0);
   again = λ n rest is. number_again w n rest is;
 }
 

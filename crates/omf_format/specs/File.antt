@@ -1,14 +1,16 @@
 -- A file is its segments, one behind another; its first fault, with segment and displacement (GS/OS Reference, appendix F).
-use Rattle.std.specs.Prelude.{◌≡◌, ℕ, ◌+◌, ◌<◌, true, false, List, [], ◌∷◌, length, take, drop, Some, None, Err}
+use Rattle.std.specs.Prelude.{◌≡◌, ℕ, ◌+◌, ◌<◌, true, false, List, [], ◌∷◌, length, take, drop, Some, None, Err, Option, slice_get, zero, suc}
 use Rattle.omf_format.specs.declared.fault.HeaderFault.{HeaderFault}
 use Rattle.omf_format.specs.declared.fault.HeaderFault.TheVariants as header
 use Rattle.omf_format.specs.declared.fault.RecordFault.{RecordFault}
 use Rattle.omf_format.specs.declared.fault.RecordFault.TheVariants as record_faults
+use Rattle.omf_format.specs.declared.fault.FileCause.{FileCause}
 use Rattle.omf_format.specs.declared.fault.FileCause.TheVariants as cause
 use Rattle.omf_format.specs.declared.fault.FileFault.{FileFault}
-use Rattle.omf_format.specs.Header.{Fields, fields_of, header_fault, displacement_of}
+use Rattle.omf_format.specs.Header.{Fields, fields_of, version_of, header_fault, displacement_of}
+use Rattle.omf_format.specs.Field.{layout_of}
 use Rattle.omf_format.specs.Record.{Record}
-use Rattle.omf_format.specs.Reading.{Reader, next_answer, HandsOut}
+use Rattle.omf_format.specs.Reading.{Reader, next_answer, HandsOut, records_of}
 
 -- a segment of a file: where it starts, its header's fields, and its records with their displacements, END being the last
 pub record Segment : Type 0 where
@@ -22,7 +24,7 @@ body_reader start f file = record {
   end = start + f.byte_count;
   left = drop (start + f.disp_data) (take (start + f.byte_count) file);
   ended = false;
-  lab_len = f.lab_len;
+  layout = layout_of f.version f.lab_len;
 }
 
 -- the header stands there, and passes its checks
@@ -47,24 +49,45 @@ AreSegments (s ∷ segments) at file next =
 abbrev pub IsFile : List Segment → List ℕ → Type 0
 IsFile segments file = AreSegments segments 0 file (length file)
 
--- a header's fault as one of the file: its segment's start, and the displacement of the field
-abbrev pub SaysHeader : HeaderFault → ℕ → FileFault → Type 0
-SaysHeader (header.Truncated n) start fault = (fault.cause ≡ cause.Truncated) × (fault.at ≡ start + n)
-SaysHeader (header.Unsupported field) start fault = (fault.cause ≡ cause.Unsupported) × (fault.at ≡ start + displacement_of field)
-SaysHeader (header.BadField field) start fault = (fault.cause ≡ cause.BadHeader) × (fault.at ≡ start + displacement_of field)
-SaysHeader header.Memory start fault = ⊥
+-- a segment's place in a file, and its header
+pub record Placed : Type 0 where
+  pub start : ℕ
+  pub fields : Fields
+  pub file : List ℕ
 
--- a record's fault as one of the file
-abbrev pub SaysRecord : RecordFault → FileFault → Type 0
-SaysRecord (record_faults.Truncated at) fault = (fault.cause ≡ cause.Truncated) × (fault.at ≡ at)
-SaysRecord (record_faults.Unsupported code at) fault = (fault.cause ≡ cause.Unsupported) × (fault.at ≡ at)
-SaysRecord (record_faults.BadRecord at) fault = (fault.cause ≡ cause.BadRecord) × (fault.at ≡ at)
+-- the segment whose header stands there, with the records that a reader of its body hands out
+abbrev pub segment_of : Placed → Segment
+segment_of p = record { start = p.start; fields = p.fields; records = records_of (body_reader p.start p.fields p.file) }
+
+-- the segment with this number, from 1
+abbrev pub segment_at : List Segment → ℕ → Option Segment
+segment_at segments zero = None
+segment_at segments (suc k) = slice_get segments k
+
+-- ---- the first fault
+
+-- what a fault is told as: its cause, and its displacement in the file
+abbrev pub Told : Type 0
+Told = FileCause × ℕ
+
+-- a fault of the header that starts there, of a version: the end of the bytes, or the place of the field; no check says Memory
+abbrev pub told_header : ℕ → ℕ → HeaderFault → Told
+told_header start version (header.Truncated n) = (cause.Truncated, start + n)
+told_header start version (header.Unsupported field) = (cause.Unsupported, start + displacement_of version field)
+told_header start version (header.BadField field) = (cause.BadHeader, start + displacement_of version field)
+told_header start version header.Memory = (cause.Memory, start)
+
+-- a fault of a record
+abbrev pub told_record : RecordFault → Told
+told_record (record_faults.Truncated at) = (cause.Truncated, at)
+told_record (record_faults.Unsupported code at) = (cause.Unsupported, at)
+told_record (record_faults.BadRecord at) = (cause.BadRecord, at)
 
 -- the first fault of the segment that starts there is this one: its header's, or else that of the first record at fault
-pub data HasFault (start : ℕ) (file : List ℕ) (fault : FileFault) : Type 0 where
-  InHeader : (of : HeaderFault) → header_fault (drop start file) ≡ Some of → SaysHeader of start fault → HasFault start file fault
+pub data HasFault (start : ℕ) (file : List ℕ) (told : Told) : Type 0 where
+  InHeader : (of : HeaderFault) → header_fault (drop start file) ≡ Some of → told ≡ told_header start (version_of (drop start file)) of → HasFault start file told
   InRecord : (f : Fields) (before : List (ℕ × Record)) (reader : Reader) (of : RecordFault) → IsHeader start f file
-      → HandsOut (body_reader start f file) before reader → next_answer reader ≡ Err of → SaysRecord of fault → HasFault start file fault
+      → HandsOut (body_reader start f file) before reader → next_answer reader ≡ Err of → told ≡ told_record of → HasFault start file told
 
 -- the first fault of a file: the segments before it are sound, and the next one has it
 pub record IsFirstFault (file : List ℕ) (fault : FileFault) : Type 0 where
@@ -73,4 +96,4 @@ pub record IsFirstFault (file : List ℕ) (fault : FileFault) : Type 0 where
   pub sound : AreSegments before 0 file at
   pub more : at < length file
   pub number : fault.segment ≡ length before + 1
-  pub here : HasFault at file fault
+  pub here : HasFault at file (fault.cause, fault.at)

@@ -1,15 +1,15 @@
 -- A file is read in one way: it has one list of segments, or one first fault, and not both.
-use Rattle.std.proofs.Common.{◌≡◌, ℕ, ◌+◌, ◌*◌, ◌≤◌, Bool, true, false, cond, List, [], ◌∷◌, ◌++◌, length, drop, Option, Some, None, Result, Ok, Err, refl, sym, ap, subst, ◌∙◌, arith}
+use Rattle.std.proofs.Common.{◌≡◌, ℕ, suc, ◌+◌, ◌*◌, ◌≤◌, Bool, true, false, cond, List, [], ◌∷◌, ◌++◌, length, drop, Option, Some, None, Result, Ok, Err, refl, sym, ap, subst, ◌∙◌, arith}
 use Rattle.std.proofs.lemmas.List.{append-nil, length-drop}
 use Rattle.omf_format.specs.declared.fault.Flaw.{Flaw}
 use Rattle.omf_format.specs.declared.fault.HeaderFault.{HeaderFault}
 use Rattle.omf_format.specs.declared.fault.RecordFault.{RecordFault}
 use Rattle.omf_format.specs.declared.fault.FileFault.{FileFault}
-use Rattle.omf_format.specs.Header.{Fields, fields_of, names_end, header_fault}
+use Rattle.omf_format.specs.Header.{Fields, fields_of, version_of, names_end, header_fault}
 use Rattle.omf_format.specs.HeaderLaws.{IsSound, sound_from_none}
 use Rattle.omf_format.specs.Record.{Record}
 use Rattle.omf_format.specs.Reading.{Reader, front, told, next_answer, after_next, HandsOut}
-use Rattle.omf_format.specs.File.{Segment, body_reader, IsHeader, IsSegment, AreSegments, IsFile, HasFault, InHeader, InRecord, IsFirstFault}
+use Rattle.omf_format.specs.File.{Segment, body_reader, IsHeader, IsSegment, AreSegments, IsFile, Told, told_header, told_record, HasFault, InHeader, InRecord, IsFirstFault}
 
 abbrev pub Answer : Type 0
 Answer = Result (Option (ℕ × Record)) RecordFault
@@ -43,9 +43,9 @@ ended_at_none r e = cases r.ended refl e
     told_some (Ok found) e = cc
     told_some (Err flaw) e = cc
 
-    cases : (b : Bool) → b ≡ r.ended → cond b nothing (told r (front r.lab_len r.left)) ≡ Ok None → r.ended ≡ true
+    cases : (b : Bool) → b ≡ r.ended → cond b nothing (told r (front r.layout r.left)) ≡ Ok None → r.ended ≡ true
     cases true is e = sym is
-    cases false is e = absurd (told_some (front r.lab_len r.left) e)
+    cases false is e = absurd (told_some (front r.layout r.left) e)
 
 -- a reader that hands out a record has not ended
 pub open_at_some : (r : Reader) (found : ℕ × Record) → next_answer r ≡ Ok (Some found) → r.ended ≡ true → ⊥
@@ -142,16 +142,19 @@ file_same a b file p q =
     nothing_left [] h = refl
     nothing_left (s ∷ more) h = absurd (omega arith)
 
+abbrev some : HeaderFault → Option HeaderFault
+some of = Some of
+
+some_same : (a b : HeaderFault) → some a ≡ some b → a ≡ b
+some_same a b e = cc
+
 -- no segment stands where a fault is
-no_segment : (at : ℕ) (file : List ℕ) (fault : FileFault) (s : Segment) → HasFault at file fault → s.start ≡ at → IsSegment s file → ⊥
-no_segment at file fault s (InHeader of is says) start segment =
+no_segment : (at : ℕ) (file : List ℕ) (told : Told) (s : Segment) → HasFault at file told → s.start ≡ at → IsSegment s file → ⊥
+no_segment at file told s (InHeader of is says) start segment =
     let none : header_fault (drop at file) ≡ None = ap (λ (n : ℕ). header_fault (drop n file)) (sym start) ∙ segment.header.passes in
     let clash : some of ≡ None = sym is ∙ none in
     cc
-  where
-    some : HeaderFault → Option HeaderFault
-    some f = Some f
-no_segment at file fault s (InRecord f before reader of header run is says) start segment =
+no_segment at file told s (InRecord f before reader of header run is says) start segment =
     let fields : s.fields ≡ f = segment.header.fields ∙ ap (λ (n : ℕ). fields_of (drop n file)) start ∙ sym header.fields in
     let whole : body_reader s.start s.fields file ≡ body_reader at f file =
     ap (λ (n : ℕ). body_reader n s.fields file) start ∙ ap (λ (g : Fields). body_reader at g file) fields in
@@ -165,7 +168,57 @@ no_file file fault segments first is =
   where
     stops : (more : List Segment) → AreSegments more first.at file (length file) → ⊥
     stops [] h = absurd (omega (arith, first.more))
-    stops (s ∷ more) h = no_segment first.at file fault s first.here h.0 h.2
+    stops (s ∷ more) h = no_segment first.at file (fault.cause, fault.at) s first.here h.0 h.2
+
+-- ---- one first fault
+
+failed_same : (a b : RecordFault) → failed a ≡ failed b → a ≡ b
+failed_same a b e = cc
+
+-- two runs from one reader to a fault end at one fault
+stops_same : (r : Reader) (xs ys : List (ℕ × Record)) (x y : Reader) (a b : RecordFault) → HandsOut r xs x → HandsOut r ys y
+    → next_answer x ≡ Err a → next_answer y ≡ Err b → a ≡ b
+stops_same r [] [] x y a b p q e f = failed_same a b (sym e ∙ ap next_answer (sym p ∙ q) ∙ f)
+stops_same r [] (found ∷ ys) x y a b p q e f = let clash : gave found ≡ failed a = sym q.0 ∙ ap next_answer p ∙ e in cc
+stops_same r (found ∷ xs) [] x y a b p q e f = let clash : gave found ≡ failed b = sym p.0 ∙ ap next_answer q ∙ f in cc
+stops_same r (found ∷ xs) (other ∷ ys) x y a b p q e f = stops_same (after_next r) xs ys x y a b p.1 q.1 e f
+
+-- a segment has one first fault
+told_same : (at : ℕ) (file : List ℕ) (a b : Told) → HasFault at file a → HasFault at file b → a ≡ b
+told_same at file a b (InHeader x is says) (InHeader y is' says') =
+    says ∙ ap (told_header at (version_of (drop at file))) (some_same x y (sym is ∙ is')) ∙ sym says'
+told_same at file a b (InHeader x is says) (InRecord f before reader of header run is' says') =
+    let clash : some x ≡ None = sym is ∙ header.passes in
+    cc
+told_same at file a b (InRecord f before reader of header run is says) (InHeader y is' says') =
+    let clash : some y ≡ None = sym is' ∙ header.passes in
+    cc
+told_same at file a b (InRecord f xs x of header run is says) (InRecord g ys y of' header' run' is' says') =
+    let fields : g ≡ f = header'.fields ∙ sym header.fields in
+    let same = stops_same (body_reader at f file) xs ys x y of of' run (subst (λ (h : Fields). HandsOut (body_reader at h file) ys y) fields run') is is' in
+    says ∙ ap told_record same ∙ sym says'
+
+-- two segments at fault, behind sound segments of one file, are one
+faults_same : (xs ys : List Segment) (at x y : ℕ) (file : List ℕ) (a b : Told) → AreSegments xs at file x → AreSegments ys at file y
+    → HasFault x file a → HasFault y file b → (a ≡ b) × (length xs ≡ length ys)
+faults_same [] [] at x y file a b p q h k = (told_same y file a b (subst (λ (n : ℕ). HasFault n file a) (sym p ∙ q) h) k, refl)
+faults_same [] (s ∷ ys) at x y file a b p q h k = absurd (no_segment x file a s h (q.0 ∙ p) q.2)
+faults_same (s ∷ xs) [] at x y file a b p q h k = absurd (no_segment y file b s k (p.0 ∙ q) p.2)
+faults_same (s ∷ xs) (t ∷ ys) at x y file a b p q h k =
+    let same : t ≡ s = segment_same t s file q.2 p.2 (q.0 ∙ sym p.0) in
+    let tail : AreSegments ys (at + s.fields.byte_count) file y = subst (λ (u : Segment). AreSegments ys (at + u.fields.byte_count) file y) same q.3 in
+    let rest = faults_same xs ys (at + s.fields.byte_count) x y file a b p.3 tail h k in
+    (rest.0, ap suc rest.1)
+
+-- a file has one first fault
+pub one_first_fault : (file : List ℕ) (a b : FileFault) → IsFirstFault file a → IsFirstFault file b → a ≡ b
+one_first_fault file a b p q =
+    let both = faults_same p.before q.before 0 p.at q.at file (a.cause, a.at) (b.cause, b.at) p.sound q.sound p.here q.here in
+    let numbers : a.segment ≡ b.segment = p.number ∙ ap (λ (n : ℕ). n + 1) both.1 ∙ sym q.number in
+    ap (λ (n : ℕ). made n (a.cause, a.at)) numbers ∙ ap (made b.segment) both.0
+  where
+    made : ℕ → Told → FileFault
+    made number told = record { cause = told.0; segment = number; at = told.1 }
 
 -- ---- a segment lies in its file
 

@@ -1,5 +1,5 @@
 -- A segment's header: its fields, and the checks that it has to pass (GS/OS Reference, appendix F, "Segment header").
-use Rattle.std.specs.Prelude.{◌≡◌, ◌≤◌, ℕ, ◌+◌, ◌%◌, Bool, true, not, ◌||◌, List, [], ◌∷◌, ◌++◌, length, take, drop, Option, Some, None, nat_lt, ◌==◌, if◌then◌else◌}
+use Rattle.std.specs.Prelude.{◌≡◌, ◌≤◌, ℕ, ◌+◌, ◌*◌, ◌/◌, ◌%◌, Bool, true, not, ◌||◌, bit_and, List, [], ◌∷◌, ◌++◌, length, take, drop, Option, Some, None, nat_lt, nat_le, ◌==◌, if◌then◌else◌}
 use Rattle.std.specs.List.{list_any}
 use Rattle.byteorder.specs.Endian.{little_bytes}
 use Rattle.omf_format.specs.declared.fault.HeaderFault.{HeaderFault}
@@ -15,6 +15,7 @@ pub record Fields : Type 0 where
   pub res_spc : ℕ
   pub length : ℕ
   pub lab_len : ℕ
+  pub version : ℕ
   pub bank_size : ℕ
   pub kind : ℕ
   pub org : ℕ
@@ -26,15 +27,32 @@ pub record Fields : Type 0 where
   pub load_name : List ℕ
   pub name : List ℕ
 
+-- VERSION stands at $0F
+unfoldable pub version_of : List ℕ → ℕ
+version_of bytes = number_at 1 0x0F bytes
+
+-- BYTECNT is the number at $00; in version 1 that number counts blocks of 512 bytes
+unfoldable pub byte_count_of : List ℕ → ℕ
+byte_count_of bytes = if version_of bytes == 1 then 512 * number_at 4 0x00 bytes else number_at 4 0x00 bytes
+
+-- KIND of version 1 is one byte: the type in bits 0 to 4, and in bits 5 to 7 what later versions have in bits 13 to 15
+abbrev pub kind_of_byte : ℕ → ℕ
+kind_of_byte byte = byte % 32 + 256 * (byte / 32 * 32)
+
+-- KIND is the number at $14, in version 1 the byte at $0C
+unfoldable pub kind_of : List ℕ → ℕ
+kind_of bytes = if version_of bytes == 1 then kind_of_byte (number_at 1 0x0C bytes) else number_at 2 0x14 bytes
+
 -- each field stands at its displacement, and at DISPNAME stand the load name of ten bytes and the segment's name
 unfoldable pub fields_of : List ℕ → Fields
 fields_of bytes = record {
-  byte_count = number_at 4 0x00 bytes;
+  byte_count = byte_count_of bytes;
   res_spc = number_at 4 0x04 bytes;
   length = number_at 4 0x08 bytes;
   lab_len = number_at 1 0x0D bytes;
+  version = version_of bytes;
   bank_size = number_at 4 0x10 bytes;
-  kind = number_at 2 0x14 bytes;
+  kind = kind_of bytes;
   org = number_at 4 0x18 bytes;
   align = number_at 4 0x1C bytes;
   seg_num = number_at 2 0x22 bytes;
@@ -49,6 +67,8 @@ fields_of bytes = record {
 unfoldable pub names_end : List ℕ → ℕ
 names_end bytes = number_at 2 0x28 bytes + 10 + name_size (number_at 1 0x0D bytes) (number_at 2 0x28 bytes + 10) bytes
 
+-- ---- KIND, BANKSIZE and ALIGN
+
 -- the type of a segment is in the low five bits of KIND
 abbrev pub form_of : ℕ → ℕ
 form_of kind = kind % 32
@@ -57,20 +77,69 @@ form_of kind = kind % 32
 abbrev pub is_listed : ℕ → Bool
 is_listed form = list_any (λ t. t == form) (0x00 ∷ 0x01 ∷ 0x02 ∷ 0x04 ∷ 0x08 ∷ 0x10 ∷ 0x12 ∷ [])
 
+-- an attribute is a bit of KIND
+abbrev pub has_attribute : ℕ → ℕ → Bool
+has_attribute bit kind = not (bit_and kind bit == 0)
+
+-- the bank that it asks for is relative
+abbrev pub is_bank_relative : ℕ → Bool
+is_bank_relative kind = has_attribute 0x0100 kind
+
+-- it is never loaded
+abbrev pub is_skipped : ℕ → Bool
+is_skipped kind = has_attribute 0x0200 kind
+
+-- it is read again at each restart
+abbrev pub is_reload : ℕ → Bool
+is_reload kind = has_attribute 0x0400 kind
+
+-- ORG asks for a bank
+abbrev pub is_absolute_bank : ℕ → Bool
+is_absolute_bank kind = has_attribute 0x0800 kind
+
+-- it may not lie in special memory
+abbrev pub avoids_special : ℕ → Bool
+avoids_special kind = has_attribute 0x1000 kind
+
+-- its names are seen in its own file alone
+abbrev pub is_private : ℕ → Bool
+is_private kind = has_attribute 0x4000 kind
+
+-- it is loaded when it is first called
+abbrev pub is_dynamic : ℕ → Bool
+is_dynamic kind = has_attribute 0x8000 kind
+
+-- BANKSIZE 0 lets a segment cross banks, and every other one forbids it
+abbrev pub stays_in_bank : ℕ → Bool
+stays_in_bank bank_size = not (bank_size == 0)
+
+-- the alignment of ALIGN: none, a page, or a bank
+abbrev pub alignment_of : ℕ → ℕ
+alignment_of align = if align == 0 then 1 else if nat_le align 0x100 then 0x100 else 0x10000
+
+-- ---- the checks
+
+-- the versions that are read
+abbrev pub is_read_version : ℕ → Bool
+is_read_version version = version == 1 || version == 2
+
 -- the checks of a header in their order, each with the refusal where it holds; the bytes are those from the segment's start to the file's end
-unfoldable pub header_checks : List ℕ → List (Bool × HeaderFault)
-header_checks bytes =
+abbrev pub checks_of : Fields → List ℕ → List (Bool × HeaderFault)
+checks_of f bytes =
     (nat_lt (length bytes) 44, Truncated (length bytes))
     ∷ (not (number_at 1 0x0E bytes == 4), Unsupported NumLen)
-    ∷ (not (number_at 1 0x0F bytes == 2), Unsupported Version)
-    ∷ (nat_lt 0x10000 (number_at 4 0x10 bytes), BadField BankSize)
-    ∷ (not (is_listed (form_of (number_at 2 0x14 bytes))), Unsupported Kind)
+    ∷ (not (is_read_version f.version), Unsupported Version)
+    ∷ (nat_lt 0x10000 f.bank_size, BadField BankSize)
+    ∷ (not (is_listed (form_of f.kind)), Unsupported Kind)
     ∷ (not (number_at 1 0x20 bytes == 0), Unsupported NumSex)
-    ∷ (nat_lt (number_at 2 0x28 bytes) 0x2C, BadField DispName)
-    ∷ (nat_lt (length bytes) (number_at 4 0x00 bytes), Truncated (length bytes))
-    ∷ (nat_lt (number_at 2 0x2A bytes) (names_end bytes) || nat_lt (number_at 4 0x00 bytes) (number_at 2 0x2A bytes), BadField DispData)
-    ∷ (nat_lt (number_at 4 0x08 bytes) (number_at 4 0x04 bytes), BadField ResSpc)
+    ∷ (nat_lt f.disp_name 0x2C, BadField DispName)
+    ∷ (nat_lt (length bytes) f.byte_count, Truncated (length bytes))
+    ∷ (nat_lt f.disp_data (names_end bytes) || nat_lt f.byte_count f.disp_data, BadField DispData)
+    ∷ (nat_lt f.length f.res_spc, BadField ResSpc)
     ∷ []
+
+unfoldable pub header_checks : List ℕ → List (Bool × HeaderFault)
+header_checks bytes = checks_of (fields_of bytes) bytes
 
 -- the fault of the first check that holds, if one does
 abbrev pub first_of : {F : Type 0} → List (Bool × F) → Option F
@@ -81,16 +150,16 @@ first_of (check ∷ checks) = if check.0 then Some check.1 else first_of checks
 unfoldable pub header_fault : List ℕ → Option HeaderFault
 header_fault bytes = first_of (header_checks bytes)
 
--- where in the header a field stands
-abbrev pub displacement_of : Field → ℕ
-displacement_of NumLen = 0x0E
-displacement_of Version = 0x0F
-displacement_of BankSize = 0x10
-displacement_of Kind = 0x14
-displacement_of NumSex = 0x20
-displacement_of DispName = 0x28
-displacement_of DispData = 0x2A
-displacement_of ResSpc = 0x04
+-- where in a header of a version a field stands
+abbrev pub displacement_of : ℕ → Field → ℕ
+displacement_of version NumLen = 0x0E
+displacement_of version Version = 0x0F
+displacement_of version BankSize = 0x10
+displacement_of version Kind = if version == 1 then 0x0C else 0x14
+displacement_of version NumSex = 0x20
+displacement_of version DispName = 0x28
+displacement_of version DispData = 0x2A
+displacement_of version ResSpc = 0x04
 
 -- ---- the header that is written
 
@@ -99,11 +168,12 @@ abbrev pub laid_out : List (ℕ × ℕ) → List ℕ
 laid_out [] = []
 laid_out (field ∷ fields) = little_bytes field.0 field.1 ++ laid_out fields
 
--- the fields of a written header: LABLEN 0, DISPNAME $2C, and DISPDATA and BYTECNT by the name's and the body's length
+-- the fields of a written header: LABLEN 0, VERSION 2, DISPNAME $2C, and DISPDATA and BYTECNT by the name's and the body's length
 abbrev pub written_fields : Fields → ℕ → Fields
 written_fields f body_length = record f {
   byte_count = 0x37 + length f.name + body_length;
   lab_len = 0;
+  version = 2;
   disp_name = 0x2C;
   disp_data = 0x37 + length f.name;
 }
@@ -111,7 +181,7 @@ written_fields f body_length = record f {
 -- the widths and values of the written header's numbers, in order
 unfoldable pub written_numbers : Fields → List (ℕ × ℕ)
 written_numbers f =
-    (4, f.byte_count) ∷ (4, f.res_spc) ∷ (4, f.length) ∷ (1, 0) ∷ (1, f.lab_len) ∷ (1, 4) ∷ (1, 2)
+    (4, f.byte_count) ∷ (4, f.res_spc) ∷ (4, f.length) ∷ (1, 0) ∷ (1, f.lab_len) ∷ (1, 4) ∷ (1, f.version)
     ∷ (4, f.bank_size) ∷ (2, f.kind) ∷ (2, 0) ∷ (4, f.org) ∷ (4, f.align) ∷ (1, 0) ∷ (1, 0)
     ∷ (2, f.seg_num) ∷ (4, f.entry) ∷ (2, f.disp_name) ∷ (2, f.disp_data) ∷ []
 
@@ -120,8 +190,9 @@ unfoldable pub header_bytes : Fields → ℕ → List ℕ
 header_bytes f body_length =
     laid_out (written_numbers (written_fields f body_length)) ++ f.load_name ++ length f.name ∷ f.name
 
--- which headers may be written: the checks of BANKSIZE, KIND and RESSPC don't hold
+-- which headers may be written: those of version 2 for which the checks of BANKSIZE, KIND and RESSPC don't hold
 pub record IsWritable (f : Fields) : Type 0 where
+  pub version : f.version ≡ 2
   pub banks : f.bank_size ≤ 0x10000
   pub listed : is_listed (form_of f.kind) ≡ true
   pub spaced : f.res_spc ≤ f.length

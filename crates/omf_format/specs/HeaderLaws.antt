@@ -9,7 +9,7 @@ use Rattle.byteorder.specs.Numbers.{little_number-reads_back, length-bytes_low_f
 use Rattle.omf_format.specs.declared.fault.HeaderFault.{HeaderFault}
 use Rattle.omf_format.specs.declared.fault.HeaderFault.TheVariants.{Truncated, Unsupported, BadField, Memory}
 use Rattle.omf_format.specs.Number.{number_at}
-use Rattle.omf_format.specs.Header.{Fields, fields_of, names_end, form_of, is_listed, header_checks, first_of, header_fault, laid_out}
+use Rattle.omf_format.specs.Header.{Fields, fields_of, names_end, form_of, is_listed, is_read_version, header_checks, first_of, header_fault, laid_out}
 
 -- each item is a byte
 abbrev pub IsBytes : List ℕ → Type 0
@@ -39,6 +39,7 @@ pub record IsSound (bytes : List ℕ) (f : Fields) : Type 0 where
   pub long : 44 ≤ length bytes
   pub banks : f.bank_size ≤ 0x10000
   pub listed : is_listed (form_of f.kind) ≡ true
+  pub version : is_read_version f.version ≡ true
   pub whole : f.byte_count ≤ length bytes
   pub names : names_end bytes ≤ f.disp_data
   pub data' : f.disp_data ≤ f.byte_count
@@ -53,7 +54,7 @@ neither true b e = absurd cc
 neither false b e = (refl, e)
 
 pub sound_from_none : (bytes : List ℕ) → header_fault bytes ≡ None → IsSound bytes (fields_of bytes)
-unfolding header_fault header_checks fields_of
+unfolding header_fault header_checks
 sound_from_none bytes none =
     let each = each_false (header_checks bytes) none in
     let ends = neither _ _ each.1.1.1.1.1.1.1.1.0 in
@@ -61,6 +62,7 @@ sound_from_none bytes none =
       long = ltb-false _ _ each.0;
       banks = ltb-false _ _ each.1.1.1.0;
       listed = not_false _ each.1.1.1.1.0;
+      version = not_false _ each.1.1.0;
       whole = ltb-false _ _ each.1.1.1.1.1.1.1.0;
       names = ltb-false _ _ ends.0;
       data' = ltb-false _ _ ends.1;

@@ -6,6 +6,7 @@ pub mod Super
 pub mod Record
 pub mod Reading
 pub mod File
+pub mod Body
 pub mod Plain
 pub mod Cells
 pub mod Loadable
@@ -16,6 +17,7 @@ pub mod HeaderLaws
 pub mod WrittenHeader
 pub mod RecordLaws
 pub mod FileLaws
+pub mod BodyLaws
 pub mod PlainLaws
 pub mod LoadableLaws
 pub mod CellLaws

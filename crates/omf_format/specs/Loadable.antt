@@ -1,23 +1,20 @@
 -- Load files: which files are loaded, and the first fault of every other file, by phases. Each phase goes through the
 -- segments in order, and a later one begins where the earlier ones found nothing (GS/OS Reference, appendix F).
-use Rattle.std.specs.Prelude.{◌≡◌, ◌<◌, ℕ, ◌+◌, not, ◌||◌, List, [], ◌∷◌, length, drop, codes, Option, Some, None, option_map, Result, Ok, Err, nat_lt, ◌==◌, Bool}
+use Rattle.std.specs.Prelude.{◌≡◌, ◌<◌, ℕ, ◌+◌, not, ◌||◌, ◌&&◌, false, if◌then◌else◌, List, [], ◌∷◌, length, drop, codes, Option, Some, None, option_map, Result, Ok, Err, nat_lt, ◌==◌, Bool}
 use Rattle.std.specs.List.{AllByRecursion}
-use Rattle.std.specs.Option.{option_or}
+use Rattle.std.specs.Option.{option_or, option_map_or}
 use Rattle.std.specs.Str.{bytes_eq}
-use Rattle.omf_format.specs.declared.fault.HeaderFault.{HeaderFault}
-use Rattle.omf_format.specs.declared.fault.HeaderFault.TheVariants as header
 use Rattle.omf_format.specs.declared.fault.RecordFault.{RecordFault}
-use Rattle.omf_format.specs.declared.fault.RecordFault.TheVariants as record_faults
 use Rattle.omf_format.specs.declared.fault.FileCause.{FileCause}
 use Rattle.omf_format.specs.declared.fault.FileCause.TheVariants as causes
 use Rattle.omf_format.specs.declared.load.LoadCause.{LoadCause}
-use Rattle.omf_format.specs.declared.load.LoadCause.TheVariants.{NotLoadFile, Truncated, BadHeader, Unsupported, BadRecord, Sequence, DataTooLong, Memory}
+use Rattle.omf_format.specs.declared.load.LoadCause.TheVariants.{NotLoadFile, Truncated, BadHeader, Unsupported, BadRecord, Sequence, DataTooLong, NoSuchTarget, Memory}
 use Rattle.omf_format.specs.declared.load.LoadFault.{LoadFault}
-use Rattle.omf_format.specs.Header.{Fields, fields_of, header_fault, displacement_of, form_of, first_of}
-use Rattle.omf_format.specs.Record.{Record, End, Const, LongConst, Align, Org, Space, Reloc, InterSeg, ShortReloc, ShortInterSeg, Super, Using, Strong, Label, Equate, Formula}
+use Rattle.omf_format.specs.Header.{Fields, fields_of, version_of, header_fault, form_of, is_skipped, first_of}
+use Rattle.omf_format.specs.Record.{Record, End, Const, LongConst, Align, Org, Space, Reloc, InterSeg, ShortReloc, ShortInterSeg, Super, Using, Strong, Label, Equate, Formula, Entry}
 use Rattle.omf_format.specs.Reading.{Reader, next_answer, HandsOut}
-use Rattle.omf_format.specs.File.{Segment, body_reader, IsHeader, AreSegments, IsFile}
-use Rattle.omf_format.specs.Plain.{body_bytes}
+use Rattle.omf_format.specs.File.{Segment, body_reader, IsHeader, AreSegments, IsFile, segment_at, Told, told_header, told_record}
+use Rattle.omf_format.specs.Body.{body_bytes}
 
 -- a cause, and its displacement in the file
 abbrev pub Fault : Type 0
@@ -42,12 +39,13 @@ segment_refusal f = first_of (
     ∷ (form_of f.kind == 0x08, NotLoadFile)
     ∷ [])
 
--- why a load segment can't have this record: patches aren't read, and every other record belongs to an object file
+-- why a load segment can't have this record: patches aren't read, and every other record but ENTRY belongs to an object file
 abbrev pub record_refusal : Record → Option LoadCause
 record_refusal End = None
 record_refusal (Const bytes) = None
 record_refusal (LongConst bytes) = None
 record_refusal (Space n) = None
+record_refusal (Entry segment offset name) = None
 record_refusal (Reloc count shift location offset) = Some Unsupported
 record_refusal (InterSeg count shift location file segment offset) = Some Unsupported
 record_refusal (ShortReloc count shift location offset) = Some Unsupported
@@ -61,19 +59,6 @@ record_refusal (Label global name size form private) = Some NotLoadFile
 record_refusal (Equate global name size form private expr) = Some NotLoadFile
 record_refusal (Formula code count n expr) = Some NotLoadFile
 
--- a header's fault: its cause, and the segment's start plus the displacement of the field; no check says Memory
-abbrev pub told_header : ℕ → HeaderFault → Fault
-told_header start (header.Truncated n) = (Truncated, start + n)
-told_header start (header.Unsupported field) = (Unsupported, start + displacement_of field)
-told_header start (header.BadField field) = (BadHeader, start + displacement_of field)
-told_header start header.Memory = (Memory, start)
-
--- a record's fault
-abbrev pub told_record : RecordFault → Fault
-told_record (record_faults.Truncated at) = (Truncated, at)
-told_record (record_faults.Unsupported code at) = (Unsupported, at)
-told_record (record_faults.BadRecord at) = (BadRecord, at)
-
 -- a cause that a load file shares with every file
 abbrev pub load_cause : FileCause → LoadCause
 load_cause causes.Truncated = Truncated
@@ -82,15 +67,19 @@ load_cause causes.Unsupported = Unsupported
 load_cause causes.BadRecord = BadRecord
 load_cause causes.Memory = Memory
 
+-- a fault that any file may have
+abbrev pub as_load : Told → Fault
+as_load told = (load_cause told.0, told.1)
+
 -- what is wrong with the header there, or else with its name or type, for which it is the segment's start
 unfoldable pub front_fault : ℕ → List ℕ → Option Fault
 front_fault start file = option_or
-    (option_map (told_header start) (header_fault (drop start file)))
+    (option_map (λ of. as_load (told_header start (version_of (drop start file)) of)) (header_fault (drop start file)))
     (option_map (λ cause. (cause, start)) (segment_refusal (fields_of (drop start file))))
 
 -- what is wrong with the next record: its fault, or that no load segment has it
 abbrev pub answer_fault : Result (Option (ℕ × Record)) RecordFault → Option Fault
-answer_fault (Err fault) = Some (told_record fault)
+answer_fault (Err fault) = Some (as_load (told_record fault))
 answer_fault (Ok None) = None
 answer_fault (Ok (Some found)) = option_map (λ cause. (cause, found.0)) (record_refusal found.1)
 
@@ -134,9 +123,44 @@ shape_fault number s = first_of (
     ∷ (nat_lt s.fields.length (length (body_bytes s)), (DataTooLong, s.start))
     ∷ [])
 
+-- an offset below LENGTH of a segment that is there and isn't skipped
+abbrev pub is_place : List Segment → ℕ → ℕ → Bool
+is_place segments number offset =
+    option_map_or (λ s. not (is_skipped s.fields.kind) && nat_lt offset s.fields.length) (segment_at segments number) false
+
+-- phase 3 of a record: an ENTRY names a place of the file's segments
+abbrev pub target_refusal : List Segment → Record → Option LoadCause
+target_refusal segments (Entry number offset name) = if is_place segments number offset then None else Some NoSuchTarget
+target_refusal segments End = None
+target_refusal segments (Const bytes) = None
+target_refusal segments (LongConst bytes) = None
+target_refusal segments (Space n) = None
+target_refusal segments (Reloc count shift location offset) = None
+target_refusal segments (InterSeg count shift location file segment offset) = None
+target_refusal segments (ShortReloc count shift location offset) = None
+target_refusal segments (ShortInterSeg count shift location segment offset) = None
+target_refusal segments (Super form bytes) = None
+target_refusal segments (Align n) = None
+target_refusal segments (Org n) = None
+target_refusal segments (Using name) = None
+target_refusal segments (Strong name) = None
+target_refusal segments (Label global name size form private) = None
+target_refusal segments (Equate global name size form private expr) = None
+target_refusal segments (Formula code count n expr) = None
+
+-- what phase 3 finds first in records, at the record's displacement
+abbrev pub first_target_fault : List Segment → List (ℕ × Record) → Option Fault
+first_target_fault segments [] = None
+first_target_fault segments (found ∷ founds) =
+    option_or (option_map (λ cause. (cause, found.0)) (target_refusal segments found.1)) (first_target_fault segments founds)
+
+-- phase 3 of a segment: its records in order
+abbrev pub target_fault : List Segment → ℕ → Segment → Option Fault
+target_fault segments number s = first_target_fault segments s.records
+
 -- the first fault of the phases after phase 1
 unfoldable pub later_fault : List Segment → Option LoadFault
-later_fault segments = first_in shape_fault 1 segments
+later_fault segments = option_or (first_in shape_fault 1 segments) (first_in (target_fault segments) 1 segments)
 
 -- all segments pass phase 1, and a later phase finds this fault first
 pub record IsLaterFault (file : List ℕ) (fault : LoadFault) : Type 0 where

@@ -1,20 +1,17 @@
 -- A file has one list of load segments, or one first fault, and not both.
-use Rattle.std.proofs.Common.{◌≡◌, ℕ, suc, ◌+◌, ◌<◌, true, List, [], ◌∷◌, length, drop, Option, Some, None, Ok, refl, sym, ap, subst, ◌∙◌, arith}
+use Rattle.std.proofs.Common.{◌≡◌, ℕ, suc, ◌+◌, ◌<◌, true, List, [], ◌∷◌, length, drop, Option, Some, None, Ok, Err, refl, sym, ap, subst, ◌∙◌, arith}
 use Rattle.std.specs.Prelude.{option_map}
 use Rattle.std.specs.List.{AllByRecursion}
-use Rattle.omf_format.specs.declared.fault.FileFault.{FileFault}
 use Rattle.omf_format.specs.declared.fault.HeaderFault.{HeaderFault}
-use Rattle.omf_format.specs.declared.fault.HeaderFault.TheVariants as header
 use Rattle.omf_format.specs.declared.fault.RecordFault.{RecordFault}
-use Rattle.omf_format.specs.declared.fault.RecordFault.TheVariants as record_faults
 use Rattle.omf_format.specs.declared.load.LoadCause.{LoadCause}
 use Rattle.omf_format.specs.declared.load.LoadFault.{LoadFault}
-use Rattle.omf_format.specs.Header.{Fields, fields_of, header_fault}
+use Rattle.omf_format.specs.Header.{Fields, fields_of, version_of, header_fault}
 use Rattle.omf_format.specs.Record.{Record}
 use Rattle.omf_format.specs.Reading.{Reader, next_answer, after_next, HandsOut}
-use Rattle.omf_format.specs.File.{Segment, body_reader, IsHeader, IsSegment, AreSegments, IsFile, SaysHeader, SaysRecord}
+use Rattle.omf_format.specs.File.{Segment, body_reader, IsHeader, IsSegment, AreSegments, IsFile, told_header, told_record}
 use Rattle.omf_format.specs.FileLaws.{segment_same, file_same, open_at_some}
-use Rattle.omf_format.specs.Loadable.{Fault, segment_refusal, record_refusal, told_header, told_record, load_cause, front_fault, answer_fault, IsLoadSegment, HasReadFault, OfFront, OfRecord, in_segment, later_fault, IsLoadable, IsFirstLoadFault, IsEmpty, OfReading, OfSegments}
+use Rattle.omf_format.specs.Loadable.{Fault, segment_refusal, record_refusal, as_load, front_fault, answer_fault, IsLoadSegment, HasReadFault, OfFront, OfRecord, in_segment, later_fault, IsLoadable, IsFirstLoadFault, IsEmpty, OfReading, OfSegments}
 
 abbrev Found : Type 0
 Found = ℕ × Record
@@ -176,14 +173,19 @@ first_fault_same file a b (OfSegments l) (OfSegments m) =
     let same : l.segments ≡ m.segments = file_same l.segments m.segments file l.is_file m.is_file in
     some_fault_same a b (sym l.here ∙ ap later_fault same ∙ m.here)
 
--- a fault of a header or record has the cause and the place that it has in any file
-pub told_header-says : (of : HeaderFault) (start : ℕ) (fault : FileFault) → SaysHeader of start fault → told_header start of ≡ (load_cause fault.cause, fault.at)
-told_header-says (header.Truncated n) start fault says = cc
-told_header-says (header.Unsupported field) start fault says = cc
-told_header-says (header.BadField field) start fault says = cc
-told_header-says header.Memory start fault says = absurd says
+-- ---- faults that any file may have
 
-pub told_record-says : (of : RecordFault) (fault : FileFault) → SaysRecord of fault → told_record of ≡ (load_cause fault.cause, fault.at)
-told_record-says (record_faults.Truncated at) fault says = cc
-told_record-says (record_faults.Unsupported code at) fault says = cc
-told_record-says (record_faults.BadRecord at) fault says = cc
+abbrev some_header : HeaderFault → Option HeaderFault
+some_header of = Some of
+
+-- a header's fault is told as in any file
+pub header_fault-told : (of : HeaderFault) (start : ℕ) (file : List ℕ) → header_fault (drop start file) ≡ Some of
+    → HasReadFault start file (as_load (told_header start (version_of (drop start file)) of))
+unfolding front_fault
+header_fault-told of start file e =
+    let there : header_fault (drop start file) ≡ some_header of = e in
+    OfFront (rw there refl)
+
+-- and so is a record's
+pub record_fault-told : (of : RecordFault) → answer_fault (Err of) ≡ Some (as_load (told_record of))
+record_fault-told of = refl

@@ -4,12 +4,10 @@ use Rattle.std.specs.Prelude.{◌≡◌, ◌⊎◌, ◌≤◌, ℕ, ◌+◌, ◌
 use Rattle.std.specs.List.{flat_map, list_any, AllByRecursion}
 use Rattle.omf_format.specs.Name.{without_trailing}
 use Rattle.omf_format.specs.Header.{Fields, form_of, header_bytes}
-use Rattle.omf_format.specs.Record.{End, LongConst, spelling, is_constant, content_of}
+use Rattle.omf_format.specs.Field.{written_layout}
+use Rattle.omf_format.specs.Record.{End, LongConst, spelling, is_constant}
 use Rattle.omf_format.specs.File.{Segment, IsFile}
-
--- the bytes that a segment's records put into it
-unfoldable pub body_bytes : Segment → List ℕ
-body_bytes s = flat_map (λ found. content_of found.1) s.records
+use Rattle.omf_format.specs.Body.{body_bytes}
 
 -- the segment in memory: those bytes, and RESSPC zeros behind them
 unfoldable pub memory_bytes : Segment → List ℕ
@@ -75,8 +73,8 @@ data_of bytes = without_trailing 0 bytes
 
 -- one LCONST of the data, where there is any, and END
 unfoldable pub written_body : List ℕ → List ℕ
-written_body [] = spelling 0 End
-written_body (byte ∷ bytes) = spelling 0 (LongConst (byte ∷ bytes)) ++ spelling 0 End
+written_body [] = spelling written_layout End
+written_body (byte ∷ bytes) = spelling written_layout (LongConst (byte ∷ bytes)) ++ spelling written_layout End
 
 -- the load segment's fields: KIND and ENTRY of the first member, and what is left of LENGTH behind the data as RESSPC
 unfoldable pub load_fields : Segment → List Segment → Fields
@@ -85,6 +83,7 @@ load_fields first segments = record {
   res_spc = length (loaded_bytes segments) - length (data_of (loaded_bytes segments));
   length = length (loaded_bytes segments);
   lab_len = 0;
+  version = 2;
   bank_size = least_bank segments;
   kind = cleared first.fields.kind;
   org = 0;

@@ -15,11 +15,13 @@ use Rattle.omf_format.specs.Header.{Fields, fields_of, names_end, form_of, is_li
 use Rattle.omf_format.specs.HeaderLaws.{IsBytes, IsSound, sound_from_none}
 use Rattle.omf_format.specs.WrittenHeader.{FitsWritten, length-header, fields_of-written, header_fault-written}
 use Rattle.omf_format.specs.Record.{Record, End, LongConst, spelling, is_constant, content_of}
-use Rattle.omf_format.specs.FieldLaws.{IsBytes-drop}
+use Rattle.omf_format.specs.Field.{written_layout, length_width_of}
+use Rattle.omf_format.specs.FieldLaws.{IsBytes-drop, kind_of-lt}
 use Rattle.omf_format.specs.RecordLaws.{front-again}
 use Rattle.omf_format.specs.Reading.{Reader, front, told, moved, next_answer, after_next, HandsOut}
 use Rattle.omf_format.specs.File.{Segment, body_reader, IsSegment, AreSegments, IsFile}
-use Rattle.omf_format.specs.Plain.{body_bytes, memory_bytes, HasConstants, IsPlainSegment, total_length, IsPlain, lesser_bank, least_bank, cleared, loaded_bytes, data_of, written_body, load_fields, written, IsLoadFile}
+use Rattle.omf_format.specs.Body.{body_bytes}
+use Rattle.omf_format.specs.Plain.{memory_bytes, HasConstants, IsPlainSegment, total_length, IsPlain, lesser_bank, least_bank, cleared, loaded_bytes, data_of, written_body, load_fields, written, IsLoadFile}
 
 -- ---- trailing items
 
@@ -107,7 +109,7 @@ record IsFirst (f : Fields) : Type 0 where
 is_first : (bytes : List ℕ) → IsBytes bytes → IsSound bytes (fields_of bytes) → IsFirst (fields_of bytes)
 unfolding fields_of names_end number_at
 is_first bytes fits sound = record {
-  kind = little_from-lt 0 2 (drop 0x14 bytes) (IsBytes-drop 0x14 bytes fits);
+  kind = kind_of-lt bytes fits;
   entry = little_from-lt 0 4 (drop 0x24 bytes) (IsBytes-drop 0x24 bytes fits);
   load_name =
       let disp = number_at 2 0x28 bytes in
@@ -118,7 +120,7 @@ is_first bytes fits sound = record {
 -- ---- the written body
 
 abbrev reader_at : ℕ → List ℕ → Bool → Reader
-reader_at end left ended = record { end = end; left = left; ended = ended; lab_len = 0 }
+reader_at end left ended = record { end = end; left = left; ended = ended; layout = written_layout }
 
 -- its records with their places
 written_records : List ℕ → ℕ → List (ℕ × Record)
@@ -129,11 +131,11 @@ end_runs : (end : ℕ) → HandsOut (reader_at end (0 ∷ []) false) ((end - 1, 
 unfolding next_answer after_next front
 end_runs end = (refl, refl)
 
-next_is : (end : ℕ) (text : List ℕ) (answer : Result (Option (ℕ × Record)) RecordFault) → told (reader_at end text false) (front 0 text) ≡ answer → next_answer (reader_at end text false) ≡ answer
+next_is : (end : ℕ) (text : List ℕ) (answer : Result (Option (ℕ × Record)) RecordFault) → told (reader_at end text false) (front written_layout text) ≡ answer → next_answer (reader_at end text false) ≡ answer
 unfolding next_answer
 next_is end text answer e = e
 
-after_is : (end : ℕ) (text : List ℕ) (reader : Reader) → moved (reader_at end text false) (front 0 text) ≡ reader → after_next (reader_at end text false) ≡ reader
+after_is : (end : ℕ) (text : List ℕ) (reader : Reader) → moved (reader_at end text false) (front written_layout text) ≡ reader → after_next (reader_at end text false) ≡ reader
 unfolding after_next
 after_is end text reader e = e
 
@@ -141,10 +143,10 @@ body_runs : (xs : List ℕ) (end : ℕ) → length xs < 2 ^ 32 → HandsOut (rea
 unfolding written_body written_records spelling
 body_runs [] end short = end_runs end
 body_runs (x ∷ xs) end short =
-    let read = front-again 0 (LongConst (x ∷ xs)) (0 ∷ []) short in
+    let read = front-again written_layout (LongConst (x ∷ xs)) (0 ∷ []) short in
     let text = written_body (x ∷ xs) in
-    let given : told (reader_at end text false) (front 0 text) ≡ Ok (Some (end - length text, LongConst (x ∷ xs))) = ap (told (reader_at end text false)) read in
-    let goes : moved (reader_at end text false) (front 0 text) ≡ reader_at end (0 ∷ []) false = ap (moved (reader_at end text false)) read in
+    let given : told (reader_at end text false) (front written_layout text) ≡ Ok (Some (end - length text, LongConst (x ∷ xs))) = ap (told (reader_at end text false)) read in
+    let goes : moved (reader_at end text false) (front written_layout text) ≡ reader_at end (0 ∷ []) false = ap (moved (reader_at end text false)) read in
     (next_is end text _ given, subst (λ (r : Reader). HandsOut r ((end - 1, End) ∷ []) (reader_at end [] true)) (sym (after_is end text _ goes)) (end_runs end))
 
 records_content : (xs : List ℕ) (end : ℕ) → flat_map (λ (found : ℕ × Record). content_of found.1) (written_records xs end) ≡ xs
@@ -214,6 +216,7 @@ fits_written first segments g =
 writable : (first : Segment) (segments : List Segment) → Given first segments → IsWritable (load_fields first segments)
 unfolding load_fields
 writable first segments g = record {
+  version = refl;
   banks = g.banks;
   listed = ap is_listed (cleared-form first.fields.kind) ∙ g.first'.listed;
   spaced = omega arith;
@@ -228,7 +231,7 @@ load_segment first segments =
 -- a reader of its body stands at the front of what was written
 reader-load : (f : Fields) (body : List ℕ) → length f.load_name ≡ 10 → body_reader 0 (written_fields f (length body)) (header_bytes f (length body) ++ body)
     ≡ reader_at (0x37 + length f.name + length body) body false
-unfolding body_reader
+unfolding body_reader length_width_of
 reader-load f body ten =
     let header = header_bytes f (length body) in
     let len = length-header f (length body) ten in

@@ -1,13 +1,13 @@
 -- Reading a body from left to right, record by record, with the first fault that is met.
-use Rattle.std.specs.Prelude.{◌≡◌, ℕ, ◌-◌, ◌^◌, ℤ, Bool, true, false, List, [], ◌∷◌, length, slice_index, Option, Some, None, Result, Ok, Err, nat_lt, ◌==◌, if◌then◌else◌}
+use Rattle.std.specs.Prelude.{◌≡◌, ℕ, zero, suc, ◌-◌, ◌^◌, ℤ, Bool, true, false, List, [], ◌∷◌, length, slice_index, Option, Some, None, Result, Ok, Err, nat_lt, ◌==◌, if◌then◌else◌}
 use Rattle.omf_format.specs.declared.fault.Flaw.{Flaw}
 use Rattle.omf_format.specs.declared.fault.Flaw.TheVariants.{Cut, Unread, Broken}
 use Rattle.omf_format.specs.declared.fault.RecordFault.{RecordFault}
 use Rattle.omf_format.specs.declared.fault.RecordFault.TheVariants.{Truncated, Unsupported, BadRecord}
-use Rattle.omf_format.specs.Field.{◌>>=◌, Reads, ◌⊗◌, checked, taken_as, byte_field, bytes_field, number_field, name_field, count_field, shift_field}
+use Rattle.omf_format.specs.Field.{Layout, ◌>>=◌, Reads, ◌⊗◌, checked, taken_as, byte_field, bytes_field, number_field, name_field, count_field, shift_field}
 use Rattle.omf_format.specs.Expression.{expression_field}
 use Rattle.omf_format.specs.Super.{is_super, are_pages}
-use Rattle.omf_format.specs.Record.{Record, End, Const, LongConst, Align, Org, Space, Reloc, InterSeg, ShortReloc, ShortInterSeg, Super, Using, Strong, Label, Equate, Formula}
+use Rattle.omf_format.specs.Record.{Record, End, Const, LongConst, Align, Org, Space, Reloc, InterSeg, ShortReloc, ShortInterSeg, Super, Using, Strong, Label, Equate, Formula, Entry}
 
 -- ---- what stands behind each code: the record and the bytes after it, or what is wrong first
 
@@ -57,16 +57,16 @@ using_field lab_len = taken_as Using (name_field lab_len)
 unfoldable pub strong_field : ℕ → Reads Record
 strong_field lab_len = taken_as Strong (name_field lab_len)
 
--- a label's size, type and private flag
-unfoldable pub attributes_field : Reads (ℕ × (ℕ × ℕ))
-attributes_field = number_field 2 ⊗ byte_field ⊗ byte_field
+-- a label's length, which has so many bytes, type and private flag
+unfoldable pub attributes_field : ℕ → Reads (ℕ × (ℕ × ℕ))
+attributes_field width = number_field width ⊗ byte_field ⊗ byte_field
 
-unfoldable pub label_field : ℕ → Bool → Reads Record
-label_field lab_len global = taken_as (λ x. Label global x.0 x.1.0 x.1.1.0 x.1.1.1) (name_field lab_len ⊗ attributes_field)
+unfoldable pub label_field : Layout → Bool → Reads Record
+label_field l global = taken_as (λ x. Label global x.0 x.1.0 x.1.1.0 x.1.1.1) (name_field l.lab_len ⊗ attributes_field l.length_width)
 
-unfoldable pub equate_field : ℕ → Bool → Reads Record
-equate_field lab_len global = taken_as (λ x. Equate global x.0 x.1.0.0 x.1.0.1.0 x.1.0.1.1 x.1.1)
-    (name_field lab_len ⊗ attributes_field ⊗ expression_field lab_len)
+unfoldable pub equate_field : Layout → Bool → Reads Record
+equate_field l global = taken_as (λ x. Equate global x.0 x.1.0.0 x.1.0.1.0 x.1.0.1.1 x.1.1)
+    (name_field l.lab_len ⊗ attributes_field l.length_width ⊗ expression_field l.lab_len)
 
 unfoldable pub formula_field : ℕ → ℕ → Reads Record
 formula_field lab_len code = taken_as (λ x. Formula code x.0 0 x.1) (count_field ⊗ expression_field lab_len)
@@ -74,26 +74,30 @@ formula_field lab_len code = taken_as (λ x. Formula code x.0 0 x.1) (count_fiel
 unfoldable pub distance_field : ℕ → Reads Record
 distance_field lab_len = taken_as (λ x. Formula 0xEE x.0 x.1.0 x.1.1) (count_field ⊗ number_field 4 ⊗ expression_field lab_len)
 
+unfoldable pub entry_field : ℕ → Reads Record
+entry_field lab_len = taken_as (λ x. Entry x.0 x.1.0 x.1.1) (number_field 2 ⊗ number_field 4 ⊗ name_field lab_len)
+
 -- the codes from $E0 on, each with what stands behind it
-unfoldable pub rows : ℕ → List (ℕ × Reads Record)
-rows lab_len =
+unfoldable pub rows : Layout → List (ℕ × Reads Record)
+rows l =
     (0xE0, align_field)
     ∷ (0xE1, org_field)
     ∷ (0xE2, reloc_field)
     ∷ (0xE3, interseg_field)
-    ∷ (0xE4, using_field lab_len)
-    ∷ (0xE5, strong_field lab_len)
-    ∷ (0xE6, label_field lab_len true)
-    ∷ (0xE7, equate_field lab_len true)
-    ∷ (0xEB, formula_field lab_len 0xEB)
-    ∷ (0xEC, formula_field lab_len 0xEC)
-    ∷ (0xED, formula_field lab_len 0xED)
-    ∷ (0xEE, distance_field lab_len)
-    ∷ (0xEF, label_field lab_len false)
-    ∷ (0xF0, equate_field lab_len false)
+    ∷ (0xE4, using_field l.lab_len)
+    ∷ (0xE5, strong_field l.lab_len)
+    ∷ (0xE6, label_field l true)
+    ∷ (0xE7, equate_field l true)
+    ∷ (0xEB, formula_field l.lab_len 0xEB)
+    ∷ (0xEC, formula_field l.lab_len 0xEC)
+    ∷ (0xED, formula_field l.lab_len 0xED)
+    ∷ (0xEE, distance_field l.lab_len)
+    ∷ (0xEF, label_field l false)
+    ∷ (0xF0, equate_field l false)
     ∷ (0xF1, space_field)
     ∷ (0xF2, long_constant_field)
-    ∷ (0xF3, formula_field lab_len 0xF3)
+    ∷ (0xF3, formula_field l.lab_len 0xF3)
+    ∷ (0xF4, entry_field l.lab_len)
     ∷ (0xF5, short_reloc_field)
     ∷ (0xF6, short_interseg_field)
     ∷ (0xF7, super_field)
@@ -105,12 +109,12 @@ by_code [] code rest = Err Unread
 by_code (row ∷ more) code rest = if code == row.0 then row.1 rest else by_code more code rest
 
 -- the record at the front of the bytes, and the bytes behind it
-unfoldable pub front : ℕ → Reads Record
-front lab_len [] = Err Cut
-front lab_len (code ∷ rest) =
+unfoldable pub front : Layout → Reads Record
+front l [] = Err Cut
+front l (code ∷ rest) =
     if code == 0x00 then Ok (End, rest)
     else if nat_lt code 0xE0 then constant_field code rest
-    else by_code (rows lab_len) code rest
+    else by_code (rows l) code rest
 
 -- where the reader of a body stands
 pub record Reader : Type 0 where
@@ -120,7 +124,7 @@ pub record Reader : Type 0 where
   pub left : List ℕ
   -- END was handed out
   pub ended : Bool
-  pub lab_len : ℕ
+  pub layout : Layout
 
 -- the displacement in the file of the next record's code
 abbrev pub place_of : Reader → ℕ
@@ -149,6 +153,7 @@ is_end (Strong name) = false
 is_end (Label global name size form private) = false
 is_end (Equate global name size form private expr) = false
 is_end (Formula code count n expr) = false
+is_end (Entry segment offset name) = false
 
 abbrev pub told : Reader → Result (Record × List ℕ) Flaw → Result (Option (ℕ × Record)) RecordFault
 told r (Ok found) = Ok (Some (place_of r, found.0))
@@ -156,7 +161,7 @@ told r (Err flaw) = Err (fault_at r flaw)
 
 -- what the reader answers next: a record with its displacement, after END nothing, or the first fault
 unfoldable pub next_answer : Reader → Result (Option (ℕ × Record)) RecordFault
-next_answer r = if r.ended then Ok None else told r (front r.lab_len r.left)
+next_answer r = if r.ended then Ok None else told r (front r.layout r.left)
 
 abbrev pub moved : Reader → Result (Record × List ℕ) Flaw → Reader
 moved r (Ok found) = record r { left = found.1; ended = is_end found.0 }
@@ -164,9 +169,32 @@ moved r (Err flaw) = r
 
 -- where it stands then: behind the record, and where it was after END or a fault
 unfoldable pub after_next : Reader → Reader
-after_next r = if r.ended then r else moved r (front r.lab_len r.left)
+after_next r = if r.ended then r else moved r (front r.layout r.left)
 
 -- From the first reader on these records come, each with its displacement, and then the second one.
 abbrev pub HandsOut : Reader → List (ℕ × Record) → Reader → Type 0
 HandsOut r [] after = r ≡ after
 HandsOut r (found ∷ founds) after = (next_answer r ≡ Ok (Some found)) × HandsOut (after_next r) founds after
+
+-- ---- all records of a body
+
+-- an answer and then these, or none where no record came
+abbrev pub answer_then : Result (Option (ℕ × Record)) RecordFault → List (ℕ × Record) → List (ℕ × Record)
+answer_then (Ok (Some found)) founds = found ∷ founds
+answer_then (Ok None) founds = []
+answer_then (Err fault) founds = []
+
+-- the first records that a reader hands out, so many at most
+unfoldable pub first_records : ℕ → Reader → List (ℕ × Record)
+first_records zero r = []
+first_records (suc n) r = answer_then (next_answer r) (first_records n (after_next r))
+
+-- the records that a reader hands out: no more than there are bytes, since each record has one at least
+unfoldable pub records_of : Reader → List (ℕ × Record)
+records_of r = first_records (length r.left) r
+
+-- the records from there on come to END
+pub record IsBody (reader : Reader) : Type 0 where
+  pub last : Reader
+  pub run : HandsOut reader (records_of reader) last
+  pub ended : last.ended ≡ true

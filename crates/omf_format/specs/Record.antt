@@ -1,7 +1,7 @@
 -- The records of a body, and the one spelling of each (GS/OS Reference, appendix F, "Segment body").
 use Rattle.std.specs.Prelude.{◌≡◌, ℕ, ◌+◌, ◌^◌, ◌<◌, ◌≤◌, Bool, true, false, ◌||◌, ℤ, List, [], ◌∷◌, ◌++◌, length, replicate, ◌==◌, if◌then◌else◌, IsTrue}
 use Rattle.byteorder.specs.Endian.{little_bytes}
-use Rattle.omf_format.specs.Field.{is_count, is_shift, shift_byte, name_text, IsName}
+use Rattle.omf_format.specs.Field.{Layout, is_count, is_shift, shift_byte, name_text, IsName}
 use Rattle.omf_format.specs.Expression.{IsExpression}
 use Rattle.omf_format.specs.Super.{is_super, HavePages}
 
@@ -30,6 +30,8 @@ pub data Record : Type 0 where
   Equate : (global : Bool) (name : List ℕ) (size form private : ℕ) (expr : List ℕ) → Record
   -- EXPR, ZEXPR, BEXPR, RELEXPR or LEXPR; only RELEXPR has an n
   Formula : (code count n : ℕ) (expr : List ℕ) → Record
+  -- ENTRY
+  Entry : (segment offset : ℕ) (name : List ℕ) → Record
 
 -- ---- spellings
 
@@ -37,32 +39,33 @@ pub data Record : Type 0 where
 abbrev pub is_formula : ℕ → Bool
 is_formula code = code == 0xEB || code == 0xEC || code == 0xED || code == 0xEE || code == 0xF3
 
--- the size, type and private flag of a label
-abbrev pub label_text : ℕ → ℕ → ℕ → List ℕ
-label_text size form private = little_bytes 2 size ++ form ∷ private ∷ []
+-- the length, type and private flag of a label, whose length has so many bytes
+abbrev pub label_text : ℕ → ℕ → ℕ → ℕ → List ℕ
+label_text width size form private = little_bytes width size ++ form ∷ private ∷ []
 
--- the bytes of a record, which under a LABLEN has one spelling: its code, then its fields
-unfoldable pub spelling : ℕ → Record → List ℕ
-spelling lab_len End = 0x00 ∷ []
-spelling lab_len (Const bytes) = length bytes ∷ bytes
-spelling lab_len (LongConst bytes) = 0xF2 ∷ little_bytes 4 (length bytes) ++ bytes
-spelling lab_len (Align n) = 0xE0 ∷ little_bytes 4 n
-spelling lab_len (Org n) = 0xE1 ∷ little_bytes 4 n
-spelling lab_len (Space n) = 0xF1 ∷ little_bytes 4 n
-spelling lab_len (Reloc count shift location offset) = 0xE2 ∷ count ∷ shift_byte shift ∷ little_bytes 4 location ++ little_bytes 4 offset
-spelling lab_len (InterSeg count shift location file segment offset) =
+-- the bytes of a record, which under a layout has one spelling: its code, then its fields
+unfoldable pub spelling : Layout → Record → List ℕ
+spelling l End = 0x00 ∷ []
+spelling l (Const bytes) = length bytes ∷ bytes
+spelling l (LongConst bytes) = 0xF2 ∷ little_bytes 4 (length bytes) ++ bytes
+spelling l (Align n) = 0xE0 ∷ little_bytes 4 n
+spelling l (Org n) = 0xE1 ∷ little_bytes 4 n
+spelling l (Space n) = 0xF1 ∷ little_bytes 4 n
+spelling l (Reloc count shift location offset) = 0xE2 ∷ count ∷ shift_byte shift ∷ little_bytes 4 location ++ little_bytes 4 offset
+spelling l (InterSeg count shift location file segment offset) =
     0xE3 ∷ count ∷ shift_byte shift ∷ little_bytes 4 location ++ (little_bytes 2 file ++ (little_bytes 2 segment ++ little_bytes 4 offset))
-spelling lab_len (ShortReloc count shift location offset) = 0xF5 ∷ count ∷ shift_byte shift ∷ little_bytes 2 location ++ little_bytes 2 offset
-spelling lab_len (ShortInterSeg count shift location segment offset) =
+spelling l (ShortReloc count shift location offset) = 0xF5 ∷ count ∷ shift_byte shift ∷ little_bytes 2 location ++ little_bytes 2 offset
+spelling l (ShortInterSeg count shift location segment offset) =
     0xF6 ∷ count ∷ shift_byte shift ∷ little_bytes 2 location ++ segment ∷ little_bytes 2 offset
-spelling lab_len (Super form bytes) = 0xF7 ∷ little_bytes 4 (length bytes + 1) ++ form ∷ bytes
-spelling lab_len (Using name) = 0xE4 ∷ name_text lab_len name
-spelling lab_len (Strong name) = 0xE5 ∷ name_text lab_len name
-spelling lab_len (Label global name size form private) =
-    (if global then 0xE6 else 0xEF) ∷ name_text lab_len name ++ label_text size form private
-spelling lab_len (Equate global name size form private expr) =
-    (if global then 0xE7 else 0xF0) ∷ name_text lab_len name ++ (label_text size form private ++ expr)
-spelling lab_len (Formula code count n expr) = code ∷ count ∷ (if code == 0xEE then little_bytes 4 n ++ expr else expr)
+spelling l (Super form bytes) = 0xF7 ∷ little_bytes 4 (length bytes + 1) ++ form ∷ bytes
+spelling l (Using name) = 0xE4 ∷ name_text l.lab_len name
+spelling l (Strong name) = 0xE5 ∷ name_text l.lab_len name
+spelling l (Label global name size form private) =
+    (if global then 0xE6 else 0xEF) ∷ name_text l.lab_len name ++ label_text l.length_width size form private
+spelling l (Equate global name size form private expr) =
+    (if global then 0xE7 else 0xF0) ∷ name_text l.lab_len name ++ (label_text l.length_width size form private ++ expr)
+spelling l (Formula code count n expr) = code ∷ count ∷ (if code == 0xEE then little_bytes 4 n ++ expr else expr)
+spelling l (Entry segment offset name) = 0xF4 ∷ little_bytes 2 segment ++ (little_bytes 4 offset ++ name_text l.lab_len name)
 
 -- ---- which records have a spelling
 
@@ -70,34 +73,35 @@ spelling lab_len (Formula code count n expr) = code ∷ count ∷ (if code == 0x
 abbrev pub IsPatch : ℕ → ℤ → Type 0
 IsPatch count shift = IsTrue (is_count count) × IsTrue (is_shift shift)
 
-abbrev pub IsLabel : ℕ → ℕ → ℕ → Type 0
-IsLabel size form private = (size < 2 ^ 16) × (form < 2 ^ 8) × (private < 2 ^ 8)
+abbrev pub IsLabel : ℕ → ℕ → ℕ → ℕ → Type 0
+IsLabel width size form private = (size < 256 ^ width) × (form < 2 ^ 8) × (private < 2 ^ 8)
 
 -- the n of RELEXPR; every other formula has 0
 abbrev pub IsDistance : Bool → ℕ → Type 0
 IsDistance true n = n < 2 ^ 32
 IsDistance false n = n ≡ 0
 
-abbrev pub IsRecord : ℕ → Record → Type 0
-IsRecord lab_len End = Unit {0}
-IsRecord lab_len (Const bytes) = (1 ≤ length bytes) × (length bytes ≤ 0xDF)
-IsRecord lab_len (LongConst bytes) = length bytes < 2 ^ 32
-IsRecord lab_len (Align n) = n < 2 ^ 32
-IsRecord lab_len (Org n) = n < 2 ^ 31
-IsRecord lab_len (Space n) = n < 2 ^ 32
-IsRecord lab_len (Reloc count shift location offset) = IsPatch count shift × (location < 2 ^ 32) × (offset < 2 ^ 32)
-IsRecord lab_len (InterSeg count shift location file segment offset) =
+abbrev pub IsRecord : Layout → Record → Type 0
+IsRecord l End = Unit {0}
+IsRecord l (Const bytes) = (1 ≤ length bytes) × (length bytes ≤ 0xDF)
+IsRecord l (LongConst bytes) = length bytes < 2 ^ 32
+IsRecord l (Align n) = n < 2 ^ 32
+IsRecord l (Org n) = n < 2 ^ 31
+IsRecord l (Space n) = n < 2 ^ 32
+IsRecord l (Reloc count shift location offset) = IsPatch count shift × (location < 2 ^ 32) × (offset < 2 ^ 32)
+IsRecord l (InterSeg count shift location file segment offset) =
     IsPatch count shift × (location < 2 ^ 32) × (file < 2 ^ 16) × (segment < 2 ^ 16) × (offset < 2 ^ 32)
-IsRecord lab_len (ShortReloc count shift location offset) = IsPatch count shift × (location < 2 ^ 16) × (offset < 2 ^ 16)
-IsRecord lab_len (ShortInterSeg count shift location segment offset) =
+IsRecord l (ShortReloc count shift location offset) = IsPatch count shift × (location < 2 ^ 16) × (offset < 2 ^ 16)
+IsRecord l (ShortInterSeg count shift location segment offset) =
     IsPatch count shift × (location < 2 ^ 16) × (segment < 2 ^ 8) × (offset < 2 ^ 16)
-IsRecord lab_len (Super form bytes) = IsTrue (is_super form) × (length bytes + 1 < 2 ^ 32) × HavePages bytes
-IsRecord lab_len (Using name) = IsName lab_len name
-IsRecord lab_len (Strong name) = IsName lab_len name
-IsRecord lab_len (Label global name size form private) = IsName lab_len name × IsLabel size form private
-IsRecord lab_len (Equate global name size form private expr) = IsName lab_len name × IsLabel size form private × IsExpression lab_len expr
-IsRecord lab_len (Formula code count n expr) =
-    IsTrue (is_formula code) × IsTrue (is_count count) × IsDistance (code == 0xEE) n × IsExpression lab_len expr
+IsRecord l (Super form bytes) = IsTrue (is_super form) × (length bytes + 1 < 2 ^ 32) × HavePages bytes
+IsRecord l (Using name) = IsName l.lab_len name
+IsRecord l (Strong name) = IsName l.lab_len name
+IsRecord l (Label global name size form private) = IsName l.lab_len name × IsLabel l.length_width size form private
+IsRecord l (Equate global name size form private expr) = IsName l.lab_len name × IsLabel l.length_width size form private × IsExpression l.lab_len expr
+IsRecord l (Formula code count n expr) =
+    IsTrue (is_formula code) × IsTrue (is_count count) × IsDistance (code == 0xEE) n × IsExpression l.lab_len expr
+IsRecord l (Entry segment offset name) = (segment < 2 ^ 16) × (offset < 2 ^ 32) × IsName l.lab_len name
 
 -- ---- constants
 
@@ -119,6 +123,7 @@ is_constant (Strong name) = false
 is_constant (Label global name size form private) = false
 is_constant (Equate global name size form private expr) = false
 is_constant (Formula code count n expr) = false
+is_constant (Entry segment offset name) = false
 
 -- the constant bytes of a record: those of CONST and LCONST, and the zeros of DS; every other record has none
 abbrev pub content_of : Record → List ℕ
@@ -138,3 +143,4 @@ content_of (Strong name) = []
 content_of (Label global name size form private) = []
 content_of (Equate global name size form private expr) = []
 content_of (Formula code count n expr) = []
+content_of (Entry segment offset name) = []

@@ -5,14 +5,14 @@ use Rattle.std.proofs.lemmas.Bool.{lt-ltb, ltb-true, leb-true, eqb-true, ne_eqb,
 use Rattle.byteorder.specs.Endian.{little_bytes}
 use Rattle.omf_format.specs.declared.fault.Flaw.TheVariants.{Unread, Broken}
 use Rattle.omf_format.specs.HeaderLaws.{IsBytes}
-use Rattle.omf_format.specs.Field.{◌>>=◌, Reads, ◌⊗◌, checked, taken_as, byte_field, bytes_field, number_field, name_field, name_text, IsName, is_count, count_field, is_shift, shift_byte, shift_field}
-use Rattle.omf_format.specs.FieldLaws.{IsBytes-front, IsBytes-rest, either, bind_ok, done, ok_is, chosen, Takes, Takes-then, Takes-code, width2, width4, bytes_again, IsField, byte_is_field, bytes_is_field, number_is_field, name_is_field, checked_is_field, both_are_field, count_is_field, shift_is_field}
+use Rattle.omf_format.specs.Field.{Layout, ◌>>=◌, Reads, ◌⊗◌, checked, taken_as, byte_field, bytes_field, number_field, name_field, name_text, IsName, is_count, count_field, is_shift, shift_byte, shift_field}
+use Rattle.omf_format.specs.FieldLaws.{IsBytes-front, IsBytes-rest, either, bind_ok, done, ok_is, chosen, Takes, Takes-then, Takes-code, bytes_again, IsField, byte_is_field, bytes_is_field, number_is_field, name_is_field, checked_is_field, both_are_field, count_is_field, shift_is_field}
 use Rattle.omf_format.specs.Expression.{IsExpression, expression_field}
 use Rattle.omf_format.specs.ExpressionLaws.{expression-takes, expression-again}
 use Rattle.omf_format.specs.Super.{is_super, are_pages, HavePages}
 use Rattle.omf_format.specs.SuperLaws.{pages-read, pages-again}
-use Rattle.omf_format.specs.Record.{Record, End, Const, LongConst, Align, Org, Space, Reloc, InterSeg, ShortReloc, ShortInterSeg, Super, Using, Strong, Label, Equate, Formula, is_formula, spelling, IsDistance, IsRecord}
-use Rattle.omf_format.specs.Reading.{constant_field, long_constant_field, align_field, org_field, space_field, patch_field, reloc_field, interseg_field, short_reloc_field, short_interseg_field, super_field, using_field, strong_field, attributes_field, label_field, equate_field, formula_field, distance_field, rows, by_code, front}
+use Rattle.omf_format.specs.Record.{Record, End, Const, LongConst, Align, Org, Space, Reloc, InterSeg, ShortReloc, ShortInterSeg, Super, Using, Strong, Label, Equate, Formula, Entry, is_formula, spelling, IsDistance, IsRecord}
+use Rattle.omf_format.specs.Reading.{constant_field, long_constant_field, align_field, org_field, space_field, patch_field, reloc_field, interseg_field, short_reloc_field, short_interseg_field, super_field, using_field, strong_field, attributes_field, label_field, equate_field, formula_field, distance_field, entry_field, rows, by_code, front}
 
 -- ---- the fields of each record
 
@@ -32,10 +32,10 @@ abbrev one : ℕ → List ℕ
 one b = b ∷ []
 
 n4 : IsField Is4 (little_bytes 4) (number_field 4)
-n4 = number_is_field 4 width4
+n4 = number_is_field 4
 
 n2 : IsField Is2 (little_bytes 2) (number_field 2)
-n2 = number_is_field 2 width2
+n2 = number_is_field 2
 
 n1 : IsField Is1 one byte_field
 n1 = byte_is_field
@@ -70,15 +70,15 @@ patch : IsField Patch patch_text patch_field
 unfolding patch_field
 patch = both (Passes is_count) (Passes is_shift) one ShiftText count_field shift_field count_is_field shift_is_field
 
-abbrev Attributes : ℕ × (ℕ × ℕ) → Type 0
-Attributes = Both Is2 (Both Is1 Is1)
+abbrev Attributes : ℕ → ℕ × (ℕ × ℕ) → Type 0
+Attributes w = Both (λ n. n < 256 ^ w) (Both Is1 Is1)
 
-abbrev attributes_text : ℕ × (ℕ × ℕ) → List ℕ
-attributes_text = texts (little_bytes 2) (texts one one)
+abbrev attributes_text : ℕ → ℕ × (ℕ × ℕ) → List ℕ
+attributes_text w = texts (little_bytes w) (texts one one)
 
-attributes : IsField Attributes attributes_text attributes_field
+attributes : (w : ℕ) → IsField (Attributes w) (attributes_text w) (attributes_field w)
 unfolding attributes_field
-attributes = both Is2 (Both Is1 Is1) (little_bytes 2) (texts one one) (number_field 2) (byte_field ⊗ byte_field) n2 (both Is1 Is1 one one byte_field byte_field n1 n1)
+attributes w = both (λ n. n < 256 ^ w) (Both Is1 Is1) (little_bytes w) (texts one one) (number_field w) (byte_field ⊗ byte_field) (number_is_field w) (both Is1 Is1 one one byte_field byte_field n1 n1)
 
 -- two numbers of four bytes, and of two
 two4 : IsField (Both Is4 Is4) (texts (little_bytes 4) (little_bytes 4)) (number_field 4 ⊗ number_field 4)
@@ -119,15 +119,25 @@ short_intersegs = both Is2 (Both Is1 Is2) (little_bytes 2) (texts one (little_by
 short_interseg : IsField (Both Patch ShortInterSegs) (texts patch_text short_interseg_text) (patch_field ⊗ number_field 2 ⊗ byte_field ⊗ number_field 2)
 short_interseg = both Patch ShortInterSegs patch_text short_interseg_text patch_field (number_field 2 ⊗ byte_field ⊗ number_field 2) patch short_intersegs
 
-label : (l : ℕ) → IsField (Both (IsName l) Attributes) (texts (name_text l) attributes_text) (name_field l ⊗ attributes_field)
-label l = both (IsName l) Attributes (name_text l) attributes_text (name_field l) attributes_field (name_is_field l) attributes
+label : (l : Layout) → IsField (Both (IsName l.lab_len) (Attributes l.length_width)) (texts (name_text l.lab_len) (attributes_text l.length_width)) (name_field l.lab_len ⊗ attributes_field l.length_width)
+label l = both (IsName l.lab_len) (Attributes l.length_width) (name_text l.lab_len) (attributes_text l.length_width) (name_field l.lab_len) (attributes_field l.length_width) (name_is_field l.lab_len) (attributes l.length_width)
 
 abbrev as_it_is : List ℕ → List ℕ
 as_it_is text = text
 
-equate : (l : ℕ) → IsField (Both (IsName l) (Both Attributes (IsExpression l))) (texts (name_text l) (texts attributes_text as_it_is)) (name_field l ⊗ attributes_field ⊗ expression_field l)
-equate l = both (IsName l) (Both Attributes (IsExpression l)) (name_text l) (texts attributes_text as_it_is) (name_field l) (attributes_field ⊗ expression_field l) (name_is_field l)
-    (both Attributes (IsExpression l) attributes_text as_it_is attributes_field (expression_field l) attributes (expression l))
+equate : (l : Layout) → IsField (Both (IsName l.lab_len) (Both (Attributes l.length_width) (IsExpression l.lab_len))) (texts (name_text l.lab_len) (texts (attributes_text l.length_width) as_it_is)) (name_field l.lab_len ⊗ attributes_field l.length_width ⊗ expression_field l.lab_len)
+equate l = both (IsName l.lab_len) (Both (Attributes l.length_width) (IsExpression l.lab_len)) (name_text l.lab_len) (texts (attributes_text l.length_width) as_it_is) (name_field l.lab_len) (attributes_field l.length_width ⊗ expression_field l.lab_len) (name_is_field l.lab_len)
+    (both (Attributes l.length_width) (IsExpression l.lab_len) (attributes_text l.length_width) as_it_is (attributes_field l.length_width) (expression_field l.lab_len) (attributes l.length_width) (expression l.lab_len))
+
+abbrev Entries : ℕ → ℕ × (ℕ × List ℕ) → Type 0
+Entries l = Both Is2 (Both Is4 (IsName l))
+
+abbrev entry_text : ℕ → ℕ × (ℕ × List ℕ) → List ℕ
+entry_text l = texts (little_bytes 2) (texts (little_bytes 4) (name_text l))
+
+entry : (l : ℕ) → IsField (Entries l) (entry_text l) (number_field 2 ⊗ number_field 4 ⊗ name_field l)
+entry l = both Is2 (Both Is4 (IsName l)) (little_bytes 2) (texts (little_bytes 4) (name_text l)) (number_field 2) (number_field 4 ⊗ name_field l) n2
+    (both Is4 (IsName l) (little_bytes 4) (name_text l) (number_field 4) (name_field l) n4 (name_is_field l))
 
 formula : (l : ℕ) → IsField (Both (Passes is_count) (IsExpression l)) (texts one as_it_is) (count_field ⊗ expression_field l)
 formula l = both (Passes is_count) (IsExpression l) one as_it_is count_field (expression_field l) count_is_field (expression l)
@@ -151,19 +161,19 @@ super_bytes n = checked_is_field (λ bytes. length bytes ≡ n) as_it_is (bytes_
 -- ---- what was read is spelled so
 
 -- what was taken is the spelling of a record
-pub record TakesRecord (lab_len : ℕ) (bytes : List ℕ) (found : Record × List ℕ) : Type 0 where
-  pub record' : IsRecord lab_len found.0
-  pub taken : Takes bytes (spelling lab_len found.0) found.1
+pub record TakesRecord (l : Layout) (bytes : List ℕ) (found : Record × List ℕ) : Type 0 where
+  pub record' : IsRecord l found.0
+  pub taken : Takes bytes (spelling l found.0) found.1
 
 -- behind the code of the row a record is read that is spelled so
-abbrev TakesRow : ℕ → ℕ × Reads Record → Type 0
+abbrev TakesRow : Layout → ℕ × Reads Record → Type 0
 TakesRow l row = (rest : List ℕ) (found : Record × List ℕ) → IsBytes rest → row.1 rest ≡ Ok found → TakesRecord l (row.0 ∷ rest) found
 
 -- the fields spell a record
-abbrev Spelled : ℕ → ℕ → List ℕ → Record → Type 0
+abbrev Spelled : Layout → ℕ → List ℕ → Record → Type 0
 Spelled l code text r = IsRecord l r × (code ∷ text ≡ spelling l r)
 
-row_takes : {A : Type 0} (Is : A → Type 0) (text : A → List ℕ) (read : Reads A) → IsField Is text read → (l code : ℕ) (make : A → Record)
+row_takes : {A : Type 0} (Is : A → Type 0) (text : A → List ℕ) (read : Reads A) → IsField Is text read → (l : Layout) (code : ℕ) (make : A → Record)
     → ((x : A) → Is x → Spelled l code (text x) (make x)) → TakesRow l (code, taken_as make read)
 row_takes {A} Is text read field l code make spelled rest found fits e =
     let x = bind_ok (read rest) (λ x. Ok (make x.0, x.1)) found e in
@@ -174,12 +184,12 @@ row_takes {A} Is text read field l code make spelled rest found fits e =
     let is_made : TakesRecord l (code ∷ rest) made = record { record' = s.0; taken = whole } in
     subst (TakesRecord l (code ∷ rest)) (ok_is made found x.2) is_made
 
-constant_takes : (l code : ℕ) → 1 ≤ code → code < 0xE0 → TakesRow l (code, constant_field code)
+constant_takes : (l : Layout) (code : ℕ) → 1 ≤ code → code < 0xE0 → TakesRow l (code, constant_field code)
 unfolding constant_field spelling
 constant_takes l code low high = row_takes (λ bytes. length bytes ≡ code) as_it_is (bytes_field code) (bytes_is_field code) l code Const
     (λ bytes is. ((omega arith, omega arith), ap (λ (n : ℕ). n ∷ bytes) (sym is)))
 
-long_constant_takes : (l : ℕ) → TakesRow l (0xF2, long_constant_field)
+long_constant_takes : (l : Layout) → TakesRow l (0xF2, long_constant_field)
 unfolding long_constant_field spelling
 long_constant_takes l rest found fits e =
     let a = bind_ok (number_field 4 rest) (λ n. taken_as LongConst (bytes_field n.0) n.1) found e in
@@ -192,7 +202,7 @@ long_constant_takes l rest found fits e =
     let is_made : TakesRecord l (0xF2 ∷ rest) made = record { record' = omega (arith, t.0, u.0); taken = whole } in
     subst (TakesRecord l (0xF2 ∷ rest)) (ok_is made found b.2) is_made
 
-super_takes : (l : ℕ) → TakesRow l (0xF7, super_field)
+super_takes : (l : Layout) → TakesRow l (0xF7, super_field)
 unfolding super_field spelling
 super_takes l rest found fits e =
     let a = bind_ok (checked (ltb 0) Broken (number_field 4) rest) (λ size. checked is_super Unread byte_field size.1 >>= λ form. checked are_pages Broken (bytes_field (size.0 - 1)) form.1 >>= λ bytes. Ok (Super form.0 bytes.0, bytes.1)) found e in
@@ -212,73 +222,78 @@ super_takes l rest found fits e =
     subst (TakesRecord l (0xF7 ∷ rest)) (ok_is made found c.2) is_made
 
 -- the rows of numbers, patches, names and formulas
-align_takes : (l : ℕ) → TakesRow l (0xE0, align_field)
+align_takes : (l : Layout) → TakesRow l (0xE0, align_field)
 unfolding align_field spelling
 align_takes l = row_takes Is4 (little_bytes 4) (number_field 4) n4 l 0xE0 Align (λ n is. (is, refl))
 
-org_takes : (l : ℕ) → TakesRow l (0xE1, org_field)
+org_takes : (l : Layout) → TakesRow l (0xE1, org_field)
 unfolding org_field spelling
 org_takes l = row_takes (λ n. Is4 n × Passes (λ n. ltb n (2 ^ 31)) n) (little_bytes 4) (checked (λ n. ltb n (2 ^ 31)) Unread (number_field 4)) org l 0xE1 Org (λ n is. (ltb-true n (2 ^ 31) is.1, refl))
 
-space_takes : (l : ℕ) → TakesRow l (0xF1, space_field)
+space_takes : (l : Layout) → TakesRow l (0xF1, space_field)
 unfolding space_field spelling
 space_takes l = row_takes Is4 (little_bytes 4) (number_field 4) n4 l 0xF1 Space (λ n is. (is, refl))
 
-reloc_takes : (l : ℕ) → TakesRow l (0xE2, reloc_field)
+reloc_takes : (l : Layout) → TakesRow l (0xE2, reloc_field)
 unfolding reloc_field spelling
 reloc_takes l = row_takes (Both Patch (Both Is4 Is4)) (texts patch_text (texts (little_bytes 4) (little_bytes 4))) (patch_field ⊗ number_field 4 ⊗ number_field 4) reloc l 0xE2
     (λ x. Reloc x.0.0 x.0.1 x.1.0 x.1.1) (λ x is. ((is.0, is.1.0, is.1.1), refl))
 
-interseg_takes : (l : ℕ) → TakesRow l (0xE3, interseg_field)
+interseg_takes : (l : Layout) → TakesRow l (0xE3, interseg_field)
 unfolding interseg_field spelling
 interseg_takes l = row_takes (Both Patch InterSegs) (texts patch_text interseg_text) (patch_field ⊗ number_field 4 ⊗ number_field 2 ⊗ number_field 2 ⊗ number_field 4) interseg l 0xE3
     (λ x. InterSeg x.0.0 x.0.1 x.1.0 x.1.1.0 x.1.1.1.0 x.1.1.1.1) (λ x is. ((is.0, is.1.0, is.1.1.0, is.1.1.1.0, is.1.1.1.1), refl))
 
-short_reloc_takes : (l : ℕ) → TakesRow l (0xF5, short_reloc_field)
+short_reloc_takes : (l : Layout) → TakesRow l (0xF5, short_reloc_field)
 unfolding short_reloc_field spelling
 short_reloc_takes l = row_takes (Both Patch (Both Is2 Is2)) (texts patch_text (texts (little_bytes 2) (little_bytes 2))) (patch_field ⊗ number_field 2 ⊗ number_field 2) short_reloc l 0xF5
     (λ x. ShortReloc x.0.0 x.0.1 x.1.0 x.1.1) (λ x is. ((is.0, is.1.0, is.1.1), refl))
 
-short_interseg_takes : (l : ℕ) → TakesRow l (0xF6, short_interseg_field)
+short_interseg_takes : (l : Layout) → TakesRow l (0xF6, short_interseg_field)
 unfolding short_interseg_field spelling
 short_interseg_takes l = row_takes (Both Patch ShortInterSegs) (texts patch_text short_interseg_text) (patch_field ⊗ number_field 2 ⊗ byte_field ⊗ number_field 2) short_interseg l 0xF6
     (λ x. ShortInterSeg x.0.0 x.0.1 x.1.0 x.1.1.0 x.1.1.1) (λ x is. ((is.0, is.1.0, is.1.1.0, is.1.1.1), refl))
 
-using_takes : (l : ℕ) → TakesRow l (0xE4, using_field l)
+using_takes : (l : Layout) → TakesRow l (0xE4, using_field l.lab_len)
 unfolding using_field spelling
-using_takes l = row_takes (IsName l) (name_text l) (name_field l) (name_is_field l) l 0xE4 Using (λ n is. (is, refl))
+using_takes l = row_takes (IsName l.lab_len) (name_text l.lab_len) (name_field l.lab_len) (name_is_field l.lab_len) l 0xE4 Using (λ n is. (is, refl))
 
-strong_takes : (l : ℕ) → TakesRow l (0xE5, strong_field l)
+strong_takes : (l : Layout) → TakesRow l (0xE5, strong_field l.lab_len)
 unfolding strong_field spelling
-strong_takes l = row_takes (IsName l) (name_text l) (name_field l) (name_is_field l) l 0xE5 Strong (λ n is. (is, refl))
+strong_takes l = row_takes (IsName l.lab_len) (name_text l.lab_len) (name_field l.lab_len) (name_is_field l.lab_len) l 0xE5 Strong (λ n is. (is, refl))
 
 abbrev label_code : Bool → ℕ
 label_code global = cond global 0xE6 0xEF
 
-label_takes : (l : ℕ) (global : Bool) → TakesRow l (label_code global, label_field l global)
+label_takes : (l : Layout) (global : Bool) → TakesRow l (label_code global, label_field l global)
 unfolding label_field spelling
-label_takes l global = row_takes (Both (IsName l) Attributes) (texts (name_text l) attributes_text) (name_field l ⊗ attributes_field) (label l) l (label_code global)
+label_takes l global = row_takes (Both (IsName l.lab_len) (Attributes l.length_width)) (texts (name_text l.lab_len) (attributes_text l.length_width)) (name_field l.lab_len ⊗ attributes_field l.length_width) (label l) l (label_code global)
     (λ x. Label global x.0 x.1.0 x.1.1.0 x.1.1.1) (λ x is. ((is.0, (is.1.0, is.1.1.0, is.1.1.1)), refl))
 
 abbrev equate_code : Bool → ℕ
 equate_code global = cond global 0xE7 0xF0
 
-equate_takes : (l : ℕ) (global : Bool) → TakesRow l (equate_code global, equate_field l global)
+equate_takes : (l : Layout) (global : Bool) → TakesRow l (equate_code global, equate_field l global)
 unfolding equate_field spelling
-equate_takes l global = row_takes (Both (IsName l) (Both Attributes (IsExpression l))) (texts (name_text l) (texts attributes_text as_it_is)) (name_field l ⊗ attributes_field ⊗ expression_field l) (equate l) l (equate_code global)
+equate_takes l global = row_takes (Both (IsName l.lab_len) (Both (Attributes l.length_width) (IsExpression l.lab_len))) (texts (name_text l.lab_len) (texts (attributes_text l.length_width) as_it_is)) (name_field l.lab_len ⊗ attributes_field l.length_width ⊗ expression_field l.lab_len) (equate l) l (equate_code global)
     (λ x. Equate global x.0 x.1.0.0 x.1.0.1.0 x.1.0.1.1 x.1.1) (λ x is. ((is.0, (is.1.0.0, is.1.0.1.0, is.1.0.1.1), is.1.1), refl))
 
-formula_takes : (l code : ℕ) → is_formula code ≡ true → eqb code 0xEE ≡ false → TakesRow l (code, formula_field l code)
+formula_takes : (l : Layout) (code : ℕ) → is_formula code ≡ true → eqb code 0xEE ≡ false → TakesRow l (code, formula_field l.lab_len code)
 unfolding formula_field spelling
-formula_takes l code is_code other = row_takes (Both (Passes is_count) (IsExpression l)) (texts one as_it_is) (count_field ⊗ expression_field l) (formula l) l code
+formula_takes l code is_code other = row_takes (Both (Passes is_count) (IsExpression l.lab_len)) (texts one as_it_is) (count_field ⊗ expression_field l.lab_len) (formula l.lab_len) l code
     (λ x. Formula code x.0 0 x.1) (λ x is. let none : IsDistance (eqb code 0xEE) 0 = rw other refl in ((is_code, is.0, none, is.1), ap (λ (b : Bool). code ∷ x.0 ∷ cond b (little_bytes 4 0 ++ x.1) x.1) (sym other)))
 
-distance_takes : (l : ℕ) → TakesRow l (0xEE, distance_field l)
+distance_takes : (l : Layout) → TakesRow l (0xEE, distance_field l.lab_len)
 unfolding distance_field spelling
-distance_takes l = row_takes (Both (Passes is_count) (Both Is4 (IsExpression l))) (texts one (texts (little_bytes 4) as_it_is)) (count_field ⊗ number_field 4 ⊗ expression_field l) (distance l) l 0xEE
+distance_takes l = row_takes (Both (Passes is_count) (Both Is4 (IsExpression l.lab_len))) (texts one (texts (little_bytes 4) as_it_is)) (count_field ⊗ number_field 4 ⊗ expression_field l.lab_len) (distance l.lab_len) l 0xEE
     (λ x. Formula 0xEE x.0 x.1.0 x.1.1) (λ x is. ((refl, is.0, is.1.0, is.1.1), refl))
 
-rows_take : (l : ℕ) → AllByRecursion (TakesRow l) (rows l)
+entry_takes : (l : Layout) → TakesRow l (0xF4, entry_field l.lab_len)
+unfolding entry_field spelling
+entry_takes l = row_takes (Entries l.lab_len) (entry_text l.lab_len) (number_field 2 ⊗ number_field 4 ⊗ name_field l.lab_len) (entry l.lab_len) l 0xF4
+    (λ x. Entry x.0 x.1.0 x.1.1) (λ x is. ((is.0, is.1.0, is.1.1), refl))
+
+rows_take : (l : Layout) → AllByRecursion (TakesRow l) (rows l)
 unfolding rows
 rows_take l = (
   align_takes l,
@@ -308,7 +323,7 @@ rows_take l = (
                           label_takes l false,
                           (
                             equate_takes l false,
-                            (space_takes l, (long_constant_takes l, (formula_takes l 0xF3 refl refl, (short_reloc_takes l, (short_interseg_takes l, (super_takes l, tt)))))),
+                            (space_takes l, (long_constant_takes l, (formula_takes l 0xF3 refl refl, (entry_takes l, (short_reloc_takes l, (short_interseg_takes l, (super_takes l, tt))))))),
                           ),
                         ),
                       ),
@@ -324,7 +339,7 @@ rows_take l = (
   ),
 )
 
-by_code_takes : (l : ℕ) (table : List (ℕ × Reads Record)) → AllByRecursion (TakesRow l) table → (code : ℕ) (rest : List ℕ) (found : Record × List ℕ) → IsBytes rest → by_code table code rest ≡ Ok found → TakesRecord l (code ∷ rest) found
+by_code_takes : (l : Layout) (table : List (ℕ × Reads Record)) → AllByRecursion (TakesRow l) table → (code : ℕ) (rest : List ℕ) (found : Record × List ℕ) → IsBytes rest → by_code table code rest ≡ Ok found → TakesRecord l (code ∷ rest) found
 by_code_takes l [] all code rest found fits e = absurd cc
 by_code_takes l (row ∷ more) all code rest found fits e =
     elim (chosen (eqb code row.0) _ _ (Ok found) e) [
@@ -332,7 +347,7 @@ by_code_takes l (row ∷ more) all code rest found fits e =
       | inr p ↦ by_code_takes l more all.1 code rest found fits p.1
     ]
 
-end_takes : (l code : ℕ) (rest : List ℕ) (found : Record × List ℕ) → IsBytes rest → code ≡ 0 → (End, rest) ≡ found → TakesRecord l (code ∷ rest) found
+end_takes : (l : Layout) (code : ℕ) (rest : List ℕ) (found : Record × List ℕ) → IsBytes rest → code ≡ 0 → (End, rest) ≡ found → TakesRecord l (code ∷ rest) found
 unfolding spelling
 end_takes l code rest found fits zero-is e =
     let is_made : TakesRecord l (0 ∷ rest) (End, rest) = record { record' = tt; taken = record { parts = refl; rest_fits = fits } } in
@@ -340,7 +355,7 @@ end_takes l code rest found fits zero-is e =
     subst (λ (c : ℕ). TakesRecord l (c ∷ rest) found) (sym zero-is) at_found
 
 -- what is read is spelled so
-pub front-takes : (l : ℕ) (bytes : List ℕ) (found : Record × List ℕ) → IsBytes bytes → front l bytes ≡ Ok found → TakesRecord l bytes found
+pub front-takes : (l : Layout) (bytes : List ℕ) (found : Record × List ℕ) → IsBytes bytes → front l bytes ≡ Ok found → TakesRecord l bytes found
 unfolding front
 front-takes l [] found fits e = absurd cc
 front-takes l (code ∷ rest) found fits e =
@@ -398,32 +413,32 @@ formula_code P code is a b c d e = elim (either _ _ is) [
     at {other} e p = subst P (sym (eqb-true code other e)) p
 
 -- what is spelled under this code is read
-abbrev IsAgain : ℕ → ℕ → List ℕ → List ℕ → ℕ → Type 0
+abbrev IsAgain : Layout → ℕ → List ℕ → List ℕ → ℕ → Type 0
 IsAgain l count expr rest code = (n : ℕ) → IsDistance (eqb code 0xEE) n → front l (spelling l (Formula code count n expr) ++ rest) ≡ Ok (Formula code count n expr, rest)
 
-plain_again : (l code count : ℕ) (expr rest : List ℕ) → is_count count ≡ true → IsExpression l expr → formula_field l code ((count ∷ expr) ++ rest) ≡ Ok (Formula code count 0 expr, rest)
+plain_again : (l : Layout) (code count : ℕ) (expr rest : List ℕ) → is_count count ≡ true → IsExpression l.lab_len expr → formula_field l.lab_len code ((count ∷ expr) ++ rest) ≡ Ok (Formula code count 0 expr, rest)
 unfolding formula_field
-plain_again l code count expr rest is is_expr = row_again (Both (Passes is_count) (IsExpression l)) (texts one as_it_is) (count_field ⊗ expression_field l) (formula l) (λ x. Formula code x.0 0 x.1) (count, expr) rest (is, is_expr)
+plain_again l code count expr rest is is_expr = row_again (Both (Passes is_count) (IsExpression l.lab_len)) (texts one as_it_is) (count_field ⊗ expression_field l.lab_len) (formula l.lab_len) (λ x. Formula code x.0 0 x.1) (count, expr) rest (is, is_expr)
 
 -- without an n
-without_n : (l code count n : ℕ) (expr rest : List ℕ) → n ≡ 0 → front l ((code ∷ count ∷ expr) ++ rest) ≡ Ok (Formula code count 0 expr, rest) → front l ((code ∷ count ∷ expr) ++ rest) ≡ Ok (Formula code count n expr, rest)
+without_n : (l : Layout) (code count n : ℕ) (expr rest : List ℕ) → n ≡ 0 → front l ((code ∷ count ∷ expr) ++ rest) ≡ Ok (Formula code count 0 expr, rest) → front l ((code ∷ count ∷ expr) ++ rest) ≡ Ok (Formula code count n expr, rest)
 without_n l code count n expr rest none e = e ∙ ap (λ (m : ℕ). done (Formula code count m expr, rest)) (sym none)
 
-formula_again : (l code count n : ℕ) (expr rest : List ℕ) → is_formula code ≡ true → is_count count ≡ true → IsDistance (eqb code 0xEE) n → IsExpression l expr
+formula_again : (l : Layout) (code count n : ℕ) (expr rest : List ℕ) → is_formula code ≡ true → is_count count ≡ true → IsDistance (eqb code 0xEE) n → IsExpression l.lab_len expr
     → front l (spelling l (Formula code count n expr) ++ rest) ≡ Ok (Formula code count n expr, rest)
 unfolding front spelling rows distance_field
 formula_again l code count n expr rest is is_count' far is_expr = formula_code (IsAgain l count expr rest) code is
     (λ n far. without_n l 0xEB count n expr rest far (plain_again l 0xEB count expr rest is_count' is_expr))
     (λ n far. without_n l 0xEC count n expr rest far (plain_again l 0xEC count expr rest is_count' is_expr))
     (λ n far. without_n l 0xED count n expr rest far (plain_again l 0xED count expr rest is_count' is_expr))
-    (λ n far. row_again (Both (Passes is_count) (Both Is4 (IsExpression l))) (texts one (texts (little_bytes 4) as_it_is)) (count_field ⊗ number_field 4 ⊗ expression_field l) (distance l)
+    (λ n far. row_again (Both (Passes is_count) (Both Is4 (IsExpression l.lab_len))) (texts one (texts (little_bytes 4) as_it_is)) (count_field ⊗ number_field 4 ⊗ expression_field l.lab_len) (distance l.lab_len)
     (λ x. Formula 0xEE x.0 x.1.0 x.1.1) (count, (n, expr)) rest (is_count', (far, is_expr)))
     (λ n far. without_n l 0xF3 count n expr rest far (plain_again l 0xF3 count expr rest is_count' is_expr))
     n far
 
 -- what is spelled so is read, whatever follows
-pub front-again : (l : ℕ) (r : Record) (rest : List ℕ) → IsRecord l r → front l (spelling l r ++ rest) ≡ Ok (r, rest)
-unfolding front spelling rows constant_field long_constant_field align_field org_field space_field reloc_field interseg_field short_reloc_field short_interseg_field using_field strong_field label_field equate_field
+pub front-again : (l : Layout) (r : Record) (rest : List ℕ) → IsRecord l r → front l (spelling l r ++ rest) ≡ Ok (r, rest)
+unfolding front spelling rows constant_field long_constant_field align_field org_field space_field reloc_field interseg_field short_reloc_field short_interseg_field using_field strong_field label_field equate_field entry_field
 front-again l End rest fits = refl
 front-again l (Const []) rest fits = absurd (omega arith)
 front-again l (Const (x ∷ bytes)) rest fits =
@@ -449,18 +464,21 @@ front-again l (ShortInterSeg count shift location segment offset) rest fits =
     row_again (Both Patch ShortInterSegs) (texts patch_text short_interseg_text) (patch_field ⊗ number_field 2 ⊗ byte_field ⊗ number_field 2) short_interseg
     (λ x. ShortInterSeg x.0.0 x.0.1 x.1.0 x.1.1.0 x.1.1.1) ((count, shift), (location, (segment, offset))) rest (fits.0, (fits.1, (fits.2, fits.3)))
 front-again l (Super form bytes) rest fits = super_again form bytes rest fits.0 fits.1 fits.2
-front-again l (Using name) rest fits = row_again (IsName l) (name_text l) (name_field l) (name_is_field l) Using name rest fits
-front-again l (Strong name) rest fits = row_again (IsName l) (name_text l) (name_field l) (name_is_field l) Strong name rest fits
+front-again l (Using name) rest fits = row_again (IsName l.lab_len) (name_text l.lab_len) (name_field l.lab_len) (name_is_field l.lab_len) Using name rest fits
+front-again l (Strong name) rest fits = row_again (IsName l.lab_len) (name_text l.lab_len) (name_field l.lab_len) (name_is_field l.lab_len) Strong name rest fits
 front-again l (Label true name size form private) rest fits =
-    row_again (Both (IsName l) Attributes) (texts (name_text l) attributes_text) (name_field l ⊗ attributes_field) (label l)
+    row_again (Both (IsName l.lab_len) (Attributes l.length_width)) (texts (name_text l.lab_len) (attributes_text l.length_width)) (name_field l.lab_len ⊗ attributes_field l.length_width) (label l)
     (λ x. Label true x.0 x.1.0 x.1.1.0 x.1.1.1) (name, (size, (form, private))) rest (fits.0, (fits.1.0, (fits.1.1, fits.1.2)))
 front-again l (Label false name size form private) rest fits =
-    row_again (Both (IsName l) Attributes) (texts (name_text l) attributes_text) (name_field l ⊗ attributes_field) (label l)
+    row_again (Both (IsName l.lab_len) (Attributes l.length_width)) (texts (name_text l.lab_len) (attributes_text l.length_width)) (name_field l.lab_len ⊗ attributes_field l.length_width) (label l)
     (λ x. Label false x.0 x.1.0 x.1.1.0 x.1.1.1) (name, (size, (form, private))) rest (fits.0, (fits.1.0, (fits.1.1, fits.1.2)))
 front-again l (Equate true name size form private expr) rest fits =
-    row_again (Both (IsName l) (Both Attributes (IsExpression l))) (texts (name_text l) (texts attributes_text as_it_is)) (name_field l ⊗ attributes_field ⊗ expression_field l) (equate l)
+    row_again (Both (IsName l.lab_len) (Both (Attributes l.length_width) (IsExpression l.lab_len))) (texts (name_text l.lab_len) (texts (attributes_text l.length_width) as_it_is)) (name_field l.lab_len ⊗ attributes_field l.length_width ⊗ expression_field l.lab_len) (equate l)
     (λ x. Equate true x.0 x.1.0.0 x.1.0.1.0 x.1.0.1.1 x.1.1) (name, ((size, (form, private)), expr)) rest (fits.0, ((fits.1.0, (fits.1.1, fits.1.2)), fits.2))
 front-again l (Equate false name size form private expr) rest fits =
-    row_again (Both (IsName l) (Both Attributes (IsExpression l))) (texts (name_text l) (texts attributes_text as_it_is)) (name_field l ⊗ attributes_field ⊗ expression_field l) (equate l)
+    row_again (Both (IsName l.lab_len) (Both (Attributes l.length_width) (IsExpression l.lab_len))) (texts (name_text l.lab_len) (texts (attributes_text l.length_width) as_it_is)) (name_field l.lab_len ⊗ attributes_field l.length_width ⊗ expression_field l.lab_len) (equate l)
     (λ x. Equate false x.0 x.1.0.0 x.1.0.1.0 x.1.0.1.1 x.1.1) (name, ((size, (form, private)), expr)) rest (fits.0, ((fits.1.0, (fits.1.1, fits.1.2)), fits.2))
 front-again l (Formula code count n expr) rest fits = formula_again l code count n expr rest fits.0 fits.1 fits.2 fits.3
+front-again l (Entry segment offset name) rest fits =
+    row_again (Entries l.lab_len) (entry_text l.lab_len) (number_field 2 ⊗ number_field 4 ⊗ name_field l.lab_len) (entry l.lab_len)
+    (λ x. Entry x.0 x.1.0 x.1.1) (segment, (offset, name)) rest (fits.0, (fits.1, fits.2))

@@ -9,7 +9,7 @@ use Rattle.omf_format.specs.declared.expression.ExprFault.{ExprFault}
 use Rattle.omf_format.specs.declared.expression.ExprFault.TheVariants.{Shape, TooDeep}
 use Rattle.omf_format.specs.HeaderLaws.{IsBytes}
 use Rattle.omf_format.specs.Field.{◌>>=◌, number_field, name_field, name_text, IsName}
-use Rattle.omf_format.specs.FieldLaws.{IsBytes-rest, bind_ok, done, ok_is, chosen, Takes, Takes-code, width4, number_takes, number_again, name_takes, name_again}
+use Rattle.omf_format.specs.FieldLaws.{IsBytes-rest, bind_ok, done, ok_is, chosen, Takes, Takes-code, number_takes, number_again, name_takes, name_again}
 use Rattle.omf_format.specs.Expression.{Term, Operator, Location, Constant, Named, Offset, is_operator, is_named, IsTerm, term_text, AreTerms, terms_text, term_field, operands_of, pending_behind, judged, step_of, term_step}
 
 -- ---- one term
@@ -56,7 +56,7 @@ constant_takes : (l code : ℕ) (rest : List ℕ) (found : Option Term × List �
 unfolding term_text
 constant_takes l code rest found fits is e =
     let b = bind_ok (number_field 4 rest) (λ n. Ok (Some (Constant n.0), n.1)) found e in
-    let t = number_takes 4 width4 rest b.0.0 b.0.1 fits b.1 in
+    let t = number_takes 4 rest b.0.0 b.0.1 fits b.1 in
     let made : TakesTerm l (0x81 ∷ rest) (Some (Constant b.0.0), b.0.1) = record { term' = t.1; taken = Takes-code 0x81 rest _ _ t.0 } in
     let at_found : TakesTerm l (0x81 ∷ rest) found = subst (TakesTerm l (0x81 ∷ rest)) (ok_is (Some (Constant b.0.0), b.0.1) found b.2) made in
     subst (λ (c : ℕ). TakesTerm l (c ∷ rest) found) (sym is) at_found
@@ -65,7 +65,7 @@ offset_takes : (l code : ℕ) (rest : List ℕ) (found : Option Term × List ℕ
 unfolding term_text
 offset_takes l code rest found fits is e =
     let b = bind_ok (number_field 4 rest) (λ n. Ok (Some (Offset n.0), n.1)) found e in
-    let t = number_takes 4 width4 rest b.0.0 b.0.1 fits b.1 in
+    let t = number_takes 4 rest b.0.0 b.0.1 fits b.1 in
     let made : TakesTerm l (0x87 ∷ rest) (Some (Offset b.0.0), b.0.1) = record { term' = t.1; taken = Takes-code 0x87 rest _ _ t.0 } in
     let at_found : TakesTerm l (0x87 ∷ rest) found = subst (TakesTerm l (0x87 ∷ rest)) (ok_is (Some (Offset b.0.0), b.0.1) found b.2) made in
     subst (λ (c : ℕ). TakesTerm l (c ∷ rest) found) (sym is) at_found

@@ -5,7 +5,7 @@ use Rattle.std.proofs.lemmas.Bool.{le-ltb}
 use Rattle.std.proofs.lemmas.List.{take_at, drop_at, length-append}
 use Rattle.omf_format.specs.Number.{number_at}
 use Rattle.omf_format.specs.Name.{name_at, name_size}
-use Rattle.omf_format.specs.Header.{Fields, fields_of, names_end, header_checks, header_fault, laid_out, written_fields, written_numbers, header_bytes, IsWritable}
+use Rattle.omf_format.specs.Header.{Fields, version_of, byte_count_of, kind_of, fields_of, names_end, checks_of, header_checks, first_of, header_fault, laid_out, written_fields, written_numbers, header_bytes, IsWritable}
 use Rattle.omf_format.specs.HeaderLaws.{none_holds, length-laid_out, number_at-laid_out, drop-more}
 
 -- the fields are as wide as they stand in a header
@@ -14,6 +14,7 @@ pub record FitsFields (f : Fields) : Type 0 where
   pub res_spc : f.res_spc < 2 ^ 32
   pub length : f.length < 2 ^ 32
   pub lab_len : f.lab_len < 2 ^ 8
+  pub version : f.version < 2 ^ 8
   pub bank_size : f.bank_size < 2 ^ 32
   pub kind : f.kind < 2 ^ 16
   pub org : f.org < 2 ^ 32
@@ -30,7 +31,7 @@ record Stands (f : Fields) (bytes : List ℕ) : Type 0 where
   length' : number_at 4 0x08 bytes ≡ f.length
   lab_len : number_at 1 0x0D bytes ≡ f.lab_len
   num_len : number_at 1 0x0E bytes ≡ 4
-  version : number_at 1 0x0F bytes ≡ 2
+  version : number_at 1 0x0F bytes ≡ f.version
   bank_size : number_at 4 0x10 bytes ≡ f.bank_size
   kind : number_at 2 0x14 bytes ≡ f.kind
   org : number_at 4 0x18 bytes ≡ f.org
@@ -51,7 +52,7 @@ stands f rest fits =
       length' = number_at-laid_out all 2 4 f.length rest refl fits.length;
       lab_len = number_at-laid_out all 4 1 f.lab_len rest refl fits.lab_len;
       num_len = number_at-laid_out all 5 1 4 rest refl (omega arith);
-      version = number_at-laid_out all 6 1 2 rest refl (omega arith);
+      version = number_at-laid_out all 6 1 f.version rest refl fits.version;
       bank_size = number_at-laid_out all 7 4 f.bank_size rest refl fits.bank_size;
       kind = number_at-laid_out all 8 2 f.kind rest refl fits.kind;
       org = number_at-laid_out all 10 4 f.org rest refl fits.org;
@@ -121,6 +122,7 @@ fits_fields f n fits = record {
   res_spc = fits.res_spc;
   length = fits.length;
   lab_len = omega arith;
+  version = omega arith;
   bank_size = fits.bank_size;
   kind = fits.kind;
   org = fits.org;
@@ -164,13 +166,24 @@ unfolding names_end name_size
 names_end-written f n bytes w =
     rw (w.numbers.disp_name, w.numbers.lab_len) (omega (arith, w.name_length))
 
+-- in version 2 BYTECNT counts bytes, and KIND stands at $14
+in_version_2 : (bytes : List ℕ) → version_of bytes ≡ 2 → (byte_count_of bytes ≡ number_at 4 0x00 bytes) × (kind_of bytes ≡ number_at 2 0x14 bytes)
+unfolding byte_count_of kind_of
+in_version_2 bytes is = (rw is refl, rw is refl)
+
+version-written : (f : Fields) (n : ℕ) (bytes : List ℕ) → Written f n bytes → version_of bytes ≡ 2
+unfolding version_of
+version-written f n bytes w = w.numbers.version
+
 -- the fields that are read are those that were written
 pub fields_of-written : (f : Fields) (n : ℕ) (rest : List ℕ) → FitsWritten f n → fields_of (header_bytes f n ++ rest) ≡ written_fields f n
 unfolding fields_of name_at
 fields_of-written f n rest fits =
     let w = written f n rest fits in
     let s = w.numbers in
-    rw (s.byte_count, s.res_spc, s.length', s.lab_len, s.bank_size, s.kind, s.org, s.align, s.seg_num, s.entry, s.disp_name, s.disp_data)
+    let two = version-written f n (header_bytes f n ++ rest) w in
+    let in2 = in_version_2 (header_bytes f n ++ rest) two in
+    rw (two, in2.0, in2.1, s.byte_count, s.res_spc, s.length', s.lab_len, s.bank_size, s.kind, s.org, s.align, s.seg_num, s.entry, s.disp_name, s.disp_data)
     (rw (w.load_name, w.name_length, w.name) refl)
 
 -- and none of the checks holds, where the whole body follows
@@ -179,29 +192,29 @@ unfolding header_fault header_checks
 header_fault-written f n rest fits writable long =
     let bytes = header_bytes f n ++ rest in
     let w = written f n rest fits in
-    let s = w.numbers in
     let body = 0x37 + length f.name in
     let ends = names_end-written f n bytes w in
     let len : length bytes ≡ 0x37 + length f.name + length rest = omega (arith, length-append (header_bytes f n) rest, length-header f n fits.load_name) in
-    none_holds (header_checks bytes) (
+    ap (λ (g : Fields). first_of (checks_of g bytes)) (fields_of-written f n rest fits)
+    ∙ none_holds (checks_of (written_fields f n) bytes) (
       le-ltb _ _ (omega arith),
       (
-        rw s.num_len refl,
+        rw w.numbers.num_len refl,
         (
-          rw s.version refl,
+          refl,
           (
-            rw s.bank_size (le-ltb _ _ writable.banks),
+            le-ltb _ _ writable.banks,
             (
-              rw s.kind (ap not writable.listed),
+              ap not writable.listed,
               (
-                rw s.num_sex refl,
+                rw w.numbers.num_sex refl,
                 (
-                  rw s.disp_name refl,
+                  refl,
                   (
-                    rw s.byte_count (le-ltb _ _ (omega arith)),
+                    le-ltb _ _ (omega arith),
                     (
-                      rw (s.disp_data, s.byte_count, ends) (both_false (ltb body body) (ltb (body + n) body) (le-ltb body body (omega arith)) (le-ltb (body + n) body (omega arith))),
-                      (rw (s.length', s.res_spc) (le-ltb _ _ writable.spaced), tt),
+                      rw ends (both_false (ltb body body) (ltb (body + n) body) (le-ltb body body (omega arith)) (le-ltb (body + n) body (omega arith))),
+                      (le-ltb _ _ writable.spaced, tt),
                     ),
                   ),
                 ),

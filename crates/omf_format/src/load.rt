@@ -16,6 +16,14 @@ pub enum LoadCause {
     Sequence,
     /// The bytes of a segment's records are more than its LENGTH.
     DataTooLong,
+    /// A patch reaches past its segment's LENGTH.
+    PatchOutside,
+    /// A patch or an ENTRY record names no place of the file's segments.
+    NoSuchTarget,
+    /// A patch names another segment that is dynamic.
+    DynamicTarget,
+    /// A jump table or a list of pathnames isn't laid out as such. The place is a displacement in the segment.
+    BadTable,
     Memory,
 }
 

@@ -12,6 +12,7 @@ fields h = record {
   res_spc = h.res_spc;
   length = h.length;
   lab_len = h.lab_len;
+  version = h.version;
   bank_size = h.bank_size;
   kind = h.kind.bits;
   org = h.org;

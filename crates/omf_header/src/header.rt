@@ -1,12 +1,15 @@
 //! A header as a value.
 
+ghost use Rattle.std.specs.Prelude.{◌≡◌};
+ghost use Rattle.omf_format.specs.Header.{alignment_of, stays_in_bank};
+
 use crate::kind::Kind;
 use omf_base::Name;
 
 /// A segment's header. Displacements are in the segment, counted from its start.
 #[derive(Debug, PartialEq, Eq, Drop)]
 pub struct Header {
-    /// The bytes of the segment in the file (BYTECNT).
+    /// The bytes of the segment in the file (BYTECNT, in version 1 512 times the number of blocks).
     pub byte_count: u32,
     /// The zero bytes behind the body's bytes in memory (RESSPC).
     pub res_spc: u32,
@@ -14,8 +17,11 @@ pub struct Header {
     pub length: u32,
     /// How many bytes a name takes, or 0 where each has a length byte (LABLEN).
     pub lab_len: u8,
+    /// The version of the format, 1 or 2 (VERSION).
+    pub version: u8,
     /// 0 where the segment may cross banks, else at most $10000 (BANKSIZE).
     pub bank_size: u32,
+    /// The type and the attributes (KIND; a header of version 1 has fewer, in one byte).
     pub kind: Kind,
     /// The address that the segment asks for, or 0 (ORG).
     pub org: u32,
@@ -33,4 +39,25 @@ pub struct Header {
     pub load_name: [u8; 10],
     /// SEGNAME, without the spaces that pad it under a LABLEN above 0.
     pub name: Name,
+}
+
+impl Header {
+    /// Of what the segment's address is a multiple: 1 for ALIGN 0, $100 for an ALIGN up to $100, and $10000 for a greater
+    /// one.
+    pub fn alignment(&self) -> u32
+        ensures { result ≡ alignment_of self.now.align }
+    {
+        match self.align {
+            0 => 1,
+            1..=0x100 => 0x100,
+            _ => 0x10000,
+        }
+    }
+
+    /// BANKSIZE isn't 0: the segment may not cross banks.
+    pub fn stays_in_bank(&self) -> bool
+        ensures { result ≡ stays_in_bank self.now.bank_size }
+    {
+        self.bank_size != 0
+    }
 }

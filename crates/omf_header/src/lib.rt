@@ -11,5 +11,5 @@ pub use displacement::displacement_of;
 pub use header::Header;
 pub use kind::Kind;
 pub use omf_format::{Field, HeaderFault};
-pub use reading::read_header;
+pub use reading::{read_header, version_of};
 pub use writing::{WriteHeaderFault, write_header};

@@ -3,7 +3,7 @@
 ghost use Rattle.std.specs.Prelude.{◌≡◌, ◌+◌, ◌<◌, ◌≤◌, ◌^◌, ◌||◌, nat_lt, length, take, drop, None, OnOk, IfOk, IfErr};
 ghost use Rattle.omf_format.specs.Number.{number_at};
 ghost use Rattle.omf_format.specs.Name.{name_at, name_size, without_trailing};
-ghost use Rattle.omf_format.specs.Header.{fields_of, names_end, form_of, is_listed, header_fault};
+ghost use Rattle.omf_format.specs.Header.{version_of, byte_count_of, kind_of_byte, kind_of, fields_of, names_end, is_listed, is_read_version, header_fault};
 ghost use Rattle.omf_header.specs.View.{fields, IsRefused};
 
 use crate::header::Header;
@@ -43,6 +43,57 @@ fn u8_at(bytes: &[u8], at: usize) -> u8
     }
 }
 
+/// The version of the header at the front of the bytes, 0 where they end before it (VERSION).
+#[inline]
+#[tactic(auto, unfolding(omf_format::specs::Header::version_of))]
+pub fn version_of(bytes: &[u8]) -> u8
+    ensures { result ≡ version_of bytes.now }
+{
+    u8_at(bytes, 0x0F)
+}
+
+/// How many bytes the segment says to have.
+#[tactic(auto, unfolding(omf_format::specs::Header::byte_count_of))]
+fn byte_count(bytes: &[u8]) -> u64
+    requires { 44 ≤ length bytes.now }
+    ensures { result ≡ byte_count_of bytes.now }
+{
+    let count = u64::from(u32_at(bytes, 0x00));
+    if version_of(bytes) == 1 {
+        512 * count
+    } else {
+        count
+    }
+}
+
+/// KIND of a header of version 1 from its byte.
+fn kind_of_byte(byte: u8) -> u16
+    ensures { result ≡ kind_of_byte byte }
+{
+    let byte = u16::from(byte);
+    byte % 32 + 256 * (byte / 32 * 32)
+}
+
+#[tactic(auto, unfolding(omf_format::specs::Header::kind_of))]
+fn kind(bytes: &[u8]) -> Kind
+    requires { 44 ≤ length bytes.now }
+    ensures { result.bits ≡ kind_of bytes.now }
+{
+    let bits = if version_of(bytes) == 1 {
+        kind_of_byte(u8_at(bytes, 0x0C))
+    } else {
+        u16_at(bytes, 0x14)
+    };
+    Kind { bits }
+}
+
+/// Whether a version is read.
+fn is_read_version(version: u8) -> bool
+    ensures { result ≡ is_read_version version }
+{
+    version == 1 || version == 2
+}
+
 /// How many bytes the name there takes.
 #[tactic(auto, unfolding(omf_format::specs::Name::name_size))]
 fn name_size(bytes: &[u8], at: usize, lab_len: u8) -> usize
@@ -73,7 +124,7 @@ fn is_listed(form: u8) -> bool
 }
 
 /// The fault of the first check that holds.
-#[tactic(auto, unfolding(omf_format::specs::Header::header_fault, omf_format::specs::Header::header_checks))]
+#[tactic(auto, unfolding(omf_format::specs::Header::header_fault, omf_format::specs::Header::header_checks, omf_format::specs::Header::fields_of))]
 fn first_fault(bytes: &[u8]) -> Option<HeaderFault>
     requires { length bytes.now < 2 ^ 32 }
     ensures { result ≡ header_fault bytes.now }
@@ -85,13 +136,13 @@ fn first_fault(bytes: &[u8]) -> Option<HeaderFault>
     if u8_at(bytes, 0x0E) != 4 {
         return Some(HeaderFault::Unsupported(Field::NumLen));
     }
-    if u8_at(bytes, 0x0F) != 2 {
+    if !is_read_version(version_of(bytes)) {
         return Some(HeaderFault::Unsupported(Field::Version));
     }
     if u32_at(bytes, 0x10) > 0x10000 {
         return Some(HeaderFault::BadField(Field::BankSize));
     }
-    if !is_listed((u16_at(bytes, 0x14) % 32) as u8) {
+    if !is_listed(kind(bytes).form()) {
         return Some(HeaderFault::Unsupported(Field::Kind));
     }
     if u8_at(bytes, 0x20) != 0 {
@@ -100,7 +151,7 @@ fn first_fault(bytes: &[u8]) -> Option<HeaderFault>
     if u16_at(bytes, 0x28) < 0x2C {
         return Some(HeaderFault::BadField(Field::DispName));
     }
-    if u32_at(bytes, 0x00) > size {
+    if byte_count(bytes) > u64::from(size) {
         return Some(HeaderFault::Truncated(size));
     }
     if is_data_misplaced(bytes) {
@@ -115,10 +166,10 @@ fn first_fault(bytes: &[u8]) -> Option<HeaderFault>
 /// The names end after DISPDATA, or DISPDATA exceeds BYTECNT.
 fn is_data_misplaced(bytes: &[u8]) -> bool
     requires { 44 ≤ length bytes.now }
-    ensures { result ≡ (nat_lt (number_at 2 0x2A bytes.now) (names_end bytes.now) || nat_lt (number_at 4 0x00 bytes.now) (number_at 2 0x2A bytes.now)) }
+    ensures { result ≡ (nat_lt (number_at 2 0x2A bytes.now) (names_end bytes.now) || nat_lt (byte_count_of bytes.now) (number_at 2 0x2A bytes.now)) }
 {
     let disp_data = u16_at(bytes, 0x2A);
-    names_end(bytes) > disp_data as usize || u32::from(disp_data) > u32_at(bytes, 0x00)
+    names_end(bytes) > disp_data as usize || u64::from(disp_data) > byte_count(bytes)
 }
 
 /// The name there, which ends within the bytes.
@@ -170,7 +221,8 @@ fn owned_name(alloc: Global, text: &[u8]) -> Result<Name, HeaderFault>
 /// The fields, where no check holds.
 #[tactic(auto, using(omf_format::specs::HeaderLaws::sound_from_none), unfolding(omf_format::specs::Header::fields_of, omf_format::specs::Header::names_end))]
 fn header_of(alloc: Global, bytes: &[u8]) -> Result<Header, HeaderFault>
-    requires { header_fault bytes.now ≡ None }
+    requires short { length bytes.now < 2 ^ 32 }
+    requires passes { header_fault bytes.now ≡ None }
     ensures ok { IfOk result (λ h. fields h ≡ fields_of bytes.now) }
     ensures err { IfErr result (λ fault. fault ≡ HeaderFault.Memory) }
 {
@@ -179,14 +231,13 @@ fn header_of(alloc: Global, bytes: &[u8]) -> Result<Header, HeaderFault>
     let names = disp_name as usize;
     let name = owned_name(alloc, name_text(bytes, names + 10, lab_len))?;
     Ok(Header {
-        byte_count: u32_at(bytes, 0x00),
+        byte_count: byte_count(bytes) as u32,
         res_spc: u32_at(bytes, 0x04),
         length: u32_at(bytes, 0x08),
         lab_len,
+        version: version_of(bytes),
         bank_size: u32_at(bytes, 0x10),
-        kind: Kind {
-            bits: u16_at(bytes, 0x14),
-        },
+        kind: kind(bytes),
         org: u32_at(bytes, 0x18),
         align: u32_at(bytes, 0x1C),
         seg_num: u16_at(bytes, 0x22),

@@ -152,8 +152,9 @@ fn header_bytes(alloc: Global, header: &Header, body_length: u32) -> Result<Vec<
     Ok(written)
 }
 
-/// The header of a segment whose body has `body_length` bytes: LABLEN 0, NUMLEN 4, VERSION 2, NUMSEX 0, DISPNAME
-/// $2C, and DISPDATA and BYTECNT as the name and the body have them. The fields of `header` for these aren't read.
+/// The header of a segment of version 2 whose body has `body_length` bytes: LABLEN 0, NUMLEN 4, VERSION 2, NUMSEX 0,
+/// DISPNAME $2C, and DISPDATA and BYTECNT as the name and the body have them. The fields of `header` for these aren't
+/// read; its VERSION has to be 2, since no other version is written.
 ///
 /// Followed by the body, and by whatever else, it is read as a header with these fields.
 #[tactic(auto, using(omf_format::specs::WrittenHeader::written_passes))]

@@ -1,84 +1,96 @@
 -- The list of a file's segments, as far as it has come.
-use Rattle.std.proofs.Common.{◌≡◌, ℕ, ◌+◌, ◌<◌, ◌≤◌, List, [], ◌∷◌, ◌++◌, length, map, All, refl, sym, ap, subst, ◌∙◌, arith}
-use Rattle.std.proofs.lemmas.List.{map-append, length-append}
-use Rattle.std.proofs.lemmas.List.Elements.{All-push}
+use Rattle.std.proofs.Common.{◌≡◌, ℕ, zero, suc, ◌+◌, ◌-◌, ◌*◌, ◌^◌, ◌<◌, ◌≤◌, List, [], ◌∷◌, ◌++◌, length, map, All, Some, None, refl, sym, ap, subst, ◌∙◌, arith}
+use Rattle.std.specs.Prelude.{slice_get, option_map}
+use Rattle.std.proofs.lemmas.Option.{slice_get-map}
+use Rattle.std.proofs.lemmas.List.{map-append, length-append, length-map}
+use Rattle.std.proofs.lemmas.List.Elements.{All-push, All-weaker}
 use Rattle.omf_format.specs.declared.fault.FileFault.{FileFault}
 use Rattle.omf_format.specs.declared.fault.FileCause.{FileCause}
 use Rattle.omf_format.specs.declared.fault.FileCause.TheVariants as cause
-use Rattle.omf_format.specs.Header.{Fields}
-use Rattle.omf_format.specs.Reading.{Reader, HandsOut}
-use Rattle.omf_format.specs.File.{Segment, body_reader, IsHeader, IsSegment, AreSegments, HasFault, IsFirstFault}
-use Rattle.omf_format.specs.FileLaws.{LiesIn, header_lies, AreSegments-append}
-use Rattle.omf_header.specs.View.{fields}
+use Rattle.omf_format.specs.File.{Segment, IsSegment, AreSegments, IsFile, segment_at, HasFault, IsFirstFault}
+use Rattle.omf_format.specs.FileLaws.{LiesIn, header_lies, AreSegments-append, segments_fit}
 use Rattle.omf_records.specs.declared.segment.SegmentView.{SegmentView}
-use Rattle.omf_records.specs.Segments.{Placed, placed, views_of, IsPlaced, StandsAt, UnlessMemory, IsSegmentFault, IsRefused}
+use Rattle.omf_records.specs.Segments.{placed, shown, IsSound, IsView, FitsViews, UnlessMemory, IsSegmentFault, IsRefused}
 
 -- these views are the segments from the file's front up to this displacement
 pub record Listed (file : List ℕ) (views : List SegmentView) (start number : ℕ) : Type 0 where
-  pub segments : List Segment
-  pub are : AreSegments segments 0 file start
-  pub views' : map placed views ≡ views_of file segments
-  pub count : number ≡ length segments + 1
-  pub each : All (λ v. IsPlaced (placed v)) views
+  pub are : AreSegments (map shown views) 0 file start
+  pub count : number ≡ length views + 1
+  pub each : All (IsView file) views
   pub within : start ≤ length file
 
--- a segment that stands there, and where its own header lies
-segment_of : (v : SegmentView) (start : ℕ) (file : List ℕ) → StandsAt start file (placed v) → Segment
-segment_of v start file stands = record { start = start; fields = fields v.header; records = stands.records.records }
-
-header_of : (v : SegmentView) (start : ℕ) (file : List ℕ) → StandsAt start file (placed v) → IsHeader start (fields v.header) file
-header_of v start file stands =
-    subst (λ (s : ℕ). IsHeader s (fields v.header) file) stands.start' (subst (λ (f : List ℕ). IsHeader v.start (fields v.header) f) stands.file' stands.placed'.header)
-
-is_segment : (v : SegmentView) (start : ℕ) (file : List ℕ) (stands : StandsAt start file (placed v)) → IsSegment (segment_of v start file stands) file
-unfolding segment_of
-is_segment v start file stands =
-    let reader : body_reader v.start (fields v.header) v.file.now ≡ body_reader start (fields v.header) file =
-    ap (λ (s : ℕ). body_reader s (fields v.header) v.file.now) stands.start' ∙ ap (λ (f : List ℕ). body_reader start (fields v.header) f) stands.file' in
-    record {
-      header = header_of v start file stands;
-      last = stands.records.last;
-      records = subst (λ (r : Reader). HandsOut r stands.records.records stands.records.last) reader stands.records.run;
-      ended = stands.records.ended;
-    }
-
-pub stands_lies : (v : SegmentView) (start : ℕ) (file : List ℕ) → StandsAt start file (placed v) → LiesIn start (fields v.header) file
-stands_lies v start file stands = header_lies start (fields v.header) file (header_of v start file stands)
+pub view_lies : (file : List ℕ) (v : SegmentView) → IsView file v → LiesIn v.start (placed v).fields file
+view_lies file v is = header_lies v.start (placed v).fields file is.segment.header
 
 -- one segment more
-pub listed_more : (file : List ℕ) (views : List SegmentView) (v : SegmentView) (start number : ℕ) → Listed file views start number → StandsAt start file (placed v) → start < length file
+pub listed_more : (file : List ℕ) (views : List SegmentView) (v : SegmentView) (start number : ℕ) → Listed file views start number → v.start ≡ start → IsView file v → start < length file
     → Listed file (views ++ v ∷ []) (start + v.header.byte_count) (number + 1)
-unfolding segment_of
-listed_more file views v start number listed stands more =
-    let s = segment_of v start file stands in
-    let lies = stands_lies v start file stands in
-    let one : AreSegments (s ∷ []) start file (start + v.header.byte_count) = (refl, more, is_segment v start file stands, refl) in
-    let seen : placed v ≡ record { start = start; fields = fields v.header; file = file } =
-    ap (λ (n : ℕ). made n (fields v.header) v.file.now) stands.start' ∙ ap (made start (fields v.header)) stands.file' in
+listed_more file views v start number listed at is more =
+    let lies = view_lies file v is in
+    let one : AreSegments (shown v ∷ []) start file (start + v.header.byte_count) = (at, more, is.segment, refl) in
+    let whole : map shown (views ++ v ∷ []) ≡ map shown views ++ shown v ∷ [] = map-append shown views (v ∷ []) in
     record {
-      segments = listed.segments ++ s ∷ [];
-      are = AreSegments-append listed.segments (s ∷ []) 0 file start (start + v.header.byte_count) listed.are one;
-      views' =
-          map-append placed views (v ∷ []) ∙ ap (λ (l : List Placed). l ++ placed v ∷ []) listed.views' ∙ ap (λ (p : Placed). views_of file listed.segments ++ p ∷ []) seen
-          ∙ sym (map-append (λ t. made t.start t.fields file) listed.segments (s ∷ []));
-      count = omega (arith, length-append listed.segments (s ∷ []), listed.count);
-      each = All-push (λ w. IsPlaced (placed w)) views v listed.each stands.placed';
-      within = lies.within;
+      are = subst (λ (l : List Segment). AreSegments l 0 file (start + v.header.byte_count)) (sym whole) (AreSegments-append (map shown views) (shown v ∷ []) 0 file start (start + v.header.byte_count) listed.are one);
+      count = omega (arith, length-append views (v ∷ []), listed.count);
+      each = All-push (IsView file) views v listed.each is;
+      within = omega (arith, lies.within, at);
     }
-  where
-    made : ℕ → Fields → List ℕ → Placed
-    made start fields file = record { start = start; fields = fields; file = file }
+
+-- as many segments as fit the file
+pub few_listed : (file : List ℕ) (views : List SegmentView) (start number : ℕ) → Listed file views start number → 10 * number ≤ start + 10
+few_listed file views start number listed = omega (arith, segments_fit (map shown views) 0 file start listed.are, length-map views shown, listed.count)
+
+-- a view of a file that is short enough is sound
+pub view_sound : (file : List ℕ) (v : SegmentView) → length file < 2 ^ 32 → IsView file v → IsSound v
+view_sound file v short is =
+    let segment : IsSegment (shown v) v.file.now = subst (IsSegment (shown v)) (sym is.file') is.segment in
+    record { placed' = record { short = omega (arith, ap length is.file', short); header = segment.header }; segment = segment }
+
+each_sound : (file : List ℕ) (views : List SegmentView) → length file < 2 ^ 32 → All (IsView file) views → All IsSound views
+each_sound file views short each = All-weaker (IsView file) IsSound (λ v is. view_sound file v short is) views each
+
+-- where the file ends, the views are those of its segments
+pub views_fit : (file : List ℕ) (views : List SegmentView) (start number : ℕ) → length file < 2 ^ 32 → Listed file views start number → FitsViews views
+views_fit file views start number short listed =
+    record { few = omega (arith, few_listed file views start number listed, listed.within, listed.count); each = each_sound file views short listed.each }
+
+pub is_file : (file : List ℕ) (views : List SegmentView) (start number : ℕ) → Listed file views start number → length file ≤ start → IsFile (map shown views) file
+is_file file views start number listed end =
+    let same : start ≡ length file = omega (arith, listed.within) in
+    subst (AreSegments (map shown views) 0 file) same listed.are
+
+-- a fault that isn't want of memory is that of what follows from it
+unless_then : (c : FileCause) (fault : FileFault) (P Q : Type 0) → (P → Q) → UnlessMemory c fault P → UnlessMemory c fault Q
+unless_then cause.Memory fault P Q f h = h
+unless_then cause.Truncated fault P Q f h = f h
+unless_then cause.BadHeader fault P Q f h = f h
+unless_then cause.Unsupported fault P Q f h = f h
+unless_then cause.BadRecord fault P Q f h = f h
 
 -- a segment at fault behind the others is the file's first fault
 pub refused : (file : List ℕ) (views : List SegmentView) (fault : FileFault) (start number : ℕ) → Listed file views start number → start < length file → IsSegmentFault fault number start file → IsRefused fault file
-refused file views fault start number listed more is = by_cause fault.cause is
+refused file views fault start number listed more is = unless_then fault.cause fault _ (IsFirstFault file fault) first is
   where
-    first : (fault.segment ≡ number) × HasFault start file fault → IsFirstFault file fault
-    first h = record { before = listed.segments; at = start; sound = listed.are; more = more; number = h.0 ∙ listed.count; here = h.1 }
+    first : (fault.segment ≡ number) × HasFault start file (fault.cause, fault.at) → IsFirstFault file fault
+    first h = record {
+      before = map shown views;
+      at = start;
+      sound = listed.are;
+      more = more;
+      number = omega (arith, h.0, listed.count, length-map views shown);
+      here = h.1;
+    }
 
-    by_cause : (c : FileCause) → UnlessMemory c fault ((fault.segment ≡ number) × HasFault start file fault) → UnlessMemory c fault (IsFirstFault file fault)
-    by_cause cause.Memory h = h
-    by_cause cause.Truncated h = first h
-    by_cause cause.BadHeader h = first h
-    by_cause cause.Unsupported h = first h
-    by_cause cause.BadRecord h = first h
+-- ---- the segments by their places
+
+pub at_none : (views : List SegmentView) (place : ℕ) → (0 < place → slice_get views (place - 1) ≡ None) → segment_at (map shown views) place ≡ None
+at_none views zero none = refl
+at_none views (suc k) none =
+    let same : suc k - 1 ≡ k = omega arith in
+    slice_get-map shown views k ∙ ap (option_map shown) (ap (slice_get views) (sym same) ∙ none (omega arith))
+
+pub at_some : (views : List SegmentView) (place : ℕ) (v : SegmentView) → 0 < place → slice_get views (place - 1) ≡ Some v → segment_at (map shown views) place ≡ Some (shown v)
+at_some views zero v more is = absurd (omega arith)
+at_some views (suc k) v more is =
+    let same : suc k - 1 ≡ k = omega arith in
+    slice_get-map shown views k ∙ ap (option_map shown) (ap (slice_get views) (sym same) ∙ is)

@@ -1,19 +1,17 @@
 -- The fault of a header or a record is that of its segment.
-use Rattle.std.proofs.Common.{◌≡◌, ℕ, ◌^◌, ◌<◌, ◌≤◌, List, length, drop, Err, sym, ap, subst, ◌∙◌, arith}
+use Rattle.std.proofs.Common.{◌≡◌, ℕ, ◌^◌, ◌<◌, ◌≤◌, List, length, drop, Some, refl, sym, ap, subst, ◌∙◌, arith}
 use Rattle.std.proofs.lemmas.List.{length-drop}
 use Rattle.omf_format.specs.declared.fault.HeaderFault.{HeaderFault}
 use Rattle.omf_format.specs.declared.fault.HeaderFault.TheVariants.{Truncated, Unsupported, BadField, Memory}
 use Rattle.omf_format.specs.declared.fault.FileCause.{FileCause}
 use Rattle.omf_format.specs.declared.fault.FileCause.TheVariants as cause
 use Rattle.omf_format.specs.declared.fault.FileFault.{FileFault}
-use Rattle.omf_format.specs.declared.fault.RecordFault.{RecordFault}
-use Rattle.omf_format.specs.declared.fault.RecordFault.TheVariants as record_faults
-use Rattle.omf_format.specs.Header.{Fields, header_fault}
+use Rattle.omf_format.specs.Header.{Fields, version_of, header_fault}
 use Rattle.omf_format.specs.HeaderLaws.{fault_fits}
-use Rattle.omf_format.specs.Reading.{Reader, next_answer, HandsOut}
-use Rattle.omf_format.specs.File.{body_reader, IsHeader, SaysRecord, InHeader, InRecord}
+use Rattle.omf_format.specs.Reading.{Reader, HandsOut}
+use Rattle.omf_format.specs.File.{body_reader, IsHeader, Told, told_header, HasFault, InHeader, InRecord}
 use Rattle.omf_header.specs.View.{IsRefused}
-use Rattle.omf_records.specs.Segments.{HasRecordFault, UnlessMemory, IsSegmentFault, IsHeaderFault, HasPlace}
+use Rattle.omf_records.specs.Segments.{HasRecordFault, UnlessMemory, IsSegmentFault, IsTold, HasPlace}
 
 -- the place of a header's fault fits 32 bits, as the file does
 pub has_place : (of : HeaderFault) (start : ℕ) (bytes file : List ℕ) → bytes ≡ drop start file → start < length file → length file < 2 ^ 32 → IsRefused of bytes → HasPlace of start
@@ -28,32 +26,38 @@ has_place (BadField field) start bytes file is inside short refused =
     omega (arith, ap length is, length-drop start file, long)
 has_place Memory start bytes file is inside short refused = tt
 
--- a fault with a cause other than memory
-unless : (c : FileCause) (fault : FileFault) (P : Type 0) → fault.cause ≡ c → UnlessMemory c fault P → UnlessMemory fault.cause fault P
-unless c fault P is h = subst (λ (x : FileCause). UnlessMemory x fault P) (sym is) h
-
-pub segment_fault : (of : HeaderFault) (number start : ℕ) (bytes file : List ℕ) (fault : FileFault) → bytes ≡ drop start file → IsRefused of bytes → IsHeaderFault of start number fault
-    → IsSegmentFault fault number start file
-segment_fault (Truncated n) number start bytes file fault is refused says =
-    unless cause.Truncated fault _ says.1.0 (says.0, InHeader (Truncated n) (ap header_fault (sym is) ∙ refused) says.1)
-segment_fault (Unsupported field) number start bytes file fault is refused says =
-    unless cause.Unsupported fault _ says.1.0 (says.0, InHeader (Unsupported field) (ap header_fault (sym is) ∙ refused) says.1)
-segment_fault (BadField field) number start bytes file fault is refused says =
-    unless cause.BadHeader fault _ says.1.0 (says.0, InHeader (BadField field) (ap header_fault (sym is) ∙ refused) says.1)
-segment_fault Memory number start bytes file fault is refused says = unless cause.Memory fault _ says.0 (says.1, says.2)
-
--- a record's fault, too, is that of its segment
-pub record_segment_fault : (f : Fields) (number start : ℕ) (file : List ℕ) (reader : Reader) (fault : FileFault) → IsHeader start f file → reader ≡ body_reader start f file → fault.segment ≡ number
-    → HasRecordFault reader fault → IsSegmentFault fault number start file
-record_segment_fault f number start file reader fault is at segment has = by_cause has.of has.fails has.says
+-- what a fault is told as may be said of it
+unless : (told : Told) (number : ℕ) (fault : FileFault) (P : Type 0) → ((fault.segment ≡ number) → ((fault.cause, fault.at) ≡ told) → P) → IsTold told number fault → UnlessMemory fault.cause fault P
+unless told number fault P then is = subst (λ (c : FileCause). UnlessMemory c fault P) (sym is.cause) (by_cause told.0 refl is.place)
   where
-    here : HandsOut (body_reader start f file) has.before has.at
-    here = subst (λ (r : Reader). HandsOut r has.before has.at) at has.run
+    here : (fault.segment ≡ number) × (fault.at ≡ told.1) → P
+    here h = then h.0 (ap (λ (c : FileCause). (c, fault.at)) is.cause ∙ ap (λ (n : ℕ). (told.0, n)) h.1)
 
-    by_cause : (of : RecordFault) → next_answer has.at ≡ Err of → SaysRecord of fault → IsSegmentFault fault number start file
-    by_cause (record_faults.Truncated n) fails says =
-        unless cause.Truncated fault _ says.0 (segment, InRecord f has.before has.at (record_faults.Truncated n) is here fails says)
-    by_cause (record_faults.Unsupported code n) fails says =
-        unless cause.Unsupported fault _ says.0 (segment, InRecord f has.before has.at (record_faults.Unsupported code n) is here fails says)
-    by_cause (record_faults.BadRecord n) fails says =
-        unless cause.BadRecord fault _ says.0 (segment, InRecord f has.before has.at (record_faults.BadRecord n) is here fails says)
+    by_cause : (c : FileCause) → c ≡ told.0 → UnlessMemory c fault ((fault.segment ≡ number) × (fault.at ≡ told.1)) → UnlessMemory c fault P
+    by_cause cause.Memory same h = h
+    by_cause cause.Truncated same h = here h
+    by_cause cause.BadHeader same h = here h
+    by_cause cause.Unsupported same h = here h
+    by_cause cause.BadRecord same h = here h
+
+of_header : (of : HeaderFault) (number start : ℕ) (bytes file : List ℕ) (fault : FileFault) → bytes ≡ drop start file → header_fault bytes ≡ Some of → IsTold (told_header start (version_of bytes) of) number fault
+    → IsSegmentFault fault number start file
+of_header of number start bytes file fault is e told =
+    unless (told_header start (version_of bytes) of) number fault _
+    (λ segment same. (segment, InHeader of (ap header_fault (sym is) ∙ e) (same ∙ ap (λ (b : List ℕ). told_header start (version_of b) of) is))) told
+
+-- a header's fault, as it is told, is that of its segment
+pub segment_fault : (of : HeaderFault) (number start : ℕ) (bytes file : List ℕ) (fault : FileFault) → bytes ≡ drop start file → IsRefused of bytes → IsTold (told_header start (version_of bytes) of) number fault
+    → IsSegmentFault fault number start file
+segment_fault (Truncated n) number start bytes file fault is refused told = of_header (Truncated n) number start bytes file fault is refused told
+segment_fault (Unsupported field) number start bytes file fault is refused told = of_header (Unsupported field) number start bytes file fault is refused told
+segment_fault (BadField field) number start bytes file fault is refused told = of_header (BadField field) number start bytes file fault is refused told
+segment_fault Memory number start bytes file fault is refused told =
+    subst (λ (c : FileCause). UnlessMemory c fault ((fault.segment ≡ number) × HasFault start file (fault.cause, fault.at))) (sym told.cause) told.place
+
+-- and so is a record's
+pub record_segment_fault : (f : Fields) (number start : ℕ) (file : List ℕ) (reader : Reader) (told : Told) (fault : FileFault) → IsHeader start f file → reader ≡ body_reader start f file
+    → HasRecordFault reader told → IsTold told number fault → IsSegmentFault fault number start file
+record_segment_fault f number start file reader told fault is at has says =
+    let here : HandsOut (body_reader start f file) has.before has.at = subst (λ (r : Reader). HandsOut r has.before has.at) at has.run in
+    unless told number fault _ (λ segment same. (segment, InRecord f has.before has.at has.of is here has.fails (same ∙ has.told'))) says

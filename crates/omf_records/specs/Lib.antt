@@ -1,3 +1,5 @@
 pub mod View
 pub mod Segments
 pub mod Laws
+pub mod WalkLaws
+pub mod SegmentLaws

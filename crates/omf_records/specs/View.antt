@@ -1,8 +1,10 @@
 -- How records and what a reader answers are seen.
 use Rattle.std.specs.Prelude.{ℕ, List, [], ◌∷◌, Option, Some, None, Result, Ok, Err}
 use Rattle.omf_format.specs.declared.fault.RecordFault.{RecordFault}
+use Rattle.omf_format.specs.Field as field
 use Rattle.omf_format.specs.Record.{Record}
 use Rattle.omf_format.specs.Record as format
+use Rattle.omf_records.specs.declared.layout.Layout.{Layout}
 use Rattle.omf_records.specs.declared.record.Rec.{Rec}
 use Rattle.omf_records.specs.declared.record.Rec.TheVariants as rec
 
@@ -24,6 +26,11 @@ view (rec.Strong name) = format.Strong name.now
 view (rec.Label global name size form private) = format.Label global name.now size form private
 view (rec.Equate global name size form private expr) = format.Equate global name.now size form private expr.now
 view (rec.Formula code count n expr) = format.Formula code count n expr.now
+view (rec.Entry segment offset name) = format.Entry segment offset name.now
+
+-- a layout, with the bytes that a label's length has
+abbrev pub view_layout : Layout → field.Layout
+view_layout l = field.layout_of l.version l.lab_len
 
 -- what a call of `next` answered
 abbrev pub seen : Result (Option (ℕ × Rec)) RecordFault → Result (Option (ℕ × Record)) RecordFault

@@ -1,14 +1,16 @@
 //! The headers and records of a file's segments, checked in order.
 
-ghost use Rattle.std.specs.Prelude.{◌≡◌, ◌+◌, ◌<◌, ◌≤◌, ◌^◌, length, drop, OnOk, IfOk, IfErr};
-ghost use Rattle.omf_format.specs.File.{body_reader, IsHeader, SaysRecord};
+ghost use Rattle.std.specs.Prelude.{◌≡◌, ◌<◌, ◌≤◌, ◌^◌, length, drop, OnOk, IfOk, IfErr};
+ghost use Rattle.omf_format.specs.Reading.{IsBody};
+ghost use Rattle.omf_format.specs.File.{Told, IsHeader};
 ghost use Rattle.omf_header.specs.View.{fields};
-ghost use Rattle.omf_records.specs.Segments.{placed, IsPlaced, ComesToEnd, StandsAt, HasRecordFault, IsSegmentFault, IsHeaderFault, HasPlace};
+ghost use Rattle.omf_records.specs.Segments.{IsView, HasRecordFault, IsSegmentFault, IsTold};
 
 use crate::reading::Records;
 use crate::segment::SegmentView;
-use omf_format::{FileCause, FileFault, HeaderFault, RecordFault};
-use omf_header::{Header, displacement_of, read_header};
+use crate::told::{told_header, told_record};
+use omf_format::{FileCause, FileFault};
+use omf_header::{Header, read_header};
 use std::alloc::Global;
 
 /// The header that stands there, in the segment with this number.
@@ -18,9 +20,10 @@ fn header_at(alloc: Global, file: &[u8], start: u32, number: u32) -> Result<Head
     ensures ok { IfOk result (λ header. IsHeader start (fields header) file.now) }
     ensures err { IfErr result (λ fault. IsSegmentFault fault number start file.now) }
 {
-    match read_header(alloc, from(file, start as usize)) {
+    let bytes = from(file, start as usize);
+    match read_header(alloc, bytes) {
         Ok(header) => Ok(header),
-        Err(fault) => Err(file_fault(fault, number, start)),
+        Err(fault) => Err(in_segment(number, told_header(fault, bytes, start))),
     }
 }
 
@@ -33,54 +36,23 @@ fn from(bytes: &[u8], at: usize) -> &[u8]
     &bytes[at..]
 }
 
-/// A header's fault as one of the file.
-fn file_fault(fault: HeaderFault, segment: u32, start: u32) -> FileFault
-    requires { HasPlace fault start }
-    ensures { IsHeaderFault fault start segment result }
+/// A fault as that of the segment with this number; want of memory is that of none.
+fn in_segment(number: u32, told: (FileCause, u32)) -> FileFault
+    ensures { IsTold told number result }
 {
-    match fault {
-        HeaderFault::Truncated(size) => FileFault {
-            cause: FileCause::Truncated,
-            segment,
-            at: start + size,
-        },
-        HeaderFault::Unsupported(field) => FileFault {
-            cause: FileCause::Unsupported,
-            segment,
-            at: start + displacement_of(field),
-        },
-        HeaderFault::BadField(field) => FileFault {
-            cause: FileCause::BadHeader,
-            segment,
-            at: start + displacement_of(field),
-        },
-        HeaderFault::Memory => FileFault {
-            cause: FileCause::Memory,
+    let (cause, at) = told;
+    match cause {
+        FileCause::Memory => FileFault {
+            cause,
             segment: 0,
             at: 0,
         },
-    }
-}
-
-/// A record's fault as one of the file.
-fn record_fault(fault: RecordFault, segment: u32) -> FileFault
-    ensures number { result.segment ≡ segment }
-    ensures says { SaysRecord fault result }
-{
-    match fault {
-        RecordFault::Truncated(at) => FileFault {
-            cause: FileCause::Truncated,
-            segment,
-            at,
-        },
-        RecordFault::Unsupported(_, at) => FileFault {
-            cause: FileCause::Unsupported,
-            segment,
-            at,
-        },
-        RecordFault::BadRecord(at) => FileFault {
-            cause: FileCause::BadRecord,
-            segment,
+        FileCause::Truncated
+        | FileCause::BadHeader
+        | FileCause::Unsupported
+        | FileCause::BadRecord => FileFault {
+            cause,
+            segment: number,
             at,
         },
     }
@@ -88,15 +60,15 @@ fn record_fault(fault: RecordFault, segment: u32) -> FileFault
 
 /// Goes over the records up to END.
 fn check_records(records: Records, number: u32) -> Result<(), FileFault>
-    ensures ok { OnOk result (ComesToEnd records.entry) }
-    ensures err { IfErr result (λ fault. (fault.segment ≡ number) × HasRecordFault records.entry fault) }
+    ensures ok { OnOk result (IsBody records.entry) }
+    ensures err { IfErr result (λ fault. (told : Told) × HasRecordFault records.entry told × IsTold told number fault) }
 {
     let mut records = records;
     'records: loop {
         match records.next() {
             Ok(None) => return Ok(()),
             Ok(Some(_)) => {}
-            Err(fault) => return Err(record_fault(fault, number)),
+            Err(fault) => return Err(in_segment(number, told_record(fault))),
         }
     }
 }
@@ -110,7 +82,8 @@ pub fn segment_at(
 ) -> Result<SegmentView<'_>, FileFault>
     requires short { length file.now < 2 ^ 32 }
     requires inside { start < length file.now }
-    ensures ok { IfOk result (λ view. StandsAt start file.now (placed view)) }
+    ensures start { IfOk result (λ view. view.start ≡ start) }
+    ensures ok { IfOk result (λ view. IsView file.now view) }
     ensures err { IfErr result (λ fault. IsSegmentFault fault number start file.now) }
 {
     let header = header_at(alloc, file, start, number)?;

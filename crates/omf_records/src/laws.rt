@@ -1,6 +1,6 @@
 //! Laws of records and files. These functions do nothing: each is there for its contract.
 
-ghost use Rattle.omf_records.specs.Laws.{ReadIsSpelled, SpelledIsRead, NoneBeginsAnother, HandedOutIsBody, OneListOfSegments, FaultIsNoFile};
+ghost use Rattle.omf_records.specs.Laws.{ReadIsSpelled, SpelledIsRead, NoneBeginsAnother, HandedOutIsBody, OneListOfSegments, FaultIsNoFile, OneFirstFault, SegmentIsShown};
 
 /// A record is read as it is spelled and spelled as it is read, so a written record is read again, whatever
 /// follows it.
@@ -15,8 +15,15 @@ pub fn bodies_are_handed_out()
     ensures { HandedOutIsBody }
 {}
 
-/// A file is read in one way.
+/// A file is one list of segments, or has one first fault, and not both.
 pub fn files_are_read_in_one_way()
     ensures one_list { OneListOfSegments }
     ensures fault_is_no_file { FaultIsNoFile }
+    ensures one_first_fault { OneFirstFault }
+{}
+
+/// A segment of a file is the one that a header shows where it stands: its records are those that a reader of its body
+/// hands out.
+pub fn segments_are_shown()
+    ensures { SegmentIsShown }
 {}

@@ -4,19 +4,26 @@
 
 mod checks;
 mod front;
+mod labels;
 mod laws;
+mod layout;
 mod list;
 mod locations;
+mod patches;
 mod reading;
 mod record;
 mod segment;
+mod told;
 mod writing;
 
-pub use laws::{bodies_are_handed_out, files_are_read_in_one_way, records_are_spelled};
+pub use laws::{
+    bodies_are_handed_out, files_are_read_in_one_way, records_are_spelled, segments_are_shown,
+};
 pub use list::{SegmentList, segments};
 pub use locations::Locations;
 pub use omf_format::{FileCause, FileFault, RecordFault};
 pub use reading::Records;
 pub use record::Rec;
 pub use segment::SegmentView;
+pub use told::{told_header, told_record};
 pub use writing::{PutFault, put_record};

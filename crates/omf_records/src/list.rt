@@ -1,7 +1,8 @@
 //! The list of a file's segments.
 
-ghost use Rattle.std.specs.Prelude.{◌≡◌, ◌⊎◌, ◌<◌, ◌^◌, ◌-◌, length, slice_get, MatchOption, IfSome, IfOk, IfErr, Some};
-ghost use Rattle.omf_records.specs.Segments.{placed, IsPlaced, IsListOf, IsRefused};
+ghost use Rattle.std.specs.Prelude.{◌≡◌, ◌<◌, ◌^◌, length, option_map, IfSome, IfOk, IfErr};
+ghost use Rattle.omf_format.specs.File.{segment_at, IsFile};
+ghost use Rattle.omf_records.specs.Segments.{shown, IsSound, IsRefused};
 
 use crate::checks::segment_at;
 use crate::segment::SegmentView;
@@ -9,7 +10,7 @@ use omf_format::FileFault;
 use std::alloc::Global;
 use std::marker::Model;
 
-/// The segments of a file, in order. Contracts see a list of where each starts, its header's fields, and the file.
+/// The segments of a file, in order. Contracts see the list of them: where each starts, its header's fields, and its records.
 #[derive(Debug, Drop)]
 pub struct SegmentList<'a> {
     views: Vec<SegmentView<'a>>,
@@ -17,11 +18,12 @@ pub struct SegmentList<'a> {
 
 impl<'a> Model for SegmentList<'a> {
     ghost use Rattle.std.specs.Prelude.{List, map};
-    ghost use Rattle.omf_records.specs.Segments.{Placed, placed, FitsViews};
+    ghost use Rattle.omf_format.specs.File.{Segment};
+    ghost use Rattle.omf_records.specs.Segments.{shown, FitsViews};
 
-    ghost Value = { List Placed };
+    ghost Value = { List Segment };
 
-    ghost view = { λ list. map placed list.views.items };
+    ghost view = { λ list. map shown list.views.items };
 
     ghost invariant = { λ list. FitsViews list.views.items };
 }
@@ -36,19 +38,25 @@ impl<'a> SegmentList<'a> {
 
     /// The segment at a place, from 1.
     pub fn get(&self, place: u32) -> Option<&SegmentView<'a>>
-        ensures value { MatchOption result ((place ≡ 0) ⊎ (length self.now < place))
-            (λ view. (0 < place) × (slice_get self.now (place - 1) ≡ Some (placed view.now))) }
-        ensures sound { IfSome result (λ view. IsPlaced (placed view.now)) }
+        ensures value { option_map (λ view. shown view.now) result ≡ segment_at self.now place }
+
+        // A reader of its body may be had, and hands out the segment's records.
+        ensures sound { IfSome result (λ view. IsSound view.now) }
     {
-        let place = (place as usize).checked_sub(1)?;
-        self.views.get(place)
+        if place == 0 {
+            return None;
+        }
+        match self.views.get(place as usize - 1) {
+            Some(view) => Some(view),
+            None => None,
+        }
     }
 }
 
 /// The segments of a file, their headers and records checked: each header before its records.
 pub fn segments<'a>(alloc: Global, file: &'a [u8]) -> Result<SegmentList<'a>, FileFault>
     requires { length file.now < 2 ^ 32 }
-    ensures found { IfOk result (λ list. IsListOf list file.now) }
+    ensures found { IfOk result (λ list. IsFile list file.now) }
     ensures refused { IfErr result (λ fault. IsRefused fault file.now) }
 {
     let mut views = Vec::new(alloc);

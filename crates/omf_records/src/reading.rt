@@ -3,45 +3,47 @@
 ghost use Rattle.std.specs.Prelude.{◌≡◌, ◌<◌, ◌≤◌, false, length, slice_index, IfOk, IfSome, OnSome};
 ghost use Rattle.omf_format.specs.Record.{IsRecord};
 ghost use Rattle.omf_format.specs.Reading.{next_answer, after_next, fault_at, is_end};
-ghost use Rattle.omf_records.specs.View.{seen, view};
+ghost use Rattle.omf_records.specs.View.{seen, view, view_layout};
 
 use crate::front::record_at_front;
+use crate::layout::Layout;
 use crate::record::Rec;
 use omf_format::{Flaw, RecordFault};
 use std::marker::Model;
 
 /// A reader of a segment's records, in order. Contracts see where it stands: the displacement in the file at which
-/// the segment ends, the bytes that are left, whether END came, and the segment's LABLEN.
+/// the segment ends, the bytes that are left, whether END came, and how names and labels are laid out.
 #[derive(Debug, Drop)]
 pub struct Records<'a> {
     end: u32,
     left: &'a [u8],
     ended: bool,
-    lab_len: u8,
+    layout: Layout,
 }
 
 impl<'a> Model for Records<'a> {
     ghost use Rattle.std.specs.Prelude.{◌≤◌, length};
     ghost use Rattle.omf_format.specs.Reading.{Reader};
+    ghost use Rattle.omf_records.specs.View.{view_layout};
 
     ghost Value = { Reader };
 
-    ghost view = { λ r. record { end = r.end; left = r.left.now; ended = r.ended; lab_len = r.lab_len } };
+    ghost view = { λ r. record { end = r.end; left = r.left.now; ended = r.ended; layout = view_layout r.layout } };
 
     ghost invariant = { λ r. length r.left.now ≤ r.end };
 }
 
 impl<'a> Records<'a> {
     /// A reader of these bytes, which end at the displacement `end` in the file.
-    pub(crate) fn new(end: u32, left: &'a [u8], lab_len: u8) -> Records<'a>
+    pub(crate) fn new(end: u32, left: &'a [u8], layout: Layout) -> Records<'a>
         requires { length left.now ≤ end }
-        ensures { result ≡ record { end = end; left = left.now; ended = false; lab_len = lab_len } }
+        ensures { result ≡ record { end = end; left = left.now; ended = false; layout = view_layout layout } }
     {
         Records {
             end,
             left,
             ended: false,
-            lab_len,
+            layout,
         }
     }
 
@@ -54,7 +56,7 @@ impl<'a> Records<'a> {
         ensures after { self.new ≡ after_next self.old }
 
         // Each record that comes is one of the format.
-        ensures formed { IfOk result (λ found. IfSome found (λ f. IsRecord self.old.lab_len (view f.1))) }
+        ensures formed { IfOk result (λ found. IfSome found (λ f. IsRecord self.old.layout (view f.1))) }
 
         // Each record that comes makes what is left shorter.
         ensures shorter { IfOk result (λ found. OnSome found (length self.new.left < length self.old.left)) }
@@ -63,7 +65,7 @@ impl<'a> Records<'a> {
             return Ok(None);
         }
         let at = self.end - self.left.len() as u32;
-        match record_at_front(self.left, self.lab_len) {
+        match record_at_front(self.left, self.layout) {
             Ok((rec, left)) => {
                 self.ended = is_end(&rec);
                 self.left = left;

@@ -96,4 +96,10 @@ pub enum Rec<'a> {
         n: u32,
         expr: &'a [u8],
     },
+    /// ENTRY: the name of a place, an offset in a segment of the file. It stands in run-time library files.
+    Entry {
+        segment: u16,
+        offset: u32,
+        name: &'a [u8],
+    },
 }

@@ -3,6 +3,7 @@
 ghost use Rattle.std.specs.Prelude.{◌≡◌, ◌+◌, ◌<◌, ◌≤◌, ◌^◌, length, take, drop, IfOk, IfErr};
 ghost use Rattle.omf_format.specs.File.{body_reader};
 
+use crate::layout::Layout;
 use crate::reading::Records;
 use omf_header::Header;
 
@@ -28,7 +29,11 @@ impl<'a> SegmentView<'a> {
         let start = self.start as usize;
         let end = start + self.header.byte_count as usize;
         let body = between(self.file, start + self.header.disp_data as usize, end);
-        Records::new(end as u32, body, self.header.lab_len)
+        let layout = Layout {
+            lab_len: self.header.lab_len,
+            version: self.header.version,
+        };
+        Records::new(end as u32, body, layout)
     }
 }
 

@@ -1,9 +1,9 @@
-//! Writing records: names with a length byte, as under LABLEN 0.
+//! Writing records of version 2: names with a length byte, as under LABLEN 0.
 
 ghost use Rattle.std.specs.Prelude.{◌≡◌, ◌+◌, ◌<◌, ◌^◌, ◌++◌, ◌∷◌, [], length, OnOk, OnErr};
 ghost use Rattle.byteorder.specs.Endian.{little_bytes};
-ghost use Rattle.omf_format.specs.Field.{shift_byte, name_text, IsName};
-ghost use Rattle.omf_format.specs.Record.{Formula, label_text, spelling, IsRecord};
+ghost use Rattle.omf_format.specs.Field.{written_layout, shift_byte, name_text, IsName};
+ghost use Rattle.omf_format.specs.Record.{Formula, Entry, label_text, spelling, IsRecord};
 ghost use Rattle.omf_records.specs.View.{view};
 
 use crate::record::Rec;
@@ -127,9 +127,9 @@ fn put_interseg(
     )
 }
 
-/// The size, the type and the private byte of a label.
+/// The length, the type and the private byte of a label.
 fn attributes(size: u16, form: u8, private: u8) -> [u8; 4]
-    ensures { result ≡ label_text size form private }
+    ensures { result ≡ label_text 2 size form private }
 {
     let [low, high] = word(size);
     [low, high, form, private]
@@ -152,10 +152,27 @@ fn put_name(
     put_all(out, &[code, name.len() as u8], name, attributes, expr)
 }
 
+/// Appends an ENTRY record.
+#[tactic(auto, unfolding(omf_format::specs::Record::spelling, omf_format::specs::Field::name_text))]
+fn put_entry(out: &mut Vec<u8>, segment: u16, offset: u32, name: &[u8]) -> Result<(), PutFault>
+    requires { IsName 0 name.now }
+    ensures ok { OnOk result (out.new.items ≡ out.old.items ++ spelling written_layout (Entry segment offset name.now)) }
+    ensures err { OnErr result (out.new.items ≡ out.old.items) }
+{
+    let [low, high] = word(segment);
+    put_all(
+        out,
+        &[0xF4, low, high],
+        &long(offset),
+        &[name.len() as u8],
+        name,
+    )
+}
+
 /// Appends a formula.
 #[tactic(auto, unfolding(omf_format::specs::Record::spelling))]
 fn put_formula(out: &mut Vec<u8>, code: u8, count: u8, n: u32, expr: &[u8]) -> Result<(), PutFault>
-    ensures ok { OnOk result (out.new.items ≡ out.old.items ++ spelling 0 (Formula code count n expr.now)) }
+    ensures ok { OnOk result (out.new.items ≡ out.old.items ++ spelling written_layout (Formula code count n expr.now)) }
     ensures err { OnErr result (out.new.items ≡ out.old.items) }
 {
     if code == 0xEE {
@@ -164,11 +181,11 @@ fn put_formula(out: &mut Vec<u8>, code: u8, count: u8, n: u32, expr: &[u8]) -> R
     put_both(out, &[code, count], expr)
 }
 
-/// Appends the spelling of a record under LABLEN 0. Where memory runs out, nothing is appended.
+/// Appends the spelling of a record in version 2 under LABLEN 0. Where memory runs out, nothing is appended.
 #[tactic(auto, unfolding(omf_format::specs::Record::spelling))]
 pub fn put_record(out: &mut Vec<u8>, rec: &Rec) -> Result<(), PutFault>
-    requires { IsRecord 0 (view rec.now) }
-    ensures ok { OnOk result (out.new.items ≡ out.old.items ++ spelling 0 (view rec.now)) }
+    requires { IsRecord written_layout (view rec.now) }
+    ensures ok { OnOk result (out.new.items ≡ out.old.items ++ spelling written_layout (view rec.now)) }
     ensures err { OnErr result (out.new.items ≡ out.old.items) }
 {
     match rec {
@@ -207,6 +224,11 @@ pub fn put_record(out: &mut Vec<u8>, rec: &Rec) -> Result<(), PutFault>
             n,
             expr,
         } => put_formula(out, *code, *count, *n, expr),
+        Rec::Entry {
+            segment,
+            offset,
+            name,
+        } => put_entry(out, *segment, *offset, name),
         Rec::Reloc {
             count,
             shift,

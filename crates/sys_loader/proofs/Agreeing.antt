@@ -5,8 +5,8 @@ use Rattle.std.specs.Option.{option_map, option_and_then}
 use Rattle.std.specs.FinMap as map
 use Rattle.std.proofs.lemmas.Option.{slice_get-map}
 use Rattle.std.proofs.lemmas.List.{length-map, length-drop, drop-append-le, take-append-le}
-use Rattle.omf_format.specs.File.{Segment}
-use Rattle.omf_format.specs.Cells.{segment_at, segment_bytes}
+use Rattle.omf_format.specs.File.{Segment, segment_at}
+use Rattle.omf_format.specs.Cells.{segment_bytes, stands}
 use Rattle.omf_format.specs.CellLaws.{cells-bytes, length-segment_bytes, loadable_at}
 use Rattle.omf_io.specs.Counts.{Told, Rose, IsFront}
 use Rattle.omf_io.specs.Files.{FileMap, IsRead, IsUnread}
@@ -16,7 +16,7 @@ use Rattle.loader_machine.specs.declared.faults.LoaderFault.{LoaderFault}
 use Rattle.loader_machine.specs.declared.faults.LoaderFault.TheVariants.{NoUser, NoSegment, OutOfSegment, TooManyUsers, CannotRead, Unbuilt, NoRoom, Memory}
 use Rattle.iigs_meaning.specs.Slots.{get}
 use Rattle.iigs_meaning.specs.Memory.{bytes_at}
-use Rattle.loader_machine.specs.Machine.{Machine, first_id, max_users, user_of, place_of, places_of, HoldsFile, LacksFile, CanLoad, HoldsLoad, stands}
+use Rattle.loader_machine.specs.Machine.{Machine, first_id, max_users, user_of, place_of, places_of, HoldsFile, LacksFile, CanLoad, HoldsLoad}
 use Rattle.loader_machine.specs.Step as step
 use Rattle.sys_loader.specs.declared.loader.Started.{Started}
 use Rattle.sys_loader.specs.Loaded.{Kept, Loaded, user_in, UserAgrees, Agrees}
@@ -70,7 +70,7 @@ told_unread held told path before now is unread = go (subst (λ (h : Option File
 -- without patches it is all one where the segments lie
 same_bytes : (p q : ℕ → ℕ) (file : List ℕ) (s : Segment) → CanLoad file (s ∷ []) → stands p s ≡ stands q s
 same_bytes p q file s can =
-    let cells = cells-bytes s can.loadable.pass.0 in
+    let cells = cells-bytes s can.plain.0.unpatched in
     stands-bytes p s (segment_bytes s) cells ∙ sym (stands-bytes q s (segment_bytes s) cells)
 
 -- ---- load
@@ -206,7 +206,7 @@ module _ (held : FileMap) (loader : Loaded) (state : Machine) (id number at coun
   stands_length : (places : ℕ → ℕ) (file : List ℕ) (s : Segment) → CanLoad file (s ∷ []) → length (stands places s) ≡ s.fields.length
   stands_length places file s can =
       let shape = (loadable_at file (s ∷ []) can.loadable 1 s refl).shape in
-      ap length (stands-bytes places s (segment_bytes s) (cells-bytes s can.loadable.pass.0)) ∙ length-segment_bytes s shape.fits
+      ap length (stands-bytes places s (segment_bytes s) (cells-bytes s can.plain.0.unpatched)) ∙ length-segment_bytes s shape.fits
 
   pub lends : (bytes : List ℕ) → HasLent loader id number at count bytes → step.StepsBytes held state id number at count (step.Shown bytes)
   lends bytes lent =

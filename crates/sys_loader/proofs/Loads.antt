@@ -2,16 +2,15 @@
 use Rattle.std.proofs.Common.{◌≡◌, ℕ, List, [], ◌∷◌, length, map, refl, sym, ap, subst, ◌∙◌, arith}
 use Rattle.std.specs.List.{AllByRecursion}
 use Rattle.omf_format.specs.declared.load.LoadCause.{LoadCause}
-use Rattle.omf_format.specs.declared.load.LoadCause.TheVariants.{NotLoadFile, Truncated, BadHeader, Unsupported, BadRecord, Sequence, DataTooLong, Memory}
+use Rattle.omf_format.specs.declared.load.LoadCause.TheVariants.{NotLoadFile, Truncated, BadHeader, Unsupported, BadRecord, Sequence, DataTooLong, PatchOutside, NoSuchTarget, DynamicTarget, BadTable, Memory}
 use Rattle.omf_format.specs.declared.load.LoadFault.{LoadFault}
 use Rattle.omf_format.specs.Header.{Fields}
 use Rattle.omf_format.specs.File.{Segment}
-use Rattle.omf_format.specs.Cells.{Byte, cells}
-use Rattle.omf_format.specs.Loadable.{IsLoadSegment, IsLoadable, IsFirstLoadFault}
-use Rattle.omf_format.specs.CellLaws.{unpatched}
+use Rattle.omf_format.specs.Cells.{Byte, Patch, patches_of, cells, byte_of, stands}
+use Rattle.omf_format.specs.Loadable.{IsLoadable, IsFirstLoadFault}
 use Rattle.omf_format.specs.LoadableLaws.{loadable_same, loadable_sound}
-use Rattle.omf_cells.specs.Load.{IsRefused, UnlessMemory, HasFields}
-use Rattle.loader_machine.specs.Machine.{CanLoad, IsPlainLoad, byte_of, stands}
+use Rattle.omf_cells.specs.Load.{IsRefused, UnlessMemory, HasFields, HasPatches}
+use Rattle.loader_machine.specs.Machine.{CanLoad, IsPlainLoad}
 use Rattle.sys_loader.specs.Files.{IsPlainHeader, IsNoLoad, refusal_of}
 
 -- a file with a first fault can't be loaded
@@ -29,6 +28,10 @@ refused_is file fault refused = go fault.cause refused
     go BadRecord first = no first
     go Sequence first = no first
     go DataTooLong first = no first
+    go PatchOutside first = no first
+    go NoSuchTarget first = no first
+    go DynamicTarget first = no first
+    go BadTable first = no first
     go Memory free = tt
 
 -- nor one of another number of segments
@@ -47,16 +50,31 @@ not_plain file load f is has other segments can =
     let same = loadable_same file segments load can.loadable is in
     other (plain_header load f (subst (AllByRecursion IsPlainLoad) same can.plain) has)
 
-all_plain : (load : List Segment) (f : Fields) → AllByRecursion IsLoadSegment load → length load ≡ 1 → HasFields load 1 f → IsPlainHeader f → AllByRecursion IsPlainLoad load
-all_plain [] f pass one has p = tt
-all_plain (s ∷ []) f pass one has p =
+-- what can be loaded has no patches
+pub patched : (load : List Segment) → AllByRecursion IsPlainLoad load → HasPatches load 1 → ⊥
+patched [] plain has = has
+patched (s ∷ load) plain has = has plain.0.unpatched
+
+-- nor one whose segment has patches
+pub has_patches : (file : List ℕ) (load : List Segment) → IsLoadable file load → HasPatches load 1 → (segments : List Segment) → CanLoad file segments → ⊥
+has_patches file load is has segments can =
+    let same = loadable_same file segments load can.loadable is in
+    patched load (subst (AllByRecursion IsPlainLoad) same can.plain) has
+
+no_items : (xs : List (ℕ × Patch)) → ((xs ≡ [] → ⊥) → ⊥) → xs ≡ []
+no_items [] none = refl
+no_items (x ∷ xs) none = absurd (none (λ e. cc))
+
+all_plain : (load : List Segment) (f : Fields) → length load ≡ 1 → HasFields load 1 f → IsPlainHeader f → (HasPatches load 1 → ⊥) → AllByRecursion IsPlainLoad load
+all_plain [] f one has p none = tt
+all_plain (s ∷ []) f one has p none =
     let q : IsPlainHeader s.fields = subst IsPlainHeader (sym has) p in
-    (record { static = q.static; not_skipped = q.not_skipped; no_table = q.no_table; no_stack = q.no_stack; org = q.org; align = q.align; unpatched = unpatched s pass.0 }, tt)
-all_plain (s ∷ t ∷ load) f pass one has p = absurd (omega arith)
+    (record { static = q.static; not_skipped = q.not_skipped; no_table = q.no_table; no_stack = q.no_stack; org = q.org; align = q.align; unpatched = no_items (patches_of s) none }, tt)
+all_plain (s ∷ t ∷ load) f one has p none = absurd (omega arith)
 
 -- every other one can be loaded
-pub can_load : (file : List ℕ) (load : List Segment) (f : Fields) → IsLoadable file load → length load ≡ 1 → HasFields load 1 f → IsPlainHeader f → CanLoad file load
-can_load file load f is one has p = record { loadable = is; one = one; plain = all_plain load f is.pass one has p }
+pub can_load : (file : List ℕ) (load : List Segment) (f : Fields) → IsLoadable file load → length load ≡ 1 → HasFields load 1 f → IsPlainHeader f → (HasPatches load 1 → ⊥) → CanLoad file load
+can_load file load f is one has p none = record { loadable = is; one = one; plain = all_plain load f one has p none }
 
 -- what stands in memory for cells that are bytes is those bytes
 pub stands-bytes : (places : ℕ → ℕ) (s : Segment) (bytes : List ℕ) → cells s ≡ map Byte bytes → stands places s ≡ bytes

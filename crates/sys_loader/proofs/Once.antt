@@ -1,8 +1,8 @@
 -- A command has one reply in a state, and leads to one next state.
 use Rattle.std.proofs.Common.{◌≡◌, inl, inr, ℕ, true, ◌<◌, List, [], ◌∷◌, ◌++◌, length, take, drop, Option, Some, None, IsSomeAnd, refl, sym, ap, subst, ◌∙◌, arith}
 use Rattle.std.proofs.lemmas.Bool.{cases_lt}
-use Rattle.omf_format.specs.File.{Segment}
-use Rattle.omf_format.specs.Cells.{segment_at}
+use Rattle.omf_format.specs.File.{Segment, segment_at}
+use Rattle.omf_format.specs.Cells.{stands}
 use Rattle.omf_format.specs.LoadableLaws.{loadable_same}
 use Rattle.omf_io.specs.Files.{FileMap, max_file}
 use Rattle.iigs_meaning.specs.declared.handles.Handle.{Handle}
@@ -16,7 +16,7 @@ use Rattle.iigs_meaning.specs.Fits.{Slots}
 use Rattle.iigs_meaning.specs.Puts.{Purges, LacksRoom, placed}
 use Rattle.iigs_meaning.specs.PlacementLaws.{purges_once}
 use Rattle.loader_machine.specs.Command.{Command, Banks, Load, Bytes}
-use Rattle.loader_machine.specs.Machine.{User, Machine, user_of, places_of, HoldsFile, LacksFile, CanLoad, HoldsLoad, wanted, entry_of, stands}
+use Rattle.loader_machine.specs.Machine.{User, Machine, user_of, places_of, HoldsFile, LacksFile, CanLoad, HoldsLoad, wanted, entry_of}
 use Rattle.loader_machine.specs.Step.{Reply, Okay, Started, Shown, Refused, IsStarted, IsLoadRefusal, StepsLoad, IsShown, LacksSegment, IsOutside, IsBytesRefusal, StepsBytes, Steps}
 
 -- ---- one thing at most

@@ -3,13 +3,14 @@ use Rattle.std.specs.Prelude.{◌≡◌, ◌≢◌, ℕ, ◌+◌, ◌<◌, ◌�
 use Rattle.omf_format.specs.File.{Segment}
 use Rattle.omf_io.specs.Counts.{IsFront}
 use Rattle.omf_io.specs.Files.{FileMap, IsRead, IsUnread}
+use Rattle.omf_format.specs.Cells.{stands}
 use Rattle.iigs_meaning.specs.declared.handles.Handle.{Handle}
 use Rattle.loader_machine.specs.declared.faults.LoaderFault.{LoaderFault}
 use Rattle.loader_machine.specs.declared.faults.LoaderFault.TheVariants.{NoUser, NoSegment, OutOfSegment, TooManyUsers, CannotRead, Unbuilt, NoRoom, Memory}
 use Rattle.iigs_meaning.specs.Slots as handles
 use Rattle.iigs_meaning.specs.Puts.{Purges, LacksRoom, placed, Puts}
 use Rattle.iigs_meaning.specs.Memory.{bytes_at}
-use Rattle.loader_machine.specs.Machine.{max_users, first_id, user_of, CanLoad, wanted, entry_of, stands}
+use Rattle.loader_machine.specs.Machine.{max_users, first_id, user_of, CanLoad, wanted, entry_of}
 use Rattle.sys_loader.specs.declared.loader.Started.{Started}
 use Rattle.sys_loader.specs.Loaded.{Kept, Loaded}
 

@@ -2,10 +2,10 @@
 use Rattle.std.specs.Prelude.{◌≡◌, ℕ, ◌≤◌, true, List, ◌++◌, length, map, IsSomeAnd}
 use Rattle.omf_format.specs.declared.load.LoadCause.{LoadCause}
 use Rattle.omf_format.specs.declared.load.LoadCause.TheVariants as cause
-use Rattle.omf_format.specs.Header.{Fields, form_of}
-use Rattle.std.specs.Prelude.{◌≢◌, IsBitSet, slice_set}
-use Rattle.omf_format.specs.File.{Segment}
-use Rattle.omf_format.specs.Cells.{Byte, cells, segment_at}
+use Rattle.omf_format.specs.Header.{Fields, form_of, is_dynamic, is_skipped}
+use Rattle.std.specs.Prelude.{◌≢◌, false, slice_set}
+use Rattle.omf_format.specs.File.{Segment, segment_at}
+use Rattle.omf_format.specs.Cells.{Byte, cells}
 use Rattle.iigs_meaning.specs.declared.handles.Handle.{Handle}
 use Rattle.iigs_meaning.specs.declared.wants.Want.{Want}
 use Rattle.loader_machine.specs.declared.faults.LoaderFault.{LoaderFault}
@@ -16,8 +16,8 @@ use Rattle.loader_machine.specs.Machine.{CanLoad}
 
 -- what a header says of a plain segment
 pub record IsPlainHeader (f : Fields) : Type 0 where
-  pub static : ¬ IsBitSet f.kind 15
-  pub not_skipped : ¬ IsBitSet f.kind 9
+  pub static : is_dynamic f.kind ≡ false
+  pub not_skipped : is_skipped f.kind ≡ false
   pub no_table : form_of f.kind ≢ 0x02
   pub no_stack : form_of f.kind ≢ 0x12
   pub org : f.org ≡ 0
@@ -43,6 +43,10 @@ refusal_of cause.Unsupported = Unbuilt
 refusal_of cause.BadRecord = Unbuilt
 refusal_of cause.Sequence = Unbuilt
 refusal_of cause.DataTooLong = Unbuilt
+refusal_of cause.PatchOutside = Unbuilt
+refusal_of cause.NoSuchTarget = Unbuilt
+refusal_of cause.DynamicTarget = Unbuilt
+refusal_of cause.BadTable = Unbuilt
 refusal_of cause.Memory = Memory
 
 -- LENGTH of the first segment is at most so much

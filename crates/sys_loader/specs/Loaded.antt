@@ -3,13 +3,14 @@ use Rattle.std.specs.Prelude.{◌≡◌, ℕ, ◌<◌, ◌≤◌, true, false, L
 use Rattle.omf_format.specs.File.{Segment}
 use Rattle.omf_io.specs.Counts.{IsFront}
 use Rattle.omf_io.specs.Files.{FileMap}
+use Rattle.omf_format.specs.Cells.{stands}
 use Rattle.iigs_meaning.specs.declared.handles.Handle.{Handle}
 use Rattle.iigs_meaning.specs.declared.slots.Slot.{Slot}
 use Rattle.iigs_meaning.specs.declared.wants.Block.{Block}
 use Rattle.iigs_meaning.specs.Slots.{slot_at, get, is_free}
 use Rattle.iigs_meaning.specs.Fits.{block_in}
 use Rattle.iigs_meaning.specs.Memory.{Memory, bytes_at}
-use Rattle.loader_machine.specs.Machine.{User, Machine, max_users, HoldsLoad, places_of, stands}
+use Rattle.loader_machine.specs.Machine.{User, Machine, max_users, HoldsLoad, places_of}
 
 -- a user as the loader keeps it: the path of its file, the handle of its segment, and the segment's LENGTH
 pub record Kept : Type 0 where

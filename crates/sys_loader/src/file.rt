@@ -2,7 +2,7 @@
 
 ghost use Rattle.std.specs.Prelude.{◌≡◌, ◌<◌, ◌≤◌, ◌^◌, length, take, drop, ◌++◌, IfOk, IfErr};
 ghost use Rattle.omf_header.specs.View.{fields};
-ghost use Rattle.omf_cells.specs.Load.{HasFields};
+ghost use Rattle.omf_cells.specs.Load.{HasFields, HasPatches};
 ghost use Rattle.loader_machine.specs.Machine.{CanLoad};
 ghost use Rattle.sys_loader.specs.Files.{IsNoLoad, refusal_of, HasAtMost, Begins};
 
@@ -24,7 +24,11 @@ fn refusal(cause: LoadCause) -> LoaderFault
         | LoadCause::Unsupported
         | LoadCause::BadRecord
         | LoadCause::Sequence
-        | LoadCause::DataTooLong => LoaderFault::Unbuilt,
+        | LoadCause::DataTooLong
+        | LoadCause::PatchOutside
+        | LoadCause::NoSuchTarget
+        | LoadCause::DynamicTarget
+        | LoadCause::BadTable => LoaderFault::Unbuilt,
     }
 }
 
@@ -44,6 +48,9 @@ pub fn plain_load(alloc: Global, file: &[u8]) -> Result<LoadFile<'_>, LoaderFaul
     if !is_plain(header(&load)) {
         return Err(LoaderFault::Unbuilt);
     }
+    if load.has_patches(1) {
+        return Err(LoaderFault::Unbuilt);
+    }
     Ok(load)
 }
 
@@ -58,9 +65,10 @@ pub fn header<'a>(load: &'a LoadFile<'_>) -> &'a Header
     }
 }
 
-/// Writes the bytes of the only segment to the front.
+/// Writes the bytes of the only segment, which has no patches, to the front.
 pub fn fill(load: &LoadFile<'_>, out: &mut [u8])
     requires one { length load.now ≡ 1 }
+    requires unpatched { ¬ HasPatches load.now 1 }
     requires fits { HasAtMost load.now (length out.old) }
     ensures { Begins load.now out.new }
 {

@@ -41,8 +41,8 @@ pub fn want(header: &Header) -> Want
     Want {
         size: header.length.max(1),
         align: 1,
-        no_cross: header.bank_size != 0,
-        no_special: header.kind.bits & 0x1000 != 0,
+        no_cross: header.stays_in_bank(),
+        no_special: header.kind.avoids_special(),
         at: None,
         bank: None,
         low: None,

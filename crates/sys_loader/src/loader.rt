@@ -11,6 +11,7 @@ ghost use Rattle.iigs_meaning.specs.Memory.{IsNew};
 ghost use Rattle.sys_loader.specs.Loaded.{Loaded, Agrees};
 ghost use Rattle.sys_loader.specs.Calls.{HasBegun, IsNoRoom, HasStartedFrom, IsStartFault, HasLoaded, HasLent, IsLentFault};
 ghost use Rattle.omf_format.specs.File.{Segment};
+ghost use Rattle.omf_cells.specs.Load.{HasPatches};
 ghost use Rattle.std.specs.Option.{option_map};
 ghost use Rattle.sys_loader.specs.View.{kept};
 
@@ -110,6 +111,7 @@ impl Loader {
     fn start(&mut self, load: &LoadFile<'_>, path: String) -> Result<Started, LoaderFault>
         requires few { length self.old.users < max_users }
         requires one { length load.now ≡ 1 }
+        requires unpatched { ¬ HasPatches load.now 1 }
         ensures begun { IfOk result (λ started. (s : Segment) → load.now ≡ s ∷ [] → HasBegun self.old (string_bytes path) s started self.new) }
         ensures refused { IfErr result (λ fault. (s : Segment) → load.now ≡ s ∷ [] → IsNoRoom self.old s fault) }
         ensures err { OnErr result (self.new ≡ self.old) }

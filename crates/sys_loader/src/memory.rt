@@ -5,6 +5,7 @@ ghost use Rattle.iigs_meaning.specs.Slots.{get, new_handle, slot_at};
 ghost use Rattle.iigs_meaning.specs.Fits.{IsWant};
 ghost use Rattle.iigs_meaning.specs.Puts.{Purges, LacksRoom};
 ghost use Rattle.iigs_meaning.specs.Memory.{IsPlaced, bytes_at};
+ghost use Rattle.omf_cells.specs.Load.{HasPatches};
 ghost use Rattle.sys_loader.specs.Loaded.{IsLocked};
 ghost use Rattle.sys_loader.specs.Files.{HasAtMost, IsSettled};
 
@@ -58,6 +59,7 @@ pub fn settle(
     user: u16,
 ) -> Result<Handle, LoaderFault>
     requires one { length load.now ≡ 1 }
+    requires unpatched { ¬ HasPatches load.now 1 }
     requires want { IsWant want.now }
     requires fits { HasAtMost load.now want.now.size }
     requires slot { IsSome (new_handle banks.old.slots) }

@@ -24,5 +24,5 @@ segments-preserved c =
 pub returns-in-Some-clause-refused : goal.returns-in-Some-clause-refused
 returns-in-Some-clause-refused c =
     let fault = c.in-Some.fault in
-    let first = is_later c.args.file.now c.segments.views.items c.segments.start c.segments.number fault c.segments.invariant (omega (arith, c.segments-test.false)) (sym c.check_shapes.ensures.value ∙ c.in-Some.is) in
+    let first = is_later c.args.file.now c.segments.views.items c.segments.start c.segments.number fault c.segments.invariant (omega (arith, c.segments-test.false)) (sym c.check_later.ensures.value ∙ c.in-Some.is) in
     unless fault.cause fault _ c.in-Some.ensures.named first

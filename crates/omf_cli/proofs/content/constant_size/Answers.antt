@@ -3,7 +3,7 @@ use Rattle.std.proofs.lemmas.List.{length-append}
 use Rattle.omf_format.specs.Record.{Record, content_of}
 use Rattle.omf_records.specs.View.{view}
 use Rattle.omf_format.specs.FileLaws.{ended_at_none}
-use Rattle.omf_cli.proofs.Walks.{walk_on, walk_goes, walk_fails, gives_more}
+use Rattle.omf_records.specs.WalkLaws.{walk_on, walk_goes, walk_fails, gives_more}
 use Rattle.omf_cli.proofs.Bodies.{content, content_less, constant_more, constant_not}
 use Rattle.omf_cli.proofs.content.constant_size.Goals as goal
 

@@ -12,20 +12,11 @@ returns-in-Err-clause-err c =
     rw c.unlinked.ensures refused
 
 pub linked-requires : goal.linked-requires
-linked-requires c =
-    let found = c.in-Ok.ensures.found in
-    let members = c.in-Some.ensures found.segments c.args.file.now found.is_file found.views in
-    record {
-      list' = record { segments = found.segments; file = c.args.file.now; is_file = found.is_file; views = found.views; plain = members.plain };
-      bank_size' = members.bank_size';
-    }
+linked-requires c = record { file = c.args.file.now; is_file = c.in-Ok.ensures.found; plain = c.in-Some.ensures.plain; bank_size' = c.in-Some.ensures.bank_size' }
 
 pub returns-clause-err : goal.returns-clause-err
 returns-clause-err c =
-    let some : c.args.file.now ≡ [] → ⊥ = λ none. eqb-false (length c.args.file.now) 0 (sym c.if-is_empty.ensures) (ap length none) in
-    let found = c.in-Ok.ensures.found in (
+    let some : c.args.file.now ≡ [] → ⊥ = λ none. eqb-false (length c.args.file.now) 0 (sym c.if-is_empty.ensures) (ap length none) in (
       some,
-      λ segments is plain.
-          c.in-None.ensures found.segments c.args.file.now found.is_file found.views
-          (subst IsPlain (file_same segments found.segments c.args.file.now is found.is_file) plain),
+      λ segments is plain. c.in-None.ensures (subst IsPlain (file_same segments _ c.args.file.now is c.in-Ok.ensures.found) plain),
     )

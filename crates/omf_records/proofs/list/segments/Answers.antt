@@ -1,7 +1,6 @@
 use Rattle.std.proofs.Common.{◌+◌, List, sym, subst, arith}
-use Rattle.omf_format.specs.FileLaws.{segments_fit}
 use Rattle.omf_records.specs.declared.segment.SegmentView.{SegmentView}
-use Rattle.omf_records.proofs.Lists.{Listed, stands_lies, listed_more, refused}
+use Rattle.omf_records.proofs.Lists.{Listed, view_lies, listed_more, few_listed, views_fit, is_file, refused}
 use Rattle.omf_records.proofs.list.segments.Goals as goal
 
 pub returns-in-Err-clause-refused : goal.returns-in-Err-clause-refused
@@ -10,15 +9,20 @@ returns-in-Err-clause-refused c =
 
 pub overflow_add-number : goal.overflow_add-number
 overflow_add-number c =
-    let fit = segments_fit c.segments.invariant.segments 0 c.args.file.now c.segments.start c.segments.invariant.are in
-    omega (arith, fit, c.segments.invariant.count, c.segments-test.true, c.requires)
+    omega (arith, few_listed c.args.file.now c.segments.views.items c.segments.start c.segments.number c.segments.invariant, c.segments-test.true, c.requires)
 
 pub segments-smaller : goal.segments-smaller
 segments-smaller c =
-    let lies = stands_lies c.in-Ok.view c.segments.start c.args.file.now c.in-Ok.ensures.ok in
-    omega (arith, lies.some, lies.within, c.segments-test.true)
+    let lies = view_lies c.args.file.now c.in-Ok.view c.in-Ok.ensures.ok in
+    omega (arith, lies.some, lies.within, c.in-Ok.ensures.start, c.segments-test.true)
 
 pub segments-preserved : goal.segments-preserved
 segments-preserved c =
-    let more = listed_more c.args.file.now c.segments.views.items c.in-Ok.view c.segments.start c.segments.number c.segments.invariant c.in-Ok.ensures.ok c.segments-test.true in
+    let more = listed_more c.args.file.now c.segments.views.items c.in-Ok.view c.segments.start c.segments.number c.segments.invariant c.in-Ok.ensures.start c.in-Ok.ensures.ok c.segments-test.true in
     subst (λ (views : List SegmentView). Listed c.args.file.now views (c.segments.start + c.in-Ok.view.header.byte_count) (c.segments.number + 1)) (sym c.in_ok-push.ensures.items) more
+
+pub invariant_of-result : goal.invariant_of-result
+invariant_of-result c = views_fit c.args.file.now c.segments.views.items c.segments.start c.segments.number c.requires c.segments.invariant
+
+pub returns-clause-found : goal.returns-clause-found
+returns-clause-found c = is_file c.args.file.now c.segments.views.items c.segments.start c.segments.number c.segments.invariant c.segments-test.false

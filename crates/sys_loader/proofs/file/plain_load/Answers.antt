@@ -1,6 +1,6 @@
 use Rattle.std.proofs.Common.{◌≡◌, true, arith}
 use Rattle.omf_header.specs.View.{fields}
-use Rattle.sys_loader.proofs.Loads.{refused_is, not_one, not_plain, can_load}
+use Rattle.sys_loader.proofs.Loads.{refused_is, not_one, not_plain, has_patches, can_load}
 use Rattle.sys_loader.proofs.file.plain_load.Goals as goal
 
 pub returns-in-Err-clause-refused : goal.returns-in-Err-clause-refused
@@ -19,3 +19,8 @@ pub returns-clause-can : goal.returns-clause-can
 returns-clause-can c =
     let yes : c.is_plain.result ≡ true = cc in
     can_load c.args.file.now c.in-Ok.load (fields c.header.result.now) c.in-Ok.ensures.ok (omega (arith, c.count.ensures, c.if-count-ne1.false)) c.header.ensures (c.is_plain.ensures.0 yes)
+    (λ has. let some : c.has_patches.result ≡ true = c.has_patches.ensures.1 has in cc)
+
+pub returns-then-has_patches-clause-refused : goal.returns-then-has_patches-clause-refused
+returns-then-has_patches-clause-refused c segments can =
+    has_patches c.args.file.now c.in-Ok.load c.in-Ok.ensures.ok (c.has_patches.ensures.0 c.if-has_patches.true) segments can

@@ -1,0 +1,6 @@
+-- Lines of printed text.
+use Rattle.std.specs.Prelude.{ℕ, List, [], ◌∷◌, ◌++◌}
+
+-- a text and a line feed
+abbrev pub line : List ℕ → List ℕ
+line text = text ++ 0x0A ∷ []

@@ -1,0 +1,30 @@
+//! Faults that any file may have, as those of a load file.
+
+ghost use Rattle.std.specs.Prelude.{◌≡◌};
+ghost use Rattle.omf_format.specs.Loadable.{load_cause, as_load, in_segment};
+
+use omf_format::{FileCause, LoadCause, LoadFault};
+
+/// A cause that a load file shares with every file.
+fn load_cause(cause: FileCause) -> LoadCause
+    ensures { result ≡ load_cause cause }
+{
+    match cause {
+        FileCause::Truncated => LoadCause::Truncated,
+        FileCause::BadHeader => LoadCause::BadHeader,
+        FileCause::Unsupported => LoadCause::Unsupported,
+        FileCause::BadRecord => LoadCause::BadRecord,
+        FileCause::Memory => LoadCause::Memory,
+    }
+}
+
+/// A fault that any file may have, in the segment with this number.
+pub fn load_fault(told: (FileCause, u32), segment: u32) -> LoadFault
+    ensures { result ≡ in_segment segment (as_load told) }
+{
+    LoadFault {
+        cause: load_cause(told.0),
+        segment,
+        at: told.1,
+    }
+}

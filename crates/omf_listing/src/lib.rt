@@ -1,0 +1,6 @@
+//! The listing of a file in Object Module Format: a line for each segment, and a line for each of its records.
+#![tactic(auto)]
+
+mod listing;
+
+pub use listing::list_file;
