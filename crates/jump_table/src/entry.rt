@@ -3,26 +3,12 @@
 ghost use Rattle.std.specs.Prelude.{◌≡◌, ◌⊎◌, ◌↔◌, ◌+◌, ◌<◌, ◌≤◌, ◌^◌, ℕ, Option, length, IsNone, IfSome, IfNone, None, Some};
 ghost use Rattle.byteorder.specs.Endian.{little_bytes};
 ghost use Rattle.omf_format.specs.Number as numbers;
-ghost use Rattle.jump_table.specs.declared.entry.Entry.{Entry};
-ghost use Rattle.jump_table.specs.Table.{HasCode, IsEntryAt, code_bytes, written_at};
+ghost use Rattle.omf_format.specs.declared.table.Entry.{Entry};
+ghost use Rattle.omf_format.specs.Table.{HasCode, IsEntryAt, code_bytes, written_at};
 
 use byteorder::{ByteOrder, LittleEndian};
 use omf_base::number_at;
-
-/// An entry of a jump table in memory.
-#[derive(Clone, Copy, PartialEq, Eq, Debug)]
-pub struct Entry {
-    /// The ID of the user whose table it is; 0 in a file.
-    pub user: u16,
-    /// The number of the target's file, from 1.
-    pub file: u16,
-    /// The number of the target's segment in that file, from 1.
-    pub segment: u16,
-    /// The offset of the target in its segment.
-    pub offset: u32,
-    /// The target's address, where its segment is loaded.
-    pub loaded: Option<u32>,
-}
+use omf_format::Entry;
 
 /// The code of an entry whose target isn't loaded: a JSL to the loader at $E1F000.
 pub const UNLOADED: [u8; 4] = [0x22, 0x00, 0xF0, 0xE1];

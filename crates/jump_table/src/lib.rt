@@ -4,12 +4,11 @@
 mod entry;
 mod laws;
 mod table;
-mod target;
 
-pub use entry::{Entry, read_entry, set_loaded, set_unloaded, set_user};
+pub use entry::{read_entry, set_loaded, set_unloaded, set_user};
 pub use laws::entries_are_read_in_one_way;
+pub use omf_format::{Entry, Target};
 pub use table::{MOST_ENTRIES, Table, TableFault};
-pub use target::Target;
 
 #[cfg(test)]
 mod tests;

@@ -2,12 +2,12 @@
 
 ghost use Rattle.std.specs.Prelude.{All, ◌≡◌, ◌↔◌, ◌+◌, ◌<◌, ◌≤◌, ◌*◌, ◌++◌, ◌∷◌, [], ℕ, IfOk, IfSome, IfNone, is_some, OnOk, OnErr, IsOk, IsErrOf, length, map};
 ghost use Rattle.std.specs.List.{list_any};
-ghost use Rattle.jump_table.specs.Table.{entry_bytes, table_bytes, file_entry, IsTableOf};
+ghost use Rattle.omf_format.specs.Table.{entry_bytes, table_bytes, file_entry, IsTableOf};
 
 use crate::entry::UNLOADED;
-use crate::target::Target;
 use byteorder::{ByteOrder, LittleEndian};
 use indexmap::IndexSet;
+use omf_format::Target;
 use std::alloc::{AllocError, Global};
 use std::marker::Model;
 
@@ -42,7 +42,7 @@ pub struct Table {
 
 impl Model for Table {
     ghost use Rattle.std.specs.Prelude.{List};
-    ghost use Rattle.jump_table.specs.declared.target.Target.{Target};
+    ghost use Rattle.omf_format.specs.declared.table.Target.{Target};
 
     ghost Value = { List Target };
 
@@ -66,9 +66,9 @@ fn put_entry(out: &mut Vec<u8>, target: &Target) -> Result<(), AllocError>
 }
 
 impl Table {
-    ghost use Rattle.jump_table.specs.declared.target.Target.{Target};
+    ghost use Rattle.omf_format.specs.declared.table.Target.{Target};
     ghost use Rattle.jump_table.specs.Targets.{FitsTarget};
-    ghost use Rattle.jump_table.specs.Table.{most_entries, is_same, with_target, entry_place, IsAtPlace, AreDistinct};
+    ghost use Rattle.omf_format.specs.Table.{most_entries, is_same, with_target, entry_place, IsAtPlace, AreDistinct};
 
     /// A table without targets.
     pub fn new(alloc: Global) -> Table

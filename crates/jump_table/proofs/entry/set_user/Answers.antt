@@ -1,7 +1,7 @@
 use Rattle.std.proofs.Common.{rules, ◌≡◌}
 use Rattle.byteorder.specs.Endian.{little_bytes}
-use Rattle.jump_table.specs.Table.{written_at}
-use Rattle.jump_table.specs.TableLaws.{entry_of_user}
+use Rattle.omf_format.specs.Table.{written_at}
+use Rattle.omf_format.specs.TableLaws.{entry_of_user}
 use Rattle.jump_table.proofs.entry.set_user.Goals as goal
 
 pub returns-clause-entry : goal.returns-clause-entry

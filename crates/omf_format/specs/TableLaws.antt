@@ -8,8 +8,8 @@ use Rattle.std.specs.Prelude.{slice_get}
 use Rattle.byteorder.specs.Endian.{little_bytes, little_number}
 use Rattle.byteorder.specs.Numbers.{little_from-append, little_number-reads_back, length-bytes_low_first}
 use Rattle.omf_format.specs.Number.{number_at}
-use Rattle.jump_table.specs.declared.entry.Entry.{Entry}
-use Rattle.jump_table.specs.Table.{FitsEntry, HasCode, IsEntryAt, IsTableOf, OneEntryAtMost, WrittenIsRead, code_bytes, entry_bytes, entry_start, table_bytes, written_at}
+use Rattle.omf_format.specs.declared.table.Entry.{Entry}
+use Rattle.omf_format.specs.Table.{FitsEntry, HasCode, IsEntryAt, IsTableOf, OneEntryAtMost, WrittenIsRead, code_bytes, entry_bytes, entry_start, table_bytes, written_at}
 
 -- ---- numbers in bytes
 

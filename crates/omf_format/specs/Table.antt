@@ -4,8 +4,8 @@ use Rattle.std.specs.Prelude.{◌≡◌, ℕ, Bool, ◌==◌, ◌&&◌, ◌+◌,
 use Rattle.std.specs.List.{flat_map, list_any}
 use Rattle.byteorder.specs.Endian.{little_bytes}
 use Rattle.omf_format.specs.Number.{number_at}
-use Rattle.jump_table.specs.declared.target.Target.{Target}
-use Rattle.jump_table.specs.declared.entry.Entry.{Entry}
+use Rattle.omf_format.specs.declared.table.Target.{Target}
+use Rattle.omf_format.specs.declared.table.Entry.{Entry}
 
 -- ---- targets
 
