@@ -271,7 +271,8 @@ impl<T: Drop> Handles<T> {
         &self.slots
     }
 
-    /// Takes over all slots of another table, without memory.
+    /// Makes this table a copy of another, without memory. It is another table then: a handle that was released before may
+    /// be live in it.
     pub fn copy_from(&mut self, other: &Handles<T>)
     where
         T: Copy,

@@ -4,7 +4,7 @@ use Rattle.iigs_meaning.specs.declared.handles.Handle.{Handle}
 use Rattle.iigs_meaning.specs.declared.slots.Slot.{Slot}
 use Rattle.iigs_meaning.specs.Slots.{IsLive, IsDead, get, after_take, after_release, with_value}
 
--- a call on a table, with what it puts there
+-- a call on a table, with what it puts there; a copy of another table is none of them, since the table is another one then
 pub data Call (T : Type 0) : Type 0 where
   take : T → Call T
   look : Handle → Call T

@@ -2,6 +2,8 @@ ghost use Rattle.std.specs.Prelude.{◌<◌, IsTrue};
 ghost use Rattle.iigs_meaning.specs.Fits.{IsWant};
 
 use super::*;
+use std::alloc::Global;
+use std::process::Abort;
 use std::test::Fail;
 
 fn any(size: u32) -> Want
@@ -119,6 +121,129 @@ fn the_highest_level_is_purged_first(rt: HostRuntime) -> Result<(), Fail> {
         (state.at, state.size, state.level),
         (Some(0x02_0000), 0x10, 3)
     );
+    Ok(())
+}
+
+// Where a block is, and its level and lock.
+fn expect(
+    rt: &impl Abort,
+    banks: &Banks,
+    h: Handle,
+    at: Option<u32>,
+    level: u8,
+    locked: bool,
+) -> Result<(), BlockFault> {
+    let state = banks.state(h)?;
+    assert_eq!(rt; state.at, at);
+    assert_eq!(rt; (state.level, state.locked), (level, locked));
+    Ok(())
+}
+
+// A bank, filled by one block of level 3.
+fn filled_bank(rt: &(impl Alloc<A = Global> + Abort), h: Handle) -> Result<Banks, Fail> {
+    let mut banks = Banks::new(rt.alloc(), &[2])?;
+    assert_eq!(rt; banks.place(&any(0x10000), 5, false, 3), Ok(h));
+    Ok(banks)
+}
+
+#[test]
+fn a_locked_block_stays(rt: HostRuntime) -> Result<(), Fail> {
+    let h = handle(0, 0);
+    let mut banks = filled_bank(&rt, h)?;
+    assert_eq!(rt; banks.lock(h), Ok(()));
+    expect(&rt, &banks, h, Some(0x02_0000), 3, true)?;
+    assert_eq!(rt;
+        banks.place(&any(1), 5, false, 0),
+        Err(PlaceFault::NoRoom(0))
+    );
+    assert_eq!(rt; banks.unlock(h), Ok(()));
+    expect(&rt, &banks, h, Some(0x02_0000), 3, false)?;
+    assert_eq!(rt; banks.place(&any(1), 5, false, 0), Ok(handle(1, 0)));
+    expect(&rt, &banks, h, None, 3, false)?;
+    Ok(())
+}
+
+#[test]
+fn a_block_of_level_0_stays(rt: HostRuntime) -> Result<(), Fail> {
+    let h = handle(0, 0);
+    let mut banks = filled_bank(&rt, h)?;
+    assert_eq!(rt; banks.set_level(h, 0), Ok(()));
+    expect(&rt, &banks, h, Some(0x02_0000), 0, false)?;
+    assert_eq!(rt;
+        banks.place(&any(1), 5, false, 0),
+        Err(PlaceFault::NoRoom(0))
+    );
+    assert_eq!(rt; banks.set_level(h, 255), Ok(()));
+    expect(&rt, &banks, h, Some(0x02_0000), 255, false)?;
+    assert_eq!(rt; banks.place(&any(1), 5, false, 0), Ok(handle(1, 0)));
+    expect(&rt, &banks, h, None, 255, false)?;
+    Ok(())
+}
+
+// All three calls refuse for the same cause.
+fn refuses(rt: &impl Abort, banks: &mut Banks, h: Handle, fault: BlockFault) {
+    assert_eq!(rt; banks.lock(h), Err(fault));
+    assert_eq!(rt; banks.unlock(h), Err(fault));
+    assert_eq!(rt; banks.set_level(h, 9), Err(fault));
+}
+
+// A purged block is empty for them; a handle of no slot of the table, of a free slot or of another generation is stale.
+#[test]
+fn empty_blocks_and_stale_handles_stay(rt: HostRuntime) -> Result<(), Fail> {
+    let mut banks = filled_bank(&rt, handle(0, 0))?;
+    for h in [
+        handle(0, 1),
+        handle(1, 0),
+        handle(4095, 0),
+        handle(4096, 0),
+        handle(65535, 255),
+    ] {
+        refuses(&rt, &mut banks, h, BlockFault::Stale);
+        assert_eq!(rt; banks.free(h), Err(BlockFault::Stale));
+        assert_eq!(rt; banks.state(h), Err(BlockFault::Stale));
+    }
+    expect(&rt, &banks, handle(0, 0), Some(0x02_0000), 3, false)?;
+    assert_eq!(rt; banks.purge_user(5), 1);
+    refuses(&rt, &mut banks, handle(0, 0), BlockFault::Empty);
+    expect(&rt, &banks, handle(0, 0), None, 3, false)?;
+    Ok(())
+}
+
+// Writes over a block of four bytes.
+fn write(rt: &impl Abort, banks: &mut Banks, h: Handle) -> Result<(), BlockFault> {
+    let bytes = banks.block_mut(h)?;
+    assert_eq!(rt; bytes.len(), 4);
+    bytes.copy_from_slice(&[1, 2, 3, 4]);
+    Ok(())
+}
+
+fn holds(rt: &impl Abort, banks: &Banks, h: Handle, want: [u8; 4]) -> Result<(), BlockFault> {
+    let bytes = banks.block(h)?;
+    assert_eq!(rt; bytes, want.as_slice());
+    Ok(())
+}
+
+// Three blocks of four bytes side by side: what is written into the second leaves the others, and where no block is lent
+// all stay.
+#[test]
+fn a_write_through_a_lent_block_changes_it_alone(rt: HostRuntime) -> Result<(), Fail> {
+    let mut banks = Banks::new(rt.alloc(), &[2])?;
+    for slot in 0..3u16 {
+        assert_eq!(rt; banks.place(&any(4), slot, false, 1), Ok(handle(slot, 0)));
+    }
+    write(&rt, &mut banks, handle(1, 0))?;
+    holds(&rt, &banks, handle(2, 0), [0; 4])?;
+    assert_eq!(rt; banks.purge_user(2), 1);
+    for (h, fault) in [
+        (handle(2, 0), BlockFault::Empty),
+        (handle(2, 1), BlockFault::Stale),
+        (handle(4096, 0), BlockFault::Stale),
+    ] {
+        assert_eq!(rt; write(&rt, &mut banks, h), Err(fault));
+        holds(&rt, &banks, handle(0, 0), [0; 4])?;
+        holds(&rt, &banks, handle(1, 0), [1, 2, 3, 4])?;
+        expect(&rt, &banks, handle(2, 0), None, 1, false)?;
+    }
     Ok(())
 }
 

@@ -10,6 +10,7 @@ pub mod File
 pub mod Body
 pub mod Plain
 pub mod Cells
+pub mod Table
 pub mod Loadable
 pub mod Expression
 pub mod Value
@@ -22,6 +23,7 @@ pub mod BodyLaws
 pub mod PlainLaws
 pub mod LoadableLaws
 pub mod CellLaws
+pub mod TableLaws
 pub mod TermLaws
 pub mod TreeLaws
 pub mod ExpressionLaws

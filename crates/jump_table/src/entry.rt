@@ -1,0 +1,109 @@
+//! Entries of a jump table, read and changed where they stand.
+
+ghost use Rattle.std.specs.Prelude.{◌≡◌, ◌⊎◌, ◌↔◌, ◌+◌, ◌<◌, ◌≤◌, ◌^◌, ℕ, Option, length, IsNone, IfSome, IfNone, None, Some};
+ghost use Rattle.byteorder.specs.Endian.{little_bytes};
+ghost use Rattle.omf_format.specs.Number as numbers;
+ghost use Rattle.omf_format.specs.declared.table.Entry.{Entry};
+ghost use Rattle.omf_format.specs.Table.{HasCode, IsEntryAt, code_bytes, written_at};
+
+use byteorder::{ByteOrder, LittleEndian};
+use omf_base::number_at;
+use omf_format::Entry;
+
+/// The code of an entry whose target isn't loaded: a JSL to the loader at $E1F000.
+pub const UNLOADED: [u8; 4] = [0x22, 0x00, 0xF0, 0xE1];
+
+/// How many bytes an entry has.
+const ENTRY: usize = 14;
+
+// The number of so many bytes, 1 to 4, at a displacement.
+fn number(bytes: &[u8], at: usize, width: usize) -> u32
+    requires some { 1 ≤ width }
+    requires few { width ≤ 4 }
+    requires inside { at + width ≤ length bytes.now }
+    ensures value { result ≡ numbers.number_at width at bytes.now }
+    ensures fits { result < 256 ^ width }
+{
+    match number_at(bytes, at, width) {
+        Some(number) => number,
+        None => unreachable!(),
+    }
+}
+
+// The code at a displacement, if it is one.
+fn read_code(bytes: &[u8], at: usize) -> Option<Option<u32>>
+    requires { at + 4 ≤ length bytes.now }
+    ensures found { IfSome result (λ code. HasCode code at bytes.now) }
+    ensures none { IfNone result ((code : Option ℕ) → ¬ HasCode code at bytes.now) }
+{
+    match [
+        number(bytes, at, 1),
+        number(bytes, at + 1, 1),
+        number(bytes, at + 2, 1),
+        number(bytes, at + 3, 1),
+    ] {
+        [0x22, 0x00, 0xF0, 0xE1] => Some(None),
+        [0x5C, _, _, _] => Some(Some(number(bytes, at + 1, 3))),
+        _ => None,
+    }
+}
+
+/// The entry that begins at a displacement. None where its 14 bytes would pass the end, or where its code is neither
+/// that of a target that isn't loaded nor that of one that is.
+pub fn read_entry(bytes: &[u8], at: usize) -> Option<Entry>
+    ensures found { IfSome result (λ entry. IsEntryAt entry at bytes.now) }
+    ensures none { IsNone result ↔ ((length bytes.now < at + 14) ⊎ ((code : Option ℕ) → ¬ HasCode code (at + 10) bytes.now)) }
+{
+    if bytes.len() < ENTRY || bytes.len() - ENTRY < at {
+        return None;
+    }
+    let loaded = read_code(bytes, at + 10)?;
+    Some(Entry {
+        user: number(bytes, at, 2) as u16,
+        file: number(bytes, at + 2, 2) as u16,
+        segment: number(bytes, at + 4, 2) as u16,
+        offset: number(bytes, at + 6, 4),
+        loaded,
+    })
+}
+
+// Writes bytes over others from a displacement on.
+fn put(bytes: &mut [u8], at: usize, piece: &[u8])
+    requires { at + length piece.now ≤ length bytes.old }
+    ensures { bytes.new ≡ written_at at piece.now bytes.old }
+{
+    bytes[at..at + piece.len()].copy_from_slice(piece);
+}
+
+/// Sets the user ID of the entry that begins at a displacement.
+pub fn set_user(bytes: &mut [u8], at: usize, user: u16)
+    requires { at + 14 ≤ length bytes.old }
+    ensures written { bytes.new ≡ written_at at (little_bytes 2 user) bytes.old }
+    ensures entry { (entry : Entry) → IsEntryAt entry at bytes.old → IsEntryAt (record entry { user = user }) at bytes.new }
+{
+    let mut number = [0; 2];
+    LittleEndian::write_u16(&mut number, user);
+    put(bytes, at, &number);
+}
+
+/// Makes the entry that begins at a displacement jump to its target's address.
+pub fn set_loaded(bytes: &mut [u8], at: usize, address: u32)
+    requires inside { at + 14 ≤ length bytes.old }
+    requires address { address < 2 ^ 24 }
+    ensures written { bytes.new ≡ written_at (at + 10) (code_bytes (Some address)) bytes.old }
+    ensures entry { (entry : Entry) → IsEntryAt entry at bytes.old → IsEntryAt (record entry { loaded = Some address }) at bytes.new }
+{
+    let mut number = [0; 3];
+    LittleEndian::write_u24(&mut number, address);
+    let [low, middle, high] = number;
+    put(bytes, at + 10, &[0x5C, low, middle, high]);
+}
+
+/// Makes the entry that begins at a displacement call the loader.
+pub fn set_unloaded(bytes: &mut [u8], at: usize)
+    requires { at + 14 ≤ length bytes.old }
+    ensures written { bytes.new ≡ written_at (at + 10) (code_bytes None) bytes.old }
+    ensures entry { (entry : Entry) → IsEntryAt entry at bytes.old → IsEntryAt (record entry { loaded = None }) at bytes.new }
+{
+    put(bytes, at + 10, &UNLOADED);
+}

@@ -1,0 +1,14 @@
+//! Jump tables: entries through which code reaches dynamic segments (GS/OS Reference, appendix F, jump table segment).
+#![tactic(auto)]
+
+mod entry;
+mod laws;
+mod table;
+
+pub use entry::{read_entry, set_loaded, set_unloaded, set_user};
+pub use laws::entries_are_read_in_one_way;
+pub use omf_format::{Entry, Target};
+pub use table::{MOST_ENTRIES, Table, TableFault};
+
+#[cfg(test)]
+mod tests;
