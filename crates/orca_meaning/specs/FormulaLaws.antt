@@ -12,7 +12,7 @@ use Rattle.orca_meaning.specs.declared.operators.Operator.TheVariants.{Multiply,
 use Rattle.orca_meaning.specs.declared.operators.Sign as signs
 use Rattle.orca_meaning.specs.declared.operators.Sign.TheVariants.{Negate, Not}
 use Rattle.orca_meaning.specs.Token.{Operand, Here, Number, Label, LengthOf, CountOf, Token, Value, Before, Between, Opens, Closes, Stand}
-use Rattle.orca_meaning.specs.Formula.{Formula, Single, Group, Signed, Joined, sign_code, operator_code, term_of, tree_of, tokens_of, IsFormula, StandsAt, MeansAt, values_of, pending, is_large, has_large}
+use Rattle.orca_meaning.specs.Formula.{Formula, Single, Group, Signed, Joined, sign_code, operator_code, term_of, tree_of, tokens_of, IsFormula, StandsAt, MeansAt, values_of, pending, placed, is_large, has_large}
 use Rattle.orca_meaning.specs.Machine.{start}
 use Rattle.orca_meaning.specs.Complete.{complete, one_form}
 use Rattle.orca_meaning.specs.Front.{expects_after, Compared, Longer, Shorter, compared, Taken, taken, formula_ends}
@@ -179,16 +179,6 @@ spells o text tree rest short is small shallow =
     record { tree = tree; spells = record { formed = subst (IsTree 0) is.means formed; shallow = shallow; spelled = refl } }
 
 -- ---- pending values
-
--- `*` in an instruction: the location counter less a number
-abbrev pub placed : ℕ → Tree → Tree
-placed back (Leaf (expression.Operator code)) = Leaf (expression.Operator code)
-placed back (Leaf expression.Location) = Binary 0x02 (Leaf Location) (Leaf (Constant back))
-placed back (Leaf (expression.Constant n)) = Leaf (expression.Constant n)
-placed back (Leaf (expression.Named code name)) = Leaf (expression.Named code name)
-placed back (Leaf (expression.Offset n)) = Leaf (expression.Offset n)
-placed back (Unary code operand) = Unary code (placed back operand)
-placed back (Binary code left right) = Binary code (placed back left) (placed back right)
 
 pub pending-one : (tree : Tree) → pending 1 tree ≡ depth tree
 pending-one (Leaf (expression.Operator code)) = refl

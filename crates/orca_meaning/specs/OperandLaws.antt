@@ -51,6 +51,7 @@ nothing_is_no_accumulator mnemonic text none is = by_mnemonic mnemonic (subst (�
     no_and : (b : Bool) → Rattle.std.specs.Prelude.◌&&◌ b false ≡ true → ⊥
     no_and true e = absurd cc
     no_and false e = absurd cc
+
     by_mnemonic : (m : Option Mnemonic) → is_accumulator m [] ≡ true → ⊥
     by_mnemonic None e = absurd cc
     by_mnemonic (Some m) e = no_and _ e
