@@ -19,6 +19,7 @@ test:
 
 bench: build
 	bench/run build/omf
+	bench/text
 
 refuse: build
 	tools/refuse build/omf
