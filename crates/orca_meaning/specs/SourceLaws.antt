@@ -1,13 +1,11 @@
 -- Laws of source lines, formulas and operands, in their own words.
-use Rattle.std.specs.Prelude.{◌≡◌, ℕ, ◌+◌, ◌<◌, ◌≤◌, Bool, true, false, ◌&&◌, List, [], ◌∷◌, ◌++◌, length, take, slice_index, ◌==◌, Option, None}
-use Rattle.std.specs.List.{AllByRecursion}
+use Rattle.std.specs.Prelude.{◌≡◌, ℕ, ◌<◌, ◌≤◌, Bool, true, false, ◌&&◌, List, [], ◌∷◌, ◌++◌, length, take, slice_index, ◌==◌, Option, None}
 use Rattle.omf_format.specs.Expression.{Tree, terms_of, terms_text, depth, IsExpression}
 use Rattle.omf_format.specs.Lines.{lines_of, HasNoEnd}
 use Rattle.orca_meaning.specs.declared.mnemonics.Mnemonic.{Mnemonic}
 use Rattle.orca_meaning.specs.declared.operators.Operands.{Operands}
-use Rattle.orca_meaning.specs.Characters.{is_blank}
-use Rattle.orca_meaning.specs.Quotes.{quote_behind, is_closed, outside_from, quote_after}
-use Rattle.orca_meaning.specs.Line.{three_fields, fields_of, part, HaveFields, AreParted}
+use Rattle.orca_meaning.specs.Quotes.{is_closed, outside_from, quote_after}
+use Rattle.orca_meaning.specs.Line.{three_fields, fields_of, HaveFields, AreParted}
 use Rattle.orca_meaning.specs.Formula.{MeansAt, pending, placed, has_large}
 use Rattle.orca_meaning.specs.Operand.{Meaning, IsOperand}
 
