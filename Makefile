@@ -27,6 +27,7 @@ times:
 
 bench: build
 	bench/run build/omf
+	bench/text
 
 refuse: build
 	tools/refuse build/omf

@@ -1,11 +1,11 @@
 -- A formula's tokens are read to its postfix form.
-use Rattle.std.proofs.Common.{◌≡◌, ℕ, ◌+◌, ◌<◌, ◌≤◌, Bool, true, false, cond, leb, List, [], ◌∷◌, ◌++◌, length, Option, Some, None, refl, sym, ap, subst, ◌∙◌, append_assoc, append-nil, arith}
+use Rattle.std.proofs.Common.{◌≡◌, ℕ, ◌<◌, ◌≤◌, true, false, List, [], ◌∷◌, ◌++◌, Option, Some, refl, sym, ap, ◌∙◌, append_assoc, append-nil, arith}
 use Rattle.std.proofs.lemmas.Bool.{le-leb, lt-leb}
 use Rattle.std.proofs.lemmas.List.{append-nil}
 use Rattle.omf_format.specs.Expression.{Term, Operator, terms_of}
 use Rattle.orca_meaning.specs.declared.operators.Operator as declared_operator
 use Rattle.orca_meaning.specs.declared.operators.Operator.TheVariants.{Multiply, Divide, Shift, Add, Subtract, Less, Greater, LessOrEqual, GreaterOrEqual, NotEqual, Equal, And, Or, Eor}
-use Rattle.orca_meaning.specs.Token.{Token, Value, Before, Between, Opens, Closes}
+use Rattle.orca_meaning.specs.Token.{Token, Between, Closes}
 use Rattle.orca_meaning.specs.Formula.{sign_code, operator_code, operator_level, term_of, Formula, Single, Group, Signed, Joined, level_of, IsFormula, tokens_of, tree_of}
 use Rattle.orca_meaning.specs.Machine.{Wait, Bracket, Pending, State, state, reduced, closed, step, and_then, run, ended, finish, start, postfix}
 
@@ -106,14 +106,18 @@ reads (Group inner) out ws more is room =
     let shut : closed (reduced 6 first.out' (first.extras ++ Bracket ∷ ws)) ≡ Some (state (out ++ terms_of (tree_of inner)) ws false) =
     ap closed all ∙ ap (λ (o : List Term). closed (o, Bracket ∷ ws)) first.same in
     record {
-      out' = out ++ terms_of (tree_of inner); extras = []; tight = tt; same = append-nil (out ++ terms_of (tree_of inner));
+      out' = out ++ terms_of (tree_of inner);
+      extras = [];
+      tight = tt;
+      same = append-nil (out ++ terms_of (tree_of inner));
       goes = rw (append_assoc (tokens_of inner) (Closes ∷ []) more) (first.goes ∙ ap (λ (s : Option State). and_then s (λ s'. run s' more)) shut);
     }
 reads (Signed sign operand) out ws more is room =
     let code = sign_code sign in
     let first = reads operand out (Pending 1 code ∷ ws) more is.1 (λ two. absurd (omega (arith, is.0))) in
     record {
-      out' = first.out'; extras = first.extras ++ Pending 1 code ∷ [];
+      out' = first.out';
+      extras = first.extras ++ Pending 1 code ∷ [];
       tight = AreTight-append 1 first.extras (Pending 1 code ∷ []) (AreTight-more (level_of operand) 1 first.extras is.0 first.tight) (omega arith, tt);
       same = ap (λ (c : List Term). first.out' ++ c) (codes-append first.extras (Pending 1 code ∷ [])) ∙ sym (append_assoc first.out' (codes first.extras) (Operator code ∷ [])) ∙ ap (λ (o : List Term). o ++ Operator code ∷ []) first.same ∙ append_assoc out (terms_of (tree_of operand)) (Operator code ∷ []);
       goes = rw (append_assoc first.extras (Pending 1 code ∷ []) ws) first.goes;
@@ -129,10 +133,11 @@ reads (Joined operator left right) out ws more is room =
     let middle : run (state l.out' (l.extras ++ ws) false) (Between operator ∷ (tokens_of right ++ more)) ≡ run (state (out ++ terms_of (tree_of left)) (Pending level code ∷ ws) true) (tokens_of right ++ more) =
     ap (λ (x : List Term × List Wait). run (state x.0 (Pending level code ∷ x.1) true) (tokens_of right ++ more)) all in
     record {
-      out' = r.out'; extras = r.extras ++ Pending level code ∷ [];
+      out' = r.out';
+      extras = r.extras ++ Pending level code ∷ [];
       tight = AreTight-append level r.extras (Pending level code ∷ []) (AreTight-more (level_of right) level r.extras (omega (arith, is.1)) r.tight) (omega arith, tt);
       same = ap (λ (c : List Term). r.out' ++ c) (codes-append r.extras (Pending level code ∷ [])) ∙ sym (append_assoc r.out' (codes r.extras) (Operator code ∷ [])) ∙ ap (λ (o : List Term). o ++ Operator code ∷ []) r.same
-      ∙ append_assoc (out ++ terms_of (tree_of left)) (terms_of (tree_of right)) (Operator code ∷ []) ∙ append_assoc out (terms_of (tree_of left)) (terms_of (tree_of right) ++ Operator code ∷ []);
+          ∙ append_assoc (out ++ terms_of (tree_of left)) (terms_of (tree_of right)) (Operator code ∷ []) ∙ append_assoc out (terms_of (tree_of left)) (terms_of (tree_of right) ++ Operator code ∷ []);
       goes = rw (append_assoc (tokens_of left) (Between operator ∷ tokens_of right) more, append_assoc r.extras (Pending level code ∷ []) ws) (l.goes ∙ middle ∙ r.goes);
     }
 

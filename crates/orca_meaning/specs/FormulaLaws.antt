@@ -1,5 +1,5 @@
 -- The laws of formulas: a text is the text of one tree at most, and the tree's terms spell an expression.
-use Rattle.std.proofs.Common.{◌≡◌, ℕ, ◌+◌, ◌^◌, ◌<◌, ◌≤◌, max, Bool, true, false, cond, eqb, leb, List, [], ◌∷◌, ◌++◌, length, Option, Some, None, refl, sym, ap, subst, ◌∙◌, append_assoc, append-nil, arith}
+use Rattle.std.proofs.Common.{◌≡◌, ℕ, ◌^◌, ◌≤◌, Bool, true, false, cond, eqb, leb, List, [], ◌∷◌, ◌++◌, length, refl, sym, ap, subst, ◌∙◌, append_assoc, append-nil}
 use Rattle.std.specs.Prelude.{◌||◌}
 use Rattle.std.specs.List.{list_any}
 use Rattle.std.proofs.lemmas.Bool.{leb-false}
@@ -11,11 +11,10 @@ use Rattle.orca_meaning.specs.declared.operators.Operator as operators
 use Rattle.orca_meaning.specs.declared.operators.Operator.TheVariants.{Multiply, Divide, Shift, Add, Subtract, Less, Greater, LessOrEqual, GreaterOrEqual, NotEqual, Equal, And, Or, Eor}
 use Rattle.orca_meaning.specs.declared.operators.Sign as signs
 use Rattle.orca_meaning.specs.declared.operators.Sign.TheVariants.{Negate, Not}
-use Rattle.orca_meaning.specs.Token.{Operand, Here, Number, Label, LengthOf, CountOf, Token, Value, Before, Between, Opens, Closes, Stand}
-use Rattle.orca_meaning.specs.Formula.{Formula, Single, Group, Signed, Joined, sign_code, operator_code, term_of, tree_of, tokens_of, IsFormula, StandsAt, MeansAt, values_of, pending, is_large, has_large}
-use Rattle.orca_meaning.specs.Machine.{start}
+use Rattle.orca_meaning.specs.Token.{Operand, Here, Number, Label, LengthOf, CountOf, Token, Value, Before, Between, Opens, Closes}
+use Rattle.orca_meaning.specs.Formula.{Formula, Single, Group, Signed, Joined, sign_code, operator_code, term_of, tree_of, tokens_of, StandsAt, MeansAt, pending, placed, is_large, has_large}
 use Rattle.orca_meaning.specs.Complete.{complete, one_form}
-use Rattle.orca_meaning.specs.Front.{expects_after, Compared, Longer, Shorter, compared, Taken, taken, formula_ends}
+use Rattle.orca_meaning.specs.Front.{Compared, Longer, Shorter, compared, taken, formula_ends}
 use Rattle.orca_meaning.specs.TokenLaws.{HasFineName, HaveFineNames, fine_names}
 
 -- ---- one tree
@@ -179,16 +178,6 @@ spells o text tree rest short is small shallow =
     record { tree = tree; spells = record { formed = subst (IsTree 0) is.means formed; shallow = shallow; spelled = refl } }
 
 -- ---- pending values
-
--- `*` in an instruction: the location counter less a number
-abbrev pub placed : ℕ → Tree → Tree
-placed back (Leaf (expression.Operator code)) = Leaf (expression.Operator code)
-placed back (Leaf expression.Location) = Binary 0x02 (Leaf Location) (Leaf (Constant back))
-placed back (Leaf (expression.Constant n)) = Leaf (expression.Constant n)
-placed back (Leaf (expression.Named code name)) = Leaf (expression.Named code name)
-placed back (Leaf (expression.Offset n)) = Leaf (expression.Offset n)
-placed back (Unary code operand) = Unary code (placed back operand)
-placed back (Binary code left right) = Binary code (placed back left) (placed back right)
 
 pub pending-one : (tree : Tree) → pending 1 tree ≡ depth tree
 pending-one (Leaf (expression.Operator code)) = refl

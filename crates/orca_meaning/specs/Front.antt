@@ -1,15 +1,14 @@
 -- Where a formula at the front of a text ends: tokens that stand there are compared with those of a formula.
-use Rattle.std.proofs.Common.{◌≡◌, ℕ, ◌+◌, ◌<◌, ◌≤◌, Bool, true, false, cond, List, [], ◌∷◌, ◌++◌, Option, Some, None, refl, sym, ap, subst, ◌∙◌, append_assoc, append-nil, arith, eqb}
+use Rattle.std.proofs.Common.{◌≡◌, ℕ, Bool, true, false, cond, List, [], ◌∷◌, ◌++◌, Option, Some, None, refl, sym, ap, subst, ◌∙◌, eqb}
 use Rattle.std.proofs.lemmas.Bool.{eqb-true}
 use Rattle.std.specs.Option.{option_or}
-use Rattle.omf_format.specs.Expression.{Term, Tree, terms_of}
+use Rattle.omf_format.specs.Expression.{Term, terms_of}
 use Rattle.orca_meaning.specs.declared.operators.Operator as operators
 use Rattle.orca_meaning.specs.declared.operators.Operands.{Operands}
 use Rattle.orca_meaning.specs.Token.{Token, Value, Before, Between, Opens, Closes, Found, seen_as, byte_at, operator_at, operator_token_at, token_at, expects_behind, Stand}
-use Rattle.orca_meaning.specs.Formula.{Formula, IsFormula, tokens_of, tree_of, StandsAt, MeansAt}
+use Rattle.orca_meaning.specs.Formula.{Formula, tokens_of, tree_of, StandsAt}
 use Rattle.orca_meaning.specs.Machine.{Wait, Bracket, Pending, State, state, reduced, closed, step, and_then, run, ended, finish, start, postfix}
 use Rattle.orca_meaning.specs.Complete.{complete}
-use Rattle.orca_meaning.specs.Sound.{sound}
 
 -- ---- tokens one behind another
 

@@ -13,6 +13,7 @@ pub mod Sound
 pub mod Front
 pub mod FormulaLaws
 pub mod OperandLaws
+pub mod SourceLaws
 pub mod Length
 pub mod Matrix
 pub mod MatrixLaws

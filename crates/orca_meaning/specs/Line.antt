@@ -1,6 +1,6 @@
 -- Source lines and their fields (ORCA/M reference manual, "The assembly language statement").
-use Rattle.std.specs.Prelude.{◌≡◌, ℕ, ◌+◌, ◌-◌, ◌≤◌, Bool, true, not, ◌||◌, ◌==◌, nat_lt, List, [], ◌∷◌, length, take, drop, slice_index, Option, Some, None, if◌then◌else◌}
-use Rattle.std.specs.List.{position_or_len, list_all}
+use Rattle.std.specs.Prelude.{◌≡◌, ℕ, ◌+◌, ◌-◌, ◌≤◌, Bool, true, false, not, ◌||◌, ◌==◌, nat_lt, List, [], ◌∷◌, ◌++◌, length, take, drop, slice_index, Option, Some, None, if◌then◌else◌}
+use Rattle.std.specs.List.{AllByRecursion, position_or_len, list_all}
 use Rattle.orca_meaning.specs.declared.forms.OperandUse.{OperandUse}
 use Rattle.orca_meaning.specs.declared.forms.OperandUse.TheVariants.{Never, Accumulator, Signature, Always}
 use Rattle.orca_meaning.specs.declared.lines.Span.{Span}
@@ -114,3 +114,14 @@ pub record HaveFields (text : List ℕ) (fields : Fields) : Type 0 where
   pub label : LiesIn text fields.label
   pub operation : LiesIn text fields.operation
   pub operand : LiesIn text fields.operand
+
+-- the line begins with these fields, with blanks between them; label and operation have no blank
+pub record AreParted (text : List ℕ) (fields : Fields) : Type 0 where
+  pub before : List ℕ
+  pub between : List ℕ
+  pub behind : List ℕ
+  pub whole : text ≡ part text fields.label ++ (before ++ (part text fields.operation ++ (between ++ (part text fields.operand ++ behind))))
+  pub label : AllByRecursion (λ byte. is_blank byte ≡ false) (part text fields.label)
+  pub first_blanks : AllByRecursion (λ byte. is_blank byte ≡ true) before
+  pub operation : AllByRecursion (λ byte. is_blank byte ≡ false) (part text fields.operation)
+  pub next_blanks : AllByRecursion (λ byte. is_blank byte ≡ true) between

@@ -1,15 +1,15 @@
 -- The laws of source lines.
-use Rattle.std.proofs.Common.{◌≡◌, ℕ, ◌+◌, ◌<◌, ◌≤◌, Bool, true, false, cond, List, [], ◌∷◌, length, drop, Option, None, refl, arith}
-use Rattle.std.specs.Prelude.{◌&&◌, slice_index, ◌==◌}
-use Rattle.std.specs.List.{position_or_len}
-use Rattle.std.proofs.lemmas.List.{length-drop}
+use Rattle.std.proofs.Common.{◌≡◌, ℕ, zero, suc, ◌+◌, ◌-◌, ◌<◌, ◌≤◌, Bool, true, false, cond, List, [], ◌∷◌, ◌++◌, length, take, drop, Option, None, refl, sym, ap, ◌∙◌, arith}
+use Rattle.std.specs.Prelude.{◌&&◌, slice_index, ◌==◌, not}
+use Rattle.std.specs.List.{AllByRecursion, prefix_len, position_or_len}
+use Rattle.std.proofs.lemmas.List.{length-drop, take-append-drop, drop-drop}
 use Rattle.std.proofs.lemmas.List.Sums.{prefix_len-le-length}
 use Rattle.orca_meaning.specs.declared.forms.OperandUse.{OperandUse}
 use Rattle.orca_meaning.specs.declared.forms.OperandUse.TheVariants.{Never, Accumulator, Signature, Always}
 use Rattle.orca_meaning.specs.declared.lines.Span.{Span}
 use Rattle.orca_meaning.specs.Characters.{is_blank}
-use Rattle.orca_meaning.specs.Quotes.{outside_from, is_closed, quote_behind}
-use Rattle.orca_meaning.specs.Line.{is_ink, is_comment, next_blank, next_ink, next_outside, three_fields, operand_span, statement_fields, no_fields, fields_of, Fields, LiesIn, HaveFields}
+use Rattle.orca_meaning.specs.Quotes.{outside_from, is_closed, quote_behind, quote_after}
+use Rattle.orca_meaning.specs.Line.{is_ink, is_comment, next_blank, next_ink, next_outside, three_fields, operand_span, statement_fields, no_fields, fields_of, part, LiesIn, HaveFields, AreParted}
 
 -- ---- the fields lie in the line
 
@@ -24,7 +24,7 @@ outside_from-le test quote (byte ∷ behind) = by_test (is_closed quote && test 
     by_test false le = omega arith
 
 place-le : (p : ℕ → Bool) (text : List ℕ) (at : ℕ) → at ≤ length text → at + position_or_len p (drop at text) ≤ length text
-place-le p text at le = omega (arith, prefix_len-le-length (λ x. Rattle.std.specs.Prelude.not (p x)) (drop at text), length-drop at text)
+place-le p text at le = omega (arith, prefix_len-le-length (λ x. not (p x)) (drop at text), length-drop at text)
 
 outside-le : (text : List ℕ) (at : ℕ) → at ≤ length text → next_outside text at ≤ length text
 outside-le text at le = omega (arith, outside_from-le is_blank None (drop at text), length-drop at text)
@@ -62,3 +62,85 @@ have_fields text = by_comment (is_comment text)
     by_comment false =
         let three = three_lie text in
         record { label = three.label; operation = three.operation; operand = operand_lies _ text _ three.operand }
+
+-- ---- blanks part them
+
+abbrev AllPassing : (ℕ → Bool) → List ℕ → Type 0
+AllPassing p text = AllByRecursion (λ byte. p byte ≡ true) text
+
+front_passes : (p : ℕ → Bool) (text : List ℕ) → AllPassing p (take (prefix_len p text) text)
+front_passes p [] = tt
+front_passes p (byte ∷ behind) = by_test (p byte) refl (front_passes p behind)
+  where
+    by_test : (b : Bool) → p byte ≡ b → AllPassing p (take (prefix_len p behind) behind) → AllPassing p (take (cond b (1 + prefix_len p behind) 0) (byte ∷ behind))
+    by_test true is others = let next : 1 + prefix_len p behind ≡ suc (prefix_len p behind) = omega arith in rw next (is, others)
+    by_test false is others = tt
+
+not_not : (b : Bool) → not (not b) ≡ true → b ≡ true
+not_not true e = refl
+not_not false e = absurd cc
+
+is_false : (b : Bool) → not b ≡ true → b ≡ false
+is_false true e = absurd cc
+is_false false e = refl
+
+all_blank : (text : List ℕ) → AllPassing (λ byte. not (is_ink byte)) text → AllByRecursion (λ byte. is_blank byte ≡ true) text
+all_blank [] all = tt
+all_blank (byte ∷ behind) all = (not_not (is_blank byte) all.0, all_blank behind all.1)
+
+all_ink : (text : List ℕ) → AllPassing (λ byte. not (is_blank byte)) text → AllByRecursion (λ byte. is_blank byte ≡ false) text
+all_ink [] all = tt
+all_ink (byte ∷ behind) all = (is_false (is_blank byte) all.0, all_ink behind all.1)
+
+-- the bytes from a place on are those up to another and those from there on
+from_on : (text : List ℕ) (at n : ℕ) → drop at text ≡ take n (drop at text) ++ drop (at + n) text
+from_on text at n = sym (take-append-drop n (drop at text)) ∙ ap (λ (l : List ℕ). take n (drop at text) ++ l) (drop-drop n at text)
+
+span_part : (text : List ℕ) (at n : ℕ) → part text (record { from = at; to = at + n }) ≡ take n (drop at text)
+span_part text at n = let size : at + n - at ≡ n = omega arith in ap (λ (k : ℕ). take k (drop at text)) size
+
+pub are_parted : (text : List ℕ) → AreParted text (three_fields text)
+unfolding three_fields
+are_parted text =
+    let a = position_or_len is_blank (drop 0 text) in
+    let label_end = 0 + a in
+    let b = position_or_len is_ink (drop label_end text) in
+    let operation = label_end + b in
+    let c = position_or_len is_blank (drop operation text) in
+    let operation_end = operation + c in
+    let d = position_or_len is_ink (drop operation_end text) in
+    let operand = operation_end + d in
+    let e = outside_from is_blank None (drop operand text) in
+    record {
+      before = take b (drop label_end text);
+      between = take d (drop operation_end text);
+      behind = drop (operand + e) text;
+      whole = from_on text 0 a ∙ ap (λ (l : List ℕ). take a (drop 0 text) ++ l) (from_on text label_end b
+          ∙ ap (λ (l : List ℕ). take b (drop label_end text) ++ l) (from_on text operation c
+          ∙ ap (λ (l : List ℕ). take c (drop operation text) ++ l) (from_on text operation_end d
+          ∙ ap (λ (l : List ℕ). take d (drop operation_end text) ++ l) (from_on text operand e))))
+          ∙ simp (sym (span_part text 0 a), sym (span_part text operation c), sym (span_part text operand e));
+      label = rw (span_part text 0 a) (all_ink (take a (drop 0 text)) (front_passes (λ byte. not (is_blank byte)) (drop 0 text)));
+      first_blanks = all_blank (take b (drop label_end text)) (front_passes (λ byte. not (is_ink byte)) (drop label_end text));
+      operation = rw (span_part text operation c) (all_ink (take c (drop operation text)) (front_passes (λ byte. not (is_blank byte)) (drop operation text)));
+      next_blanks = all_blank (take d (drop operation_end text)) (front_passes (λ byte. not (is_ink byte)) (drop operation_end text));
+    }
+
+-- ---- a byte outside quotes
+
+pub outside_is_first : (test : ℕ → Bool) (quote : Option ℕ) (text : List ℕ) (k : ℕ) → k < length text
+    → (k < outside_from test quote text → (is_closed (quote_after quote (take k text)) && test (slice_index text k)) ≡ false)
+    × (k ≡ outside_from test quote text → (is_closed (quote_after quote (take k text)) && test (slice_index text k)) ≡ true)
+unfolding outside_from
+outside_is_first test quote [] k less = absurd (omega arith)
+outside_is_first test quote (byte ∷ behind) k less = by_test (is_closed quote && test byte) refl k less (λ i less. outside_is_first test (quote_behind quote byte) behind i less)
+  where
+    by_test : (b : Bool) → (is_closed quote && test byte) ≡ b → (k : ℕ) → k < length (byte ∷ behind)
+        → ((i : ℕ) → i < length behind → (i < outside_from test (quote_behind quote byte) behind → (is_closed (quote_after (quote_behind quote byte) (take i behind)) && test (slice_index behind i)) ≡ false)
+        × (i ≡ outside_from test (quote_behind quote byte) behind → (is_closed (quote_after (quote_behind quote byte) (take i behind)) && test (slice_index behind i)) ≡ true))
+        → (k < cond b 0 (outside_from test (quote_behind quote byte) behind + 1) → (is_closed (quote_after quote (take k (byte ∷ behind))) && test (slice_index (byte ∷ behind) k)) ≡ false)
+        × (k ≡ cond b 0 (outside_from test (quote_behind quote byte) behind + 1) → (is_closed (quote_after quote (take k (byte ∷ behind))) && test (slice_index (byte ∷ behind) k)) ≡ true)
+    by_test true is zero less others = (λ none. absurd (omega arith), λ same. is)
+    by_test true is (suc i) less others = (λ none. absurd (omega arith), λ same. absurd (omega arith))
+    by_test false is zero less others = (λ some. is, λ same. absurd (omega arith))
+    by_test false is (suc i) less others = let here = others i (omega arith) in (λ before. here.0 (omega arith), λ same. here.1 (omega arith))

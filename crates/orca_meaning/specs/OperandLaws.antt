@@ -1,15 +1,14 @@
 -- The laws of operands: a text is one operand at most.
-use Rattle.std.proofs.Common.{◌≡◌, ℕ, ◌<◌, Bool, true, false, List, [], ◌∷◌, ◌++◌, length, Option, Some, None, refl, sym, ap, subst, ◌∙◌, arith}
+use Rattle.std.proofs.Common.{◌≡◌, ℕ, Bool, true, false, List, [], ◌∷◌, ◌++◌, Option, Some, None, refl, sym, ap, subst, ◌∙◌, arith}
 use Rattle.std.specs.Prelude.{codes, bytes_eq}
 use Rattle.std.specs.Option.{option_map}
 use Rattle.omf_format.specs.Expression.{Tree}
 use Rattle.orca_meaning.specs.declared.forms.Form.{Form}
-use Rattle.orca_meaning.specs.declared.forms.Form.TheVariants.{Nothing, Accumulator, Pair}
+use Rattle.orca_meaning.specs.declared.forms.Form.TheVariants.{Pair}
 use Rattle.orca_meaning.specs.declared.forms.Opening.{Opening}
 use Rattle.orca_meaning.specs.declared.forms.Opening.TheVariants.{Open}
 use Rattle.orca_meaning.specs.declared.forms.Index.{Index}
 use Rattle.orca_meaning.specs.declared.forms.Prefix.{Prefix}
-use Rattle.orca_meaning.specs.declared.forms.Prefix.TheVariants.{Bare}
 use Rattle.orca_meaning.specs.declared.mnemonics.Mnemonic.{Mnemonic}
 use Rattle.orca_meaning.specs.declared.operators.Operands.{Operands}
 use Rattle.orca_meaning.specs.declared.operators.Operands.TheVariants.{Labels}
@@ -51,6 +50,7 @@ nothing_is_no_accumulator mnemonic text none is = by_mnemonic mnemonic (subst (�
     no_and : (b : Bool) → Rattle.std.specs.Prelude.◌&&◌ b false ≡ true → ⊥
     no_and true e = absurd cc
     no_and false e = absurd cc
+
     by_mnemonic : (m : Option Mnemonic) → is_accumulator m [] ≡ true → ⊥
     by_mnemonic None e = absurd cc
     by_mnemonic (Some m) e = no_and _ e

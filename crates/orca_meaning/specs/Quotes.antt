@@ -15,3 +15,8 @@ unfoldable pub outside_from : (ℕ → Bool) → Option ℕ → List ℕ → ℕ
 outside_from test quote [] = 0
 outside_from test quote (byte ∷ behind) =
     if is_closed quote && test byte then 0 else outside_from test (quote_behind quote byte) behind + 1
+
+-- the quote that is open behind a text
+abbrev pub quote_after : Option ℕ → List ℕ → Option ℕ
+quote_after quote [] = quote
+quote_after quote (byte ∷ behind) = quote_after (quote_behind quote byte) behind

@@ -1,6 +1,6 @@
 -- What is read to a postfix form is the tokens of a formula.
-use Rattle.std.proofs.Common.{◌≡◌, ℕ, ◌+◌, ◌<◌, ◌≤◌, Bool, true, false, cond, leb, List, [], ◌∷◌, ◌++◌, Option, Some, None, refl, sym, ap, subst, ◌∙◌, append_assoc, append-nil, arith, inl, inr}
-use Rattle.std.proofs.lemmas.Bool.{leb-true, leb-false, le-leb, cases_eq}
+use Rattle.std.proofs.Common.{◌≡◌, ℕ, ◌<◌, ◌≤◌, Bool, true, false, cond, leb, List, [], ◌∷◌, ◌++◌, Option, Some, None, refl, sym, ap, subst, ◌∙◌, append_assoc, append-nil, arith}
+use Rattle.std.proofs.lemmas.Bool.{leb-true, leb-false, le-leb}
 use Rattle.omf_format.specs.Expression.{Term, Operator, terms_of}
 use Rattle.orca_meaning.specs.declared.operators.Operator as operators
 use Rattle.orca_meaning.specs.declared.operators.Sign as signs
@@ -100,7 +100,7 @@ close_all level (AtRight operator left ∷ fs) f one are is place tight =
     by_test : (b : Bool) → leb (operator_level operator) level ≡ b
         → (operator_level operator ≤ level → Closed level (toks fs ++ tokens_of (Joined operator left f)) (reduced level (outs fs ++ terms_of (tree_of (Joined operator left f))) (waits fs)))
         → Closed level (toks (AtRight operator left ∷ fs) ++ tokens_of f)
-            (cond b (reduced level ((outs (AtRight operator left ∷ fs) ++ terms_of (tree_of f)) ++ Operator (operator_code operator) ∷ []) (waits fs)) (outs (AtRight operator left ∷ fs) ++ terms_of (tree_of f), waits (AtRight operator left ∷ fs)))
+        (cond b (reduced level ((outs (AtRight operator left ∷ fs) ++ terms_of (tree_of f)) ++ Operator (operator_code operator) ∷ []) (waits fs)) (outs (AtRight operator left ∷ fs) ++ terms_of (tree_of f), waits (AtRight operator left ∷ fs)))
     by_test false test closes = record { fs = AtRight operator left ∷ fs; f = f; holds = record { frames = are; formed = is; place = place; waiting = refl; gone = refl; written = refl }; tight = tight; looser = leb-false (operator_level operator) level test }
     by_test true test closes =
         let out : ((outs fs ++ terms_of (tree_of left)) ++ terms_of (tree_of f)) ++ Operator (operator_code operator) ∷ [] ≡ outs fs ++ terms_of (tree_of (Joined operator left f)) = simp append_assoc in
@@ -234,6 +234,7 @@ sound tokens items e = by_end (run start tokens) refl e
         let found : ended (reduced 6 s.out s.waiting) ≡ Some items = rw test at e in
         let at : ended ((reduced 6 s.out s.waiting).0, waits c.fs) ≡ Some items = subst (λ (w : List Wait). ended ((reduced 6 s.out s.waiting).0, w) ≡ Some items) c.holds.waiting found in
         ends_with _ c.fs c.f tokens items c.looser c.holds.frames c.holds.formed c.holds.written c.holds.gone at
+
     by_end : (r : Option State) → run start tokens ≡ r → finish r ≡ Some items → FormulaOf tokens items
     by_end None is e = absurd cc
     by_end (Some s) is e = by_state s (stands_through tokens start [] s (Expects [] refl (record { frames = tt; waiting = refl; gone = refl; written = refl })) is) e

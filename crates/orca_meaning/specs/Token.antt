@@ -11,7 +11,7 @@ use Rattle.orca_meaning.specs.declared.operators.Operator.{Operator}
 use Rattle.orca_meaning.specs.declared.operators.Operator.TheVariants.{Multiply, Divide, Shift, Add, Subtract, Less, Greater, LessOrEqual, GreaterOrEqual, NotEqual, Equal, And, Or, Eor}
 use Rattle.orca_meaning.specs.declared.operators.Sign.{Sign}
 use Rattle.orca_meaning.specs.declared.operators.Sign.TheVariants.{Negate, Not}
-use Rattle.orca_meaning.specs.Characters.{is_letter, is_name_start, is_name_byte, folded}
+use Rattle.orca_meaning.specs.Characters.{is_name_start, is_name_byte, folded}
 
 -- an operand of a formula: the location counter, a number, a label, or the length or the count of a label or symbol
 pub data Operand : Type 0 where

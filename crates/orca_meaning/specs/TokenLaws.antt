@@ -1,9 +1,9 @@
 -- The laws of tokens: each takes a byte at least, and a name in one is neither empty nor longer than the text.
-use Rattle.std.proofs.Common.{◌≡◌, ℕ, zero, suc, ◌+◌, ◌-◌, ◌<◌, ◌≤◌, Bool, true, false, cond, eqb, ltb, leb, List, [], ◌∷◌, length, take, drop, map, Option, Some, None, refl, sym, ap, subst, ◌∙◌, arith}
+use Rattle.std.proofs.Common.{◌≡◌, ℕ, ◌+◌, ◌<◌, ◌≤◌, Bool, true, false, cond, eqb, ltb, leb, List, [], ◌∷◌, length, take, drop, Some, None, refl, subst, arith}
 use Rattle.std.specs.Prelude.{bytes_eq, ◌&&◌, ◌||◌}
 use Rattle.std.specs.Char.{is_digit, to_ascii_uppercase}
 use Rattle.std.specs.List.{prefix_len, position_or_len}
-use Rattle.std.specs.Option.{option_or, option_map}
+use Rattle.std.specs.Option.{option_or}
 use Rattle.std.specs.Str.Parse.{digits_value}
 use Rattle.std.proofs.lemmas.Bool.{ltb-true, leb-true, eqb-false, and_parts}
 use Rattle.std.proofs.lemmas.List.{length-drop, length-take, length-map}
@@ -45,6 +45,7 @@ digits-shorter base text = by_test (eqb n 0) refl
   where
     n : ℕ
     n = prefix_len (λ byte. is_digit byte base) text
+
     by_test : (b : Bool) → eqb n 0 ≡ b → IsShorter text (cond b None (Some (digits_value base (take n text), drop n text)))
     by_test true test = tt
     by_test false test =
@@ -57,6 +58,7 @@ text-shorter quote behind = by_test (leb 1 n && leb n 4 && ltb n (length behind)
   where
     n : ℕ
     n = position_or_len (λ byte. eqb byte quote) behind
+
     by_test : (b : Bool) → (leb 1 n && leb n 4 && ltb n (length behind)) ≡ b → IsShorter behind (cond b (Some (little_number n behind, drop (n + 1) behind)) None)
     by_test true test =
         let inside : n < length behind = ltb-true n (length behind) (and_parts (leb 1 n && leb n 4) (ltb n (length behind)) test).1 in
@@ -87,6 +89,7 @@ name-is (byte ∷ behind) = by_test (is_name_start byte)
   where
     n : ℕ
     n = prefix_len is_name_byte behind
+
     by_test : (b : Bool) → IsNameOf (byte ∷ behind) (cond b (Some (folded (byte ∷ take n behind), drop n behind)) None)
     by_test true =
         let size : length (folded (byte ∷ take n behind)) ≡ length (byte ∷ take n behind) = length-map (byte ∷ take n behind) to_ascii_uppercase in
@@ -185,6 +188,7 @@ spelled-shorter (row ∷ rows) text some = by_test (bytes_eq row.0 (folded (take
   where
     one : 1 ≤ length row.0
     one = leb-true 1 (length row.0) (and_parts (leb 1 (length row.0)) (are_some rows) some).0
+
     by_text : (s : List ℕ) → bytes_eq row.0 (folded (take (length row.0) s)) ≡ true → length (drop (length row.0) s) < length s
     by_text [] test = absurd (by_row row.0 one test)
       where
@@ -192,6 +196,7 @@ spelled-shorter (row ∷ rows) text some = by_test (bytes_eq row.0 (folded (take
         by_row [] one is = absurd (omega arith)
         by_row (c ∷ r) one is = absurd cc
     by_text (byte ∷ behind) test = omega (arith, length-drop (length row.0) (byte ∷ behind), one)
+
     by_test : (b : Bool) → bytes_eq row.0 (folded (take (length row.0) text)) ≡ b → IsShorter text (spelled_at rows text)
         → IsShorter text (cond b (Some (row.1, drop (length row.0) text)) (spelled_at rows text))
     by_test true test others = by_text text test

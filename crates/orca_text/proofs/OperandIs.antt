@@ -1,7 +1,7 @@
 -- What was read is the operand of the text, or the text is none.
-use Rattle.std.proofs.Common.{◌≡◌, ℕ, ◌+◌, ◌-◌, ◌*◌, ◌^◌, ◌<◌, ◌≤◌, max, Bool, true, false, cond, eqb, ltb, leb, List, [], ◌∷◌, ◌++◌, length, map, Option, Some, None, refl, sym, ap, subst, ◌∙◌, append-nil, append_assoc, arith}
-use Rattle.std.specs.Prelude.{◌≢◌, ◌||◌, MatchResult, IfOk, IfErr, Result, Ok, Err}
-use Rattle.std.specs.List.{list_any, AllByRecursion}
+use Rattle.std.proofs.Common.{◌≡◌, ℕ, ◌+◌, ◌-◌, ◌^◌, ◌<◌, ◌≤◌, max, Bool, true, false, eqb, ltb, List, [], ◌∷◌, ◌++◌, length, Option, Some, None, refl, sym, ap, subst, ◌∙◌, append-nil, append_assoc, arith}
+use Rattle.std.specs.Prelude.{◌||◌, IfOk, IfErr, Result, Ok, Err}
+use Rattle.std.specs.List.{list_any}
 use Rattle.std.specs.Option.{option_map}
 use Rattle.std.proofs.lemmas.Bool.{eqb-true, eqb-false, leb-false, lt-ltb}
 use Rattle.std.proofs.lemmas.List.{map-append}
@@ -18,18 +18,16 @@ use Rattle.orca_meaning.specs.declared.lines.TextCause.{TextCause}
 use Rattle.orca_meaning.specs.declared.lines.TextCause.TheVariants.{LineTooLong, TooManyLines, BadOperand, BadNumber, Memory}
 use Rattle.orca_meaning.specs.declared.mnemonics.Mnemonic.{Mnemonic}
 use Rattle.orca_meaning.specs.declared.operators.Operands.TheVariants.{Labels}
-use Rattle.orca_meaning.specs.declared.operators.Operator as operators
-use Rattle.orca_meaning.specs.declared.operators.Sign as signs
 use Rattle.orca_meaning.specs.Token as token
-use Rattle.orca_meaning.specs.Formula.{Formula, Single, Group, Signed, Joined, tree_of, term_of, sign_code, operator_code, values_of, pending, is_large, has_large, MeansAt}
+use Rattle.orca_meaning.specs.Formula.{Formula, Single, Group, Signed, Joined, tree_of, sign_code, operator_code, pending, is_large, has_large, MeansAt}
 use Rattle.orca_meaning.specs.FormulaLaws.{one_tree, sign_has_one, operator_has_two}
-use Rattle.orca_meaning.specs.Operand.{Meaning, is_accumulator, opening, prefix, body, form_behind, plain_form, whole_index, IsOperand, IsMissing, IsInAccumulator, IsOne, IsTwo, values_here, AreShallow, IsGoodOperand, IsBadOperand, HasBadNumber, IsRefusedFor}
+use Rattle.orca_meaning.specs.Operand.{Meaning, is_accumulator, opening, prefix, body, form_behind, plain_form, whole_index, IsOperand, IsMissing, IsInAccumulator, IsOne, IsTwo, values_here, AreShallow, IsBadOperand, IsRefusedFor}
 use Rattle.orca_meaning.specs.OperandLaws.{one_operand}
 use Rattle.orca_text.specs.declared.operand.Operand.{Operand}
 use Rattle.orca_text.specs.FormulaAt.{IsFormulaAt, HasNoFormula}
-use Rattle.orca_text.specs.Kept.{kept_term, kept_terms, kept_number}
-use Rattle.orca_text.specs.OperandView.{IsWritten, IsRead, IsRefusedHere, IsSecond, HasNoSecond}
-use Rattle.orca_text.specs.Peak.{peak, now_behind, now_at}
+use Rattle.orca_text.specs.Kept.{kept_term, kept_terms}
+use Rattle.orca_text.specs.OperandView.{IsRead, IsRefusedHere, IsSecond, HasNoSecond}
+use Rattle.orca_text.specs.Peak.{peak}
 
 -- ---- pending values
 

@@ -1,6 +1,6 @@
 -- Lines with the fields of their own bytes.
-use Rattle.std.proofs.Common.{◌≡◌, ℕ, zero, suc, List, [], ◌∷◌, ◌++◌, slice_get, Some, None, refl, sym, ap, subst, ◌∙◌, length, ◌≤◌}
-use Rattle.orca_meaning.specs.Line.{Line, line_of, fields_of, HaveFields}
+use Rattle.std.proofs.Common.{◌≡◌, ℕ, zero, suc, List, [], ◌∷◌, ◌++◌, slice_get, Some, refl, subst, length, ◌≤◌}
+use Rattle.orca_meaning.specs.Line.{Line, line_of, HaveFields}
 use Rattle.orca_meaning.specs.LineLaws.{have_fields}
 use Rattle.orca_text.specs.OwnFields.{HasOwnFields, HaveOwnFields}
 

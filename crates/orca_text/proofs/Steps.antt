@@ -1,5 +1,5 @@
 -- What is closed, by what waits on top.
-use Rattle.std.proofs.Common.{◌≡◌, ℕ, ◌<◌, ◌≤◌, List, [], ◌∷◌, ◌++◌, Bool, true, false, Option, Some, None, map, refl, sym, ap, subst, ◌∙◌, arith}
+use Rattle.std.proofs.Common.{◌≡◌, ℕ, ◌<◌, ◌≤◌, List, [], ◌∷◌, ◌++◌, Bool, true, false, Some, None, map, refl, sym, ap, subst, ◌∙◌}
 use Rattle.std.specs.Prelude.{◌||◌}
 use Rattle.std.proofs.lemmas.Bool.{le-leb}
 use Rattle.std.proofs.lemmas.List.{map-append}
@@ -8,7 +8,7 @@ use Rattle.orca_meaning.specs.declared.operators.Operator as operators
 use Rattle.orca_meaning.specs.Formula.{operator_code, operator_level}
 use Rattle.orca_meaning.specs.declared.operators.Operands.{Operands}
 use Rattle.orca_meaning.specs.Token.{Between, Closes, operator_token_at}
-use Rattle.orca_meaning.specs.Machine.{Wait, Bracket, Pending, State, state, reduced, closed, step, ended}
+use Rattle.orca_meaning.specs.Machine.{Wait, Bracket, Pending, state, reduced, closed, step, ended}
 use Rattle.orca_meaning.specs.Complete.{stuck}
 use Rattle.orca_text.specs.declared.formula_term.FormulaTerm.{FormulaTerm}
 use Rattle.orca_text.specs.declared.formula_term.FormulaTerm.TheVariants as coded

@@ -1,5 +1,5 @@
 -- A formula read token by token is a formula of the text.
-use Rattle.std.proofs.Common.{◌≡◌, ℕ, ◌<◌, ◌≤◌, Bool, true, false, cond, ltb, leb, List, [], ◌∷◌, ◌++◌, length, map, Option, Some, None, refl, sym, ap, subst, ◌∙◌, append-nil, arith}
+use Rattle.std.proofs.Common.{◌≡◌, ℕ, Bool, true, false, cond, ltb, leb, List, [], ◌∷◌, ◌++◌, Some, None, refl, sym, ap, subst, ◌∙◌, append-nil}
 use Rattle.std.specs.Prelude.{◌||◌, ◌^◌}
 use Rattle.std.specs.List.{list_any}
 use Rattle.std.specs.Option.{option_or}
@@ -10,14 +10,13 @@ use Rattle.omf_format.specs.Expression as expression
 use Rattle.omf_format.specs.Expression.{Term, terms_of}
 use Rattle.orca_meaning.specs.declared.operators.Operands.{Operands}
 use Rattle.orca_meaning.specs.declared.operators.Operator as operators
-use Rattle.orca_meaning.specs.declared.operators.Sign as signs
-use Rattle.orca_meaning.specs.Token.{Found, seen_as, byte_at, operator_at, spelled_at, Operand, Here, Number, Label, LengthOf, CountOf, Token, Value, Before, Between, Opens, Closes, token_at, operand_token_at, operator_token_at, expects_behind, Stand}
-use Rattle.orca_meaning.specs.Formula.{Formula, tokens_of, tree_of, term_of, sign_code, operator_code, operator_level, is_large, has_large, StandsAt, MeansAt}
+use Rattle.orca_meaning.specs.Token.{Found, seen_as, byte_at, operator_at, spelled_at, Operand, Here, Number, Label, LengthOf, CountOf, Token, Value, Before, Between, Opens, Closes, token_at, operand_token_at, operator_token_at, Stand}
+use Rattle.orca_meaning.specs.Formula.{Formula, tokens_of, tree_of, term_of, sign_code, operator_code, operator_level, is_large}
 use Rattle.orca_meaning.specs.Machine.{Wait, Bracket, Pending, State, state, reduced, closed, step, run, ended, finish, start, postfix}
 use Rattle.orca_meaning.specs.Complete.{complete}
 use Rattle.orca_meaning.specs.Sound.{sound}
 use Rattle.orca_meaning.specs.Front.{expects_after, stand_push, run-push, run-fails, runs_expect, byte-found, Compared, Longer, Shorter, compared, Taken, taken, formula_ends}
-use Rattle.orca_text.specs.Kept.{kept_number, kept_operand, kept_value, kept_token, kept_term, kept_terms}
+use Rattle.orca_text.specs.Kept.{kept_number, kept_value, kept_token, kept_term, kept_terms}
 use Rattle.orca_text.specs.FormulaAt.{IsFormulaAt, HasNoFormula}
 use Rattle.orca_text.specs.Next.{Steps, Stops, NoToken, Unmatched, IsEnd, IsStuck, NoOperand, NotWhole}
 

@@ -1,5 +1,5 @@
 -- What reading one more token of a formula makes of the terms so far and what waits.
-use Rattle.std.specs.Prelude.{◌≡◌, ℕ, Bool, true, false, ◌||◌, List, Option, Some, None}
+use Rattle.std.specs.Prelude.{◌≡◌, ℕ, Bool, true, false, ◌||◌, List, Some, None}
 use Rattle.omf_format.specs.Expression.{Term}
 use Rattle.orca_meaning.specs.declared.operators.Operands.{Operands}
 use Rattle.orca_meaning.specs.Token.{Token, Closes, operator_token_at, operand_token_at, token_at}

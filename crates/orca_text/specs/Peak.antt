@@ -1,7 +1,6 @@
 -- The most values that are pending at once, counted term by term.
 use Rattle.std.specs.Prelude.{ℕ, ◌+◌, ◌-◌, max, List, [], ◌∷◌}
 use Rattle.omf_format.specs.Expression as expression
-use Rattle.orca_meaning.specs.Formula.{values_of}
 
 -- how many values are pending behind a term where so many are before it
 abbrev pub now_behind : ℕ → expression.Term → ℕ

@@ -18,5 +18,9 @@ pub use formula::{FormulaAt, formula_at};
 pub use formula_term::{Formula, FormulaTerm};
 pub use line::SourceLine;
 pub use lines::{Lines, read_lines};
+pub use operand::{Operand, read_operand};
 pub use operation::mnemonic_of;
 pub use orca_meaning::{Form, Mnemonic, OperandUse, Operands, Prefix, Span, TextCause, TextFault};
+
+#[cfg(test)]
+mod tests;

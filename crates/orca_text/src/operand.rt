@@ -1,6 +1,6 @@
 //! The operand of a line (WDC 65C816 data sheet, addressing modes; ORCA/M reference manual, "The operand field").
 
-ghost use Rattle.std.specs.Prelude.{◌≡◌, ◌≢◌, ◌∷◌, ◌+◌, ◌-◌, ◌<◌, ◌≤◌, ◌||◌, max, [], ℕ, length, map, true, false, Some, None, IfOk, IfErr, IfSome, IfNone};
+ghost use Rattle.std.specs.Prelude.{◌≡◌, ◌≢◌, ◌∷◌, ◌+◌, ◌-◌, ◌<◌, ◌≤◌, ◌||◌, max, [], ℕ, length, map, true, false, Some, None, IfOk, IfErr, IfSome, IfNone, IsTrue, ◌↔◌};
 ghost use Rattle.omf_format.specs.Expression.{operand_count};
 ghost use Rattle.orca_meaning.specs.Characters.{folded};
 ghost use Rattle.orca_meaning.specs.Line.{LiesIn};
@@ -74,6 +74,14 @@ fn most_pending(here: usize, terms: &[FormulaTerm]) -> usize
     most
 }
 
+/// Whether more than 64 values are pending at once in a formula.
+fn is_too_deep(here: usize, formula: &Formula) -> bool
+    requires { here ≤ 2 }
+    ensures { IsTrue result ↔ (64 < peak here 0 0 formula.now) }
+{
+    most_pending(here, formula.terms()) > 64
+}
+
 /// An operand with one formula, unless that is too deep or has a number that is too large.
 fn one_formula(
     here: usize,
@@ -86,7 +94,7 @@ fn one_formula(
         × (peak here 0 0 first.entry.formula ≤ 64) × (first.entry.large ≡ false)) }
     ensures refused { IfErr result (λ cause. IsRefusedHere cause (peak here 0 0 first.entry.formula) first.entry.large) }
 {
-    if most_pending(here, first.formula.terms()) > 64 {
+    if is_too_deep(here, &first.formula) {
         return Err(TextCause::BadOperand);
     }
     if first.large {
@@ -113,10 +121,7 @@ fn two_formulas(
     ensures refused { IfErr result (λ cause. IsRefusedHere cause (max (peak here 0 0 first.entry.formula) (peak here 0 0 second.entry.formula))
         (first.entry.large || second.entry.large)) }
 {
-    if most_pending(here, first.formula.terms()) > 64 {
-        return Err(TextCause::BadOperand);
-    }
-    if most_pending(here, second.formula.terms()) > 64 {
+    if is_too_deep(here, &first.formula) || is_too_deep(here, &second.formula) {
         return Err(TextCause::BadOperand);
     }
     if first.large || second.large {

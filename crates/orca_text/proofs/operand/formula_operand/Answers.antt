@@ -1,4 +1,3 @@
-use Rattle.std.proofs.Common.{sym}
 use Rattle.orca_text.proofs.OperandIs.{is_one, one_read, one_refused, is_two, two_read, two_refused, no_first, no_form, not_hash, not_round, not_square}
 use Rattle.orca_text.proofs.operand.formula_operand.Goals as goal
 

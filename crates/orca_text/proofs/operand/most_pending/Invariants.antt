@@ -1,4 +1,4 @@
-use Rattle.std.proofs.Common.{◌≡◌, ◌≤◌, ◌+◌, length, map, drop}
+use Rattle.std.proofs.Common.{◌≡◌, ◌≤◌, ◌+◌, map, drop}
 use Rattle.orca_text.specs.Peak.{peak}
 use Rattle.orca_text.specs.View.{term}
 use Rattle.orca_text.proofs.operand.most_pending.Given as goal

@@ -1,7 +1,4 @@
-use Rattle.std.proofs.Common.{◌≡◌, ◌<◌, ◌^◌, ◌+◌, ◌≤◌, length, drop, take, ℕ}
-use Rattle.std.specs.Char.{is_digit}
-use Rattle.std.specs.List.{prefix_len}
-use Rattle.std.specs.Str.Parse.{digits_value, digits_value_after}
+use Rattle.std.proofs.Common.{length}
 use Rattle.orca_text.proofs.Digits.{HasDigits}
 use Rattle.orca_text.proofs.tokens.digits_at.Given as goal
 

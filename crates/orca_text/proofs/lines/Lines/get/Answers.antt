@@ -1,4 +1,3 @@
-use Rattle.std.proofs.Common.{map}
 use Rattle.orca_text.specs.View.{line}
 use Rattle.orca_text.proofs.Own.{fields_at}
 use Rattle.orca_text.proofs.lines.Lines.get.Goals as goal
