@@ -6,4 +6,5 @@ pub mod Linked
 pub mod Readings
 pub mod Runs
 pub mod Completes
+pub mod Once
 pub mod Loadables

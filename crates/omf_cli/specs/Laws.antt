@@ -1,5 +1,5 @@
--- What the load file of a plain object file is, in the format's own words.
-use Rattle.std.specs.Prelude.{◌≡◌, ◌≢◌, ℕ, false, List, [], ◌∷◌, map}
+-- What the load file of a plain object file is, in the format's own words, and how often a run reads.
+use Rattle.std.specs.Prelude.{◌≡◌, ◌≢◌, ◌≤◌, ℕ, ◌+◌, ◌-◌, ◌^◌, false, List, [], ◌∷◌, length, map, Some}
 use Rattle.omf_format.specs.Header.{form_of, is_dynamic, is_skipped}
 use Rattle.omf_format.specs.HeaderLaws.{IsBytes}
 use Rattle.omf_format.specs.File.{Segment, IsFile}
@@ -7,6 +7,10 @@ use Rattle.omf_format.specs.Plain.{IsPlain, written, loaded_bytes, IsLinkedTo, I
 use Rattle.omf_format.specs.Cells.{Byte, cells}
 use Rattle.omf_format.specs.Loadable.{IsLoadable}
 use Rattle.loader_machine.specs.Machine.{CanLoad}
+use Rattle.omf_io.specs.Outside.{Outside}
+use Rattle.omf_cli.specs.declared.status.Status.TheVariants.{CannotRead, CannotWrite}
+use Rattle.omf_cli.specs.Form.{Link, Run}
+use Rattle.omf_cli.specs.Tool.{HasRun}
 
 -- the load file of plain members is a file of one segment: it has the stated fields, and in memory the members' bytes in order and the zeros behind them, LENGTH in all
 abbrev pub WrittenIsLoadFile : Type 0
@@ -24,3 +28,13 @@ pub record IsLoadOf (segments : List Segment) (output : List ℕ) : Type 0 where
 -- what a plain object file is linked to is loadable, and stands for the linked bytes
 abbrev pub LinkedIsLoadable : Type 0
 LinkedIsLoadable = (file output : List ℕ) → IsBytes file → (linked : IsLinkedTo file output) → IsLoadOf linked.segments output
+
+-- where an output couldn't be written, the store was asked for each input once, and for nothing else
+abbrev pub OutputsAreAskedForOnce : Type 0
+OutputsAreAskedForOnce = (output : List ℕ) (inputs : List (List ℕ)) (o : Outside) → o.store.asked + length inputs ≤ 2 ^ 64 - 1
+    → HasRun CannotWrite (Some (Link output inputs)) o → o.new_store.asked ≡ o.store.asked + length inputs
+
+-- where a script couldn't be read, the store was asked for no more than the script
+abbrev pub ScriptsAreAskedForOnce : Type 0
+ScriptsAreAskedForOnce = (inputs : List (List ℕ)) (o : Outside) → o.store.asked + length inputs ≤ 2 ^ 64 - 1
+    → HasRun CannotRead (Some (Run inputs)) o → o.new_store.asked ≤ o.store.asked + length inputs

@@ -16,6 +16,6 @@ mod script;
 mod status;
 mod tool;
 
-pub use laws::{linked_is_loadable, written_is_a_load_file};
+pub use laws::{inputs_are_asked_for_once, linked_is_loadable, written_is_a_load_file};
 pub use status::Status;
 pub use tool::run_tool;
