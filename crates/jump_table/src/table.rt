@@ -54,6 +54,7 @@ impl Model for Table {
 }
 
 // The entry of a target, as it stands in a file.
+#[tactic(auto, unfolding(omf_format::specs::Table::entry_bytes))]
 fn put_entry(out: &mut Vec<u8>, target: &Target) -> Result<(), AllocError>
     ensures { OnOk result (out.new.items ≡ out.old.items ++ entry_bytes (file_entry target.now)) }
 {
@@ -153,6 +154,7 @@ impl Table {
     }
 
     // The zeros and the entries.
+    #[tactic(auto, unfolding(omf_format::specs::Table::table_bytes))]
     fn written(&self, alloc: Global) -> Result<Vec<u8>, TableFault>
         ensures bytes { IfOk result (λ bytes. bytes.items ≡ table_bytes (map file_entry self.now)) }
         ensures fit { All FitsTarget self.now }
