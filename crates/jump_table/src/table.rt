@@ -1,6 +1,6 @@
 //! The table that a linker makes.
 
-ghost use Rattle.std.specs.Prelude.{All, ◌≡◌, ◌↔◌, ◌+◌, ◌<◌, ◌≤◌, ◌*◌, ◌++◌, ◌∷◌, [], ℕ, IfOk, IfSome, IfNone, is_some, OnOk, OnErr, IsOk, IsErrOf, length, map};
+ghost use Rattle.std.specs.Prelude.{All, ◌≡◌, ◌↔◌, ◌+◌, ◌<◌, ◌≤◌, ◌*◌, ◌++◌, ◌∷◌, [], ℕ, IfOk, IfErr, IfSome, IfNone, is_some, OnOk, OnErr, IsOk, IsErrOf, length, map};
 ghost use Rattle.std.specs.List.{list_any};
 ghost use Rattle.omf_format.specs.Table.{entry_bytes, table_bytes, file_entry, IsTableOf};
 
@@ -149,6 +149,7 @@ impl Table {
     pub fn segment_bytes(&self, alloc: Global) -> Result<Vec<u8>, TableFault>
         ensures bytes { IfOk result (λ bytes. bytes.items ≡ table_bytes (map file_entry self.now)) }
         ensures laid_out { IfOk result (λ bytes. IsTableOf (map file_entry self.now) bytes.items) }
+        ensures memory_alone { IfErr result (λ fault. fault ≡ TableFault.Memory) }
     {
         self.written(alloc)
     }
@@ -157,6 +158,7 @@ impl Table {
     #[tactic(auto, unfolding(omf_format::specs::Table::table_bytes))]
     fn written(&self, alloc: Global) -> Result<Vec<u8>, TableFault>
         ensures bytes { IfOk result (λ bytes. bytes.items ≡ table_bytes (map file_entry self.now)) }
+        ensures memory_alone { IfErr result (λ fault. fault ≡ TableFault.Memory) }
         ensures fit { All FitsTarget self.now }
     {
         let mut bytes = Vec::with_capacity(alloc, 12 + 14 * self.targets.len())?;
