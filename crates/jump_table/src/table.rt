@@ -1,6 +1,6 @@
 //! The table that a linker makes.
 
-ghost use Rattle.std.specs.Prelude.{All, ◌≡◌, ◌↔◌, ◌+◌, ◌<◌, ◌≤◌, ◌*◌, ◌++◌, ◌∷◌, [], ℕ, IfOk, IfSome, IfNone, is_some, OnOk, OnErr, IsOk, IsErrOf, length, map};
+ghost use Rattle.std.specs.Prelude.{All, ◌≡◌, ◌↔◌, ◌+◌, ◌<◌, ◌≤◌, ◌*◌, ◌++◌, ◌∷◌, [], ℕ, IfOk, IfErr, IfSome, IfNone, is_some, OnOk, OnErr, IsOk, IsErrOf, length, map};
 ghost use Rattle.std.specs.List.{list_any};
 ghost use Rattle.omf_format.specs.Table.{entry_bytes, table_bytes, file_entry, IsTableOf};
 
@@ -54,6 +54,7 @@ impl Model for Table {
 }
 
 // The entry of a target, as it stands in a file.
+#[tactic(auto, unfolding(omf_format::specs::Table::entry_bytes))]
 fn put_entry(out: &mut Vec<u8>, target: &Target) -> Result<(), AllocError>
     ensures { OnOk result (out.new.items ≡ out.old.items ++ entry_bytes (file_entry target.now)) }
 {
@@ -148,13 +149,16 @@ impl Table {
     pub fn segment_bytes(&self, alloc: Global) -> Result<Vec<u8>, TableFault>
         ensures bytes { IfOk result (λ bytes. bytes.items ≡ table_bytes (map file_entry self.now)) }
         ensures laid_out { IfOk result (λ bytes. IsTableOf (map file_entry self.now) bytes.items) }
+        ensures memory_alone { IfErr result (λ fault. fault ≡ TableFault.Memory) }
     {
         self.written(alloc)
     }
 
     // The zeros and the entries.
+    #[tactic(auto, unfolding(omf_format::specs::Table::table_bytes))]
     fn written(&self, alloc: Global) -> Result<Vec<u8>, TableFault>
         ensures bytes { IfOk result (λ bytes. bytes.items ≡ table_bytes (map file_entry self.now)) }
+        ensures memory_alone { IfErr result (λ fault. fault ≡ TableFault.Memory) }
         ensures fit { All FitsTarget self.now }
     {
         let mut bytes = Vec::with_capacity(alloc, 12 + 14 * self.targets.len())?;

@@ -68,7 +68,7 @@ pub record FitsEntry (entry : Entry) : Type 0 where
   pub loaded : IfSome entry.loaded (λ address. address < 2 ^ 24)
 
 -- the bytes of an entry
-abbrev pub entry_bytes : Entry → List ℕ
+unfoldable pub entry_bytes : Entry → List ℕ
 entry_bytes entry = little_bytes 2 entry.user ++ little_bytes 2 entry.file ++ little_bytes 2 entry.segment ++ little_bytes 4 entry.offset
     ++ code_bytes entry.loaded
 
@@ -86,7 +86,7 @@ pub record IsTableOf (entries : List Entry) (bytes : List ℕ) : Type 0 where
   pub back : drop (8 + 14 * length entries) bytes ≡ replicate 4 0
 
 -- the bytes of a table
-abbrev pub table_bytes : List Entry → List ℕ
+unfoldable pub table_bytes : List Entry → List ℕ
 table_bytes entries = replicate 8 0 ++ flat_map entry_bytes entries ++ replicate 4 0
 
 -- ---- changes

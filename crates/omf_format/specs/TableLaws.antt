@@ -102,12 +102,13 @@ length-code_bytes None = refl
 length-code_bytes (Some address) = refl
 
 pub length-entry_bytes : (entry : Entry) → length (entry_bytes entry) ≡ 14
+unfolding entry_bytes
 length-entry_bytes entry = omega (arith, length-code_bytes entry.loaded)
 
 -- the bytes of an entry are that entry
 pub has_entry : (entry : Entry) (at : ℕ) (bytes : List ℕ) → FitsEntry entry → at + 14 ≤ length bytes
     → HasPiece at (entry_bytes entry) bytes → IsEntryAt entry at bytes
-unfolding number_at
+unfolding number_at entry_bytes
 has_entry entry at bytes fits inside has =
     let long : length (entry_bytes entry) ≡ 14 = length-entry_bytes entry in
     record {
@@ -211,6 +212,7 @@ regroup z b e a s = simp append_assoc
 
 -- the bytes of a table are that table
 pub table_laid_out : (entries : List Entry) → ((k : ℕ) (entry : Entry) → slice_get entries k ≡ Some entry → FitsEntry entry) → IsTableOf entries (table_bytes entries)
+unfolding table_bytes
 table_laid_out entries fits = record {
   size = size;
   front = refl;
