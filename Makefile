@@ -1,10 +1,12 @@
-# make         builds the program to build/omf
-# make demo    builds it, and runs the main job on real files
-# make test    proves everything and runs every test
+# make         proves the program and builds it to build/omf; it says how far it is
+# make demo    the same, and then runs the main job on real files
+# make try     runs the demo's commands on an unproved build, in a minute or two
+# make test    the gate: proves everything, tries each must-fail edit, and runs every test and example
+# make times   the gate from nothing, and what each crate costs it
 # make bench   measures the program's speed
 # make refuse  runs the examples with each allocation refused in turn
 
-.PHONY: build demo test bench refuse
+.PHONY: build demo try test times bench refuse
 
 build:
 	tools/build
@@ -12,10 +14,16 @@ build:
 demo: build
 	examples/demo
 
+try:
+	tools/try
+
 test:
-	rt ci
-	$(MAKE) build
-	examples/run build/omf
+	.ci/run
+
+times:
+	mkdir -p build
+	tools/gate-times watch build/gate.log rt ci --anew
+	tools/gate-times build/gate.log
 
 bench: build
 	bench/run build/omf

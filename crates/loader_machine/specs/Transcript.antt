@@ -1,9 +1,9 @@
 -- Whole scripts: the replies to a list of commands.
-use Rattle.std.specs.Prelude.{◌≡◌, ◌⊎◌, ℕ, ◌+◌, ◌≤◌, List, [], ◌∷◌, IsSome}
+use Rattle.std.specs.Prelude.{◌≡◌, ◌⊎◌, ℕ, ◌+◌, List, [], ◌∷◌, IsSome}
 use Rattle.omf_io.specs.Files.{FileMap}
 use Rattle.loader_machine.specs.declared.faults.LoaderFault.TheVariants.{CannotRead}
 use Rattle.loader_machine.specs.Command.{Command}
-use Rattle.loader_machine.specs.Machine.{Machine, empty}
+use Rattle.loader_machine.specs.Machine.{Machine}
 use Rattle.loader_machine.specs.Step.{Reply, Refused, Steps, reads}
 
 -- a command is answered: by its step's reply; or, where it reads a file, also by `cannot read`, which leaves the state. The
@@ -22,10 +22,3 @@ AreAnswered held state (command ∷ commands) [] others last = ⊥
 AreAnswered held state (command ∷ commands) (reply ∷ replies) others last =
     (here : ℕ) × (later : ℕ) × (next : Machine) × IsAnswered held state command reply here next
     × AreAnswered held next commands replies later last × (others ≡ here + later)
-
--- the replies to the commands from the empty state on; at most so many are `cannot read` in the place of the step's reply
-pub record Trans (held : FileMap) (commands : List Command) (replies : List Reply) (most : ℕ) : Type 0 where
-  pub others : ℕ
-  pub last : Machine
-  pub answered : AreAnswered held (empty []) commands replies others last
-  pub bound : others ≤ most

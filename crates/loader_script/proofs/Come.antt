@@ -1,13 +1,10 @@
 -- How far the reader of a script has come.
-use Rattle.std.proofs.Common.{◌≡◌, ℕ, ◌+◌, ◌≤◌, List, [], ◌∷◌, ◌++◌, length, append_assoc, refl, sym, ap, subst, ◌∙◌, arith}
+use Rattle.std.proofs.Common.{◌≡◌, ℕ, ◌+◌, List, [], ◌∷◌, ◌++◌, length, append_assoc, sym, ap, subst, ◌∙◌, arith}
 use Rattle.std.proofs.lemmas.List.{length-append, append-nil}
-use Rattle.loader_machine.specs.declared.script.ScriptCause.{ScriptCause}
-use Rattle.loader_machine.specs.declared.script.ScriptCause.TheVariants.{TooManyLines, BadWord, UnknownCommand, BanksFirst, WrongCount, BadNumber, BankTwice, Memory}
 use Rattle.loader_machine.specs.Command.{Command}
-use Rattle.loader_machine.specs.Script.{lines_of, AreGood, IsScript, IsBad, IsFirstBadLine, is_start}
-use Rattle.loader_machine.specs.ScriptLaws.{AreGood-nil, AreGood-push, AreGood-push_skipped, lines_of-nil}
-use Rattle.loader_script.specs.Lines.{HasTaken, Skipped, Gave, IsBadFor}
-use Rattle.loader_script.specs.View.{IsRefusedFor, line_for}
+use Rattle.loader_machine.specs.Script.{lines_of, AreGood, IsScript}
+use Rattle.loader_machine.specs.ScriptLaws.{AreGood-push, AreGood-push_skipped, lines_of-nil}
+use Rattle.loader_script.specs.Lines.{HasTaken, Skipped, Gave}
 
 -- so many lines were read, none is bad, they gave these commands, and this text is left
 pub record HasCome (text rest : List ℕ) (before : ℕ) (commands : List Command) : Type 0 where
@@ -15,13 +12,6 @@ pub record HasCome (text rest : List ℕ) (before : ℕ) (commands : List Comman
   pub lines : lines_of text ≡ done ++ lines_of rest
   pub count : before ≡ length done
   pub good : AreGood done commands
-
-pub come_nowhere : (text : List ℕ) → HasCome text text 0 []
-come_nowhere text = record { done = []; lines = refl; count = refl; good = AreGood-nil }
-
--- there are few lines
-pub come_few : (text rest : List ℕ) (before : ℕ) (commands : List Command) → HasCome text rest before commands → before ≤ 65536
-come_few text rest before commands come = omega (arith, come.count, come.good.few)
 
 lines_on : (text rest line behind : List ℕ) (done : List (List ℕ)) → lines_of text ≡ done ++ lines_of rest
     → lines_of rest ≡ line ∷ lines_of behind → lines_of text ≡ (done ++ line ∷ []) ++ lines_of behind
@@ -52,28 +42,3 @@ come_through text [] before commands come none =
     let all : come.done ≡ lines_of text = sym (come.lines ∙ ap (λ (l : List (List ℕ)). come.done ++ l) lines_of-nil ∙ append-nil come.done) in
     subst (λ (lines : List (List ℕ)). AreGood lines commands) all come.good
 come_through text (byte ∷ rest) before commands come none = absurd (omega arith)
-
-first_bad : (text rest line behind : List ℕ) (before : ℕ) (commands : List Command) (cause : ScriptCause) → HasCome text rest before commands
-    → lines_of rest ≡ line ∷ lines_of behind → IsBad before (is_start commands) line cause → IsFirstBadLine text (before + 1) cause
-first_bad text rest line behind before commands cause come more bad = record {
-  before = come.done;
-  line = line;
-  behind = lines_of behind;
-  lines = come.lines ∙ ap (λ (l : List (List ℕ)). come.done ++ l) more;
-  number_is = omega (arith, come.count);
-  commands = commands;
-  good = come.good;
-  bad = subst (λ (n : ℕ). IsBad n (is_start commands) line cause) come.count bad;
-}
-
--- the next line is bad
-pub come_to_bad : (text rest line behind : List ℕ) (before : ℕ) (commands : List Command) (cause : ScriptCause) → HasCome text rest before commands
-    → lines_of rest ≡ line ∷ lines_of behind → IsBadFor before (is_start commands) line cause → IsRefusedFor cause (line_for cause (before + 1)) text
-come_to_bad text rest line behind before commands TooManyLines come more bad = first_bad text rest line behind before commands TooManyLines come more bad
-come_to_bad text rest line behind before commands BadWord come more bad = first_bad text rest line behind before commands BadWord come more bad
-come_to_bad text rest line behind before commands UnknownCommand come more bad = first_bad text rest line behind before commands UnknownCommand come more bad
-come_to_bad text rest line behind before commands BanksFirst come more bad = first_bad text rest line behind before commands BanksFirst come more bad
-come_to_bad text rest line behind before commands WrongCount come more bad = first_bad text rest line behind before commands WrongCount come more bad
-come_to_bad text rest line behind before commands BadNumber come more bad = first_bad text rest line behind before commands BadNumber come more bad
-come_to_bad text rest line behind before commands BankTwice come more bad = first_bad text rest line behind before commands BankTwice come more bad
-come_to_bad text rest line behind before commands Memory come more bad = refl

@@ -5,3 +5,7 @@ pub mod BankNumbers
 pub mod Counts
 pub mod Come
 pub mod JoinedWords
+pub mod Ends
+pub mod Transcripts
+pub mod ScriptWords
+pub mod UnderWay

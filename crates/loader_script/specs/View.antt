@@ -1,10 +1,10 @@
 -- How commands, their causes and faults are seen.
-use Rattle.std.specs.Prelude.{◌≡◌, ◌≢◌, ℕ, List, refl, Result, Ok, Err}
+use Rattle.std.specs.Prelude.{◌≡◌, ℕ, List, Result, Ok, Err}
 use Rattle.loader_machine.specs.declared.script.ScriptCause.{ScriptCause}
 use Rattle.loader_machine.specs.declared.script.ScriptCause.TheVariants.{TooManyLines, BadWord, UnknownCommand, BanksFirst, WrongCount, BadNumber, BankTwice, Memory}
 use Rattle.loader_machine.specs.declared.script.ScriptFault.{ScriptFault}
 use Rattle.loader_machine.specs.Command as machine
-use Rattle.loader_machine.specs.Script.{IsFirstBadLine, HasScriptFault}
+use Rattle.loader_machine.specs.Script.{IsFirstBadLine}
 use Rattle.loader_script.specs.declared.command.Command.{Command}
 use Rattle.loader_script.specs.declared.command.Command.TheVariants.{Banks, Load, Bytes}
 
@@ -43,20 +43,6 @@ IsRefusedFor Memory line text = line ≡ 0
 
 abbrev pub IsRefused : ScriptFault → List ℕ → Type 0
 IsRefused fault text = IsRefusedFor fault.cause fault.line text
-
--- a refusal for another cause than want of memory is the text's fault
-pub HasScriptFault-from_refused : (fault : ScriptFault) (text : List ℕ) → IsRefused fault text → fault.cause ≢ Memory → HasScriptFault text fault
-HasScriptFault-from_refused fault text refused other = by_cause fault.cause refused other
-  where
-    by_cause : (cause : ScriptCause) → IsRefusedFor cause fault.line text → cause ≢ Memory → IsFirstBadLine text fault.line cause
-    by_cause TooManyLines is other = is
-    by_cause BadWord is other = is
-    by_cause UnknownCommand is other = is
-    by_cause BanksFirst is other = is
-    by_cause WrongCount is other = is
-    by_cause BadNumber is other = is
-    by_cause BankTwice is other = is
-    by_cause Memory is other = absurd (other refl)
 
 -- the line that a fault for this cause has
 abbrev pub line_for : ScriptCause → ℕ → ℕ

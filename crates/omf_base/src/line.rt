@@ -56,6 +56,13 @@ impl Line {
         self.bytes.as_slice()
     }
 
+    /// The bytes of the line so far, handed out. They aren't copied.
+    pub fn into_bytes(self) -> Vec<u8>
+        ensures { result.items ≡ self }
+    {
+        self.bytes
+    }
+
     /// Appends bytes as they are.
     pub fn put(&mut self, piece: &[u8]) -> Result<(), LineFault>
         ensures ok { OnOk result (self.new ≡ self.old ++ piece.now) }

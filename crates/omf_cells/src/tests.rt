@@ -153,32 +153,49 @@ fn data_is_written_as_a_whole(rt: HostRuntime) -> Result<(), Fail> {
     Ok(())
 }
 
-/// The fault of two such segments, of which the first has in the place of its LCONST an ENTRY of the name A for an offset
-/// in a segment, with bytes changed at displacements.
+/// Where the second segment stands behind one that has an ENTRY.
+const BEHIND: usize = 65;
+
+/// The fault of two such segments with bytes changed at displacements. The first one has an ENTRY of the name A in the place
+/// of its LCONST, for an offset in a segment.
 fn fault_of_entry(
     alloc: Global,
     segment: u8,
     offset: u8,
     changes: &[(usize, u8)],
 ) -> Option<LoadFault> {
-    let entry = [0xF4, segment, 0, offset, 0, 0, 0, 1, 0x41];
-    let mut bytes = [0; 128];
+    let mut bytes = [0; 129];
     bytes[..0x37].copy_from_slice(&ONE[..0x37]);
-    bytes[0x37..SECOND].copy_from_slice(&entry);
-    bytes[SECOND..].copy_from_slice(&ONE);
-    bytes[SECOND + 0x22] = 2;
+    bytes[0x37..BEHIND].copy_from_slice(&[0xF4, segment, 0, offset, 0, 0, 0, 1, 0x41, 0]);
+    bytes[BEHIND..].copy_from_slice(&ONE);
+    put(&mut bytes, &[(0x00, 65), (BEHIND + 0x22, 2)]);
     put(&mut bytes, changes);
     read_load(alloc, &bytes).err()
 }
 
 #[test]
 fn entries_name_places(rt: HostRuntime) {
-    // BYTECNT leaves room for the END of the second segment's LCONST, so the first segment's END is put in front of it.
     let alloc = rt.alloc();
     let none = fault(LoadCause::NoSuchTarget, 1, 0x37);
-    let _ = none;
-    assert_eq!(rt;
-        fault_of_entry(alloc, 1, 0, &[]),
-        fault(LoadCause::Truncated, 1, 64)
-    );
+
+    // Each segment has 8 bytes. A dynamic one is named like another, and a skipped one isn't.
+    let skipped = [(BEHIND + 0x15, 0x02)];
+    let dynamic = [(BEHIND + 0x15, 0x80)];
+    for (segment, offset, changes, want) in [
+        (1, 7, &[] as &[(usize, u8)], None),
+        (2, 7, &[], None),
+        (1, 8, &[], none),
+        (2, 8, &[], none),
+        (0, 0, &[], none),
+        (3, 0, &[], none),
+        (2, 0, &skipped, none),
+        (2, 0, &dynamic, None),
+        (1, 0, &[(0x15, 0x02)], none),
+    ] {
+        assert_eq!(rt; fault_of_entry(alloc, segment, offset, changes), want);
+    }
+
+    // The numbers of all segments come before the places.
+    let number = fault_of_entry(alloc, 3, 0, &[(BEHIND + 0x22, 1)]);
+    assert_eq!(rt; number, fault(LoadCause::Sequence, 2, 65));
 }

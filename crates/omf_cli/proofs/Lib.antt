@@ -3,9 +3,7 @@ pub mod MemberBodies
 pub mod MemberLists
 pub mod Ends
 pub mod Linked
-pub mod FewWords
+pub mod Readings
 pub mod Runs
-pub mod Scripts
-pub mod UnderWay
-pub mod ScriptWords
+pub mod Completes
 pub mod Loadables

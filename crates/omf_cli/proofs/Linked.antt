@@ -11,7 +11,7 @@ use Rattle.omf_format.specs.FileLaws.{no_file}
 use Rattle.omf_format.specs.Plain.{IsPlain, least_bank, loaded_bytes, load_fields, written}
 use Rattle.omf_format.specs.PlainLaws.{each_bank, least-le, length-loaded}
 use Rattle.omf_records.specs.Segments.{IsPlaced, UnlessMemory, IsRefused}
-use Rattle.omf_cli.specs.Link.{IsNotLinked, unlinked}
+use Rattle.omf_cli.specs.Plain.{IsNotLinked, unlinked}
 use Rattle.omf_cli.specs.LoadFile.{load_file_of}
 use Rattle.omf_cli.specs.Members.{HasMembers}
 

@@ -81,9 +81,6 @@ pub record PlainSoFar (segments : List Segment) (k total bank : ℕ) : Type 0 wh
   pub total' : total ≡ total_length (take k segments)
   pub bank' : bank ≡ least_bank (take k segments)
 
-pub plain_none : (segments : List Segment) → PlainSoFar segments 0 0 0
-plain_none segments = record { each = tt; one_name = tt; total' = refl; bank' = refl }
-
 pub plain_more : (segments : List Segment) (k total bank : ℕ) (s : Segment) (length' bank_size : ℕ) → PlainSoFar segments k total bank → slice_get segments k ≡ Some s → IsPlainSegment s → s.fields.load_name ≡ first_name segments
     → length' ≡ s.fields.length → bank_size ≡ s.fields.bank_size → PlainSoFar segments (k + 1) (total + length') (lesser_bank bank bank_size)
 plain_more segments k total bank s length' bank_size so_far found plain name len size =
@@ -220,6 +217,3 @@ loaded_more segments k s found =
     ap (λ (l : List ℕ). flat_map memory_bytes (take k segments) ++ l) (sym (append-nil (memory_bytes s)))
     ∙ sym (flat_map-append memory_bytes (take k segments) (s ∷ []))
     ∙ ap (λ (l : List Segment). flat_map memory_bytes l) (sym (take-found segments k s found))
-
-pub loaded_all : (segments : List Segment) (k : ℕ) → length segments ≤ k → loaded_bytes (take k segments) ≡ loaded_bytes segments
-loaded_all segments k past = ap loaded_bytes (take_all k segments past)

@@ -1,7 +1,8 @@
 -- The lines that the tool prints, each with its line end.
-use Rattle.std.specs.Prelude.{ℕ, List, ◌++◌, codes}
+use Rattle.std.specs.Prelude.{ℕ, List, [], ◌++◌, codes, Option, None, Some}
 use Rattle.omf_base.specs.Digits.{decimal, hexadecimal}
 use Rattle.omf_base.specs.Lines.{line}
+use Rattle.omf_listing.specs.Listing.{name_text}
 
 abbrev pub usage_line : List ℕ
 usage_line = line (codes "usage: omf asm, link, lib, dump, run or stress")
@@ -12,7 +13,17 @@ cannot_read_line path = line (codes "cannot read " ++ path)
 abbrev pub cannot_write_line : List ℕ → List ℕ
 cannot_write_line path = line (codes "cannot write " ++ path)
 
--- a cause with its spot: the file and the segment in decimal, and the displacement in eight hexadecimal digits
-abbrev pub refused_line : List ℕ → ℕ → ℕ → ℕ → List ℕ
-refused_line cause file segment at =
-    line (codes "refused " ++ cause ++ codes " " ++ decimal file ++ codes " " ++ decimal segment ++ codes " " ++ hexadecimal 8 at)
+-- a name behind a space, if there is one
+abbrev pub with_name : Option (List ℕ) → List ℕ
+with_name None = []
+with_name (Some name) = name_text name
+
+-- a cause, its name, if it has one, and its spot: the file and the segment in decimal, and the displacement in eight hexadecimal
+-- digits
+abbrev pub refused_line : List ℕ → Option (List ℕ) → ℕ → ℕ → ℕ → List ℕ
+refused_line cause name file segment at =
+    line (codes "refused " ++ cause ++ with_name name ++ codes " " ++ decimal file ++ codes " " ++ decimal segment ++ codes " " ++ hexadecimal 8 at)
+
+-- a cause against a script, with the line's number in decimal
+abbrev pub script_line : List ℕ → ℕ → List ℕ
+script_line cause number = line (codes "refused " ++ cause ++ codes " " ++ decimal number)

@@ -2,18 +2,19 @@
 #![tactic(auto)]
 
 mod content;
-mod ending;
-mod files;
+mod dump;
+mod form;
 mod laws;
 mod link;
 mod load_file;
+mod making;
 mod members;
+mod plain;
 mod printing;
-mod replies;
-mod run;
+mod reading;
+mod script;
 mod status;
 mod tool;
-mod words;
 
 pub use laws::{linked_is_loadable, written_is_a_load_file};
 pub use status::Status;

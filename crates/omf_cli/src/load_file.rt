@@ -7,7 +7,7 @@ ghost use Rattle.omf_format.specs.Plain.{written_body, cleared};
 ghost use Rattle.omf_header.specs.View.{fields};
 ghost use Rattle.omf_cli.specs.LoadFile.{header_of, load_file_of};
 
-use crate::link::LinkFault;
+use crate::plain::LinkFault;
 use omf_base::{Name, NameFault, without_trailing};
 use omf_header::{Header, Kind, WriteHeaderFault, write_header};
 use omf_records::{PutFault, Rec, put_record};

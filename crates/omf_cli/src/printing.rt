@@ -1,11 +1,12 @@
 //! The lines that the tool prints.
 
-ghost use Rattle.std.specs.Prelude.{◌≡◌, ◌++◌, IfOk};
+ghost use Rattle.std.specs.Prelude.{◌≡◌, ◌++◌, IfOk, OnOk};
+ghost use Rattle.std.specs.Option.{option_map};
 ghost use Rattle.omf_base.specs.Lines.{line};
-ghost use Rattle.omf_cli.specs.Lines.{usage_line, refused_line};
+ghost use Rattle.omf_cli.specs.Lines.{usage_line, with_name, refused_line, script_line};
 ghost use Rattle.omf_cli.specs.FileCauses.{cause_name};
-ghost use Rattle.omf_cli.specs.Run.{script_cause_name, script_line};
-ghost use Rattle.omf_cli.specs.Ending.{HasPrinted, IsPrinted};
+ghost use Rattle.omf_cli.specs.ScriptCauses.{script_cause_name};
+ghost use Rattle.omf_cli.specs.Printing.{IsPut, IsPrinted};
 
 use crate::status::Status;
 use loader_script::ScriptCause;
@@ -35,13 +36,29 @@ pub fn path_line(alloc: Global, what: &str, path: &str) -> Result<Line, LineFaul
     Ok(line)
 }
 
-/// The line that says why an input is refused, and where.
-pub fn refused_line(alloc: Global, cause: &str, spot: Spot) -> Result<Line, LineFault>
-    ensures { IfOk result (λ text. text ≡ refused_line cause.now spot.file spot.segment spot.at) }
+/// Appends a name behind a space, if there is one.
+fn put_name(line: &mut Line, name: Option<&[u8]>) -> Result<(), LineFault>
+    ensures { OnOk result (line.new ≡ line.old ++ with_name (option_map (λ bytes. bytes.now) name.entry)) }
+{
+    match name {
+        Some(name) => omf_listing::put_name(line, name),
+        None => Ok(()),
+    }
+}
+
+/// The line that says why an input is refused, by which name, if one is to blame, and where.
+pub fn refused_line(
+    alloc: Global,
+    cause: &str,
+    name: Option<&[u8]>,
+    spot: Spot,
+) -> Result<Line, LineFault>
+    ensures { IfOk result (λ text. text ≡ refused_line cause.now (option_map (λ bytes. bytes.now) name.entry) spot.file spot.segment spot.at) }
 {
     let mut line = Line::new(alloc);
     line.text("refused ")?;
     line.text(cause)?;
+    put_name(&mut line, name)?;
     line.text(" ")?;
     line.dec(spot.file)?;
     line.text(" ")?;
@@ -95,8 +112,8 @@ pub fn script_cause_name(cause: ScriptCause) -> &'static str
 }
 
 /// Prints a text, and answers the wanted status, or that of what went wrong.
-fn put<S: Sink>(text: &[u8], wanted: Status, out: &mut S) -> Status
-    ensures { HasPrinted text.now wanted result (S.written out.old) (S.written out.new) (S.faults out.old) (S.faults out.new) }
+pub fn put<S: Sink>(text: &[u8], wanted: Status, out: &mut S) -> Status
+    ensures { IsPut text.now wanted result (S.seen out.old) (S.seen out.new) }
 {
     match out.put(text) {
         Ok(()) => wanted,
@@ -107,7 +124,7 @@ fn put<S: Sink>(text: &[u8], wanted: Status, out: &mut S) -> Status
 
 /// Prints a line for which memory may have been missing.
 pub fn print<S: Sink>(line: Result<Line, LineFault>, wanted: Status, out: &mut S) -> Status
-    ensures { IsPrinted line wanted result (S.written out.old) (S.written out.new) (S.faults out.old) (S.faults out.new) }
+    ensures { IsPrinted line wanted result (S.seen out.old) (S.seen out.new) }
 {
     match line {
         Ok(line) => put(line.bytes(), wanted, out),

@@ -265,3 +265,21 @@ fn terms_are_written(rt: HostRuntime) -> Result<(), Fail> {
     }
     Ok(())
 }
+
+#[test]
+fn terms_come_with_their_displacements(rt: HostRuntime) -> Result<(), Fail> {
+    let expr = Expr::of(b"\x80\x83A \x81\x05\0\0\0\x01\x02\0", 2)?;
+    let mut terms = expr.terms();
+    for want in [
+        (0, Term::Location),
+        (1, Term::Named(0x83, b"A")),
+        (4, Term::Constant(5)),
+        (9, Term::Operator(0x01)),
+        (10, Term::Operator(0x02)),
+    ] {
+        assert_eq!(rt; terms.next(), Some(want));
+    }
+    assert_eq!(rt; terms.next(), None);
+    assert_eq!(rt; terms.next(), None);
+    Ok(())
+}

@@ -1,11 +1,16 @@
 -- Counts of failures, and objects that tell what they hold or don't.
-use Rattle.std.specs.Prelude.{◌≡◌, ℕ, ◌+◌, ◌-◌, ◌^◌, ◌≤◌, List, ◌++◌, min, Option, None, Some}
+use Rattle.std.specs.Prelude.{◌≡◌, ℕ, ◌+◌, ◌-◌, ◌^◌, ◌≤◌, List, ◌++◌, min, zero, suc, Option, None, Some}
 
 -- one more, up to 2^64 - 1, where a count stands still
 abbrev pub one_more : ℕ → ℕ
 one_more count = min (count + 1) (2 ^ 64 - 1)
 
--- the count rose in a call, or stands still at its end
+-- so many more, up to 2^64 - 1
+abbrev pub risen : ℕ → ℕ → ℕ
+risen zero count = count
+risen (suc more) count = one_more (risen more count)
+
+-- the count rose, or stands still at its end
 abbrev pub Rose : ℕ → ℕ → Type 0
 Rose before now = one_more before ≤ now
 

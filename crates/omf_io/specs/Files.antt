@@ -1,4 +1,4 @@
--- Stores of files: what is held, and what a read and a write may answer.
+-- Stores of files: what is seen of one, and what a read and a write may answer.
 use Rattle.std.specs.Prelude.{◌≡◌, ◌≢◌, ◌⊎◌, ℕ, ◌<◌, ◌≤◌, List, length, Option, None, Some, IsSomeAnd}
 use Rattle.std.specs.Option.{option_map}
 use Rattle.std.specs.FinMap.{FinMap, get, insert}
@@ -8,7 +8,7 @@ use Rattle.omf_io.specs.declared.files.ReadFault.{ReadFault}
 use Rattle.omf_io.specs.declared.files.ReadFault.TheVariants as read
 use Rattle.omf_io.specs.declared.files.WriteFault.{WriteFault}
 use Rattle.omf_io.specs.declared.files.WriteFault.TheVariants as write
-use Rattle.omf_io.specs.Counts.{Rose, Told, ToldOr, IsFront}
+use Rattle.omf_io.specs.Counts.{one_more, risen, Told, ToldOr, IsFront}
 
 -- files by the bytes of their paths
 abbrev pub FileMap : Type 0
@@ -22,39 +22,56 @@ max_file = 16777216
 abbrev pub with_file : Option FileMap → List ℕ → List ℕ → Option FileMap
 with_file held path bytes = option_map (λ files. insert files path bytes) held
 
--- what a read that gave these bytes says of the store: they are the held ones, and the count stays
-abbrev pub HasRead : List ℕ → Option FileMap → List ℕ → ℕ → ℕ → Type 0
-HasRead bytes held path before now =
-    (length bytes ≤ max_file) × Told held (λ files. get files path ≡ Some bytes) × (now ≡ before)
+-- what is seen of a store: its files, where it tells them; how often the outside failed; and how often it was read
+pub record StoreSeen : Type 0 where
+  pub held : Option FileMap
+  pub faults : ℕ
+  pub asked : ℕ
 
--- what a read that was refused says of the store and the count
-abbrev pub ReadFailed : ReadFault → Option FileMap → List ℕ → ℕ → ℕ → Type 0
-ReadFailed read.Absent held path before now =
-    ToldOr held (Rose before now) (λ files. (get files path ≡ None) × (now ≡ before))
-ReadFailed read.TooLong held path before now =
-    ToldOr held (Rose before now) (λ files. IsSomeAnd (get files path) (λ bytes. max_file < length bytes) × (now ≡ before))
-ReadFailed read.Failed held path before now = Rose before now
-ReadFailed read.Memory held path before now = now ≡ before
+-- the store after so many reads that didn't fail
+abbrev pub after_reads : ℕ → StoreSeen → StoreSeen
+after_reads count store = record store { asked = risen count store.asked }
+
+-- the store with these bytes at a path
+abbrev pub with_written : List ℕ → List ℕ → StoreSeen → StoreSeen
+with_written path bytes store = record store { held = with_file store.held path bytes }
 
 -- the file that a read gave: the held one, where files are told
 abbrev pub IsRead : Option FileMap → List ℕ → List ℕ → Type 0
 IsRead held path file = (length file ≤ max_file) × Told held (λ files. get files path ≡ Some file)
 
+-- a read that gave these bytes
+abbrev pub HasRead : List ℕ → List ℕ → StoreSeen → StoreSeen → Type 0
+HasRead bytes path before now = IsRead before.held path bytes × (now ≡ after_reads 1 before)
+
+-- why a read gave none, by the files and the count before it and after it
+abbrev pub HasCause : ReadFault → Option FileMap → List ℕ → ℕ → ℕ → Type 0
+HasCause read.Absent held path before now =
+    ToldOr held (now ≡ one_more before) (λ files. (get files path ≡ None) × (now ≡ before))
+HasCause read.TooLong held path before now =
+    ToldOr held (now ≡ one_more before) (λ files. IsSomeAnd (get files path) (λ bytes. max_file < length bytes) × (now ≡ before))
+HasCause read.Failed held path before now = now ≡ one_more before
+HasCause read.Memory held path before now = now ≡ before
+
+-- a read that was refused
+abbrev pub ReadFailed : ReadFault → List ℕ → StoreSeen → StoreSeen → Type 0
+ReadFailed fault path before now =
+    HasCause fault before.held path before.faults now.faults × (now ≡ record (after_reads 1 before) { faults = now.faults })
+
 -- a read answered that the path isn't held, that its file is too long, or that it failed
 abbrev pub IsUnread : Option FileMap → List ℕ → ℕ → ℕ → Type 0
 IsUnread held path before now =
-    ReadFailed read.Absent held path before now
-    ⊎ (ReadFailed read.TooLong held path before now ⊎ ReadFailed read.Failed held path before now)
+    HasCause read.Absent held path before now ⊎ (HasCause read.TooLong held path before now ⊎ HasCause read.Failed held path before now)
 
--- what a write that took all the bytes did
-abbrev pub HasWritten : List ℕ → Option FileMap → Option FileMap → List ℕ → ℕ → ℕ → Type 0
-HasWritten bytes held new_held path before now = (new_held ≡ with_file held path bytes) × (now ≡ before)
+-- a write that took all the bytes
+abbrev pub HasWritten : List ℕ → List ℕ → StoreSeen → StoreSeen → Type 0
+HasWritten bytes path before now = now ≡ with_written path bytes before
 
--- what a write that was refused did
-abbrev pub WriteFailed : WriteFault → List ℕ → Option FileMap → Option FileMap → List ℕ → ℕ → ℕ → Type 0
-WriteFailed write.Failed bytes held new_held path before now =
-    ((front : List ℕ) × IsFront front bytes × (new_held ≡ with_file held path front)) × Rose before now
-WriteFailed write.Memory bytes held new_held path before now = (new_held ≡ held) × (now ≡ before)
+-- a write that was refused: where the outside failed, a front of the bytes stands at the path, which may be none or all of them
+abbrev pub WriteFailed : WriteFault → List ℕ → List ℕ → StoreSeen → StoreSeen → Type 0
+WriteFailed write.Failed bytes path before now =
+    (front : List ℕ) × IsFront front bytes × (now ≡ record (with_written path front before) { faults = one_more before.faults })
+WriteFailed write.Memory bytes path before now = now ≡ before
 
 -- a file that is put at a path is held there, and every other path is as before
 abbrev pub PutKeepsOtherPaths : Type 0

@@ -1,20 +1,28 @@
--- Sinks of text: what a put may answer.
+-- Sinks of text: what is seen of one, and what a put may answer.
 use Rattle.std.specs.Prelude.{◌≡◌, ℕ, List, ◌++◌, Option}
 use Rattle.std.specs.Option.{option_map}
 use Rattle.omf_io.specs.declared.sink.SinkFault.{SinkFault}
 use Rattle.omf_io.specs.declared.sink.SinkFault.TheVariants.{Failed, Memory}
-use Rattle.omf_io.specs.Counts.{Rose, IsFront}
+use Rattle.omf_io.specs.Counts.{one_more, IsFront}
 
--- what was written with these bytes behind it; what isn't told stays untold
-abbrev pub with_text : Option (List ℕ) → List ℕ → Option (List ℕ)
-with_text written piece = option_map (λ text. text ++ piece) written
+-- what is seen of a sink: all that it took, where it tells; and how often the outside failed
+pub record SinkSeen : Type 0 where
+  pub written : Option (List ℕ)
+  pub faults : ℕ
 
--- what a put that took the whole piece did
-abbrev pub HasPut : List ℕ → Option (List ℕ) → Option (List ℕ) → ℕ → ℕ → Type 0
-HasPut piece written new_written before now = (new_written ≡ with_text written piece) × (now ≡ before)
+-- the sink with these bytes behind what it took
+abbrev pub with_text : List ℕ → SinkSeen → SinkSeen
+with_text piece sink = record sink { written = option_map (λ text. text ++ piece) sink.written }
 
--- what a put that was refused did
-abbrev pub PutFailed : SinkFault → List ℕ → Option (List ℕ) → Option (List ℕ) → ℕ → ℕ → Type 0
-PutFailed Failed piece written new_written before now =
-    ((front : List ℕ) × IsFront front piece × (new_written ≡ with_text written front)) × Rose before now
-PutFailed Memory piece written new_written before now = (new_written ≡ written) × (now ≡ before)
+-- a put that took the whole piece
+abbrev pub HasPut : List ℕ → SinkSeen → SinkSeen → Type 0
+HasPut piece before now = now ≡ with_text piece before
+
+-- a front of the text was taken, which may be nothing or all of it, and the outside failed once
+abbrev pub FailsToPrint : List ℕ → SinkSeen → SinkSeen → Type 0
+FailsToPrint text before now = (front : List ℕ) × IsFront front text × (now ≡ record (with_text front before) { faults = one_more before.faults })
+
+-- a put that was refused
+abbrev pub PutFailed : SinkFault → List ℕ → SinkSeen → SinkSeen → Type 0
+PutFailed Failed piece before now = FailsToPrint piece before now
+PutFailed Memory piece before now = now ≡ before

@@ -1,12 +1,12 @@
 // The files of the system.
 ghost use Rattle.std.specs.Prelude.{◌≡◌, ◌≤◌, ◌≢◌, IfOk, IfErr, OnOk, OnErr, None, length};
 ghost use Rattle.omf_io.specs.Files.{max_file};
-ghost use Rattle.omf_io.specs.Hosts.{FileCounts};
+ghost use Rattle.omf_io.specs.Hosts.{FileCounts, host_seen};
 
-use crate::{Files, MAX_FILE, ReadFault, WriteFault};
+use crate::streams::{open_fault, read_whole, write_whole};
+use crate::{Files, ReadFault, WriteFault};
 use std::alloc::Global;
 use std::fs::{File, OpenFile};
-use std::io::{Error, ErrorKind, Read, Write};
 use std::marker::Model;
 use std::rt;
 
@@ -56,13 +56,7 @@ impl<'a, R: rt::Files> HostFiles<'a, R> {
 }
 
 impl<'a, R: rt::Files> Files for HostFiles<'a, R> {
-    ghost use Rattle.std.specs.Prelude.{None};
-
-    ghost held = { λ _. None };
-
-    ghost faults = { λ s. s.faults };
-
-    ghost asked = { λ s. s.asked };
+    ghost seen = { host_seen };
 
     fn read(&mut self, alloc: Global, path: &str) -> Result<Vec<u8>, ReadFault> {
         self.asked = self.asked.saturating_add(1);
@@ -85,31 +79,14 @@ impl<'a, R: rt::Files> Files for HostFiles<'a, R> {
 fn read_file<R: rt::Files>(rt: &R, alloc: Global, path: &str) -> Result<Vec<u8>, ReadFault>
     ensures { IfOk result (λ bytes. length bytes.items ≤ max_file) }
 {
-    let mut file = File::open(rt, path).map_err(read_fault)?;
-    let length = file.metadata().map_err(read_fault)?.len();
-    if length > MAX_FILE as u64 {
-        return Err(ReadFault::TooLong);
-    }
-
-    // One byte more than the file has leaves room to find its end.
-    let mut bytes = Vec::with_capacity(alloc, length as usize + 1)?;
-    let mut front = file.take(MAX_FILE as u64 + 1);
-    front.read_to_end(&mut bytes).map_err(read_fault)?;
-    if bytes.len() > MAX_FILE {
-        return Err(ReadFault::TooLong);
-    }
-    Ok(bytes)
+    let file = File::open(rt, path).map_err(open_fault)?;
+    let told = file.metadata().map_err(open_fault)?.len();
+    read_whole(alloc, file, told)
 }
 
-fn write_file<R: rt::Files>(rt: &R, path: &str, bytes: &[u8]) -> Result<(), WriteFault> {
+fn write_file<R: rt::Files>(rt: &R, path: &str, bytes: &[u8]) -> Result<(), WriteFault>
+    ensures { IfErr result (λ fault. fault ≡ WriteFault.Failed) }
+{
     let mut file = File::create(rt, path).map_err(|_| WriteFault::Failed)?;
-    file.write_all(bytes).map_err(|_| WriteFault::Failed)
-}
-
-fn read_fault(error: Error) -> ReadFault {
-    match error.kind() {
-        ErrorKind::NotFound => ReadFault::Absent,
-        ErrorKind::OutOfMemory => ReadFault::Memory,
-        _ => ReadFault::Failed,
-    }
+    write_whole(&mut file, bytes).map_err(|_| WriteFault::Failed)
 }

@@ -1,7 +1,10 @@
 // The standard output of the program.
-ghost use Rattle.std.specs.Prelude.{◌≡◌, None};
+ghost use Rattle.std.specs.Prelude.{◌≡◌};
+ghost use Rattle.omf_io.specs.Hosts.{print_seen};
 
+use crate::streams::write_whole;
 use crate::{Sink, SinkFault};
+use std::io::{self, Write};
 use std::marker::Model;
 
 /// The standard output, to which each piece goes at once. It tells nothing of what was written.
@@ -38,17 +41,31 @@ impl<'a, R: Print> HostSink<'a, R> {
 }
 
 impl<'a, R: Print> Sink for HostSink<'a, R> {
-    ghost written = { λ _. None };
-
-    ghost faults = { λ count. count };
+    ghost seen = { print_seen };
 
     fn put(&mut self, piece: &[u8]) -> Result<(), SinkFault> {
-        match self.rt.write_all(piece) {
+        match write_whole(&mut Output { rt: self.rt }, piece) {
             Ok(()) => Ok(()),
             Err(_) => {
                 self.faults = self.faults.saturating_add(1);
                 Err(SinkFault::Failed)
             }
         }
+    }
+}
+
+// The standard output as a writer. What it took stays unknown.
+#[derive(Drop)]
+struct Output<'a, R: Print> {
+    rt: &'a R,
+}
+
+impl<'a, R: Print> Write for Output<'a, R> {
+    fn write(&mut self, piece: &[u8]) -> io::Result<usize> {
+        self.rt.write_some(piece)
+    }
+
+    fn flush(&mut self) -> io::Result<()> {
+        Ok(())
     }
 }

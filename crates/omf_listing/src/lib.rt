@@ -3,4 +3,4 @@
 
 mod listing;
 
-pub use listing::list_file;
+pub use listing::{list_file, put_name};

@@ -141,9 +141,9 @@ fn printed(byte: u8) -> u8
     }
 }
 
-/// Appends a name.
+/// Appends a name behind a space. A byte of it outside $21 to $7E is shown as `?`.
 #[tactic(auto, unfolding(crate::specs::Listing::name_text))]
-fn put_name(line: &mut Line, name: &[u8]) -> Result<(), LineFault>
+pub fn put_name(line: &mut Line, name: &[u8]) -> Result<(), LineFault>
     ensures { OnOk result (line.new ≡ line.old ++ name_text name.now) }
 {
     line.text(" ")?;

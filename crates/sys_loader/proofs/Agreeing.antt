@@ -8,7 +8,7 @@ use Rattle.std.proofs.lemmas.List.{length-map, length-drop, drop-append-le, take
 use Rattle.omf_format.specs.File.{Segment, segment_at}
 use Rattle.omf_format.specs.Cells.{segment_bytes, stands}
 use Rattle.omf_format.specs.CellLaws.{cells-bytes, length-segment_bytes, loadable_at}
-use Rattle.omf_io.specs.Counts.{Told, Rose, IsFront}
+use Rattle.omf_io.specs.Counts.{Told, one_more, IsFront}
 use Rattle.omf_io.specs.Files.{FileMap, IsRead, IsUnread}
 use Rattle.iigs_meaning.specs.declared.slots.Slot.{Slot}
 use Rattle.iigs_meaning.specs.declared.wants.Block.{Block}
@@ -57,10 +57,10 @@ told_file held told path file is read = (subst (λ (h : Option FileMap). Told h 
 
 -- a read that was refused: the path lacks a file, or the count rose
 told_unread : (held : Option FileMap) (told : FileMap) (path : List ℕ) (before now : ℕ) → held ≡ Some told → IsUnread held path before now
-    → (LacksFile told path × (now ≡ before)) ⊎ Rose before now
+    → (LacksFile told path × (now ≡ before)) ⊎ (now ≡ one_more before)
 told_unread held told path before now is unread = go (subst (λ (h : Option FileMap). IsUnread h path before now) is unread)
   where
-    go : IsUnread (Some told) path before now → (LacksFile told path × (now ≡ before)) ⊎ Rose before now
+    go : IsUnread (Some told) path before now → (LacksFile told path × (now ≡ before)) ⊎ (now ≡ one_more before)
     go (inl absent) = inl (inl absent.0, absent.1)
     go (inr (inl long)) = inl (inr long.0, long.1)
     go (inr (inr rose)) = inr rose

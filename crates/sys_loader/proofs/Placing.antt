@@ -66,7 +66,3 @@ module _ (old new : Memory) (want : Want) (user : ℕ) (h : Handle) (locked : (p
   -- the new handle reaches the block
   pub placed_here : get new.slots h ≡ Some (placed want is.puts.address user true 0)
   placed_here = rw slots_are (get-same old.slots h (placed want is.puts.address user true 0) (inside_is old.slots h is.puts.handle))
-
-  -- and every other handle what it reached before
-  pub placed_other : (other : Handle) → other.slot ≢ h.slot → get new.slots other ≡ get old.slots other
-  placed_other other ne = rw slots_are (get-other old.slots h other (placed want is.puts.address user true 0) ne)

@@ -1,6 +1,6 @@
 -- How the answer of a loader's call and the machine's step go together, over files that are told.
 use Rattle.std.specs.Prelude.{◌≡◌, ◌⊎◌, ℕ, List, Result, Ok, Err}
-use Rattle.omf_io.specs.Counts.{Rose}
+use Rattle.omf_io.specs.Counts.{one_more}
 use Rattle.omf_io.specs.Files.{FileMap}
 use Rattle.loader_machine.specs.declared.faults.LoaderFault.{LoaderFault}
 use Rattle.loader_machine.specs.declared.faults.LoaderFault.TheVariants.{NoUser, NoSegment, OutOfSegment, TooManyUsers, CannotRead, Unbuilt, NoRoom, Memory}
@@ -13,7 +13,7 @@ use Rattle.sys_loader.specs.Loaded.{Loaded, Agrees}
 -- memory at any time
 abbrev pub MeetsRefusal : FileMap → Machine → List ℕ → ℕ → ℕ → LoaderFault → Type 0
 MeetsRefusal held state path before now CannotRead =
-    (step.StepsLoad held state path (step.Refused CannotRead) state × (now ≡ before)) ⊎ Rose before now
+    (step.StepsLoad held state path (step.Refused CannotRead) state × (now ≡ before)) ⊎ (now ≡ one_more before)
 MeetsRefusal held state path before now Memory = now ≡ before
 MeetsRefusal held state path before now TooManyUsers = step.StepsLoad held state path (step.Refused TooManyUsers) state × (now ≡ before)
 MeetsRefusal held state path before now Unbuilt = step.StepsLoad held state path (step.Refused Unbuilt) state × (now ≡ before)

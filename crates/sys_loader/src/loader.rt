@@ -1,7 +1,7 @@
 //! The loader.
 
 ghost use Rattle.std.specs.Prelude.{◌≡◌, ℕ, ◌+◌, ◌-◌, ◌<◌, ◌≤◌, [], List, length, take, drop, vec_capacity, IfOk, IfErr, OnErr, ◌∷◌, ◌^◌, string_bytes, Some, MatchOption, MatchResult};
-ghost use Rattle.omf_io.specs.Counts.{Rose};
+ghost use Rattle.omf_io.specs.Counts.{one_more};
 ghost use Rattle.omf_io.specs.Files.{FileMap};
 ghost use Rattle.loader_machine.specs.Machine.{Machine, max_users, first_id, user_of};
 ghost use Rattle.loader_machine.specs.Step.{StepsBytes, Shown, Refused};
@@ -154,11 +154,11 @@ impl Loader {
         files: &mut F,
         path: &str,
     ) -> Result<Started, LoaderFault>
-        ensures held { F.held files.new ≡ F.held files.old }
-        ensures never_falls { F.faults files.old ≤ F.faults files.new }
-        ensures asked { length self.old.users < max_users → Rose (F.asked files.old) (F.asked files.new) }
-        ensures unasked { max_users ≤ length self.old.users → F.asked files.new ≡ F.asked files.old }
-        ensures loaded { HasLoaded (F.held files.old) self.old path.now result self.new (F.faults files.old) (F.faults files.new) }
+        ensures held { (F.seen files.new).held ≡ (F.seen files.old).held }
+        ensures never_falls { (F.seen files.old).faults ≤ (F.seen files.new).faults }
+        ensures asked { length self.old.users < max_users → (F.seen files.new).asked ≡ one_more (F.seen files.old).asked }
+        ensures unasked { max_users ≤ length self.old.users → (F.seen files.new).asked ≡ (F.seen files.old).asked }
+        ensures loaded { HasLoaded (F.seen files.old).held self.old path.now result self.new (F.seen files.old).faults (F.seen files.new).faults }
     {
         if self.users.len() == MAX_USERS {
             return Err(LoaderFault::TooManyUsers);
@@ -175,19 +175,19 @@ impl Loader {
 
     /// Loads a program: a load file of one plain segment.
     pub fn load<F: Files>(&mut self, files: &mut F, path: &str) -> Result<Started, LoaderFault>
-        ensures held { F.held files.new ≡ F.held files.old }
-        ensures never_falls { F.faults files.old ≤ F.faults files.new }
+        ensures held { (F.seen files.new).held ≡ (F.seen files.old).held }
+        ensures never_falls { (F.seen files.old).faults ≤ (F.seen files.new).faults }
 
         // The file is read unless 255 users were made.
-        ensures asked { length self.old.users < max_users → Rose (F.asked files.old) (F.asked files.new) }
-        ensures unasked { max_users ≤ length self.old.users → F.asked files.new ≡ F.asked files.old }
+        ensures asked { length self.old.users < max_users → (F.seen files.new).asked ≡ one_more (F.seen files.old).asked }
+        ensures unasked { max_users ≤ length self.old.users → (F.seen files.new).asked ≡ (F.seen files.old).asked }
 
         // Over files that are told, and with which the loader agrees, it is the machine's step.
-        ensures meets { (held : FileMap) (state : Machine) → F.held files.old ≡ Some held → Agrees held self.old state
-            → MeetsLoad held state path.now result self.new (F.faults files.old) (F.faults files.new) }
+        ensures meets { (held : FileMap) (state : Machine) → (F.seen files.old).held ≡ Some held → Agrees held self.old state
+            → MeetsLoad held state path.now result self.new (F.seen files.old).faults (F.seen files.new).faults }
 
         // And so much is true of it over any files.
-        ensures loaded { HasLoaded (F.held files.old) self.old path.now result self.new (F.faults files.old) (F.faults files.new) }
+        ensures loaded { HasLoaded (F.seen files.old).held self.old path.now result self.new (F.seen files.old).faults (F.seen files.new).faults }
     {
         self.read_and_start(files, path)
     }

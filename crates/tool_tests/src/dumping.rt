@@ -1,5 +1,6 @@
 // Listings and faults as they are printed. Expected lines are written by hand from the rules of the listing.
-use crate::linking::{LOAD_FILE, OBJECT, changed, ends, run_words};
+use crate::linking::{LOAD_FILE, OBJECT};
+use crate::runner::{changed, ends, run, run_failing};
 use omf_cli::Status;
 use std::alloc::{AllocError, Global};
 use std::test::Fail;
@@ -10,7 +11,7 @@ const LISTING: &[u8] =
 
 /// Dumps a file while nothing outside fails, and says whether it ended so.
 pub(crate) fn dumps(alloc: Global, file: &[u8], status: Status, text: &[u8]) -> Result<bool, Fail> {
-    let run = run_words(alloc, "dump obj", file, Vec::new(alloc), Vec::new(alloc))?;
+    let run = run(alloc, "dump obj", &[("obj", file)])?;
     Ok(ends(&run, status, text, None))
 }
 
@@ -21,7 +22,7 @@ fn segments_and_records_are_listed(rt: HostRuntime) -> Result<(), Fail> {
     assert!(rt; dumps(alloc, &[], Status::Done, b"")?);
 
     // 17 constants, of which 16 are shown, and a name with a quote.
-    let mut long = changed(alloc, &[(0, 0x4B), (0x37, 0x22), (0x38, 17)])?;
+    let mut long = changed(alloc, &OBJECT, &[(0, 0x4B), (0x37, 0x22), (0x38, 17)])?;
     long.truncate(0x3C);
     long.extend_from_slice(&[0xAB; 14])?;
     long.push(0)?;
@@ -38,7 +39,7 @@ fn segments_and_records_are_listed(rt: HostRuntime) -> Result<(), Fail> {
 
 /// Whether a change of the object is told with this line alone.
 fn told(alloc: Global, changes: &[(usize, u8)], line: &[u8]) -> Result<bool, Fail> {
-    let object = changed(alloc, changes)?;
+    let object = changed(alloc, &OBJECT, changes)?;
     dumps(alloc, &object, Status::Refused, line)
 }
 
@@ -70,7 +71,7 @@ fn the_first_fault_is_told(rt: HostRuntime) -> Result<(), Fail> {
 
     // In the second segment.
     let mut two = OBJECT.to_vec(alloc)?;
-    let other = changed(alloc, &[(0x3C, 0xFA)])?;
+    let other = changed(alloc, &OBJECT, &[(0x3C, 0xFA)])?;
     two.extend_from_slice(&other)?;
     assert!(rt;
         dumps(
@@ -105,13 +106,16 @@ fn body_told(alloc: Global, body: &[u8], line: &[u8]) -> Result<bool, Fail> {
 #[test]
 fn an_expression_is_listed(rt: HostRuntime) -> Result<(), Fail> {
     let alloc = rt.alloc();
-    let object = with_body(alloc, b"\xEB\x02\x83\x01A\x81\x05\0\0\0\x01\0\0")?;
+    let mut object = with_body(alloc, b"\xEB\x02\x83\x01A\x81\x05\0\0\0\x01\0\0")?;
+    if let Some(length) = object.get_mut(0x08) {
+        *length = 2;
+    }
     assert!(rt;
         dumps(
             alloc,
             &object,
             Status::Done,
-            b"segment 1 at 00000000 kind 0000 length 00000008 resspc 00000000 banksize 00010000 align 00000000 org 00000000 entry 00000000 loadname \"          \" segname \"A\"\n00000038 EXPR 02 83014181050000000100\n00000044 END\n"
+            b"segment 1 at 00000000 kind 0000 length 00000002 resspc 00000000 banksize 00010000 align 00000000 org 00000000 entry 00000000 loadname \"          \" segname \"A\"\n00000038 EXPR 02 83014181050000000100\n00000044 END\n"
         )?
     );
     Ok(())
@@ -198,17 +202,11 @@ fn the_first_bad_field_is_told(rt: HostRuntime) -> Result<(), Fail> {
 #[test]
 fn failures_of_a_dump_are_told(rt: HostRuntime) -> Result<(), Fail> {
     let alloc = rt.alloc();
-    let calm = Vec::new(alloc);
-    let unread = run_words(
-        alloc,
-        "dump obj",
-        &LOAD_FILE,
-        vec![in alloc; 1]?,
-        Vec::new(alloc),
-    )?;
+    let held: [(&str, &[u8]); 1] = [("obj", &LOAD_FILE)];
+    let unread = run_failing(alloc, "dump obj", &held, &[1], &[])?;
     assert!(rt; ends(&unread, Status::CannotRead, b"cannot read obj\n", None));
     let half = &LISTING[..LISTING.len() / 2];
-    let cut = run_words(alloc, "dump obj", &LOAD_FILE, calm, vec![in alloc; 1]?)?;
+    let cut = run_failing(alloc, "dump obj", &held, &[], &[1])?;
     assert!(rt; ends(&cut, Status::CannotPrint, half, None));
     Ok(())
 }

@@ -72,6 +72,60 @@ fn names_follow_lab_len(rt: HostRuntime) -> Result<(), Fail> {
     Ok(())
 }
 
+#[test]
+fn attributes_have_their_bits(rt: HostRuntime) {
+    for (bits, want) in [
+        (0x0000, [false; 7]),
+        (0x8000, [true, false, false, false, false, false, false]),
+        (0x4000, [false, true, false, false, false, false, false]),
+        (0x1000, [false, false, true, false, false, false, false]),
+        (0x0800, [false, false, false, true, false, false, false]),
+        (0x0400, [false, false, false, false, true, false, false]),
+        (0x0200, [false, false, false, false, false, true, false]),
+        (0x0100, [false, false, false, false, false, false, true]),
+        (0x20FF, [false; 7]),
+    ] {
+        let kind = Kind { bits };
+        let found = [
+            kind.is_dynamic(),
+            kind.is_private(),
+            kind.avoids_special(),
+            kind.is_absolute_bank(),
+            kind.is_reload(),
+            kind.is_skip(),
+            kind.is_bank_relative(),
+        ];
+        assert_eq!(rt; found, want, "{bits}");
+        assert_eq!(rt; kind.is_static(), !kind.is_dynamic());
+        assert_eq!(rt; u16::from(kind.form()), bits % 32);
+    }
+}
+
+#[test]
+fn alignment_is_a_page_or_a_bank(rt: HostRuntime) -> Result<(), Fail> {
+    let alloc = rt.alloc();
+    for (align, want) in [
+        ([0, 0, 0], 1),
+        ([1, 0, 0], 0x100),
+        ([0, 1, 0], 0x100),
+        ([1, 1, 0], 0x10000),
+        ([0, 0, 1], 0x10000),
+        ([0, 0, 2], 0x10000),
+    ] {
+        let mut bytes = HEADER;
+        bytes[0x1C..0x1F].copy_from_slice(&align);
+        bytes[0x1F] = 0;
+        let header = read_header(alloc, &bytes)?;
+        assert_eq!(rt; header.alignment(), want);
+        assert!(rt; header.stays_in_bank());
+    }
+    let mut bytes = HEADER;
+    bytes[0x12] = 0;
+    let header = read_header(alloc, &bytes)?;
+    assert!(rt; !header.stays_in_bank());
+    Ok(())
+}
+
 /// What the header says.
 fn made(alloc: Global) -> Result<Header, NameFault>
     ensures { IfOk result (λ header. IsWritable (fields header)) }
@@ -81,6 +135,7 @@ fn made(alloc: Global) -> Result<Header, NameFault>
         res_spc: 2,
         length: 0x10,
         lab_len: 0,
+        version: 2,
         bank_size: 0x10000,
         kind: Kind { bits: 0 },
         org: 0x04030201,

@@ -10,4 +10,8 @@ mod headers;
 #[cfg(test)]
 mod linking;
 #[cfg(test)]
+mod runner;
+#[cfg(test)]
 mod running;
+#[cfg(test)]
+mod versions;

@@ -1,8 +1,9 @@
 // What no clause says: that memory is enough, and that the bytes and lines are those that other tools know. Expected
 // bytes are worked out by hand from the format.
-use omf_cli::{Status, run_tool};
-use omf_io::{MemoryFiles, MemorySink};
-use std::alloc::{AllocError, Global};
+use crate::runner::{changed, ends, run, run_failing, run_list};
+use omf_cli::Status;
+use omf_io::MAX_FILE;
+use std::alloc::Global;
 use std::test::Fail;
 
 /// An object: a code segment `A` of three constant bytes and five zeros.
@@ -39,65 +40,15 @@ const UNBUILT: &[u8] = b"refused Unbuilt 0 0 00000000\n";
 
 const USAGE: &[u8] = b"usage: omf asm, link, lib, dump, run or stress\n";
 
-/// What a run of the tool left.
-#[derive(Drop)]
-pub(crate) struct Run {
-    pub(crate) status: Status,
-    pub(crate) files: MemoryFiles,
-    pub(crate) out: MemorySink,
-}
-
-/// Runs the tool on words that stand with spaces between them, over a store that holds one file at `obj`. The calls of
-/// the store and of the sink that fail are given by their numbers.
-pub(crate) fn run_words(
-    alloc: Global,
-    words: &str,
-    object: &[u8],
-    files: Vec<u32>,
-    text: Vec<u32>,
-) -> Result<Run, Fail> {
-    let mut files = MemoryFiles::new(alloc, files);
-    files.set("obj", object)?;
-    let mut out = MemorySink::new(alloc, text);
-    let mut split = Vec::new(alloc);
-    for word in words.split(' ') {
-        split.push(String::from_str(alloc, word)?)?;
-    }
-    let status = run_tool(alloc, &split, &mut files, &mut out);
-    Ok(Run { status, files, out })
-}
-
-/// Whether a run ended so: with this status, this text, and these bytes at `out`.
-pub(crate) fn ends(run: &Run, status: Status, text: &[u8], output: Option<&[u8]>) -> bool {
-    run.status == status && run.out.bytes() == text && run.files.get("out") == output
-}
-
-/// The object with bytes changed at displacements.
-pub(crate) fn changed(alloc: Global, changes: &[(usize, u8)]) -> Result<Vec<u8>, AllocError> {
-    let mut bytes = OBJECT.to_vec(alloc)?;
-    for (at, value) in changes {
-        if let Some(byte) = bytes.get_mut(*at) {
-            *byte = *value;
-        }
-    }
-    Ok(bytes)
-}
-
 /// Links an object while nothing outside fails, and says whether it ended so.
-fn links(
+pub(crate) fn links(
     alloc: Global,
     object: &[u8],
     status: Status,
     text: &[u8],
     output: Option<&[u8]>,
 ) -> Result<bool, Fail> {
-    let run = run_words(
-        alloc,
-        "link out obj",
-        object,
-        Vec::new(alloc),
-        Vec::new(alloc),
-    )?;
+    let run = run(alloc, "link out obj", &[("obj", object)])?;
     Ok(ends(&run, status, text, output))
 }
 
@@ -118,6 +69,7 @@ fn what_the_format_leaves_open_is_passed_over(rt: HostRuntime) -> Result<(), Fai
     // One byte at $21, and four before the names.
     let front = changed(
         alloc,
+        &OBJECT,
         &[(0x00, 0x46), (0x21, 1), (0x28, 0x30), (0x2A, 0x3C)],
     )?;
     let mut padded = Vec::new(alloc);
@@ -127,6 +79,7 @@ fn what_the_format_leaves_open_is_passed_over(rt: HostRuntime) -> Result<(), Fai
     assert!(rt; links(alloc, &padded, Status::Done, b"", Some(&LOAD_FILE))?);
     let zeros = changed(
         alloc,
+        &OBJECT,
         &[(0x14, 0xE1), (0x15, 0x90), (0x39, 0), (0x3A, 0), (0x3B, 0)],
     )?;
     assert!(rt; links(alloc, &zeros, Status::Done, b"", Some(&ZEROS))?);
@@ -141,7 +94,7 @@ fn other_files_are_refused(rt: HostRuntime) -> Result<(), Fail> {
 
     // A second segment of another load name.
     let mut two = OBJECT.to_vec(alloc)?;
-    let other = changed(alloc, &[(0x2C, 0x42)])?;
+    let other = changed(alloc, &OBJECT, &[(0x2C, 0x42)])?;
     two.extend_from_slice(&other)?;
     assert!(rt; links(alloc, &two, Status::Refused, UNBUILT, None)?);
     Ok(())
@@ -177,19 +130,19 @@ const BREAKS: [(usize, u8); 20] = [
 fn each_broken_rule_is_refused(rt: HostRuntime) -> Result<(), Fail> {
     let alloc = rt.alloc();
     for change in BREAKS {
-        let object = changed(alloc, &[change])?;
+        let object = changed(alloc, &OBJECT, &[change])?;
         assert!(rt; links(alloc, &object, Status::Refused, UNBUILT, None)?);
     }
 
     // A BANKSIZE of 7 for 8 bytes.
-    let object = changed(alloc, &[(0x10, 7), (0x12, 0)])?;
+    let object = changed(alloc, &OBJECT, &[(0x10, 7), (0x12, 0)])?;
     assert!(rt; links(alloc, &object, Status::Refused, UNBUILT, None)?);
     Ok(())
 }
 
 /// Whether these words, which stand with spaces between them, print the usage and read nothing.
 fn is_usage(alloc: Global, words: &str) -> Result<bool, Fail> {
-    let run = run_words(alloc, words, &OBJECT, Vec::new(alloc), Vec::new(alloc))?;
+    let run = run(alloc, words, &[("obj", &OBJECT), ("s", b"")])?;
     Ok(ends(&run, Status::Usage, USAGE, None) && run.files.asked() == 0)
 }
 
@@ -205,6 +158,9 @@ fn other_words_print_the_usage(rt: HostRuntime) -> Result<(), Fail> {
         "dump",
         "dump obj obj",
         "Dump obj",
+        "run",
+        "run s s",
+        "Run s",
         "link  obj",
         "--help",
     ];
@@ -216,6 +172,27 @@ fn other_words_print_the_usage(rt: HostRuntime) -> Result<(), Fail> {
         long.push_str("p")?;
     }
     assert!(rt; is_usage(alloc, long.as_str())?);
+
+    // No words at all.
+    let none = run_list(alloc, &Vec::new(alloc), &[("obj", &OBJECT)], &[], &[])?;
+    assert!(rt; ends(&none, Status::Usage, USAGE, None));
+    assert_eq!(rt; none.files.asked(), 0);
+    Ok(())
+}
+
+// A file of one byte above the limit isn't read, whatever asks for it.
+#[test]
+fn a_file_above_the_limit_is_not_read(rt: HostRuntime) -> Result<(), Fail> {
+    let alloc = rt.alloc();
+    let long = vec![in alloc; 0; MAX_FILE + 1]?;
+    for words in ["link out obj", "dump obj", "run obj"] {
+        let run = run(alloc, words, &[("obj", &long)])?;
+        assert!(rt;
+            ends(&run, Status::CannotRead, b"cannot read obj\n", None),
+            "{words}"
+        );
+        assert_eq!(rt; (run.files.asked(), run.files.faults()), (1, 0), "{words}");
+    }
     Ok(())
 }
 
@@ -228,9 +205,7 @@ fn fails(
     printed: &[u8],
     output: Option<&[u8]>,
 ) -> Result<bool, Fail> {
-    let files = vec![in alloc; file]?;
-    let texts = vec![in alloc; text]?;
-    let run = run_words(alloc, "link out obj", &OBJECT, files, texts)?;
+    let run = run_failing(alloc, "link out obj", &[("obj", &OBJECT)], &[file], &[text])?;
     Ok(ends(&run, status, printed, output))
 }
 
@@ -252,8 +227,7 @@ fn failures_are_told(rt: HostRuntime) -> Result<(), Fail> {
     assert!(rt; fails(alloc, 3, 1, Status::Done, b"", Some(&LOAD_FILE))?);
     assert!(rt; fails(alloc, 1, 1, Status::CannotPrint, b"cannot r", None)?);
     assert!(rt; fails(alloc, 2, 1, Status::CannotPrint, b"cannot w", Some(half))?);
-    let calm = Vec::new(alloc);
-    let absent = run_words(alloc, "link out nofile", &OBJECT, calm, Vec::new(alloc))?;
+    let absent = run(alloc, "link out nofile", &[("obj", &OBJECT)])?;
     assert!(rt; ends(&absent, Status::CannotRead, b"cannot read nofile\n", None));
     Ok(())
 }

@@ -1,20 +1,9 @@
 // Scripts of loader commands. Expected lines are written by hand from the rules of the loader.
-use crate::linking::{LOAD_FILE, OBJECT, Run, ends, run_words};
-use omf_cli::{Status, run_tool};
-use omf_io::{MemoryFiles, MemorySink};
+use crate::linking::{LOAD_FILE, OBJECT};
+use crate::runner::{Outcome, changed, ends, run, run_failing};
+use omf_cli::Status;
 use std::alloc::Global;
 use std::test::Fail;
-
-/// The load file with bytes changed at displacements.
-fn changed(alloc: Global, changes: &[(usize, u8)]) -> Result<Vec<u8>, Fail> {
-    let mut bytes = LOAD_FILE.to_vec(alloc)?;
-    for (at, value) in changes {
-        if let Some(byte) = bytes.get_mut(*at) {
-            *byte = *value;
-        }
-    }
-    Ok(bytes)
-}
 
 /// Runs a script over a store that holds it at `s` and a file at `prog`. The calls of the store and of the sink that
 /// fail are given by their numbers; the read of the script is the first call.
@@ -22,43 +11,34 @@ fn run_script(
     alloc: Global,
     script: &[u8],
     program: &[u8],
-    failing: Vec<u32>,
-    text: Vec<u32>,
-) -> Result<Run, Fail> {
-    let mut files = MemoryFiles::new(alloc, failing);
-    files.set("s", script)?;
-    files.set("prog", program)?;
-    let mut out = MemorySink::new(alloc, text);
-    let mut words = Vec::new(alloc);
-    for word in ["run", "s"] {
-        words.push(String::from_str(alloc, word)?)?;
-    }
-    let status = run_tool(alloc, &words, &mut files, &mut out);
-    Ok(Run { status, files, out })
+    file: &[u32],
+    text: &[u32],
+) -> Result<Outcome, Fail> {
+    run_failing(
+        alloc,
+        "run s",
+        &[("s", script), ("prog", program)],
+        file,
+        text,
+    )
 }
 
 /// Runs a script while nothing outside fails, and says whether it ended so.
-fn says(
+pub(crate) fn says(
     alloc: Global,
     script: &[u8],
     program: &[u8],
     status: Status,
     text: &[u8],
 ) -> Result<bool, Fail> {
-    let run = run_script(alloc, script, program, Vec::new(alloc), Vec::new(alloc))?;
+    let run = run_script(alloc, script, program, &[], &[])?;
     Ok(ends(&run, status, text, None))
 }
 
 #[test]
 fn a_linked_program_is_loaded_and_shown(rt: HostRuntime) -> Result<(), Fail> {
     let alloc = rt.alloc();
-    let linked = run_words(
-        alloc,
-        "link out obj",
-        &OBJECT,
-        Vec::new(alloc),
-        Vec::new(alloc),
-    )?;
+    let linked = run(alloc, "link out obj", &[("obj", &OBJECT)])?;
     let Some(program) = linked.files.get("out") else {
         return Err(Fail::new("nothing was linked"));
     };
@@ -88,7 +68,7 @@ fn users_stand_behind_each_other(rt: HostRuntime) -> Result<(), Fail> {
     );
 
     // ENTRY is 4, and $FFFFFF passes the end of memory.
-    let entry = changed(alloc, &[(0x24, 4)])?;
+    let entry = changed(alloc, &LOAD_FILE, &[(0x24, 4)])?;
     assert!(rt;
         says(
             alloc,
@@ -98,7 +78,11 @@ fn users_stand_behind_each_other(rt: HostRuntime) -> Result<(), Fail> {
             b"ok\nuser 1001 entry E02004\n"
         )?
     );
-    let wraps = changed(alloc, &[(0x24, 0xFF), (0x25, 0xFF), (0x26, 0xFF)])?;
+    let wraps = changed(
+        alloc,
+        &LOAD_FILE,
+        &[(0x24, 0xFF), (0x25, 0xFF), (0x26, 0xFF)],
+    )?;
     assert!(rt;
         says(
             alloc,
@@ -110,7 +94,7 @@ fn users_stand_behind_each_other(rt: HostRuntime) -> Result<(), Fail> {
     );
 
     // Data has no entry.
-    let of_data = changed(alloc, &[(0x14, 1)])?;
+    let of_data = changed(alloc, &LOAD_FILE, &[(0x14, 1)])?;
     assert!(rt;
         says(
             alloc,
@@ -138,7 +122,7 @@ fn a_refusal_is_a_reply(rt: HostRuntime) -> Result<(), Fail> {
 
     // A dynamic, a skipped and a direct-page segment, one with ORG and one with ALIGN.
     for (at, value) in [(0x15, 0x80), (0x15, 2), (0x14, 0x12), (0x18, 1), (0x1C, 1)] {
-        let other = changed(alloc, &[(at, value)])?;
+        let other = changed(alloc, &LOAD_FILE, &[(at, value)])?;
         assert!(rt;
             says(
                 alloc,
@@ -152,7 +136,7 @@ fn a_refusal_is_a_reply(rt: HostRuntime) -> Result<(), Fail> {
     }
 
     // No special memory is asked for, and there is no other.
-    let plain = changed(alloc, &[(0x15, 0x10)])?;
+    let plain = changed(alloc, &LOAD_FILE, &[(0x15, 0x10)])?;
     assert!(rt;
         says(
             alloc,
@@ -172,7 +156,7 @@ fn at_most_255_users_are_made(rt: HostRuntime) -> Result<(), Fail> {
     for _ in 0..256 {
         script.extend_from_slice(b"load prog\n")?;
     }
-    let run = run_script(alloc, &script, &LOAD_FILE, Vec::new(alloc), Vec::new(alloc))?;
+    let run = run_script(alloc, &script, &LOAD_FILE, &[], &[])?;
     assert_eq!(rt; run.status, Status::Done);
     assert!(rt;
         run.out
@@ -182,17 +166,34 @@ fn at_most_255_users_are_made(rt: HostRuntime) -> Result<(), Fail> {
     Ok(())
 }
 
+// Each cause against a line, and no line is run.
 #[test]
 fn a_bad_line_stops_all(rt: HostRuntime) -> Result<(), Fail> {
     let alloc = rt.alloc();
     assert!(rt; says(alloc, b"", &LOAD_FILE, Status::Done, b"")?);
+    let bad: [(&[u8], &[u8]); 6] = [
+        (b"banks 02\nload  prog", b"refused BadWord 2\n"),
+        (b"banks 02\nload prog\nlod x", b"refused UnknownCommand 3\n"),
+        (b"; no banks\nload prog", b"refused BanksFirst 2\n"),
+        (b"banks 02\nload prog prog", b"refused WrongCount 2\n"),
+        (b"banks 02\nbytes 1001 1 0 g", b"refused BadNumber 2\n"),
+        (b"banks 02 E0 02", b"refused BankTwice 1\n"),
+    ];
+    for (script, line) in bad {
+        let run = run_script(alloc, script, &LOAD_FILE, &[], &[])?;
+        assert!(rt; ends(&run, Status::Refused, line, None));
+        assert_eq!(rt; run.files.asked(), 1);
+    }
+
+    // 65,537 lines.
+    let lines = vec![in alloc; b'\n'; 65537]?;
     assert!(rt;
         says(
             alloc,
-            b"banks 02\nload prog\nlod x",
+            &lines,
             &LOAD_FILE,
             Status::Refused,
-            b"refused UnknownCommand 3\n"
+            b"refused TooManyLines 65537\n"
         )?
     );
     Ok(())
@@ -206,8 +207,8 @@ fn a_failed_read_is_a_reply(rt: HostRuntime) -> Result<(), Fail> {
         alloc,
         b"banks 02\nload prog\nload prog\n",
         &LOAD_FILE,
-        vec![in alloc; 2]?,
-        Vec::new(alloc),
+        &[2],
+        &[],
     )?;
     assert!(rt;
         ends(
@@ -217,13 +218,7 @@ fn a_failed_read_is_a_reply(rt: HostRuntime) -> Result<(), Fail> {
             None
         )
     );
-    let unread = run_script(
-        alloc,
-        b"banks 02\n",
-        &LOAD_FILE,
-        vec![in alloc; 1]?,
-        Vec::new(alloc),
-    )?;
+    let unread = run_script(alloc, b"banks 02\n", &LOAD_FILE, &[1], &[])?;
     assert!(rt; ends(&unread, Status::CannotRead, b"cannot read s\n", None));
     Ok(())
 }
@@ -236,8 +231,8 @@ fn a_failed_print_ends_the_run(rt: HostRuntime) -> Result<(), Fail> {
         alloc,
         b"banks 02\nload prog\nload prog\n",
         &LOAD_FILE,
-        Vec::new(alloc),
-        vec![in alloc; 2]?,
+        &[],
+        &[2],
     )?;
     assert!(rt; ends(&run, Status::CannotPrint, b"ok\nuser 1001 e", None));
     Ok(())

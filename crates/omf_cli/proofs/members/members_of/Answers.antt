@@ -1,7 +1,7 @@
 use Rattle.std.proofs.Common.{◌+◌, ◌≤◌, ℕ, length, refl, sym, subst, ◌∙◌, arith}
 use Rattle.omf_records.specs.Segments.{shown}
 use Rattle.omf_records.specs.SegmentLaws.{shown_at, none_past}
-use Rattle.omf_cli.proofs.MemberLists.{PlainSoFar, plain_none, plain_more, member_of_plain, length_of_plain, plain_all, room_of_plain, first_shows, some_segment, none_there}
+use Rattle.omf_cli.proofs.MemberLists.{PlainSoFar, plain_more, member_of_plain, length_of_plain, plain_all, room_of_plain, first_shows, some_segment, none_there}
 use Rattle.omf_cli.proofs.members.members_of.Goals as goal
 
 pub returns-in-None : goal.returns-in-None
@@ -20,9 +20,6 @@ returns-then-view-total c plain =
     let found = shown_at c.args.list.now c.members.place c.in-Some-get.view.now c.in-Some-get.ensures.value in
     let fits = length_of_plain c.args.list.now c.members.place c.members.total c.members.bank_size (shown c.in-Some-get.view.now) c.members.invariant.plain found plain in
     absurd (omega (arith, fits, c.if-view-total.true, c.members.invariant.small))
-
-pub members-init : goal.members-init
-members-init c = record { plain = plain_none c.args.list.now; small = omega arith }
 
 pub members-preserved : goal.members-preserved
 members-preserved c = record {

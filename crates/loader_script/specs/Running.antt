@@ -1,0 +1,74 @@
+-- A run of a script on its way: what one command does, and what was done so far. No public clause cites this module.
+use Rattle.std.specs.Prelude.{◌≡◌, ◌≢◌, ◌⊎◌, ℕ, List, [], ◌∷◌, Option, Result, Ok, Err}
+use Rattle.omf_io.specs.Counts.{risen, ToldOr}
+use Rattle.omf_io.specs.Files.{StoreSeen}
+use Rattle.omf_io.specs.Sinks.{SinkSeen, with_text, FailsToPrint}
+use Rattle.omf_io.specs.Outside.{Outside}
+use Rattle.loader_machine.specs.Command.{Command, Banks, Load, Bytes}
+use Rattle.loader_machine.specs.Machine.{Machine}
+use Rattle.loader_machine.specs.Script.{HasScriptFault}
+use Rattle.loader_machine.specs.declared.faults.LoaderFault.{LoaderFault}
+use Rattle.loader_machine.specs.declared.faults.LoaderFault.TheVariants as loader_fault
+use Rattle.loader_machine.specs.Step as step
+use Rattle.loader_machine.specs.Step.{Reply}
+use Rattle.loader_machine.specs.Transcript.{IsAnswered}
+use Rattle.loader_machine.specs.Replies.{reply_line, replies_text}
+use Rattle.sys_loader.specs.Loaded.{Loaded, Agrees}
+use Rattle.sys_loader.specs.Meets.{AgreesEmpty}
+use Rattle.loader_script.specs.declared.run.ScriptEnd.{ScriptEnd}
+use Rattle.loader_script.specs.declared.run.ScriptEnd.TheVariants as end
+use Rattle.loader_script.specs.declared.run.Stop.{Stop}
+use Rattle.loader_script.specs.declared.run.Stop.TheVariants.{CannotPrint, Memory}
+use Rattle.loader_script.specs.Replied.{unread, asks, AreReplies, IsUnanswered}
+use Rattle.loader_script.specs.Run.{HasRunAll, StopsPrinting, StopsShort}
+
+-- what became of a line: it was printed whole, a front of it, or nothing
+abbrev pub HasPrinted : Result (Unit {0}) Stop → List ℕ → SinkSeen → SinkSeen → Type 0
+HasPrinted (Ok done) text before now = now ≡ with_text text before
+HasPrinted (Err CannotPrint) text before now = FailsToPrint text before now
+HasPrinted (Err Memory) text before now = now ≡ before
+
+-- what became of a refusal: want of memory is no reply, and every other one was printed as one
+abbrev pub HasRefused : LoaderFault → Result (Unit {0}) Stop → SinkSeen → SinkSeen → Type 0
+HasRefused fault result before now =
+    ((fault ≡ loader_fault.Memory) × (result ≡ Err Memory) × (now ≡ before))
+    ⊎ ((fault ≢ loader_fault.Memory) × HasPrinted result (reply_line (step.Refused fault)) before now)
+
+-- the loader answers a command: over files that are told as the machine does, or by `cannot read` where the count is one more
+pub record IsAnswer (command : Command) (old : Loaded) (reply : Reply) (new : Loaded) (before now : StoreSeen) : Type 0 where
+  pub told : ToldOr before.held (now.faults ≡ risen (unread (reply ∷ [])) before.faults) (λ files. (state : Machine) → Agrees files old state
+      → (others : ℕ) × (next : Machine) × IsAnswered files state command reply others next × Agrees files new next × (now.faults ≡ risen others before.faults))
+  pub store : now ≡ record before { faults = now.faults; asked = risen (asks command reply) before.asked }
+  pub unanswered : IsUnanswered command before now
+
+-- the loader that the first command of a script asks for agrees with the empty state of the named banks
+abbrev pub IsFirstLoader : Command → Loaded → Type 0
+IsFirstLoader (Banks banks) loader = AgreesEmpty banks loader
+IsFirstLoader (Load path) loader = ⊥
+IsFirstLoader (Bytes user segment at size) loader = ⊥
+
+-- how one command ends: its reply was printed, or not whole; or memory ran out, and nothing was printed
+abbrev pub HasAnswered : Result (Unit {0}) Stop → Command → Loaded → Loaded → Outside → Type 0
+HasAnswered (Ok done) command old new o =
+    (reply : Reply) × IsAnswer command old reply new o.store o.new_store × (o.new_sink ≡ with_text (reply_line reply) o.sink)
+HasAnswered (Err CannotPrint) command old new o =
+    (reply : Reply) × IsAnswer command old reply new o.store o.new_store × FailsToPrint (reply_line reply) o.sink o.new_sink
+HasAnswered (Err Memory) command old new o = IsUnanswered command o.store o.new_store × (o.new_sink ≡ o.sink)
+
+-- the commands were answered, their replies printed, and the loader agrees with the state to which they lead
+pub record IsUnderWay (commands : List Command) (loader : Loaded) (o : Outside) : Type 0 where
+  pub replies : List Reply
+  pub answered : AreReplies (λ files last. Agrees files loader last) commands replies o.store o.new_store
+  pub printed : o.new_sink ≡ with_text (replies_text replies) o.sink
+
+-- how all commands end
+abbrev pub HasFinished : Result (Option Loaded) Stop → List Command → Outside → Type 0
+HasFinished (Ok loader) commands o = HasRunAll loader commands o
+HasFinished (Err CannotPrint) commands o = StopsPrinting commands o
+HasFinished (Err Memory) commands o = StopsShort commands o
+
+-- how a script ends that wasn't read
+abbrev pub IsNotRun : ScriptEnd → List ℕ → Type 0
+IsNotRun (end.Refused fault) text = HasScriptFault text fault
+IsNotRun end.Memory text = Unit {0}
+IsNotRun _ text = ⊥

@@ -1,0 +1,35 @@
+-- The forms of words, one for each command.
+use Rattle.std.specs.Prelude.{ℕ, ◌&&◌, if◌then◌else◌, List, [], ◌∷◌, codes, Option, None, Some}
+use Rattle.std.specs.Option.{option_map}
+use Rattle.std.specs.Str.{bytes_eq}
+use Rattle.omf_cli.specs.Words.{is_path, are_paths, words_of}
+use Rattle.omf_cli.specs.declared.form.Form.{Form as Words}
+use Rattle.omf_cli.specs.declared.form.Form.TheVariants as words
+
+pub data Form : Type 0 where
+  Link : (output : List ℕ) (inputs : List (List ℕ)) → Form
+  Dump : (inputs : List (List ℕ)) → Form
+  Run : (inputs : List (List ℕ)) → Form
+
+-- an output, and so many inputs behind it
+abbrev pub with_output : ℕ → ℕ → List (List ℕ) → Option (List ℕ × List (List ℕ))
+with_output least most [] = None
+with_output least most (output ∷ inputs) = if is_path output && are_paths least most inputs then Some (output, inputs) else None
+
+-- so many inputs
+abbrev pub inputs_only : ℕ → ℕ → List (List ℕ) → Option (List (List ℕ))
+inputs_only least most inputs = if are_paths least most inputs then Some inputs else None
+
+-- `link OUT OBJ`, `dump FILE`, `run SCRIPT`; other words have no form
+abbrev pub form_of : List (List ℕ) → Option Form
+form_of [] = None
+form_of (name ∷ words) =
+    if bytes_eq name (codes "link") then option_map (λ w. Link w.0 w.1) (with_output 1 1 words)
+    else (if bytes_eq name (codes "dump") then option_map Dump (inputs_only 1 1 words)
+    else (if bytes_eq name (codes "run") then option_map Run (inputs_only 1 1 words) else None))
+
+-- a form as it was read from words
+abbrev pub shown : Words → Form
+shown (words.Link output inputs) = Link output.now (words_of inputs.now)
+shown (words.Dump inputs) = Dump (words_of inputs.now)
+shown (words.Run inputs) = Run (words_of inputs.now)

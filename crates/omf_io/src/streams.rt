@@ -1,0 +1,57 @@
+// Whole files through readers and writers.
+ghost use Rattle.std.specs.Prelude.{◌≡◌, ◌⊎◌, ◌<◌, ◌≤◌, length, IfOk, IfErr, OnOk, IfSome};
+ghost use Rattle.std.specs.Io.KnownBytes.{Appends};
+ghost use Rattle.omf_io.specs.Files.{max_file};
+
+use crate::{MAX_FILE, ReadFault};
+use std::alloc::Global;
+use std::io::{self, Error, ErrorKind, Read, Write};
+
+/// Why a stream that was there gave no bytes.
+fn stream_fault(error: Error) -> ReadFault
+    ensures { (result ≡ ReadFault.Failed) ⊎ (result ≡ ReadFault.Memory) }
+{
+    match error.kind() {
+        ErrorKind::OutOfMemory => ReadFault::Memory,
+        _ => ReadFault::Failed,
+    }
+}
+
+/// Why nothing was opened, or nothing told of it.
+pub fn open_fault(error: Error) -> ReadFault {
+    match error.kind() {
+        ErrorKind::NotFound => ReadFault::Absent,
+        _ => stream_fault(error),
+    }
+}
+
+/// All bytes that a reader has left, at most 16,777,216. `told` says how many they are, and may be wrong.
+pub fn read_whole<R: Read + Drop>(alloc: Global, reader: R, told: u64) -> Result<Vec<u8>, ReadFault>
+    // They are all, and not too many.
+    ensures bytes { IfOk result (λ bytes. IfSome (R.remaining reader) (λ left. bytes.items ≡ left)) }
+    ensures limit { IfOk result (λ bytes. length bytes.items ≤ max_file) }
+
+    // TooLong comes only where they are more, whatever was told; and Absent never.
+    ensures long { IfErr result (λ fault. fault ≡ ReadFault.TooLong → IfSome (R.remaining reader) (λ left. max_file < length left)) }
+    ensures present { IfErr result (λ fault. fault ≡ ReadFault.Absent → ⊥) }
+{
+    // One byte more than there are leaves room to find the end.
+    let room = told.min(MAX_FILE as u64) as usize + 1;
+    let mut bytes = Vec::with_capacity(alloc, room)?;
+    let mut front = reader.take(MAX_FILE as u64 + 1);
+    match front.read_to_end(&mut bytes) {
+        Ok(_) => {}
+        Err(error) => return Err(stream_fault(error)),
+    }
+    if bytes.len() > MAX_FILE {
+        return Err(ReadFault::TooLong);
+    }
+    Ok(bytes)
+}
+
+/// Writes all bytes: it is Ok only where the writer took each of them, in order.
+pub fn write_whole<W: Write>(writer: &mut W, bytes: &[u8]) -> io::Result<()>
+    ensures { OnOk result (Appends (W.contents writer.old) (W.contents writer.new) bytes.now) }
+{
+    writer.write_all(bytes)
+}
