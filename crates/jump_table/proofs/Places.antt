@@ -7,10 +7,10 @@ use Rattle.std.proofs.lemmas.List.{length-append}
 use Rattle.std.proofs.lemmas.List.Elements.{All-push, All-head, All-tail}
 use Rattle.std.proofs.lemmas.List.Quantifiers.{position-Some}
 use Rattle.std.proofs.lemmas.Option.{slice_get-get_or, slice_get_within}
-use Rattle.omf_format.specs.declared.table.Target.{Target}
-use Rattle.omf_format.specs.declared.table.Entry.{Entry}
-use Rattle.omf_format.specs.Table.{is_same, with_target, IsAtPlace, AreDistinct, most_entries, file_entry, FitsEntry, table_bytes, IsTableOf}
-use Rattle.omf_format.specs.TableLaws.{table_laid_out}
+use Rattle.load_meaning.specs.declared.table.Target.{Target}
+use Rattle.load_meaning.specs.declared.table.Entry.{Entry}
+use Rattle.load_meaning.specs.Table.{is_same, with_target, IsAtPlace, AreDistinct, most_entries, file_entry, FitsEntry, table_bytes, IsTableOf}
+use Rattle.load_meaning.specs.TableLaws.{table_laid_out}
 use Rattle.jump_table.specs.Targets.{FitsTarget, IsSound}
 
 pub same_self : (t : Target) → is_same t t ≡ true

@@ -1,7 +1,7 @@
 -- What the fields of a table keep. No public clause cites this module.
 use Rattle.std.specs.Prelude.{◌<◌, ◌≤◌, ◌^◌, List, All, length}
-use Rattle.omf_format.specs.declared.table.Target.{Target}
-use Rattle.omf_format.specs.Table.{AreDistinct, most_entries}
+use Rattle.load_meaning.specs.declared.table.Target.{Target}
+use Rattle.load_meaning.specs.Table.{AreDistinct, most_entries}
 
 -- the target's numbers fit into their fields
 pub record FitsTarget (target : Target) : Type 0 where

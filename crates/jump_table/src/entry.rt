@@ -3,12 +3,12 @@
 ghost use Rattle.std.specs.Prelude.{◌≡◌, ◌⊎◌, ◌↔◌, ◌+◌, ◌<◌, ◌≤◌, ◌^◌, ℕ, Option, length, IsNone, IfSome, IfNone, None, Some};
 ghost use Rattle.byteorder.specs.Endian.{little_bytes};
 ghost use Rattle.omf_format.specs.Number as numbers;
-ghost use Rattle.omf_format.specs.declared.table.Entry.{Entry};
-ghost use Rattle.omf_format.specs.Table.{HasCode, IsEntryAt, code_bytes, written_at};
+ghost use Rattle.load_meaning.specs.declared.table.Entry.{Entry};
+ghost use Rattle.load_meaning.specs.Table.{HasCode, IsEntryAt, code_bytes, written_at};
 
 use byteorder::{ByteOrder, LittleEndian};
 use omf_base::number_at;
-use omf_format::Entry;
+use load_meaning::Entry;
 
 /// The code of an entry whose target isn't loaded: a JSL to the loader at $E1F000.
 pub const UNLOADED: [u8; 4] = [0x22, 0x00, 0xF0, 0xE1];

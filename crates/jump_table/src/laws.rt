@@ -1,6 +1,6 @@
 //! Laws of entries.
 
-ghost use Rattle.omf_format.specs.Table.{OneEntryAtMost, WrittenIsRead};
+ghost use Rattle.load_meaning.specs.Table.{OneEntryAtMost, WrittenIsRead};
 
 /// At a displacement stands one entry at most, and where an entry's bytes are written stands that entry. The function
 /// does nothing; its contract is the law.

@@ -7,7 +7,7 @@ mod table;
 
 pub use entry::{read_entry, set_loaded, set_unloaded, set_user};
 pub use laws::entries_are_read_in_one_way;
-pub use omf_format::{Entry, Target};
+pub use load_meaning::{Entry, Target};
 pub use table::{MOST_ENTRIES, Table, TableFault};
 
 #[cfg(test)]

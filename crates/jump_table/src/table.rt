@@ -2,12 +2,12 @@
 
 ghost use Rattle.std.specs.Prelude.{All, ◌≡◌, ◌↔◌, ◌+◌, ◌<◌, ◌≤◌, ◌*◌, ◌++◌, ◌∷◌, [], ℕ, IfOk, IfErr, IfSome, IfNone, is_some, OnOk, OnErr, IsOk, IsErrOf, length, map};
 ghost use Rattle.std.specs.List.{list_any};
-ghost use Rattle.omf_format.specs.Table.{entry_bytes, table_bytes, file_entry, IsTableOf};
+ghost use Rattle.load_meaning.specs.Table.{entry_bytes, table_bytes, file_entry, IsTableOf};
 
 use crate::entry::UNLOADED;
 use byteorder::{ByteOrder, LittleEndian};
 use indexmap::IndexSet;
-use omf_format::Target;
+use load_meaning::Target;
 use std::alloc::{AllocError, Global};
 use std::marker::Model;
 
@@ -42,7 +42,7 @@ pub struct Table {
 
 impl Model for Table {
     ghost use Rattle.std.specs.Prelude.{List};
-    ghost use Rattle.omf_format.specs.declared.table.Target.{Target};
+    ghost use Rattle.load_meaning.specs.declared.table.Target.{Target};
 
     ghost Value = { List Target };
 
@@ -54,7 +54,7 @@ impl Model for Table {
 }
 
 // The entry of a target, as it stands in a file.
-#[tactic(auto, unfolding(omf_format::specs::Table::entry_bytes))]
+#[tactic(auto, unfolding(load_meaning::specs::Table::entry_bytes))]
 fn put_entry(out: &mut Vec<u8>, target: &Target) -> Result<(), AllocError>
     ensures { OnOk result (out.new.items ≡ out.old.items ++ entry_bytes (file_entry target.now)) }
 {
@@ -67,9 +67,9 @@ fn put_entry(out: &mut Vec<u8>, target: &Target) -> Result<(), AllocError>
 }
 
 impl Table {
-    ghost use Rattle.omf_format.specs.declared.table.Target.{Target};
+    ghost use Rattle.load_meaning.specs.declared.table.Target.{Target};
     ghost use Rattle.jump_table.specs.Targets.{FitsTarget};
-    ghost use Rattle.omf_format.specs.Table.{most_entries, is_same, with_target, entry_place, IsAtPlace, AreDistinct};
+    ghost use Rattle.load_meaning.specs.Table.{most_entries, is_same, with_target, entry_place, IsAtPlace, AreDistinct};
 
     /// A table without targets.
     pub fn new(alloc: Global) -> Table
@@ -155,7 +155,7 @@ impl Table {
     }
 
     // The zeros and the entries.
-    #[tactic(auto, unfolding(omf_format::specs::Table::table_bytes))]
+    #[tactic(auto, unfolding(load_meaning::specs::Table::table_bytes))]
     fn written(&self, alloc: Global) -> Result<Vec<u8>, TableFault>
         ensures bytes { IfOk result (λ bytes. bytes.items ≡ table_bytes (map file_entry self.now)) }
         ensures memory_alone { IfErr result (λ fault. fault ≡ TableFault.Memory) }

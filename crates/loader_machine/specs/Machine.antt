@@ -6,8 +6,8 @@ use Rattle.std.specs.List.{AllByRecursion}
 use Rattle.std.specs.FinMap.{get}
 use Rattle.omf_format.specs.Header.{Fields, form_of, is_dynamic, is_skipped, avoids_special, stays_in_bank}
 use Rattle.omf_format.specs.File.{Segment}
-use Rattle.omf_format.specs.Cells.{patches_of}
-use Rattle.omf_format.specs.Loadable.{IsLoadable}
+use Rattle.load_meaning.specs.Cells.{patches_of}
+use Rattle.load_meaning.specs.Loadable.{IsLoadable}
 use Rattle.omf_io.specs.Files.{FileMap, max_file}
 use Rattle.iigs_meaning.specs.declared.handles.Handle.{Handle}
 use Rattle.iigs_meaning.specs.declared.slots.Slot.{Slot}

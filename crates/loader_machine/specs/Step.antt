@@ -1,7 +1,7 @@
 -- What each command of a script does to the machine, and what it answers.
 use Rattle.std.specs.Prelude.{◌≡◌, ℕ, ◌+◌, ◌<◌, ◌≤◌, true, List, [], ◌∷◌, ◌++◌, length, take, drop, nat_lt, Option, Some, None, IsSome, if◌then◌else◌}
 use Rattle.omf_format.specs.File.{Segment, segment_at}
-use Rattle.omf_format.specs.Cells.{stands}
+use Rattle.load_meaning.specs.Cells.{stands}
 use Rattle.omf_io.specs.Files.{FileMap}
 use Rattle.iigs_meaning.specs.declared.handles.Handle.{Handle}
 use Rattle.loader_machine.specs.declared.faults.LoaderFault.{LoaderFault}

@@ -6,7 +6,7 @@ use Rattle.omf_format.specs.Record.{Record}
 use Rattle.omf_format.specs.Reading.{Reader, next_answer, after_next, HandsOut, records_of}
 use Rattle.omf_format.specs.FileLaws.{HandsOut-append, ended_at_none}
 use Rattle.omf_format.specs.BodyLaws.{records_of-run}
-use Rattle.omf_format.specs.Loadable.{record_refusal}
+use Rattle.load_meaning.specs.Loadable.{record_refusal}
 use Rattle.omf_cells.specs.Walk.{IsLoadBody}
 
 abbrev IsAllowed : ℕ × Record → Type 0

@@ -7,16 +7,16 @@ use Rattle.std.proofs.Math.Seq.{drop-cons}
 use Rattle.std.proofs.lemmas.List.{length-map}
 use Rattle.std.proofs.lemmas.List.Elements.{All-get_or}
 use Rattle.std.proofs.lemmas.Option.{slice_get_within, slice_get_past, get_or_from_slice_get, slice_get-map}
-use Rattle.omf_format.specs.declared.load.LoadCause.TheVariants.{Sequence, DataTooLong}
-use Rattle.omf_format.specs.declared.load.LoadFault.{LoadFault}
+use Rattle.load_meaning.specs.declared.load.LoadCause.TheVariants.{Sequence, DataTooLong}
+use Rattle.load_meaning.specs.declared.load.LoadFault.{LoadFault}
 use Rattle.omf_format.specs.Header.{first_of}
 use Rattle.omf_format.specs.Reading.{Reader, records_of}
 use Rattle.omf_format.specs.File.{Segment, Placed, segment_of, body_reader, segment_at}
 use Rattle.omf_format.specs.FileLaws.{segments_fit}
 use Rattle.omf_format.specs.Body.{body_bytes}
-use Rattle.omf_format.specs.Cells.{Cell, Byte, segment_bytes, patches_of, cells, cell_at}
-use Rattle.omf_format.specs.CellLaws.{unpatched, cells-bytes, length-segment_bytes, loadable_at}
-use Rattle.omf_format.specs.Loadable.{Fault, in_segment, first_in, shape_fault}
+use Rattle.load_meaning.specs.Cells.{Cell, Byte, segment_bytes, patches_of, cells, cell_at}
+use Rattle.load_meaning.specs.CellLaws.{unpatched, cells-bytes, length-segment_bytes, loadable_at}
+use Rattle.load_meaning.specs.Loadable.{Fault, in_segment, first_in, shape_fault}
 use Rattle.omf_records.specs.declared.segment.SegmentView.{SegmentView}
 use Rattle.omf_records.specs.Segments.{placed, shown}
 use Rattle.omf_cells.specs.Walk.{content, gives_patch}

@@ -6,7 +6,7 @@ use Rattle.std.proofs.lemmas.List.Concat.{flat_map-cons}
 use Rattle.omf_format.specs.Super.{locations_left}
 use Rattle.omf_format.specs.Record.{Record, End, Const, LongConst, Align, Org, Space, Reloc, InterSeg, ShortReloc, ShortInterSeg, Super, Using, Strong, Label, Equate, Formula, Entry}
 use Rattle.omf_format.specs.File.{Segment}
-use Rattle.omf_format.specs.Cells.{Patch, super_patch, patches_in, patches_of}
+use Rattle.load_meaning.specs.Cells.{Patch, super_patch, patches_in, patches_of}
 use Rattle.omf_records.specs.View.{first}
 use Rattle.omf_cells.specs.Walk.{gives_patch}
 

@@ -3,10 +3,10 @@ use Rattle.std.proofs.Common.{◌≡◌, ℕ, ◌+◌, ◌*◌, ◌<◌, ◌≤�
 use Rattle.std.specs.List.{AllByRecursion}
 use Rattle.std.proofs.lemmas.List.{map-append, length-append, length-map}
 use Rattle.std.proofs.lemmas.List.Elements.{All-push}
-use Rattle.omf_format.specs.declared.load.LoadFault.{LoadFault}
+use Rattle.load_meaning.specs.declared.load.LoadFault.{LoadFault}
 use Rattle.omf_format.specs.File.{Segment, AreSegments}
 use Rattle.omf_format.specs.FileLaws.{LiesIn, header_lies, AreSegments-append, segments_fit}
-use Rattle.omf_format.specs.Loadable.{HasReadFault, IsLoadSegment, later_fault, IsFirstLoadFault, OfReading, OfSegments}
+use Rattle.load_meaning.specs.Loadable.{HasReadFault, IsLoadSegment, later_fault, IsFirstLoadFault, OfReading, OfSegments}
 use Rattle.omf_records.specs.declared.segment.SegmentView.{SegmentView}
 use Rattle.omf_records.specs.Segments.{placed, shown}
 use Rattle.omf_cells.specs.Load.{IsRefused, IsReadRefused, IsLoadView}

@@ -2,11 +2,11 @@
 use Rattle.std.specs.Prelude.{◌≡◌, ℕ, List, [], length, map, drop, Some, Err}
 use Rattle.omf_format.specs.declared.fault.HeaderFault.{HeaderFault}
 use Rattle.omf_format.specs.declared.fault.RecordFault.{RecordFault}
-use Rattle.omf_format.specs.declared.load.LoadFault.{LoadFault}
+use Rattle.load_meaning.specs.declared.load.LoadFault.{LoadFault}
 use Rattle.omf_format.specs.Header.{version_of, header_fault}
 use Rattle.omf_format.specs.File.{Segment, segment_at, told_header, told_record}
-use Rattle.omf_format.specs.Cells.{Byte, segment_bytes, patches_of, cells}
-use Rattle.omf_format.specs.Loadable.{as_load, answer_fault, HasReadFault, IsLoadable, IsFirstLoadFault}
+use Rattle.load_meaning.specs.Cells.{Byte, segment_bytes, patches_of, cells}
+use Rattle.load_meaning.specs.Loadable.{as_load, answer_fault, HasReadFault, IsLoadable, IsFirstLoadFault}
 
 -- a file is one list of load segments at most
 abbrev pub OneLoadFile : Type 0

@@ -2,14 +2,14 @@
 use Rattle.std.specs.Prelude.{◌≡◌, ◌≢◌, ◌⊎◌, ◌<◌, ◌+◌, ◌^◌, ℕ, List, [], length, map, All, Some, None, IsSomeAnd}
 use Rattle.omf_format.specs.declared.fault.HeaderFault.{HeaderFault}
 use Rattle.omf_format.specs.declared.fault.HeaderFault.TheVariants as header
-use Rattle.omf_format.specs.declared.load.LoadCause.{LoadCause}
-use Rattle.omf_format.specs.declared.load.LoadCause.TheVariants.{NotLoadFile, Truncated, BadHeader, Unsupported, BadRecord, Sequence, DataTooLong, PatchOutside, NoSuchTarget, DynamicTarget, BadTable, Memory}
-use Rattle.omf_format.specs.declared.load.LoadFault.{LoadFault}
+use Rattle.load_meaning.specs.declared.load.LoadCause.{LoadCause}
+use Rattle.load_meaning.specs.declared.load.LoadCause.TheVariants.{NotLoadFile, Truncated, BadHeader, Unsupported, BadRecord, Sequence, DataTooLong, PatchOutside, NoSuchTarget, DynamicTarget, BadTable, Memory}
+use Rattle.load_meaning.specs.declared.load.LoadFault.{LoadFault}
 use Rattle.omf_format.specs.Header.{Fields}
 use Rattle.omf_format.specs.File.{Segment, IsHeader, IsSegment, segment_at, told_header}
-use Rattle.omf_format.specs.Cells.{Byte, patches_of, cells}
-use Rattle.omf_format.specs.Loadable.{segment_refusal, as_load, in_segment, HasReadFault, IsLoadSegment, IsLoadable, IsFirstLoadFault}
-use Rattle.omf_format.specs.CellLaws.{IsShaped}
+use Rattle.load_meaning.specs.Cells.{Byte, patches_of, cells}
+use Rattle.load_meaning.specs.Loadable.{segment_refusal, as_load, in_segment, HasReadFault, IsLoadSegment, IsLoadable, IsFirstLoadFault}
+use Rattle.load_meaning.specs.CellLaws.{IsShaped}
 use Rattle.omf_records.specs.declared.segment.SegmentView.{SegmentView}
 use Rattle.omf_records.specs.Segments.{shown}
 

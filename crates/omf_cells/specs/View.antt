@@ -1,5 +1,5 @@
 -- How cells are seen.
-use Rattle.omf_format.specs.Cells as format
+use Rattle.load_meaning.specs.Cells as format
 use Rattle.omf_cells.specs.declared.cell.Cell.{Cell}
 use Rattle.omf_cells.specs.declared.cell.Cell.TheVariants as cell
 

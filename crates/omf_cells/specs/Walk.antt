@@ -5,7 +5,7 @@ use Rattle.omf_format.specs.Field.{Layout}
 use Rattle.omf_format.specs.Super.{locations_left}
 use Rattle.omf_format.specs.Record.{Record, End, Const, LongConst, Align, Org, Space, Reloc, InterSeg, ShortReloc, ShortInterSeg, Super, Using, Strong, Label, Equate, Formula, Entry, IsRecord, content_of}
 use Rattle.omf_format.specs.Reading.{Reader, next_answer, HandsOut, records_of, IsBody}
-use Rattle.omf_format.specs.Loadable.{Fault, record_refusal, answer_fault}
+use Rattle.load_meaning.specs.Loadable.{Fault, record_refusal, answer_fault}
 use Rattle.omf_records.specs.View.{first}
 
 -- the records from there on come to END, and a load segment may have each of them

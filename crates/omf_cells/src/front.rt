@@ -2,13 +2,14 @@
 
 ghost use Rattle.std.specs.Prelude.{◌≡◌, ◌+◌, ◌<◌, ◌≤◌, ◌^◌, length, drop, IfOk, IfErr, Some};
 ghost use Rattle.omf_format.specs.Header.{form_of, version_of};
-ghost use Rattle.omf_format.specs.Loadable.{is_express, segment_refusal};
+ghost use Rattle.load_meaning.specs.Loadable.{is_express, segment_refusal};
 ghost use Rattle.omf_header.specs.View.{fields};
 ghost use Rattle.omf_records.specs.Segments.{HasPlace};
 ghost use Rattle.omf_cells.specs.Load.{IsLoadHeader, IsReadRefused, IsHeaderFault};
 
 use crate::told::load_fault;
-use omf_format::{HeaderFault, LoadCause, LoadFault};
+use load_meaning::{LoadCause, LoadFault};
+use omf_format::HeaderFault;
 use omf_header::{Header, read_header};
 use omf_records::told_header;
 use std::alloc::Global;
@@ -45,7 +46,7 @@ fn from(bytes: &[u8], at: usize) -> &[u8]
 }
 
 /// Why a load file can't have a segment of this name and type.
-#[tactic(auto, unfolding(omf_format::specs::Loadable::segment_refusal))]
+#[tactic(auto, unfolding(load_meaning::specs::Loadable::segment_refusal))]
 fn refusal(header: &Header) -> Option<LoadCause>
     ensures value { result ≡ segment_refusal (fields header.now) }
     ensures named { result ≡ Some LoadCause.Memory → ⊥ }

@@ -22,5 +22,5 @@ pub use laws::{
     faults_keep_their_places, load_files_are_read_in_one_way, load_segments_have_length_cells,
 };
 pub use load::LoadFile;
-pub use omf_format::{LoadCause, LoadFault};
+pub use load_meaning::{LoadCause, LoadFault};
 pub use reading::read_load;

@@ -1,7 +1,7 @@
 //! A load file, as it was read.
 
 ghost use Rattle.std.specs.Prelude.{◌≡◌, ◌↔◌, length, IsTrue, MatchOption, option_map};
-ghost use Rattle.omf_format.specs.Cells.{cell_at};
+ghost use Rattle.load_meaning.specs.Cells.{cell_at};
 ghost use Rattle.omf_header.specs.View.{fields};
 ghost use Rattle.omf_cells.specs.View.{view};
 ghost use Rattle.omf_cells.specs.Load.{IsOutside, HasFields, HasLength, HasPatches, HasBytes, Shows};

@@ -1,7 +1,7 @@
 //! Reading a load file: each segment in order, header, name and type before its records, and then the segments together.
 
 ghost use Rattle.std.specs.Prelude.{◌≡◌, ◌<◌, ◌^◌, length, map, OnOk, IfOk, IfErr, IfSome};
-ghost use Rattle.omf_format.specs.Loadable.{IsLoadable, later_fault};
+ghost use Rattle.load_meaning.specs.Loadable.{IsLoadable, later_fault};
 ghost use Rattle.omf_records.specs.Segments.{shown};
 ghost use Rattle.omf_cells.specs.Load.{IsLoadView, AreShown, IsReadRefused, IsRefused};
 
@@ -10,7 +10,7 @@ use crate::load::LoadFile;
 use crate::records::check_records;
 use crate::shape::check_shapes;
 use crate::targets::check_targets;
-use omf_format::{LoadCause, LoadFault};
+use load_meaning::{LoadCause, LoadFault};
 use omf_records::SegmentView;
 use std::alloc::Global;
 
@@ -43,7 +43,7 @@ fn segment_from(
 }
 
 /// The first fault of the phases after phase 1, each of which goes over all segments.
-#[tactic(auto, unfolding(omf_format::specs::Loadable::later_fault))]
+#[tactic(auto, unfolding(load_meaning::specs::Loadable::later_fault))]
 fn check_later(views: &Vec<SegmentView>) -> Option<LoadFault>
     requires { AreShown views.now.items }
     ensures value { result ≡ later_fault (map shown views.now.items) }

@@ -1,13 +1,14 @@
 //! The records of a load segment, checked one by one.
 
 ghost use Rattle.std.specs.Prelude.{◌≡◌, Some, OnOk, IfErr};
-ghost use Rattle.omf_format.specs.Loadable.{record_refusal, as_load, in_segment};
+ghost use Rattle.load_meaning.specs.Loadable.{record_refusal, as_load, in_segment};
 ghost use Rattle.omf_format.specs.File.{told_record};
 ghost use Rattle.omf_records.specs.View.{view};
 ghost use Rattle.omf_cells.specs.Walk.{IsLoadBody, HasBodyFault};
 
 use crate::told::load_fault;
-use omf_format::{LoadCause, LoadFault, RecordFault};
+use load_meaning::{LoadCause, LoadFault};
+use omf_format::RecordFault;
 use omf_records::{Rec, Records, told_record};
 
 /// Goes over the records up to END.

@@ -1,12 +1,12 @@
 //! The segments of a load file, each with its number and the size of its data checked.
 
 ghost use Rattle.std.specs.Prelude.{◌≡◌, ◌<◌, ◌^◌, length, map, option_map, IfSome};
-ghost use Rattle.omf_format.specs.Loadable.{shape_fault, in_segment, first_in};
+ghost use Rattle.load_meaning.specs.Loadable.{shape_fault, in_segment, first_in};
 ghost use Rattle.omf_records.specs.Segments.{shown};
 ghost use Rattle.omf_cells.specs.Load.{IsLoadView, AreShown};
 
 use crate::body::is_longer;
-use omf_format::{LoadCause, LoadFault};
+use load_meaning::{LoadCause, LoadFault};
 use omf_records::SegmentView;
 
 /// What is wrong with the segment that has this number.

@@ -2,12 +2,12 @@
 
 ghost use Rattle.std.specs.Prelude.{◌≡◌, ◌<◌, ◌^◌, length, map, option_map, IfSome, Some};
 ghost use Rattle.omf_format.specs.Reading.{records_of, IsBody};
-ghost use Rattle.omf_format.specs.Loadable.{is_place, target_refusal, first_target_fault, target_fault, in_segment, first_in};
+ghost use Rattle.load_meaning.specs.Loadable.{is_place, target_refusal, first_target_fault, target_fault, in_segment, first_in};
 ghost use Rattle.omf_records.specs.View.{view};
 ghost use Rattle.omf_records.specs.Segments.{shown};
 ghost use Rattle.omf_cells.specs.Load.{AreShown};
 
-use omf_format::{LoadCause, LoadFault};
+use load_meaning::{LoadCause, LoadFault};
 use omf_records::{Rec, Records, SegmentView};
 
 /// Whether an offset is below LENGTH of the segment with a number, from 1, and the segment isn't skipped.

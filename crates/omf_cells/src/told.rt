@@ -1,9 +1,10 @@
 //! Faults that any file may have, as those of a load file.
 
 ghost use Rattle.std.specs.Prelude.{◌≡◌};
-ghost use Rattle.omf_format.specs.Loadable.{load_cause, as_load, in_segment};
+ghost use Rattle.load_meaning.specs.Loadable.{load_cause, as_load, in_segment};
 
-use omf_format::{FileCause, LoadCause, LoadFault};
+use load_meaning::{LoadCause, LoadFault};
+use omf_format::FileCause;
 
 /// A cause that a load file shares with every file.
 fn load_cause(cause: FileCause) -> LoadCause

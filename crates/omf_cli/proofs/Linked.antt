@@ -8,8 +8,8 @@ use Rattle.omf_format.specs.Header.{Fields, form_of, is_listed}
 use Rattle.omf_format.specs.HeaderLaws.{sound_from_none}
 use Rattle.omf_format.specs.File.{Segment, Placed, IsFirstFault}
 use Rattle.omf_format.specs.FileLaws.{no_file}
-use Rattle.omf_format.specs.Plain.{IsPlain, least_bank, loaded_bytes, load_fields, written}
-use Rattle.omf_format.specs.PlainLaws.{each_bank, least-le, length-loaded}
+use Rattle.load_meaning.specs.Plain.{IsPlain, least_bank, loaded_bytes, load_fields, written}
+use Rattle.load_meaning.specs.PlainLaws.{each_bank, least-le, length-loaded}
 use Rattle.omf_records.specs.Segments.{IsPlaced, UnlessMemory, IsRefused}
 use Rattle.omf_cli.specs.Plain.{IsNotLinked, unlinked}
 use Rattle.omf_cli.specs.LoadFile.{load_file_of}

@@ -13,11 +13,11 @@ use Rattle.omf_format.specs.Header.{Fields, fields_of, form_of}
 use Rattle.omf_format.specs.Record.{Record, End, Const, LongConst, Align, Org, Space, Reloc, InterSeg, ShortReloc, ShortInterSeg, Super, Using, Strong, Label, Equate, Formula, Entry, is_constant}
 use Rattle.omf_format.specs.File.{Segment, IsHeader, IsFile}
 use Rattle.omf_format.specs.Body.{body_bytes}
-use Rattle.omf_format.specs.Plain.{memory_bytes, is_object, cleared, loaded_bytes, IsPlain, written, IsLinkedTo}
-use Rattle.omf_format.specs.PlainLaws.{is_load_file, length-without_trailing}
-use Rattle.omf_format.specs.Cells.{Byte, segment_bytes}
-use Rattle.omf_format.specs.CellLaws.{unpatched, cells-bytes}
-use Rattle.omf_format.specs.Loadable.{express_name, is_express, segment_refusal, record_refusal, target_refusal, first_target_fault, shape_fault, later_fault, IsLoadSegment, IsLoadable}
+use Rattle.load_meaning.specs.Plain.{memory_bytes, is_object, cleared, loaded_bytes, IsPlain, written, IsLinkedTo}
+use Rattle.load_meaning.specs.PlainLaws.{is_load_file, length-without_trailing}
+use Rattle.load_meaning.specs.Cells.{Byte, segment_bytes}
+use Rattle.load_meaning.specs.CellLaws.{unpatched, cells-bytes}
+use Rattle.load_meaning.specs.Loadable.{express_name, is_express, segment_refusal, record_refusal, target_refusal, first_target_fault, shape_fault, later_fault, IsLoadSegment, IsLoadable}
 use Rattle.omf_cli.specs.Laws.{IsLoadOf}
 
 -- ---- the name

@@ -6,7 +6,7 @@ use Rattle.omf_format.specs.Reading.{Reader, IsBody}
 use Rattle.omf_format.specs.File.{body_reader}
 use Rattle.omf_format.specs.FileLaws.{HandsOut-same}
 use Rattle.omf_format.specs.Body.{body_bytes}
-use Rattle.omf_format.specs.Plain.{memory_bytes, HasConstants, IsPlainSegment}
+use Rattle.load_meaning.specs.Plain.{memory_bytes, HasConstants, IsPlainSegment}
 use Rattle.omf_header.specs.View.{fields}
 use Rattle.omf_records.specs.declared.segment.SegmentView.{SegmentView}
 use Rattle.omf_records.specs.Segments.{shown, IsSound}

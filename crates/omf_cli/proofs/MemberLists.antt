@@ -7,8 +7,8 @@ use Rattle.std.proofs.lemmas.List.{take_all, append-nil}
 use Rattle.std.proofs.lemmas.List.Sums.{sum_by-cons}
 use Rattle.std.proofs.lemmas.Grind.{flat_map-append}
 use Rattle.omf_format.specs.File.{Segment}
-use Rattle.omf_format.specs.Plain.{memory_bytes, IsPlainSegment, IsPlain, total_length, first_name, HasRoom, lesser_bank, least_bank, loaded_bytes}
-use Rattle.omf_format.specs.PlainLaws.{length-loaded}
+use Rattle.load_meaning.specs.Plain.{memory_bytes, IsPlainSegment, IsPlain, total_length, first_name, HasRoom, lesser_bank, least_bank, loaded_bytes}
+use Rattle.load_meaning.specs.PlainLaws.{length-loaded}
 use Rattle.omf_cli.specs.Members.{AreMembers}
 
 -- ---- the places so far

@@ -3,9 +3,9 @@ use Rattle.std.specs.Prelude.{◌≡◌, ◌≢◌, ◌≤◌, ℕ, ◌+◌, ◌
 use Rattle.omf_format.specs.Header.{form_of, is_dynamic, is_skipped}
 use Rattle.omf_format.specs.HeaderLaws.{IsBytes}
 use Rattle.omf_format.specs.File.{Segment, IsFile}
-use Rattle.omf_format.specs.Plain.{IsPlain, written, loaded_bytes, IsLinkedTo, IsLoadFile}
-use Rattle.omf_format.specs.Cells.{Byte, cells}
-use Rattle.omf_format.specs.Loadable.{IsLoadable}
+use Rattle.load_meaning.specs.Plain.{IsPlain, written, loaded_bytes, IsLinkedTo, IsLoadFile}
+use Rattle.load_meaning.specs.Cells.{Byte, cells}
+use Rattle.load_meaning.specs.Loadable.{IsLoadable}
 use Rattle.loader_machine.specs.Machine.{CanLoad}
 use Rattle.omf_io.specs.Outside.{Outside}
 use Rattle.omf_cli.specs.declared.status.Status.TheVariants.{CannotRead, CannotWrite}

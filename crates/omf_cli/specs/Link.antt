@@ -2,7 +2,7 @@
 use Rattle.std.specs.Prelude.{◌≡◌, ◌≢◌, ◌⊎◌, ℕ, List, [], codes, None}
 use Rattle.std.proofs.Common.{◌∷◌, inl, inr, length, refl, ap, arith}
 use Rattle.omf_format.specs.File.{Segment, IsFile}
-use Rattle.omf_format.specs.Plain.{IsPlain, IsLinkedTo, IsUnbuilt}
+use Rattle.load_meaning.specs.Plain.{IsPlain, IsLinkedTo, IsUnbuilt}
 use Rattle.omf_cli.specs.Lines.{refused_line}
 use Rattle.omf_cli.specs.Made.{Made, Bytes, Refusal, first_of}
 

@@ -2,7 +2,7 @@
 use Rattle.std.specs.Prelude.{ℕ, ◌-◌, List, ◌++◌, length}
 use Rattle.omf_format.specs.Name.{without_trailing}
 use Rattle.omf_format.specs.Header.{Fields, header_bytes}
-use Rattle.omf_format.specs.Plain.{cleared, data_of, written_body}
+use Rattle.load_meaning.specs.Plain.{cleared, data_of, written_body}
 
 -- the load segment's fields, by the first member's, the bank size, LENGTH and the length of the data
 abbrev pub header_of : Fields → ℕ → ℕ → ℕ → Fields

@@ -2,7 +2,7 @@
 use Rattle.std.specs.Prelude.{◌≡◌, true, List, ℕ}
 use Rattle.omf_format.specs.Header.{Fields, form_of}
 use Rattle.omf_format.specs.File.{Segment, IsFile}
-use Rattle.omf_format.specs.Plain.{is_object, IsPlain, total_length, least_bank}
+use Rattle.load_meaning.specs.Plain.{is_object, IsPlain, total_length, least_bank}
 
 -- the header is of an object file's segment that asks for no place
 pub record AsksNoPlace (f : Fields) : Type 0 where

@@ -2,7 +2,7 @@
 use Rattle.std.specs.Prelude.{◌≡◌, ℕ, List, []}
 use Rattle.omf_format.specs.declared.fault.FileCause.{FileCause}
 use Rattle.omf_format.specs.declared.fault.FileCause.TheVariants as cause
-use Rattle.omf_format.specs.Plain.{IsUnbuilt}
+use Rattle.load_meaning.specs.Plain.{IsUnbuilt}
 use Rattle.omf_cli.specs.declared.plain.LinkFault.{LinkFault}
 use Rattle.omf_cli.specs.declared.plain.LinkFault.TheVariants.{Empty, Unbuilt, Memory}
 

@@ -3,7 +3,7 @@
 ghost use Rattle.std.specs.Prelude.{◌≡◌, ◌<◌, ◌≤◌, ◌+◌, ◌^◌, ◌++◌, true, length, OnOk, IfOk, IfErr};
 ghost use Rattle.omf_format.specs.Name.{without_trailing};
 ghost use Rattle.omf_format.specs.Header.{is_listed, form_of, header_bytes};
-ghost use Rattle.omf_format.specs.Plain.{written_body, cleared};
+ghost use Rattle.load_meaning.specs.Plain.{written_body, cleared};
 ghost use Rattle.omf_header.specs.View.{fields};
 ghost use Rattle.omf_cli.specs.LoadFile.{header_of, load_file_of};
 
@@ -68,7 +68,7 @@ fn load_header(
 }
 
 /// How many bytes the body has, of this constant.
-#[tactic(auto, unfolding(omf_format::specs::Plain::written_body, omf_format::specs::Record::spelling))]
+#[tactic(auto, unfolding(load_meaning::specs::Plain::written_body, omf_format::specs::Record::spelling))]
 fn body_length(constant: &[u8]) -> u32
     requires { length constant.now < 2 ^ 31 }
     ensures value { result ≡ length (written_body constant.now) }
@@ -81,7 +81,7 @@ fn body_length(constant: &[u8]) -> u32
 }
 
 /// Appends the body: the constant, where it isn't empty, and END.
-#[tactic(auto, unfolding(omf_format::specs::Plain::written_body))]
+#[tactic(auto, unfolding(load_meaning::specs::Plain::written_body))]
 fn put_body(out: &mut Vec<u8>, constant: &[u8]) -> Result<(), PutFault>
     requires { length constant.now < 2 ^ 31 }
     ensures { OnOk result (out.new.items ≡ out.old.items ++ written_body constant.now) }

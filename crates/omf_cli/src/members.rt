@@ -2,7 +2,7 @@
 
 ghost use Rattle.std.specs.Prelude.{◌≡◌, ◌↔◌, ◌⊎◌, ◌≤◌, ◌+◌, IsTrue, length, MatchOption};
 ghost use Rattle.omf_format.specs.Body.{body_bytes};
-ghost use Rattle.omf_format.specs.Plain.{HasConstants, IsPlainSegment, IsPlain, is_object, lesser_bank};
+ghost use Rattle.load_meaning.specs.Plain.{HasConstants, IsPlainSegment, IsPlain, is_object, lesser_bank};
 ghost use Rattle.omf_header.specs.View.{fields};
 ghost use Rattle.omf_records.specs.Segments.{shown, IsSound};
 ghost use Rattle.omf_cli.specs.Members.{AsksNoPlace, AreMembers};

@@ -1,7 +1,7 @@
 //! Linking a plain object file: its members one behind another become the one segment of a load file.
 
 ghost use Rattle.std.specs.Prelude.{◌≡◌, ◌<◌, ◌+◌, ◌^◌, ◌++◌, vec_len, length, OnOk, IfOk, IfErr};
-ghost use Rattle.omf_format.specs.Plain.{IsPlainSegment, IsPlain, IsLinkedTo, memory_bytes, loaded_bytes, written};
+ghost use Rattle.load_meaning.specs.Plain.{IsPlainSegment, IsPlain, IsLinkedTo, memory_bytes, loaded_bytes, written};
 ghost use Rattle.omf_records.specs.Segments.{shown, IsSound};
 ghost use Rattle.omf_cli.specs.Members.{HasMembers};
 ghost use Rattle.omf_cli.specs.Plain.{IsNotLinked, unlinked};

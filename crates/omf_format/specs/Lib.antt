@@ -8,10 +8,6 @@ pub mod Record
 pub mod Reading
 pub mod File
 pub mod Body
-pub mod Plain
-pub mod Cells
-pub mod Table
-pub mod Loadable
 pub mod Expression
 pub mod Value
 pub mod FieldLaws
@@ -20,10 +16,6 @@ pub mod WrittenHeader
 pub mod RecordLaws
 pub mod FileLaws
 pub mod BodyLaws
-pub mod PlainLaws
-pub mod LoadableLaws
-pub mod CellLaws
-pub mod TableLaws
 pub mod TermLaws
 pub mod TreeLaws
 pub mod ExpressionLaws

@@ -4,12 +4,8 @@
 
 mod expression;
 mod fault;
-mod load;
-mod table;
 mod value;
 
 pub use expression::ExprFault;
 pub use fault::{Field, FileCause, FileFault, Flaw, HeaderFault, RecordFault};
-pub use load::{LoadCause, LoadFault};
-pub use table::{Entry, Target};
 pub use value::{Value, ValueFault};

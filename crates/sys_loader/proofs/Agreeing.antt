@@ -6,8 +6,8 @@ use Rattle.std.specs.FinMap as map
 use Rattle.std.proofs.lemmas.Option.{slice_get-map}
 use Rattle.std.proofs.lemmas.List.{length-map, length-drop, drop-append-le, take-append-le}
 use Rattle.omf_format.specs.File.{Segment, segment_at}
-use Rattle.omf_format.specs.Cells.{segment_bytes, stands}
-use Rattle.omf_format.specs.CellLaws.{cells-bytes, length-segment_bytes, loadable_at}
+use Rattle.load_meaning.specs.Cells.{segment_bytes, stands}
+use Rattle.load_meaning.specs.CellLaws.{cells-bytes, length-segment_bytes, loadable_at}
 use Rattle.omf_io.specs.Counts.{Told, one_more, IsFront}
 use Rattle.omf_io.specs.Files.{FileMap, IsRead, IsUnread}
 use Rattle.iigs_meaning.specs.declared.slots.Slot.{Slot}

@@ -1,14 +1,14 @@
 -- Which files can be loaded.
 use Rattle.std.proofs.Common.{◌≡◌, ℕ, List, [], ◌∷◌, length, map, refl, sym, ap, subst, ◌∙◌, arith}
 use Rattle.std.specs.List.{AllByRecursion}
-use Rattle.omf_format.specs.declared.load.LoadCause.{LoadCause}
-use Rattle.omf_format.specs.declared.load.LoadCause.TheVariants.{NotLoadFile, Truncated, BadHeader, Unsupported, BadRecord, Sequence, DataTooLong, PatchOutside, NoSuchTarget, DynamicTarget, BadTable, Memory}
-use Rattle.omf_format.specs.declared.load.LoadFault.{LoadFault}
+use Rattle.load_meaning.specs.declared.load.LoadCause.{LoadCause}
+use Rattle.load_meaning.specs.declared.load.LoadCause.TheVariants.{NotLoadFile, Truncated, BadHeader, Unsupported, BadRecord, Sequence, DataTooLong, PatchOutside, NoSuchTarget, DynamicTarget, BadTable, Memory}
+use Rattle.load_meaning.specs.declared.load.LoadFault.{LoadFault}
 use Rattle.omf_format.specs.Header.{Fields}
 use Rattle.omf_format.specs.File.{Segment}
-use Rattle.omf_format.specs.Cells.{Byte, Patch, patches_of, cells, byte_of, stands}
-use Rattle.omf_format.specs.Loadable.{IsLoadable, IsFirstLoadFault}
-use Rattle.omf_format.specs.LoadableLaws.{loadable_same, loadable_sound}
+use Rattle.load_meaning.specs.Cells.{Byte, Patch, patches_of, cells, byte_of, stands}
+use Rattle.load_meaning.specs.Loadable.{IsLoadable, IsFirstLoadFault}
+use Rattle.load_meaning.specs.LoadableLaws.{loadable_same, loadable_sound}
 use Rattle.omf_cells.specs.Load.{IsRefused, UnlessMemory, HasFields, HasPatches}
 use Rattle.loader_machine.specs.Machine.{CanLoad, IsPlainLoad}
 use Rattle.sys_loader.specs.Files.{IsPlainHeader, IsNoLoad, refusal_of}

@@ -1,8 +1,8 @@
 -- A command has one reply in a state, and leads to one next state.
 use Rattle.std.proofs.Common.{◌≡◌, inl, inr, ℕ, true, ◌<◌, List, [], ◌∷◌, ◌++◌, length, take, drop, Option, Some, None, IsSomeAnd, refl, sym, ap, subst, ◌∙◌, arith}
 use Rattle.omf_format.specs.File.{Segment, segment_at}
-use Rattle.omf_format.specs.Cells.{stands}
-use Rattle.omf_format.specs.LoadableLaws.{loadable_same}
+use Rattle.load_meaning.specs.Cells.{stands}
+use Rattle.load_meaning.specs.LoadableLaws.{loadable_same}
 use Rattle.omf_io.specs.Files.{FileMap, max_file}
 use Rattle.iigs_meaning.specs.declared.handles.Handle.{Handle}
 use Rattle.iigs_meaning.specs.declared.slots.Slot.{Slot}

@@ -1,11 +1,11 @@
 -- What is taken of a load file of one segment, and how its segment is put into memory. No public clause cites this module.
 use Rattle.std.specs.Prelude.{◌≡◌, ℕ, ◌≤◌, true, List, ◌++◌, length, map, IsSomeAnd}
-use Rattle.omf_format.specs.declared.load.LoadCause.{LoadCause}
-use Rattle.omf_format.specs.declared.load.LoadCause.TheVariants as cause
+use Rattle.load_meaning.specs.declared.load.LoadCause.{LoadCause}
+use Rattle.load_meaning.specs.declared.load.LoadCause.TheVariants as cause
 use Rattle.omf_format.specs.Header.{Fields, form_of, is_dynamic, is_skipped}
 use Rattle.std.specs.Prelude.{◌≢◌, false, slice_set}
 use Rattle.omf_format.specs.File.{Segment, segment_at}
-use Rattle.omf_format.specs.Cells.{Byte, cells}
+use Rattle.load_meaning.specs.Cells.{Byte, cells}
 use Rattle.iigs_meaning.specs.declared.handles.Handle.{Handle}
 use Rattle.iigs_meaning.specs.declared.wants.Want.{Want}
 use Rattle.loader_machine.specs.declared.faults.LoaderFault.{LoaderFault}

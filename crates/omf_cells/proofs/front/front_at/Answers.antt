@@ -1,6 +1,6 @@
 use Rattle.std.proofs.Common.{◌≡◌, Some, sym, refl, ap, ◌∙◌}
 use Rattle.omf_format.specs.Header.{header_fault, fields_of}
-use Rattle.omf_format.specs.Loadable.{segment_refusal}
+use Rattle.load_meaning.specs.Loadable.{segment_refusal}
 use Rattle.omf_format.specs.File.{IsHeader}
 use Rattle.omf_header.specs.View.{fields}
 use Rattle.omf_cells.proofs.FrontFaults.{has_place, unless, of_kind, refused_header}

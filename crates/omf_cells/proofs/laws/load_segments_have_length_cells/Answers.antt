@@ -1,7 +1,7 @@
 use Rattle.std.proofs.Common.{◌∙◌, length, ap}
 use Rattle.std.proofs.lemmas.List.{length-map}
-use Rattle.omf_format.specs.Cells.{Byte, segment_bytes}
-use Rattle.omf_format.specs.CellLaws.{unpatched, cells-bytes, length-segment_bytes, loadable_at}
+use Rattle.load_meaning.specs.Cells.{Byte, segment_bytes}
+use Rattle.load_meaning.specs.CellLaws.{unpatched, cells-bytes, length-segment_bytes, loadable_at}
 use Rattle.omf_cells.proofs.laws.load_segments_have_length_cells.Goals as goal
 
 pub returns-clause-length : goal.returns-clause-length

@@ -1,4 +1,4 @@
-use Rattle.omf_format.specs.Loadable.{shape_fault}
+use Rattle.load_meaning.specs.Loadable.{shape_fault}
 use Rattle.omf_cells.proofs.LoadViews.{Passed}
 use Rattle.omf_cells.proofs.shape.check_shapes.Given as goal
 

@@ -2,7 +2,7 @@ use Rattle.std.proofs.Common.{List, length, get_or, ap, ◌∙◌, arith}
 use Rattle.std.proofs.Common.{map}
 use Rattle.std.specs.Prelude.{option_map}
 use Rattle.omf_format.specs.Reading.{Reader, records_of}
-use Rattle.omf_format.specs.Loadable.{target_fault, first_target_fault, in_segment}
+use Rattle.load_meaning.specs.Loadable.{target_fault, first_target_fault, in_segment}
 use Rattle.omf_records.specs.Segments.{shown}
 use Rattle.omf_records.specs.declared.segment.SegmentView.{SegmentView}
 use Rattle.omf_cells.proofs.LoadViews.{passed_none, passed_more, passed_some, passed_all}

@@ -1,5 +1,5 @@
 use Rattle.std.proofs.Common.{map}
-use Rattle.omf_format.specs.Loadable.{target_fault}
+use Rattle.load_meaning.specs.Loadable.{target_fault}
 use Rattle.omf_records.specs.Segments.{shown}
 use Rattle.omf_cells.proofs.LoadViews.{Passed}
 use Rattle.omf_cells.proofs.targets.check_targets.Given as goal

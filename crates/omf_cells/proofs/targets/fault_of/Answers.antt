@@ -1,10 +1,10 @@
 use Rattle.std.proofs.Common.{ℕ, Option, map, sym, ap, subst, ◌∙◌}
 use Rattle.std.specs.Prelude.{option_map}
 use Rattle.std.specs.Option.{option_or}
-use Rattle.omf_format.specs.declared.load.LoadCause.{LoadCause}
+use Rattle.load_meaning.specs.declared.load.LoadCause.{LoadCause}
 use Rattle.omf_format.specs.Record.{Record}
 use Rattle.omf_format.specs.Reading.{Reader}
-use Rattle.omf_format.specs.Loadable.{Fault, first_target_fault, in_segment}
+use Rattle.load_meaning.specs.Loadable.{Fault, first_target_fault, in_segment}
 use Rattle.omf_records.specs.View.{view}
 use Rattle.omf_records.specs.Segments.{shown}
 use Rattle.omf_cells.proofs.Searches.{Same, same_next, same_more, same_none, same_fault}

@@ -1,5 +1,5 @@
 use Rattle.std.proofs.Common.{length, map}
-use Rattle.omf_format.specs.Loadable.{first_target_fault}
+use Rattle.load_meaning.specs.Loadable.{first_target_fault}
 use Rattle.omf_records.specs.Segments.{shown}
 use Rattle.omf_cells.proofs.Searches.{Same}
 use Rattle.omf_cells.proofs.targets.fault_of.Given as goal

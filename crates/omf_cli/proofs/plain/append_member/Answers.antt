@@ -1,5 +1,5 @@
 use Rattle.std.proofs.Common.{◌≡◌, ◌++◌, ℕ, List, replicate, ap, ◌∙◌, append_assoc, arith}
-use Rattle.omf_format.specs.Plain.{memory_bytes}
+use Rattle.load_meaning.specs.Plain.{memory_bytes}
 use Rattle.omf_records.specs.Segments.{shown}
 use Rattle.omf_cli.proofs.Ends.{on_ok}
 use Rattle.omf_cli.proofs.MemberBodies.{comes, content_fits, member_memory}

@@ -1,7 +1,7 @@
 use Rattle.std.proofs.Common.{◌≡◌, [], length, sym, ap, subst}
 use Rattle.std.proofs.lemmas.Bool.{eqb-false}
 use Rattle.omf_format.specs.FileLaws.{file_same}
-use Rattle.omf_format.specs.Plain.{IsPlain}
+use Rattle.load_meaning.specs.Plain.{IsPlain}
 use Rattle.omf_cli.proofs.Linked.{not_linked}
 use Rattle.omf_cli.proofs.plain.link_plain.Goals as goal
 

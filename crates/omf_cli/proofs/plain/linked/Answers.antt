@@ -1,5 +1,5 @@
 use Rattle.std.proofs.Common.{◌≡◌, ◌∙◌, length, refl, ap, arith}
-use Rattle.omf_format.specs.Plain.{loaded_bytes}
+use Rattle.load_meaning.specs.Plain.{loaded_bytes}
 use Rattle.omf_header.specs.View.{fields}
 use Rattle.omf_records.specs.Segments.{shown, placed}
 use Rattle.omf_records.specs.SegmentLaws.{shown_at, none_past}

@@ -1,5 +1,5 @@
 use Rattle.std.proofs.Common.{◌++◌, ℕ, List, length, sym, ap, ◌∙◌, arith}
-use Rattle.omf_format.specs.Plain.{memory_bytes}
+use Rattle.load_meaning.specs.Plain.{memory_bytes}
 use Rattle.omf_records.specs.Segments.{shown}
 use Rattle.omf_records.specs.SegmentLaws.{shown_at}
 use Rattle.omf_cli.proofs.MemberLists.{loaded_none, loaded_more, loaded_fits, length_fits, member_of_plain}

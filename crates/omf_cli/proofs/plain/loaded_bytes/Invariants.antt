@@ -1,5 +1,5 @@
 use Rattle.std.proofs.Common.{◌≡◌, take}
-use Rattle.omf_format.specs.Plain.{loaded_bytes}
+use Rattle.load_meaning.specs.Plain.{loaded_bytes}
 use Rattle.omf_cli.proofs.plain.loaded_bytes.Given as goal
 
 -- the members so far were appended

@@ -1,6 +1,6 @@
 use Rattle.std.proofs.Common.{◌≡◌, ◌++◌, map, replicate}
 use Rattle.std.specs.List.{flat_map}
-use Rattle.omf_format.specs.Table.{entry_bytes, file_entry}
+use Rattle.load_meaning.specs.Table.{entry_bytes, file_entry}
 use Rattle.jump_table.proofs.table.Table.written.Given as goal
 
 -- 8 zeros and the entries so far

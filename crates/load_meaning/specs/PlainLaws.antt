@@ -21,7 +21,7 @@ use Rattle.omf_format.specs.RecordLaws.{front-again}
 use Rattle.omf_format.specs.Reading.{Reader, front, told, moved, next_answer, after_next, HandsOut}
 use Rattle.omf_format.specs.File.{Segment, body_reader, IsSegment, AreSegments, IsFile}
 use Rattle.omf_format.specs.Body.{body_bytes}
-use Rattle.omf_format.specs.Plain.{memory_bytes, HasConstants, IsPlainSegment, total_length, IsPlain, lesser_bank, least_bank, cleared, loaded_bytes, data_of, written_body, load_fields, written, IsLoadFile}
+use Rattle.load_meaning.specs.Plain.{memory_bytes, HasConstants, IsPlainSegment, total_length, IsPlain, lesser_bank, least_bank, cleared, loaded_bytes, data_of, written_body, load_fields, written, IsLoadFile}
 
 -- ---- trailing items
 

@@ -6,14 +6,14 @@ use Rattle.std.specs.Option.{option_or}
 use Rattle.std.proofs.lemmas.Bool.{eqb-true, ltb-false}
 use Rattle.std.proofs.lemmas.List.{length-append, length-replicate}
 use Rattle.std.proofs.lemmas.List.Concat.{flat_map-cons}
-use Rattle.omf_format.specs.declared.load.LoadCause.TheVariants.{Sequence, DataTooLong}
-use Rattle.omf_format.specs.declared.load.LoadFault.{LoadFault}
+use Rattle.load_meaning.specs.declared.load.LoadCause.TheVariants.{Sequence, DataTooLong}
+use Rattle.load_meaning.specs.declared.load.LoadFault.{LoadFault}
 use Rattle.omf_format.specs.Header.{first_of}
 use Rattle.omf_format.specs.Record.{Record, End, Const, LongConst, Align, Org, Space, Reloc, InterSeg, ShortReloc, ShortInterSeg, Super, Using, Strong, Label, Equate, Formula, Entry}
 use Rattle.omf_format.specs.File.{Segment, IsSegment, AreSegments, segment_at}
 use Rattle.omf_format.specs.Body.{body_bytes}
-use Rattle.omf_format.specs.Cells.{Byte, Patch, segment_bytes, patched, patches_in, patches_of, cells}
-use Rattle.omf_format.specs.Loadable.{Fault, record_refusal, IsLoadSegment, in_segment, first_in, shape_fault, target_fault, later_fault, IsLoadable}
+use Rattle.load_meaning.specs.Cells.{Byte, Patch, segment_bytes, patched, patches_in, patches_of, cells}
+use Rattle.load_meaning.specs.Loadable.{Fault, record_refusal, IsLoadSegment, in_segment, first_in, shape_fault, target_fault, later_fault, IsLoadable}
 
 -- a record that isn't refused gives no patch
 no_patch : (s : Segment) (r : Record) → record_refusal r ≡ None → patches_in s r ≡ []
