@@ -15,3 +15,6 @@ pub mod StoredLaws
 pub mod PageSizeLaws
 pub mod RunLaws
 pub mod WrittenBodyLaws
+pub mod WrittenFile
+pub mod WrittenFileLaws
+pub mod WrittenTableLaws

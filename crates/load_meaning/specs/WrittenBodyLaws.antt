@@ -92,7 +92,7 @@ two_bytes own p form (Other3 is h f) = omega (arith, h.count')
 two_bytes own p form (Named is h f) = omega (arith, h.count')
 two_bytes own p form (NamedBank is h f) = omega (arith, h.count')
 
-form_below : (own : ℕ) (p : Patch) (form : ℕ) → IsForm own p form → form < 38
+pub form_below : (own : ℕ) (p : Patch) (form : ℕ) → IsForm own p form → form < 38
 form_below own p form (Own2 is h f) = omega (arith, f)
 form_below own p form (Own3 is h f) = omega (arith, f)
 form_below own p form (Other3 is h f) = omega (arith, f)
