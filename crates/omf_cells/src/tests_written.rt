@@ -218,10 +218,8 @@ fn zeros_at_the_end_are_left_out(rt: HostRuntime) -> Result<(), Fail> {
     // the zeros of a patch aren't left out
     let patches = vec![in alloc; patch(1, 2, 0, 7, 0)]?;
     let last = written(alloc, 7, &[0, 5, 0, 0], &patches)?;
-    assert_eq!(rt;
-        last.bytes.as_slice(),
-        &[0xF2, 3, 0, 0, 0, 0, 0, 0, 0xF7, 3, 0, 0, 0, 0, 0, 1]
-    );
+    let wanted = [0xF2, 3, 0, 0, 0, 0, 0, 0, 0xF7, 3, 0, 0, 0, 0, 0, 1];
+    assert_eq!(rt; last.bytes.as_slice(), wanted.as_slice());
     assert_eq!(rt; last.zeros, 1);
     Ok(())
 }
