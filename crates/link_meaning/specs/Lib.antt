@@ -8,6 +8,10 @@ pub mod Uses
 pub mod Search
 pub mod LinkedList
 pub mod Layout
+pub mod Rings
+pub mod LinkValues
+pub mod Fitting
+pub mod LinkedCells
 pub mod LinkFaults
 pub mod FirstLaws
 pub mod MemberLists
@@ -15,4 +19,5 @@ pub mod LinkedListLaws
 pub mod ProgressLaws
 pub mod LayoutLaws
 pub mod TreeInLaws
+pub mod TableLaws
 pub mod LinkFaultLaws
