@@ -17,7 +17,8 @@ use Rattle.link_meaning.specs.First.{IsFirst, HasNone, first_some}
 use Rattle.link_meaning.specs.Sizes.{body_size}
 use Rattle.link_meaning.specs.Member.{Row, Input, Member, is_library, objects}
 use Rattle.link_meaning.specs.Dictionary.{rows_of}
-use Rattle.link_meaning.specs.Uses.{Want, WantsData, WantsOne, WantsAny}
+use Rattle.link_meaning.specs.declared.search.Want.{Want}
+use Rattle.link_meaning.specs.declared.search.Want.TheVariants.{Data, One, Any}
 use Rattle.link_meaning.specs.Search.{Found}
 use Rattle.link_meaning.specs.LinkedList.{Asked, asked, found_for, IsLinked}
 use Rattle.link_meaning.specs.Layout.{in_load, load_names, load_members, load_headers}
@@ -119,15 +120,15 @@ pub record IsProgram (files : List (List ℕ)) (list : List Member) : Type 0 whe
 
 -- a weak name may have none, every other use has exactly one
 abbrev pub use_cause : Want → List Found → Option LinkCause
-use_cause WantsData [] = Some Unresolved
-use_cause WantsOne [] = Some Unresolved
-use_cause WantsAny [] = None
-use_cause WantsData (f ∷ []) = None
-use_cause WantsOne (f ∷ []) = None
-use_cause WantsAny (f ∷ []) = None
-use_cause WantsData (f ∷ g ∷ more) = Some Duplicate
-use_cause WantsOne (f ∷ g ∷ more) = Some Duplicate
-use_cause WantsAny (f ∷ g ∷ more) = Some Duplicate
+use_cause Data [] = Some Unresolved
+use_cause One [] = Some Unresolved
+use_cause Any [] = None
+use_cause Data (f ∷ []) = None
+use_cause One (f ∷ []) = None
+use_cause Any (f ∷ []) = None
+use_cause Data (f ∷ g ∷ more) = Some Duplicate
+use_cause One (f ∷ g ∷ more) = Some Duplicate
+use_cause Any (f ∷ g ∷ more) = Some Duplicate
 
 pub record HasUseFault (list : List Member) (before : List Asked) (a : Asked) (fault : LinkFault) : Type 0 where
   pub cause : use_cause a.use'.want (found_for list a.place a.member a.use') ≡ Some fault.cause

@@ -8,24 +8,25 @@ use Rattle.link_meaning.specs.Member.{Member, Input, Offer, objects, offers}
 use Rattle.omf_format.specs.Header.{is_private}
 use Rattle.omf_format.specs.File.{Segment}
 use Rattle.link_meaning.specs.Defines.{data_title_of}
-use Rattle.link_meaning.specs.Uses.{Use, WantsData, WantsOne, WantsAny, uses_of}
+use Rattle.link_meaning.specs.declared.search.Want.TheVariants.{Data, One, Any}
+use Rattle.link_meaning.specs.Uses.{Use, uses_of}
 use Rattle.link_meaning.specs.Search.{Found, finds, finds_data}
 
 -- the data segment defines the name by its SEGNAME with this privacy
 abbrev pub has_title : Segment → List ℕ → Bool → Bool
-has_title s name private = list_any (λ d. bytes_eq d.name name) (data_title_of s) && (if private then is_private s.fields.kind else not (is_private s.fields.kind))
+has_title s name private = list_any (λ d. bytes_eq name d.name) (data_title_of s) && (if private then is_private s.fields.kind else not (is_private s.fields.kind))
 
 -- whether a row counts for a use: it has the name, and for USING its segment is that data segment
 abbrev pub counts_for : Use → Offer → Bool
-counts_for u o = bytes_eq o.name u.name && (elim u.want [
-  | WantsData ↦ has_title o.member.segment u.name o.private
-  | WantsOne ↦ true
-  | WantsAny ↦ false
+counts_for u o = bytes_eq u.name o.name && (elim u.want [
+  | Data ↦ has_title o.member.segment u.name o.private
+  | One ↦ true
+  | Any ↦ false
 ])
 
 -- a private row of the member's own library, with the member's file number
 abbrev pub is_of_member : Member → Offer → Bool
-is_of_member m o = o.private && o.member.file == m.file && o.member.from == m.from
+is_of_member m o = o.private && m.file == o.member.file && m.from == o.member.from
 
 -- the first row of these for which a test holds
 abbrev pub first_offer : (Offer → Bool) → List Offer → Option Member
@@ -41,9 +42,9 @@ row_for offers m u = option_or
 -- what a use finds; content without a definition, a weak name asks for none
 abbrev pub found_for : List Member → ℕ → Member → Use → List Found
 found_for list place m u = elim u.want [
-  | WantsData ↦ finds_data list m u.name
-  | WantsOne ↦ finds list place m u.name
-  | WantsAny ↦ finds list place m u.name
+  | Data ↦ finds_data list m u.name
+  | One ↦ finds list place m u.name
+  | Any ↦ finds list place m u.name
 ]
 
 -- the row's segment, where the use finds nothing

@@ -7,12 +7,15 @@ use Rattle.std.specs.Str.{bytes_eq}
 use Rattle.link_meaning.specs.Member.{Member, Offer, is_data}
 use Rattle.omf_format.specs.Header.{is_private}
 use Rattle.omf_format.specs.File.{Segment}
-use Rattle.link_meaning.specs.Defines.{Definition, outer_scope, title_of, data_title_of, defined_in}
+use Rattle.link_meaning.specs.Defines.{Scope, Definition, outer_scope, title_of, data_title_of, defined_in}
 use Rattle.link_meaning.specs.First.{IsIn}
 use Rattle.std.proofs.lemmas.Bool.{eq-eqb, eqb-true}
 use Rattle.link_meaning.specs.MemberLists.{filter_in}
-use Rattle.link_meaning.specs.Search.{Found, Step, OfUnit, Everyone, is_for_all, sees, or_else, decided, outer_steps, steps_of, used_data, entries_from, entries, named, finds, finds_data, data_titles, Within}
-use Rattle.link_meaning.specs.Uses.{Use, WantsOne, WantsData}
+use Rattle.link_meaning.specs.declared.search.Step.{Step}
+use Rattle.link_meaning.specs.declared.search.Step.TheVariants.{Within, OfUnit, Everyone}
+use Rattle.link_meaning.specs.Search.{Found, step_for, is_step, sees, or_else, decided, outer_steps, steps_of, used_data, entries_from, entries, named, finds, finds_data, data_titles}
+use Rattle.link_meaning.specs.declared.search.Want.TheVariants.{Data, One}
+use Rattle.link_meaning.specs.Uses.{Use}
 use Rattle.link_meaning.specs.LinkedList.{has_title, counts_for, is_of_member, first_offer, row_for}
 
 -- nothing decided: no step has anything
@@ -77,13 +80,13 @@ seen_is_found s all f is sees' none = not_empty (filter (sees s) all) f (filter_
 pub not_there : (m u : Member) (private : Bool) (d : Definition) (all : List Found) (p : ℕ) → IsIn all (found_at p m d) → d.scope ≡ outer_scope private
     → ((m.file ≡ u.file) × (m.from ≡ u.from)) ⊎ (private ≡ false) → AllNone (outer_steps u) all → ⊥
 not_there m u false d all p is scope way none =
-    seen_is_found Everyone all (found_at p m d) is (ap is_for_all scope) none.1.0
+    seen_is_found Everyone all (found_at p m d) is (ap (λ (x : Scope). is_step Everyone (step_for p m x)) scope) none.1.0
 not_there m u true d all p is scope (inr e) none = let clash : true ≡ false = e in cc
 not_there m u true d all p is scope (inl same) none =
     seen_is_found (OfUnit u.file u.from) all (found_at p m d) is pass none.0
   where
     pass : sees (OfUnit u.file u.from) (found_at p m d) ≡ true
-    pass = rw (scope, eq-eqb m.file u.file same.0, eq-eqb m.from u.from same.1) refl
+    pass = rw (scope, eq-eqb u.file m.file (sym same.0), eq-eqb u.from m.from (sym same.1)) refl
 
 -- ---- rows
 
@@ -131,9 +134,9 @@ row_is offers u use' m e = settle (first_offer (λ o. counts_for use' o && is_of
   where
     private : (o : Offer) → is_of_member u o ≡ true → (o.member.file ≡ u.file) × (o.member.from ≡ u.from)
     private o is =
-        let a = both_true (o.private && o.member.file == u.file) (o.member.from == u.from) is in
-        let b = both_true o.private (o.member.file == u.file) a.0 in
-        (eqb-true o.member.file u.file b.1, eqb-true o.member.from u.from a.1)
+        let a = both_true (o.private && u.file == o.member.file) (u.from == o.member.from) is in
+        let b = both_true o.private (u.file == o.member.file) a.0 in
+        (sym (eqb-true u.file o.member.file b.1), sym (eqb-true u.from o.member.from a.1))
 
     negated : (b : Bool) → not b ≡ true → b ≡ false
     negated true e = let clash : false ≡ true = e in absurd cc
@@ -159,16 +162,16 @@ row_is offers u use' m e = settle (first_offer (λ o. counts_for use' o && is_of
 
 -- an ordinary use that finds nothing has no row whose member is in the list
 pub fresh_name : (offers : List Offer) (list : List Member) (place : ℕ) (u m : Member) (name : List ℕ) (at : ℕ) → AreSound offers
-    → finds list place u name ≡ [] → row_for offers u (record { want = WantsOne; name = name; at = at }) ≡ Some m → IsIn list m → ⊥
+    → finds list place u name ≡ [] → row_for offers u (record { want = One; name = name; at = at }) ≡ Some m → IsIn list m → ⊥
 unfolding finds named entries
 fresh_name offers list place u m name at sound none row there =
-    let r = row_is offers u (record { want = WantsOne; name = name; at = at }) m row in
+    let r = row_is offers u (record { want = One; name = name; at = at }) m row in
     let d = sound r.offer r.among in
-    let named' = both_true (bytes_eq r.offer.name name) true r.counts in
+    let named' = both_true (bytes_eq name r.offer.name) true r.counts in
     let inside : IsIn (defined_in m.segment) d.0 = subst (λ (x : Member). IsIn (defined_in x.segment) d.0) r.member d.1 in
     let entry = entry_in defined_in 1 list m d.0 there inside in
-    let passes : bytes_eq d.0.name name ≡ true = ap (λ (n : List ℕ). bytes_eq n name) d.2 ∙ named'.0 in
-    let among = filter_in (λ (f : Found). bytes_eq f.definition.name name) (entries list) (found_at entry.0 m d.0) entry.1 passes in
+    let passes : bytes_eq name d.0.name ≡ true = ap (λ (n : List ℕ). bytes_eq name n) d.2 ∙ named'.0 in
+    let among = filter_in (λ (f : Found). bytes_eq name f.definition.name) (entries list) (found_at entry.0 m d.0) entry.1 passes in
     let steps = none_decided (steps_of list place u) (named name (entries list)) none in
     not_there m u r.offer.private d.0 (named name (entries list)) entry.0 among d.3 r.way
     (none_behind (map Within (used_data list u)) (outer_steps u) (named name (entries list)) steps.1)
@@ -206,18 +209,18 @@ same_privacy false false e = refl
 
 -- a USING that finds nothing has no row whose member is in the list
 pub fresh_data : (offers : List Offer) (list : List Member) (u m : Member) (name : List ℕ) (at : ℕ)
-    → finds_data list u name ≡ [] → row_for offers u (record { want = WantsData; name = name; at = at }) ≡ Some m → IsIn list m → ⊥
+    → finds_data list u name ≡ [] → row_for offers u (record { want = Data; name = name; at = at }) ≡ Some m → IsIn list m → ⊥
 unfolding finds_data named data_titles
 fresh_data offers list u m name at none row there =
-    let r = row_is offers u (record { want = WantsData; name = name; at = at }) m row in
-    let tests = both_true (bytes_eq r.offer.name name) (has_title r.offer.member.segment name r.offer.private) r.counts in
+    let r = row_is offers u (record { want = Data; name = name; at = at }) m row in
+    let tests = both_true (bytes_eq name r.offer.name) (has_title r.offer.member.segment name r.offer.private) r.counts in
     let title : has_title m.segment name r.offer.private ≡ true = subst (λ (x : Member). has_title x.segment name r.offer.private ≡ true) r.member tests.1 in
-    let parts = both_true (list_any (λ (d : Definition). bytes_eq d.name name) (data_title_of m.segment))
+    let parts = both_true (list_any (λ (d : Definition). bytes_eq name d.name) (data_title_of m.segment))
     (if r.offer.private then is_private m.segment.fields.kind else not (is_private m.segment.fields.kind)) title in
-    let d = any_is (λ (x : Definition). bytes_eq x.name name) (data_title_of m.segment) parts.0 in
+    let d = any_is (λ (x : Definition). bytes_eq name x.name) (data_title_of m.segment) parts.0 in
     let privacy = same_privacy r.offer.private (is_private m.segment.fields.kind) parts.1 in
     let scope : d.0.scope ≡ outer_scope r.offer.private = title_scope m.segment d.0 d.1 ∙ ap outer_scope privacy in
     let entry = entry_in data_title_of 1 list m d.0 there d.1 in
-    let among = filter_in (λ (f : Found). bytes_eq f.definition.name name) (data_titles list) (found_at entry.0 m d.0) entry.1 d.2 in
+    let among = filter_in (λ (f : Found). bytes_eq name f.definition.name) (data_titles list) (found_at entry.0 m d.0) entry.1 d.2 in
     not_there m u r.offer.private d.0 (named name (data_titles list)) entry.0 among scope r.way
     (none_decided (outer_steps u) (named name (data_titles list)) none)

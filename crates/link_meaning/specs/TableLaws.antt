@@ -16,7 +16,8 @@ use Rattle.link_meaning.specs.First.{IsIn}
 use Rattle.link_meaning.specs.MemberLists.{in_filter, filter_in}
 use Rattle.link_meaning.specs.Member.{Member}
 use Rattle.link_meaning.specs.Terms.{asks_value, asked_by, asked_in, term_at, tree_in}
-use Rattle.link_meaning.specs.Search.{Found, Step, sees, or_else, decided, steps_of, named, entries, finds}
+use Rattle.link_meaning.specs.declared.search.Step.{Step}
+use Rattle.link_meaning.specs.Search.{Found, sees, or_else, decided, steps_of, named, entries, finds}
 use Rattle.link_meaning.specs.Rings.{is_equate, equates, names_in, LeadsTo, Path, Last, Through, IsCircular}
 use Rattle.link_meaning.specs.LinkValues.{Told, told, found_value, if_ok, label_value, environment, fault_found, fault_named, settled, tree_value, value_in, equate_value, AreTold, IsTable}
 

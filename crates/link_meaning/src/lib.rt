@@ -4,5 +4,7 @@
 #![tactic(auto)]
 
 mod fault;
+mod search;
 
 pub use fault::{LinkCause, LinkFault};
+pub use search::{Step, Want};
