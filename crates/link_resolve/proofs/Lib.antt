@@ -1,1 +1,2 @@
 pub mod SizesLeft
+pub mod NameTables

@@ -1,9 +1,9 @@
 -- Tables of names: what each step of a search finds.
-use Rattle.std.specs.Prelude.{◌≡◌, ℕ, Bool, false, ◌&&◌, List, [], ◌∷◌, Option, Some, None, filter, ◌==◌}
+use Rattle.std.specs.Prelude.{◌≡◌, ℕ, Bool, ◌&&◌, List, [], ◌∷◌, Option, Some, None, filter}
 use Rattle.std.specs.Str.{bytes_eq}
 use Rattle.indexmap.specs.IndexMap.{get_by}
-use Rattle.link_resolve.specs.declared.names.Step.{Step}
-use Rattle.link_resolve.specs.declared.names.Step.TheVariants.{Within, OfUnit, Everyone}
+use Rattle.link_meaning.specs.declared.search.Step.{Step}
+use Rattle.link_meaning.specs.Search.{is_step}
 use Rattle.link_resolve.specs.declared.names.Key.{Key}
 use Rattle.link_resolve.specs.declared.names.Outcome.{Outcome}
 use Rattle.link_resolve.specs.declared.names.Outcome.TheVariants.{Nothing, One, Several}
@@ -20,17 +20,6 @@ key_of key = record { step = key.step; name = key.name.now }
 -- a name that a step sees, and the number of what it names
 abbrev pub Row : Type 0
 Row = Named × ℕ
-
-abbrev pub is_step : Step → Step → Bool
-is_step (Within a) (Within b) = a == b
-is_step (Within a) (OfUnit file from) = false
-is_step (Within a) Everyone = false
-is_step (OfUnit file from) (Within b) = false
-is_step (OfUnit file from) (OfUnit file' from') = file == file' && from == from'
-is_step (OfUnit file from) Everyone = false
-is_step Everyone (Within b) = false
-is_step Everyone (OfUnit file from) = false
-is_step Everyone Everyone = 0 == 0
 
 abbrev pub is_key : Named → Named → Bool
 is_key a b = is_step a.step b.step && bytes_eq a.name b.name

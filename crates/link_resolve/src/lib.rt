@@ -4,5 +4,5 @@
 mod names;
 mod sizes;
 
-pub use names::{Key, Names, Outcome, Step};
+pub use names::{Key, Names, Outcome};
 pub use sizes::{body_size, size_at};

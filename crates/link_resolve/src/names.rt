@@ -4,17 +4,8 @@ ghost use Rattle.std.specs.Prelude.{◌≡◌, ◌∷◌, ◌++◌, [], List, �
 ghost use Rattle.link_resolve.specs.Names.{Row, Indexes, outcome, key_of, added};
 
 use indexmap::IndexMap;
+use link_meaning::Step;
 use std::alloc::{AllocError, Global};
-
-/// A step of a search: what a member of the list has for itself, what a unit has for itself, what all see.
-#[derive(Clone, Copy, Debug, PartialEq, Eq, Hash)]
-pub enum Step {
-    /// The member at this place of the list, from 1.
-    Within(u32),
-    /// The segments of a file that a dictionary's file number brought in, or of an object file, whose number is 0.
-    OfUnit { file: u32, from: u16 },
-    Everyone,
-}
 
 /// A name that a step sees.
 #[derive(Clone, Copy, Debug, PartialEq, Eq, Hash)]
