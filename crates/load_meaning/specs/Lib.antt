@@ -6,3 +6,15 @@ pub mod PlainLaws
 pub mod LoadableLaws
 pub mod CellLaws
 pub mod TableLaws
+pub mod WrittenPages
+pub mod WrittenBody
+pub mod PageLaws
+pub mod LayingLaws
+pub mod FormLaws
+pub mod StoredLaws
+pub mod PageSizeLaws
+pub mod RunLaws
+pub mod WrittenBodyLaws
+pub mod WrittenFile
+pub mod WrittenFileLaws
+pub mod WrittenTableLaws

@@ -5,3 +5,6 @@ pub mod BodyRuns
 pub mod FrontFaults
 pub mod LoadViews
 pub mod ReadSegments
+pub mod PageTexts
+pub mod KeptLaws
+pub mod FormLists

@@ -3,11 +3,14 @@
 #![tactic(auto)]
 
 mod body;
+mod by_form;
 mod cell;
+mod choice;
 mod content;
 mod front;
 mod laws;
 mod load;
+mod pages;
 mod patches;
 mod reading;
 mod records;
@@ -15,7 +18,12 @@ mod shape;
 mod targets;
 #[cfg(test)]
 mod tests;
+#[cfg(test)]
+mod tests_written;
 mod told;
+mod written;
+mod written_data;
+mod written_laws;
 
 pub use cell::Cell;
 pub use laws::{
@@ -24,3 +32,7 @@ pub use laws::{
 pub use load::LoadFile;
 pub use load_meaning::{LoadCause, LoadFault};
 pub use reading::read_load;
+pub use written::{Body, BodyFault, Patch, body_of};
+pub use written_laws::{
+    bodies_stand_for_their_cells, files_stand_for_their_cells, locations_are_read_again,
+};

@@ -1,0 +1,2 @@
+pub mod SizesLeft
+pub mod NameTables

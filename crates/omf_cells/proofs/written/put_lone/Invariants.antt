@@ -1,0 +1,18 @@
+use Rattle.std.proofs.Common.{◌≡◌, ◌++◌, ℕ, length, map}
+use Rattle.std.specs.List.{flat_map}
+use Rattle.omf_format.specs.Field.{written_layout}
+use Rattle.omf_format.specs.Record.{spelling}
+use Rattle.omf_cells.specs.WrittenParts.{seen}
+use Rattle.load_meaning.specs.WrittenBody.{AreWritten, lone, lone_record}
+use Rattle.omf_cells.proofs.written.put_lone.Given as goal
+
+-- the records so far and those of the patches that are left
+abbrev pub invariant-patches : goal.invariant-patches
+invariant-patches l = record {
+  whole : l.out.items ++ flat_map (spelling written_layout) (map (lone_record l.own) (lone l.own (map seen l.left)))
+      ≡ l.initial.out.items ++ flat_map (spelling written_layout) (map (lone_record l.own) (lone l.own (map seen l.patches)));
+  left : (low : ℕ) × AreWritten l.size low (map seen l.left);
+}
+
+abbrev pub decreases-patches : goal.decreases-patches
+decreases-patches l = length l.left
