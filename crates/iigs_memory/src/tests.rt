@@ -31,6 +31,76 @@ const fn handle(slot: u16, generation: u8) -> Handle {
     Handle { slot, generation }
 }
 
+// The calls as the tests make them. They promise nothing, so a test's proof is as short as the test.
+fn banks_of(rt: &impl Alloc<A = Global>, numbers: &[u8]) -> Result<Banks, Fail> {
+    Ok(Banks::new(rt.alloc(), numbers)?)
+}
+
+fn puts(
+    rt: &impl Abort,
+    banks: &mut Banks,
+    size: u32,
+    how: (u16, u8),
+    is: Result<Handle, PlaceFault>,
+)
+    requires { 0 < size }
+{
+    let (user, level) = how;
+    assert_eq!(rt; banks.place(&any(size), user, false, level), is);
+}
+
+fn has_room(rt: &impl Abort, banks: &Banks, count: u32) {
+    assert_eq!(rt; banks.room(), count);
+}
+
+fn frees(rt: &impl Abort, banks: &mut Banks, h: Handle, is: Result<(), BlockFault>) {
+    assert_eq!(rt; banks.free(h), is);
+}
+
+fn purges(rt: &impl Abort, banks: &mut Banks, user: u16, count: u32) {
+    assert_eq!(rt; banks.purge_user(user), count);
+}
+
+fn locks(rt: &impl Abort, banks: &mut Banks, h: Handle) {
+    assert_eq!(rt; banks.lock(h), Ok(()));
+}
+
+fn unlocks(rt: &impl Abort, banks: &mut Banks, h: Handle) {
+    assert_eq!(rt; banks.unlock(h), Ok(()));
+}
+
+fn sets(rt: &impl Abort, banks: &mut Banks, h: Handle, level: u8) {
+    assert_eq!(rt; banks.set_level(h, level), Ok(()));
+}
+
+fn is_stale(rt: &impl Abort, banks: &Banks, h: Handle) {
+    assert_eq!(rt; banks.state(h), Err(BlockFault::Stale));
+}
+
+fn is_at(rt: &impl Abort, banks: &Banks, h: Handle, at: Option<u32>) -> Result<(), BlockFault> {
+    assert_eq!(rt; banks.state(h)?.at, at);
+    Ok(())
+}
+
+fn replaces(rt: &impl Abort, banks: &mut Banks, h: Handle, size: u32, is: Result<(), PlaceFault>)
+    requires { 0 < size }
+{
+    assert_eq!(rt; banks.replace(h, &any(size)), is);
+}
+
+// Where a block is, and its size.
+fn lies(
+    rt: &impl Abort,
+    banks: &Banks,
+    h: Handle,
+    at: Option<u32>,
+    size: u32,
+) -> Result<(), BlockFault> {
+    let state = banks.state(h)?;
+    assert_eq!(rt; (state.at, state.size), (at, size));
+    Ok(())
+}
+
 #[test]
 fn banks_are_some_and_distinct(rt: HostRuntime) {
     assert!(rt; matches!(Banks::new(rt.alloc(), &[]), Err(BanksFault::NoBanks)));
@@ -51,76 +121,59 @@ fn banks_are_some_and_distinct(rt: HostRuntime) {
 // A bank is filled to its last byte.
 #[test]
 fn one_bank_is_filled(rt: HostRuntime) -> Result<(), Fail> {
-    let mut banks = Banks::new(rt.alloc(), &[2])?;
-    assert_eq!(rt;
-        banks.place(&any(0x10001), 0, false, 0),
-        Err(PlaceFault::NoRoom(0))
-    );
-    assert_eq!(rt; banks.room(), 0x10000);
-    assert_eq!(rt; banks.place(&any(0x10000), 0, false, 0), Ok(handle(0, 0)));
-    assert_eq!(rt; banks.state(handle(0, 0))?.at, Some(0x02_0000));
-    assert_eq!(rt; banks.room(), 0);
-    assert_eq!(rt;
-        banks.place(&any(1), 0, false, 0),
-        Err(PlaceFault::NoRoom(0))
-    );
+    let mut banks = banks_of(&rt, &[2])?;
+    puts(&rt, &mut banks, 0x10001, (0, 0), Err(PlaceFault::NoRoom(0)));
+    has_room(&rt, &banks, 0x10000);
+    puts(&rt, &mut banks, 0x10000, (0, 0), Ok(handle(0, 0)));
+    is_at(&rt, &banks, handle(0, 0), Some(0x02_0000))?;
+    has_room(&rt, &banks, 0);
+    puts(&rt, &mut banks, 1, (0, 0), Err(PlaceFault::NoRoom(0)));
     Ok(())
 }
 
 // Banks $00 and $E1 are free in part. What a block has isn't room until the block is purged.
 #[test]
 fn room_is_what_is_free_and_in_no_block(rt: HostRuntime) -> Result<(), Fail> {
-    let mut banks = Banks::new(rt.alloc(), &[0xE1, 5, 0])?;
-    assert_eq!(rt; banks.room(), 0xA000 + 0x1_0000 + 0xB800);
-    assert_eq!(rt; banks.place(&any(0x1234), 7, false, 1), Ok(handle(0, 0)));
+    let mut banks = banks_of(&rt, &[0xE1, 5, 0])?;
+    has_room(&rt, &banks, 0xA000 + 0x1_0000 + 0xB800);
+    puts(&rt, &mut banks, 0x1234, (7, 1), Ok(handle(0, 0)));
     assert_eq!(rt; banks.place(&any(0x10), 7, true, 1), Ok(handle(1, 0)));
-    assert_eq!(rt; banks.room(), 0x2_5800 - 0x1244);
-    assert_eq!(rt; banks.purge_user(7), 1);
-    assert_eq!(rt; banks.room(), 0x2_5800 - 0x10);
-    assert_eq!(rt; banks.free(handle(1, 0)), Ok(()));
-    assert_eq!(rt; banks.room(), 0x2_5800);
+    has_room(&rt, &banks, 0x2_5800 - 0x1244);
+    purges(&rt, &mut banks, 7, 1);
+    has_room(&rt, &banks, 0x2_5800 - 0x10);
+    frees(&rt, &mut banks, handle(1, 0), Ok(()));
+    has_room(&rt, &banks, 0x2_5800);
     Ok(())
 }
 
 // A handle is stale once its block was freed, also where another block took its slot.
 #[test]
 fn a_freed_handle_is_stale(rt: HostRuntime) -> Result<(), Fail> {
-    let mut banks = Banks::new(rt.alloc(), &[2])?;
-    assert_eq!(rt; banks.place(&any(0x10), 0, false, 0), Ok(handle(0, 0)));
-    assert_eq!(rt; banks.free(handle(0, 0)), Ok(()));
-    assert_eq!(rt; banks.place(&any(0x10), 0, false, 0), Ok(handle(0, 1)));
-    assert_eq!(rt; banks.state(handle(0, 0)), Err(BlockFault::Stale));
-    let state = banks.state(handle(0, 1))?;
-    assert_eq!(rt; state.at, Some(0x02_0000));
-    assert_eq!(rt; state.size, 0x10);
+    let mut banks = banks_of(&rt, &[2])?;
+    puts(&rt, &mut banks, 0x10, (0, 0), Ok(handle(0, 0)));
+    frees(&rt, &mut banks, handle(0, 0), Ok(()));
+    puts(&rt, &mut banks, 0x10, (0, 0), Ok(handle(0, 1)));
+    is_stale(&rt, &banks, handle(0, 0));
+    lies(&rt, &banks, handle(0, 1), Some(0x02_0000), 0x10)?;
     Ok(())
 }
 
 // Of two purgeable blocks the one of the higher level goes.
 #[test]
 fn the_highest_level_is_purged_first(rt: HostRuntime) -> Result<(), Fail> {
-    let mut banks = Banks::new(rt.alloc(), &[2])?;
-    assert_eq!(rt; banks.place(&any(0x8000), 0, false, 3), Ok(handle(0, 0)));
-    assert_eq!(rt; banks.place(&any(0x8000), 0, false, 1), Ok(handle(1, 0)));
-    assert_eq!(rt; banks.place(&any(0x8000), 0, false, 0), Ok(handle(2, 0)));
-    assert_eq!(rt; banks.state(handle(2, 0))?.at, Some(0x02_0000));
-    assert_eq!(rt; banks.state(handle(0, 0))?.at, None);
-    let state = banks.state(handle(1, 0))?;
-    assert_eq!(rt;
-        (state.at, state.size, state.level),
-        (Some(0x02_8000), 0x8000, 1)
-    );
-    assert_eq!(rt;
-        banks.replace(handle(1, 0), &any(1)),
-        Err(PlaceFault::NotEmpty)
-    );
-    assert_eq!(rt; banks.free(handle(2, 0)), Ok(()));
-    assert_eq!(rt; banks.replace(handle(0, 0), &any(0x10)), Ok(()));
-    let state = banks.state(handle(0, 0))?;
-    assert_eq!(rt;
-        (state.at, state.size, state.level),
-        (Some(0x02_0000), 0x10, 3)
-    );
+    let mut banks = banks_of(&rt, &[2])?;
+    puts(&rt, &mut banks, 0x8000, (0, 3), Ok(handle(0, 0)));
+    puts(&rt, &mut banks, 0x8000, (0, 1), Ok(handle(1, 0)));
+    puts(&rt, &mut banks, 0x8000, (0, 0), Ok(handle(2, 0)));
+    is_at(&rt, &banks, handle(2, 0), Some(0x02_0000))?;
+    is_at(&rt, &banks, handle(0, 0), None)?;
+    lies(&rt, &banks, handle(1, 0), Some(0x02_8000), 0x8000)?;
+    expect(&rt, &banks, handle(1, 0), Some(0x02_8000), 1, false)?;
+    replaces(&rt, &mut banks, handle(1, 0), 1, Err(PlaceFault::NotEmpty));
+    frees(&rt, &mut banks, handle(2, 0), Ok(()));
+    replaces(&rt, &mut banks, handle(0, 0), 0x10, Ok(()));
+    lies(&rt, &banks, handle(0, 0), Some(0x02_0000), 0x10)?;
+    expect(&rt, &banks, handle(0, 0), Some(0x02_0000), 3, false)?;
     Ok(())
 }
 
@@ -141,8 +194,8 @@ fn expect(
 
 // A bank, filled by one block of level 3.
 fn filled_bank(rt: &(impl Alloc<A = Global> + Abort), h: Handle) -> Result<Banks, Fail> {
-    let mut banks = Banks::new(rt.alloc(), &[2])?;
-    assert_eq!(rt; banks.place(&any(0x10000), 5, false, 3), Ok(h));
+    let mut banks = banks_of(rt, &[2])?;
+    puts(rt, &mut banks, 0x10000, (5, 3), Ok(h));
     Ok(banks)
 }
 
@@ -150,15 +203,12 @@ fn filled_bank(rt: &(impl Alloc<A = Global> + Abort), h: Handle) -> Result<Banks
 fn a_locked_block_stays(rt: HostRuntime) -> Result<(), Fail> {
     let h = handle(0, 0);
     let mut banks = filled_bank(&rt, h)?;
-    assert_eq!(rt; banks.lock(h), Ok(()));
+    locks(&rt, &mut banks, h);
     expect(&rt, &banks, h, Some(0x02_0000), 3, true)?;
-    assert_eq!(rt;
-        banks.place(&any(1), 5, false, 0),
-        Err(PlaceFault::NoRoom(0))
-    );
-    assert_eq!(rt; banks.unlock(h), Ok(()));
+    puts(&rt, &mut banks, 1, (5, 0), Err(PlaceFault::NoRoom(0)));
+    unlocks(&rt, &mut banks, h);
     expect(&rt, &banks, h, Some(0x02_0000), 3, false)?;
-    assert_eq!(rt; banks.place(&any(1), 5, false, 0), Ok(handle(1, 0)));
+    puts(&rt, &mut banks, 1, (5, 0), Ok(handle(1, 0)));
     expect(&rt, &banks, h, None, 3, false)?;
     Ok(())
 }
@@ -167,15 +217,12 @@ fn a_locked_block_stays(rt: HostRuntime) -> Result<(), Fail> {
 fn a_block_of_level_0_stays(rt: HostRuntime) -> Result<(), Fail> {
     let h = handle(0, 0);
     let mut banks = filled_bank(&rt, h)?;
-    assert_eq!(rt; banks.set_level(h, 0), Ok(()));
+    sets(&rt, &mut banks, h, 0);
     expect(&rt, &banks, h, Some(0x02_0000), 0, false)?;
-    assert_eq!(rt;
-        banks.place(&any(1), 5, false, 0),
-        Err(PlaceFault::NoRoom(0))
-    );
-    assert_eq!(rt; banks.set_level(h, 255), Ok(()));
+    puts(&rt, &mut banks, 1, (5, 0), Err(PlaceFault::NoRoom(0)));
+    sets(&rt, &mut banks, h, 255);
     expect(&rt, &banks, h, Some(0x02_0000), 255, false)?;
-    assert_eq!(rt; banks.place(&any(1), 5, false, 0), Ok(handle(1, 0)));
+    puts(&rt, &mut banks, 1, (5, 0), Ok(handle(1, 0)));
     expect(&rt, &banks, h, None, 255, false)?;
     Ok(())
 }
@@ -199,11 +246,11 @@ fn empty_blocks_and_stale_handles_stay(rt: HostRuntime) -> Result<(), Fail> {
         handle(65535, 255),
     ] {
         refuses(&rt, &mut banks, h, BlockFault::Stale);
-        assert_eq!(rt; banks.free(h), Err(BlockFault::Stale));
-        assert_eq!(rt; banks.state(h), Err(BlockFault::Stale));
+        frees(&rt, &mut banks, h, Err(BlockFault::Stale));
+        is_stale(&rt, &banks, h);
     }
     expect(&rt, &banks, handle(0, 0), Some(0x02_0000), 3, false)?;
-    assert_eq!(rt; banks.purge_user(5), 1);
+    purges(&rt, &mut banks, 5, 1);
     refuses(&rt, &mut banks, handle(0, 0), BlockFault::Empty);
     expect(&rt, &banks, handle(0, 0), None, 3, false)?;
     Ok(())
@@ -227,13 +274,13 @@ fn holds(rt: &impl Abort, banks: &Banks, h: Handle, want: [u8; 4]) -> Result<(),
 // all stay.
 #[test]
 fn a_write_through_a_lent_block_changes_it_alone(rt: HostRuntime) -> Result<(), Fail> {
-    let mut banks = Banks::new(rt.alloc(), &[2])?;
+    let mut banks = banks_of(&rt, &[2])?;
     for slot in 0..3u16 {
-        assert_eq!(rt; banks.place(&any(4), slot, false, 1), Ok(handle(slot, 0)));
+        puts(&rt, &mut banks, 4, (slot, 1), Ok(handle(slot, 0)));
     }
     write(&rt, &mut banks, handle(1, 0))?;
     holds(&rt, &banks, handle(2, 0), [0; 4])?;
-    assert_eq!(rt; banks.purge_user(2), 1);
+    purges(&rt, &mut banks, 2, 1);
     for (h, fault) in [
         (handle(2, 0), BlockFault::Empty),
         (handle(2, 1), BlockFault::Stale),
@@ -325,7 +372,7 @@ fn wants_over_three_banks(rt: HostRuntime) -> Result<(), Fail> {
         ),
     ];
     for (want, address) in rows {
-        let mut banks = Banks::new(rt.alloc(), &[0x00, 0xE1, 0x02])?;
+        let mut banks = banks_of(&rt, &[0x00, 0xE1, 0x02])?;
         assert!(rt; is_want(&want));
         let found = match banks.place(&want, 0, false, 0) {
             Ok(h) => banks.state(h)?.at,
@@ -339,8 +386,8 @@ fn wants_over_three_banks(rt: HostRuntime) -> Result<(), Fail> {
 // Where one of several wants has no room, nothing changes.
 #[test]
 fn all_are_placed_or_none(rt: HostRuntime) -> Result<(), Fail> {
-    let mut banks = Banks::new(rt.alloc(), &[2])?;
-    assert_eq!(rt; banks.place(&any(0x10), 7, false, 1), Ok(handle(0, 0)));
+    let mut banks = banks_of(&rt, &[2])?;
+    puts(&rt, &mut banks, 0x10, (7, 1), Ok(handle(0, 0)));
     let mut handles = [handle(9, 9); 3];
     let wants = [any(0x100), any(0x8000), any(0x8000)];
     assert_eq!(rt;
@@ -348,37 +395,34 @@ fn all_are_placed_or_none(rt: HostRuntime) -> Result<(), Fail> {
         Err(PlaceFault::NoRoom(2))
     );
     assert_eq!(rt; handles, [handle(9, 9); 3]);
-    assert_eq!(rt; banks.state(handle(0, 0))?.at, Some(0x02_0000));
-    assert_eq!(rt; banks.room(), 0xFFF0);
+    is_at(&rt, &banks, handle(0, 0), Some(0x02_0000))?;
+    has_room(&rt, &banks, 0xFFF0);
     let wants = [any(0x100), any(0x8000), any(0x7F00)];
     assert_eq!(rt; banks.place_all(7, true, &wants, &mut handles), Ok(()));
     assert_eq!(rt; handles, [handle(0, 1), handle(1, 0), handle(2, 0)]);
-    assert_eq!(rt; banks.state(handle(0, 0)), Err(BlockFault::Stale));
+    is_stale(&rt, &banks, handle(0, 0));
     let state = banks.state(handle(2, 0))?;
     assert_eq!(rt;
         (state.at, state.user, state.level, state.locked),
         (Some(0x02_8100), 7, 0, true)
     );
-    assert_eq!(rt; banks.room(), 0);
+    has_room(&rt, &banks, 0);
     Ok(())
 }
 
 // All slots are used, and a large want purges what it needs and no more.
 #[test]
 fn many_blocks(rt: HostRuntime) -> Result<(), Fail> {
-    let mut banks = Banks::new(rt.alloc(), &[2, 3])?;
+    let mut banks = banks_of(&rt, &[2, 3])?;
     for slot in 0..4095u16 {
-        assert_eq!(rt; banks.place(&any(0x20), 0, false, 1), Ok(handle(slot, 0)));
+        puts(&rt, &mut banks, 0x20, (0, 1), Ok(handle(slot, 0)));
     }
-    assert_eq!(rt; banks.room(), 0x20);
-    assert_eq!(rt; banks.place(&any(0x1000), 0, false, 0), Ok(handle(4095, 0)));
-    assert_eq!(rt; banks.state(handle(4095, 0))?.at, Some(0x02_0000));
-    assert_eq!(rt; banks.state(handle(127, 0))?.at, None);
-    assert_eq!(rt; banks.state(handle(128, 0))?.at, Some(0x02_1000));
-    assert_eq!(rt;
-        banks.place(&any(1), 0, false, 0),
-        Err(PlaceFault::NoHandle)
-    );
-    assert_eq!(rt; banks.purge_user(0), 3967);
+    has_room(&rt, &banks, 0x20);
+    puts(&rt, &mut banks, 0x1000, (0, 0), Ok(handle(4095, 0)));
+    is_at(&rt, &banks, handle(4095, 0), Some(0x02_0000))?;
+    is_at(&rt, &banks, handle(127, 0), None)?;
+    is_at(&rt, &banks, handle(128, 0), Some(0x02_1000))?;
+    puts(&rt, &mut banks, 1, (0, 0), Err(PlaceFault::NoHandle));
+    purges(&rt, &mut banks, 0, 3967);
     Ok(())
 }
