@@ -22,11 +22,11 @@ fn low_bytes(own: u16, patch: &Patch) -> [u8; 4]
 }
 
 /// Writes bytes over those from a place on.
-fn put_over(data: &mut [u8], at: usize, bytes: &[u8])
-    requires { at + length bytes.now ≤ length data.old }
-    ensures { data.new ≡ take at data.old ++ bytes.now ++ drop (at + length bytes.now) data.old }
+fn put_over(content: &mut [u8], at: usize, bytes: &[u8])
+    requires { at + length bytes.now ≤ length content.old }
+    ensures { content.new ≡ take at content.old ++ bytes.now ++ drop (at + length bytes.now) content.old }
 {
-    data[at..at + bytes.len()].copy_from_slice(bytes);
+    content[at..at + bytes.len()].copy_from_slice(bytes);
 }
 
 /// The first bytes.
@@ -38,9 +38,9 @@ fn front(bytes: &[u8], count: usize) -> &[u8]
 }
 
 /// Writes what stands in the data at each patch over the bytes there. The answer is where the last patch ends.
-fn put_patches(data: &mut [u8], own: u16, patches: &[Patch]) -> usize
-    requires { AreWritten (length data.old) 0 (map seen patches.now) }
-    ensures written { data.new ≡ with_stored own data.old (map seen patches.now) }
+fn put_patches(content: &mut [u8], own: u16, patches: &[Patch]) -> usize
+    requires { AreWritten (length content.old) 0 (map seen patches.now) }
+    ensures written { content.new ≡ with_stored own content.old (map seen patches.now) }
     ensures end { result ≡ end_behind 0 (map seen patches.now) }
 {
     let mut left = patches;
@@ -49,7 +49,7 @@ fn put_patches(data: &mut [u8], own: u16, patches: &[Patch]) -> usize
         let at = patch.at as usize;
         let count = usize::from(patch.count);
         let bytes = low_bytes(own, patch);
-        put_over(data, at, front(&bytes, count));
+        put_over(content, at, front(&bytes, count));
         end = at + count;
         left = rest;
     }
