@@ -20,7 +20,7 @@ returns c =
     let content = c.args.content.now in
     let patches = map seen c.args.patches.now in
     let old = c.extend_from_slice.new.self in
-    let new = c.put_patches-end.new.data in
+    let new = c.put_patches-end.new.content in
     let before : old.items ≡ content = c.in_ok-extend_from_slice.ensures.items ∙ ap (λ (l : List ℕ). l ++ content) c.new-data.ensures.items in
     let written : new ≡ with_stored c.args.own content patches =
     c.put_patches-end.ensures.written ∙ ap (λ (l : List ℕ). with_stored c.args.own l patches) (c.deref_mut.ensures.value ∙ before) in
