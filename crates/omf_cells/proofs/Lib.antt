@@ -1,7 +1,16 @@
 pub mod Walks
+pub mod Splits
+pub mod PieceLists
+pub mod SpotLists
+pub mod Numbers
+pub mod PatchWalks
+pub mod SuperPatches
 pub mod Searches
 pub mod PatchRuns
 pub mod BodyRuns
 pub mod FrontFaults
+pub mod ShownBytes
+pub mod Causes
+pub mod Contents
 pub mod LoadViews
 pub mod ReadSegments
