@@ -10,7 +10,11 @@ pub mod PatchRuns
 pub mod BodyRuns
 pub mod FrontFaults
 pub mod ShownBytes
+pub mod TableRuns
+pub mod Phases
 pub mod Causes
 pub mod Contents
 pub mod LoadViews
+pub mod TableSearch
+pub mod LoadShows
 pub mod ReadSegments

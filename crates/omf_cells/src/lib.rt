@@ -24,7 +24,8 @@ mod told;
 
 pub use cell::Cell;
 pub use laws::{
-    faults_keep_their_places, load_files_are_read_in_one_way, load_segments_have_length_cells,
+    faults_keep_their_places, load_files_are_read_in_one_way, load_segments_are_sound,
+    load_segments_have_length_cells,
 };
 pub use load::{LoadFile, patch_into};
 pub use load_meaning::{LoadCause, LoadFault, Target};

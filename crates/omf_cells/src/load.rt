@@ -14,7 +14,7 @@ use crate::patches::gives_patches;
 use crate::pieces::byte_at;
 use crate::places::Places;
 use crate::spots::{spot_at, write_spots};
-use crate::table::{entry_count, is_table, target_from};
+use crate::table::{entry_count, table_of, target_from};
 use crate::targets::Content;
 use load_meaning::Target;
 use omf_header::Header;
@@ -115,14 +115,7 @@ impl<'a> LoadFile<'a> {
     pub fn table(&self) -> Option<u32>
         ensures { result ≡ table_of self.now }
     {
-        let mut number = 1;
-        'views: for view in &self.views {
-            if is_table(view) {
-                return Some(number);
-            }
-            number += 1;
-        }
-        None
+        table_of(&self.views)
     }
 
     /// How many entries the file's jump table has; 0 where there is none.
@@ -185,11 +178,10 @@ pub fn patch_into(load: &LoadFile, segment: u32, places: &Places, out: &mut [u8]
     requires { HasLength load.now segment (length out.old) }
     ensures { Stands load.now segment places.now out.new }
 {
-    match load.content(segment) {
-        Some((view, content)) => {
-            write_body(view.records(), out);
-            write_spots(&content.spots, places, out);
-        }
+    let (view, content) = match load.content(segment) {
+        Some(found) => found,
         None => unreachable!(),
-    }
+    };
+    write_body(view.records(), out);
+    write_spots(&content.spots, places, out);
 }

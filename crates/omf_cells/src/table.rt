@@ -1,12 +1,12 @@
 //! Jump tables: whether a segment is laid out as one, and where its entries lead.
 
-ghost use Rattle.std.specs.Prelude.{◌≡◌, ◌+◌, ◌*◌, ◌<◌, ◌≤◌, ◌^◌, length, map, take, option_map, IfSome};
+ghost use Rattle.std.specs.Prelude.{◌≡◌, ◌+◌, ◌-◌, ◌<◌, ◌≤◌, ◌^◌, length, map, take, slice_get, option_map, IfSome, IsSomeAnd};
 ghost use Rattle.std.specs.List.{list_any};
 ghost use Rattle.omf_format.specs.Header.{first_of};
 ghost use Rattle.load_meaning.specs.Cells.{segment_bytes};
 ghost use Rattle.load_meaning.specs.Table.{entry_start};
-ghost use Rattle.load_meaning.specs.LoadTable.{is_table, is_called, is_call, entry_count, target_at, zero_checks, entry_checks, entries_checks, table_checks};
-ghost use Rattle.load_meaning.specs.Loadable.{table_flaw, table_fault, first_in};
+ghost use Rattle.load_meaning.specs.LoadTable.{is_table, table_of, is_called, is_call, entry_count, target_at, zero_checks, entry_checks, entries_checks, table_checks};
+ghost use Rattle.load_meaning.specs.Loadable.{table_flaw, table_fault, in_segment, first_in};
 ghost use Rattle.omf_records.specs.Segments.{shown};
 ghost use Rattle.omf_cells.specs.Load.{IsLoadView, AreShown};
 ghost use Rattle.omf_cells.specs.Content.{HasPieces, AreContents};
@@ -31,10 +31,25 @@ const BACK: u32 = 4;
 const ENTRY: u32 = 14;
 
 /// Whether the segment is a jump table.
-pub fn is_table(view: &SegmentView) -> bool
+fn is_table(view: &SegmentView) -> bool
     ensures { result ≡ is_table (shown view.now) }
 {
     view.header.kind.form() == TABLE
+}
+
+/// The number of the first segment, from 1, that is a jump table.
+pub fn table_of(views: &Vec<SegmentView>) -> Option<u32>
+    requires { length views.now.items + 1 < 2 ^ 32 }
+    ensures { result ≡ table_of (map shown views.now.items) }
+{
+    let mut number = 1;
+    'views: for view in views {
+        if is_table(view) {
+            return Some(number);
+        }
+        number += 1;
+    }
+    None
 }
 
 /// How many entries a table of so many bytes has.
@@ -44,7 +59,8 @@ pub fn entry_count(size: u32) -> u32
     size.saturating_sub(FRONT + BACK) / ENTRY
 }
 
-/// Where the entry that begins there leads.
+/// Where the entry at a place among the entries, from 0, leads.
+#[tactic(auto, unfolding(load_meaning::specs::LoadTable::target_at))]
 pub fn target_from(view: &SegmentView, pieces: &[Piece], place: u32) -> Target
     requires pieces { HasPieces view.now pieces.now }
     requires inside { entry_start place + 14 ≤ view.now.header.length }
@@ -202,29 +218,58 @@ fn table_flaw(
     layout_flaw(views, view, pieces, count)
 }
 
+/// What is wrong with the segment that has this number, if it is a table.
+fn fault_of(
+    views: &Vec<SegmentView>,
+    view: &SegmentView,
+    pieces: &[Piece],
+    number: u32,
+    second: bool,
+) -> Option<LoadFault>
+    requires short { length view.now.file.now < 2 ^ 32 }
+    requires shown { IsLoadView view.now.file.now view.now }
+    requires pieces { HasPieces view.now pieces.now }
+    requires second { second ≡ list_any is_table (take (number - 1) (map shown views.now.items)) }
+    ensures value { result ≡ option_map (in_segment number) (table_fault (map shown views.now.items) number (shown view.now)) }
+    ensures named { IfSome result (λ fault. fault.cause ≡ LoadCause.Memory → ⊥) }
+{
+    if !is_table(view) {
+        return None;
+    }
+    match table_flaw(views, view, pieces, number, second) {
+        Some(at) => Some(LoadFault {
+            cause: LoadCause::BadTable,
+            segment: number,
+            at,
+        }),
+        None => None,
+    }
+}
+
+/// The data of the segment at a place, from 0.
+fn pieces_at<'c, 'a>(contents: &'c Vec<Content<'a>>, place: usize) -> &'c [Piece<'a>]
+    requires { place < length contents.now.items }
+    ensures { IsSomeAnd (slice_get contents.now.items place) (λ content. content.pieces.items ≡ result.now) }
+{
+    contents[place].pieces.as_slice()
+}
+
 /// The first fault of phase 4, segment by segment.
 pub fn check_tables(views: &Vec<SegmentView>, contents: &Vec<Content>) -> Option<LoadFault>
     requires shown { AreShown views.now.items }
     requires contents { AreContents views.now.items contents.now.items }
     ensures value { result ≡ first_in (table_fault (map shown views.now.items)) 1 (map shown views.now.items) }
+    ensures named { IfSome result (λ fault. fault.cause ≡ LoadCause.Memory → ⊥) }
 {
     let mut number = 1;
     let mut second = false;
     'views: for view in views {
-        if is_table(view) {
-            let pieces = contents[number as usize - 1].pieces.as_slice();
-            match table_flaw(views, view, pieces, number, second) {
-                Some(at) => {
-                    return Some(LoadFault {
-                        cause: LoadCause::BadTable,
-                        segment: number,
-                        at,
-                    });
-                }
-                None => {}
-            }
-            second = true;
+        let pieces = pieces_at(contents, number as usize - 1);
+        match fault_of(views, view, pieces, number, second) {
+            Some(fault) => return Some(fault),
+            None => {}
         }
+        second = second || is_table(view);
         number += 1;
     }
     None
