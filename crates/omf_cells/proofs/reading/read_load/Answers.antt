@@ -20,10 +20,3 @@ pub segments-preserved : goal.segments-preserved
 segments-preserved c =
     let more = read_more c.args.file.now c.segments.views.items c.in-Ok.view c.segments.start c.segments.number c.segments.invariant c.in-Ok.ensures.start c.segments-test.true c.in-Ok.ensures.ok in
     subst (λ (views : List SegmentView). Read c.args.file.now views (c.segments.start + c.in-Ok.view.header.byte_count) (c.segments.number + 1)) (sym c.in_ok-push.ensures.items) more
-
-pub returns-in-Err-check_later-clause-refused : goal.returns-in-Err-check_later-clause-refused
-returns-in-Err-check_later-clause-refused c =
-    let fault = c.in-Err-check_later.fault in
-    unless_then fault.cause fault _ _
-    (λ first. is_later c.args.file.now c.segments.views.items c.segments.start c.segments.number fault c.segments.invariant (omega (arith, c.segments-test.false)) first)
-    c.in-Err-check_later.ensures.refused
