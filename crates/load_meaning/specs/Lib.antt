@@ -1,8 +1,11 @@
 pub mod Plain
 pub mod Cells
 pub mod Table
+pub mod LoadTable
 pub mod Loadable
 pub mod PlainLaws
 pub mod LoadableLaws
-pub mod CellLaws
+pub mod LayingLaws
 pub mod TableLaws
+pub mod LoadTableLaws
+pub mod CellLaws
