@@ -17,3 +17,5 @@ pub mod Steps
 pub mod Needs
 pub mod PokeLaws
 pub mod StandsLaws
+pub mod PutLaws
+pub mod OnceLaws
