@@ -1,0 +1,11 @@
+pub mod Lists
+pub mod Agrees
+pub mod Laws
+pub mod Acts
+pub mod Frame
+pub mod Stay
+pub mod Seeing
+pub mod Apart
+pub mod Begun
+pub mod Purged
+pub mod Checks
