@@ -1,5 +1,5 @@
 -- What a loader holds, and when it agrees with a state of the machine.
-use Rattle.std.specs.Prelude.{◌≡◌, ◌≢◌, ◌⊎◌, ℕ, ◌+◌, ◌≤◌, true, false, List, [], length, map, Option, Some, option_map, IsSome, slice_get}
+use Rattle.std.specs.Prelude.{◌≡◌, ◌≢◌, ◌⊎◌, ℕ, ◌+◌, ◌≤◌, ◌<◌, ◌^◌, true, false, List, [], length, map, Option, Some, option_map, IsSome, slice_get}
 use Rattle.omf_format.specs.File.{Segment, segment_at}
 use Rattle.omf_io.specs.Counts.{Rose, IsFront}
 use Rattle.omf_io.specs.Files.{FileMap}
@@ -105,11 +105,12 @@ pub record Has (users : List (Option Kept)) (place number : ℕ) (head : Head) (
   pub head' : at_number kept.heads number ≡ Some head
   pub handle : handle_at kept.handles number ≡ Some h
 
--- At most 255 users were made. Each has a place for a handle for each header. The static segments of a running user are active. Each
+-- At most 255 users were made. Each has fewer than 65,536 segments, and a place for a handle for each header. The static segments of a running user are active. Each
 -- handle of a user is its own, no two segments have one slot, and each block of a user is a segment's.
 pub record IsSound (memory : Memory) (users : List (Option Kept)) : Type 0 where
   pub few : length users ≤ max_users
   pub lengths : (place : ℕ) (kept : Kept) → slice_get users place ≡ Some (Some kept) → length kept.handles ≡ length kept.heads
+  pub short : (place : ℕ) (kept : Kept) → slice_get users place ≡ Some (Some kept) → length kept.heads < 2 ^ 16
   pub statics : (place : ℕ) (kept : Kept) (number : ℕ) (head : Head) → slice_get users place ≡ Some (Some kept) → kept.life ≡ Running
       → at_number kept.heads number ≡ Some head → is_static head ≡ true → is_active (presence_at memory.slots kept.handles number) ≡ true
   pub each : (place number : ℕ) (head : Head) (h : Handle) → Has users place number head h → IsOf memory (first_id + place) head h

@@ -31,7 +31,7 @@ use Rattle.loader_agrees.specs.Seeing.{made_at, same_outlines, kept_is, has_any}
 
 module _ (held : FileMap) (loader : Loaded) (state : Machine) (agrees : Agrees held loader state) (sound : IsSound loader.memory loader.users) where
   -- a user of the state is one of the loader
-  back : (id : ℕ) (user : User) → user_of state.users id ≡ Some user → (kept : Kept) × (user_of loader.users id ≡ Some kept) × (kept.handles ≡ handles_of user)
+  pub back : (id : ℕ) (user : User) → user_of state.users id ≡ Some user → (kept : Kept) × (user_of loader.users id ≡ Some kept) × (kept.handles ≡ handles_of user)
   back id user is = go (user_of loader.users id) refl
     where
       outlines : (o : Option Kept) → user_of loader.users id ≡ o → option_map outline o ≡ Some (outline_of user)

@@ -9,3 +9,4 @@ pub mod Apart
 pub mod Begun
 pub mod Purged
 pub mod Checks
+pub mod Reads

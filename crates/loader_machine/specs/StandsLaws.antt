@@ -1,17 +1,20 @@
 -- What the bytes of a segment depend on: the user, the segment's own place, those of the static segments, and in a table its
 -- targets. And there are LENGTH of them.
-use Rattle.std.proofs.Common.{◌≡◌, ◌⊎◌, inl, inr, ℕ, zero, suc, Bool, true, false, cond, ◌+◌, ◌*◌, ◌/◌, ◌%◌, ◌^◌, ◌≤◌, List, [], ◌∷◌, ◌++◌, length, map, take, drop, All, refl, ap, ◌∙◌, arith, Some}
-use Rattle.std.specs.List.{AllByRecursion}
+use Rattle.std.proofs.Common.{◌≡◌, ◌⊎◌, inl, inr, ℕ, zero, suc, Bool, true, false, cond, ◌+◌, ◌*◌, ◌/◌, ◌%◌, ◌^◌, ◌≤◌, List, [], ◌∷◌, ◌++◌, length, map, take, drop, All, refl, ap, ◌∙◌, arith, replicate, Some}
+use Rattle.std.specs.List.{AllByRecursion, flat_map}
 use Rattle.std.proofs.lemmas.List.Elements.{All-append, All-take, All-drop, All-cons, All-nil, All-head, All-tail}
-use Rattle.std.proofs.lemmas.List.{length-map}
+use Rattle.std.proofs.lemmas.List.Concat.{flat_map-cons}
+use Rattle.std.proofs.lemmas.List.{length-map, length-append}
 use Rattle.omf_format.specs.Header.{is_dynamic, is_skipped}
 use Rattle.omf_format.specs.File.{Segment, segment_at}
 use Rattle.load_meaning.specs.declared.table.Target.{Target}
 use Rattle.load_meaning.specs.Cells.{Cell, Byte, Part, Patch, cells, segment_bytes, parts_from, with_patch, patched, byte_of}
-use Rattle.load_meaning.specs.Table.{table_bytes}
+use Rattle.load_meaning.specs.declared.table.Entry.{Entry}
+use Rattle.load_meaning.specs.Table.{entry_bytes, table_bytes, file_entry}
+use Rattle.load_meaning.specs.TableLaws.{length-entry_bytes}
 use Rattle.load_meaning.specs.LoadTable.{is_table, targets_of}
 use Rattle.load_meaning.specs.Loadable.{patch_list, IsPatch, IsTarget, IsSoundSegment}
-use Rattle.load_meaning.specs.CellLaws.{length-cells}
+use Rattle.load_meaning.specs.CellLaws.{length-cells, length-segment_bytes}
 use Rattle.loader_machine.specs.Heads.{head_of, is_static}
 use Rattle.loader_machine.specs.State.{Pokes}
 use Rattle.loader_machine.specs.Stands.{Setting, entry_for, entries_bytes, over, read_bytes, stands}
@@ -110,9 +113,33 @@ module _ (segments : List Segment) (number : ℕ) (s : Segment) (sound : IsSound
 
 -- ---- lengths
 
--- LENGTH bytes stand in a segment that is no table
-pub stands_length : (segments : List Segment) (number : ℕ) (s : Segment) (at : Setting) (pokes : Pokes) → IsSoundSegment segments number s → is_table s ≡ false → length (stands at pokes s) ≡ s.fields.length
-unfolding stands read_bytes
-stands_length segments number s at pokes sound plain =
-    length_over pokes (read_bytes at s) ∙ ap (λ (t : Bool). length (cond t (entries_bytes at (targets_of s)) (map (byte_of at.place) (cells s)))) plain
-    ∙ length-map (cells s) (byte_of at.place) ∙ length-cells segments number s sound
+flat_length : (entries : List Entry) → length (flat_map entry_bytes entries) ≡ 14 * length entries
+flat_length [] = refl
+flat_length (e ∷ entries) = ap length (flat_map-cons entry_bytes e entries)
+    ∙ omega (arith, length-append (entry_bytes e) (flat_map entry_bytes entries), length-entry_bytes e, flat_length entries)
+
+pub length-table_bytes : (entries : List Entry) → length (table_bytes entries) ≡ 12 + 14 * length entries
+unfolding table_bytes
+length-table_bytes entries = omega (arith,
+    length-append (replicate 8 0 ++ flat_map entry_bytes entries) (replicate 4 0),
+    length-append (replicate 8 0) (flat_map entry_bytes entries), flat_length entries)
+
+table_length : (segments : List Segment) (number : ℕ) (s : Segment) (at : Setting) → IsSoundSegment segments number s → is_table s ≡ true → length (entries_bytes at (targets_of s)) ≡ s.fields.length
+unfolding entries_bytes
+table_length segments number s at sound is =
+    let laid = (sound.table is).laid_out.size in
+    length-table_bytes (map (entry_for at) (targets_of s))
+    ∙ omega (arith, laid, length-map (targets_of s) (entry_for at), length-map (targets_of s) file_entry, length-segment_bytes s sound.fits)
+
+read_long : (segments : List Segment) (number : ℕ) (s : Segment) (at : Setting) → IsSoundSegment segments number s → length (read_bytes at s) ≡ s.fields.length
+unfolding read_bytes
+read_long segments number s at sound = go (is_table s) refl
+  where
+    go : (t : Bool) → is_table s ≡ t → length (cond t (entries_bytes at (targets_of s)) (map (byte_of at.place) (cells s))) ≡ s.fields.length
+    go true is = table_length segments number s at sound is
+    go false is = length-map (cells s) (byte_of at.place) ∙ length-cells segments number s sound
+
+-- LENGTH bytes stand in each segment of a load file
+pub stands_long : (segments : List Segment) (number : ℕ) (s : Segment) (at : Setting) (pokes : Pokes) → IsSoundSegment segments number s → length (stands at pokes s) ≡ s.fields.length
+unfolding stands
+stands_long segments number s at pokes sound = length_over pokes (read_bytes at s) ∙ read_long segments number s at sound
