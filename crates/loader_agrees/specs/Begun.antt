@@ -61,7 +61,7 @@ position_map p f slots same =
     ap (λ (n : ℕ). cond (nat_lt n (length (map f slots))) (Some n) None) (prefix_map p f slots same)
     ∙ ap (λ (m : ℕ). cond (nat_lt (prefix_len (λ x. not (p x)) slots) m) (Some (prefix_len (λ x. not (p x)) slots)) None) (length-map slots f)
 
-emptied_lowest : (slots : Slots) (count : ℕ) → lowest_free (emptied slots count) ≡ lowest_free slots
+pub emptied_lowest : (slots : Slots) (count : ℕ) → lowest_free (emptied slots count) ≡ lowest_free slots
 unfolding emptied
 emptied_lowest slots count = position_map is_free (emptied_where (is_gone slots count)) slots (λ slot. (emptied_free (is_gone slots count) slot).0)
 

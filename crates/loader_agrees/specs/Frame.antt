@@ -44,7 +44,7 @@ module _ (old new : Memory) (handles : List (Option Handle)) (kept : AreKept old
   ]
 
   -- what was active is so now
-  was_active : (number : ℕ) (o : Option Handle) → handle_at handles number ≡ o → is_active (presence old.slots o) ≡ true
+  pub was_active : (number : ℕ) (o : Option Handle) → handle_at handles number ≡ o → is_active (presence old.slots o) ≡ true
       → presence new.slots o ≡ presence old.slots o
   was_active number None is active = refl
   was_active number (Some h) is active = elim (kept number h is) [

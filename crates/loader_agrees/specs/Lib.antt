@@ -10,3 +10,6 @@ pub mod Begun
 pub mod Purged
 pub mod Checks
 pub mod Reads
+pub mod Slotted
+pub mod Keeping
+pub mod ScriptBlocks

@@ -78,7 +78,7 @@ gone_can slots count block is = go (can_purge block) (nat_lt (rank slots block) 
 
 -- ---- a new handle
 
-used_slot : (slots : Slots) (h : Handle) → IsSome (get slots h) → is_free (slot_at slots h.slot) ≡ false
+pub used_slot : (slots : Slots) (h : Handle) → IsSome (get slots h) → is_free (slot_at slots h.slot) ≡ false
 used_slot slots h some = go ((slot_at slots h.slot).generation == h.generation) (slot_at slots h.slot).content some
   where
     go : (b : Bool) (content : Content Block) → IsSome (cond b (used_value content) None) → is_free_content content ≡ false
@@ -88,7 +88,7 @@ used_slot slots h some = go ((slot_at slots h.slot).generation == h.generation) 
     go false content e = absurd cc
 
 -- a live handle's block stays where a new handle is taken
-take_stays : (slots : Slots) (value : Block) (h : Handle) → IsSome (get slots h) → get (after_take slots value) h ≡ get slots h
+pub take_stays : (slots : Slots) (value : Block) (h : Handle) → IsSome (get slots h) → get (after_take slots value) h ≡ get slots h
 take_stays slots value h some = go (lowest_free slots) refl
   where
     go : (o : Option ℕ) → lowest_free slots ≡ o
@@ -100,7 +100,7 @@ take_stays slots value h some = go (lowest_free slots) refl
         let ne : h.slot ≢ place = λ same. let free : is_free (slot_at slots h.slot) ≡ true = ap (λ (p : ℕ). is_free (slot_at slots p)) same ∙ found.1 in cc in
         rw (get_or-set_other slots place h.slot (record { generation = (slot_at slots place).generation; content = Used value }) new_slot ne) refl
 
-new_apart : (slots : Slots) (k h : Handle) → new_handle slots ≡ Some k → IsSome (get slots h) → h.slot ≢ k.slot
+pub new_apart : (slots : Slots) (k h : Handle) → new_handle slots ≡ Some k → IsSome (get slots h) → h.slot ≢ k.slot
 new_apart slots k h is some same = go (lowest_free slots) refl is
   where
     go : (o : Option ℕ) → lowest_free slots ≡ o → option_map (λ place. let new : Handle = record { slot = place; generation = (slot_at slots place).generation } in new) o ≡ Some k → ⊥
@@ -145,7 +145,7 @@ empty_cant : (block : Block) → can_purge (record block { at = None }) ≡ true
 unfolding can_purge
 empty_cant block e = cc
 
-stays_stays : (a b c : Slots) (h : Handle) → Stays a b h → Stays b c h → Stays a c h
+pub stays_stays : (a b c : Slots) (h : Handle) → Stays a b h → Stays b c h → Stays a c h
 stays_stays a b c h one two block is = elim (one block is) [
   | inl same ↦ two block same
   | inr gone ↦ elim (two (record block { at = None }) gone.1) [
@@ -154,7 +154,7 @@ stays_stays a b c h one two block is = elim (one block is) [
   ]
 ]
 
-still_live : (a b : Slots) (h : Handle) → Stays a b h → IsSome (get a h) → IsSome (get b h)
+pub still_live : (a b : Slots) (h : Handle) → Stays a b h → IsSome (get a h) → IsSome (get b h)
 still_live a b h stays = go (get a h) refl
   where
     go : (o : Option Block) → get a h ≡ o → IsSome o → IsSome (get b h)
@@ -173,7 +173,7 @@ all_stay banks user slots last (want ∷ wants) [] h all = absurd all
 all_stay banks user slots last (want ∷ wants) (k ∷ hs) h all =
     stays_stays slots all.0 last h (put_stays banks slots all.0 want user true 0 k all.1 h) (all_stay banks user all.0 last wants hs h all.2)
 
-all_apart : (banks : List ℕ) (user : ℕ) (slots last : Slots) (wants : List Want) (hs : List Handle) (h : Handle) → PutsAll Purges banks user slots wants hs last → IsSome (get slots h)
+pub all_apart : (banks : List ℕ) (user : ℕ) (slots last : Slots) (wants : List Want) (hs : List Handle) (h : Handle) → PutsAll Purges banks user slots wants hs last → IsSome (get slots h)
     → (place : ℕ) (d : ℕ) → place < length (map (λ (k : Handle). k.slot) hs) → get_or (map (λ (k : Handle). k.slot) hs) place d ≢ h.slot
 all_apart banks user slots last [] [] h all some place d within = λ same. omega arith
 all_apart banks user slots last [] (k ∷ hs) h all some place d within = λ same. all
