@@ -13,3 +13,5 @@ pub mod Reads
 pub mod Slotted
 pub mod Keeping
 pub mod ScriptBlocks
+pub mod Checking
+pub mod Empty
