@@ -1,5 +1,5 @@
 -- What the calls of a loader do, whatever files there are.
-use Rattle.std.specs.Prelude.{◌≡◌, take, drop, None, ℕ, ◌+◌, ◌<◌, ◌≤◌, [], ◌∷◌, ◌++◌, map, count_by, false, IsSome, List, length, Option, Some, slice_set}
+use Rattle.std.specs.Prelude.{◌≡◌, ◌^◌, take, drop, None, ℕ, ◌+◌, ◌<◌, ◌≤◌, [], ◌∷◌, ◌++◌, map, count_by, false, IsSome, List, length, Option, Some, slice_set}
 use Rattle.omf_format.specs.File.{Segment, segment_at}
 use Rattle.omf_io.specs.Counts.{IsFront}
 use Rattle.iigs_meaning.specs.declared.handles.Handle.{Handle}
@@ -76,6 +76,7 @@ started_kept path heads handles = record {
 -- and there is one user more.
 pub record HasBegun (old : Loaded) (path : List ℕ) (segments : List Segment) (id : ℕ) (entry : Option ℕ) (new : Loaded) : Type 0 where
   pub few : length old.users < max_users
+  pub short : length segments < 2 ^ 16
   pub id_is : id ≡ first_id + length old.users
   pub handles : List Handle
   pub middle : Memory

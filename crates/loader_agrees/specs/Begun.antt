@@ -145,11 +145,11 @@ all_length banks user slots last (want ∷ wants) (k ∷ hs) all = ap (λ (n : �
 
 -- ---- the places of the segments
 
-decide : (t : Bool) → (t ≡ true) ⊎ (t ≡ false)
+pub decide : (t : Bool) → (t ≡ true) ⊎ (t ≡ false)
 decide true = inl refl
 decide false = inr refl
 
-spread_length : (heads : List Head) (hs : List Handle) → length (spread heads hs) ≡ length heads
+pub spread_length : (heads : List Head) (hs : List Handle) → length (spread heads hs) ≡ length heads
 spread_length [] hs = refl
 spread_length (f ∷ heads) [] = ap (λ (n : ℕ). suc n) (spread_length heads [])
 spread_length (f ∷ heads) (h ∷ hs) = elim (decide (is_static f)) [
@@ -184,7 +184,7 @@ wants_cons g heads e = rw e refl
 wants_pass : (g : Head) (heads : List Head) → is_static g ≡ false → length (wants_of (g ∷ heads)) ≡ length (wants_of heads)
 wants_pass g heads e = rw e refl
 
-spread_static : (heads : List Head) (hs : List Handle) → length hs ≡ length (wants_of heads) → (k : ℕ) (f : Head) → slice_get heads k ≡ Some f → is_static f ≡ true → HasOne heads hs k
+pub spread_static : (heads : List Head) (hs : List Handle) → length hs ≡ length (wants_of heads) → (k : ℕ) (f : Head) → slice_get heads k ≡ Some f → is_static f ≡ true → HasOne heads hs k
 spread_static [] hs long k f is static = absurd cc
 spread_static (g ∷ heads) [] long zero f is static = absurd (omega (arith, long, wants_cons g heads (ap is_static (same_Some g f is) ∙ static)))
 spread_static (g ∷ heads) [] long (suc k) f is static = elim (decide (is_static g)) [
@@ -197,7 +197,7 @@ spread_static (g ∷ heads) (h ∷ hs) long (suc k) f is static = elim (decide (
   | inr other ↦ one_passed g heads h hs k other (spread_static heads (h ∷ hs) (long ∙ wants_pass g heads other) k f is static)
 ]
 
-slice_push : {X : Type 0} (xs : List X) (x : X) (k : ℕ) (y : X) → slice_get (xs ++ x ∷ []) k ≡ Some y → (slice_get xs k ≡ Some y) ⊎ ((k ≡ length xs) × (y ≡ x))
+pub slice_push : {X : Type 0} (xs : List X) (x : X) (k : ℕ) (y : X) → slice_get (xs ++ x ∷ []) k ≡ Some y → (slice_get xs k ≡ Some y) ⊎ ((k ≡ length xs) × (y ≡ x))
 slice_push [] x zero y is = inr (refl, cc)
 slice_push [] x (suc k) y is = absurd cc
 slice_push (z ∷ xs) x zero y is = inl is
@@ -209,6 +209,15 @@ slice_push (z ∷ xs) x (suc k) y is = elim (slice_push xs x k y is) [ inl was �
 pub may_load : (made : ℕ) → made < max_users → load_refusal made ≡ None
 unfolding load_refusal
 may_load made few = let t : nat_lt made max_users ≡ true = grind arith in rw t refl
+
+-- a block that was there is kept by a load
+pub begun_keeps : (old new : Loaded) (path : List ℕ) (segments : List Segment) (id : ℕ) (entry : Option ℕ) → HasBegun old path segments id entry new
+    → (h : Handle) → IsSome (get old.memory.slots h) → Keeps old.memory new.memory h
+begun_keeps old new path segments id entry begun h live = elim (placement_keeps old.memory begun.middle id (wants_of (map head_of segments)) begun.handles h begun.placed live) [
+  | Same slot bytes ↦ Same (ap (λ (t : Slots). get t h) begun.slots ∙ slot)
+      (λ there. begun.stay h live ∙ bytes (subst (λ (t : Slots). IsSome (there_at (presence t (Some h)))) begun.slots there))
+  | Gone block was can gone ↦ Gone block was can (ap (λ (t : Slots). get t h) begun.slots ∙ gone)
+]
 
 module _ (held : FileMap) (old new : Loaded) (state : Machine) (path : List ℕ) (segments : List Segment) (id : ℕ) (entry : Option ℕ) (sound : IsSound old.memory old.users) (agrees : Agrees held old state)
     (begun : HasBegun old path segments id entry new) (holds : HoldsLoad held path segments) where
@@ -247,11 +256,7 @@ module _ (held : FileMap) (old new : Loaded) (state : Machine) (path : List ℕ)
   }
 
   keeps : (h : Handle) → IsSome (get old.memory.slots h) → Keeps old.memory new.memory h
-  keeps h live = elim (placement_keeps old.memory begun.middle id (wants_of (map head_of segments)) begun.handles h begun.placed live) [
-    | Same slot bytes ↦ Same (ap (λ (t : Slots). get t h) begun.slots ∙ slot)
-        (λ there. begun.stay h live ∙ bytes (subst (λ (t : Slots). IsSome (there_at (presence t (Some h)))) begun.slots there))
-    | Gone block was can gone ↦ Gone block was can (ap (λ (t : Slots). get t h) begun.slots ∙ gone)
-  ]
+  keeps h live = begun_keeps old new path segments id entry begun h live
 
   others_agree : (place : ℕ) (kept' : Kept) (user' : User) → slice_get old.users place ≡ Some (Some kept') → UserAgrees held old.memory (first_id + place) kept' user' → UserAgrees held new.memory (first_id + place) kept' user'
   others_agree place kept' user' made was = agrees_still held old.memory new.memory (first_id + place) kept' user' was

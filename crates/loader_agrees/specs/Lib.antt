@@ -15,3 +15,4 @@ pub mod Keeping
 pub mod ScriptBlocks
 pub mod Checking
 pub mod Empty
+pub mod BegunSound
