@@ -1,0 +1,10 @@
+pub mod Lists
+pub mod Locked
+pub mod Placing
+pub mod Sound
+pub mod Growing
+pub mod Loads
+pub mod Agreeing
+pub mod Settled
+pub mod Starting
+pub mod Once

@@ -1,0 +1,6 @@
+pub mod Loaded
+pub mod View
+pub mod Files
+pub mod Calls
+pub mod Meets
+pub mod Laws
