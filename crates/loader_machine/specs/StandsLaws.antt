@@ -120,9 +120,12 @@ flat_length (e ∷ entries) = ap length (flat_map-cons entry_bytes e entries)
 
 pub length-table_bytes : (entries : List Entry) → length (table_bytes entries) ≡ 12 + 14 * length entries
 unfolding table_bytes
-length-table_bytes entries = omega (arith,
-    length-append (replicate 8 0 ++ flat_map entry_bytes entries) (replicate 4 0),
-    length-append (replicate 8 0) (flat_map entry_bytes entries), flat_length entries)
+length-table_bytes entries = omega (
+  arith,
+  length-append (replicate 8 0 ++ flat_map entry_bytes entries) (replicate 4 0),
+  length-append (replicate 8 0) (flat_map entry_bytes entries),
+  flat_length entries,
+)
 
 table_length : (segments : List Segment) (number : ℕ) (s : Segment) (at : Setting) → IsSoundSegment segments number s → is_table s ≡ true → length (entries_bytes at (targets_of s)) ≡ s.fields.length
 unfolding entries_bytes

@@ -63,7 +63,7 @@ abbrev rest_of : List Segment → Segment → List Check
 rest_of segments s = table_checks segments (segment_bytes s) (entry_count s.fields.length)
 
 module _ (segments : List Segment) (number : ℕ) (s : Segment) (first : list_any is_table (take (number - 1) segments) ≡ false)
-  (static : is_dynamic s.fields.kind ≡ false) (kept : is_skipped s.fields.kind ≡ false) where
+    (static : is_dynamic s.fields.kind ≡ false) (kept : is_skipped s.fields.kind ≡ false) where
   kinds : (is_dynamic s.fields.kind || is_skipped s.fields.kind) ≡ false
   kinds = rw static kept
 

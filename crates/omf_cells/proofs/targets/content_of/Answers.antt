@@ -42,13 +42,12 @@ returns-clause-ok c =
     let all : map shown_spot c.take_records.new.spots.items ≡ spread_all (patches_from s s.records) =
     c.in_ok-fault.ensures.spots (ap (λ o. Ok o) c.in-None.is)
     ∙ ap (λ (l : List Spot). map shown_spot l ++ spread_all (patches_from s (records_of c.records-2.result))) c.new-spots.ensures.items
-    ∙ ap (λ (r : Reader). spread_all (patches_from s (records_of r))) c.records-2.ensures in
-    (
+    ∙ ap (λ (r : Reader). spread_all (patches_from s (records_of r))) c.records-2.ensures in (
       none,
       record {
         pieces = has_pieces number c.args.view.now c.records.result c.in_ok-pieces.pieces.items c.requires.sized c.records.ensures c.in_ok-pieces.ensures.short c.in_ok-pieces.ensures.are;
         spots = sorted_spots segments number s c.take_records.new.spots.items c.sort_by_key.new.self.items none all c.in_ok-sort_by_key.ensures.permutation
-        (IsNonDecreasingBy-from_sort offset_of c.sort_by_key.new.self.items (c.in_ok-sort_by_key.ensures.sorted offset_of (answers_always _ _ _ (λ f a r g h. search rules))))
-        (c.in_ok-sort_by_key.ensures.stable offset_of (answers_always _ _ _ (λ f a r g h. search rules)));
-      }
+            (IsNonDecreasingBy-from_sort offset_of c.sort_by_key.new.self.items (c.in_ok-sort_by_key.ensures.sorted offset_of (answers_always _ _ _ (λ f a r g h. search rules))))
+            (c.in_ok-sort_by_key.ensures.stable offset_of (answers_always _ _ _ (λ f a r g h. search rules)));
+      },
     )

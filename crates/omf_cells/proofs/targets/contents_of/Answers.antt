@@ -31,7 +31,7 @@ views-preserved c =
     contents_push (take i views) c.views.contents.items v c.in_ok-content.content c.views.invariant.are c.in_ok-content.ensures.ok.1 in
     record {
       targets = passed_more phase views i number v (option_map (in_segment number) (phase number (shown v))) c.views.invariant.targets lt item refl
-      (ap (λ o. option_map (in_segment number) o) c.in_ok-content.ensures.ok.0);
+          (ap (λ o. option_map (in_segment number) o) c.in_ok-content.ensures.ok.0);
       shapes = passed_more shape_fault views i number v (option_map (in_segment number) (shape_fault number (shown v))) c.views.invariant.shapes lt item refl (ap (λ o. option_map (in_segment number) o) sized);
       are =
           subst (AreContents (take (i + 1) views)) (sym c.in_ok-push.ensures.items)
