@@ -1,6 +1,6 @@
 -- Going over the fields of a table, and over the segments for a second one.
-use Rattle.std.proofs.Common.{◌≡◌, ℕ, zero, suc, ◌+◌, ◌-◌, ◌<◌, ◌≤◌, Bool, true, false, List, [], ◌∷◌, ◌++◌, length, map, take, Option, Some, None, refl, sym, ap, subst, ◌∙◌, arith}
-use Rattle.std.specs.Prelude.{◌||◌, ◌*◌, not, ◌==◌, nat_lt, slice_get, option_map, IsSomeAnd}
+use Rattle.std.proofs.Common.{◌≡◌, ℕ, zero, suc, ◌+◌, ◌-◌, Bool, true, false, List, [], ◌∷◌, ◌++◌, length, take, Option, Some, None, refl, sym, ap, ◌∙◌, arith}
+use Rattle.std.specs.Prelude.{◌||◌, ◌*◌, not, ◌==◌, nat_lt, slice_get, IsSomeAnd}
 use Rattle.std.proofs.lemmas.Bool.{lt-ltb}
 use Rattle.std.specs.Option.{option_or}
 use Rattle.std.specs.List.{list_any}
@@ -63,7 +63,7 @@ abbrev rest_of : List Segment → Segment → List Check
 rest_of segments s = table_checks segments (segment_bytes s) (entry_count s.fields.length)
 
 module _ (segments : List Segment) (number : ℕ) (s : Segment) (first : list_any is_table (take (number - 1) segments) ≡ false)
-  (static : is_dynamic s.fields.kind ≡ false) (kept : is_skipped s.fields.kind ≡ false) where
+    (static : is_dynamic s.fields.kind ≡ false) (kept : is_skipped s.fields.kind ≡ false) where
   kinds : (is_dynamic s.fields.kind || is_skipped s.fields.kind) ≡ false
   kinds = rw static kept
 

@@ -45,11 +45,7 @@ fn bytes_of<'a>(rec: &Rec<'a>) -> Option<&'a [u8]>
 }
 
 /// Adds the piece of a record whose bytes begin at this offset, if it has one.
-fn add_piece<'a>(
-    pieces: &mut Vec<Piece<'a>>,
-    start: u32,
-    rec: &Rec<'a>,
-) -> Result<(), AllocError>
+fn add_piece<'a>(pieces: &mut Vec<Piece<'a>>, start: u32, rec: &Rec<'a>) -> Result<(), AllocError>
     ensures { OnOk result ((so_far : List ℕ) → ArePieces pieces.old.items so_far → start ≡ length so_far
         → ArePieces pieces.new.items (so_far ++ content_of (view rec.now))) }
 {

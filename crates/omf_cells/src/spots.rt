@@ -118,7 +118,10 @@ fn spot_byte(spot: &Spot, places: &Places) -> u8
         Some(address) => address,
         None => 0,
     };
-    number_byte(shifted(address.wrapping_add(spot.offset), spot.shift), spot.index)
+    number_byte(
+        shifted(address.wrapping_add(spot.offset), spot.shift),
+        spot.index,
+    )
 }
 
 /// Writes the bytes that the spots stand for, in order.

@@ -67,11 +67,7 @@ fn is_dynamic(views: &Vec<SegmentView>, number: u16) -> bool
 
 /// Why a patch may not stand in a segment of these.
 #[tactic(auto, unfolding(load_meaning::specs::Loadable::patch_refusal))]
-fn refusal(
-    patch: &Relocation,
-    views: &Vec<SegmentView>,
-    view: &SegmentView,
-) -> Option<LoadCause>
+fn refusal(patch: &Relocation, views: &Vec<SegmentView>, view: &SegmentView) -> Option<LoadCause>
     ensures value { result ≡ patch_refusal (map shown views.now.items) (shown view.now) (patch_of patch.now) }
 
     // The patch that may stand there is of this file, and lies in the segment.
@@ -169,7 +165,12 @@ fn take_at(
     if is_outside(location, super_count(form), view.header.length) {
         return Ok(Some(LoadCause::PatchOutside));
     }
-    take(&super_patch(form, location as u32, view, pieces), views, view, spots)
+    take(
+        &super_patch(form, location as u32, view, pieces),
+        views,
+        view,
+        spots,
+    )
 }
 
 /// The same for the patches of a SUPER, one after another.

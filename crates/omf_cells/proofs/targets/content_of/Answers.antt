@@ -1,10 +1,9 @@
-use Rattle.std.proofs.Common.{◌≡◌, ℕ, ◌<◌, ◌++◌, [], List, Some, None, Ok, map, refl, sym, ap, subst, ◌∙◌, rules}
+use Rattle.std.proofs.Common.{◌≡◌, ◌++◌, List, Some, None, Ok, map, sym, ap, subst, ◌∙◌, rules}
 use Rattle.std.specs.Prelude.{option_map}
 use Rattle.std.proofs.lemmas.List.Sorted.{IsNonDecreasingBy-from_sort, answers_always}
 use Rattle.omf_format.specs.Reading.{Reader, records_of}
 use Rattle.load_meaning.specs.Loadable.{first_target_fault, target_fault, in_segment}
 use Rattle.omf_records.specs.Segments.{shown}
-use Rattle.omf_cells.specs.declared.pieces.Piece.{Piece}
 use Rattle.omf_cells.specs.declared.spots.Spot.{Spot}
 use Rattle.omf_cells.specs.Walk.{patches_from}
 use Rattle.omf_cells.specs.Content.{HasPieces, offset_of, shown_spot, spread_all}
@@ -42,13 +41,12 @@ returns-clause-ok c =
     let all : map shown_spot c.take_records.new.spots.items ≡ spread_all (patches_from s s.records) =
     c.in_ok-fault.ensures.spots (ap (λ o. Ok o) c.in-None.is)
     ∙ ap (λ (l : List Spot). map shown_spot l ++ spread_all (patches_from s (records_of c.records-2.result))) c.new-spots.ensures.items
-    ∙ ap (λ (r : Reader). spread_all (patches_from s (records_of r))) c.records-2.ensures in
-    (
+    ∙ ap (λ (r : Reader). spread_all (patches_from s (records_of r))) c.records-2.ensures in (
       none,
       record {
         pieces = has_pieces number c.args.view.now c.records.result c.in_ok-pieces.pieces.items c.requires.sized c.records.ensures c.in_ok-pieces.ensures.short c.in_ok-pieces.ensures.are;
         spots = sorted_spots segments number s c.take_records.new.spots.items c.sort_by_key.new.self.items none all c.in_ok-sort_by_key.ensures.permutation
-        (IsNonDecreasingBy-from_sort offset_of c.sort_by_key.new.self.items (c.in_ok-sort_by_key.ensures.sorted offset_of (answers_always _ _ _ (λ f a r g h. search rules))))
-        (c.in_ok-sort_by_key.ensures.stable offset_of (answers_always _ _ _ (λ f a r g h. search rules)));
-      }
+            (IsNonDecreasingBy-from_sort offset_of c.sort_by_key.new.self.items (c.in_ok-sort_by_key.ensures.sorted offset_of (answers_always _ _ _ (λ f a r g h. search rules))))
+            (c.in_ok-sort_by_key.ensures.stable offset_of (answers_always _ _ _ (λ f a r g h. search rules)));
+      },
     )

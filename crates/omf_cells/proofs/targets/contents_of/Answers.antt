@@ -1,13 +1,11 @@
-use Rattle.std.proofs.Common.{◌≡◌, ℕ, ◌+◌, ◌<◌, ◌++◌, ◌∷◌, [], List, None, length, take, get_or, map, refl, sym, ap, subst, ◌∙◌, arith}
+use Rattle.std.proofs.Common.{◌+◌, ◌<◌, ◌++◌, ◌∷◌, [], List, length, take, get_or, map, refl, sym, ap, subst, ◌∙◌, arith}
 use Rattle.std.specs.Prelude.{option_map}
-use Rattle.load_meaning.specs.Loadable.{Fault, in_segment, shape_fault, target_fault}
+use Rattle.load_meaning.specs.Loadable.{in_segment, shape_fault, target_fault}
 use Rattle.omf_records.specs.declared.segment.SegmentView.{SegmentView}
 use Rattle.omf_records.specs.Segments.{shown}
-use Rattle.omf_cells.specs.declared.targets.Content.{Content}
 use Rattle.omf_cells.specs.Content.{AreContents}
-use Rattle.omf_cells.proofs.LoadViews.{passed_none, passed_more, passed_some, passed_all}
-use Rattle.omf_cells.proofs.Contents.{none_here, contents_push, take_more, take_all}
-use Rattle.omf_cells.proofs.FrontFaults.{unless_then}
+use Rattle.omf_cells.proofs.LoadViews.{passed_more}
+use Rattle.omf_cells.proofs.Contents.{none_here, contents_push, take_more}
 use Rattle.omf_cells.proofs.targets.contents_of.Goals as goal
 
 pub content_of-requires-clause-sized : goal.content_of-requires-clause-sized
@@ -31,7 +29,7 @@ views-preserved c =
     contents_push (take i views) c.views.contents.items v c.in_ok-content.content c.views.invariant.are c.in_ok-content.ensures.ok.1 in
     record {
       targets = passed_more phase views i number v (option_map (in_segment number) (phase number (shown v))) c.views.invariant.targets lt item refl
-      (ap (λ o. option_map (in_segment number) o) c.in_ok-content.ensures.ok.0);
+          (ap (λ o. option_map (in_segment number) o) c.in_ok-content.ensures.ok.0);
       shapes = passed_more shape_fault views i number v (option_map (in_segment number) (shape_fault number (shown v))) c.views.invariant.shapes lt item refl (ap (λ o. option_map (in_segment number) o) sized);
       are =
           subst (AreContents (take (i + 1) views)) (sym c.in_ok-push.ensures.items)
