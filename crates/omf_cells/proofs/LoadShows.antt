@@ -1,9 +1,8 @@
 -- The segments of a load file by their numbers: cells, bytes in memory, and the table.
-use Rattle.std.proofs.Common.{◌≡◌, ℕ, zero, suc, ◌+◌, ◌-◌, ◌^◌, ◌<◌, ◌≤◌, Bool, true, false, eqb, List, [], ◌∷◌, ◌++◌, length, drop, map, get_or, replicate, All, Option, Some, None, inl, inr, refl, sym, ap, subst, ◌∙◌, arith}
+use Rattle.std.proofs.Common.{◌≡◌, ℕ, zero, suc, ◌+◌, ◌-◌, ◌^◌, ◌<◌, ◌≤◌, Bool, true, false, eqb, List, [], ◌∷◌, ◌++◌, length, map, replicate, All, Option, Some, None, inl, inr, refl, sym, ap, subst, ◌∙◌, arith}
 use Rattle.std.specs.Prelude.{slice_get, slice_set, option_map, option_and_then, IsSomeAnd, IsTrue, if◌then◌else◌}
 use Rattle.std.specs.List.{list_any}
 use Rattle.std.specs.Option.{option_or, option_map_or}
-use Rattle.std.proofs.Math.Seq.{drop-cons}
 use Rattle.std.proofs.lemmas.Bool.{cases_Bool, eqb-true, eqb-false}
 use Rattle.std.proofs.lemmas.List.{length-map}
 use Rattle.std.proofs.lemmas.List.Elements.{All-get_or, All-head, All-tail}
@@ -15,7 +14,7 @@ use Rattle.omf_format.specs.Body.{body_bytes}
 use Rattle.load_meaning.specs.Cells.{Cell, Byte, Patch, parts_from, segment_bytes, patches_of, cells, cell_at, byte_of, stands}
 use Rattle.load_meaning.specs.CellLaws.{cells-bytes, length-segment_bytes, loadable_has, length-cells, patched-laid, fit_in}
 use Rattle.load_meaning.specs.LayingLaws.{same_list, get-laid}
-use Rattle.load_meaning.specs.LoadTable.{is_table, table_from, table_of, entry_count, target_at, targets_of}
+use Rattle.load_meaning.specs.LoadTable.{table_of, entry_count, target_at, targets_of}
 use Rattle.load_meaning.specs.LoadTableLaws.{length-targets_from, get-targets_from}
 use Rattle.load_meaning.specs.Loadable.{patch_list, IsSoundSegment}
 use Rattle.omf_records.specs.declared.segment.SegmentView.{SegmentView}

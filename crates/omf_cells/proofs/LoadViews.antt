@@ -1,29 +1,19 @@
 -- The views of a load file, and the segments that they show.
-use Rattle.std.proofs.Common.{◌≡◌, ℕ, zero, suc, ◌+◌, ◌-◌, ◌^◌, ◌<◌, ◌≤◌, Bool, true, false, List, [], ◌∷◌, ◌++◌, length, drop, map, get_or, replicate, All, Option, Some, None, inl, inr, refl, sym, ap, subst, ◌∙◌, arith}
-use Rattle.std.specs.Prelude.{not, nat_lt, ◌==◌, slice_get, option_map, option_and_then, IsSomeAnd, IsTrue}
-use Rattle.std.specs.List.{list_any}
+use Rattle.std.proofs.Common.{◌≡◌, ℕ, zero, suc, ◌+◌, ◌<◌, ◌≤◌, List, [], ◌∷◌, length, drop, map, get_or, Option, Some, None, refl, sym, ap, ◌∙◌, arith}
+use Rattle.std.specs.Prelude.{not, nat_lt, ◌==◌, option_map}
 use Rattle.std.specs.Option.{option_or}
 use Rattle.std.proofs.Math.Seq.{drop-cons}
-use Rattle.std.proofs.lemmas.List.{length-map}
-use Rattle.std.proofs.lemmas.List.Elements.{All-get_or}
-use Rattle.std.proofs.lemmas.Option.{slice_get_within, slice_get_past, get_or_from_slice_get, slice_get-map}
 use Rattle.load_meaning.specs.declared.load.LoadCause.TheVariants.{Sequence, DataTooLong}
 use Rattle.load_meaning.specs.declared.load.LoadFault.{LoadFault}
 use Rattle.omf_format.specs.Header.{first_of}
-use Rattle.omf_format.specs.Reading.{Reader, records_of}
-use Rattle.omf_format.specs.File.{Segment, body_reader, segment_at}
-use Rattle.omf_format.specs.FileLaws.{segments_fit}
+use Rattle.omf_format.specs.Reading.{Reader}
+use Rattle.omf_format.specs.File.{Segment, body_reader}
 use Rattle.omf_format.specs.Body.{body_bytes}
-use Rattle.load_meaning.specs.Cells.{Cell, Byte, segment_bytes, patches_of, cells, cell_at}
-use Rattle.load_meaning.specs.CellLaws.{unpatched, cells-bytes, length-segment_bytes, loadable_at}
 use Rattle.load_meaning.specs.Loadable.{Fault, in_segment, first_in, shape_fault}
 use Rattle.omf_records.specs.declared.segment.SegmentView.{SegmentView}
 use Rattle.omf_records.specs.Segments.{placed, shown}
-use Rattle.omf_cells.specs.Walk.{content, gives_patch}
-use Rattle.omf_cells.specs.Load.{IsLoadView, AreLoadViews, Shows, IsOutside, HasLength, HasPatches, HasBytes}
-use Rattle.load_meaning.specs.LayingLaws.{get-laid}
-use Rattle.omf_cells.proofs.ShownBytes.{body_content, bytes-shown}
-use Rattle.omf_cells.proofs.PatchRuns.{has_some, has_none}
+use Rattle.omf_cells.specs.Walk.{content}
+use Rattle.omf_cells.proofs.ShownBytes.{body_content}
 
 -- ---- phase 2
 

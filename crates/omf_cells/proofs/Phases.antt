@@ -1,5 +1,5 @@
 -- The first fault of the phases after phase 1, from those of each phase.
-use Rattle.std.proofs.Common.{◌≡◌, List, Option, Some, None, ap, ◌∙◌}
+use Rattle.std.proofs.Common.{◌≡◌, List, Option, ap, ◌∙◌}
 use Rattle.std.specs.Option.{option_or}
 use Rattle.load_meaning.specs.declared.load.LoadFault.{LoadFault}
 use Rattle.omf_format.specs.File.{Segment}

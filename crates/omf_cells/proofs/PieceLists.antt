@@ -3,9 +3,9 @@ use Rattle.std.proofs.Common.{◌≡◌, ℕ, zero, suc, ◌+◌, ◌-◌, ◌<�
 use Rattle.std.specs.Prelude.{◌⊎◌, slice_get}
 use Rattle.std.specs.List.Sorted.{IsNonDecreasingBy}
 use Rattle.std.proofs.lemmas.Bool.{cases_lt, cases_order}
-use Rattle.std.proofs.lemmas.List.{length-append, length-replicate}
+use Rattle.std.proofs.lemmas.List.{length-append}
 use Rattle.omf_cells.specs.declared.pieces.Piece.{Piece}
-use Rattle.omf_cells.specs.Content.{IsZeros, IsAt, IsElsewhere, ArePieces, start_of}
+use Rattle.omf_cells.specs.Content.{IsZeros, ArePieces, start_of}
 use Rattle.load_meaning.specs.LayingLaws.{get-front, get-behind}
 use Rattle.omf_cells.proofs.Splits.{within, get_there}
 

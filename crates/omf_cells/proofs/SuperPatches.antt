@@ -1,11 +1,11 @@
 -- The patches of a SUPER, one after another.
-use Rattle.std.proofs.Common.{◌≡◌, ℕ, ◌+◌, ◌-◌, ◌<◌, ◌≤◌, Bool, true, false, eqb, ltb, leb, List, [], ◌∷◌, ◌++◌, map, Option, Some, None, refl, sym, ap, subst, ◌∙◌, arith, append_assoc, inl, inr, pos, negsuc}
+use Rattle.std.proofs.Common.{◌≡◌, ℕ, ◌+◌, ◌≤◌, Bool, true, false, eqb, ltb, leb, List, [], ◌∷◌, ◌++◌, map, Option, Some, None, refl, sym, ap, subst, ◌∙◌, arith, append_assoc, inl, inr}
 use Rattle.std.specs.Prelude.{◌||◌, if◌then◌else◌}
 use Rattle.std.specs.Option.{option_or}
 use Rattle.std.proofs.lemmas.Bool.{cases_Bool, eqb-true}
 use Rattle.std.proofs.lemmas.List.{append-nil}
 use Rattle.load_meaning.specs.declared.load.LoadCause.{LoadCause}
-use Rattle.load_meaning.specs.declared.load.LoadCause.TheVariants.{PatchOutside, NoSuchTarget, DynamicTarget}
+use Rattle.load_meaning.specs.declared.load.LoadCause.TheVariants.{PatchOutside}
 use Rattle.omf_format.specs.File.{Segment}
 use Rattle.load_meaning.specs.Cells.{Cell, Patch, super_patch}
 use Rattle.load_meaning.specs.Loadable.{patch_refusal, first_refusal}

@@ -1,4 +1,4 @@
-use Rattle.std.proofs.Common.{◌≡◌, ℕ, ◌++◌, List, [], ◌∷◌, length, sym, ap, subst, ◌∙◌}
+use Rattle.std.proofs.Common.{ℕ, ◌++◌, List, [], ◌∷◌, sym, subst}
 use Rattle.omf_format.specs.Record.{content_of}
 use Rattle.omf_records.specs.View.{view}
 use Rattle.omf_cells.specs.declared.pieces.Piece.{Piece}

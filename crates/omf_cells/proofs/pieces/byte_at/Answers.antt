@@ -1,7 +1,4 @@
-use Rattle.std.proofs.Common.{◌≡◌, ℕ, ◌+◌, ◌-◌, ◌<◌, ◌≤◌, List, length, get_or, Some, None, refl, sym, ap, ◌∙◌, arith}
-use Rattle.std.specs.Prelude.{slice_get}
-use Rattle.omf_cells.specs.declared.pieces.Piece.{Piece}
-use Rattle.omf_cells.specs.Content.{ArePieces, start_of}
+use Rattle.std.proofs.Common.{◌-◌, sym, ◌∙◌, arith}
 use Rattle.omf_cells.proofs.Splits.{get_there}
 use Rattle.omf_cells.proofs.PieceLists.{none_begins, covered, uncovered}
 use Rattle.omf_cells.proofs.pieces.byte_at.Goals as goal

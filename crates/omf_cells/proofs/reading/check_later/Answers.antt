@@ -1,4 +1,4 @@
-use Rattle.std.proofs.Common.{◌≡◌, Some, None, map, refl, sym, ap, ◌∙◌}
+use Rattle.std.proofs.Common.{Some, None, map, refl, sym, ◌∙◌}
 use Rattle.load_meaning.specs.Loadable.{first_in, target_fault, table_fault}
 use Rattle.omf_records.specs.Segments.{shown}
 use Rattle.omf_cells.proofs.FrontFaults.{unless, unless_then}

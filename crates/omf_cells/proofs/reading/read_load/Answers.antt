@@ -1,7 +1,6 @@
-use Rattle.std.proofs.Common.{◌+◌, List, sym, subst, ◌∙◌, arith}
+use Rattle.std.proofs.Common.{◌+◌, List, sym, subst, arith}
 use Rattle.omf_records.specs.declared.segment.SegmentView.{SegmentView}
-use Rattle.omf_cells.proofs.FrontFaults.{unless_then}
-use Rattle.omf_cells.proofs.ReadSegments.{Read, view_lies, read_more, refused_in, few_read, is_later}
+use Rattle.omf_cells.proofs.ReadSegments.{Read, view_lies, read_more, refused_in, few_read}
 use Rattle.omf_cells.proofs.reading.read_load.Goals as goal
 
 pub returns-in-Err-clause-refused : goal.returns-in-Err-clause-refused

@@ -1,11 +1,11 @@
 use mir.Val.{to_z, of_z}
 use mir.Syntax.{w8}
 use Rattle.std.proofs.lemmas.Int.{to_z-of_z}
-use Rattle.std.proofs.Common.{◌≡◌, ℕ, ℤ, ◌+◌, ◌-◌, suc, ◌++◌, List, map, refl, sym, ap, subst, ◌∙◌, arith}
+use Rattle.std.proofs.Common.{◌≡◌, ℕ, ℤ, ◌+◌, ◌-◌, suc, ◌++◌, map, sym, ap, ◌∙◌, arith}
 use Rattle.std.proofs.lemmas.List.{append-nil}
-use Rattle.load_meaning.specs.Cells.{Cell, Part}
+use Rattle.load_meaning.specs.Cells.{Part}
 use Rattle.omf_cells.specs.declared.spots.Spot.{Spot}
-use Rattle.omf_cells.specs.Content.{patch_of, spread_from, spread, shown_spot}
+use Rattle.omf_cells.specs.Content.{patch_of, spread_from, shown_spot}
 use Rattle.omf_cells.proofs.SpotLists.{push_spot}
 use Rattle.omf_cells.proofs.spots.add_spots.Goals as goal
 

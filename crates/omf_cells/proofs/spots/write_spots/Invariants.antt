@@ -1,4 +1,4 @@
-use Rattle.std.proofs.Common.{◌≡◌, length, drop}
+use Rattle.std.proofs.Common.{◌≡◌, drop}
 use Rattle.omf_cells.specs.Content.{with_spots}
 use Rattle.omf_cells.specs.Places.{address_in}
 use Rattle.omf_cells.proofs.spots.write_spots.Given as goal

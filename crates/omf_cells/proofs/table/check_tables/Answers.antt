@@ -1,14 +1,11 @@
-use Rattle.std.proofs.Common.{◌≡◌, ℕ, ◌+◌, ◌-◌, ◌<◌, List, Some, length, take, get_or, map, refl, sym, ap, subst, ◌∙◌, arith}
+use Rattle.std.proofs.Common.{◌≡◌, ◌-◌, ◌<◌, List, Some, length, get_or, map, refl, sym, ap, subst, ◌∙◌, arith}
 use Rattle.std.specs.Prelude.{◌||◌, slice_get}
-use Rattle.std.specs.List.{list_any}
 use Rattle.std.proofs.lemmas.Option.{slice_get_read, slice_get-map}
 use Rattle.std.specs.Prelude.{option_map}
-use Rattle.omf_format.specs.File.{Segment}
 use Rattle.load_meaning.specs.LoadTable.{is_table}
 use Rattle.load_meaning.specs.Loadable.{table_fault}
 use Rattle.omf_records.specs.declared.segment.SegmentView.{SegmentView}
 use Rattle.omf_records.specs.Segments.{shown}
-use Rattle.omf_cells.specs.declared.pieces.Piece.{Piece}
 use Rattle.omf_cells.specs.declared.targets.Content.{Content}
 use Rattle.omf_cells.specs.Content.{HasPieces}
 use Rattle.omf_cells.proofs.LoadViews.{passed_more}

@@ -1,4 +1,4 @@
-use Rattle.std.proofs.Common.{◌≡◌, ℕ, ◌+◌, ◌-◌, suc, map, ap, sym, ◌∙◌, arith}
+use Rattle.std.proofs.Common.{◌≡◌, ◌+◌, ◌-◌, suc, map, sym, ◌∙◌, arith}
 use Rattle.omf_format.specs.Header.{first_of}
 use Rattle.load_meaning.specs.Cells.{segment_bytes}
 use Rattle.load_meaning.specs.Table.{entry_start}

@@ -1,4 +1,4 @@
-use Rattle.std.proofs.Common.{◌≡◌, ℕ, ◌++◌, List, Option, map, ap, sym, ◌∙◌}
+use Rattle.std.proofs.Common.{◌≡◌, ℕ, ◌++◌, List, map, ap, sym, ◌∙◌}
 use Rattle.std.specs.Option.{option_or}
 use Rattle.omf_format.specs.Header.{first_of}
 use Rattle.omf_format.specs.File.{Segment}

@@ -1,4 +1,4 @@
-use Rattle.std.proofs.Common.{◌≡◌, ℕ, ◌+◌, ◌-◌, suc, ◌∷◌, ap, sym, ◌∙◌, arith}
+use Rattle.std.proofs.Common.{◌≡◌, ℕ, ◌+◌, ◌-◌, suc, ◌∷◌, ap, ◌∙◌, arith}
 use Rattle.std.specs.Prelude.{not, ◌==◌}
 use Rattle.omf_format.specs.Header.{first_of}
 use Rattle.load_meaning.specs.Cells.{segment_bytes}

@@ -1,10 +1,9 @@
-use Rattle.std.proofs.Common.{◌≡◌, ℕ, ◌<◌, ◌++◌, [], List, Some, None, Ok, map, refl, sym, ap, subst, ◌∙◌, rules}
+use Rattle.std.proofs.Common.{◌≡◌, ◌++◌, List, Some, None, Ok, map, sym, ap, subst, ◌∙◌, rules}
 use Rattle.std.specs.Prelude.{option_map}
 use Rattle.std.proofs.lemmas.List.Sorted.{IsNonDecreasingBy-from_sort, answers_always}
 use Rattle.omf_format.specs.Reading.{Reader, records_of}
 use Rattle.load_meaning.specs.Loadable.{first_target_fault, target_fault, in_segment}
 use Rattle.omf_records.specs.Segments.{shown}
-use Rattle.omf_cells.specs.declared.pieces.Piece.{Piece}
 use Rattle.omf_cells.specs.declared.spots.Spot.{Spot}
 use Rattle.omf_cells.specs.Walk.{patches_from}
 use Rattle.omf_cells.specs.Content.{HasPieces, offset_of, shown_spot, spread_all}

@@ -1,13 +1,11 @@
-use Rattle.std.proofs.Common.{◌≡◌, ℕ, ◌+◌, ◌<◌, ◌++◌, ◌∷◌, [], List, None, length, take, get_or, map, refl, sym, ap, subst, ◌∙◌, arith}
+use Rattle.std.proofs.Common.{◌+◌, ◌<◌, ◌++◌, ◌∷◌, [], List, length, take, get_or, map, refl, sym, ap, subst, ◌∙◌, arith}
 use Rattle.std.specs.Prelude.{option_map}
-use Rattle.load_meaning.specs.Loadable.{Fault, in_segment, shape_fault, target_fault}
+use Rattle.load_meaning.specs.Loadable.{in_segment, shape_fault, target_fault}
 use Rattle.omf_records.specs.declared.segment.SegmentView.{SegmentView}
 use Rattle.omf_records.specs.Segments.{shown}
-use Rattle.omf_cells.specs.declared.targets.Content.{Content}
 use Rattle.omf_cells.specs.Content.{AreContents}
-use Rattle.omf_cells.proofs.LoadViews.{passed_none, passed_more, passed_some, passed_all}
-use Rattle.omf_cells.proofs.Contents.{none_here, contents_push, take_more, take_all}
-use Rattle.omf_cells.proofs.FrontFaults.{unless_then}
+use Rattle.omf_cells.proofs.LoadViews.{passed_more}
+use Rattle.omf_cells.proofs.Contents.{none_here, contents_push, take_more}
 use Rattle.omf_cells.proofs.targets.contents_of.Goals as goal
 
 pub content_of-requires-clause-sized : goal.content_of-requires-clause-sized

@@ -1,4 +1,4 @@
-use Rattle.std.proofs.Common.{◌≡◌, ℕ, ◌+◌, ltb, map, sym, ap, ◌∙◌}
+use Rattle.std.proofs.Common.{ℕ, ◌+◌, ltb, map, sym, ap, ◌∙◌}
 use Rattle.omf_records.specs.Segments.{shown}
 use Rattle.omf_cells.proofs.SuperPatches.{outside_super}
 use Rattle.omf_cells.proofs.targets.take_at.Goals as goal

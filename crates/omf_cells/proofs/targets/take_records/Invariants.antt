@@ -1,7 +1,7 @@
-use Rattle.std.proofs.Common.{◌≡◌, ◌++◌, List, length, map}
+use Rattle.std.proofs.Common.{length, map}
 use Rattle.load_meaning.specs.Loadable.{first_target_fault}
 use Rattle.omf_records.specs.Segments.{shown}
-use Rattle.omf_cells.specs.Content.{spread_all, shown_spot}
+use Rattle.omf_cells.specs.Content.{shown_spot}
 use Rattle.omf_cells.proofs.Searches.{Same}
 use Rattle.omf_cells.proofs.PatchWalks.{Given}
 use Rattle.omf_cells.proofs.targets.take_records.Given as goal

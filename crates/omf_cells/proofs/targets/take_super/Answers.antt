@@ -1,4 +1,4 @@
-use Rattle.std.proofs.Common.{◌≡◌, map, Ok, sym, ap, ◌∙◌}
+use Rattle.std.proofs.Common.{map, Ok, sym, ap, ◌∙◌}
 use Rattle.omf_records.specs.Segments.{shown}
 use Rattle.omf_cells.specs.Content.{shown_spot}
 use Rattle.omf_cells.proofs.SuperPatches.{refusal_next, spread_more}

@@ -1,4 +1,4 @@
-use Rattle.std.proofs.Common.{◌≡◌, List, Some, length, sym, ap, ◌∙◌, arith}
+use Rattle.std.proofs.Common.{List, Some, sym, ap, ◌∙◌, arith}
 use Rattle.std.specs.Prelude.{slice_get}
 use Rattle.std.proofs.lemmas.Option.{slice_get_past}
 use Rattle.load_meaning.specs.declared.table.Target.{Target}

@@ -1,4 +1,4 @@
-use Rattle.std.proofs.Common.{◌≡◌, length, sym, ap, ◌∙◌}
+use Rattle.std.proofs.Common.{length, sym, ap, ◌∙◌}
 use Rattle.omf_records.specs.Segments.{shown}
 use Rattle.omf_cells.proofs.LoadShows.{targets-there, targets-outside, length-targets_of}
 use Rattle.omf_cells.proofs.load.LoadFile.target_count.Goals as goal
