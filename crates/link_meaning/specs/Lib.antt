@@ -21,3 +21,5 @@ pub mod LayoutLaws
 pub mod TreeInLaws
 pub mod TableLaws
 pub mod LinkFaultLaws
+pub mod LinkWritten
+pub mod RunCells

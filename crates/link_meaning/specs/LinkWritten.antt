@@ -1,0 +1,68 @@
+-- The load file that the linker writes (GS/OS Reference, appendix F; where a header's fields come from, and the names, are
+-- this project's own choice).
+use Rattle.std.specs.Prelude.{ℕ, ◌+◌, ◌&&◌, List, [], ◌∷◌, ◌++◌, map, ◌==◌, if◌then◌else◌}
+use Rattle.std.specs.Ordering.{int_eq}
+use Rattle.omf_format.specs.Header.{Fields}
+use Rattle.load_meaning.specs.Cells.{Cell, Byte, Part, Patch}
+use Rattle.load_meaning.specs.declared.table.Target.{Target}
+use Rattle.load_meaning.specs.Table.{file_entry}
+use Rattle.load_meaning.specs.WrittenFile.{Image, table_image, file_text}
+use Rattle.link_meaning.specs.Member.{Member}
+use Rattle.link_meaning.specs.Layout.{load_names, load_fields}
+use Rattle.link_meaning.specs.LinkValues.{Told}
+use Rattle.link_meaning.specs.LinkedCells.{table_number, targets, linked}
+
+-- ---- patches
+
+-- how many of these cells in a row are the bytes of the patch's place, from this index on
+abbrev pub run_length : Patch → ℕ → List Cell → ℕ
+run_length p index [] = 0
+run_length p index (Byte b ∷ cells) = 0
+run_length p index (Part file segment offset shift other ∷ cells) =
+    if file == p.file && segment == p.segment && offset == p.offset && int_eq shift p.shift && other == index
+    then 1 + run_length p (index + 1) cells else 0
+
+-- the patch that begins with a cell: one of index 0, and as many as follow it
+abbrev pub patch_at : ℕ → Cell → List Cell → List Patch
+patch_at at (Byte b) cells = []
+patch_at at (Part file segment offset shift index) cells =
+    let p : Patch = record { location = at; count = 1; file = file; segment = segment; offset = offset; shift = shift } in
+    if index == 0 then record p { count = 1 + run_length p 1 cells } ∷ [] else []
+
+-- the patches of cells from this place on, in order of location
+abbrev pub patches_from : ℕ → List Cell → List Patch
+patches_from at [] = []
+patches_from at (c ∷ cells) = patch_at at c cells ++ patches_from (at + 1) cells
+
+unfoldable pub patches_of_cells : List Cell → List Patch
+patches_of_cells cells = patches_from 0 cells
+
+-- the bytes under the patches; where a patch stands they don't count
+abbrev pub byte_under : Cell → ℕ
+byte_under (Byte b) = b
+byte_under (Part file segment offset shift index) = 0
+
+-- ---- the file
+
+-- the load segment with these fields and cells
+unfoldable pub image_of : Fields → List Cell → Image
+image_of fields cells = record { fields = fields; content = map byte_under cells; patches = patches_of_cells cells }
+
+-- the load segments with these load names, in order, the first with this number
+abbrev pub load_images : List Member → List Told → ℕ → List (List ℕ) → List Image
+load_images list table number [] = []
+load_images list table number (x ∷ xs) =
+    image_of (load_fields list number x) (linked list table x) ∷ load_images list table (number + 1) xs
+
+-- the table, where there is an entry
+abbrev pub table_images : ℕ → List Target → List Image
+table_images number [] = []
+table_images number (target ∷ targets) = table_image number (map file_entry (target ∷ targets)) ∷ []
+
+-- the load segments in order of number, and the table behind them
+unfoldable pub images : List Member → List Told → List Image
+images list table = load_images list table 1 (load_names list) ++ table_images (table_number list) (targets list table)
+
+-- the bytes of the load file
+unfoldable pub written_file : List Member → List Told → List ℕ
+written_file list table = file_text (images list table)
