@@ -23,3 +23,5 @@ pub mod TableLaws
 pub mod LinkFaultLaws
 pub mod LinkWritten
 pub mod RunCells
+pub mod MadeLaws
+pub mod LinkedRuns
