@@ -25,3 +25,4 @@ pub mod LinkWritten
 pub mod RunCells
 pub mod MadeLaws
 pub mod LinkedRuns
+pub mod ReadMembers
