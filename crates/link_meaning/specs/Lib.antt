@@ -26,3 +26,4 @@ pub mod RunCells
 pub mod MadeLaws
 pub mod LinkedRuns
 pub mod ReadMembers
+pub mod LinkWrittenLaws
