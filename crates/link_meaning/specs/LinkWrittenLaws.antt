@@ -35,9 +35,9 @@ use Rattle.link_meaning.specs.Layout.{in_load, load_length, distinct, load_names
 use Rattle.link_meaning.specs.LinkFaults.{first_spot, HasCountFault, is_too_long, HasLengthFault, LayoutCheck, Orgs, Count, Lengths, HasLayoutFault, Phase, Reading, Objects, Names, Layout, HasPhaseFault, IsResolved}
 use Rattle.link_meaning.specs.LinkValues.{Told}
 use Rattle.link_meaning.specs.LinkedCells.{table_number, items, state_behind, targets, linked}
-use Rattle.link_meaning.specs.LinkWritten.{byte_under, patches_of_cells, image_of, load_images, table_images, images, written_file}
+use Rattle.link_meaning.specs.LinkWritten.{byte_under, patches_of_cells, image_of, load_images, table_images, images, written_file, table_cells, linked_cells, HaveCells, AreMade, start}
 use Rattle.link_meaning.specs.RunCells.{AreRuns, runs_written, runs_stand}
-use Rattle.link_meaning.specs.LinkedRuns.{HasCells, MembersHave, linked_has, AreMade, AreSoundItems, members_have, AreSized}
+use Rattle.link_meaning.specs.LinkedRuns.{HasCells, MembersHave, linked_has, AreSoundItems, members_have, AreSized, few_on}
 use Rattle.link_meaning.specs.ReadMembers.{IsRead, members_read, HasHeader, read_header, read_size, read_some}
 
 -- ---- what the layout holds
@@ -166,3 +166,129 @@ load_header_fits list number x each is =
       entry = first_has (λ n. n < 2 ^ 32) (λ f. f.entry) members some.0 some.1 (λ o h. (all o h).entry);
       load_name = ap length (sym of.2) ∙ (each of.0 of.1).load_name;
     }
+
+-- ---- a load segment can be written
+
+image_fits : (f : Fields) (cs : List Cell) → HasHeader f → f.version ≡ 2 → f.seg_num < 2 ^ 16 → length f.name ≤ 255 → f.length ≡ length cs → length cs ≤ 0xFFFFFF → AreRuns cs
+    → length (image_text (image_of f cs)) ≤ 0x1000000 → IsImage (image_of f cs)
+unfolding image_of image_text
+image_fits f cs header version number name len small runs short =
+    let image : Image = record { fields = f; content = map byte_under cs; patches = patches_of_cells cs } in
+    let n = length (image_body image) in
+    let zeros : zeros_behind (written_cells (map byte_under cs) (patches_of_cells cs)) ≤ length cs = subst (λ (l : List Cell). zeros_behind l ≤ length cs) (sym (runs_stand cs runs)) (zeros-le cs) in
+    let whole : length (header_bytes (image_fields image) n ++ image_body image) ≡ 0x37 + length f.name + n =
+    omega (arith, length-append (header_bytes (image_fields image) n) (image_body image), length-header (image_fields image) n header.load_name) in
+    let size : length (map byte_under cs) ≡ length cs = length-map cs byte_under in
+    record {
+      fits = record {
+        res_spc = omega (arith, zeros, small);
+        length = omega (arith, len, small);
+        bank_size = omega (arith, header.bank);
+        kind = header.kind;
+        org = header.org;
+        align = header.align;
+        seg_num = number;
+        entry = header.entry;
+        load_name = header.load_name;
+        name = name;
+        total = omega (arith, whole, short);
+      };
+      writable = record { version = version; banks = header.bank; listed = header.listed; spaced = omega (arith, zeros, len) };
+      length' = len ∙ sym size;
+      small = omega (arith, size, small);
+      patches' = runs_written cs runs;
+    }
+
+load_image : (list : List Member) (table : List Told) (number : ℕ) (x : List ℕ) → HasHeader (load_fields list number x) → number < 2 ^ 16 → is_too_long (load_fields list number x) ≡ false
+    → HasCells (load_length x list) (linked list table x) → length (image_text (image_of (load_fields list number x) (linked list table x))) ≤ 0x1000000
+    → IsImage (image_of (load_fields list number x) (linked list table x))
+unfolding load_fields
+load_image list table number x header small long has short =
+    let f = load_fields list number x in
+    let fits = short_length f long in
+    image_fits f (linked list table x) header refl small (omega (arith, length-trim 32 x, header.load_name)) (sym has.size') (omega (arith, has.size', fits)) has.runs short
+
+text_parts : (image : Image) (more : List Image) → length (file_text (image ∷ more)) ≡ length (image_text image) + length (file_text more)
+unfolding file_text
+text_parts image more = ap length (flat_map-cons image_text image more) ∙ length-append (image_text image) (flat_map image_text more)
+
+text_both : (xs ys : List Image) → length (file_text (xs ++ ys)) ≡ length (file_text xs) + length (file_text ys)
+unfolding file_text
+text_both xs ys = ap length (flat_map-append image_text xs ys) ∙ length-append (flat_map image_text xs) (flat_map image_text ys)
+
+load_all : (list : List Member) (table : List Told) (number : ℕ) (xs : List (List ℕ)) → ((m : Member) → IsIn list m → HasHeader m.segment.fields) → MembersHave list table
+    → ((x : List ℕ) → IsIn xs x → IsIn (load_names list) x) → number + length xs ≤ 255 → AllByRecursion (λ f. is_too_long f ≡ false) (headers_from list number xs)
+    → length (file_text (load_images list table number xs)) ≤ 0x1000000 → AllByRecursion IsImage (load_images list table number xs)
+load_all list table number [] each have among few shorts size = tt
+load_all list table number (x ∷ xs) each have among few shorts size =
+    let image = image_of (load_fields list number x) (linked list table x) in
+    let parts = text_parts image (load_images list table (number + 1) xs) in
+    (
+      load_image list table number x (load_header_fits list number x each (among x (inl refl))) (omega (arith, few)) shorts.0 (linked_has list table x have) (omega (arith, parts, size)),
+      load_all list table (number + 1) xs each have (λ y is. among y (inr is)) (omega (arith, few)) shorts.1 (omega (arith, parts, size)),
+    )
+
+table_all : (number : ℕ) (ts : List Target) → number < 2 ^ 16 → length ts ≤ 4680 → AllByRecursion IsImage (table_images number ts)
+table_all number [] small few = tt
+table_all number (t ∷ ts) small few = ((table_stands_for number (map file_entry (t ∷ ts)) small (omega (arith, length-map (t ∷ ts) (λ (u : Target). file_entry u), few))).0, tt)
+
+all-append : (xs ys : List Image) → AllByRecursion IsImage xs → AllByRecursion IsImage ys → AllByRecursion IsImage (xs ++ ys)
+all-append [] ys p q = q
+all-append (x ∷ xs) ys p q = (p.0, all-append xs ys p.1 q)
+
+-- ---- the cells of what is read
+
+table_read : (number : ℕ) (ts : List Target) (segments : List Segment) → number < 2 ^ 16 → length ts ≤ 4680 → AreReadAs (table_images number ts) segments → HaveCells (table_cells ts) segments
+table_read number [] [] small few are = tt
+table_read number [] (s ∷ segments) small few are = absurd are
+table_read number (t ∷ ts) [] small few are = absurd are
+table_read number (t ∷ ts) (s ∷ []) small few are = ((table_stands_for number (map file_entry (t ∷ ts)) small (omega (arith, length-map (t ∷ ts) (λ (u : Target). file_entry u), few))).1 s are.0, tt)
+table_read number (t ∷ ts) (s ∷ u ∷ segments) small few are = absurd are.1
+
+cells_read : (f : Fields) (cs : List Cell) (s : Segment) → AreRuns cs → IsReadAs (image_of f cs) s → cells s ≡ cs
+unfolding image_of
+cells_read f cs s runs is = is.cells' ∙ runs_stand cs runs
+
+loads_read : (list : List Member) (table : List Told) (number : ℕ) (xs : List (List ℕ)) (tables : List Image) (last : List (List Cell)) (segments : List Segment) → MembersHave list table
+    → ((rest : List Segment) → AreReadAs tables rest → HaveCells last rest) → AreReadAs (load_images list table number xs ++ tables) segments → HaveCells (map (linked list table) xs ++ last) segments
+loads_read list table number [] tables last segments have rest are = rest segments are
+loads_read list table number (x ∷ xs) tables last [] have rest are = absurd are
+loads_read list table number (x ∷ xs) tables last (s ∷ segments) have rest are =
+    (cells_read (load_fields list number x) (linked list table x) s (linked_has list table x have).runs are.0, loads_read list table (number + 1) xs tables last segments have rest are.1)
+
+-- ---- the file
+
+in_at : (list front : List Member) (m : Member) (back : List Member) → list ≡ front ++ m ∷ back → IsIn list m
+in_at list front m back parts = subst (λ (l : List Member). IsIn l m) (sym parts) (there front)
+  where
+    there : (front : List Member) → IsIn (front ++ m ∷ back) m
+    there [] = inl refl
+    there (o ∷ front) = inr (there front)
+
+few_targets : (list : List Member) (table : List Told) → table_number list < 2 ^ 16 → AreMade list table start (items list) → AreSoundItems list table (items list) → length (targets list table) ≤ 4680
+unfolding targets state_behind
+few_targets list table small are sound = few_on list table start (items list) small (omega arith) are sound
+
+stands_for : (files : List (List ℕ)) (list : List Member) (table : List Told) → AllByRecursion IsBytes files → IsResolved files list → AreSoundItems list table (items list)
+    → AreMade list table start (items list) → length (written_file list table) ≤ 0x1000000
+    → (segments : List Segment) × IsFile segments (written_file list table) × AreReadAs (images list table) segments × HaveCells (linked_cells list table) segments
+unfolding written_file images linked_cells load_headers
+stands_for files list table bytes resolved sound are short =
+    let read : (m : Member) → IsIn list m → IsRead m.segment = λ m is. members_read files list m bytes resolved.program is in
+    let each : (m : Member) → IsIn list m → HasHeader m.segment.fields = λ m is. read_header m.segment (read m is) in
+    let loads = few_loads files list resolved in
+    let small : table_number list < 2 ^ 16 = omega (arith, loads) in
+    let sized : AreSized list = λ front m back parts. let r = read m (in_at list front m back parts) in (read_size m.segment r, read_some m.segment r) in
+    let have = members_have list table small are sound sized in
+    let few : length (targets list table) ≤ 4680 = few_targets list table small are sound in
+    let first = load_images list table 1 (load_names list) in
+    let last = table_images (table_number list) (targets list table) in
+    let parts = text_both first last in
+    let all = all-append first last (load_all list table 1 (load_names list) each have (λ x is. is) (omega (arith, loads)) (short_loads files list resolved) (omega (arith, parts, short))) (table_all (table_number list) (targets list table) small few) in
+    let made = file_stands_for (first ++ last) all in
+    (
+      made.0,
+      made.1,
+      made.2,
+      loads_read list table 1 (load_names list) last (table_cells (targets list table)) made.0 have (λ rest r. table_read (table_number list) (targets list table) rest small few r) made.2,
+    )

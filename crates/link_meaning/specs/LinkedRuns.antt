@@ -16,6 +16,7 @@ use Rattle.link_meaning.specs.Layout.{aligned_from, in_load, end_from, load_leng
 use Rattle.link_meaning.specs.LayoutLaws.{aligned_from-least, alignment-some}
 use Rattle.link_meaning.specs.LinkValues.{Told}
 use Rattle.link_meaning.specs.LinkedCells.{Item, State, Made, zeros, items_from, items, cells_before, made_by, made, gained, state_from, state_behind, member_cells, cells_from, linked, table_number}
+use Rattle.link_meaning.specs.LinkWritten.{AreMade, start}
 use Rattle.link_meaning.specs.RunCells.{AreRuns}
 use Rattle.link_meaning.specs.MadeLaws.{no_runs, both_runs, zero_runs, length-zeros, length-made, IsSoundAt, runs-made, Few}
 
@@ -24,13 +25,7 @@ use Rattle.link_meaning.specs.MadeLaws.{no_runs, both_runs, zero_runs, length-ze
 abbrev item : ℕ → Member → Located → Item
 item place m r = record { place = place; member = m; here = r }
 
--- each of these records, from this state on, gives cells
-abbrev pub AreMade : List Member → List Told → State → List Item → Type 0
-AreMade list table state [] = Unit {0}
-AreMade list table state (i ∷ is) =
-    (x : Made) × (made list table state i ≡ Ok x) × AreMade list table (gained state i (made list table state i)) is
-
--- and is sound
+-- each of these records is sound
 abbrev pub AreSoundItems : List Member → List Told → List Item → Type 0
 AreSoundItems list table [] = Unit {0}
 AreSoundItems list table (i ∷ is) = IsSoundAt list table i i.here.content × AreSoundItems list table is
@@ -109,7 +104,7 @@ walk_all list table place m state found founds small earlier few are sound =
     (one_more list table place m state r [] small before refl no_runs few sound.0 are.0 are.1) are.2 sound.1
 
 -- the targets stay few
-few_on : (list : List Member) (table : List Told) (state : State) (is : List Item) → table_number list < 2 ^ 16 → Few state.targets → AreMade list table state is → AreSoundItems list table is → Few (state_from list table state is).targets
+pub few_on : (list : List Member) (table : List Told) (state : State) (is : List Item) → table_number list < 2 ^ 16 → Few state.targets → AreMade list table state is → AreSoundItems list table is → Few (state_from list table state is).targets
 unfolding made
 few_on list table state [] small few are sound = few
 few_on list table state (i ∷ is) small few are sound =
@@ -187,9 +182,6 @@ up_to front m back =
     append-none : (l : List Item) → l ++ [] ≡ l
     append-none [] = refl
     append-none (i ∷ l) = ap (λ (k : List Item). i ∷ k) (append-none l)
-
-abbrev start : State
-start = record { targets = []; place = 0; cells = [] }
 
 -- what the walk over a member's records ends with
 member_walked : (list : List Member) (table : List Told) (front : List Member) (m : Member) (back : List Member) → table_number list < 2 ^ 16 → list ≡ front ++ m ∷ back
