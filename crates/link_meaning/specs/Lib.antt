@@ -27,3 +27,4 @@ pub mod MadeLaws
 pub mod LinkedRuns
 pub mod ReadMembers
 pub mod LinkWrittenLaws
+pub mod PlaceFits

@@ -64,7 +64,7 @@ no_lengths files list resolved fault has =
     no_layout files list fault resolved (record { before = Orgs ∷ Count ∷ []; item = Lengths; after = []; parts = refl; none = none_two files list resolved; here = has })
 
 -- there are at most 254 load segments
-few_loads : (files : List (List ℕ)) (list : List Member) → IsResolved files list → length (load_names list) ≤ 254
+pub few_loads : (files : List (List ℕ)) (list : List Member) → IsResolved files list → length (load_names list) ≤ 254
 few_loads files list resolved = elim (cases_lt 254 (length (load_names list))) [
   | inl lt ↦
       let x = get_or (load_names list) 254 [] in
@@ -85,10 +85,10 @@ short_from files list before (f ∷ rest) resolved parts none = by_test (is_too_
     by_test true is go = absurd (no_lengths files list resolved _ (record { before = before; item = f; after = rest; parts = parts; none = none; here = record { long = is; told = refl } }))
     by_test false is go = go is (none_more (HasLengthFault list) before f none (λ fault has. true_false (sym has.long ∙ is)))
 
-short_loads : (files : List (List ℕ)) (list : List Member) → IsResolved files list → AllByRecursion (λ f. is_too_long f ≡ false) (load_headers list)
+pub short_loads : (files : List (List ℕ)) (list : List Member) → IsResolved files list → AllByRecursion (λ f. is_too_long f ≡ false) (load_headers list)
 short_loads files list resolved = short_from files list [] (load_headers list) resolved refl (none_yet (HasLengthFault list))
 
-short_length : (f : Fields) → is_too_long f ≡ false → f.length ≤ 0xFFFFFF
+pub short_length : (f : Fields) → is_too_long f ≡ false → f.length ≤ 0xFFFFFF
 short_length f e = elim (cases_lt 0xFFFFFF f.length) [
   | inl lt ↦ absurd (clash (ltb 0xFFFFFF f.length) (not (eqb f.bank_size 0) && ltb f.bank_size f.length) (lt-ltb 0xFFFFFF f.length lt) e)
   | inr le ↦ le
@@ -269,7 +269,7 @@ few_targets : (list : List Member) (table : List Told) → table_number list < 2
 unfolding targets state_behind
 few_targets list table small are sound = few_on list table start (items list) small (omega arith) are sound
 
-stands_for : (files : List (List ℕ)) (list : List Member) (table : List Told) → AllByRecursion IsBytes files → IsResolved files list → AreSoundItems list table (items list)
+pub stands_for : (files : List (List ℕ)) (list : List Member) (table : List Told) → AllByRecursion IsBytes files → IsResolved files list → AreSoundItems list table (items list)
     → AreMade list table start (items list) → length (written_file list table) ≤ 0x1000000
     → (segments : List Segment) × IsFile segments (written_file list table) × AreReadAs (images list table) segments × HaveCells (linked_cells list table) segments
 unfolding written_file images linked_cells load_headers
