@@ -28,3 +28,4 @@ pub mod LinkedRuns
 pub mod ReadMembers
 pub mod LinkWrittenLaws
 pub mod PlaceFits
+pub mod ValueFits

@@ -128,7 +128,7 @@ place_fits files list place m at resolved whole is =
 
 -- ---- definitions
 
-behind-le : (loc : ℕ) (founds : List (ℕ × Record)) → loc ≤ place_behind loc founds
+pub behind-le : (loc : ℕ) (founds : List (ℕ × Record)) → loc ≤ place_behind loc founds
 behind-le loc [] = omega arith
 behind-le loc (found ∷ founds) = omega (arith, behind-le (loc + size_at loc found.1) founds)
 
