@@ -1,6 +1,6 @@
 -- The load file that the linker writes is a file of the load segments and the table, and each stands for its cells.
-use Rattle.std.proofs.Common.{◌≡◌, ℕ, zero, suc, ◌+◌, ◌-◌, ◌*◌, ◌/◌, ◌%◌, ◌^◌, ◌<◌, ◌≤◌, Bool, true, false, not, eqb, ltb, List, [], ◌∷◌, ◌++◌, length, map, filter, get_or, Option, Some, None, refl, sym, ap, subst, ◌∙◌, append_assoc, arith, inl, inr}
-use Rattle.std.specs.Prelude.{◌⊎◌, ◌||◌, ◌&&◌, max, cond, slice_get}
+use Rattle.std.proofs.Common.{◌≡◌, ℕ, ◌+◌, ◌^◌, ◌<◌, ◌≤◌, Bool, true, false, not, eqb, ltb, List, [], ◌∷◌, ◌++◌, length, map, filter, get_or, refl, sym, ap, subst, ◌∙◌, append_assoc, arith, inl, inr}
+use Rattle.std.specs.Prelude.{◌||◌, ◌&&◌}
 use Rattle.std.specs.List.{flat_map, AllByRecursion}
 use Rattle.std.specs.Str.{bytes_eq}
 use Rattle.std.proofs.lemmas.Bool.{cases_lt, cases_Bool, lt-ltb}
@@ -9,30 +9,27 @@ use Rattle.std.proofs.lemmas.List.Concat.{flat_map-cons}
 use Rattle.std.proofs.lemmas.Grind.{flat_map-append}
 use Rattle.std.proofs.lemmas.Option.{slice_get-get_or}
 use Rattle.std.proofs.lemmas.Slice.Eq.{bytes_eq-Decides}
-use Rattle.omf_format.specs.Field.{is_count}
-use Rattle.omf_format.specs.Header.{Fields, form_of, is_listed, written_fields, header_bytes, IsWritable}
+use Rattle.omf_format.specs.Header.{Fields, form_of, is_listed, header_bytes}
 use Rattle.omf_format.specs.HeaderLaws.{IsBytes}
-use Rattle.omf_format.specs.WrittenHeader.{FitsWritten, length-header}
-use Rattle.omf_format.specs.Name.{without_trailing}
+use Rattle.omf_format.specs.WrittenHeader.{length-header}
 use Rattle.omf_format.specs.FieldLaws.{length-trim}
 use Rattle.omf_format.specs.File.{Segment, IsFile}
 use Rattle.load_meaning.specs.declared.table.Target.{Target}
 use Rattle.load_meaning.specs.Plain.{lesser_bank, cleared}
-use Rattle.load_meaning.specs.Cells.{Cell, Byte, cells}
-use Rattle.load_meaning.specs.Table.{file_entry, table_bytes}
+use Rattle.load_meaning.specs.Cells.{Cell, cells}
+use Rattle.load_meaning.specs.Table.{file_entry}
 use Rattle.load_meaning.specs.WrittenBody.{written_cells, zeros_behind}
-use Rattle.load_meaning.specs.StoredLaws.{zeros-le, cells_size}
-use Rattle.load_meaning.specs.WrittenFile.{Image, image_body, image_fields, image_text, file_text, IsImage, IsReadAs, AreReadAs, table_image}
+use Rattle.load_meaning.specs.StoredLaws.{zeros-le}
+use Rattle.load_meaning.specs.WrittenFile.{Image, image_body, image_fields, image_text, file_text, IsImage, IsReadAs, AreReadAs}
 use Rattle.load_meaning.specs.WrittenFileLaws.{file_stands_for}
 use Rattle.load_meaning.specs.WrittenTableLaws.{table_stands_for}
 use Rattle.link_meaning.specs.declared.fault.LinkFault.{LinkFault}
-use Rattle.link_meaning.specs.declared.fault.LinkCause.TheVariants.{TooManySegments, SegmentTooLong}
 use Rattle.link_meaning.specs.First.{IsIn, HasNone, IsFirst}
 use Rattle.link_meaning.specs.FirstLaws.{none_yet, none_more}
 use Rattle.link_meaning.specs.MemberLists.{in_filter, filter_in}
 use Rattle.link_meaning.specs.Member.{Member}
 use Rattle.link_meaning.specs.Layout.{in_load, load_length, distinct, load_names, load_members, least_bank, greatest_align, of_first, load_fields, headers_from, load_headers}
-use Rattle.link_meaning.specs.LinkFaults.{first_spot, HasCountFault, is_too_long, HasLengthFault, LayoutCheck, Orgs, Count, Lengths, HasLayoutFault, Phase, Reading, Objects, Names, Layout, HasPhaseFault, IsResolved}
+use Rattle.link_meaning.specs.LinkFaults.{HasCountFault, is_too_long, HasLengthFault, Orgs, Count, Lengths, HasLayoutFault, Reading, Objects, Names, Layout, IsResolved}
 use Rattle.link_meaning.specs.LinkValues.{Told}
 use Rattle.link_meaning.specs.LinkedCells.{table_number, items, state_behind, targets, linked}
 use Rattle.link_meaning.specs.LinkWritten.{byte_under, patches_of_cells, image_of, load_images, table_images, images, written_file, table_cells, linked_cells, HaveCells, AreMade, start}
@@ -222,8 +219,7 @@ load_all : (list : List Member) (table : List Told) (number : ℕ) (xs : List (L
 load_all list table number [] each have among few shorts size = tt
 load_all list table number (x ∷ xs) each have among few shorts size =
     let image = image_of (load_fields list number x) (linked list table x) in
-    let parts = text_parts image (load_images list table (number + 1) xs) in
-    (
+    let parts = text_parts image (load_images list table (number + 1) xs) in (
       load_image list table number x (load_header_fits list number x each (among x (inl refl))) (omega (arith, few)) shorts.0 (linked_has list table x have) (omega (arith, parts, size)),
       load_all list table (number + 1) xs each have (λ y is. among y (inr is)) (omega (arith, few)) shorts.1 (omega (arith, parts, size)),
     )
@@ -285,8 +281,7 @@ stands_for files list table bytes resolved sound are short =
     let last = table_images (table_number list) (targets list table) in
     let parts = text_both first last in
     let all = all-append first last (load_all list table 1 (load_names list) each have (λ x is. is) (omega (arith, loads)) (short_loads files list resolved) (omega (arith, parts, short))) (table_all (table_number list) (targets list table) small few) in
-    let made = file_stands_for (first ++ last) all in
-    (
+    let made = file_stands_for (first ++ last) all in (
       made.0,
       made.1,
       made.2,

@@ -1,21 +1,20 @@
 -- The cells of members and of load segments: LENGTH of them, bytes and whole places.
-use Rattle.std.proofs.Common.{◌≡◌, ℕ, zero, suc, ◌+◌, ◌-◌, ◌^◌, ◌<◌, ◌≤◌, Bool, true, false, eqb, leb, List, [], ◌∷◌, ◌++◌, length, map, take, filter, Some, Result, Ok, Err, refl, sym, ap, subst, ◌∙◌, append_assoc, arith, inl, inr}
+use Rattle.std.proofs.Common.{◌≡◌, ℕ, ◌+◌, ◌-◌, ◌^◌, ◌<◌, ◌≤◌, Bool, true, false, eqb, leb, List, [], ◌∷◌, ◌++◌, length, map, take, filter, Result, Ok, Err, refl, sym, ap, subst, ◌∙◌, append_assoc, arith, inl, inr}
 use Rattle.std.specs.Prelude.{cond}
 use Rattle.std.specs.Str.{bytes_eq}
-use Rattle.std.proofs.lemmas.Bool.{cases_Bool, eqb-true, eq-eqb, ne_eqb, le-leb, lt-leb}
+use Rattle.std.proofs.lemmas.Bool.{cases_Bool, eq-eqb, ne_eqb, le-leb, lt-leb}
 use Rattle.std.proofs.lemmas.List.{length-append, take_at}
 use Rattle.std.proofs.lemmas.Slice.Eq.{bytes_eq-Decides}
 use Rattle.omf_format.specs.Record.{Record}
 use Rattle.omf_format.specs.Header.{alignment_of}
 use Rattle.load_meaning.specs.Cells.{Cell}
-use Rattle.load_meaning.specs.declared.table.Target.{Target}
 use Rattle.link_meaning.specs.declared.fault.LinkCause.{LinkCause}
 use Rattle.link_meaning.specs.Sizes.{Located, size_at, located_from, place_behind, located, body_size}
 use Rattle.link_meaning.specs.Member.{Member}
 use Rattle.link_meaning.specs.Layout.{aligned_from, in_load, end_from, load_length, offset_of}
 use Rattle.link_meaning.specs.LayoutLaws.{aligned_from-least, alignment-some}
 use Rattle.link_meaning.specs.LinkValues.{Told}
-use Rattle.link_meaning.specs.LinkedCells.{Item, State, Made, zeros, items_from, items, cells_before, made_by, made, gained, state_from, state_behind, member_cells, cells_from, linked, table_number}
+use Rattle.link_meaning.specs.LinkedCells.{Item, State, Made, zeros, items_from, items, cells_before, made, gained, state_from, state_behind, member_cells, cells_from, linked, table_number}
 use Rattle.link_meaning.specs.LinkWritten.{AreMade, start}
 use Rattle.link_meaning.specs.RunCells.{AreRuns}
 use Rattle.link_meaning.specs.MadeLaws.{no_runs, both_runs, zero_runs, length-zeros, length-made, IsSoundAt, runs-made, Few}
@@ -175,9 +174,9 @@ up_to front m back =
     ∙ filter-append n (items_from 1 front) (own ++ items_from (n + 1) back)
     ∙ ap (λ (l : List Item). l ++ filter (λ (i : Item). leb i.place n) (own ++ items_from (n + 1) back)) (all_pass n (items_from 1 front) (are_below n 1 front (omega arith)))
     ∙ ap (λ (l : List Item). items_from 1 front ++ l) (filter-append n own (items_from (n + 1) back)
-      ∙ ap (λ (l : List Item). l ++ filter (λ (i : Item). leb i.place n) (items_from (n + 1) back)) (all_pass n own (own_below n n m (located m.segment) (omega arith)))
-      ∙ ap (λ (l : List Item). own ++ l) (none_pass n (items_from (n + 1) back) (are_above n (n + 1) back (omega arith)))
-      ∙ append-none own)
+    ∙ ap (λ (l : List Item). l ++ filter (λ (i : Item). leb i.place n) (items_from (n + 1) back)) (all_pass n own (own_below n n m (located m.segment) (omega arith)))
+    ∙ ap (λ (l : List Item). own ++ l) (none_pass n (items_from (n + 1) back) (are_above n (n + 1) back (omega arith)))
+    ∙ append-none own)
   where
     append-none : (l : List Item) → l ++ [] ≡ l
     append-none [] = refl

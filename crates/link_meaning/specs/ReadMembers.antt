@@ -1,5 +1,5 @@
 -- Each member of a linked list stands in one of the files, and passes the checks of reading.
-use Rattle.std.proofs.Common.{◌≡◌, ℕ, zero, suc, ◌+◌, ◌-◌, ◌*◌, ◌^◌, ◌<◌, ◌≤◌, Bool, true, false, eqb, List, [], ◌∷◌, ◌++◌, length, take, drop, Option, Some, None, Result, Ok, Err, refl, sym, ap, subst, ◌∙◌, arith, inl, inr}
+use Rattle.std.proofs.Common.{◌≡◌, ℕ, zero, suc, ◌+◌, ◌-◌, ◌^◌, ◌<◌, ◌≤◌, Bool, true, false, eqb, List, [], ◌∷◌, ◌++◌, length, take, drop, Option, Some, None, refl, sym, ap, subst, ◌∙◌, arith, inl, inr}
 use Rattle.std.specs.Prelude.{◌⊎◌, cond, option_map, slice_get, filter_map}
 use Rattle.std.specs.Option.{option_or}
 use Rattle.std.specs.List.{AllByRecursion}
@@ -7,22 +7,22 @@ use Rattle.std.proofs.lemmas.Bool.{eqb-true}
 use Rattle.std.proofs.lemmas.List.{length-take, length-drop}
 use Rattle.byteorder.specs.Numbers.{little_from-lt}
 use Rattle.omf_format.specs.Number.{number_at}
-use Rattle.omf_format.specs.Field.{is_count, layout_of}
+use Rattle.omf_format.specs.Field.{layout_of}
 use Rattle.omf_format.specs.FieldLaws.{IsBytes-drop, IsBytes-take, kind_of-lt}
 use Rattle.omf_format.specs.Header.{Fields, fields_of, names_end, form_of, is_listed}
 use Rattle.omf_format.specs.HeaderLaws.{IsBytes, IsSound, sound_from_none}
 use Rattle.omf_format.specs.Record.{Record, IsRecord}
 use Rattle.omf_format.specs.Reading.{Reader, HandsOut}
 use Rattle.omf_format.specs.BodyLaws.{handed_out}
-use Rattle.omf_format.specs.File.{Segment, body_reader, IsSegment, AreSegments, IsFile}
+use Rattle.omf_format.specs.File.{Segment, body_reader, IsSegment, AreSegments}
 use Rattle.link_meaning.specs.declared.fault.LinkCause.{LinkCause}
 use Rattle.link_meaning.specs.First.{IsIn, first_some}
 use Rattle.link_meaning.specs.Sizes.{body_size}
 use Rattle.link_meaning.specs.Member.{Row, Input, Member, is_library, members_from, objects_from, objects, Offer, offer_of, offers_from, offers}
 use Rattle.link_meaning.specs.Uses.{Use}
 use Rattle.link_meaning.specs.Search.{Found}
-use Rattle.link_meaning.specs.LinkedList.{first_offer, row_for, unless_found, wanted_by, Asked, asked, wanted, Follow, IsLinked}
-use Rattle.link_meaning.specs.LinkFaults.{segment_fault, segments_fault, AreInputs, IsInput, IsProgram}
+use Rattle.link_meaning.specs.LinkedList.{first_offer, row_for, unless_found, wanted_by, Asked, asked, wanted, Follow}
+use Rattle.link_meaning.specs.LinkFaults.{segment_fault, segments_fault, AreInputs, IsProgram}
 
 -- ---- lists
 

@@ -1,16 +1,16 @@
 -- Cells that are bytes and whole places: their patches over their bytes are those cells.
-use Rattle.std.proofs.Common.{◌≡◌, ℕ, ℤ, zero, suc, ◌+◌, ◌-◌, ◌^◌, ◌<◌, ◌≤◌, Bool, true, false, eqb, leb, List, [], ◌∷◌, ◌++◌, length, map, take, drop, refl, sym, ap, subst, ◌∙◌, append_assoc, arith, inl, inr}
+use Rattle.std.proofs.Common.{◌≡◌, ℕ, ℤ, zero, suc, ◌+◌, ◌^◌, ◌<◌, ◌≤◌, Bool, true, false, eqb, leb, List, [], ◌∷◌, ◌++◌, length, map, take, drop, refl, sym, ap, subst, ◌∙◌, append_assoc, arith}
 use Rattle.std.specs.Prelude.{◌&&◌, IsTrue, cond}
 use Rattle.std.specs.List.{flat_map, AllByRecursion}
 use Rattle.std.specs.Ordering.{int_eq}
 use Rattle.std.proofs.Math.Seq.{drop-append-add}
 use Rattle.std.proofs.lemmas.Bool.{eq-eqb, ne_eqb, and_from, and_parts, leb-true}
 use Rattle.std.proofs.lemmas.Bool.Decides.{Decides-int_eq}
-use Rattle.std.proofs.lemmas.List.{append-nil, take_at, drop_at, length-append, length-map, map-append}
+use Rattle.std.proofs.lemmas.List.{take_at, drop_at, length-append, length-map, map-append}
 use Rattle.std.proofs.lemmas.List.Concat.{flat_map-cons}
 use Rattle.omf_format.specs.Field.{is_count, is_shift}
 use Rattle.load_meaning.specs.Cells.{Cell, Byte, Part, Patch, parts_from, with_patch, patched}
-use Rattle.load_meaning.specs.WrittenBody.{IsWrittenPatch, AreWritten, written_cells}
+use Rattle.load_meaning.specs.WrittenBody.{AreWritten, written_cells}
 use Rattle.link_meaning.specs.Fitting.{parts}
 use Rattle.link_meaning.specs.LinkWritten.{run_length, patch_at, patches_from, patches_of_cells, byte_under}
 
@@ -135,8 +135,7 @@ are_written size at (One b ∷ pieces) each le low below =
 are_written size at (Whole count segment offset shift ∷ pieces) each le low below =
     let p = patch_of 0 count segment offset shift in
     let first : length (flat_map cells_of (Whole count segment offset shift ∷ pieces)) ≡ count + length (flat_map cells_of pieces) =
-    ap length (flat_map-cons cells_of (Whole count segment offset shift) pieces) ∙ length-append (parts_from p 0 count) (flat_map cells_of pieces) ∙ ap (λ (n : ℕ). n + length (flat_map cells_of pieces)) (length-parts p 0 count) in
-    (
+    ap length (flat_map-cons cells_of (Whole count segment offset shift) pieces) ∙ length-append (parts_from p 0 count) (flat_map cells_of pieces) ∙ ap (λ (n : ℕ). n + length (flat_map cells_of pieces)) (length-parts p 0 count) in (
       record { count' = each.0.0; shift' = each.0.1; file' = refl; segment' = each.0.2; offset' = each.0.3; inside = omega (arith, le, first) },
       below,
       are_written size (at + count) pieces each.1 (omega (arith, le, first)) (at + count) (omega arith),
