@@ -1,15 +1,15 @@
 pub mod Plain
 pub mod Cells
 pub mod Table
+pub mod LoadTable
 pub mod Loadable
 pub mod PlainLaws
 pub mod LoadableLaws
-pub mod CellLaws
+pub mod LayingLaws
 pub mod TableLaws
 pub mod WrittenPages
 pub mod WrittenBody
 pub mod PageLaws
-pub mod LayingLaws
 pub mod FormLaws
 pub mod StoredLaws
 pub mod PageSizeLaws
@@ -18,3 +18,5 @@ pub mod WrittenBodyLaws
 pub mod WrittenFile
 pub mod WrittenFileLaws
 pub mod WrittenTableLaws
+pub mod LoadTableLaws
+pub mod CellLaws

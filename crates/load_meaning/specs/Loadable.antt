@@ -1,20 +1,24 @@
 -- Load files: which files are loaded, and the first fault of every other file, by phases. Each phase goes through the
 -- segments in order, and a later one begins where the earlier ones found nothing (GS/OS Reference, appendix F).
-use Rattle.std.specs.Prelude.{◌≡◌, ◌<◌, ℕ, ◌+◌, not, ◌||◌, ◌&&◌, false, if◌then◌else◌, List, [], ◌∷◌, length, drop, codes, Option, Some, None, option_map, Result, Ok, Err, nat_lt, ◌==◌, Bool}
-use Rattle.std.specs.List.{AllByRecursion}
+use Rattle.std.specs.Prelude.{◌≡◌, ◌<◌, ◌≤◌, ◌⊎◌, ℕ, ◌+◌, ◌-◌, ◌*◌, not, ◌||◌, ◌&&◌, true, false, if◌then◌else◌, List, [], ◌∷◌, length, map, take, drop, codes, Option, Some, None, option_map, Result, Ok, Err, nat_lt, ◌==◌, Bool}
+use Rattle.std.specs.List.{AllByRecursion, list_any}
 use Rattle.std.specs.Option.{option_or, option_map_or}
 use Rattle.std.specs.Str.{bytes_eq}
 use Rattle.omf_format.specs.declared.fault.RecordFault.{RecordFault}
 use Rattle.omf_format.specs.declared.fault.FileCause.{FileCause}
 use Rattle.omf_format.specs.declared.fault.FileCause.TheVariants as causes
 use Rattle.load_meaning.specs.declared.load.LoadCause.{LoadCause}
-use Rattle.load_meaning.specs.declared.load.LoadCause.TheVariants.{NotLoadFile, Truncated, BadHeader, Unsupported, BadRecord, Sequence, DataTooLong, NoSuchTarget, Memory}
+use Rattle.load_meaning.specs.declared.load.LoadCause.TheVariants.{NotLoadFile, Truncated, BadHeader, Unsupported, BadRecord, Sequence, DataTooLong, PatchOutside, NoSuchTarget, DynamicTarget, BadTable, Memory}
 use Rattle.load_meaning.specs.declared.load.LoadFault.{LoadFault}
-use Rattle.omf_format.specs.Header.{Fields, fields_of, version_of, header_fault, form_of, is_skipped, first_of}
+use Rattle.load_meaning.specs.declared.table.Target.{Target}
+use Rattle.omf_format.specs.Header.{Fields, fields_of, version_of, header_fault, form_of, is_dynamic, is_skipped, first_of}
 use Rattle.omf_format.specs.Record.{Record, End, Const, LongConst, Align, Org, Space, Reloc, InterSeg, ShortReloc, ShortInterSeg, Super, Using, Strong, Label, Equate, Formula, Entry}
 use Rattle.omf_format.specs.Reading.{Reader, next_answer, HandsOut}
 use Rattle.omf_format.specs.File.{Segment, body_reader, IsHeader, AreSegments, IsFile, segment_at, Told, told_header, told_record}
 use Rattle.omf_format.specs.Body.{body_bytes}
+use Rattle.load_meaning.specs.Cells.{Patch, segment_bytes, patches_in, patches_of}
+use Rattle.load_meaning.specs.Table.{IsTableOf, file_entry}
+use Rattle.load_meaning.specs.LoadTable.{is_table, table_of, entry_count, targets_of, is_place, table_checks}
 
 -- a cause, and its displacement in the file
 abbrev pub Fault : Type 0
@@ -29,28 +33,27 @@ express_name = codes "ExpressLoad"
 abbrev pub is_express : List ℕ → Bool
 is_express name = bytes_eq name express_name || bytes_eq name (126 ∷ express_name)
 
--- why a load file can't have a segment of this name and type, the name first: a jump table, a pathname segment and a
--- segment for the Express Loader aren't read, and a library dictionary belongs to a library
+-- why a load file can't have a segment of this name and type, the name first: a pathname segment and a segment for the
+-- Express Loader aren't read, and a library dictionary belongs to a library
 unfoldable pub segment_refusal : Fields → Option LoadCause
 segment_refusal f = first_of (
     (is_express f.name, Unsupported)
-    ∷ (form_of f.kind == 0x02, Unsupported)
     ∷ (form_of f.kind == 0x04, Unsupported)
     ∷ (form_of f.kind == 0x08, NotLoadFile)
     ∷ [])
 
--- why a load segment can't have this record: patches aren't read, and every other record but ENTRY belongs to an object file
+-- why a load segment can't have this record: it belongs to an object file
 abbrev pub record_refusal : Record → Option LoadCause
 record_refusal End = None
 record_refusal (Const bytes) = None
 record_refusal (LongConst bytes) = None
 record_refusal (Space n) = None
 record_refusal (Entry segment offset name) = None
-record_refusal (Reloc count shift location offset) = Some Unsupported
-record_refusal (InterSeg count shift location file segment offset) = Some Unsupported
-record_refusal (ShortReloc count shift location offset) = Some Unsupported
-record_refusal (ShortInterSeg count shift location segment offset) = Some Unsupported
-record_refusal (Super form bytes) = Some Unsupported
+record_refusal (Reloc count shift location offset) = None
+record_refusal (InterSeg count shift location file segment offset) = None
+record_refusal (ShortReloc count shift location offset) = None
+record_refusal (ShortInterSeg count shift location segment offset) = None
+record_refusal (Super form bytes) = None
 record_refusal (Align n) = Some NotLoadFile
 record_refusal (Org n) = Some NotLoadFile
 record_refusal (Using name) = Some NotLoadFile
@@ -123,44 +126,80 @@ shape_fault number s = first_of (
     ∷ (nat_lt s.fields.length (length (body_bytes s)), (DataTooLong, s.start))
     ∷ [])
 
--- an offset below LENGTH of a segment that is there and isn't skipped
-abbrev pub is_place : List Segment → ℕ → ℕ → Bool
-is_place segments number offset =
-    option_map_or (λ s. not (is_skipped s.fields.kind) && nat_lt offset s.fields.length) (segment_at segments number) false
+-- a segment that is there and isn't skipped
+abbrev pub is_kept : List Segment → ℕ → Bool
+is_kept segments number = option_map_or (λ s. not (is_skipped s.fields.kind)) (segment_at segments number) false
 
--- phase 3 of a record: an ENTRY names a place of the file's segments
-abbrev pub target_refusal : List Segment → Record → Option LoadCause
-target_refusal segments (Entry number offset name) = if is_place segments number offset then None else Some NoSuchTarget
-target_refusal segments End = None
-target_refusal segments (Const bytes) = None
-target_refusal segments (LongConst bytes) = None
-target_refusal segments (Space n) = None
-target_refusal segments (Reloc count shift location offset) = None
-target_refusal segments (InterSeg count shift location file segment offset) = None
-target_refusal segments (ShortReloc count shift location offset) = None
-target_refusal segments (ShortInterSeg count shift location segment offset) = None
-target_refusal segments (Super form bytes) = None
-target_refusal segments (Align n) = None
-target_refusal segments (Org n) = None
-target_refusal segments (Using name) = None
-target_refusal segments (Strong name) = None
-target_refusal segments (Label global name size form private) = None
-target_refusal segments (Equate global name size form private expr) = None
-target_refusal segments (Formula code count n expr) = None
+-- a segment that is there and dynamic
+abbrev pub is_dynamic_at : List Segment → ℕ → Bool
+is_dynamic_at segments number = option_map_or (λ s. is_dynamic s.fields.kind) (segment_at segments number) false
 
--- what phase 3 finds first in records, at the record's displacement
-abbrev pub first_target_fault : List Segment → List (ℕ × Record) → Option Fault
-first_target_fault segments [] = None
-first_target_fault segments (found ∷ founds) =
-    option_or (option_map (λ cause. (cause, found.0)) (target_refusal segments found.1)) (first_target_fault segments founds)
+-- why a patch may not stand in a segment of the file: it reaches past LENGTH; its target isn't there, or is skipped; or
+-- its target is another segment, which is dynamic
+unfoldable pub patch_refusal : List Segment → Segment → Patch → Option LoadCause
+patch_refusal segments s p = first_of (
+    (nat_lt s.fields.length (p.location + p.count), PatchOutside)
+    ∷ (not (p.file == 1 && is_kept segments p.segment), NoSuchTarget)
+    ∷ (not (p.segment == s.fields.seg_num) && is_dynamic_at segments p.segment, DynamicTarget)
+    ∷ [])
+
+-- why the first of these patches that may not stand there may not
+abbrev pub first_refusal : List Segment → Segment → List Patch → Option LoadCause
+first_refusal segments s [] = None
+first_refusal segments s (p ∷ patches) = option_or (patch_refusal segments s p) (first_refusal segments s patches)
+
+-- an ENTRY names a place of the file's segments
+abbrev pub entry_refusal : List Segment → Record → Option LoadCause
+entry_refusal segments (Entry number offset name) = if is_place segments number offset then None else Some NoSuchTarget
+entry_refusal segments End = None
+entry_refusal segments (Const bytes) = None
+entry_refusal segments (LongConst bytes) = None
+entry_refusal segments (Space n) = None
+entry_refusal segments (Reloc count shift location offset) = None
+entry_refusal segments (InterSeg count shift location file segment offset) = None
+entry_refusal segments (ShortReloc count shift location offset) = None
+entry_refusal segments (ShortInterSeg count shift location segment offset) = None
+entry_refusal segments (Super form bytes) = None
+entry_refusal segments (Align n) = None
+entry_refusal segments (Org n) = None
+entry_refusal segments (Using name) = None
+entry_refusal segments (Strong name) = None
+entry_refusal segments (Label global name size form private) = None
+entry_refusal segments (Equate global name size form private expr) = None
+entry_refusal segments (Formula code count n expr) = None
+
+-- phase 3 of a record of a segment: an ENTRY names a place, and each patch may stand there
+abbrev pub target_refusal : List Segment → Segment → Record → Option LoadCause
+target_refusal segments s r = option_or (entry_refusal segments r) (first_refusal segments s (patches_in s r))
+
+-- what phase 3 finds first in records of a segment, at the record's displacement
+abbrev pub first_target_fault : List Segment → Segment → List (ℕ × Record) → Option Fault
+first_target_fault segments s [] = None
+first_target_fault segments s (found ∷ founds) =
+    option_or (option_map (λ cause. (cause, found.0)) (target_refusal segments s found.1)) (first_target_fault segments s founds)
 
 -- phase 3 of a segment: its records in order
 abbrev pub target_fault : List Segment → ℕ → Segment → Option Fault
-target_fault segments number s = first_target_fault segments s.records
+target_fault segments number s = first_target_fault segments s s.records
+
+-- why a table isn't one, as the place in its segment: it is the second one, has an attribute or a patch, has not the size
+-- of entries, or a field is wrong
+unfoldable pub table_flaw : List Segment → ℕ → Segment → Option ℕ
+table_flaw segments number s = first_of (
+    (list_any is_table (take (number - 1) segments), 0)
+    ∷ (is_dynamic s.fields.kind || is_skipped s.fields.kind, 0)
+    ∷ (nat_lt 0 (length (patches_of s)), 0)
+    ∷ (not (s.fields.length == 12 + 14 * entry_count s.fields.length), s.fields.length)
+    ∷ table_checks segments (segment_bytes s) (entry_count s.fields.length))
+
+-- phase 4 of a segment: where it is a table, it is laid out as one
+abbrev pub table_fault : List Segment → ℕ → Segment → Option Fault
+table_fault segments number s = if is_table s then option_map (λ at. (BadTable, at)) (table_flaw segments number s) else None
 
 -- the first fault of the phases after phase 1
 unfoldable pub later_fault : List Segment → Option LoadFault
-later_fault segments = option_or (first_in shape_fault 1 segments) (first_in (target_fault segments) 1 segments)
+later_fault segments = option_or (first_in shape_fault 1 segments)
+    (option_or (first_in (target_fault segments) 1 segments) (first_in (table_fault segments) 1 segments))
 
 -- all segments pass phase 1, and a later phase finds this fault first
 pub record IsLaterFault (file : List ℕ) (fault : LoadFault) : Type 0 where
@@ -183,3 +222,44 @@ pub data IsFirstLoadFault (file : List ℕ) (fault : LoadFault) : Type 0 where
   IsEmpty : file ≡ [] → fault ≡ record { cause = NotLoadFile; segment = 0; at = 0 } → IsFirstLoadFault file fault
   OfReading : IsReadFault file fault → IsFirstLoadFault file fault
   OfSegments : IsLaterFault file fault → IsFirstLoadFault file fault
+
+-- ---- what a load file has
+
+-- the patches of a segment in file order, without the displacements of their records
+abbrev pub patch_list : Segment → List Patch
+patch_list s = map (λ found. found.1) (patches_of s)
+
+-- a patch that stands in a load segment: inside LENGTH, and its target is there, isn't skipped, and is the segment itself or
+-- static
+pub record IsPatch (segments : List Segment) (s : Segment) (p : Patch) : Type 0 where
+  pub inside : p.location + p.count ≤ s.fields.length
+  pub file' : p.file ≡ 1
+  pub target : Segment
+  pub is : segment_at segments p.segment ≡ Some target
+  pub kept : is_skipped target.fields.kind ≡ false
+  pub near : (p.segment ≡ s.fields.seg_num) ⊎ (is_dynamic target.fields.kind ≡ false)
+
+-- a target of a table: an offset in a dynamic segment of the file that isn't skipped
+pub record IsTarget (segments : List Segment) (target : Target) : Type 0 where
+  pub file' : target.file ≡ 1
+  pub segment' : Segment
+  pub is : segment_at segments target.segment ≡ Some segment'
+  pub dynamic : is_dynamic segment'.fields.kind ≡ true
+  pub kept : is_skipped segment'.fields.kind ≡ false
+  pub inside : target.offset < segment'.fields.length
+
+-- a load file's table: static, not skipped, without patches, and laid out as the entries of its targets
+pub record IsTable (segments : List Segment) (s : Segment) : Type 0 where
+  pub static : is_dynamic s.fields.kind ≡ false
+  pub kept : is_skipped s.fields.kind ≡ false
+  pub unpatched : patches_of s ≡ []
+  pub targets : AllByRecursion (IsTarget segments) (targets_of s)
+  pub laid_out : IsTableOf (map file_entry (targets_of s)) (segment_bytes s)
+
+-- a load file's segment with a number
+pub record IsSoundSegment (segments : List Segment) (number : ℕ) (s : Segment) : Type 0 where
+  pub number' : s.fields.seg_num ≡ number
+  pub fits : length (body_bytes s) ≤ s.fields.length
+  pub patches : AllByRecursion (IsPatch segments s) (patch_list s)
+  pub table : is_table s ≡ true → IsTable segments s
+  pub only : is_table s ≡ true → table_of segments ≡ Some number
