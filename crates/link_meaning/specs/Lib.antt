@@ -23,3 +23,9 @@ pub mod TableLaws
 pub mod LinkFaultLaws
 pub mod LinkWritten
 pub mod RunCells
+pub mod MadeLaws
+pub mod LinkedRuns
+pub mod ReadMembers
+pub mod LinkWrittenLaws
+pub mod PlaceFits
+pub mod ValueFits

@@ -70,12 +70,19 @@ record_fault align (Entry segment offset name) = Some BadRecord
 abbrev pub with_place : ℕ → LinkCause → LinkCause × ℕ
 with_place at cause = (cause, at)
 
+-- the first record's fault, with its place
+abbrev pub records_fault : ℕ → List (ℕ × Record) → Option (LinkCause × ℕ)
+records_fault align founds = first_some (λ found. option_map (with_place found.0) (record_fault align found.1)) founds
+
+-- LENGTH counts the cells of the records and RESSPC
+abbrev pub length_fault : Segment → Option (LinkCause × ℕ)
+length_fault s = if s.fields.length == body_size s + s.fields.res_spc then None else Some (BadLength, s.start)
+
 -- a segment's first fault: its type, then its records in order, then its LENGTH
 unfoldable pub segment_fault : Bool → Segment → Option (LinkCause × ℕ)
 segment_fault first s =
     option_or (option_map (with_place s.start) (type_fault first s.fields))
-    (option_or (first_some (λ found. option_map (with_place found.0) (record_fault (alignment_of s.fields.align) found.1)) s.records)
-    (if s.fields.length == body_size s + s.fields.res_spc then None else Some (BadLength, s.start)))
+    (option_or (records_fault (alignment_of s.fields.align) s.records) (length_fault s))
 
 -- the segments' first fault, with the segment's number
 abbrev pub segments_fault : ℕ → List Segment → Option (ℕ × (LinkCause × ℕ))

@@ -1,16 +1,20 @@
 -- The load file that the linker writes (GS/OS Reference, appendix F; where a header's fields come from, and the names, are
 -- this project's own choice).
-use Rattle.std.specs.Prelude.{ℕ, ◌+◌, ◌&&◌, List, [], ◌∷◌, ◌++◌, map, ◌==◌, if◌then◌else◌}
+use Rattle.std.specs.Prelude.{◌≡◌, ◌≤◌, ℕ, ◌+◌, ◌&&◌, List, [], ◌∷◌, ◌++◌, length, map, Ok, ◌==◌, if◌then◌else◌}
+use Rattle.std.specs.List.{AllByRecursion}
 use Rattle.std.specs.Ordering.{int_eq}
 use Rattle.omf_format.specs.Header.{Fields}
-use Rattle.load_meaning.specs.Cells.{Cell, Byte, Part, Patch}
+use Rattle.omf_format.specs.HeaderLaws.{IsBytes}
+use Rattle.omf_format.specs.File.{Segment, IsFile}
+use Rattle.load_meaning.specs.Cells.{Cell, Byte, Part, Patch, cells}
 use Rattle.load_meaning.specs.declared.table.Target.{Target}
-use Rattle.load_meaning.specs.Table.{file_entry}
-use Rattle.load_meaning.specs.WrittenFile.{Image, table_image, file_text}
+use Rattle.load_meaning.specs.Table.{file_entry, table_bytes}
+use Rattle.load_meaning.specs.WrittenFile.{Image, table_image, file_text, AreReadAs}
 use Rattle.link_meaning.specs.Member.{Member}
 use Rattle.link_meaning.specs.Layout.{load_names, load_fields}
-use Rattle.link_meaning.specs.LinkValues.{Told}
-use Rattle.link_meaning.specs.LinkedCells.{table_number, targets, linked}
+use Rattle.link_meaning.specs.LinkValues.{Told, IsTable}
+use Rattle.link_meaning.specs.LinkedCells.{Item, State, Made, table_number, items, made, gained, targets, linked}
+use Rattle.link_meaning.specs.LinkFaults.{IsResolved}
 
 -- ---- patches
 
@@ -66,3 +70,37 @@ images list table = load_images list table 1 (load_names list) ++ table_images (
 -- the bytes of the load file
 unfoldable pub written_file : List Member → List Told → List ℕ
 written_file list table = file_text (images list table)
+
+-- ---- what the file stands for
+
+-- the table's cells, where there is an entry
+abbrev pub table_cells : List Target → List (List Cell)
+table_cells [] = []
+table_cells (target ∷ targets) = map Byte (table_bytes (map file_entry (target ∷ targets))) ∷ []
+
+-- the linked cells of the load segments in order of number, and the table's behind them
+unfoldable pub linked_cells : List Member → List Told → List (List Cell)
+linked_cells list table = map (linked list table) (load_names list) ++ table_cells (targets list table)
+
+-- each segment has its cells, and there are as many of the ones as of the others
+abbrev pub HaveCells : List (List Cell) → List Segment → Type 0
+HaveCells [] [] = Unit {0}
+HaveCells [] (s ∷ segments) = ⊥
+HaveCells (cs ∷ all) [] = ⊥
+HaveCells (cs ∷ all) (s ∷ segments) = (cells s ≡ cs) × HaveCells all segments
+
+-- each of these records, from this state on, gives cells: no value has a fault, and each fits
+abbrev pub AreMade : List Member → List Told → State → List Item → Type 0
+AreMade list table state [] = Unit {0}
+AreMade list table state (i ∷ is) =
+    (x : Made) × (made list table state i ≡ Ok x) × AreMade list table (gained state i (made list table state i)) is
+
+abbrev pub start : State
+start = record { targets = []; place = 0; cells = [] }
+
+-- The file that the linker writes is a file of the load segments and the table, and each of them stands for its cells.
+abbrev pub LinkedStandsFor : Type 0
+LinkedStandsFor = (files : List (List ℕ)) (list : List Member) (table : List Told) → AllByRecursion IsBytes files → IsResolved files list
+    → IsTable list table → AreMade list table start (items list) → length (written_file list table) ≤ 0x1000000
+    → (segments : List Segment) × IsFile segments (written_file list table) × AreReadAs (images list table) segments
+    × HaveCells (linked_cells list table) segments

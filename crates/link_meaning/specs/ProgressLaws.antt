@@ -80,7 +80,7 @@ seen_is_found s all f is sees' none = not_empty (filter (sees s) all) f (filter_
 pub not_there : (m u : Member) (private : Bool) (d : Definition) (all : List Found) (p : ℕ) → IsIn all (found_at p m d) → d.scope ≡ outer_scope private
     → ((m.file ≡ u.file) × (m.from ≡ u.from)) ⊎ (private ≡ false) → AllNone (outer_steps u) all → ⊥
 not_there m u false d all p is scope way none =
-    seen_is_found Everyone all (found_at p m d) is (ap (λ (x : Scope). is_step Everyone (step_for p m x)) scope) none.1.0
+    seen_is_found Everyone all (found_at p m d) is (ap (λ (x : Scope). is_step Everyone (step_for p m.file m.from x)) scope) none.1.0
 not_there m u true d all p is scope (inr e) none = let clash : true ≡ false = e in cc
 not_there m u true d all p is scope (inl same) none =
     seen_is_found (OfUnit u.file u.from) all (found_at p m d) is pass none.0

@@ -1,16 +1,16 @@
 -- Cells that are bytes and whole places: their patches over their bytes are those cells.
-use Rattle.std.proofs.Common.{◌≡◌, ℕ, ℤ, zero, suc, ◌+◌, ◌-◌, ◌^◌, ◌<◌, ◌≤◌, Bool, true, false, eqb, leb, List, [], ◌∷◌, ◌++◌, length, map, take, drop, refl, sym, ap, subst, ◌∙◌, append_assoc, arith, inl, inr}
+use Rattle.std.proofs.Common.{◌≡◌, ℕ, ℤ, zero, suc, ◌+◌, ◌^◌, ◌<◌, ◌≤◌, Bool, true, false, eqb, leb, List, [], ◌∷◌, ◌++◌, length, map, take, drop, refl, sym, ap, subst, ◌∙◌, append_assoc, arith}
 use Rattle.std.specs.Prelude.{◌&&◌, IsTrue, cond}
 use Rattle.std.specs.List.{flat_map, AllByRecursion}
 use Rattle.std.specs.Ordering.{int_eq}
+use Rattle.std.proofs.Math.Seq.{drop-append-add}
 use Rattle.std.proofs.lemmas.Bool.{eq-eqb, ne_eqb, and_from, and_parts, leb-true}
 use Rattle.std.proofs.lemmas.Bool.Decides.{Decides-int_eq}
-use Rattle.std.proofs.lemmas.List.{append-nil, take_at, drop_at, length-append, length-map, map-append}
+use Rattle.std.proofs.lemmas.List.{take_at, drop_at, length-append, length-map, map-append}
 use Rattle.std.proofs.lemmas.List.Concat.{flat_map-cons}
 use Rattle.omf_format.specs.Field.{is_count, is_shift}
-use Rattle.omf_format.specs.HeaderLaws.{drop-more}
 use Rattle.load_meaning.specs.Cells.{Cell, Byte, Part, Patch, parts_from, with_patch, patched}
-use Rattle.load_meaning.specs.WrittenBody.{IsWrittenPatch, AreWritten, written_cells}
+use Rattle.load_meaning.specs.WrittenBody.{AreWritten, written_cells}
 use Rattle.link_meaning.specs.Fitting.{parts}
 use Rattle.link_meaning.specs.LinkWritten.{run_length, patch_at, patches_from, patches_of_cells, byte_under}
 
@@ -89,7 +89,7 @@ runs_on : (p : Patch) (index n : ℕ) (rest : List Cell) → run_length p (index
 runs_on p index zero rest e = ap (λ (i : ℕ). run_length p i rest) (omega arith) ∙ e
 runs_on p index (suc n) rest e =
     let more = runs_on p (index + 1) n rest (ap (λ (i : ℕ). run_length p i rest) (omega arith) ∙ e) in
-    ap (λ (t : Bool). cond t (1 + run_length p (index + 1) (parts_from p (index + 1) n ++ rest)) 0) (same_place p.file p.segment p.offset index p.shift) ∙ ap suc more
+    ap (λ (t : Bool). cond t (1 + run_length p (index + 1) (parts_from p (index + 1) n ++ rest)) 0) (same_place p.file p.segment p.offset index p.shift) ∙ omega (arith, more)
 
 -- behind its first cell no patch begins in a run
 none_inside : (p : Patch) (at index n : ℕ) (rest : List Cell) → 1 ≤ index → patches_from at (parts_from p index n ++ rest) ≡ patches_from (at + n) rest
@@ -100,6 +100,9 @@ none_inside p at index (suc n) rest le =
     ap (λ (l : List Patch). l ++ patches_from (at + 1) more) first
     ∙ none_inside p (at + 1) (index + 1) n rest (omega arith)
     ∙ ap (λ (i : ℕ). patches_from i rest) (omega arith)
+
+one_more : (k n : ℕ) → k ≡ n → 1 + k ≡ suc n
+one_more k n e = omega (arith, e)
 
 patches_are : (at : ℕ) (pieces : List Piece) → AllByRecursion IsPiece pieces → patches_from at (flat_map cells_of pieces) ≡ patches_for at pieces
 patches_are at [] each = refl
@@ -116,7 +119,7 @@ patches_are at (Whole (suc n) segment offset shift ∷ pieces) each =
     let same : parts_from q 1 n ≡ parts_from p 1 n = parts_same q p 1 n refl refl refl refl in
     let size : run_length p 1 more ≡ n = ap (λ (l : List Cell). run_length p 1 (l ++ rest)) same ∙ runs_on p 1 n rest (ends_there p (1 + n) pieces (omega arith) each.1) in
     ap (patches_from at) (flat_map-cons cells_of (Whole (suc n) segment offset shift) pieces)
-    ∙ ap (λ (k : ℕ). patch_of at (1 + k) segment offset shift ∷ patches_from (at + 1) more) size
+    ∙ ap (λ (k : ℕ). patch_of at k segment offset shift ∷ patches_from (at + 1) more) (one_more (run_length p 1 more) n size)
     ∙ ap (λ (l : List Patch). patch_of at (suc n) segment offset shift ∷ l) (none_inside q (at + 1) 1 n rest (omega arith) ∙ ap (λ (i : ℕ). patches_from i rest) (omega arith) ∙ patches_are (at + suc n) pieces each.1)
 
 -- ---- they can be written
@@ -132,8 +135,7 @@ are_written size at (One b ∷ pieces) each le low below =
 are_written size at (Whole count segment offset shift ∷ pieces) each le low below =
     let p = patch_of 0 count segment offset shift in
     let first : length (flat_map cells_of (Whole count segment offset shift ∷ pieces)) ≡ count + length (flat_map cells_of pieces) =
-    ap length (flat_map-cons cells_of (Whole count segment offset shift) pieces) ∙ length-append (parts_from p 0 count) (flat_map cells_of pieces) ∙ ap (λ (n : ℕ). n + length (flat_map cells_of pieces)) (length-parts p 0 count) in
-    (
+    ap length (flat_map-cons cells_of (Whole count segment offset shift) pieces) ∙ length-append (parts_from p 0 count) (flat_map cells_of pieces) ∙ ap (λ (n : ℕ). n + length (flat_map cells_of pieces)) (length-parts p 0 count) in (
       record { count' = each.0.0; shift' = each.0.1; file' = refl; segment' = each.0.2; offset' = each.0.3; inside = omega (arith, le, first) },
       below,
       are_written size (at + count) pieces each.1 (omega (arith, le, first)) (at + count) (omega arith),
@@ -150,13 +152,16 @@ length-under cells = length-map (map byte_under cells) (λ (b : ℕ). Byte b) �
 under-append : (xs ys : List Cell) → under (xs ++ ys) ≡ under xs ++ under ys
 under-append xs ys = ap (map Byte) (map-append byte_under xs ys) ∙ map-append (λ (b : ℕ). Byte b) (map byte_under xs) (map byte_under ys)
 
+behind_both : (front rest : List Cell) (n k : ℕ) → length front ≡ n → drop (n + k) (front ++ rest) ≡ drop k rest
+behind_both front rest n k is = subst (λ (i : ℕ). drop (i + k) (front ++ rest) ≡ drop k rest) is (drop-append-add front rest k)
+
 -- one patch over the bytes of its cells
 one_over : (done cells rest : List Cell) (p : Patch) → p.location ≡ length done → length cells ≡ p.count → parts_from p 0 p.count ≡ cells
     → with_patch (done ++ (under cells ++ rest)) p ≡ (done ++ cells) ++ rest
 one_over done cells rest p at size is =
     let first : take p.location (done ++ (under cells ++ rest)) ≡ done = take_at done (under cells ++ rest) p.location (sym at) in
     let last : drop (p.location + p.count) (done ++ (under cells ++ rest)) ≡ rest =
-    drop-more done (under cells ++ rest) p.location p.count (sym at) ∙ drop_at (under cells) rest p.count (length-under cells ∙ size) in
+    behind_both done (under cells ++ rest) p.location p.count (sym at) ∙ drop_at (under cells) rest p.count (length-under cells ∙ size) in
     ap (λ (l : List Cell). l ++ parts_from p 0 p.count ++ drop (p.location + p.count) (done ++ (under cells ++ rest))) first
     ∙ ap (λ (l : List Cell). done ++ l ++ drop (p.location + p.count) (done ++ (under cells ++ rest))) is
     ∙ ap (λ (l : List Cell). done ++ cells ++ l) last

@@ -36,7 +36,7 @@ in_decided (s ∷ steps) all f is = settle (in_either (filter (sees s) all) (dec
     settle (inr more) go = go more
 
 -- what a name finds is an entry
-in_entries : (list : List Member) (place : ℕ) (m : Member) (name : List ℕ) (f : Found) → IsIn (finds list place m name) f → IsIn (entries list) f
+pub in_entries : (list : List Member) (place : ℕ) (m : Member) (name : List ℕ) (f : Found) → IsIn (finds list place m name) f → IsIn (entries list) f
 unfolding finds named
 in_entries list place m name f is =
     in_filter _ (entries list) f (in_decided (steps_of list place m) (named name (entries list)) f is)
@@ -55,11 +55,11 @@ Alike list a b (f ∷ found) = found_value list a f ≡ found_value list b f
 abbrev AreAlike : List Member → List Told → List Told → ℕ → Member → List (List ℕ) → Type 0
 AreAlike list a b place m names = AllByRecursion (λ name. Alike list a b (finds list place m name)) names
 
-all_front : {A : Type 0} → (P : A → Type 0) (xs ys : List A) → AllByRecursion P (xs ++ ys) → AllByRecursion P xs
+pub all_front : {A : Type 0} → (P : A → Type 0) (xs ys : List A) → AllByRecursion P (xs ++ ys) → AllByRecursion P xs
 all_front P [] ys all = tt
 all_front P (x ∷ xs) ys all = (all.0, all_front P xs ys all.1)
 
-all_behind : {A : Type 0} → (P : A → Type 0) (xs ys : List A) → AllByRecursion P (xs ++ ys) → AllByRecursion P ys
+pub all_behind : {A : Type 0} → (P : A → Type 0) (xs ys : List A) → AllByRecursion P (xs ++ ys) → AllByRecursion P ys
 all_behind P [] ys all = all
 all_behind P (x ∷ xs) ys all = all_behind P xs ys all.1
 
@@ -283,7 +283,7 @@ told_same (suc n) list a b visited e k p q straight at before distinct size =
     (apart list f place.0 (k ∷ visited) (straight f inside) place.1 reached, distinct) (omega (arith, size))))
     ∙ sym (q e here)
 
-tells_of : (list : List Member) (table : List Told) (es : List Found) (rows : List Told) → AreTold list table es rows
+pub tells_of : (list : List Member) (table : List Told) (es : List Found) (rows : List Told) → AreTold list table es rows
     → (e : Found) → IsIn es e → told table e.place e.definition.at ≡ equate_value list table e
 tells_of list table [] rows are e is = absurd is
 tells_of list table (x ∷ es) [] are e is = absurd are
@@ -314,3 +314,29 @@ one_table list a b p q =
     rows_same list a b (equates list) a b p.rows q.rows (λ e is.
     let place = position_of (equates list) e is in
     told_same (length (equates list)) list a b [] e place.0 tells_a tells_b p.straight place.1 tt (tt, tt) (omega arith))
+
+-- ---- from equates to those that lead to them
+
+by_rings_from : (n : ℕ) (list : List Member) (P : Found → Type 0) (visited : List ℕ) (e : Found) (k : ℕ) → ((g : Found) → IsIn (equates list) g → IsCircular list g → ⊥)
+    → ((g : Found) → IsIn (equates list) g → ((f : Found) → LeadsTo list g f → P f) → P g) → slice_get (equates list) k ≡ Some e → AllByRecursion (Before list e) visited
+    → IsDistinct eqb (k ∷ visited) → length visited + n ≡ length (equates list) → P e
+unfolding IsDistinct
+by_rings_from zero list P visited e k straight step at before distinct size =
+    let within = one_below (length (equates list)) (k ∷ visited) (below_length (equates list) k e at, all_below list e visited before) in
+    let few : length (k ∷ visited) ≤ length (equates list) = length-le_from_distinct_below (k ∷ visited) (length (equates list)) distinct within in
+    absurd (omega (arith, few, size))
+by_rings_from (suc n) list P visited e k straight step at before distinct size =
+    step e (is_in_at (equates list) k e at) (λ f leads.
+    let inside = in_equates list e f leads in
+    let place = position_of (equates list) f inside in
+    let reached : AllByRecursion (Before list f) (k ∷ visited) = ((e, at, Last e f leads), all_on list e f visited before leads) in
+    by_rings_from n list P (k ∷ visited) f place.0 straight step place.1 reached
+    (apart list f place.0 (k ∷ visited) (straight f inside) place.1 reached, distinct) (omega (arith, size)))
+
+-- Without rings, what holds of an equate where it holds of all to which it leads, holds of every equate.
+pub by_rings : (list : List Member) (P : Found → Type 0) → ((g : Found) → IsIn (equates list) g → IsCircular list g → ⊥)
+    → ((g : Found) → IsIn (equates list) g → ((f : Found) → LeadsTo list g f → P f) → P g) → (e : Found) → IsIn (equates list) e → P e
+unfolding IsDistinct
+by_rings list P straight step e is =
+    let place = position_of (equates list) e is in
+    by_rings_from (length (equates list)) list P [] e place.0 straight step place.1 tt (tt, tt) (omega arith)

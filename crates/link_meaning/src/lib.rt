@@ -4,7 +4,9 @@
 #![tactic(auto)]
 
 mod fault;
+mod laws;
 mod search;
 
 pub use fault::{LinkCause, LinkFault};
+pub use laws::linked_files_stand_for_their_cells;
 pub use search::{Step, Want};

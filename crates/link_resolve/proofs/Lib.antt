@@ -1,2 +1,16 @@
-pub mod SizesLeft
+pub mod Lists
+pub mod OnOks
+pub mod Spelled
 pub mod NameTables
+pub mod ComingLaws
+pub mod Grown
+pub mod FirstLeft
+pub mod SegmentsLeft
+pub mod SegmentName
+pub mod DefinitionLaws
+pub mod UseLaws
+pub mod SearchLaws
+pub mod LinkedLaws
+pub mod TitleLaws
+pub mod ResolvingLaws
+pub mod FileRefusals

@@ -1,8 +1,20 @@
-//! Which segments are linked, what their names find, and where they stand.
+//! What linking needs to know of its inputs: which segments may be linked, what they define and use, and what the names of a
+//! linked list find (GS/OS Reference, appendix F; the order of search is this project's own).
 #![tactic(auto)]
 
+mod checks;
+mod definitions;
+mod input;
+mod linked;
 mod names;
+mod reading;
+mod segname;
 mod sizes;
+mod uses;
 
-pub use names::{Key, Names, Outcome};
+pub use checks::segments_fault;
+pub use definitions::{Definition, Origin};
+pub use input::{memory_fault, read_segments};
+pub use linked::Linked;
+pub use names::Outcome;
 pub use sizes::{body_size, size_at};

@@ -18,8 +18,8 @@ pub struct Key<'a> {
 #[derive(Clone, Copy, Debug, PartialEq, Eq)]
 pub enum Outcome {
     Nothing,
-    One(u32),
-    Several(u32),
+    One(usize),
+    Several(usize),
 }
 
 /// Names in order, each seen by one step and with the number of what it names. A look-up takes no pass over them.
@@ -48,7 +48,7 @@ impl<'a> Names<'a> {
     }
 
     /// One more name, behind the others.
-    pub fn add(&mut self, key: Key<'a>, number: u32) -> Result<(), AllocError>
+    pub fn add(&mut self, key: Key<'a>, number: usize) -> Result<(), AllocError>
         ensures { OnOk result ((rows : List Row) → Indexes rows self.old → Indexes (rows ++ (key_of key.entry, number) ∷ []) self.new) }
     {
         let so_far = self.look(key);
@@ -58,7 +58,7 @@ impl<'a> Names<'a> {
 }
 
 /// What was found, and one more.
-fn added(so_far: Outcome, number: u32) -> Outcome
+fn added(so_far: Outcome, number: usize) -> Outcome
     ensures { result ≡ added so_far number }
 {
     match so_far {

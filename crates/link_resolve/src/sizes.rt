@@ -1,12 +1,13 @@
 //! How many cells records give.
 
 ghost use Rattle.std.specs.Prelude.{◌≡◌, ◌+◌, ◌<◌, ◌^◌};
-ghost use Rattle.link_meaning.specs.Sizes.{padding, size_at};
-ghost use Rattle.link_resolve.specs.Walk.{IsSizeOf};
-ghost use Rattle.omf_records.specs.Segments.{ComesToEnd};
+ghost use Rattle.link_meaning.specs.Sizes.{padding, size_at, body_size};
+ghost use Rattle.link_resolve.specs.Sizes.{in_32_bits};
+ghost use Rattle.omf_records.specs.Segments.{IsSound, shown};
 ghost use Rattle.omf_records.specs.View.{view};
 
-use omf_records::{Rec, Records};
+use crate::reading::next_record;
+use omf_records::{Rec, SegmentView};
 
 /// How far it is to the least multiple of the step at or behind a place; 0 for the step 0.
 #[tactic(auto, unfolding(link_meaning::specs::Sizes::padding))]
@@ -45,24 +46,24 @@ pub fn size_at(rec: &Rec, location: u32) -> u64
     }
 }
 
-/// How many cells the records give up to END, where that number has 32 bits.
-pub fn body_size(records: Records) -> Option<u32>
-    requires { ComesToEnd records }
-    ensures { IsSizeOf records.entry result }
+/// How many cells the segment's records give, where that number has 32 bits.
+#[tactic(auto, unfolding(link_meaning::specs::Sizes::body_size))]
+pub fn body_size(segment: &SegmentView) -> Option<u32>
+    requires { IsSound segment.now }
+    ensures { result ≡ in_32_bits (body_size (shown segment.now)) }
 {
-    let mut records = records;
+    let mut records = segment.records();
     let mut size = 0u32;
-    'records: loop {
-        match records.next() {
-            Ok(None) => return Some(size),
-            Ok(Some(found)) => {
-                let next = u64::from(size) + size_at(&found.1, size);
+    'walk: loop {
+        match next_record(&mut records) {
+            None => return Some(size),
+            Some((_, rec)) => {
+                let next = u64::from(size) + size_at(&rec, size);
                 if next > u64::from(u32::MAX) {
                     return None;
                 }
                 size = next as u32;
             }
-            Err(_) => unreachable!(),
         }
     }
 }

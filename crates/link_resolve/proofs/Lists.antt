@@ -1,0 +1,53 @@
+-- Places in lists.
+use Rattle.std.proofs.Common.{◌≡◌, ℕ, zero, suc, ◌+◌, ◌≤◌, ◌<◌, List, [], ◌∷◌, length, get_or, take, drop, Option, Some, None, refl, sym, ap, ◌∙◌, arith}
+use Rattle.std.specs.Prelude.{slice_get}
+
+-- the items from a place on
+pub drop_at : {A : Type 0} → (xs : List A) (k : ℕ) (x : A) → slice_get xs k ≡ Some x → drop k xs ≡ x ∷ drop (k + 1) xs
+drop_at [] k x e = absurd cc
+drop_at {A} (y ∷ xs) zero x e = let same : y ≡ x = cc in ap (λ (z : A). z ∷ xs) same
+drop_at {A} (y ∷ xs) (suc k) x e =
+    let next : suc k + 1 ≡ suc (k + 1) = omega arith in
+    drop_at xs k x e ∙ ap (λ (n : ℕ). x ∷ drop n (y ∷ xs)) (sym next)
+
+pub drop_past : {A : Type 0} → (xs : List A) (k : ℕ) → length xs ≤ k → drop k xs ≡ []
+drop_past [] k past = nothing k
+  where
+    nothing : {A : Type 0} → (k : ℕ) → drop {A = A} k [] ≡ []
+    nothing zero = refl
+    nothing (suc k) = refl
+drop_past (y ∷ xs) zero past = absurd (omega arith)
+drop_past (y ∷ xs) (suc k) past = drop_past xs k (omega arith)
+
+pub empty : {A : Type 0} → (xs : List A) → length xs ≡ 0 → xs ≡ []
+empty [] e = refl
+empty (x ∷ xs) e = absurd (omega (arith, e))
+
+pub not_empty : {A : Type 0} → (xs : List A) → (length xs ≡ 0 → ⊥) → xs ≡ [] → ⊥
+not_empty xs some e = some (ap length e)
+
+pub first_is : {A : Type 0} → (xs : List A) (x : A) → slice_get xs 0 ≡ Some x → xs ≡ x ∷ drop 1 xs
+first_is [] x e = absurd cc
+first_is {A} (y ∷ xs) x e = let same : y ≡ x = cc in ap (λ (z : A). z ∷ xs) same
+
+pub none_first : {A : Type 0} → (xs : List A) → slice_get xs 0 ≡ None → xs ≡ []
+none_first [] e = refl
+none_first (y ∷ xs) e = absurd cc
+
+pub drop_twice : {A : Type 0} → (a b : ℕ) (xs : List A) → drop (a + b) xs ≡ drop b (drop a xs)
+drop_twice zero b xs = let same : 0 + b ≡ b = omega arith in ap (λ (n : ℕ). drop n xs) same
+drop_twice (suc a) b [] = drop_none (suc a + b) ∙ sym (drop_none b)
+  where
+    drop_none : {A : Type 0} → (n : ℕ) → drop {A = A} n [] ≡ []
+    drop_none zero = refl
+    drop_none (suc n) = refl
+drop_twice (suc a) b (x ∷ xs) =
+    let same : suc a + b ≡ suc (a + b) = omega arith in
+    ap (λ (n : ℕ). drop n (x ∷ xs)) same ∙ drop_twice a b xs
+
+pub drop_or : {A : Type 0} → (xs : List A) (k : ℕ) (d : A) → k < length xs → drop k xs ≡ get_or xs k d ∷ drop (k + 1) xs
+drop_or [] k d less = absurd (omega arith)
+drop_or (x ∷ xs) zero d less = refl
+drop_or {A} (x ∷ xs) (suc k) d less =
+    let next : suc k + 1 ≡ suc (k + 1) = omega arith in
+    drop_or xs k d (omega arith) ∙ ap (λ (n : ℕ). get_or xs k d ∷ drop n (x ∷ xs)) (sym next)

@@ -1,0 +1,70 @@
+-- Tables of titles, and one more title.
+use Rattle.std.proofs.Common.{◌≡◌, ℕ, Bool, true, false, List, [], ◌∷◌, ◌++◌, map, None, refl, sym, ap, subst, ◌∙◌, append-nil}
+use Rattle.std.specs.Prelude.{◌==◌, if◌then◌else◌}
+use Rattle.std.proofs.lemmas.Bool.{eq-eqb, ne_eqb}
+use Rattle.std.proofs.lemmas.List.{map-append}
+use Rattle.omf_format.specs.Header.{form_of, is_private}
+use Rattle.omf_format.specs.File.{Segment}
+use Rattle.link_meaning.specs.declared.search.Step.{Step}
+use Rattle.link_meaning.specs.Member.{Member}
+use Rattle.link_meaning.specs.Defines.{Definition, outer_scope, title_of, data_title_of}
+use Rattle.link_meaning.specs.Search.{Found, step_for}
+use Rattle.link_resolve.specs.declared.names.Names.{Names}
+use Rattle.link_resolve.specs.declared.definitions.Origin.{Origin}
+use Rattle.link_resolve.specs.Names.{Named, Row, Indexes}
+use Rattle.link_resolve.specs.Definitions.{IsOf, key_of_found, founds_in}
+use Rattle.link_resolve.specs.Linked.{place_rows, GainsTitle}
+
+none_gained : (titles : Names) (origin : Origin) (place : ℕ) (ds : List Definition) → ds ≡ [] → GainsTitle titles titles origin place ds
+none_gained titles origin place ds none fs m of ix =
+    let whole : fs ≡ fs ++ founds_in place m ds = sym (append-nil fs) ∙ ap (λ (l : List Definition). fs ++ founds_in place m l) (sym none) in
+    subst (λ (l : List Found). Indexes (place_rows l) titles) whole ix
+
+-- a segment that isn't one of data has none
+pub no_data : (titles : Names) (origin : Origin) (place : ℕ) (s : Segment) (form : ℕ) → form ≡ form_of s.fields.kind → (form ≡ 0x01 → ⊥) → GainsTitle titles titles origin place (data_title_of s)
+unfolding data_title_of
+no_data titles origin place s form is other =
+    none_gained titles origin place (data_title_of s) (ap (λ (b : Bool). if b then title_of s else []) (ne_eqb (form_of s.fields.kind) 0x01 (λ e. other (is ∙ e))))
+
+of_data : (s : Segment) (form : ℕ) → form ≡ form_of s.fields.kind → form ≡ 0x01 → data_title_of s ≡ title_of s
+unfolding data_title_of
+of_data s form is data' = ap (λ (b : Bool). if b then title_of s else []) (eq-eqb (form_of s.fields.kind) 0x01 (sym is ∙ data'))
+
+-- nor has one without a name
+pub no_name : (titles : Names) (origin : Origin) (place : ℕ) (s : Segment) (form : ℕ) (name : List ℕ) → form ≡ form_of s.fields.kind → form ≡ 0x01 → name ≡ s.fields.name → name ≡ [] → GainsTitle titles titles origin place (data_title_of s)
+unfolding title_of
+no_name titles origin place s form name is data' named none = none_gained titles origin place (data_title_of s) (of_data s form is data' ∙ by_name s.fields.name (sym named ∙ none))
+  where
+    by_name : (n : List ℕ) → n ≡ [] → (elim n as (λ n. List Definition) [
+      | [] ↦ []
+      | b ∷ bs ↦ record { name = b ∷ bs; scope = outer_scope (is_private s.fields.kind); place = 0; at = s.start; expr = None; size = 0; form = 0x4E } ∷ []
+    ]) ≡ []
+    by_name [] e = refl
+    by_name (b ∷ bs) e = absurd cc
+
+abbrev key_as : Step → List ℕ → Named
+key_as t n = record { step = t; name = n }
+
+pub gained : (old new : Names) (origin : Origin) (place : ℕ) (s : Segment) (form : ℕ) (name : List ℕ) (private : Bool) (step : Step) → form ≡ form_of s.fields.kind → form ≡ 0x01 → name ≡ s.fields.name → (name ≡ [] → ⊥)
+    → private ≡ is_private s.fields.kind → ((p : ℕ) → step ≡ step_for p origin.file origin.from (outer_scope private))
+    → ((rows : List Row) → Indexes rows old → Indexes (rows ++ (record { step = step; name = name }, place) ∷ []) new) → GainsTitle old new origin place (data_title_of s)
+unfolding title_of
+gained old new origin place s form name private step is data' named some hidden step_is more =
+    subst (GainsTitle old new origin place) (sym (of_data s form is data')) (by_name s.fields.name (sym named) (λ e. some (named ∙ e)))
+  where
+    by_name : (n : List ℕ) → n ≡ name → (n ≡ [] → ⊥) → GainsTitle old new origin place (elim n as (λ n. List Definition) [
+      | [] ↦ []
+      | b ∷ bs ↦ record { name = b ∷ bs; scope = outer_scope (is_private s.fields.kind); place = 0; at = s.start; expr = None; size = 0; form = 0x4E } ∷ []
+    ])
+    by_name [] e full = absurd (full refl)
+    by_name (b ∷ bs) e full = λ fs m of ix.
+        let f : Found = record { place = place; member = m; definition = record { name = b ∷ bs; scope = outer_scope (is_private s.fields.kind); place = 0; at = s.start; expr = None; size = 0; form = 0x4E } } in
+        let key : key_as step name ≡ key_of_found f =
+        ap (λ (n : List ℕ). key_as step n) (sym e)
+        ∙ ap (λ (t : Step). key_as t (b ∷ bs)) (step_is place
+        ∙ ap (λ (h : Bool). step_for place origin.file origin.from (outer_scope h)) hidden
+        ∙ ap (λ (n : ℕ). step_for place n origin.from (outer_scope (is_private s.fields.kind))) (sym of.0)
+        ∙ ap (λ (n : ℕ). step_for place m.file n (outer_scope (is_private s.fields.kind))) (sym of.2)) in
+        let rows : place_rows fs ++ (key_as step name, place) ∷ [] ≡ place_rows (fs ++ f ∷ []) =
+        ap (λ (k : Named). place_rows fs ++ (k, place) ∷ []) key ∙ sym (map-append (λ (x : Found). (key_of_found x, x.place)) fs (f ∷ [])) in
+        subst (λ (l : List Row). Indexes l new) rows (more (place_rows fs) ix)

@@ -1,0 +1,57 @@
+-- What is kept of the linked list.
+use Rattle.std.specs.Prelude.{◌≡◌, ℕ, ◌++◌, List, [], ◌∷◌, map}
+use Rattle.std.specs.List.{flat_map}
+use Rattle.std.specs.Borrow.{Bor}
+use Rattle.link_meaning.specs.Member.{Member}
+use Rattle.link_meaning.specs.Defines.{Definition}
+use Rattle.link_meaning.specs.Uses.{usings_of}
+use Rattle.link_meaning.specs.Search.{Found, entries, data_titles, only_place, finds_data}
+use Rattle.link_meaning.specs.LinkedList.{asked}
+use Rattle.link_resolve.specs.declared.names.Outcome.{Outcome}
+use Rattle.link_resolve.specs.declared.names.Names.{Names}
+use Rattle.link_resolve.specs.declared.definitions.Origin.{Origin}
+use Rattle.link_resolve.specs.declared.linked.LinkedMember.{LinkedMember}
+use Rattle.link_resolve.specs.declared.linked.Linked.{Linked}
+use Rattle.link_resolve.specs.Names.{Row, Indexes}
+use Rattle.link_resolve.specs.Definitions.{Seen, AreDefinitions, IsOf, key_of_found, founds_in}
+use Rattle.link_resolve.specs.Uses.{use_of, told_use}
+
+-- names without where they lie
+abbrev pub names_of : List (Bor (List ℕ)) → List (List ℕ)
+names_of names = map (λ name. name.now) names
+
+-- what is kept of a member: where it comes from, and its names of USING
+pub record ToldMember : Type 0 where
+  pub file : ℕ
+  pub number : ℕ
+  pub from : ℕ
+  pub usings : List (List ℕ)
+
+abbrev pub kept_member : LinkedMember → ToldMember
+kept_member m = record { file = m.origin.file; number = m.origin.segment; from = m.origin.from; usings = names_of m.usings.items }
+
+abbrev pub told_member : Member → ToldMember
+told_member m = record { file = m.file; number = m.number; from = m.from; usings = usings_of m.segment }
+
+-- titles, each with its member's place
+abbrev pub place_rows : List Found → List Row
+place_rows fs = map (λ f. (key_of_found f, f.place)) fs
+
+-- this is the list
+pub record Holds (list : List Member) (kept : Linked) : Type 0 where
+  pub members : map kept_member kept.members.items ≡ map told_member list
+  pub definitions : AreDefinitions (entries list) kept.definitions
+  pub titles : Indexes (place_rows (data_titles list)) kept.titles
+  pub uses : map use_of kept.uses.items ≡ map told_use (asked list)
+
+-- what a table of titles gains
+abbrev pub GainsTitle : Names → Names → Origin → ℕ → List Definition → Type 0
+GainsTitle old new origin place ds = (fs : List Found) (m : Member) → IsOf m origin → Indexes (place_rows fs) old → Indexes (place_rows (fs ++ founds_in place m ds)) new
+
+-- what a look-up answers that tells places
+abbrev pub SeesPlace : List Found → Outcome → Type 0
+SeesPlace found answer = Seen (λ f number. number ≡ f.place) found answer
+
+-- the data segments that these names of USING find
+abbrev pub used_places : List Member → Member → List (List ℕ) → List ℕ
+used_places list m names = flat_map (λ name. only_place (finds_data list m name)) names

@@ -1,0 +1,249 @@
+//! What the members of the linked list define.
+
+ghost use Rattle.std.specs.Prelude.{◌≡◌, ◌<◌, ◌^◌, ◌++◌, ◌∷◌, [], List, ℕ, OnOk, filter, slice_get, option_map};
+ghost use Rattle.std.specs.List.{flat_map};
+ghost use Rattle.omf_records.specs.Segments.{IsSound, shown};
+ghost use Rattle.omf_records.specs.View.{view};
+ghost use Rattle.link_meaning.specs.Sizes.{located, body_size};
+ghost use Rattle.link_meaning.specs.Member.{Member};
+ghost use Rattle.link_meaning.specs.Defines.{scope_of, title_of, defined_by, defined_in};
+ghost use Rattle.link_meaning.specs.Search.{Found, step_for};
+ghost use Rattle.link_resolve.specs.Names.{key_of};
+ghost use Rattle.link_resolve.specs.Definitions.{AreDefinitions, Sees, IsOf, is_found, key_of_found, definition_of, told_definition, founds_in};
+
+use crate::names::{Key, Names, Outcome};
+use crate::reading::next_record;
+use crate::segname::title;
+use crate::sizes::size_at;
+use link_meaning::Step;
+use omf_records::{Rec, SegmentView};
+use std::alloc::{AllocError, Global};
+
+/// A definition of a member.
+#[derive(Clone, Copy, Debug, PartialEq, Eq)]
+pub struct Definition<'a> {
+    /// The member's place in the linked list, from 1.
+    pub member: u32,
+    /// How many cells of the member are before the definition's record; 0 for a SEGNAME.
+    pub at: u32,
+    /// The expression of GEQU and EQU, the $00 at its end included.
+    pub expr: Option<&'a [u8]>,
+    /// The length attribute.
+    pub length: u16,
+    /// The type attribute.
+    pub form: u8,
+}
+
+/// Where a member comes from: its file among the inputs and its number there, both from 1, and the file number of the
+/// dictionary's row that brought it in, or 0 in an object file.
+#[derive(Clone, Copy, Debug, PartialEq, Eq)]
+pub struct Origin {
+    pub file: u32,
+    pub segment: u32,
+    pub from: u16,
+}
+
+/// Definitions in list and record order, with a look-up by step and name.
+#[derive(Drop)]
+pub struct Definitions<'a> {
+    names: Names<'a>,
+    items: Vec<Definition<'a>>,
+}
+
+impl<'a> Definitions<'a> {
+    pub fn new(alloc: Global) -> Definitions<'a>
+        ensures { AreDefinitions [] result }
+    {
+        Definitions {
+            names: Names::new(alloc),
+            items: Vec::new(alloc),
+        }
+    }
+
+    /// What a step finds under a name.
+    pub fn look(&self, key: Key) -> Outcome
+        ensures { (fs : List Found) → AreDefinitions fs self.now → Sees fs (filter (is_found (key_of key.entry)) fs) result }
+    {
+        self.names.look(key)
+    }
+
+    /// The definition with this number, from 0.
+    pub fn get(&self, number: usize) -> Option<Definition<'a>>
+        ensures { (fs : List Found) → AreDefinitions fs self.now → option_map definition_of result ≡ option_map told_definition (slice_get fs number) }
+    {
+        match self.items.get(number) {
+            Some(definition) => Some(*definition),
+            None => None,
+        }
+    }
+
+    fn push(&mut self, key: Key<'a>, definition: Definition<'a>) -> Result<(), AllocError>
+        ensures { OnOk result ((fs : List Found) (f : Found) → AreDefinitions fs self.old → key_of key.entry ≡ key_of_found f
+            → definition_of definition.entry ≡ told_definition f → AreDefinitions (fs ++ f ∷ []) self.new) }
+    {
+        let number = self.items.as_slice().len();
+        self.names.add(key, number)?;
+        self.items.push(definition)?;
+        Ok(())
+    }
+
+    /// Adds what a segment defines that is the member at this place of the list.
+    pub fn add(
+        &mut self,
+        segment: &SegmentView<'a>,
+        origin: Origin,
+        place: u32,
+    ) -> Result<(), AllocError>
+        requires sound { IsSound segment.now }
+        requires short { body_size (shown segment.now) < 2 ^ 32 }
+        ensures { OnOk result ((fs : List Found) (m : Member) → IsOf m origin → AreDefinitions fs self.old
+            → AreDefinitions (fs ++ founds_in place m (defined_in (shown segment.now))) self.new) }
+    {
+        self.add_title(segment, origin, place)?;
+        self.add_records(segment, origin, place)
+    }
+
+    fn add_title(
+        &mut self,
+        segment: &SegmentView<'a>,
+        origin: Origin,
+        place: u32,
+    ) -> Result<(), AllocError>
+        requires { IsSound segment.now }
+        ensures { OnOk result ((fs : List Found) (m : Member) → IsOf m origin → AreDefinitions fs self.old
+            → AreDefinitions (fs ++ founds_in place m (title_of (shown segment.now))) self.new) }
+    {
+        let name = title(segment);
+        if name.is_empty() {
+            return Ok(());
+        }
+        let step = outer_step(segment.header.kind.is_private(), origin);
+        let definition = Definition {
+            member: place,
+            at: 0,
+            expr: None,
+            length: 0,
+            form: 0x4E,
+        };
+        self.push(Key { step, name }, definition)
+    }
+
+    fn add_records(
+        &mut self,
+        segment: &SegmentView<'a>,
+        origin: Origin,
+        place: u32,
+    ) -> Result<(), AllocError>
+        requires sound { IsSound segment.now }
+        requires short { body_size (shown segment.now) < 2 ^ 32 }
+        ensures { OnOk result ((fs : List Found) (m : Member) → IsOf m origin → AreDefinitions fs self.old
+            → AreDefinitions (fs ++ founds_in place m (flat_map (λ r. defined_by r.at r.location r.content) (located (shown segment.now)))) self.new) }
+    {
+        let mut records = segment.records();
+        let mut location = 0;
+        'walk: loop {
+            match next_record(&mut records) {
+                None => return Ok(()),
+                Some((_, rec)) => {
+                    self.add_record(&rec, location, origin, place)?;
+                    location = (u64::from(location) + size_at(&rec, location)) as u32;
+                }
+            }
+        }
+    }
+
+    fn add_record(
+        &mut self,
+        rec: &Rec<'a>,
+        location: u32,
+        origin: Origin,
+        place: u32,
+    ) -> Result<(), AllocError>
+        ensures { OnOk result ((fs : List Found) (m : Member) (at : ℕ) → IsOf m origin → AreDefinitions fs self.old
+            → AreDefinitions (fs ++ founds_in place m (defined_by at location (view rec.now))) self.new) }
+    {
+        match rec {
+            Rec::Label {
+                global,
+                name,
+                length,
+                form,
+                private,
+            } => self.push(
+                Key {
+                    step: step_for(*global, *private, origin, place),
+                    name,
+                },
+                Definition {
+                    member: place,
+                    at: location,
+                    expr: None,
+                    length: *length,
+                    form: *form,
+                },
+            ),
+            Rec::Equate {
+                global,
+                name,
+                length,
+                form,
+                private,
+                expr,
+            } => self.push(
+                Key {
+                    step: step_for(*global, *private, origin, place),
+                    name,
+                },
+                Definition {
+                    member: place,
+                    at: location,
+                    expr: Some(expr),
+                    length: *length,
+                    form: *form,
+                },
+            ),
+            Rec::End
+            | Rec::Const { .. }
+            | Rec::LongConst { .. }
+            | Rec::Align { .. }
+            | Rec::Org { .. }
+            | Rec::Space { .. }
+            | Rec::Reloc { .. }
+            | Rec::InterSeg { .. }
+            | Rec::ShortReloc { .. }
+            | Rec::ShortInterSeg { .. }
+            | Rec::Super { .. }
+            | Rec::Using { .. }
+            | Rec::Strong { .. }
+            | Rec::Formula { .. }
+            | Rec::Entry { .. } => Ok(()),
+        }
+    }
+}
+
+/// The step that sees what others than the segment itself may see.
+pub fn outer_step(private: bool, origin: Origin) -> Step
+    ensures { (place : ℕ) → result ≡ step_for place origin.file origin.from (outer_scope private) }
+{
+    if private {
+        Step::OfUnit {
+            file: origin.file,
+            from: origin.from,
+        }
+    } else {
+        Step::Everyone
+    }
+}
+
+ghost use Rattle.link_meaning.specs.Defines.{outer_scope};
+
+/// The step that sees a label or an equate.
+fn step_for(global: bool, private: u8, origin: Origin, place: u32) -> Step
+    ensures { result ≡ step_for place origin.file origin.from (scope_of global private) }
+{
+    if global {
+        outer_step(private != 0, origin)
+    } else {
+        Step::Within(place as usize)
+    }
+}

@@ -1,0 +1,275 @@
+//! The linked list: its members, what they define and use, and what their names find.
+
+ghost use Rattle.std.specs.Prelude.{◌≡◌, ◌+◌, ◌-◌, ◌<◌, ◌≤◌, ◌^◌, ◌++◌, ◌∷◌, [], List, ℕ, Some, length, drop, map, slice_get, filter, OnOk, IfOk, IsNone, MatchOption, ◌⊎◌, option_map};
+ghost use Rattle.std.specs.List.{flat_map};
+ghost use Rattle.omf_records.specs.Segments.{IsSound, shown};
+ghost use Rattle.link_meaning.specs.Sizes.{body_size};
+ghost use Rattle.link_meaning.specs.Member.{Member};
+ghost use Rattle.link_meaning.specs.Defines.{data_title_of};
+ghost use Rattle.link_meaning.specs.Uses.{data_name};
+ghost use Rattle.link_meaning.specs.Search.{Found, entries, data_titles, decided, outer_steps, named, finds, finds_data};
+ghost use Rattle.link_meaning.specs.First.{HasNone};
+ghost use Rattle.link_meaning.specs.LinkedList.{asked, found_for};
+ghost use Rattle.link_resolve.specs.Names.{Row, Indexes, key_of};
+ghost use Rattle.link_resolve.specs.Resolving.{first_found, IsShape, IsHeld, FailsToResolve, IsFirstUse, cause_of};
+ghost use Rattle.link_resolve.specs.Definitions.{AreDefinitions, IsOf, Sees, founds_in, definition_of, told_definition};
+ghost use Rattle.link_resolve.specs.Uses.{use_of};
+ghost use Rattle.link_resolve.specs.Linked.{Holds, GainsTitle, SeesPlace, names_of, used_places};
+ghost use Rattle.link_meaning.specs.declared.search.Step.TheVariants.{Within};
+
+use crate::definitions::{Definition, Definitions, Origin, outer_step};
+use crate::names::{Key, Names, Outcome};
+use crate::segname::title;
+use crate::uses::{Use, add_uses};
+use link_meaning::{LinkCause, Step, Want};
+use omf_records::SegmentView;
+use std::alloc::{AllocError, Global};
+
+/// A member of the linked list: where it comes from, and the names of its USING records.
+#[derive(Drop)]
+pub struct LinkedMember<'a> {
+    origin: Origin,
+    usings: Vec<&'a [u8]>,
+}
+
+/// The members of the linked list in order, with what they define and use.
+#[derive(Drop)]
+pub struct Linked<'a> {
+    members: Vec<LinkedMember<'a>>,
+    definitions: Definitions<'a>,
+    titles: Names<'a>,
+    uses: Vec<Use<'a>>,
+}
+
+/// Adds a data segment's SEGNAME, for which USING asks.
+fn add_data_title<'a>(
+    titles: &mut Names<'a>,
+    segment: &SegmentView<'a>,
+    origin: Origin,
+    place: u32,
+) -> Result<(), AllocError>
+    requires { IsSound segment.now }
+    ensures { OnOk result (GainsTitle titles.old titles.new origin place (data_title_of (shown segment.now))) }
+{
+    if segment.header.kind.form() != 0x01 {
+        return Ok(());
+    }
+    let name = title(segment);
+    if name.is_empty() {
+        return Ok(());
+    }
+    let step = outer_step(segment.header.kind.is_private(), origin);
+    titles.add(Key { step, name }, place as usize)
+}
+
+/// The names of USING among uses.
+fn usings_in<'a>(alloc: Global, uses: &[Use<'a>]) -> Result<Vec<&'a [u8]>, AllocError>
+    ensures { IfOk result (λ names. names_of names.items ≡ flat_map (λ u. data_name (use_of u).1) uses.now) }
+{
+    let mut names = Vec::new(alloc);
+    for found in uses {
+        match found.want {
+            Want::Data => names.push(found.name)?,
+            Want::One | Want::Any => {}
+        }
+    }
+    Ok(names)
+}
+
+/// The uses from a place on.
+fn uses_from<'s, 'a>(uses: &'s Vec<Use<'a>>, from: usize) -> &'s [Use<'a>]
+    requires { from ≤ length uses.now.items }
+    ensures { result.now ≡ drop from uses.now.items }
+{
+    &uses.as_slice()[from..]
+}
+
+impl<'a> Linked<'a> {
+    /// An empty list.
+    pub fn new(alloc: Global) -> Linked<'a>
+        ensures { Holds [] result }
+    {
+        Linked {
+            members: Vec::new(alloc),
+            definitions: Definitions::new(alloc),
+            titles: Names::new(alloc),
+            uses: Vec::new(alloc),
+        }
+    }
+
+    /// One more member, behind the others.
+    pub fn add(
+        &mut self,
+        alloc: Global,
+        segment: &SegmentView<'a>,
+        origin: Origin,
+    ) -> Result<(), AllocError>
+        requires sound { IsSound segment.now }
+        requires short { body_size (shown segment.now) < 2 ^ 32 }
+        requires few { length self.old.members.items + 1 < 2 ^ 32 }
+        ensures { OnOk result ((list : List Member) (m : Member) → IsOf m origin → m.segment ≡ shown segment.now
+            → Holds list self.old → Holds (list ++ m ∷ []) self.new) }
+    {
+        let place = self.members.as_slice().len() as u32 + 1;
+        let before = self.uses.as_slice().len();
+        self.definitions.add(segment, origin, place)?;
+        add_data_title(&mut self.titles, segment, origin, place)?;
+        add_uses(&mut self.uses, segment, place)?;
+        let usings = usings_in(alloc, uses_from(&self.uses, before))?;
+        self.members.push(LinkedMember { origin, usings })?;
+        Ok(())
+    }
+
+    /// What a name finds among what a unit and all have for themselves.
+    fn find_outer(&self, origin: Origin, name: &[u8]) -> Outcome
+        ensures { (fs : List Found) (m : Member) → AreDefinitions fs self.now.definitions → IsOf m origin
+            → Sees fs (decided (outer_steps m) (named name.now fs)) result }
+    {
+        let unit = Step::OfUnit {
+            file: origin.file,
+            from: origin.from,
+        };
+        match self.definitions.look(Key { step: unit, name }) {
+            Outcome::Nothing => self.definitions.look(Key {
+                step: Step::Everyone,
+                name,
+            }),
+            Outcome::One(first) => Outcome::One(first),
+            Outcome::Several(first) => Outcome::Several(first),
+        }
+    }
+
+    /// The data segments that a USING name finds, by their places in the list.
+    pub fn find_data(&self, origin: Origin, name: &[u8]) -> Outcome
+        ensures { (list : List Member) (m : Member) → Holds list self.now → IsOf m origin → SeesPlace (finds_data list m name.now) result }
+    {
+        let unit = Step::OfUnit {
+            file: origin.file,
+            from: origin.from,
+        };
+        match self.titles.look(Key { step: unit, name }) {
+            Outcome::Nothing => self.titles.look(Key {
+                step: Step::Everyone,
+                name,
+            }),
+            Outcome::One(first) => Outcome::One(first),
+            Outcome::Several(first) => Outcome::Several(first),
+        }
+    }
+
+    /// What a name finds in the first data segment that has it, of those that these names of USING find.
+    fn find_used(&self, origin: Origin, usings: &[&[u8]], name: &[u8]) -> Outcome
+        ensures { (list : List Member) (m : Member) → Holds list self.now → IsOf m origin
+            → Sees (entries list) (decided (map Within (used_places list m (names_of usings.now))) (named name.now (entries list))) result }
+    {
+        for using in usings {
+            match self.find_data(origin, using) {
+                Outcome::One(data) => match self.definitions.look(Key {
+                    step: Step::Within(data),
+                    name,
+                }) {
+                    Outcome::Nothing => {}
+                    Outcome::One(first) => return Outcome::One(first),
+                    Outcome::Several(first) => return Outcome::Several(first),
+                },
+                Outcome::Nothing => {}
+                Outcome::Several(_) => {}
+            }
+        }
+        Outcome::Nothing
+    }
+
+    /// What a name finds that is used in the member at this place, from 1.
+    pub fn find(&self, place: u32, name: &[u8]) -> Outcome
+        requires positive { 0 < place }
+        requires within { place ≤ length self.now.members.items }
+        ensures { (list : List Member) (m : Member) → Holds list self.now → slice_get list (place - 1) ≡ Some m
+            → Sees (entries list) (finds list place m name.now) result }
+    {
+        let member = &self.members[place as usize - 1];
+        let own = Key {
+            step: Step::Within(place as usize),
+            name,
+        };
+        match self.definitions.look(own) {
+            Outcome::Nothing => {}
+            Outcome::One(first) => return Outcome::One(first),
+            Outcome::Several(first) => return Outcome::Several(first),
+        }
+        match self.find_used(member.origin, member.usings.as_slice(), name) {
+            Outcome::Nothing => self.find_outer(member.origin, name),
+            Outcome::One(first) => Outcome::One(first),
+            Outcome::Several(first) => Outcome::Several(first),
+        }
+    }
+
+    /// What a use finds: of data segments the places, of definitions the numbers.
+    fn found_for(&self, used: &Use) -> Outcome
+        requires positive { 0 < used.now.place }
+        requires within { used.now.place ≤ length self.now.members.items }
+        ensures { (list : List Member) (m : Member) → Holds list self.now → slice_get list (used.now.place - 1) ≡ Some m
+            → IsShape (found_for list used.now.place m (use_of used.now).1) result }
+    {
+        match used.want {
+            Want::Data => {
+                let member = &self.members[used.place as usize - 1];
+                self.find_data(member.origin, used.name)
+            }
+            Want::One => self.find(used.place, used.name),
+            Want::Any => self.find(used.place, used.name),
+        }
+    }
+
+    /// The first definition that a name finds in the member at this place, from 1, used there or not. None where the place is
+    /// no member's, or the name finds none.
+    pub fn symbol(&self, place: u32, name: &[u8]) -> Option<Definition<'a>>
+        ensures found { (list : List Member) (m : Member) → Holds list self.now → 0 < place → slice_get list (place - 1) ≡ Some m
+            → option_map definition_of result ≡ option_map told_definition (first_found (finds list place m name.now)) }
+        ensures outside { (list : List Member) → Holds list self.now → (place ≡ 0) ⊎ (length list < place) → IsNone result }
+    {
+        if place == 0 {
+            return None;
+        }
+        if place as usize > self.members.as_slice().len() {
+            return None;
+        }
+        match self.find(place, name) {
+            Outcome::Nothing => None,
+            Outcome::One(number) => self.definitions.get(number),
+            Outcome::Several(number) => self.definitions.get(number),
+        }
+    }
+
+    /// The first use, in list and record order, that doesn't resolve: why, and its number, from 0.
+    pub fn unresolved(&self) -> Option<(LinkCause, usize)>
+        requires { IsHeld self.now }
+        ensures { (list : List Member) → Holds list self.now → MatchOption result
+            (HasNone (FailsToResolve list) (asked list)) (λ found. IsFirstUse list found.0 found.1) }
+    {
+        let mut number = 0;
+        'uses: while number < self.uses.as_slice().len() {
+            let used = &self.uses[number];
+            match use_cause(used.want, self.found_for(used)) {
+                Some(cause) => return Some((cause, number)),
+                None => {}
+            }
+            number += 1;
+        }
+        None
+    }
+}
+
+/// How a use fails that finds this: a weak name may have no definition, every other use has one.
+fn use_cause(want: Want, found: Outcome) -> Option<LinkCause>
+    ensures { result ≡ cause_of want found }
+{
+    match found {
+        Outcome::Nothing => match want {
+            Want::Data => Some(LinkCause::Unresolved),
+            Want::One => Some(LinkCause::Unresolved),
+            Want::Any => None,
+        },
+        Outcome::One(_) => None,
+        Outcome::Several(_) => Some(LinkCause::Duplicate),
+    }
+}
