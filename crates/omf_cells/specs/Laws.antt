@@ -6,7 +6,7 @@ use Rattle.load_meaning.specs.declared.load.LoadFault.{LoadFault}
 use Rattle.omf_format.specs.Header.{version_of, header_fault}
 use Rattle.omf_format.specs.File.{Segment, segment_at, told_header, told_record}
 use Rattle.load_meaning.specs.Cells.{Byte, segment_bytes, patches_of, cells}
-use Rattle.load_meaning.specs.Loadable.{as_load, answer_fault, HasReadFault, IsLoadable, IsFirstLoadFault}
+use Rattle.load_meaning.specs.Loadable.{as_load, answer_fault, HasReadFault, IsLoadable, IsFirstLoadFault, IsSoundSegment}
 
 -- a file is one list of load segments at most
 abbrev pub OneLoadFile : Type 0
@@ -37,3 +37,8 @@ HasLengthCells = (file : List ℕ) (segments : List Segment) (number : ℕ) (s :
 -- the cells of a segment without patches are the bytes of its records and then zeros
 abbrev pub CellsAreBytes : Type 0
 CellsAreBytes = (s : Segment) → patches_of s ≡ [] → cells s ≡ map Byte (segment_bytes s)
+
+-- a segment of a load file has its number, patches that may stand there, and a table's layout where it is one
+abbrev pub SegmentsAreSound : Type 0
+SegmentsAreSound = (file : List ℕ) (segments : List Segment) → IsLoadable file segments → (number : ℕ) (s : Segment) → segment_at segments number ≡ Some s
+    → IsSoundSegment segments number s

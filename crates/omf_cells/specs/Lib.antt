@@ -1,4 +1,6 @@
 pub mod View
 pub mod Walk
+pub mod Places
+pub mod Content
 pub mod Load
 pub mod Laws

@@ -1,5 +1,6 @@
 -- What a load file is seen as, and why a file isn't one.
-use Rattle.std.specs.Prelude.{◌≡◌, ◌≢◌, ◌⊎◌, ◌<◌, ◌+◌, ◌^◌, ℕ, List, [], length, map, All, Some, None, IsSomeAnd}
+use Rattle.std.specs.Prelude.{◌≡◌, ◌≢◌, ◌⊎◌, ◌<◌, ◌+◌, ◌^◌, ℕ, List, [], length, map, All, Option, Some, None, IsSomeAnd, option_and_then}
+use Rattle.std.specs.Option.{option_map_or}
 use Rattle.omf_format.specs.declared.fault.HeaderFault.{HeaderFault}
 use Rattle.omf_format.specs.declared.fault.HeaderFault.TheVariants as header
 use Rattle.load_meaning.specs.declared.load.LoadCause.{LoadCause}
@@ -8,10 +9,13 @@ use Rattle.load_meaning.specs.declared.load.LoadFault.{LoadFault}
 use Rattle.omf_format.specs.Header.{Fields}
 use Rattle.omf_format.specs.File.{Segment, IsHeader, IsSegment, segment_at, told_header}
 use Rattle.load_meaning.specs.Cells.{Byte, patches_of, cells}
-use Rattle.load_meaning.specs.Loadable.{segment_refusal, as_load, in_segment, HasReadFault, IsLoadSegment, IsLoadable, IsFirstLoadFault}
-use Rattle.load_meaning.specs.CellLaws.{IsShaped}
+use Rattle.load_meaning.specs.Loadable.{segment_refusal, as_load, in_segment, HasReadFault, IsLoadSegment, IsSoundSegment, IsLoadable, IsFirstLoadFault}
+use Rattle.load_meaning.specs.LoadTable.{table_of, targets_of}
+use Rattle.load_meaning.specs.declared.table.Target.{Target}
 use Rattle.omf_records.specs.declared.segment.SegmentView.{SegmentView}
 use Rattle.omf_records.specs.Segments.{shown}
+use Rattle.omf_cells.specs.declared.targets.Content.{Content}
+use Rattle.omf_cells.specs.Content.{IsContent, AreContents}
 
 -- a fault of want of memory has no place, and every other one is this
 abbrev pub UnlessMemory : LoadCause → LoadFault → Type 0 → Type 0
@@ -35,6 +39,10 @@ IsRefused fault file = UnlessMemory fault.cause fault (IsFirstLoadFault file fau
 -- the fault is the one that phase 1 finds in the segment with this number that starts there, unless memory ran out
 abbrev pub IsReadRefused : LoadFault → ℕ → ℕ → List ℕ → Type 0
 IsReadRefused fault number start file = UnlessMemory fault.cause fault ((fault.segment ≡ number) × HasReadFault start file (fault.cause, fault.at))
+
+-- the fault is this first one of the phases after phase 1, unless memory ran out
+abbrev pub IsLaterRefused : LoadFault → Option LoadFault → Type 0
+IsLaterRefused fault first = UnlessMemory fault.cause fault (first ≡ Some fault)
 
 -- a fault of a header of a version as one of the load file, in the segment with this number
 abbrev pub IsHeaderFault : HeaderFault → ℕ → ℕ → ℕ → LoadFault → Type 0
@@ -61,12 +69,13 @@ pub record AreShown (views : List SegmentView) : Type 0 where
   pub few : length views + 1 < 2 ^ 32
   pub each : All (IsLoadView file) views
 
--- the views of a load file show its segments
-pub record AreLoadViews (views : List SegmentView) : Type 0 where
+-- the views of a load file show its segments, and what is kept of them is theirs
+pub record AreLoadViews (views : List SegmentView) (contents : List Content) : Type 0 where
   pub file : List ℕ
   pub short : length file < 2 ^ 32
   pub each : All (IsLoadView file) views
   pub loadable : IsLoadable file (map shown views)
+  pub contents' : AreContents views contents
 
 -- ---- what the calls of a load file tell
 
@@ -90,9 +99,18 @@ HasPatches segments number = IsSomeAnd (segment_at segments number) (λ s. patch
 abbrev pub HasBytes : List Segment → ℕ → List ℕ → Type 0
 HasBytes segments number bytes = IsSomeAnd (segment_at segments number) (λ s. cells s ≡ map Byte bytes)
 
+-- the targets of the file's table, in the order of its entries; none where there is no table
+abbrev pub table_targets : List Segment → List Target
+table_targets segments = option_map_or targets_of (option_and_then (segment_at segments) (table_of segments)) []
+
 -- the view shows the segment with this number, which is of a load file
 pub record Shows (segments : List Segment) (number : ℕ) (v : SegmentView) : Type 0 where
   pub here : segment_at segments number ≡ Some (shown v)
   pub short : length v.file.now < 2 ^ 32
   pub view : IsLoadView v.file.now v
-  pub shape : IsShaped number (shown v)
+  pub sound : IsSoundSegment segments number (shown v)
+
+-- what is kept of the segment with this number beside its header
+pub record ShowsContent (segments : List Segment) (number : ℕ) (v : SegmentView) (content : Content) : Type 0 where
+  pub shows : Shows segments number v
+  pub content' : IsContent v content

@@ -5,6 +5,8 @@ use Rattle.omf_format.specs.Field.{Layout}
 use Rattle.omf_format.specs.Super.{locations_left}
 use Rattle.omf_format.specs.Record.{Record, End, Const, LongConst, Align, Org, Space, Reloc, InterSeg, ShortReloc, ShortInterSeg, Super, Using, Strong, Label, Equate, Formula, Entry, IsRecord, content_of}
 use Rattle.omf_format.specs.Reading.{Reader, next_answer, HandsOut, records_of, IsBody}
+use Rattle.omf_format.specs.File.{Segment}
+use Rattle.load_meaning.specs.Cells.{Patch, patches_in}
 use Rattle.load_meaning.specs.Loadable.{Fault, record_refusal, answer_fault}
 use Rattle.omf_records.specs.View.{first}
 
@@ -48,3 +50,7 @@ gives_patch (Label global name size form private) = false
 gives_patch (Equate global name size form private expr) = false
 gives_patch (Formula code count n expr) = false
 gives_patch (Entry segment offset name) = false
+
+-- the patches that records of a segment give, in order
+abbrev pub patches_from : Segment → List (ℕ × Record) → List Patch
+patches_from s founds = flat_map (λ found. patches_in s found.1) founds

@@ -1,10 +1,10 @@
 //! The bytes that the records of a body put into their segment.
 
-ghost use Rattle.std.specs.Prelude.{◌≡◌, ◌-◌, ◌≤◌, ◌++◌, nat_lt, length, take, replicate, slice_get};
+ghost use Rattle.std.specs.Prelude.{◌≡◌, ◌-◌, ◌≤◌, ◌++◌, nat_lt, length, take, replicate};
 ghost use Rattle.omf_format.specs.Reading.{IsBody};
 ghost use Rattle.omf_cells.specs.Walk.{content};
 
-use crate::content::{content_byte, content_size, write_content};
+use crate::content::{content_size, write_content};
 use omf_records::Records;
 
 /// The records put more bytes than this into the segment.
@@ -22,28 +22,6 @@ pub fn is_longer(records: Records, most: u32) -> bool
                 if size > u64::from(most) {
                     return true;
                 }
-            }
-            Err(_) => unreachable!(),
-        }
-    }
-}
-
-/// The byte at a place of those that the records put into the segment.
-pub fn byte_at(records: Records, at: u32) -> Option<u8>
-    requires { IsBody records }
-    ensures { result ≡ slice_get (content records.entry) at }
-{
-    let mut records = records;
-    let mut left = u64::from(at);
-    'records: loop {
-        match records.next() {
-            Ok(None) => return None,
-            Ok(Some(found)) => {
-                let size = content_size(&found.1);
-                if left < size {
-                    return Some(content_byte(&found.1, left as usize));
-                }
-                left -= size;
             }
             Err(_) => unreachable!(),
         }

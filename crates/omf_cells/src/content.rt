@@ -1,6 +1,6 @@
 //! The bytes that one record puts into its segment.
 
-ghost use Rattle.std.specs.Prelude.{◌≡◌, ◌+◌, ◌<◌, ◌≤◌, ◌^◌, ◌++◌, length, take, drop, slice_get, Some};
+ghost use Rattle.std.specs.Prelude.{◌≡◌, ◌+◌, ◌<◌, ◌≤◌, ◌^◌, ◌++◌, length, take, drop};
 ghost use Rattle.omf_format.specs.Record.{content_of};
 ghost use Rattle.omf_records.specs.View.{view};
 
@@ -15,30 +15,6 @@ pub fn content_size(rec: &Rec) -> u64
         Rec::End => 0,
         Rec::Const { bytes } | Rec::LongConst { bytes } => bytes.len() as u64,
         Rec::Space { n } => u64::from(*n),
-        Rec::Align { .. }
-        | Rec::Org { .. }
-        | Rec::Reloc { .. }
-        | Rec::InterSeg { .. }
-        | Rec::ShortReloc { .. }
-        | Rec::ShortInterSeg { .. }
-        | Rec::Super { .. }
-        | Rec::Using { .. }
-        | Rec::Strong { .. }
-        | Rec::Label { .. }
-        | Rec::Equate { .. }
-        | Rec::Formula { .. }
-        | Rec::Entry { .. } => 0,
-    }
-}
-
-/// One of them.
-pub fn content_byte(rec: &Rec, at: usize) -> u8
-    requires { at < length (content_of (view rec.now)) }
-    ensures { slice_get (content_of (view rec.now)) at ≡ Some result }
-{
-    match rec {
-        Rec::Const { bytes } | Rec::LongConst { bytes } => bytes[at],
-        Rec::End | Rec::Space { .. } => 0,
         Rec::Align { .. }
         | Rec::Org { .. }
         | Rec::Reloc { .. }

@@ -55,7 +55,7 @@ fn refusal(header: &Header) -> Option<LoadCause>
         return Some(LoadCause::Unsupported);
     }
     match header.kind.form() {
-        0x02 | 0x04 => Some(LoadCause::Unsupported),
+        0x04 => Some(LoadCause::Unsupported),
         0x08 => Some(LoadCause::NotLoadFile),
         _ => None,
     }

@@ -5,13 +5,18 @@
 mod body;
 mod cell;
 mod content;
+mod data;
 mod front;
 mod laws;
 mod load;
 mod patches;
+mod pieces;
+mod places;
 mod reading;
 mod records;
 mod shape;
+mod spots;
+mod table;
 mod targets;
 #[cfg(test)]
 mod tests;
@@ -19,8 +24,10 @@ mod told;
 
 pub use cell::Cell;
 pub use laws::{
-    faults_keep_their_places, load_files_are_read_in_one_way, load_segments_have_length_cells,
+    faults_keep_their_places, load_files_are_read_in_one_way, load_segments_are_sound,
+    load_segments_have_length_cells,
 };
-pub use load::LoadFile;
-pub use load_meaning::{LoadCause, LoadFault};
+pub use load::{LoadFile, patch_into};
+pub use load_meaning::{LoadCause, LoadFault, Target};
+pub use places::{Places, PlacesFault};
 pub use reading::read_load;

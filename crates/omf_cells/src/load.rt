@@ -1,23 +1,32 @@
 //! A load file, as it was read.
 
-ghost use Rattle.std.specs.Prelude.{◌≡◌, ◌↔◌, length, IsTrue, MatchOption, option_map};
+ghost use Rattle.std.specs.Prelude.{◌≡◌, ◌↔◌, length, slice_get, IsTrue, MatchOption, option_map};
 ghost use Rattle.load_meaning.specs.Cells.{cell_at};
+ghost use Rattle.load_meaning.specs.LoadTable.{table_of};
 ghost use Rattle.omf_header.specs.View.{fields};
 ghost use Rattle.omf_cells.specs.View.{view};
-ghost use Rattle.omf_cells.specs.Load.{IsOutside, HasFields, HasLength, HasPatches, HasBytes, Shows};
+ghost use Rattle.omf_cells.specs.Load.{IsOutside, HasFields, HasLength, HasPatches, HasBytes, table_targets, Shows, ShowsContent};
+ghost use Rattle.omf_cells.specs.Places.{Stands};
 
-use crate::body::{byte_at, write_body};
+use crate::body::write_body;
 use crate::cell::Cell;
 use crate::patches::gives_patches;
+use crate::pieces::byte_at;
+use crate::places::Places;
+use crate::spots::{spot_at, write_spots};
+use crate::table::{entry_count, table_of, target_from};
+use crate::targets::Content;
+use load_meaning::Target;
 use omf_header::Header;
 use omf_records::SegmentView;
 use std::marker::Model;
 
-/// A load file. Contracts see the list of its segments. It holds no more than the file's headers, and a call goes over a
-/// segment's records again.
+/// A load file. Contracts see the list of its segments. Beside the headers it keeps where the data of each segment stands
+/// in the file, and the bytes that patches give.
 #[derive(Debug, Drop)]
 pub struct LoadFile<'a> {
     pub(crate) views: Vec<SegmentView<'a>>,
+    pub(crate) contents: Vec<Content<'a>>,
 }
 
 impl<'a> Model for LoadFile<'a> {
@@ -30,7 +39,7 @@ impl<'a> Model for LoadFile<'a> {
 
     ghost view = { λ load. map shown load.views.items };
 
-    ghost invariant = { λ load. AreLoadViews load.views.items };
+    ghost invariant = { λ load. AreLoadViews load.views.items load.contents.items };
 }
 
 impl<'a> LoadFile<'a> {
@@ -54,6 +63,21 @@ impl<'a> LoadFile<'a> {
         }
     }
 
+    /// The segment with this number, from 1, and what is kept of it beside its header.
+    fn content(&self, number: u32) -> Option<(&SegmentView<'a>, &Content<'a>)>
+        ensures { MatchOption result (IsOutside self.now number) (λ found. ShowsContent self.now number found.0.now found.1.now) }
+    {
+        if number == 0 {
+            return None;
+        }
+        let place = number as usize - 1;
+        if place < self.views.len() {
+            Some((&self.views[place], &self.contents[place]))
+        } else {
+            None
+        }
+    }
+
     /// The header of the segment with this number, from 1.
     pub fn header(&self, segment: u32) -> Option<&Header>
         ensures { MatchOption result (IsOutside self.now segment) (λ header. HasFields self.now segment (fields header.now)) }
@@ -64,21 +88,64 @@ impl<'a> LoadFile<'a> {
         }
     }
 
-    /// The cell at an offset, from 0, of the segment with this number, from 1. No memory is taken.
+    /// The cell at an offset, from 0, of the segment with this number, from 1. It is searched for, and no memory is taken.
     pub fn cell(&self, segment: u32, at: u32) -> Option<Cell>
         ensures { option_map view result ≡ cell_at self.now segment at }
     {
-        let view = match self.segment(segment) {
-            Some(view) => view,
+        let (view, content) = match self.content(segment) {
+            Some(found) => found,
             None => return None,
         };
         if at >= view.header.length {
             return None;
         }
-        match byte_at(view.records(), at) {
-            Some(byte) => Some(Cell::Byte(byte)),
-            None => Some(Cell::Byte(0)),
+        match spot_at(&content.spots, at) {
+            Some(spot) => Some(Cell::Part {
+                file: 1,
+                segment: spot.segment,
+                offset: spot.offset,
+                shift: spot.shift,
+                index: spot.index,
+            }),
+            None => Some(Cell::Byte(byte_at(&content.pieces, at))),
         }
+    }
+
+    /// The number of the file's jump table, if it has one.
+    pub fn table(&self) -> Option<u32>
+        ensures { result ≡ table_of self.now }
+    {
+        table_of(&self.views)
+    }
+
+    /// How many entries the file's jump table has; 0 where there is none.
+    pub fn target_count(&self) -> u32
+        ensures { result ≡ length (table_targets self.now) }
+    {
+        let Some(number) = self.table() else {
+            return 0;
+        };
+        match self.segment(number) {
+            Some(view) => entry_count(view.header.length),
+            None => 0,
+        }
+    }
+
+    /// Where the entry at a place of the file's jump table, from 0, leads.
+    pub fn target(&self, place: u32) -> Option<Target>
+        ensures { result ≡ slice_get (table_targets self.now) place }
+    {
+        let Some(number) = self.table() else {
+            return None;
+        };
+        let (view, content) = match self.content(number) {
+            Some(found) => found,
+            None => return None,
+        };
+        if place >= entry_count(view.header.length) {
+            return None;
+        }
+        Some(target_from(view, &content.pieces, place))
     }
 
     /// Whether there is a segment with this number, from 1, that has patches. No memory is taken.
@@ -102,4 +169,19 @@ impl<'a> LoadFile<'a> {
             None => unreachable!(),
         }
     }
+}
+
+/// Writes what stands in memory for the segment with this number, from 1, where the file's segments lie at these places: its
+/// data, and over them the bytes of each patch, in file order. A target without a place counts as one at address 0. The
+/// entries of a jump table stand as in the file. No memory is taken.
+pub fn patch_into(load: &LoadFile, segment: u32, places: &Places, out: &mut [u8])
+    requires { HasLength load.now segment (length out.old) }
+    ensures { Stands load.now segment places.now out.new }
+{
+    let (view, content) = match load.content(segment) {
+        Some(found) => found,
+        None => unreachable!(),
+    };
+    write_body(view.records(), out);
+    write_spots(&content.spots, places, out);
 }

@@ -1,15 +1,17 @@
 //! Reading a load file: each segment in order, header, name and type before its records, and then the segments together.
 
-ghost use Rattle.std.specs.Prelude.{◌≡◌, ◌<◌, ◌^◌, length, map, OnOk, IfOk, IfErr, IfSome};
+ghost use Rattle.std.specs.Prelude.{◌≡◌, ◌<◌, ◌^◌, length, map, IfOk, IfErr, None};
 ghost use Rattle.load_meaning.specs.Loadable.{IsLoadable, later_fault};
 ghost use Rattle.omf_records.specs.Segments.{shown};
-ghost use Rattle.omf_cells.specs.Load.{IsLoadView, AreShown, IsReadRefused, IsRefused};
+ghost use Rattle.omf_cells.specs.Load.{IsLoadView, AreShown, IsReadRefused, IsLaterRefused, IsRefused};
+ghost use Rattle.omf_cells.specs.Content.{AreContents};
 
 use crate::front::front_at;
 use crate::load::LoadFile;
 use crate::records::check_records;
 use crate::shape::check_shapes;
-use crate::targets::check_targets;
+use crate::table::check_tables;
+use crate::targets::{Content, contents_of};
 use load_meaning::{LoadCause, LoadFault};
 use omf_records::SegmentView;
 use std::alloc::Global;
@@ -42,16 +44,27 @@ fn segment_from(
     }
 }
 
-/// The first fault of the phases after phase 1, each of which goes over all segments.
+/// What is kept of each segment, or the first fault of the phases after phase 1, each of which goes over all segments.
 #[tactic(auto, unfolding(load_meaning::specs::Loadable::later_fault))]
-fn check_later(views: &Vec<SegmentView>) -> Option<LoadFault>
+fn check_later<'a>(
+    alloc: Global,
+    views: &Vec<SegmentView<'a>>,
+) -> Result<Vec<Content<'a>>, LoadFault>
     requires { AreShown views.now.items }
-    ensures value { result ≡ later_fault (map shown views.now.items) }
-    ensures named { IfSome result (λ fault. fault.cause ≡ LoadCause.Memory → ⊥) }
+    ensures ok { IfOk result (λ contents. (later_fault (map shown views.now.items) ≡ None) × AreContents views.now.items contents.items) }
+    ensures refused { IfErr result (λ fault. IsLaterRefused fault (later_fault (map shown views.now.items))) }
 {
     match check_shapes(views) {
-        Some(fault) => Some(fault),
-        None => check_targets(views),
+        Some(fault) => return Err(fault),
+        None => {}
+    }
+    let contents = match contents_of(alloc, views) {
+        Ok(contents) => contents,
+        Err(fault) => return Err(fault),
+    };
+    match check_tables(views, &contents) {
+        Some(fault) => Err(fault),
+        None => Ok(contents),
     }
 }
 
@@ -80,8 +93,8 @@ pub fn read_load<'a>(alloc: Global, file: &'a [u8]) -> Result<LoadFile<'a>, Load
         number += 1;
         views.push(view)?;
     }
-    match check_later(&views) {
-        Some(fault) => Err(fault),
-        None => Ok(LoadFile { views }),
+    match check_later(alloc, &views) {
+        Ok(contents) => Ok(LoadFile { views, contents }),
+        Err(fault) => Err(fault),
     }
 }

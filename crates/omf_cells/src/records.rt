@@ -47,12 +47,12 @@ fn refusal(rec: &Rec) -> Option<LoadCause>
         | Rec::Const { .. }
         | Rec::LongConst { .. }
         | Rec::Space { .. }
-        | Rec::Entry { .. } => None,
-        Rec::Reloc { .. }
+        | Rec::Reloc { .. }
         | Rec::InterSeg { .. }
         | Rec::ShortReloc { .. }
         | Rec::ShortInterSeg { .. }
-        | Rec::Super { .. } => Some(LoadCause::Unsupported),
+        | Rec::Super { .. }
+        | Rec::Entry { .. } => None,
         Rec::Align { .. }
         | Rec::Org { .. }
         | Rec::Using { .. }

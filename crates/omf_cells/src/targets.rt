@@ -1,17 +1,33 @@
-//! The places that the records of a load file name, which have to be there.
+//! The places that the records of a load file name, which have to be there, and the bytes that its patches give.
 
-ghost use Rattle.std.specs.Prelude.{◌≡◌, ◌<◌, ◌^◌, length, map, option_map, IfSome, Some};
+ghost use Rattle.std.specs.Prelude.{◌≡◌, ◌+◌, ◌<◌, ◌≤◌, ◌^◌, ◌++◌, [], ◌∷◌, length, map, option_map, IfOk, IfErr, Some, None, Ok};
 ghost use Rattle.omf_format.specs.Reading.{records_of, IsBody};
-ghost use Rattle.load_meaning.specs.Loadable.{is_place, target_refusal, first_target_fault, target_fault, in_segment, first_in};
-ghost use Rattle.omf_records.specs.View.{view};
+ghost use Rattle.omf_format.specs.Super.{locations_left};
+ghost use Rattle.load_meaning.specs.Cells.{super_patch, patches_in};
+ghost use Rattle.load_meaning.specs.LoadTable.{is_place};
+ghost use Rattle.load_meaning.specs.Loadable.{is_kept, is_dynamic_at, patch_refusal, first_refusal, target_refusal, first_target_fault, target_fault, shape_fault, in_segment, first_in};
+ghost use Rattle.omf_records.specs.View as records;
 ghost use Rattle.omf_records.specs.Segments.{shown};
-ghost use Rattle.omf_cells.specs.Load.{AreShown};
+ghost use Rattle.omf_cells.specs.Walk.{HasSpelling, patches_from};
+ghost use Rattle.omf_cells.specs.Load.{IsLoadView, AreShown, IsLaterRefused};
+ghost use Rattle.omf_cells.specs.Content.{HasPieces, IsContent, AreContents, patch_of, spread_all, shown_spot, super_count, super_segment};
 
+use crate::data::{data_u8, data_u16};
+use crate::pieces::{Piece, pieces_of};
+use crate::spots::{Relocation, Spot, add_spots, is_outside};
 use load_meaning::{LoadCause, LoadFault};
-use omf_records::{Rec, Records, SegmentView};
+use omf_records::{Locations, Rec, Records, SegmentView};
+use std::alloc::{AllocError, Global};
+
+/// What is kept of a segment beside its header: its data, and the bytes that patches give, in the order of their offsets.
+#[derive(Debug, Drop)]
+pub struct Content<'a> {
+    pub pieces: Vec<Piece<'a>>,
+    pub spots: Vec<Spot>,
+}
 
 /// Whether an offset is below LENGTH of the segment with a number, from 1, and the segment isn't skipped.
-fn is_place(views: &Vec<SegmentView>, number: u16, offset: u32) -> bool
+pub fn is_place(views: &Vec<SegmentView>, number: u16, offset: u32) -> bool
     ensures { result ≡ is_place (map shown views.now.items) number offset }
 {
     if number == 0 {
@@ -23,10 +39,178 @@ fn is_place(views: &Vec<SegmentView>, number: u16, offset: u32) -> bool
     }
 }
 
-/// Why a record may not stand in a file of these segments.
-fn refusal(rec: &Rec, views: &Vec<SegmentView>) -> Option<LoadCause>
-    ensures value { result ≡ target_refusal (map shown views.now.items) (view rec.now) }
-    ensures named { result ≡ Some LoadCause.Memory → ⊥ }
+/// Whether the segment with a number, from 1, is there and isn't skipped.
+fn is_kept(views: &Vec<SegmentView>, number: u16) -> bool
+    ensures { result ≡ is_kept (map shown views.now.items) number }
+{
+    if number == 0 {
+        return false;
+    }
+    match views.get(number as usize - 1) {
+        Some(view) => !view.header.kind.is_skip(),
+        None => false,
+    }
+}
+
+/// Whether the segment with a number, from 1, is there and dynamic.
+fn is_dynamic(views: &Vec<SegmentView>, number: u16) -> bool
+    ensures { result ≡ is_dynamic_at (map shown views.now.items) number }
+{
+    if number == 0 {
+        return false;
+    }
+    match views.get(number as usize - 1) {
+        Some(view) => view.header.kind.is_dynamic(),
+        None => false,
+    }
+}
+
+/// Why a patch may not stand in a segment of these.
+#[tactic(auto, unfolding(load_meaning::specs::Loadable::patch_refusal))]
+fn refusal(patch: &Relocation, views: &Vec<SegmentView>, view: &SegmentView) -> Option<LoadCause>
+    ensures value { result ≡ patch_refusal (map shown views.now.items) (shown view.now) (patch_of patch.now) }
+
+    // The patch that may stand there is of this file, and lies in the segment.
+    ensures file { result ≡ None → patch.now.file ≡ 1 }
+    ensures short { result ≡ None → patch.now.location + patch.now.count < 2 ^ 32 }
+{
+    if is_outside(patch.location, patch.count, view.header.length) {
+        return Some(LoadCause::PatchOutside);
+    }
+    if !(patch.file == 1 && is_kept(views, patch.segment)) {
+        return Some(LoadCause::NoSuchTarget);
+    }
+    if patch.segment != view.header.seg_num && is_dynamic(views, patch.segment) {
+        return Some(LoadCause::DynamicTarget);
+    }
+    None
+}
+
+/// Adds the bytes that a patch gives, or tells why it may not stand in the segment.
+fn take(
+    patch: &Relocation,
+    views: &Vec<SegmentView>,
+    view: &SegmentView,
+    spots: &mut Vec<Spot>,
+) -> Result<Option<LoadCause>, AllocError>
+    ensures value { IfOk result (λ cause. cause ≡ first_refusal (map shown views.now.items) (shown view.now) (patch_of patch.now ∷ [])) }
+    ensures spots { result ≡ Ok None → map shown_spot spots.new.items ≡ map shown_spot spots.old.items ++ spread_all (patch_of patch.now ∷ []) }
+{
+    match refusal(patch, views, view) {
+        Some(cause) => Ok(Some(cause)),
+        None => {
+            add_spots(spots, patch)?;
+            Ok(None)
+        }
+    }
+}
+
+/// How many bytes a patch of a SUPER of this type has.
+fn super_count(form: u8) -> u8
+    ensures { result ≡ super_count form }
+{
+    if form == 1 || form == 2 { 3 } else { 2 }
+}
+
+/// The segment that the patch of a SUPER at a location names: the segment itself, or in type 2 the byte of the data behind
+/// the offset, and else the one that the type names.
+fn super_segment(form: u8, at: u32, view: &SegmentView, pieces: &[Piece]) -> u16
+    requires pieces { HasPieces view.now pieces.now }
+    requires inside { at + super_count form ≤ view.now.header.length }
+    ensures { result ≡ super_segment (shown view.now) form at }
+{
+    if form == 0 || form == 1 {
+        return view.header.seg_num;
+    }
+    if form == 2 {
+        return u16::from(data_u8(view, pieces, at + 2));
+    }
+    let form = u16::from(form);
+    if form <= 25 {
+        form.saturating_sub(13)
+    } else {
+        form - 25
+    }
+}
+
+/// The patch of a SUPER at a location.
+fn super_patch(form: u8, at: u32, view: &SegmentView, pieces: &[Piece]) -> Relocation
+    requires pieces { HasPieces view.now pieces.now }
+    requires inside { at + super_count form ≤ view.now.header.length }
+    ensures { patch_of result ≡ super_patch (shown view.now) form at }
+{
+    Relocation {
+        location: u64::from(at),
+        count: super_count(form),
+        file: 1,
+        segment: super_segment(form, at, view, pieces),
+        offset: u32::from(data_u16(view, pieces, at)),
+        shift: if form <= 25 { 0 } else { -16 },
+    }
+}
+
+/// The same for the patch of a SUPER at a location. The data there is read only where the patch lies in the segment.
+fn take_at(
+    form: u8,
+    location: u64,
+    views: &Vec<SegmentView>,
+    view: &SegmentView,
+    pieces: &[Piece],
+    spots: &mut Vec<Spot>,
+) -> Result<Option<LoadCause>, AllocError>
+    requires { HasPieces view.now pieces.now }
+    ensures value { IfOk result (λ cause. cause ≡ first_refusal (map shown views.now.items) (shown view.now) (super_patch (shown view.now) form location ∷ [])) }
+    ensures spots { result ≡ Ok None → map shown_spot spots.new.items ≡ map shown_spot spots.old.items ++ spread_all (super_patch (shown view.now) form location ∷ []) }
+{
+    if is_outside(location, super_count(form), view.header.length) {
+        return Ok(Some(LoadCause::PatchOutside));
+    }
+    take(
+        &super_patch(form, location as u32, view, pieces),
+        views,
+        view,
+        spots,
+    )
+}
+
+/// The same for the patches of a SUPER, one after another.
+fn take_super(
+    form: u8,
+    bytes: &[u8],
+    views: &Vec<SegmentView>,
+    view: &SegmentView,
+    pieces: &[Piece],
+    spots: &mut Vec<Spot>,
+) -> Result<Option<LoadCause>, AllocError>
+    requires pieces { HasPieces view.now pieces.now }
+    requires short { length bytes.now < 2 ^ 32 }
+    ensures value { IfOk result (λ cause. cause ≡ first_refusal (map shown views.now.items) (shown view.now) (map (super_patch (shown view.now) form) (locations_left 0 0 bytes.now))) }
+    ensures spots { result ≡ Ok None → map shown_spot spots.new.items ≡ map shown_spot spots.old.items ++ spread_all (map (super_patch (shown view.now) form) (locations_left 0 0 bytes.now)) }
+{
+    let mut locations = Locations::of(bytes);
+    'locations: loop {
+        match locations.next() {
+            None => return Ok(None),
+            Some(location) => match take_at(form, location, views, view, pieces, spots)? {
+                Some(cause) => return Ok(Some(cause)),
+                None => {}
+            },
+        }
+    }
+}
+
+/// Adds the bytes that the patches of a record give, or tells why the record may not stand in the segment.
+fn take_record(
+    rec: &Rec,
+    views: &Vec<SegmentView>,
+    view: &SegmentView,
+    pieces: &[Piece],
+    spots: &mut Vec<Spot>,
+) -> Result<Option<LoadCause>, AllocError>
+    requires pieces { HasPieces view.now pieces.now }
+    requires spelled { HasSpelling (records.view rec.now) }
+    ensures value { IfOk result (λ cause. cause ≡ target_refusal (map shown views.now.items) (shown view.now) (records.view rec.now)) }
+    ensures spots { result ≡ Ok None → map shown_spot spots.new.items ≡ map shown_spot spots.old.items ++ spread_all (patches_in (shown view.now) (records.view rec.now)) }
 {
     match rec {
         Rec::Entry {
@@ -35,10 +219,78 @@ fn refusal(rec: &Rec, views: &Vec<SegmentView>) -> Option<LoadCause>
             ..
         } => {
             if is_place(views, *segment, *offset) {
-                None
+                Ok(None)
             } else {
-                Some(LoadCause::NoSuchTarget)
+                Ok(Some(LoadCause::NoSuchTarget))
             }
+        }
+        Rec::Super { form, bytes } => take_super(*form, bytes, views, view, pieces, spots),
+        Rec::Reloc {
+            count,
+            shift,
+            location,
+            offset,
+        } => {
+            let patch = Relocation {
+                location: u64::from(*location),
+                count: *count,
+                file: 1,
+                segment: view.header.seg_num,
+                offset: *offset,
+                shift: *shift,
+            };
+            take(&patch, views, view, spots)
+        }
+        Rec::ShortReloc {
+            count,
+            shift,
+            location,
+            offset,
+        } => {
+            let patch = Relocation {
+                location: u64::from(*location),
+                count: *count,
+                file: 1,
+                segment: view.header.seg_num,
+                offset: u32::from(*offset),
+                shift: *shift,
+            };
+            take(&patch, views, view, spots)
+        }
+        Rec::InterSeg {
+            count,
+            shift,
+            location,
+            file,
+            segment,
+            offset,
+        } => {
+            let patch = Relocation {
+                location: u64::from(*location),
+                count: *count,
+                file: *file,
+                segment: *segment,
+                offset: *offset,
+                shift: *shift,
+            };
+            take(&patch, views, view, spots)
+        }
+        Rec::ShortInterSeg {
+            count,
+            shift,
+            location,
+            segment,
+            offset,
+        } => {
+            let patch = Relocation {
+                location: u64::from(*location),
+                count: *count,
+                file: 1,
+                segment: u16::from(*segment),
+                offset: u32::from(*offset),
+                shift: *shift,
+            };
+            take(&patch, views, view, spots)
         }
         Rec::End
         | Rec::Const { .. }
@@ -46,36 +298,39 @@ fn refusal(rec: &Rec, views: &Vec<SegmentView>) -> Option<LoadCause>
         | Rec::Space { .. }
         | Rec::Align { .. }
         | Rec::Org { .. }
-        | Rec::Reloc { .. }
-        | Rec::InterSeg { .. }
-        | Rec::ShortReloc { .. }
-        | Rec::ShortInterSeg { .. }
-        | Rec::Super { .. }
         | Rec::Using { .. }
         | Rec::Strong { .. }
         | Rec::Label { .. }
         | Rec::Equate { .. }
-        | Rec::Formula { .. } => None,
+        | Rec::Formula { .. } => Ok(None),
     }
 }
 
-/// The first record of a body, in the segment with this number, that names no place of these segments.
-fn fault_of(records: Records, views: &Vec<SegmentView>, number: u32) -> Option<LoadFault>
-    requires { IsBody records }
-    ensures value { result ≡ option_map (in_segment number) (first_target_fault (map shown views.now.items) (records_of records.entry)) }
-    ensures named { IfSome result (λ fault. fault.cause ≡ LoadCause.Memory → ⊥) }
+/// Adds the bytes that the patches of the segment with this number give, or tells the first fault of its records.
+fn take_records(
+    records: Records,
+    number: u32,
+    views: &Vec<SegmentView>,
+    view: &SegmentView,
+    pieces: &[Piece],
+    spots: &mut Vec<Spot>,
+) -> Result<Option<LoadFault>, AllocError>
+    requires body { IsBody records }
+    requires pieces { HasPieces view.now pieces.now }
+    ensures value { IfOk result (λ fault. fault ≡ option_map (in_segment number) (first_target_fault (map shown views.now.items) (shown view.now) (records_of records.entry))) }
+    ensures spots { result ≡ Ok None → map shown_spot spots.new.items ≡ map shown_spot spots.old.items ++ spread_all (patches_from (shown view.now) (records_of records.entry)) }
 {
     let mut records = records;
     'records: loop {
         match records.next() {
-            Ok(None) => return None,
-            Ok(Some(found)) => match refusal(&found.1, views) {
+            Ok(None) => return Ok(None),
+            Ok(Some(found)) => match take_record(&found.1, views, view, pieces, spots)? {
                 Some(cause) => {
-                    return Some(LoadFault {
+                    return Ok(Some(LoadFault {
                         cause,
                         segment: number,
                         at: found.0,
-                    });
+                    }));
                 }
                 None => {}
             },
@@ -84,19 +339,45 @@ fn fault_of(records: Records, views: &Vec<SegmentView>, number: u32) -> Option<L
     }
 }
 
-/// The first fault of phase 3, segment by segment.
-pub fn check_targets(views: &Vec<SegmentView>) -> Option<LoadFault>
-    requires { AreShown views.now.items }
-    ensures value { result ≡ first_in (target_fault (map shown views.now.items)) 1 (map shown views.now.items) }
-    ensures named { IfSome result (λ fault. fault.cause ≡ LoadCause.Memory → ⊥) }
+/// What is kept of the segment with this number, or the first fault of its records.
+fn content_of<'a>(
+    alloc: Global,
+    number: u32,
+    views: &Vec<SegmentView<'a>>,
+    view: &SegmentView<'a>,
+) -> Result<Content<'a>, LoadFault>
+    requires short { length view.now.file.now < 2 ^ 32 }
+    requires shown { IsLoadView view.now.file.now view.now }
+    requires sized { shape_fault number (shown view.now) ≡ None }
+    ensures ok { IfOk result (λ content. (target_fault (map shown views.now.items) number (shown view.now) ≡ None) × IsContent view.now content) }
+    ensures refused { IfErr result (λ fault. IsLaterRefused fault (option_map (in_segment number) (target_fault (map shown views.now.items) number (shown view.now)))) }
 {
+    let pieces = pieces_of(alloc, view.records(), view.header.length)?;
+    let mut spots = Vec::new(alloc);
+    match take_records(view.records(), number, views, view, &pieces, &mut spots)? {
+        Some(fault) => return Err(fault),
+        None => {}
+    }
+    spots.sort_by_key(|spot| spot.at)?;
+    Ok(Content { pieces, spots })
+}
+
+/// What is kept of each segment, or the first fault of phase 3, segment by segment.
+pub fn contents_of<'a>(
+    alloc: Global,
+    views: &Vec<SegmentView<'a>>,
+) -> Result<Vec<Content<'a>>, LoadFault>
+    requires shown { AreShown views.now.items }
+    requires sized { first_in shape_fault 1 (map shown views.now.items) ≡ None }
+    ensures ok { IfOk result (λ contents. (first_in (target_fault (map shown views.now.items)) 1 (map shown views.now.items) ≡ None) × AreContents views.now.items contents.items) }
+    ensures refused { IfErr result (λ fault. IsLaterRefused fault (first_in (target_fault (map shown views.now.items)) 1 (map shown views.now.items))) }
+{
+    let mut contents = Vec::new(alloc);
     let mut number = 1;
     'views: for view in views {
-        match fault_of(view.records(), views, number) {
-            Some(fault) => return Some(fault),
-            None => {}
-        }
+        let content = content_of(alloc, number, views, view)?;
+        contents.push(content)?;
         number += 1;
     }
-    None
+    Ok(contents)
 }

@@ -17,6 +17,7 @@ use Rattle.load_meaning.specs.Plain.{memory_bytes, is_object, cleared, loaded_by
 use Rattle.load_meaning.specs.PlainLaws.{is_load_file, length-without_trailing}
 use Rattle.load_meaning.specs.Cells.{Byte, segment_bytes}
 use Rattle.load_meaning.specs.CellLaws.{unpatched, cells-bytes}
+use Rattle.load_meaning.specs.LoadTable.{is_table}
 use Rattle.load_meaning.specs.Loadable.{express_name, is_express, segment_refusal, record_refusal, target_refusal, first_target_fault, shape_fault, later_fault, IsLoadSegment, IsLoadable}
 use Rattle.omf_cli.specs.Laws.{IsLoadOf}
 
@@ -63,7 +64,7 @@ no_table form is table = let both : true ≡ false = sym is ∙ ap is_object tab
 
 front_passes : (f : Fields) → is_express f.name ≡ false → is_object (form_of f.kind) ≡ true → segment_refusal f ≡ None
 unfolding segment_refusal
-front_passes f name object = let types = not_listed (form_of f.kind) object in rw (name, types.0, types.1, types.2) refl
+front_passes f name object = let types = not_listed (form_of f.kind) object in rw (name, types.1, types.2) refl
 
 -- constants are no patches and belong to load files
 constant_passes : (r : Record) → is_constant r ≡ true → record_refusal r ≡ None
@@ -85,33 +86,33 @@ constant_passes (Equate global name size form private expr) is = absurd cc
 constant_passes (Formula code count n expr) is = absurd cc
 constant_passes (Entry segment offset name) is = absurd cc
 
--- and name no segment
-constant_keeps : (segments : List Segment) (r : Record) → is_constant r ≡ true → target_refusal segments r ≡ None
-constant_keeps segments End is = refl
-constant_keeps segments (Const bytes) is = refl
-constant_keeps segments (LongConst bytes) is = refl
-constant_keeps segments (Space n) is = refl
-constant_keeps segments (Align n) is = absurd cc
-constant_keeps segments (Org n) is = absurd cc
-constant_keeps segments (Reloc count shift location offset) is = absurd cc
-constant_keeps segments (InterSeg count shift location file segment offset) is = absurd cc
-constant_keeps segments (ShortReloc count shift location offset) is = absurd cc
-constant_keeps segments (ShortInterSeg count shift location segment offset) is = absurd cc
-constant_keeps segments (Super form bytes) is = absurd cc
-constant_keeps segments (Using name) is = absurd cc
-constant_keeps segments (Strong name) is = absurd cc
-constant_keeps segments (Label global name size form private) is = absurd cc
-constant_keeps segments (Equate global name size form private expr) is = absurd cc
-constant_keeps segments (Formula code count n expr) is = absurd cc
-constant_keeps segments (Entry segment offset name) is = absurd cc
+-- and name no segment, and give no patch
+constant_keeps : (segments : List Segment) (s : Segment) (r : Record) → is_constant r ≡ true → target_refusal segments s r ≡ None
+constant_keeps segments s End is = refl
+constant_keeps segments s (Const bytes) is = refl
+constant_keeps segments s (LongConst bytes) is = refl
+constant_keeps segments s (Space n) is = refl
+constant_keeps segments s (Align n) is = absurd cc
+constant_keeps segments s (Org n) is = absurd cc
+constant_keeps segments s (Reloc count shift location offset) is = absurd cc
+constant_keeps segments s (InterSeg count shift location file segment offset) is = absurd cc
+constant_keeps segments s (ShortReloc count shift location offset) is = absurd cc
+constant_keeps segments s (ShortInterSeg count shift location segment offset) is = absurd cc
+constant_keeps segments s (Super form bytes) is = absurd cc
+constant_keeps segments s (Using name) is = absurd cc
+constant_keeps segments s (Strong name) is = absurd cc
+constant_keeps segments s (Label global name size form private) is = absurd cc
+constant_keeps segments s (Equate global name size form private expr) is = absurd cc
+constant_keeps segments s (Formula code count n expr) is = absurd cc
+constant_keeps segments s (Entry segment offset name) is = absurd cc
 
 records_pass : (records : List (ℕ × Record)) → AllByRecursion (λ (found : ℕ × Record). is_constant found.1 ≡ true) records → AllByRecursion (λ (found : ℕ × Record). record_refusal found.1 ≡ None) records
 records_pass [] all = tt
 records_pass (found ∷ records) all = (constant_passes found.1 all.0, records_pass records all.1)
 
-targets_pass : (segments : List Segment) (records : List (ℕ × Record)) → AllByRecursion (λ (found : ℕ × Record). is_constant found.1 ≡ true) records → first_target_fault segments records ≡ None
-targets_pass segments [] all = refl
-targets_pass segments (found ∷ records) all = rw (constant_keeps segments found.1 all.0) (targets_pass segments records all.1)
+targets_pass : (segments : List Segment) (s : Segment) (records : List (ℕ × Record)) → AllByRecursion (λ (found : ℕ × Record). is_constant found.1 ≡ true) records → first_target_fault segments s records ≡ None
+targets_pass segments s [] all = refl
+targets_pass segments s (found ∷ records) all = rw (constant_keeps segments s found.1 all.0) (targets_pass segments s records all.1)
 
 -- LENGTH is that of the bytes in memory
 module _ (s : Segment) (bytes : List ℕ) (memory : memory_bytes s ≡ bytes) (size : s.fields.length ≡ length bytes) where
@@ -143,13 +144,14 @@ loads_as first others file fits is plain =
     let name : length s.fields.name ≤ 10 = omega (arith, ap length load.name, length-without_trailing 32 first.fields.load_name, short_name first.start first.fields file is.2.header) in
     let object : is_object (form_of s.fields.kind) ≡ true = ap (λ (k : ℕ). is_object (form_of k)) load.kind ∙ ap is_object (same_form first.fields.kind) ∙ plain.each.0.object in
     let pass : IsLoadSegment s = record { front = front_passes s.fields (not_express s.fields.name name) object; records = records_pass s.records load.constant.each } in
-    let targets = targets_pass (s ∷ []) s.records load.constant.each in
+    let targets = targets_pass (s ∷ []) s s.records load.constant.each in
+    let other : is_table s ≡ false = (not_listed (form_of s.fields.kind) object).0 in
     let shape = shape_passes s (loaded_bytes (first ∷ others)) load.memory load.length' load.seg_num in
-    let loadable : IsLoadable (written (first ∷ others)) (s ∷ []) = record { is_file = load.is_file; some = λ none. absurd (cc); pass = (pass, tt); sound = rw (shape, targets) refl } in
+    let loadable : IsLoadable (written (first ∷ others)) (s ∷ []) = record { is_file = load.is_file; some = λ none. absurd (cc); pass = (pass, tt); sound = rw (shape, targets, other) refl } in
     record {
       segment = s;
       loadable = loadable;
-      cells_are = cells-bytes s (unpatched s pass) ∙ ap (map Byte) (bytes_are s (loaded_bytes (first ∷ others)) load.memory load.length');
+      cells_are = cells-bytes s (unpatched s load.constant.each) ∙ ap (map Byte) (bytes_are s (loaded_bytes (first ∷ others)) load.memory load.length');
       can_load = λ static kept no_stack. record {
         loadable = loadable;
         one = refl;
@@ -161,7 +163,7 @@ loads_as first others file fits is plain =
             no_stack = no_stack;
             org = load.org;
             align = load.align;
-            unpatched = unpatched s pass;
+            unpatched = unpatched s load.constant.each;
           },
           tt,
         );

@@ -1,7 +1,6 @@
-use Rattle.std.proofs.Common.{◌+◌, List, sym, subst, ◌∙◌, arith}
+use Rattle.std.proofs.Common.{◌+◌, List, sym, subst, arith}
 use Rattle.omf_records.specs.declared.segment.SegmentView.{SegmentView}
-use Rattle.omf_cells.proofs.FrontFaults.{unless}
-use Rattle.omf_cells.proofs.ReadSegments.{Read, view_lies, read_more, refused_in, few_read, is_later}
+use Rattle.omf_cells.proofs.ReadSegments.{Read, view_lies, read_more, refused_in, few_read}
 use Rattle.omf_cells.proofs.reading.read_load.Goals as goal
 
 pub returns-in-Err-clause-refused : goal.returns-in-Err-clause-refused
@@ -20,9 +19,3 @@ pub segments-preserved : goal.segments-preserved
 segments-preserved c =
     let more = read_more c.args.file.now c.segments.views.items c.in-Ok.view c.segments.start c.segments.number c.segments.invariant c.in-Ok.ensures.start c.segments-test.true c.in-Ok.ensures.ok in
     subst (λ (views : List SegmentView). Read c.args.file.now views (c.segments.start + c.in-Ok.view.header.byte_count) (c.segments.number + 1)) (sym c.in_ok-push.ensures.items) more
-
-pub returns-in-Some-clause-refused : goal.returns-in-Some-clause-refused
-returns-in-Some-clause-refused c =
-    let fault = c.in-Some.fault in
-    let first = is_later c.args.file.now c.segments.views.items c.segments.start c.segments.number fault c.segments.invariant (omega (arith, c.segments-test.false)) (sym c.check_later.ensures.value ∙ c.in-Some.is) in
-    unless fault.cause fault _ c.in-Some.ensures.named first

@@ -1,4 +1,4 @@
-use Rattle.omf_cells.proofs.LoadViews.{patches_shown, nothing_patched}
+use Rattle.omf_cells.proofs.LoadShows.{patches_shown, nothing_patched}
 use Rattle.omf_cells.proofs.load.LoadFile.has_patches.Goals as goal
 
 pub returns-in-Some : goal.returns-in-Some

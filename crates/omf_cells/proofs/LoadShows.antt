@@ -1,0 +1,255 @@
+-- The segments of a load file by their numbers: cells, bytes in memory, and the table.
+use Rattle.std.proofs.Common.{◌≡◌, ℕ, zero, suc, ◌+◌, ◌-◌, ◌^◌, ◌<◌, ◌≤◌, Bool, true, false, eqb, List, [], ◌∷◌, ◌++◌, length, map, replicate, All, Option, Some, None, inl, inr, refl, sym, ap, subst, ◌∙◌, arith}
+use Rattle.std.specs.Prelude.{slice_get, slice_set, option_map, option_and_then, IsSomeAnd, IsTrue, if◌then◌else◌}
+use Rattle.std.specs.List.{list_any}
+use Rattle.std.specs.Option.{option_or, option_map_or}
+use Rattle.std.proofs.lemmas.Bool.{cases_Bool, eqb-true, eqb-false}
+use Rattle.std.proofs.lemmas.List.{length-map}
+use Rattle.std.proofs.lemmas.List.Elements.{All-get_or, All-head, All-tail}
+use Rattle.std.proofs.lemmas.Option.{slice_get_within, slice_get_past, get_or_from_slice_get, slice_get-map}
+use Rattle.omf_format.specs.Reading.{Reader, records_of}
+use Rattle.omf_format.specs.File.{Segment, body_reader, segment_at}
+use Rattle.omf_format.specs.FileLaws.{segments_fit}
+use Rattle.omf_format.specs.Body.{body_bytes}
+use Rattle.load_meaning.specs.Cells.{Cell, Byte, Patch, parts_from, segment_bytes, patches_of, cells, cell_at, byte_of, stands}
+use Rattle.load_meaning.specs.CellLaws.{cells-bytes, length-segment_bytes, loadable_has, length-cells, patched-laid, fit_in}
+use Rattle.load_meaning.specs.LayingLaws.{same_list, get-laid}
+use Rattle.load_meaning.specs.LoadTable.{table_of, entry_count, target_at, targets_of}
+use Rattle.load_meaning.specs.LoadTableLaws.{length-targets_from, get-targets_from}
+use Rattle.load_meaning.specs.Loadable.{patch_list, IsSoundSegment}
+use Rattle.omf_records.specs.declared.segment.SegmentView.{SegmentView}
+use Rattle.omf_records.specs.Segments.{placed, shown}
+use Rattle.omf_cells.specs.declared.spots.Spot.{Spot}
+use Rattle.omf_cells.specs.declared.targets.Content.{Content}
+use Rattle.omf_cells.specs.Walk.{content, gives_patch}
+use Rattle.omf_cells.specs.Content.{spread_all, last_at, part_of, shown_spot, with_spots}
+use Rattle.omf_cells.specs.Places.{address_in, Stands}
+use Rattle.omf_cells.specs.Load.{IsLoadView, AreLoadViews, Shows, ShowsContent, IsOutside, HasLength, HasPatches, HasBytes, table_targets}
+use Rattle.omf_cells.proofs.PatchRuns.{has_some, has_none}
+use Rattle.omf_cells.proofs.ShownBytes.{body_content, bytes-shown}
+use Rattle.omf_cells.proofs.SpotLists.{last_over-spread}
+use Rattle.omf_cells.proofs.Contents.{contents_at}
+
+-- ---- the segments by their numbers
+
+segment_at-some : (segments : List Segment) (number : ℕ) → 0 < number → segment_at segments number ≡ slice_get segments (number - 1)
+segment_at-some segments zero more = absurd (omega arith)
+segment_at-some segments (suc k) more = let same : k ≡ suc k - 1 = omega arith in ap (slice_get segments) same
+
+load_view_at : (file : List ℕ) (views : List SegmentView) (k : ℕ) (v : SegmentView) → All (IsLoadView file) views → slice_get views k ≡ Some v → IsLoadView file v
+load_view_at file views k v all is =
+    subst (IsLoadView file) (get_or_from_slice_get views k v v is) (All-get_or (IsLoadView file) views k v (slice_get_within views k v is) all)
+
+pub shows : (views : List SegmentView) (contents : List Content) (number : ℕ) (v : SegmentView) → AreLoadViews views contents → 0 < number → slice_get views (number - 1) ≡ Some v → Shows (map shown views) number v
+shows views contents number v is more found =
+    let here : segment_at (map shown views) number ≡ Some (shown v) =
+    segment_at-some (map shown views) number more ∙ slice_get-map shown views (number - 1) ∙ ap (option_map shown) found in
+    let view = load_view_at is.file views (number - 1) v is.each found in
+    record {
+      here = here;
+      short = omega (arith, ap length view.file', is.short);
+      view = subst (λ (f : List ℕ). IsLoadView f v) (sym view.file') view;
+      sound = loadable_has is.file (map shown views) is.loadable number (shown v) here;
+    }
+
+-- a load file has fewer than 2 ^ 32 segments
+pub few_views : (views : List SegmentView) (contents : List Content) → AreLoadViews views contents → length views < 2 ^ 32
+few_views views contents is =
+    omega (arith, segments_fit (map shown views) 0 is.file (length is.file) is.loadable.is_file, length-map views shown, is.short)
+
+-- and there is room for one more number
+pub few_more : (views : List SegmentView) (contents : List Content) → AreLoadViews views contents → length views + 1 < 2 ^ 32
+few_more views contents is =
+    omega (arith, segments_fit (map shown views) 0 is.file (length is.file) is.loadable.is_file, length-map views shown, is.short)
+
+-- ---- cells
+
+-- LENGTH has room for the bytes of its body
+pub content_fits : (segments : List Segment) (number : ℕ) (v : SegmentView) (reader : Reader) → Shows segments number v → reader ≡ body_reader v.start (placed v).fields v.file.now → length (content reader) ≤ v.header.length
+content_fits segments number v reader is at =
+    let size : length (body_bytes (shown v)) ≡ length (content reader) = ap length (body_content (placed v) ∙ ap content (sym at)) in
+    omega (arith, size, is.sound.fits)
+
+-- what a cell of a segment is: that of the last patch over it, or the byte of the data there
+cell_of : (segments : List Segment) (number : ℕ) (s : Segment) (k : ℕ) → IsSoundSegment segments number s → slice_get (cells s) k ≡ option_or (last_at (spread_all (patch_list s)) k) (slice_get (map Byte (segment_bytes s)) k)
+unfolding cells
+cell_of segments number s k sound =
+    let size : length (map Byte (segment_bytes s)) ≡ s.fields.length = length-map (segment_bytes s) Byte ∙ length-segment_bytes s sound.fits in
+    ap (λ (l : List Cell). slice_get l k) (patched-laid (patch_list s) (map Byte (segment_bytes s)))
+    ∙ get-laid (λ p. parts_from p 0 p.count) (patch_list s) (map Byte (segment_bytes s)) k (fit_in segments s (length (map Byte (segment_bytes s))) (patch_list s) size sound.patches)
+    ∙ last_over-spread (patch_list s) k (slice_get (map Byte (segment_bytes s)) k)
+
+cell_at-shown : (segments : List Segment) (number k : ℕ) (v : SegmentView) → Shows segments number v → cell_at segments number k ≡ slice_get (cells (shown v)) k
+cell_at-shown segments number k v is = ap (option_and_then (λ (s : Segment). slice_get (cells s) k)) is.here
+
+-- past LENGTH there is none
+pub cell_past : (segments : List Segment) (number k : ℕ) (v : SegmentView) → Shows segments number v → v.header.length ≤ k → cell_at segments number k ≡ None
+cell_past segments number k v is past =
+    cell_at-shown segments number k v is ∙ slice_get_past (cells (shown v)) k (omega (arith, length-cells segments number (shown v) is.sound))
+
+-- a cell of a patch
+pub cell_part : (segments : List Segment) (number k : ℕ) (v : SegmentView) (content : Content) (cell : Cell) → ShowsContent segments number v content → last_at (map shown_spot content.spots.items) k ≡ Some cell → cell_at segments number k ≡ Some cell
+cell_part segments number k v content cell is found =
+    cell_at-shown segments number k v is.shows ∙ cell_of segments number (shown v) k is.shows.sound
+    ∙ ap (λ o. option_or o (slice_get (map Byte (segment_bytes (shown v))) k)) (sym (is.content'.spots.last k) ∙ found)
+
+-- a byte of the data
+pub cell_byte : (segments : List Segment) (number k : ℕ) (v : SegmentView) (content : Content) (b : ℕ) → ShowsContent segments number v content → last_at (map shown_spot content.spots.items) k ≡ None
+    → slice_get (segment_bytes (shown v)) k ≡ Some b → cell_at segments number k ≡ Some (Byte b)
+cell_byte segments number k v content b is none found =
+    cell_at-shown segments number k v is.shows ∙ cell_of segments number (shown v) k is.shows.sound
+    ∙ ap (λ o. option_or o (slice_get (map Byte (segment_bytes (shown v))) k)) (sym (is.content'.spots.last k) ∙ none)
+    ∙ slice_get-map Byte (segment_bytes (shown v)) k ∙ ap (option_map Byte) found
+
+-- ---- bytes in memory
+
+-- what a cell that may be there gives, or else the byte
+abbrev over_byte : (ℕ → ℕ) → Option Cell → Option ℕ → Option ℕ
+over_byte places None o = o
+over_byte places (Some cell) o = Some (byte_of places cell)
+
+length-slice_set : (bytes : List ℕ) (i x : ℕ) → length (slice_set bytes i x) ≡ length bytes
+length-slice_set [] i x = refl
+length-slice_set (b ∷ bytes) zero x = refl
+length-slice_set (b ∷ bytes) (suc i) x = ap suc (length-slice_set bytes i x)
+
+get-set_here : (bytes : List ℕ) (i x : ℕ) → i < length bytes → slice_get (slice_set bytes i x) i ≡ Some x
+get-set_here [] i x lt = absurd (omega arith)
+get-set_here (b ∷ bytes) zero x lt = refl
+get-set_here (b ∷ bytes) (suc i) x lt = get-set_here bytes i x (omega arith)
+
+get-set_else : (bytes : List ℕ) (i x k : ℕ) → (i ≡ k → ⊥) → slice_get (slice_set bytes i x) k ≡ slice_get bytes k
+get-set_else [] i x k apart = refl
+get-set_else (b ∷ bytes) zero x zero apart = absurd (apart refl)
+get-set_else (b ∷ bytes) zero x (suc k) apart = refl
+get-set_else (b ∷ bytes) (suc i) x zero apart = refl
+get-set_else (b ∷ bytes) (suc i) x (suc k) apart = get-set_else bytes i x k (λ e. apart (ap suc e))
+
+-- a spot written, and then the others over it
+over_spot : (places : ℕ → ℕ) (s : Spot) (bytes : List ℕ) (k : ℕ) (rest : Option Cell) → s.at < length bytes
+    → over_byte places rest (slice_get (slice_set bytes s.at (byte_of places (part_of s))) k) ≡ over_byte places (option_or rest (if eqb s.at k then Some (part_of s) else None)) (slice_get bytes k)
+over_spot places s bytes k (Some cell) lt = refl
+over_spot places s bytes k None lt = elim (cases_Bool (eqb s.at k)) [
+  | inl here ↦
+      let same : k ≡ s.at = sym (eqb-true s.at k here) in
+      ap (slice_get (slice_set bytes s.at (byte_of places (part_of s)))) same ∙ get-set_here bytes s.at (byte_of places (part_of s)) lt ∙ sym (rw here refl)
+  | inr apart ↦ get-set_else bytes s.at (byte_of places (part_of s)) k (eqb-false s.at k apart) ∙ sym (rw apart refl)
+]
+
+-- what stands at an offset when the spots were written
+pub get-with_spots : (places : ℕ → ℕ) (spots : List Spot) (bytes : List ℕ) (k : ℕ) → All (λ (s : Spot). s.at < length bytes) spots
+    → slice_get (with_spots places spots bytes) k ≡ over_byte places (last_at (map shown_spot spots) k) (slice_get bytes k)
+get-with_spots places [] bytes k inside = refl
+get-with_spots places (s ∷ spots) bytes k inside =
+    let next = slice_set bytes s.at (byte_of places (part_of s)) in
+    let size : length next ≡ length bytes = length-slice_set bytes s.at (byte_of places (part_of s)) in
+    let rest = All-tail (λ (t : Spot). t.at < length bytes) s spots inside in
+    get-with_spots places spots next k (subst (λ (n : ℕ). All (λ (t : Spot). t.at < n) spots) (sym size) rest)
+    ∙ over_spot places s bytes k (last_at (map shown_spot spots) k) (All-head (λ (t : Spot). t.at < length bytes) s spots inside)
+
+over_byte-map : (places : ℕ → ℕ) (o : Option Cell) (b : Option ℕ) → over_byte places o b ≡ option_map (byte_of places) (option_or o (option_map Byte b))
+over_byte-map places None None = refl
+over_byte-map places None (Some b) = refl
+over_byte-map places (Some cell) b = refl
+
+-- the data with the spots over it is what stands in memory
+pub stands-spots : (segments : List Segment) (number : ℕ) (v : SegmentView) (content : Content) (places : ℕ → ℕ) (bytes out : List ℕ) → ShowsContent segments number v content
+    → bytes ≡ segment_bytes (shown v) → out ≡ with_spots places content.spots.items bytes → out ≡ stands places (shown v)
+stands-spots segments number v content places bytes out is data_is out_is = same_list out (stands places (shown v)) at
+  where
+    size : length bytes ≡ v.header.length
+    size = ap length data_is ∙ length-segment_bytes (shown v) is.shows.sound.fits
+
+    at : (k : ℕ) → slice_get out k ≡ slice_get (stands places (shown v)) k
+    at k =
+        ap (λ (l : List ℕ). slice_get l k) out_is
+        ∙ get-with_spots places content.spots.items bytes k (subst (λ (n : ℕ). All (λ (t : Spot). t.at < n) content.spots.items) (sym size) is.content'.spots.inside)
+        ∙ over_byte-map places (last_at (map shown_spot content.spots.items) k) (slice_get bytes k)
+        ∙ ap (λ o. option_map (byte_of places) (option_or o (option_map Byte (slice_get bytes k)))) (is.content'.spots.last k)
+        ∙ ap (λ o. option_map (byte_of places) (option_or (last_at (spread_all (patch_list (shown v))) k) o)) (ap (λ (l : List ℕ). option_map Byte (slice_get l k)) data_is ∙ sym (slice_get-map Byte (segment_bytes (shown v)) k))
+        ∙ ap (option_map (byte_of places)) (sym (cell_of segments number (shown v) k is.shows.sound))
+        ∙ sym (slice_get-map (byte_of places) (cells (shown v)) k)
+
+pub stands-there : (segments : List Segment) (number : ℕ) (v : SegmentView) (places : List (Option ℕ)) (out : List ℕ) → Shows segments number v → out ≡ stands (address_in places) (shown v) → Stands segments number places out
+stands-there segments number v places out is e = subst (λ (o : Option Segment). IsSomeAnd o (λ (s : Segment). out ≡ stands (address_in places) s)) (sym is.here) e
+
+-- ---- a segment's bytes as a whole
+
+pub has_length : (segments : List Segment) (number n : ℕ) (v : SegmentView) → HasLength segments number n → Shows segments number v → v.header.length ≡ n
+has_length segments number n v has is = subst (λ (o : Option Segment). IsSomeAnd o (λ (s : Segment). s.fields.length ≡ n)) is.here has
+
+no_items : (patches : List (ℕ × Patch)) → ((patches ≡ [] → ⊥) → ⊥) → patches ≡ []
+no_items [] none = refl
+no_items (p ∷ patches) none = absurd (none (λ e. cc))
+
+unpatched_shown : (segments : List Segment) (number : ℕ) (v : SegmentView) → Shows segments number v → (HasPatches segments number → ⊥) → patches_of (shown v) ≡ []
+unpatched_shown segments number v is none =
+    no_items (patches_of (shown v)) (λ some. none (subst (λ (o : Option Segment). IsSomeAnd o (λ (s : Segment). patches_of s ≡ [] → ⊥)) (sym is.here) some))
+
+pub has_bytes : (segments : List Segment) (number : ℕ) (v : SegmentView) (reader : Reader) (bytes : List ℕ) → Shows segments number v → (HasPatches segments number → ⊥) → reader ≡ body_reader v.start (placed v).fields v.file.now
+    → bytes ≡ content reader ++ replicate (v.header.length - length (content reader)) 0 → HasBytes segments number bytes
+has_bytes segments number v reader bytes is none of same =
+    let all : cells (shown v) ≡ map Byte bytes = cells-bytes (shown v) (unpatched_shown segments number v is none) ∙ ap (map Byte) (bytes-shown v reader of ∙ sym same) in
+    subst (λ (o : Option Segment). IsSomeAnd o (λ (s : Segment). cells s ≡ map Byte bytes)) (sym is.here) all
+
+-- outside the numbers there is no segment
+pub outside : (segments : List Segment) (number : ℕ) → IsOutside segments number → segment_at segments number ≡ None
+outside segments zero is = refl
+outside segments (suc k) (inl zero-is) = absurd (omega arith)
+outside segments (suc k) (inr past) = slice_get_past segments k (omega arith)
+
+pub no_length : (segments : List Segment) (number n : ℕ) → HasLength segments number n → IsOutside segments number → ⊥
+no_length segments number n has is = subst (λ (o : Option Segment). IsSomeAnd o (λ (s : Segment). s.fields.length ≡ n)) (outside segments number is) has
+
+-- ---- patches
+
+-- the segment with this number has patches where a record of the view's body gives one
+pub patches_shown : (segments : List Segment) (number : ℕ) (v : SegmentView) (reader : Reader) (any : Bool) → Shows segments number v → reader ≡ body_reader v.start (placed v).fields v.file.now
+    → any ≡ list_any (λ found. gives_patch found.1) (records_of reader) → (IsTrue any → HasPatches segments number) × (HasPatches segments number → IsTrue any)
+patches_shown segments number v reader any is at given = (
+  λ yes. subst HasSome (sym is.here) (has_some (shown v) (sym whole ∙ yes)),
+  λ has. by_any any whole (subst HasSome is.here has),
+)
+  where
+    HasSome : Option Segment → Type 0
+    HasSome o = IsSomeAnd o (λ s. patches_of s ≡ [] → ⊥)
+
+    whole : any ≡ list_any (λ found. gives_patch found.1) (shown v).records
+    whole = given ∙ ap (λ (r : Reader). list_any (λ found. gives_patch found.1) (records_of r)) at
+
+    by_any : (b : Bool) → b ≡ list_any (λ found. gives_patch found.1) (shown v).records → (patches_of (shown v) ≡ [] → ⊥) → b ≡ true
+    by_any true same some = refl
+    by_any false same some = absurd (some (has_none (shown v) (sym same)))
+
+pub nothing_patched : (segments : List Segment) (number : ℕ) → IsOutside segments number → HasPatches segments number → ⊥
+nothing_patched segments number is has = subst (λ (o : Option Segment). IsSomeAnd o (λ (s : Segment). patches_of s ≡ [] → ⊥)) (outside segments number is) has
+
+-- ---- the table
+
+pub shows_content : (views : List SegmentView) (contents : List Content) (number : ℕ) (v : SegmentView) (content : Content) → AreLoadViews views contents → 0 < number
+    → slice_get views (number - 1) ≡ Some v → slice_get contents (number - 1) ≡ Some content → ShowsContent (map shown views) number v content
+shows_content views contents number v content is more here there = record {
+  shows = shows views contents number v is more here;
+  content' = contents_at views contents is.contents' (number - 1) v content here there;
+}
+
+pub targets-there : (segments : List Segment) (number : ℕ) (v : SegmentView) → table_of segments ≡ Some number → Shows segments number v → table_targets segments ≡ targets_of (shown v)
+targets-there segments number v is shows =
+    ap (λ o. option_map_or targets_of (option_and_then (segment_at segments) o) []) is ∙ ap (λ o. option_map_or targets_of o []) shows.here
+
+pub targets-none : (segments : List Segment) → table_of segments ≡ None → table_targets segments ≡ []
+targets-none segments is = ap (λ o. option_map_or targets_of (option_and_then (segment_at segments) o) []) is
+
+pub targets-outside : (segments : List Segment) (number : ℕ) → table_of segments ≡ Some number → IsOutside segments number → table_targets segments ≡ []
+targets-outside segments number is past =
+    ap (λ o. option_map_or targets_of (option_and_then (segment_at segments) o) []) is ∙ ap (λ o. option_map_or targets_of o []) (outside segments number past)
+
+pub length-targets_of : (s : Segment) → length (targets_of s) ≡ entry_count s.fields.length
+unfolding targets_of
+length-targets_of s = length-targets_from (segment_bytes s) 0 (entry_count s.fields.length)
+
+pub get-targets_of : (s : Segment) (place : ℕ) → place < entry_count s.fields.length → slice_get (targets_of s) place ≡ Some (target_at (segment_bytes s) place)
+unfolding targets_of
+get-targets_of s place lt =
+    let same : 0 + place ≡ place = omega arith in
+    get-targets_from (segment_bytes s) 0 (entry_count s.fields.length) place lt ∙ ap (λ (n : ℕ). Some (target_at (segment_bytes s) n)) same

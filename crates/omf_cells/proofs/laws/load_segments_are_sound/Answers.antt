@@ -1,0 +1,5 @@
+use Rattle.load_meaning.specs.CellLaws.{loadable_has}
+use Rattle.omf_cells.proofs.laws.load_segments_are_sound.Goals as goal
+
+pub returns : goal.returns
+returns c = loadable_has

@@ -1,0 +1,17 @@
+use Rattle.std.proofs.Common.{length, map}
+use Rattle.load_meaning.specs.Loadable.{first_target_fault}
+use Rattle.omf_records.specs.Segments.{shown}
+use Rattle.omf_cells.specs.Content.{shown_spot}
+use Rattle.omf_cells.proofs.Searches.{Same}
+use Rattle.omf_cells.proofs.PatchWalks.{Given}
+use Rattle.omf_cells.proofs.targets.take_records.Given as goal
+
+-- what is found first in all records is found first in those that are left, and the bytes of the patches so far were added
+abbrev pub invariant-records : goal.invariant-records
+invariant-records l = record {
+  same : Same (first_target_fault (map shown l.views.items) (shown l.view)) l.initial.records l.records;
+  given : Given (shown l.view) l.initial.records l.records (map shown_spot l.initial.spots.items) (map shown_spot l.spots.items);
+}
+
+abbrev pub decreases-records : goal.decreases-records
+decreases-records l = length l.records.left

@@ -1,0 +1,41 @@
+//! Numbers in the data of a segment, lowest byte first.
+
+ghost use Rattle.std.specs.Prelude.{◌≡◌, ◌+◌, ◌≤◌};
+ghost use Rattle.omf_format.specs.Number.{number_at};
+ghost use Rattle.load_meaning.specs.Cells.{segment_bytes};
+ghost use Rattle.omf_records.specs.Segments.{shown};
+ghost use Rattle.omf_cells.specs.Content.{HasPieces};
+
+use crate::pieces::{Piece, byte_at};
+use omf_records::SegmentView;
+
+/// The byte of the data there.
+pub fn data_u8(view: &SegmentView, pieces: &[Piece], at: u32) -> u8
+    requires pieces { HasPieces view.now pieces.now }
+    requires inside { at + 1 ≤ view.now.header.length }
+    ensures { number_at 1 at (segment_bytes (shown view.now)) ≡ result }
+{
+    byte_at(pieces, at)
+}
+
+/// The number in the two bytes of the data there.
+pub fn data_u16(view: &SegmentView, pieces: &[Piece], at: u32) -> u16
+    requires pieces { HasPieces view.now pieces.now }
+    requires inside { at + 2 ≤ view.now.header.length }
+    ensures { number_at 2 at (segment_bytes (shown view.now)) ≡ result }
+{
+    let low = u16::from(data_u8(view, pieces, at));
+    let high = u16::from(data_u8(view, pieces, at + 1));
+    low + 0x100 * high
+}
+
+/// The number in the four bytes of the data there.
+pub fn data_u32(view: &SegmentView, pieces: &[Piece], at: u32) -> u32
+    requires pieces { HasPieces view.now pieces.now }
+    requires inside { at + 4 ≤ view.now.header.length }
+    ensures { number_at 4 at (segment_bytes (shown view.now)) ≡ result }
+{
+    let low = u32::from(data_u16(view, pieces, at));
+    let high = u32::from(data_u16(view, pieces, at + 2));
+    low + 0x1_0000 * high
+}
