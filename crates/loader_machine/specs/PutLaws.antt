@@ -1,12 +1,12 @@
 -- Blocks are put in one way at most, where room is made in one way.
-use Rattle.std.proofs.Common.{◌≡◌, ℕ, zero, suc, Bool, true, ◌<◌, ◌≤◌, List, [], ◌∷◌, length, Option, Some, None, IsSome, refl, sym, ap, subst, ◌∙◌, arith, inl, inr, ◌⊎◌}
-use Rattle.std.specs.Prelude.{slice_get, take, count_by}
+use Rattle.std.proofs.Common.{◌≡◌, ℕ, zero, suc, Bool, true, ◌<◌, ◌≤◌, List, [], ◌∷◌, Some, refl, sym, ap, subst, ◌∙◌, arith, inl, inr}
+use Rattle.std.specs.Prelude.{slice_get, take}
 use Rattle.std.proofs.lemmas.Option.{same_Some}
 use Rattle.std.proofs.lemmas.Bool.{cases_lt}
 use Rattle.iigs_meaning.specs.declared.handles.Handle.{Handle}
 use Rattle.iigs_meaning.specs.declared.wants.Want.{Want}
 use Rattle.iigs_meaning.specs.declared.wants.Block.{Block}
-use Rattle.iigs_meaning.specs.Slots.{get, new_handle, after_take, with_value, is_free}
+use Rattle.iigs_meaning.specs.Slots.{after_take, with_value}
 use Rattle.iigs_meaning.specs.Fits.{Slots}
 use Rattle.iigs_meaning.specs.Puts.{MakesRoom, LacksRoom, IsOnce, Puts, PutsAnew, PutsAll, LacksRoomAt, placed}
 use Rattle.iigs_meaning.specs.Room.{CountsBelow}
@@ -27,22 +27,25 @@ module _ (Makes : MakesRoom) (makes : IsOnce Makes) (banks : List ℕ) where
     pub puts_once : (slots : Slots) (want : Want) (h k : Handle) (x y : Slots) → (p : Puts Makes banks slots want user locked level h x) → (q : Puts Makes banks slots want user locked level k y)
         → (h ≡ k) × (x ≡ y) × (p.address ≡ q.address)
     puts_once slots want h k x y p q =
-        let same = makes.room banks slots want p.address q.address p.room q.room p.makes q.makes in
-        (same_Some h k (sym p.handle ∙ q.handle),
-        p.next_is ∙ ap (λ (r : Slots). after_take r (placed want p.address user locked level)) same.1 ∙ ap (λ (n : ℕ). after_take q.room (placed want n user locked level)) same.0 ∙ sym q.next_is,
-        same.0)
+        let same = makes.room banks slots want p.address q.address p.room q.room p.makes q.makes in (
+          same_Some h k (sym p.handle ∙ q.handle),
+          p.next_is ∙ ap (λ (r : Slots). after_take r (placed want p.address user locked level)) same.1 ∙ ap (λ (n : ℕ). after_take q.room (placed want n user locked level)) same.0 ∙ sym q.next_is,
+          same.0,
+        )
 
   -- under a handle whose block is empty
   pub anew_once : (slots : Slots) (want : Want) (h : Handle) (x y : Slots) → (p : PutsAnew Makes banks slots h want x) → (q : PutsAnew Makes banks slots h want y)
       → (x ≡ y) × (p.address ≡ q.address)
   anew_once slots want h x y p q =
       let same = makes.room banks slots want p.address q.address p.room q.room p.makes q.makes in
-      let block = same_Some p.block q.block (sym p.was ∙ q.was) in
-      (p.next_is
-      ∙ ap (λ (r : Slots). with_value r h (placed want p.address p.block.user p.block.locked p.block.level)) same.1
-      ∙ ap (λ (n : ℕ). with_value q.room h (placed want n p.block.user p.block.locked p.block.level)) same.0
-      ∙ ap (λ (b : Block). with_value q.room h (placed want q.address b.user b.locked b.level)) block
-      ∙ sym q.next_is, same.0)
+      let block = same_Some p.block q.block (sym p.was ∙ q.was) in (
+        p.next_is
+            ∙ ap (λ (r : Slots). with_value r h (placed want p.address p.block.user p.block.locked p.block.level)) same.1
+            ∙ ap (λ (n : ℕ). with_value q.room h (placed want n p.block.user p.block.locked p.block.level)) same.0
+            ∙ ap (λ (b : Block). with_value q.room h (placed want q.address b.user b.locked b.level)) block
+            ∙ sym q.next_is,
+        same.0,
+      )
 
   module _ (user : ℕ) where
     puts_all_once : (slots : Slots) (wants : List Want) (hs ks : List Handle) (x y : Slots) → PutsAll Makes banks user slots wants hs x → PutsAll Makes banks user slots wants ks y → (hs ≡ ks) × (x ≡ y)

@@ -1,6 +1,6 @@
 -- What the bytes of a segment depend on: the user, the segment's own place, those of the static segments, and in a table its
 -- targets. And there are LENGTH of them.
-use Rattle.std.proofs.Common.{◌≡◌, ◌⊎◌, inl, inr, ℕ, zero, suc, Bool, true, false, cond, ◌+◌, ◌*◌, ◌/◌, ◌%◌, ◌^◌, ◌≤◌, List, [], ◌∷◌, ◌++◌, length, map, take, drop, All, refl, ap, ◌∙◌, arith, replicate, Some}
+use Rattle.std.proofs.Common.{◌≡◌, inl, inr, ℕ, zero, suc, Bool, true, false, cond, ◌+◌, ◌*◌, List, [], ◌∷◌, ◌++◌, length, map, take, drop, All, refl, ap, ◌∙◌, arith, replicate, Some}
 use Rattle.std.specs.List.{AllByRecursion, flat_map}
 use Rattle.std.proofs.lemmas.List.Elements.{All-append, All-take, All-drop, All-cons, All-nil, All-head, All-tail}
 use Rattle.std.proofs.lemmas.List.Concat.{flat_map-cons}
@@ -120,9 +120,12 @@ flat_length (e ∷ entries) = ap length (flat_map-cons entry_bytes e entries)
 
 pub length-table_bytes : (entries : List Entry) → length (table_bytes entries) ≡ 12 + 14 * length entries
 unfolding table_bytes
-length-table_bytes entries = omega (arith,
-    length-append (replicate 8 0 ++ flat_map entry_bytes entries) (replicate 4 0),
-    length-append (replicate 8 0) (flat_map entry_bytes entries), flat_length entries)
+length-table_bytes entries = omega (
+  arith,
+  length-append (replicate 8 0 ++ flat_map entry_bytes entries) (replicate 4 0),
+  length-append (replicate 8 0) (flat_map entry_bytes entries),
+  flat_length entries,
+)
 
 table_length : (segments : List Segment) (number : ℕ) (s : Segment) (at : Setting) → IsSoundSegment segments number s → is_table s ≡ true → length (entries_bytes at (targets_of s)) ≡ s.fields.length
 unfolding entries_bytes

@@ -35,10 +35,7 @@ pub enum Refusal {
     /// The file isn't a load file: its first fault.
     BadFile(LoadFault),
     /// The file isn't the one that was loaded: the first segment that differs.
-    Changed {
-        kept: Facts,
-        found: Facts,
-    },
+    Changed { kept: Facts, found: Facts },
     /// No slot is left for a handle.
     NoHandle,
     /// The segment with this number has no room, whatever may be purged; 0 is a block of the script.
