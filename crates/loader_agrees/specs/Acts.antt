@@ -1,15 +1,15 @@
 -- What the calls of a loader do, whatever files there are.
-use Rattle.std.specs.Prelude.{◌≡◌, ◌^◌, take, drop, None, ℕ, ◌+◌, ◌<◌, ◌≤◌, [], ◌∷◌, ◌++◌, map, count_by, false, IsSome, List, length, Option, Some, slice_set}
+use Rattle.std.specs.Prelude.{◌≡◌, ◌^◌, take, drop, None, ℕ, ◌+◌, ◌<◌, ◌≤◌, [], ◌∷◌, ◌++◌, map, false, IsSome, List, length, Option, Some}
 use Rattle.omf_format.specs.File.{Segment, segment_at}
 use Rattle.omf_io.specs.Counts.{IsFront}
 use Rattle.iigs_meaning.specs.declared.handles.Handle.{Handle}
-use Rattle.iigs_meaning.specs.Slots.{get, is_free}
+use Rattle.iigs_meaning.specs.Slots.{get}
 use Rattle.iigs_meaning.specs.Puts.{Purges}
 use Rattle.iigs_meaning.specs.Memory.{Memory, AreAllPlaced, bytes_at}
 use Rattle.loader_machine.specs.declared.seen.Head.{Head}
 use Rattle.loader_machine.specs.declared.seen.Life.TheVariants.{Running}
 use Rattle.loader_machine.specs.Heads.{head_of, at_number, wants_of}
-use Rattle.loader_machine.specs.State.{User, no_pokes, max_users, first_id, user_of, handles_of}
+use Rattle.loader_machine.specs.State.{no_pokes, max_users, first_id, user_of, handles_of}
 use Rattle.loader_machine.specs.declared.seen.Presence.TheVariants.{Active}
 use Rattle.loader_machine.specs.declared.seen.Presence.{Presence}
 use Rattle.loader_machine.specs.Presences.{handle_at, presence, presence_at}

@@ -1,15 +1,12 @@
 -- A state with which a sound loader agrees is one whose blocks lie apart, and a purge makes room in one way.
-use Rattle.std.proofs.Common.{◌≡◌, inl, inr, ℕ, ◌+◌, ◌-◌, ◌<◌, ◌≤◌, List, Option, Some, None, refl, sym, ap, subst, ◌∙◌, arith}
+use Rattle.std.proofs.Common.{◌≡◌, ℕ, ◌+◌, ◌-◌, ◌≤◌, List, Option, Some, None, refl, sym, ap, subst, ◌∙◌, arith}
 use Rattle.std.specs.Prelude.{option_map}
-use Rattle.std.proofs.lemmas.Bool.{cases_lt}
 use Rattle.std.proofs.lemmas.Option.{same_Some}
 use Rattle.omf_format.specs.File.{Segment, segment_at}
 use Rattle.omf_io.specs.Files.{FileMap}
 use Rattle.iigs_meaning.specs.declared.handles.Handle.{Handle}
-use Rattle.iigs_meaning.specs.declared.wants.Want.{Want}
 use Rattle.iigs_meaning.specs.declared.wants.Block.{Block}
 use Rattle.iigs_meaning.specs.Slots.{get}
-use Rattle.iigs_meaning.specs.Placement.{emptied, GoesTo}
 use Rattle.iigs_meaning.specs.Blocks.{AreApart}
 use Rattle.loader_machine.specs.declared.seen.Head.{Head}
 use Rattle.iigs_meaning.specs.Fits.{Slots}
@@ -19,8 +16,7 @@ use Rattle.loader_machine.specs.Heads.{head_of, at_number}
 use Rattle.loader_machine.specs.State.{User, Machine, first_id, user_of, handles_of}
 use Rattle.loader_machine.specs.Presences.{handle_at}
 use Rattle.loader_machine.specs.Found.{HoldsLoad}
-use Rattle.loader_machine.specs.Commands.{Command, Reply}
-use Rattle.loader_machine.specs.Steps.{Sees, Steps}
+use Rattle.loader_machine.specs.Steps.{Sees}
 use Rattle.loader_machine.specs.OnceLaws.{IsApartState, one_load, steps_once}
 use Rattle.loader_agrees.specs.Laws.{StepsOnce}
 use Rattle.loader_agrees.specs.Agrees.{Kept, Loaded, Outline, outline, outline_of, Agrees, Has, IsSound}

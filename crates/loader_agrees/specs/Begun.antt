@@ -19,21 +19,20 @@ use Rattle.iigs_meaning.specs.Slots.{slot_at, new_slot, get, is_free, lowest_fre
 use Rattle.iigs_meaning.specs.Placement.{can_purge, emptied_where, is_gone, emptied}
 use Rattle.iigs_meaning.specs.Fits.{Slots}
 use Rattle.iigs_meaning.specs.Puts.{Purges, Puts, PutsAll, placed}
-use Rattle.load_meaning.specs.LoadTable.{is_table}
 use Rattle.loader_machine.specs.declared.seen.Head.{Head}
 use Rattle.loader_machine.specs.Heads.{head_of, at_number, is_static, wants_of}
-use Rattle.loader_machine.specs.State.{Held, User, Machine, absent, no_pokes, first_id, max_users, handles_of, held_at}
+use Rattle.loader_machine.specs.State.{Held, User, Machine, absent, no_pokes, first_id, max_users, held_at}
 use Rattle.loader_machine.specs.Presences.{handle_at, presence, presence_at, there_at, is_active}
 use Rattle.loader_machine.specs.Found.{HoldsLoad, Good}
 use Rattle.loader_machine.specs.Commands.{Started, Load}
 use Rattle.loader_machine.specs.Refusals.{load_refusal}
-use Rattle.loader_machine.specs.Steps.{PutIn, Begins, Lands, Steps, spread, started_user}
+use Rattle.loader_machine.specs.Steps.{PutIn, Begins, Steps, spread, started_user}
 use Rattle.loader_agrees.specs.Agrees.{Kept, Loaded, Outline, outline, outline_of, UserAgrees, Agrees, IsSound, Met}
 use Rattle.loader_agrees.specs.Frame.{Keeps, Same, Gone, agrees_still}
 use Rattle.loader_agrees.specs.Acts.{HasBegun, started_kept}
 use Rattle.loader_agrees.specs.Lists.{number_map}
 use Rattle.loader_agrees.specs.Seeing.{has_any}
-use Rattle.loader_agrees.specs.Stay.{Stays, placement_keeps, put_stays, all_stay, slot_map}
+use Rattle.loader_agrees.specs.Stay.{Stays, placement_keeps, all_stay, slot_map}
 
 -- ---- a block that was just placed
 

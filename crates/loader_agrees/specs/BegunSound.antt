@@ -1,6 +1,6 @@
 -- A loader is sound after a program was loaded.
-use Rattle.std.proofs.Common.{◌≡◌, ◌≢◌, ◌⊎◌, inl, inr, ℕ, zero, suc, Bool, true, false, ◌+◌, ◌<◌, ◌≤◌, ◌^◌, List, [], ◌∷◌, ◌++◌, length, map, replicate, Option, Some, None, IsSome, refl, sym, ap, subst, ◌∙◌, arith}
-use Rattle.std.specs.Prelude.{slice_get, max}
+use Rattle.std.proofs.Common.{◌≡◌, ◌≢◌, ◌⊎◌, inl, inr, ℕ, zero, suc, true, false, ◌+◌, ◌≤◌, List, [], ◌∷◌, ◌++◌, length, map, replicate, Option, Some, None, IsSome, refl, sym, ap, subst, ◌∙◌, arith}
+use Rattle.std.specs.Prelude.{slice_get}
 use Rattle.std.specs.Option.{option_and_then}
 use Rattle.std.proofs.lemmas.Option.{same_Some}
 use Rattle.std.proofs.lemmas.List.{length-map, length-append, length-replicate}
@@ -11,16 +11,15 @@ use Rattle.iigs_meaning.specs.declared.wants.Block.{Block}
 use Rattle.iigs_meaning.specs.Slots.{get, slot_at}
 use Rattle.iigs_meaning.specs.Fits.{Slots, block_in}
 use Rattle.iigs_meaning.specs.Puts.{Purges, Puts, PutsAll, placed}
-use Rattle.iigs_meaning.specs.Memory.{Memory, bytes_at}
+use Rattle.iigs_meaning.specs.Memory.{bytes_at}
 use Rattle.loader_machine.specs.declared.seen.Head.{Head}
-use Rattle.loader_machine.specs.declared.seen.Life.TheVariants.{Running}
 use Rattle.loader_machine.specs.Heads.{head_of, at_number, is_static, is_stack, stack_want, plain_want, want_of, wants_of}
-use Rattle.loader_machine.specs.State.{Held, first_id, max_users, handles_of}
+use Rattle.loader_machine.specs.State.{Held, first_id}
 use Rattle.loader_machine.specs.Presences.{handle_at, presence, presence_at, is_active}
 use Rattle.loader_machine.specs.Steps.{spread}
 use Rattle.loader_agrees.specs.Agrees.{Kept, Loaded, IsOf, Has, IsSound}
 use Rattle.loader_agrees.specs.Acts.{HasBegun, started_kept}
-use Rattle.loader_agrees.specs.Stay.{Stays, put_stays, put_apart, still_live}
+use Rattle.loader_agrees.specs.Stay.{put_stays, put_apart, still_live}
 use Rattle.loader_agrees.specs.Slotted.{in_put}
 use Rattle.loader_agrees.specs.Begun.{puts_here, all_placed, all_active, all_length, spread_length, spread_static, slice_push, decide, begun_keeps}
 use Rattle.loader_agrees.specs.Keeping.{AllKept, of_kept, statics_kept}
@@ -312,14 +311,19 @@ module _ (old new : Loaded) (path : List ℕ) (segments : List Segment) (id : �
   only : (slot : ℕ) (block : Block) → block_in (slot_at new.memory.slots slot) ≡ Some block → block.user ≢ 0 → IsSegments' slot
   only slot block is user = elim (all_only old.memory.banks id old.memory.slots begun.middle.slots (wants_of (map head_of segments)) begun.handles begun.placed.puts slot block
       (sym (ap (λ (t : Slots). block_in (slot_at t slot)) begun.slots) ∙ is)) [
-    | inl new' ↦
-        (let one = spread_has (map head_of segments) begun.handles long new'.0 new'.1 new'.2 in
-        (length old.users, suc one.0, one.1, new'.1,
-        record { kept = its; made = push_new old.users (Some its); head' = one.2; handle = ap (option_and_then (λ (o : Option Handle). o)) one.3 }, new'.3))
-    | inr was ↦
-        (let before = sound.only slot was.0 was.1 (λ zero'. user (sym was.2 ∙ zero')) in
-        (before.0, before.1, before.2, before.3, lift before.0 before.1 before.2 before.3 before.4, before.5))
-  ]
+        | inl new' ↦
+            (let one = spread_has (map head_of segments) begun.handles long new'.0 new'.1 new'.2 in (
+              length old.users,
+              suc one.0,
+              one.1,
+              new'.1,
+              record { kept = its; made = push_new old.users (Some its); head' = one.2; handle = ap (option_and_then (λ (o : Option Handle). o)) one.3 },
+              new'.3,
+            ))
+        | inr was ↦
+            (let before = sound.only slot was.0 was.1 (λ zero'. user (sym was.2 ∙ zero')) in
+            (before.0, before.1, before.2, before.3, lift before.0 before.1 before.2 before.3 before.4, before.5))
+      ]
 
   sound_users : IsSound new.memory users
   sound_users = record {

@@ -1,5 +1,5 @@
 -- The refusals of calls, check by check.
-use Rattle.std.proofs.Common.{◌≡◌, ◌≢◌, ℕ, Bool, true, false, ◌+◌, ◌<◌, ◌≤◌, ◌==◌, Option, Some, None, refl, sym, ap, ◌∙◌, arith}
+use Rattle.std.proofs.Common.{◌≡◌, ◌≢◌, ℕ, true, false, ◌+◌, ◌<◌, ◌≤◌, ◌==◌, Option, Some, None, refl, ◌∙◌, arith}
 use Rattle.std.specs.Prelude.{nat_le}
 use Rattle.iigs_meaning.specs.declared.handles.Handle.{Handle}
 use Rattle.iigs_meaning.specs.declared.wants.Block.{Block}
@@ -10,7 +10,7 @@ use Rattle.loader_machine.specs.declared.refusal.Refusal.TheVariants.{NotActive,
 use Rattle.loader_machine.specs.declared.seen.Head.{Head}
 use Rattle.loader_machine.specs.State.{Seen}
 use Rattle.loader_machine.specs.Presences.{presence, handle_at, is_active}
-use Rattle.loader_machine.specs.Refusals.{Refuse, of_user, of_running, of_segment, of_active, of_inside, of_live, of_script, of_there, bytes_refusal, info_refusal, free_refusal, change_refusal, state_refusal}
+use Rattle.loader_machine.specs.Refusals.{Refuse, of_user, of_running, of_segment, of_active, of_inside, bytes_refusal, info_refusal, free_refusal, change_refusal, state_refusal}
 use Rattle.loader_agrees.specs.Checks.{PassesRunning, StopsRunning, PassesSegment, StopsSegment}
 
 pub active_none : (slots : Slots) (seen : Seen) (number : ℕ) (o : Option Handle) (rest : Refuse) → handle_at seen.handles number ≡ o → is_active (presence slots o) ≡ false

@@ -1,12 +1,11 @@
 -- A loader without users.
-use Rattle.std.proofs.Common.{◌≡◌, ℕ, zero, suc, ◌≤◌, List, [], ◌∷◌, length, map, replicate, Option, Some, None, refl, sym, ap, ◌∙◌, arith}
-use Rattle.iigs_meaning.specs.declared.slots.Slot.{Slot}
+use Rattle.std.proofs.Common.{◌≡◌, ℕ, zero, suc, [], replicate, Some, None, refl, sym, ap, ◌∙◌, arith}
 use Rattle.iigs_meaning.specs.declared.wants.Block.{Block}
 use Rattle.iigs_meaning.specs.Slots.{slot_at, new_slot}
 use Rattle.iigs_meaning.specs.Fits.{Slots, block_in}
 use Rattle.iigs_meaning.specs.Blocks.{new_slots}
 use Rattle.iigs_meaning.specs.Memory.{Memory}
-use Rattle.loader_agrees.specs.Agrees.{Kept, IsSound}
+use Rattle.loader_agrees.specs.Agrees.{IsSound}
 
 all_new : (n slot : ℕ) → slot_at (replicate n (new_slot {T = Block})) slot ≡ new_slot
 all_new zero slot = refl

@@ -1,5 +1,5 @@
 -- Calls that read: a user's bytes, what is known of a segment, and where an address lies.
-use Rattle.std.proofs.Common.{◌≡◌, ℕ, zero, suc, Bool, true, false, ◌+◌, ◌-◌, ◌<◌, ◌≤◌, List, ◌++◌, length, map, take, drop, Option, Some, None, IsSome, refl, sym, ap, subst, ◌∙◌, arith}
+use Rattle.std.proofs.Common.{◌≡◌, ℕ, zero, suc, true, ◌+◌, ◌<◌, ◌≤◌, List, ◌++◌, length, map, take, drop, Option, Some, None, IsSome, refl, sym, ap, subst, ◌∙◌, arith}
 use Rattle.std.specs.Prelude.{option_map}
 use Rattle.std.proofs.lemmas.Option.{same_Some}
 use Rattle.std.proofs.lemmas.List.{take-append-le, drop-append-le, length-drop}
@@ -12,23 +12,22 @@ use Rattle.iigs_meaning.specs.Fits.{Slots}
 use Rattle.iigs_meaning.specs.Puts.{MakesRoom}
 use Rattle.iigs_meaning.specs.Memory.{bytes_at}
 use Rattle.loader_machine.specs.declared.seen.Head.{Head}
-use Rattle.loader_machine.specs.declared.seen.Life.{Life}
 use Rattle.loader_machine.specs.declared.seen.Life.TheVariants.{Running}
 use Rattle.loader_machine.specs.declared.seen.Presence.{Presence}
 use Rattle.loader_machine.specs.declared.seen.Presence.TheVariants.{Absent, Purged, Idle, Active}
 use Rattle.loader_machine.specs.declared.refusal.Refusal.{Refusal}
-use Rattle.loader_machine.specs.Heads.{head_of, at_number, is_static}
-use Rattle.loader_machine.specs.State.{User, Machine, user_of, handles_of, held_at}
+use Rattle.loader_machine.specs.Heads.{head_of, at_number}
+use Rattle.loader_machine.specs.State.{User, Machine, handles_of, held_at}
 use Rattle.loader_machine.specs.Presences.{handle_at, presence, presence_at, there_at, is_active}
 use Rattle.loader_machine.specs.Stands.{setting, stands}
 use Rattle.loader_machine.specs.StandsLaws.{stands_long}
 use Rattle.loader_machine.specs.Found.{HoldsLoad}
 use Rattle.loader_machine.specs.Commands.{Bytes, Info, Where, Shown, SegmentIs, Refused}
 use Rattle.loader_machine.specs.Refusals.{bytes_refusal, info_refusal}
-use Rattle.loader_machine.specs.Steps.{Sees, StandsIn, IsAt, Place, Nowhere, In, IsLocated, place_reply, Steps}
+use Rattle.loader_machine.specs.Steps.{Sees, StandsIn, IsAt, Nowhere, In, place_reply}
 use Rattle.loader_machine.specs.OnceLaws.{active_is, one_load}
-use Rattle.loader_agrees.specs.Agrees.{Kept, Loaded, Outline, outline, outline_of, seen_by, AreThere, UserAgrees, Agrees, IsSound, Met}
-use Rattle.loader_agrees.specs.Acts.{IsActive, CanRead, HasLent, HasTold, LiesIn}
+use Rattle.loader_agrees.specs.Agrees.{Kept, Loaded, Outline, seen_by, AreThere, UserAgrees, Agrees, IsSound, Met}
+use Rattle.loader_agrees.specs.Acts.{IsActive, HasLent, HasTold, LiesIn}
 use Rattle.loader_agrees.specs.Lists.{number_map}
 use Rattle.loader_agrees.specs.Seeing.{IsKept, kept_is, refuses, does}
 use Rattle.loader_agrees.specs.Apart.{back}
@@ -129,17 +128,23 @@ module _ (held : FileMap) (loader : Loaded) (state : Machine) (agrees : Agrees h
         let whole = stands (setting id loader.memory.slots is.kept.handles) (held_at (user id number lent.h is) number).pokes (its_segment id number lent.h is).0 in
         let front = begins id number lent.h is in
         let shown : bytes ≡ take count (drop at whole) = lent.is ∙ ap (λ (bs : List ℕ). take count (drop at bs)) front.1
-            ∙ within_front whole front.0 at count (omega (arith, lent.can.inside, stands_size id number lent.h is)) in
-        (state, does held loader state agrees id (λ seen. bytes_refusal state.slots seen number at count) (Shown bytes) state _
-        (ap (λ (t : Slots). bytes_refusal t (seen_by loader id) number at count) (sym agrees.slots) ∙ lent.can.passes)
-        (user id number lent.h is) (one id number lent.h is).made
-        (whole, stands_there id number lent.h is, ap (λ (bs : List ℕ). Shown bs) shown, refl), agrees)
+        ∙ within_front whole front.0 at count (omega (arith, lent.can.inside, stands_size id number lent.h is)) in (
+          state,
+          does held loader state agrees id (λ seen. bytes_refusal state.slots seen number at count) (Shown bytes) state _
+              (ap (λ (t : Slots). bytes_refusal t (seen_by loader id) number at count) (sym agrees.slots) ∙ lent.can.passes)
+              (user id number lent.h is) (one id number lent.h is).made
+              (whole, stands_there id number lent.h is, ap (λ (bs : List ℕ). Shown bs) shown, refl),
+          agrees,
+        )
 
     pub lent_refused : (id number at count : ℕ) (fault : Refusal) → bytes_refusal loader.memory.slots (seen_by loader id) number at count ≡ Some fault
         → Met Makes held state (Bytes id number at count) (Refused fault) loader
-    lent_refused id number at count fault is =
-        (state, refuses held loader state agrees id (λ seen. bytes_refusal state.slots seen number at count) fault _
-        (ap (λ (t : Slots). bytes_refusal t (seen_by loader id) number at count) (sym agrees.slots) ∙ is), agrees)
+    lent_refused id number at count fault is = (
+      state,
+      refuses held loader state agrees id (λ seen. bytes_refusal state.slots seen number at count) fault _
+          (ap (λ (t : Slots). bytes_refusal t (seen_by loader id) number at count) (sym agrees.slots) ∙ is),
+      agrees,
+    )
 
     -- what is told of a segment is what the machine tells
     pub told_met : (id number : ℕ) (where' : Presence) (length' kind : ℕ) → HasTold loader id number where' length' kind
@@ -148,12 +153,15 @@ module _ (held : FileMap) (loader : Loaded) (state : Machine) (agrees : Agrees h
         let kept = kept_is held loader state agrees id told.kept told.made in
         let segment = headed kept.does_agree.segments number told.head (ap (λ (hs : List Head). at_number hs number) (sym kept.does_agree.heads) ∙ told.head') in
         let reply : SegmentIs where' length' kind ≡ SegmentIs (presence_at state.slots (handles_of kept.user) number) segment.0.fields.length segment.0.fields.kind =
-            ap (λ (p : Presence). SegmentIs p length' kind) (told.presence_is ∙ ap (λ (t : Slots). presence_at t told.kept.handles number) agrees.slots
-                ∙ ap (λ (hs : List (Option Handle)). presence_at state.slots hs number) (ap (λ (o : Outline). o.handles) kept.does_agree.same))
-            ∙ ap (λ (n : ℕ). SegmentIs (presence_at state.slots (handles_of kept.user) number) n kind) (told.length_is ∙ sym (ap (λ (head : Head). head.length) segment.2))
-            ∙ ap (λ (n : ℕ). SegmentIs (presence_at state.slots (handles_of kept.user) number) segment.0.fields.length n) (told.kind_is ∙ sym (ap (λ (head : Head). head.kind) segment.2)) in
-        (state, does held loader state agrees id (λ seen. info_refusal seen number) (SegmentIs where' length' kind) state _ told.passes
-        kept.user kept.made (sees_of id told.kept kept, segment.0, segment.1, reply, refl), agrees)
+        ap (λ (p : Presence). SegmentIs p length' kind) (told.presence_is ∙ ap (λ (t : Slots). presence_at t told.kept.handles number) agrees.slots
+        ∙ ap (λ (hs : List (Option Handle)). presence_at state.slots hs number) (ap (λ (o : Outline). o.handles) kept.does_agree.same))
+        ∙ ap (λ (n : ℕ). SegmentIs (presence_at state.slots (handles_of kept.user) number) n kind) (told.length_is ∙ sym (ap (λ (head : Head). head.length) segment.2))
+        ∙ ap (λ (n : ℕ). SegmentIs (presence_at state.slots (handles_of kept.user) number) segment.0.fields.length n) (told.kind_is ∙ sym (ap (λ (head : Head). head.kind) segment.2)) in (
+          state,
+          does held loader state agrees id (λ seen. info_refusal seen number) (SegmentIs where' length' kind) state _ told.passes
+              kept.user kept.made (sees_of id told.kept kept, segment.0, segment.1, reply, refl),
+          agrees,
+        )
 
     pub told_refused : (id number : ℕ) (fault : Refusal) → info_refusal (seen_by loader id) number ≡ Some fault → Met Makes held state (Info id number) (Refused fault) loader
     told_refused id number fault is = (state, refuses held loader state agrees id (λ seen. info_refusal seen number) fault _ is, agrees)
@@ -173,11 +181,11 @@ module _ (held : FileMap) (loader : Loaded) (state : Machine) (agrees : Agrees h
           let life : kept.0.life ≡ Running = ap (λ (o : Outline). o.life) in_state.does_agree.same ∙ ap (λ (u : User). u.life) same ∙ is.runs in
           let segments = one_load held is.sees.user.path in_state.does_agree.segments is.sees.segments (subst (λ (p : List ℕ). HoldsLoad held p in_state.does_agree.segments) path in_state.does_agree.holds) is.sees.holds in
           let head : at_number kept.0.heads number ≡ Some (head_of is.s) = ap (λ (hs : List Head). at_number hs number) in_state.does_agree.heads
-              ∙ ap (λ (ss : List Segment). at_number (map head_of ss) number) segments ∙ head_at is.sees.segments number is.s is.is in
+          ∙ ap (λ (ss : List Segment). at_number (map head_of ss) number) segments ∙ head_at is.sees.segments number is.s is.is in
           let there = active_is held state (handle_at (handles_of is.sees.user) number) is.h is.first is.active in
           let handle : handle_at kept.0.handles number ≡ Some is.h = ap (λ (hs : List (Option Handle)). handle_at hs number) kept.2 ∙ there.0 in
           let active : presence loader.memory.slots (Some is.h) ≡ Active is.h is.first =
-              ap (λ (t : Slots). presence t (Some is.h)) agrees.slots ∙ ap (presence state.slots) (sym there.0) ∙ is.active in
+          ap (λ (t : Slots). presence t (Some is.h)) agrees.slots ∙ ap (presence state.slots) (sym there.0) ∙ is.active in
           record {
             h = is.h;
             is = record { kept = kept.0; made = kept.1; runs = life; head = head_of is.s; head' = head; handle = handle; address = is.first; active = active };

@@ -1,5 +1,5 @@
 -- Calls on the script's own blocks: no user's block is touched.
-use Rattle.std.proofs.Common.{◌≡◌, ◌≢◌, ◌⊎◌, inl, inr, ℕ, Bool, true, false, ◌+◌, ◌<◌, ◌≤◌, ◌==◌, List, [], ◌∷◌, Option, Some, None, IsSome, refl, sym, ap, subst, ◌∙◌, arith}
+use Rattle.std.proofs.Common.{◌≡◌, ◌≢◌, inl, inr, ℕ, Bool, true, false, ◌+◌, ◌<◌, ◌==◌, List, [], ◌∷◌, Option, Some, None, IsSome, refl, sym, ap, subst, ◌∙◌, arith}
 use Rattle.std.specs.Prelude.{Contains, ◌^◌, slice_index_or, if◌then◌else◌}
 use Rattle.std.specs.Option.{option_map_or}
 use Rattle.std.proofs.lemmas.Option.{same_Some}
@@ -9,24 +9,22 @@ use Rattle.iigs_meaning.specs.declared.slots.Slot.{Slot}
 use Rattle.iigs_meaning.specs.declared.slots.Content.TheVariants.{Free, Used, Retired}
 use Rattle.iigs_meaning.specs.declared.wants.Want.{Want}
 use Rattle.iigs_meaning.specs.declared.wants.Block.{Block}
-use Rattle.iigs_meaning.specs.declared.wants.BlockState.{BlockState}
 use Rattle.iigs_meaning.specs.Slots.{get, slot_at, new_handle, with_slot, with_value, after_release, released}
 use Rattle.iigs_meaning.specs.Fits.{Slots, block_in}
-use Rattle.iigs_meaning.specs.Puts.{Purges, LacksRoom, Puts, placed}
+use Rattle.iigs_meaning.specs.Puts.{Purges, LacksRoom, Puts}
 use Rattle.iigs_meaning.specs.Blocks.{state_of}
 use Rattle.iigs_meaning.specs.Room.{CountsBelow, IsRoom}
-use Rattle.iigs_meaning.specs.Memory.{Memory, bytes_at, KeepsBut, IsPlaced, IsFreed, Changes}
+use Rattle.iigs_meaning.specs.Memory.{Memory, KeepsBut, IsPlaced, IsFreed, Changes}
 use Rattle.loader_machine.specs.declared.refusal.Refusal.{Refusal}
 use Rattle.loader_machine.specs.declared.refusal.Refusal.TheVariants.{NoHandle, NoRoom}
 use Rattle.loader_machine.specs.declared.seen.Head.{Head}
-use Rattle.loader_machine.specs.State.{Machine, first_id}
-use Rattle.loader_machine.specs.Presences.{presence, there_at}
-use Rattle.loader_machine.specs.Commands.{Command, Reply, Alloc, Free as FreeIt, Lock, StateOf, Room, Okay, Placed, BlockIs, RoomIs, Refused}
+use Rattle.loader_machine.specs.State.{Machine}
+use Rattle.loader_machine.specs.Commands.{Reply, Alloc, Free as FreeIt, StateOf, Room, Okay, Placed, BlockIs, RoomIs, Refused}
 use Rattle.loader_machine.specs.Refusals.{Refuse, free_refusal, change_refusal, state_refusal}
-use Rattle.loader_machine.specs.Steps.{Decides, with_slots, changed, Steps, StepsChange, StepsAlloc}
+use Rattle.loader_machine.specs.Steps.{Decides, with_slots, StepsChange}
 use Rattle.loader_machine.specs.Steps.StepsAlloc.{IsPlaced as AllocPlaced, HasNoHandle as AllocNoHandle, HasNoRoom as AllocNoRoom}
 use Rattle.loader_agrees.specs.Agrees.{Loaded, Agrees, Has, IsSound, Met}
-use Rattle.loader_agrees.specs.Frame.{Keeps, Same, Gone}
+use Rattle.loader_agrees.specs.Frame.{Same, Gone}
 use Rattle.loader_agrees.specs.Stay.{put_stays, put_apart, is_there}
 use Rattle.loader_agrees.specs.Slotted.{one_block, slot_apart, in_changed, in_put}
 use Rattle.loader_agrees.specs.Keeping.{AllKept, OnlyOld, agrees_kept}
@@ -104,27 +102,31 @@ module _ (held : FileMap) (old new : Loaded) (state : Machine) (sound : IsSound 
             (subst (λ (bs : List ℕ). Purges bs old.memory.slots want is.puts.address is.puts.room) agrees.banks is.puts.makes);
         handle = ap new_handle (sym agrees.slots) ∙ is.puts.handle;
         next_is = is.puts.next_is;
-      } in
-      (with_slots state new.memory.slots, AllocPlaced h new.memory.slots puts refl refl,
-      agrees_kept held old new state sound agrees is.kept.banks users (placed_kept old sound want 0 locked level h new.memory is))
+      } in (
+        with_slots state new.memory.slots,
+        AllocPlaced h new.memory.slots puts refl refl,
+        agrees_kept held old new state sound agrees is.kept.banks users (placed_kept old sound want 0 locked level h new.memory is),
+      )
 
   -- the script's handle is released
   pub free_met : (h : Handle) → free_refusal old.memory.slots h ≡ None → (block : Block) → get old.memory.slots h ≡ Some block → block.user ≡ 0 → IsFreed old.memory h new.memory
       → Met Purges held state (FreeIt h) Okay new
-  free_met h passes block is script freed =
-      (with_slots state new.memory.slots,
-      rw (ap (λ (t : Slots). free_refusal t h) (sym agrees.slots) ∙ passes) (refl, ap (with_slots state) (freed.slots ∙ ap (λ (t : Slots). after_release t h) agrees.slots)),
-      agrees_kept held old new state sound agrees freed.kept.banks users
-      (changed_kept old sound h block is script (released h.generation) new.memory freed.slots freed.kept))
+  free_met h passes block is script freed = (
+    with_slots state new.memory.slots,
+    rw (ap (λ (t : Slots). free_refusal t h) (sym agrees.slots) ∙ passes) (refl, ap (with_slots state) (freed.slots ∙ ap (λ (t : Slots). after_release t h) agrees.slots)),
+    agrees_kept held old new state sound agrees freed.kept.banks users
+        (changed_kept old sound h block is script (released h.generation) new.memory freed.slots freed.kept),
+  )
 
   -- the block of the script's handle is changed
   pub change_met : (h : Handle) (change : Block → Block) (reply : Reply) → reply ≡ Okay → change_refusal old.memory.slots h ≡ None → (changes : Changes old.memory h change new.memory) → changes.block.user ≡ 0
       → (next : Machine) × StepsChange state h change reply next × Agrees held new next
-  change_met h change reply okay passes changes script =
-      (with_slots state new.memory.slots,
-      rw (ap (λ (t : Slots). change_refusal t h) (sym agrees.slots) ∙ passes) (okay, ap (with_slots state) (slots_are (get state.slots h) refl)),
-      agrees_kept held old new state sound agrees changes.kept.banks users
-      (changed_kept old sound h changes.block changes.was script (record { generation = h.generation; content = Used (change changes.block) }) new.memory changes.slots changes.kept))
+  change_met h change reply okay passes changes script = (
+    with_slots state new.memory.slots,
+    rw (ap (λ (t : Slots). change_refusal t h) (sym agrees.slots) ∙ passes) (okay, ap (with_slots state) (slots_are (get state.slots h) refl)),
+    agrees_kept held old new state sound agrees changes.kept.banks users
+        (changed_kept old sound h changes.block changes.was script (record { generation = h.generation; content = Used (change changes.block) }) new.memory changes.slots changes.kept),
+  )
     where
       slots_are : (o : Option Block) → get state.slots h ≡ o → new.memory.slots ≡ option_map_or (λ block. with_value state.slots h (change block)) o state.slots
       slots_are None e = let clash : Some changes.block ≡ None = sym changes.was ∙ ap (λ (t : Slots). get t h) agrees.slots ∙ e in absurd cc
@@ -138,9 +140,12 @@ module _ (held : FileMap) (loader : Loaded) (state : Machine) (agrees : Agrees h
 
   pub alloc_lacks : (want : Want) (locked : Bool) (level : ℕ) → IsSome (new_handle loader.memory.slots) → LacksRoom Purges loader.memory.banks loader.memory.slots want
       → Met Purges held state (Alloc want locked level) (Refused (NoRoom 0)) loader
-  alloc_lacks want locked level some lacks =
-      (state, AllocNoRoom (subst (λ (t : Slots). IsSome (new_handle t)) agrees.slots some)
-      (subst (λ (t : Slots). LacksRoom Purges state.banks t want) agrees.slots (subst (λ (bs : List ℕ). LacksRoom Purges bs loader.memory.slots want) agrees.banks lacks)) refl refl, agrees)
+  alloc_lacks want locked level some lacks = (
+    state,
+    AllocNoRoom (subst (λ (t : Slots). IsSome (new_handle t)) agrees.slots some)
+        (subst (λ (t : Slots). LacksRoom Purges state.banks t want) agrees.slots (subst (λ (bs : List ℕ). LacksRoom Purges bs loader.memory.slots want) agrees.banks lacks)) refl refl,
+    agrees,
+  )
 
   -- a call that is refused by what the slots say leaves all as it is
   pub decides_refused : (refusal : Slots → Refuse) (fault : Refusal) (Done : Type 0) → refusal loader.memory.slots ≡ Some fault → Decides (refusal state.slots) state (Refused fault) state Done

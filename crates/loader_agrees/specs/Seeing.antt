@@ -14,7 +14,7 @@ use Rattle.loader_machine.specs.declared.refusal.Refusal.{Refusal}
 use Rattle.loader_machine.specs.declared.seen.Head.{Head}
 use Rattle.loader_machine.specs.declared.seen.Presence.TheVariants.{Active}
 use Rattle.iigs_meaning.specs.Fits.{Slots}
-use Rattle.loader_machine.specs.Heads.{head_of, at_number}
+use Rattle.loader_machine.specs.Heads.{head_of}
 use Rattle.loader_machine.specs.State.{User, Machine, Seen, first_id, user_of, handles_of}
 use Rattle.loader_machine.specs.Presences.{handle_at, presence, lies_in, lies_at}
 use Rattle.loader_machine.specs.Found.{HoldsLoad}

@@ -1,5 +1,5 @@
 -- Slots of which one is set, and what is in the others.
-use Rattle.std.proofs.Common.{◌≡◌, ◌≢◌, ◌⊎◌, inl, inr, ℕ, zero, suc, Bool, true, false, cond, ◌==◌, List, [], ◌∷◌, map, Option, Some, None, IsSome, is_some, get_or, refl, sym, ap, ◌∙◌}
+use Rattle.std.proofs.Common.{◌≡◌, ◌≢◌, ◌⊎◌, inl, inr, ℕ, zero, suc, Bool, true, false, cond, ◌==◌, List, [], ◌∷◌, Option, Some, None, is_some, get_or, refl, sym, ap, ◌∙◌}
 use Rattle.std.specs.Prelude.{slice_set, option_map}
 use Rattle.std.specs.Option.{option_map_or}
 use Rattle.std.proofs.lemmas.Bool.{cases_eq}
@@ -11,7 +11,7 @@ use Rattle.iigs_meaning.specs.declared.slots.Content.{Content}
 use Rattle.iigs_meaning.specs.declared.slots.Content.TheVariants.{Free, Used, Retired}
 use Rattle.iigs_meaning.specs.declared.wants.Want.{Want}
 use Rattle.iigs_meaning.specs.declared.wants.Block.{Block}
-use Rattle.iigs_meaning.specs.Slots.{slot_at, new_slot, get, used_value, lowest_free, new_handle, after_take, with_slot}
+use Rattle.iigs_meaning.specs.Slots.{slot_at, new_slot, get, used_value, lowest_free, new_handle, with_slot}
 use Rattle.iigs_meaning.specs.Fits.{Slots, block_in}
 use Rattle.iigs_meaning.specs.Placement.{emptied_where, emptied, is_gone}
 use Rattle.iigs_meaning.specs.Puts.{Purges, Puts, placed}

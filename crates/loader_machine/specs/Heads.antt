@@ -1,6 +1,6 @@
 -- What is kept of a segment's header, and what the segment asks of its place (GS/OS Reference, appendix F, "Segment header";
 -- the wants are this project's own).
-use Rattle.std.specs.Prelude.{◌≡◌, ℕ, zero, suc, Bool, ◌+◌, ◌/◌, ◌%◌, ◌==◌, ◌&&◌, max, false, not, List, [], ◌∷◌, Option, Some, None, slice_get, if◌then◌else◌}
+use Rattle.std.specs.Prelude.{ℕ, zero, suc, Bool, ◌+◌, ◌/◌, ◌%◌, ◌==◌, ◌&&◌, max, false, not, List, [], ◌∷◌, Option, Some, None, slice_get, if◌then◌else◌}
 use Rattle.omf_format.specs.Header.{form_of, is_dynamic, is_skipped, is_absolute_bank, is_bank_relative, avoids_special, stays_in_bank, alignment_of}
 use Rattle.omf_format.specs.File.{Segment}
 use Rattle.iigs_meaning.specs.declared.wants.Want.{Want}

@@ -1,6 +1,5 @@
 -- The files that a command reads: the paths that it needs in a state. These are this project's own rules.
-use Rattle.std.specs.Prelude.{◌≡◌, ◌⊎◌, ℕ, ◌+◌, Bool, true, false, not, ◌&&◌, ◌||◌, List, [], ◌∷◌, length, map, take, drop, Option, Some, None, if◌then◌else◌}
-use Rattle.omf_format.specs.File.{Segment}
+use Rattle.std.specs.Prelude.{◌≡◌, ◌⊎◌, ℕ, Bool, true, false, not, ◌||◌, List, [], ◌∷◌, length, take, drop, Option, Some, None}
 use Rattle.omf_io.specs.Files.{FileMap}
 use Rattle.load_meaning.specs.declared.table.Target.{Target}
 use Rattle.load_meaning.specs.LoadTable.{targets_of}

@@ -1,6 +1,6 @@
 -- What stands in a segment in memory: its cells at the places of the user's segments, or a table's entries, and the pokes over
 -- them (GS/OS Reference, appendix F, "Segment body" and jump table segment).
-use Rattle.std.specs.Prelude.{ℕ, ◌+◌, ◌==◌, Bool, List, [], ◌∷◌, map, Option, Some, None, unwrap_or, if◌then◌else◌}
+use Rattle.std.specs.Prelude.{ℕ, ◌+◌, ◌==◌, List, [], ◌∷◌, map, Option, None, unwrap_or, if◌then◌else◌}
 use Rattle.std.specs.Option.{option_map}
 use Rattle.std.specs.FinMap.{get}
 use Rattle.omf_format.specs.File.{Segment}

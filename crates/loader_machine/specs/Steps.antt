@@ -1,6 +1,6 @@
 -- What each command does to the machine, and what it answers. A refused command leaves the state. These are this project's own
 -- rules (GS/OS Reference, "System Loader", is the model for users, dynamic segments, shutdown and restart).
-use Rattle.std.specs.Prelude.{◌≡◌, ◌≢◌, ◌⊎◌, ℕ, ◌+◌, ◌-◌, ◌^◌, ◌==◌, ◌<◌, ◌≤◌, ◌&&◌, Bool, true, false, List, [], ◌∷◌, ◌++◌, length, map, take, drop, count_by, Option, Some, None, IsSome, is_some, slice_set, slice_index, if◌then◌else◌}
+use Rattle.std.specs.Prelude.{◌≡◌, ℕ, ◌+◌, ◌-◌, ◌^◌, ◌==◌, ◌<◌, ◌≤◌, ◌&&◌, Bool, true, false, List, [], ◌∷◌, ◌++◌, length, map, take, drop, count_by, Option, Some, None, IsSome, is_some, slice_set, slice_index, if◌then◌else◌}
 use Rattle.std.specs.Option.{option_map_or}
 use Rattle.std.specs.FinMap.{insert}
 use Rattle.omf_format.specs.Header.{is_reload}
@@ -20,10 +20,9 @@ use Rattle.iigs_meaning.specs.Placement.{emptied_where}
 use Rattle.iigs_meaning.specs.Puts.{MakesRoom, LacksRoom, Puts, PutsAnew, PutsAll, IsPlaceAllRefusal, without_user}
 use Rattle.iigs_meaning.specs.Blocks.{state_of, can_purge_of}
 use Rattle.iigs_meaning.specs.Room.{CountsBelow, IsRoom}
-use Rattle.loader_machine.specs.declared.refusal.Refusal.{Refusal}
 use Rattle.loader_machine.specs.declared.refusal.Refusal.TheVariants.{NotJsl, NoTarget, NotEntry, CannotRead, BadFile, NoHandle, NoRoom}
 use Rattle.loader_machine.specs.Heads.{Head, head_of, is_static, is_table, want_of, wants_of, number_of, entry_in}
-use Rattle.loader_machine.specs.State.{Life, Running, Dormant, Held, User, Machine, absent, fresh, Seen, empty_of, first_id, user_of, with_user, handles_of, held_at}
+use Rattle.loader_machine.specs.State.{Running, Dormant, Held, User, Machine, absent, fresh, Seen, empty_of, first_id, user_of, with_user, handles_of, held_at}
 use Rattle.loader_machine.specs.Presences.{Presence, Absent, Purged, Idle, Active, presence_at, handle_at, is_there}
 use Rattle.loader_machine.specs.Stands.{stands, setting}
 use Rattle.loader_machine.specs.Found.{HoldsLoad, Found, Unread, Bad, Good, IsFound}
