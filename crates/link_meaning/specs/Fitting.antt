@@ -1,0 +1,135 @@
+-- How a value fits into an expression record, and the cells of records at their places.
+use Rattle.std.specs.Prelude.{ℕ, ◌+◌, ◌-◌, ◌/◌, ◌%◌, ◌^◌, Bool, false, not, ◌&&◌, ◌||◌, ℤ, pos, List, [], ◌∷◌, length, map, Option, Some, None, Result, Ok, Err, nat_lt, nat_le, ◌==◌, if◌then◌else◌, slice_get, position, unwrap_or}
+use Rattle.std.specs.List.{list_any}
+use Rattle.byteorder.specs.Endian.{little_bytes}
+use Rattle.omf_format.specs.declared.value.Value.{Value}
+use Rattle.omf_format.specs.declared.value.Value.TheVariants.{Fixed, At}
+use Rattle.omf_format.specs.declared.value.ValueFault.{ValueFault}
+use Rattle.omf_format.specs.declared.value.ValueFault.TheVariants as faults
+use Rattle.omf_format.specs.Header.{Fields, is_dynamic}
+use Rattle.omf_format.specs.Value.{is_unshifted}
+use Rattle.load_meaning.specs.Cells.{Cell, Byte, Part, parts_from}
+use Rattle.load_meaning.specs.declared.table.Target.{Target}
+use Rattle.load_meaning.specs.Table.{is_same, with_target, most_entries, entry_place}
+use Rattle.link_meaning.specs.declared.fault.LinkCause.{LinkCause}
+use Rattle.link_meaning.specs.declared.fault.LinkCause.TheVariants.{DivideByZero, NotRelocatable, DynamicReference, OutOfSegment, TooManyEntries, DoesNotFit}
+
+-- ---- the table of what fits
+
+-- where an expression record stands: its load segment's number and BANKSIZE, and its place in the load segment
+pub record Frame : Type 0 where
+  pub own : ℕ
+  pub bank_size : ℕ
+  pub place : ℕ
+
+-- what a value becomes: the low bytes of a number, the bytes of a place, or those of the table's entry for a target
+pub data Fit : Type 0 where
+  Number : (n : ℕ) → Fit
+  Place : (segment offset : ℕ) (shift : ℤ) → Fit
+  Entry : (segment offset : ℕ) → Fit
+
+-- EXPR is $EB, ZEXPR $EC, BEXPR $ED, RELEXPR $EE, LEXPR $F3
+abbrev pub number_fit : ℕ → ℕ → ℕ → Option Fit
+number_fit code count n =
+    if code == 0xEB then Some (Number n)
+    else if code == 0xEE then None
+    else if nat_lt n (256 ^ count) then Some (Number n)
+    else None
+
+-- a distance from one offset to another, in two's complement, where it fits signed in so many bytes
+abbrev pub distance_fit : ℕ → ℕ → ℕ → Option Fit
+distance_fit count to from =
+    if nat_le from (to + 256 ^ count / 2) && nat_lt to (from + 256 ^ count / 2)
+    then Some (Number ((to + 256 ^ count - from) % 256 ^ count))
+    else None
+
+abbrev pub place_fit : Frame → ℕ → ℕ → ℕ → ℕ → ℕ → ℤ → Option Fit
+place_fit f code count n segment offset shift =
+    let near = segment == f.own && is_unshifted shift in
+    if code == 0xEB || code == 0xF3 then Some (Place segment offset shift)
+    else if code == 0xED then (if near && not (f.bank_size == 0) then Some (Place segment offset shift) else None)
+    else if code == 0xEE then (if near then distance_fit count offset (f.place + n) else None)
+    else None
+
+-- ---- dynamic segments
+
+abbrev pub load_header : List Fields → ℕ → Option Fields
+load_header headers number = slice_get headers (number - 1)
+
+abbrev pub is_dynamic_load : List Fields → ℕ → Bool
+is_dynamic_load headers number = elim (load_header headers number) [ None ↦ false | Some f ↦ is_dynamic f.kind ]
+
+abbrev pub length_of : List Fields → ℕ → ℕ
+length_of headers number = elim (load_header headers number) [ None ↦ 0 | Some f ↦ f.length ]
+
+abbrev pub is_jsl_byte : Cell → Bool
+is_jsl_byte (Byte b) = b == 0x22
+is_jsl_byte (Part file segment offset shift index) = false
+
+-- the last of the cells is the byte $22
+abbrev pub ends_in_jsl : List Cell → Bool
+ends_in_jsl [] = false
+ends_in_jsl (c ∷ []) = is_jsl_byte c
+ends_in_jsl (c ∷ d ∷ cells) = ends_in_jsl (d ∷ cells)
+
+-- LEXPR of three bytes, without a shift, behind a byte $22
+abbrev pub is_call : ℕ → ℕ → ℤ → List Cell → Bool
+is_call code count shift before = code == 0xF3 && count == 3 && is_unshifted shift && ends_in_jsl before
+
+-- the place to call, a segment of the file itself
+abbrev pub target_of : ℕ → ℕ → Target
+target_of segment offset = record { file = 1; segment = segment; offset = offset }
+
+-- the target has an entry, or there is room for one more
+abbrev pub has_room_for : List Target → Target → Bool
+has_room_for targets target = list_any (is_same target) targets || nat_lt (length targets) most_entries
+
+abbrev pub or_does_not_fit : Option Fit → Result Fit LinkCause
+or_does_not_fit None = Err DoesNotFit
+or_does_not_fit (Some fit) = Ok fit
+
+-- a place in another dynamic segment is reached by a call alone, through the table
+abbrev pub call_fit : List Fields → List Target → Bool → ℕ → ℕ → Result Fit LinkCause
+call_fit headers targets call segment offset =
+    if not call then Err DynamicReference
+    else if nat_le (length_of headers segment) offset then Err OutOfSegment
+    else if not (has_room_for targets (target_of segment offset)) then Err TooManyEntries
+    else Ok (Entry segment offset)
+
+abbrev pub fitted : List Fields → Frame → List Target → List Cell → ℕ → ℕ → ℕ → Value → Result Fit LinkCause
+fitted headers f targets before code count n (Fixed k) = or_does_not_fit (number_fit code count k)
+fitted headers f targets before code count n (At file segment offset shift) =
+    if not (segment == f.own) && is_dynamic_load headers segment
+    then call_fit headers targets (is_call code count shift before) segment offset
+    else or_does_not_fit (place_fit f code count n segment offset shift)
+
+-- ---- cells
+
+-- the cells of a fit in so many bytes, with the targets up to it; the table is the load segment with this number
+abbrev pub parts : ℕ → ℕ → ℕ → ℤ → List Cell
+parts count segment offset shift =
+    parts_from (record { location = 0; count = count; file = 1; segment = segment; offset = offset; shift = shift }) 0 count
+
+-- the place of a target's entry among all, from 0
+abbrev pub entry_of : List Target → Target → ℕ
+entry_of targets target = unwrap_or (position (is_same target) targets) (length targets)
+
+abbrev pub fit_cells : ℕ → ℕ → List Target → Fit → List Cell
+fit_cells table count targets (Number n) = map Byte (little_bytes count n)
+fit_cells table count targets (Place segment offset shift) = parts count segment offset shift
+fit_cells table count targets (Entry segment offset) = parts count table (entry_place (entry_of targets (target_of segment offset))) (pos 0)
+
+abbrev pub targets_behind : List Target → Fit → List Target
+targets_behind targets (Number n) = targets
+targets_behind targets (Place segment offset shift) = targets
+targets_behind targets (Entry segment offset) = with_target targets (target_of segment offset)
+
+-- the value's fault as one of the linker; the names are known here, so there is no `Unknown`
+abbrev pub value_cause : ValueFault → LinkCause
+value_cause faults.DivideByZero = DivideByZero
+value_cause faults.NotRelocatable = NotRelocatable
+value_cause (faults.Unknown at) = NotRelocatable
+
+abbrev pub valued : Result Value ValueFault → Result Value LinkCause
+valued (Ok v) = Ok v
+valued (Err fault) = Err (value_cause fault)

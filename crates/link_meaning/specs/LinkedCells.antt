@@ -1,0 +1,124 @@
+-- What the linker makes of the list: the object cells of each member, and the cells of each load segment.
+use Rattle.std.specs.Prelude.{ℕ, ◌+◌, ◌-◌, List, [], ◌∷◌, ◌++◌, length, map, replicate, filter, Some, None, Result, Ok, Err, ◌==◌, if◌then◌else◌, nat_le}
+use Rattle.omf_format.specs.Field.{◌>>=◌}
+use Rattle.omf_format.specs.Record.{Record, End, Const, LongConst, Align, Org, Space, Reloc, InterSeg, ShortReloc, ShortInterSeg, Super, Using, Strong, Label, Equate, Formula, Entry}
+use Rattle.omf_format.specs.Header.{Fields}
+use Rattle.load_meaning.specs.Cells.{Cell, Byte}
+use Rattle.link_meaning.specs.declared.fault.LinkCause.{LinkCause}
+use Rattle.link_meaning.specs.Sizes.{Located, padding, located}
+use Rattle.link_meaning.specs.Member.{Member}
+use Rattle.link_meaning.specs.Layout.{in_load, load_names, load_headers, load_of, offset_of}
+use Rattle.link_meaning.specs.LinkValues.{Told, value_in}
+use Rattle.load_meaning.specs.declared.table.Target.{Target}
+use Rattle.link_meaning.specs.Fitting.{Frame, load_header, fitted, fit_cells, targets_behind, valued}
+
+-- ---- records in list order
+
+-- a record of the member at a place of the list
+pub record Item : Type 0 where
+  pub place : ℕ
+  pub member : Member
+  pub here : Located
+
+abbrev pub items_from : ℕ → List Member → List Item
+items_from place [] = []
+items_from place (m ∷ members) = map (λ r. record { place = place; member = m; here = r }) (located m.segment) ++ items_from (place + 1) members
+
+unfoldable pub items : List Member → List Item
+items list = items_from 1 list
+
+-- ---- the cells of a record
+
+-- the number of the load segment that is the table, behind all others
+abbrev pub table_number : List Member → ℕ
+table_number list = length (load_names list) + 1
+
+abbrev pub bank_of : List Fields → ℕ → ℕ
+bank_of headers number = elim (load_header headers number) [ None ↦ 0 | Some f ↦ f.bank_size ]
+
+abbrev pub frame_of : List Member → Item → Frame
+frame_of list i =
+    let own = load_of list i.member in
+    record { own = own; bank_size = bank_of (load_headers list) own; place = offset_of list i.place i.member + i.here.location }
+
+-- what was made so far: the targets in order of first reference, and the cells of the member at this place
+pub record State : Type 0 where
+  pub targets : List Target
+  pub place : ℕ
+  pub cells : List Cell
+
+-- a member begins without cells
+abbrev pub cells_before : State → Item → List Cell
+cells_before state i = if state.place == i.place then state.cells else []
+
+-- what a record gives: its cells, and the targets behind it
+abbrev pub Made : Type 0
+Made = List Cell × List Target
+
+abbrev pub zeros : ℕ → List Cell
+zeros n = replicate n (Byte 0)
+
+abbrev pub made_by : List Member → List Told → State → Item → Record → Result Made LinkCause
+made_by list table state i End = Ok ([], state.targets)
+made_by list table state i (Const bytes) = Ok (map Byte bytes, state.targets)
+made_by list table state i (LongConst bytes) = Ok (map Byte bytes, state.targets)
+made_by list table state i (Align n) = Ok (zeros (padding n i.here.location), state.targets)
+made_by list table state i (Org n) = Ok (zeros n, state.targets)
+made_by list table state i (Space n) = Ok (zeros n, state.targets)
+made_by list table state i (Reloc count shift location offset) = Ok ([], state.targets)
+made_by list table state i (InterSeg count shift location file segment offset) = Ok ([], state.targets)
+made_by list table state i (ShortReloc count shift location offset) = Ok ([], state.targets)
+made_by list table state i (ShortInterSeg count shift location segment offset) = Ok ([], state.targets)
+made_by list table state i (Super form bytes) = Ok ([], state.targets)
+made_by list table state i (Using name) = Ok ([], state.targets)
+made_by list table state i (Strong name) = Ok ([], state.targets)
+made_by list table state i (Label global name size form private) = Ok ([], state.targets)
+made_by list table state i (Equate global name size form private expr) =
+    valued (value_in list table i.place i.member i.here.location expr) >>= λ v. Ok ([], state.targets)
+made_by list table state i (Formula code count n expr) =
+    valued (value_in list table i.place i.member i.here.location expr) >>= λ v.
+    fitted (load_headers list) (frame_of list i) state.targets (cells_before state i) code count n v >>= λ fit.
+    let targets = targets_behind state.targets fit in
+    Ok (fit_cells (table_number list) count targets fit, targets)
+made_by list table state i (Entry segment offset name) = Ok ([], state.targets)
+
+unfoldable pub made : List Member → List Told → State → Item → Result Made LinkCause
+made list table state i = made_by list table state i i.here.content
+
+-- ---- behind records
+
+abbrev pub gained : State → Item → Result Made LinkCause → State
+gained state i (Err cause) = state
+gained state i (Ok x) = record { targets = x.1; place = i.place; cells = cells_before state i ++ x.0 }
+
+abbrev pub state_from : List Member → List Told → State → List Item → State
+state_from list table state [] = state
+state_from list table state (i ∷ is) = state_from list table (gained state i (made list table state i)) is
+
+-- what these records, the first ones of the list, made
+unfoldable pub state_behind : List Member → List Told → List Item → State
+state_behind list table is = state_from list table (record { targets = []; place = 0; cells = [] }) is
+
+-- the distinct targets in order of first reference
+unfoldable pub targets : List Member → List Told → List Target
+targets list table = (state_behind list table (items list)).targets
+
+-- ---- members and load segments
+
+-- the cells of a member: those of its records, and RESSPC zeros
+unfoldable pub member_cells : List Member → List Told → ℕ → Member → List Cell
+member_cells list table place m =
+    (state_behind list table (filter (λ i. nat_le i.place place) (items list))).cells ++ zeros m.segment.fields.res_spc
+
+-- the cells of a load segment so far, with those of the members from this place on at their offsets
+abbrev pub cells_from : List Member → List Told → List ℕ → List Cell → ℕ → List Member → List Cell
+cells_from list table load_name cells place [] = cells
+cells_from list table load_name cells place (m ∷ members) = cells_from list table load_name
+    (if in_load load_name m
+    then cells ++ zeros (offset_of list place m - length cells) ++ member_cells list table place m
+    else cells)
+    (place + 1) members
+
+-- the linked cells of the load segment with this load name
+unfoldable pub linked : List Member → List Told → List ℕ → List Cell
+linked list table load_name = cells_from list table load_name [] 1 list
