@@ -5,15 +5,15 @@
 mod dictionary;
 mod fault;
 mod known;
-mod member;
 mod names_behind;
 mod outer;
 mod parts;
 mod reading;
 mod record_forms;
 mod rows;
+#[cfg(test)]
+mod tests;
 
 pub use dictionary::{Dictionary, Row};
-pub use fault::{DictFault, LibCause, LibFault};
-pub use member::Member;
+pub use fault::DictFault;
 pub use reading::read_dictionary;
