@@ -1,0 +1,7 @@
+use Rattle.std.proofs.Common.{arith, ap, length}
+use Rattle.lib_dict.proofs.Sets.{rows-step}
+use Rattle.lib_dict.proofs.known.known_rows.Goals as goal
+
+pub rows-preserved : goal.rows-preserved
+rows-preserved c =
+    rows-step c.args.rows.now.items c.deref-row-items.result.now c.rows.row-index _ c.rows.known.keys c.insert.new.self.keys (omega (arith, c.rows-test.true, ap length c.deref-row-items.ensures.value)) c.deref-row-items.ensures.value c.rows.invariant c.in_ok-insert.ensures.keys

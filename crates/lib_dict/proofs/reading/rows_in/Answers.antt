@@ -1,0 +1,61 @@
+use Rattle.std.proofs.Common.{◌≡◌, ℕ, ◌+◌, List, Some, None, map, drop, length, IfOk, IfErr, sym, subst, arith}
+use Rattle.omf_format.specs.File.{Segment}
+use Rattle.lib_dict.specs.Library.{LibraryRow}
+use Rattle.lib_dict.specs.View.{outer_row}
+use Rattle.lib_dict.specs.Tables.{AreNumbers, AreStarts, HoldsRows, AreRowsIn, IsRowFault}
+use Rattle.lib_dict.proofs.ReadLaws.{Answer, no_numbers, no_rows, no_names, all_forms, numbers_fit, names_named, starts_fit, few_segments}
+use Rattle.lib_dict.proofs.reading.rows_in.Goals as goal
+
+pub returns-in-None-clause-err : goal.returns-in-None-clause-err
+returns-in-None-clause-err c =
+    let p = c.args.parts in
+    let none : AreNumbers None p.first.now = rw c.in-None.is at c.in_ok-numbers.ensures in
+    no_numbers c.args.start p.at p.first.now p.second.now p.third.now (drop 1 c.args.list.now) none
+
+pub returns-then-parts-ne0-clause-err : goal.returns-then-parts-ne0-clause-err
+returns-then-parts-ne0-clause-err c =
+    let p = c.args.parts in
+    let numbers : AreNumbers (Some c.in-Some.numbers.keys) p.first.now = rw c.in-Some.is at c.in_ok-numbers.ensures in
+    no_rows c.args.start p.at p.first.now p.second.now p.third.now (drop 1 c.args.list.now) numbers.0 numbers.1 (λ e. absurd (omega (arith, c.if-parts-ne0.true)))
+
+pub name_starts-requires : goal.name_starts-requires
+name_starts-requires c = c.requires.place.third'
+
+pub returns-in-None-2-clause-err : goal.returns-in-None-2-clause-err
+returns-in-None-2-clause-err c =
+    let p = c.args.parts in
+    let numbers : AreNumbers (Some c.in-Some.numbers.keys) p.first.now = rw c.in-Some.is at c.in_ok-numbers.ensures in
+    let none : AreStarts None p.third.now = rw c.in-None-2.is at c.in_ok-starts.ensures in
+    no_names c.args.start p.at p.first.now p.second.now p.third.now (drop 1 c.args.list.now) numbers.0 numbers.1 (omega (arith, c.if-parts-ne0.false)) none
+
+pub names_behind-requires : goal.names_behind-requires
+names_behind-requires c = few_segments c.args.list.now c.requires.file
+
+pub rows_of-requires-clause-fits : goal.rows_of-requires-clause-fits
+rows_of-requires-clause-fits c =
+    let p = c.args.parts in
+    let numbers : AreNumbers (Some c.in-Some.numbers.keys) p.first.now = rw c.in-Some.is at c.in_ok-numbers.ensures in
+    let starts : AreStarts (Some c.in-Some-2.starts.keys) p.third.now = rw c.in-Some-2.is at c.in_ok-starts.ensures in
+    record {
+      numbers = numbers_fit c.in-Some.numbers.keys p.first.now numbers;
+      starts = starts_fit c.in-Some-2.starts.keys p.third.now starts;
+      named = names_named c.in-Some-2.starts.keys p.third.now starts;
+      known = subst (λ (rows : List LibraryRow). HoldsRows (map outer_row c.in_ok-known.known.keys) rows) c.in_ok-outers.ensures c.in_ok-known.ensures;
+      file = c.requires.file;
+    }
+
+pub returns-clause-ok : goal.returns-clause-ok
+returns-clause-ok c =
+    let p = c.args.parts in
+    let numbers : AreNumbers (Some c.in-Some.numbers.keys) p.first.now = rw c.in-Some.is at c.in_ok-numbers.ensures in
+    let starts : AreStarts (Some c.in-Some-2.starts.keys) p.third.now = rw c.in-Some-2.is at c.in_ok-starts.ensures in
+    let same = all_forms c.args.start p.at p.first.now p.second.now p.third.now (drop 1 c.args.list.now) numbers.0 starts.0 numbers.1 (omega (arith, c.if-parts-ne0.false)) starts.1 in
+    subst (λ (a : Answer). IfOk c.rows_of.result (λ rows. AreRowsIn c.args.list.now a rows.items)) (sym same) c.rows_of.ensures.ok
+
+pub returns-clause-err : goal.returns-clause-err
+returns-clause-err c =
+    let p = c.args.parts in
+    let numbers : AreNumbers (Some c.in-Some.numbers.keys) p.first.now = rw c.in-Some.is at c.in_ok-numbers.ensures in
+    let starts : AreStarts (Some c.in-Some-2.starts.keys) p.third.now = rw c.in-Some-2.is at c.in_ok-starts.ensures in
+    let same = all_forms c.args.start p.at p.first.now p.second.now p.third.now (drop 1 c.args.list.now) numbers.0 starts.0 numbers.1 (omega (arith, c.if-parts-ne0.false)) starts.1 in
+    subst (λ (a : Answer). IfErr c.rows_of.result (λ fault. IsRowFault fault a)) (sym same) c.rows_of.ensures.err

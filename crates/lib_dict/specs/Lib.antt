@@ -1,0 +1,5 @@
+pub mod Library
+pub mod View
+pub mod Rows
+pub mod Parts
+pub mod Tables

@@ -1,0 +1,103 @@
+//! Reading the dictionary of a library.
+
+ghost use Rattle.std.specs.Prelude.{◌≡◌, ◌<◌, ◌+◌, ◌^◌, length, drop, IfOk, IfErr};
+ghost use Rattle.omf_format.specs.File.{IsFile};
+ghost use Rattle.omf_records.specs.Segments.{IsRefused};
+ghost use Rattle.link_meaning.specs.Dictionary.{rows_in};
+ghost use Rattle.lib_dict.specs.Library.{HasRows};
+ghost use Rattle.lib_dict.specs.Rows.{HasNoRows};
+ghost use Rattle.lib_dict.specs.Parts.{seen_parts, HasPlace};
+ghost use Rattle.lib_dict.specs.Tables.{IsInFile, AreRowsIn, IsRowFault, FaultOf};
+
+use crate::dictionary::{Dictionary, Row};
+use crate::fault::DictFault;
+use crate::known::known_rows;
+use crate::names_behind::{DICTIONARY, names_behind};
+use crate::parts::{Parts, parts_of};
+use crate::record_forms::{file_numbers, name_starts};
+use crate::rows::{ROW, Tables, rows_of};
+use omf_format::{FileCause, FileFault};
+use omf_records::{SegmentList, segments};
+use std::alloc::Global;
+
+/// A file's fault as one of its dictionary.
+fn file_fault(fault: FileFault) -> DictFault
+    ensures { FaultOf fault result }
+{
+    match fault.cause {
+        FileCause::Truncated => DictFault::File(fault),
+        FileCause::BadHeader => DictFault::File(fault),
+        FileCause::Unsupported => DictFault::File(fault),
+        FileCause::BadRecord => DictFault::File(fault),
+        FileCause::Memory => DictFault::Memory,
+    }
+}
+
+/// The rows of the dictionary that starts there, where its three records have their forms.
+fn rows_in<'a>(
+    alloc: Global,
+    list: &SegmentList<'a>,
+    start: u32,
+    parts: Parts<'a>,
+) -> Result<Vec<Row<'a>>, DictFault>
+    requires file { IsInFile list.now }
+    requires place { HasPlace (seen_parts parts) }
+    ensures ok { IfOk result (λ rows. AreRowsIn list.now
+        (rows_in start parts.entry.at parts.entry.first.now parts.entry.second.now parts.entry.third.now (drop 1 list.now)) rows.items) }
+    ensures few { IfOk result (λ rows. length rows.items < 2 ^ 32) }
+    ensures err { IfErr result (λ fault. IsRowFault fault
+        (rows_in start parts.entry.at parts.entry.first.now parts.entry.second.now parts.entry.third.now (drop 1 list.now))) }
+{
+    let numbers = match file_numbers(alloc, parts.first)? {
+        Some(numbers) => numbers,
+        None => return Err(DictFault::BadLibrary(start)),
+    };
+    if parts.second.len() % ROW != 0 {
+        return Err(DictFault::BadLibrary(start));
+    }
+    let starts = match name_starts(alloc, parts.third)? {
+        Some(starts) => starts,
+        None => return Err(DictFault::BadLibrary(start)),
+    };
+    let outers = names_behind(alloc, &*list)?;
+    let known = known_rows(alloc, &outers)?;
+    let tables = Tables {
+        first: parts.first,
+        numbers,
+        third: parts.third,
+        starts,
+        list: &*list,
+        known,
+    };
+    rows_of(alloc, &tables, parts.second, parts.at + 5)
+}
+
+/// The dictionary of a library. `File` is the file's first fault; `NotLibrary` comes where the file is sound and doesn't begin
+/// with a segment of type $08; `BadLibrary` comes where its dictionary isn't laid out as one, or has a row that the library
+/// doesn't bear out. LENGTH of the dictionary isn't looked at.
+pub fn read_dictionary<'a>(alloc: Global, file: &'a [u8]) -> Result<Dictionary<'a>, DictFault>
+    requires { length file.now < 2 ^ 32 }
+    ensures rows { IfOk result (λ dictionary. HasRows file.now dictionary) }
+    ensures refused { IfErr result (λ fault. HasNoRows fault file.now) }
+{
+    let list = match segments(alloc, file) {
+        Ok(list) => list,
+        Err(fault) => return Err(file_fault(fault)),
+    };
+    let first = match list.get(1) {
+        Some(view) => view,
+        None => return Err(DictFault::NotLibrary),
+    };
+    if first.header.kind.form() != DICTIONARY {
+        return Err(DictFault::NotLibrary);
+    }
+    let parts = match parts_of(first.records()) {
+        Some(parts) => parts,
+        None => return Err(DictFault::BadLibrary(first.start)),
+    };
+    let start = first.start;
+    match rows_in(alloc, &list, start, parts) {
+        Ok(rows) => Ok(Dictionary { rows }),
+        Err(fault) => Err(fault),
+    }
+}

@@ -1,0 +1,158 @@
+// What no clause says: that the definitions are those of the field, and that memory is enough.
+use crate::{DictFault, Row, read_dictionary};
+use omf_format::{FileCause, FileFault};
+use std::alloc::{AllocError, Global};
+use std::test::Fail;
+
+/// A segment MAIN with a GLOBAL G, a private GEQU Q, a LOCAL and an EQU: put together by hand.
+const MAIN: [u8; 102] = [
+    0x66, 0, 0, 0, 0, 0, 0, 0, 1, 0, 0, 0, 0, 0, 4, 2, 0, 0, 1, 0, 0, 0, 0, 0, 0, 0, 0, 0, 0, 0, 0,
+    0, 0, 0, 1, 0, 0, 0, 0, 0, 0x2C, 0, 0x3B, 0, 0x20, 0x20, 0x20, 0x20, 0x20, 0x20, 0x20, 0x20,
+    0x20, 0x20, 4, 0x4D, 0x41, 0x49, 0x4E, 1, 0xEA, 0xE6, 1, 0x47, 1, 0, 0x4E, 0, 0xE7, 1, 0x51, 0,
+    0, 0x47, 1, 0x81, 5, 0, 0, 0, 0, 0xEF, 1, 0x4C, 1, 0, 0x4E, 0, 0xF0, 1, 0x45, 0, 0, 0x47, 0,
+    0x81, 5, 0, 0, 0, 0, 0,
+];
+
+/// A private segment without a name, with a private GLOBAL G.
+const OTHER: [u8; 65] = [
+    0x41, 0, 0, 0, 0, 0, 0, 0, 1, 0, 0, 0, 0, 0, 4, 2, 0, 0, 1, 0, 0, 0x40, 0, 0, 0, 0, 0, 0, 0, 0,
+    0, 0, 0, 0, 1, 0, 0, 0, 0, 0, 0x2C, 0, 0x37, 0, 0x20, 0x20, 0x20, 0x20, 0x20, 0x20, 0x20, 0x20,
+    0x20, 0x20, 0, 0xE6, 1, 0x47, 0, 0, 0x4E, 1, 1, 0x60, 0,
+];
+
+/// The dictionary of the files `a`, which is MAIN, and `bb`, which is OTHER and MAIN: the file numbers at $41, the rows at $51
+/// and the names at $AA.
+const DICTIONARY: [u8; 196] = [
+    0xC4, 0, 0, 0, 0, 0, 0, 0, 0x73, 0, 0, 0, 0, 0, 4, 2, 0, 0, 0, 0, 8, 0, 0, 0, 0, 0, 0, 0, 0, 0,
+    0, 0, 0, 0, 1, 0, 0, 0, 0, 0, 0x2C, 0, 0x41, 0, 0x20, 0x20, 0x20, 0x20, 0x20, 0x20, 0x20, 0x20,
+    0x20, 0x20, 0x0A, 0x44, 0x49, 0x43, 0x54, 0x49, 0x4F, 0x4E, 0x41, 0x52, 0x59, 0xF2, 0x0B, 0, 0,
+    0, 1, 0, 1, 0x61, 2, 0, 2, 0x62, 0x62, 0, 0, 0xF2, 0x54, 0, 0, 0, 0, 0, 0, 0, 1, 0, 0, 0, 0xC4,
+    0, 0, 0, 5, 0, 0, 0, 1, 0, 0, 0, 0xC4, 0, 0, 0, 7, 0, 0, 0, 1, 0, 1, 0, 0xC4, 0, 0, 0, 9, 0, 0,
+    0, 2, 0, 1, 0, 0x2A, 1, 0, 0, 0x0B, 0, 0, 0, 2, 0, 0, 0, 0x6B, 1, 0, 0, 0x10, 0, 0, 0, 2, 0, 0,
+    0, 0x6B, 1, 0, 0, 0x12, 0, 0, 0, 2, 0, 1, 0, 0x6B, 1, 0, 0, 0xF2, 0x14, 0, 0, 0, 4, 0x4D, 0x41,
+    0x49, 0x4E, 1, 0x47, 1, 0x51, 1, 0x47, 4, 0x4D, 0x41, 0x49, 0x4E, 1, 0x47, 1, 0x51, 0,
+];
+
+/// The library of those two files.
+fn library(alloc: Global) -> Result<Vec<u8>, AllocError> {
+    let mut bytes = Vec::new(alloc);
+    bytes.extend_from_slice(&DICTIONARY)?;
+    bytes.extend_from_slice(&MAIN)?;
+    bytes.extend_from_slice(&OTHER)?;
+    bytes.extend_from_slice(&MAIN)?;
+    Ok(bytes)
+}
+
+/// The fault of that library with bytes changed at displacements.
+fn fault_of(alloc: Global, changes: &[(usize, u8)]) -> Option<DictFault> {
+    match library(alloc) {
+        Ok(bytes) => {
+            let mut bytes = bytes;
+            for (at, value) in changes {
+                if let Some(byte) = bytes.get_mut(*at) {
+                    *byte = *value;
+                }
+            }
+            read_dictionary(alloc, &bytes).err()
+        }
+        Err(AllocError) => Some(DictFault::Memory),
+    }
+}
+
+#[test]
+fn the_rows_of_a_library(rt: HostRuntime) -> Result<(), Fail> {
+    let alloc = rt.alloc();
+    let bytes = library(alloc)?;
+    let dictionary = match read_dictionary(alloc, &bytes) {
+        Ok(dictionary) => dictionary,
+        Err(fault) => panic!(rt; "{fault:?}"),
+    };
+    assert_eq!(rt; dictionary.count(), 7);
+    let wanted: [(&[u8], u16, bool, u32); 7] = [
+        (b"MAIN", 1, false, 196),
+        (b"G", 1, false, 196),
+        (b"Q", 1, true, 196),
+        (b"G", 2, true, 298),
+        (b"MAIN", 2, false, 363),
+        (b"G", 2, false, 363),
+        (b"Q", 2, true, 363),
+    ];
+    let mut place = 0;
+    for (name, file, private, at) in wanted {
+        let row = Row {
+            name,
+            file,
+            private,
+            at,
+        };
+        assert_eq!(rt; dictionary.row(place), Some(row), "row {place}");
+        place += 1;
+    }
+    assert_eq!(rt; dictionary.row(7), None);
+    Ok(())
+}
+
+#[test]
+fn a_false_dictionary_has_its_place(rt: HostRuntime) {
+    let alloc = rt.alloc();
+    assert_eq!(rt; fault_of(alloc, &[]), None);
+
+    // The first row: no name starts there, no file has the number, MAIN isn't private, no segment starts there, and the
+    // dictionary itself does.
+    for changes in [
+        [(86, 1), (86, 1)],
+        [(90, 3), (90, 3)],
+        [(90, 0), (90, 0)],
+        [(92, 1), (92, 1)],
+        [(93, 1), (93, 1)],
+        [(94, 0xC5), (94, 0xC5)],
+        [(94, 0), (94, 0)],
+    ] {
+        assert_eq!(rt; fault_of(alloc, &changes), Some(DictFault::BadLibrary(86)));
+    }
+
+    // The fourth row: G of the segment without a name is private. Every flag but 0 says so.
+    assert_eq!(rt;
+        fault_of(alloc, &[(128, 0)]),
+        Some(DictFault::BadLibrary(122))
+    );
+    assert_eq!(rt; fault_of(alloc, &[(128, 2)]), None);
+    assert_eq!(rt; fault_of(alloc, &[(128, 0), (129, 1)]), None);
+
+    // Of two false rows the first is told.
+    assert_eq!(rt;
+        fault_of(alloc, &[(98, 1), (158, 1)]),
+        Some(DictFault::BadLibrary(98))
+    );
+
+    // A 0 before the end, a name that runs over, a last record that isn't an LCONST, and a name that runs over there.
+    for (at, value) in [(70, 0), (72, 0x40), (170, 0x18), (193, 2)] {
+        assert_eq!(rt;
+            fault_of(alloc, &[(at, value)]),
+            Some(DictFault::BadLibrary(0)),
+            "at {at}"
+        );
+    }
+}
+
+#[test]
+fn what_is_no_library(rt: HostRuntime) {
+    let alloc = rt.alloc();
+    assert_eq!(rt;
+        read_dictionary(alloc, &MAIN).err(),
+        Some(DictFault::NotLibrary)
+    );
+    assert_eq!(rt;
+        read_dictionary(alloc, &[]).err(),
+        Some(DictFault::NotLibrary)
+    );
+    let cut = FileFault {
+        cause: FileCause::Truncated,
+        segment: 1,
+        at: 43,
+    };
+    assert_eq!(rt;
+        read_dictionary(alloc, &DICTIONARY[..43]).err(),
+        Some(DictFault::File(cut))
+    );
+}
