@@ -242,7 +242,12 @@ fn patches_lie_inside_and_have_targets(rt: HostRuntime) {
     for (patch, want) in [
         ([0xE2, 4, 0, 4, 0, 0, 0, 0, 0, 0, 0, 0, 0, 0, 0, 0], None),
         ([0xE2, 4, 0, 5, 0, 0, 0, 0, 0, 0, 0, 0, 0, 0, 0, 0], outside),
-        ([0xE2, 1, 0, 0xFF, 0xFF, 0xFF, 0xFF, 0, 0, 0, 0, 0, 0, 0, 0, 0], outside),
+        (
+            [
+                0xE2, 1, 0, 0xFF, 0xFF, 0xFF, 0xFF, 0, 0, 0, 0, 0, 0, 0, 0, 0,
+            ],
+            outside,
+        ),
         ([0xF5, 3, 0, 5, 0, 0, 0, 0, 0, 0, 0, 0, 0, 0, 0, 0], None),
         ([0xF5, 3, 0, 6, 0, 0, 0, 0, 0, 0, 0, 0, 0, 0, 0, 0], outside),
         ([0xF7, 3, 0, 0, 0, 0, 0, 6, 0, 0, 0, 0, 0, 0, 0, 0], None),
@@ -320,7 +325,10 @@ fn cells_are_the_last_patches(rt: HostRuntime) -> Result<(), Fail> {
 #[test]
 fn places_are_set_one_by_one(rt: HostRuntime) -> Result<(), Fail> {
     let alloc = rt.alloc();
-    assert_eq!(rt; read_load(alloc, &[]).err(), fault(LoadCause::NotLoadFile, 0, 0));
+    assert_eq!(rt;
+        read_load(alloc, &[]).err(),
+        fault(LoadCause::NotLoadFile, 0, 0)
+    );
     let mut places = match Places::new(alloc, 2) {
         Ok(places) => places,
         Err(PlacesFault::Memory) => return Err(Fail::new("memory is ample")),
@@ -343,13 +351,16 @@ fn file_of_table(changes: &[(usize, u8)]) -> [u8; 192] {
     let table = file_of_body(
         26,
         &[
-            0xF2, 26, 0, 0, 0, 0, 0, 0, 0, 0, 0, 0, 0, 0, 0, 1, 0, 2, 0, 2, 0, 0, 0, 0x22, 0, 0xF0, 0xE1,
-            0, 0, 0, 0, 0,
+            0xF2, 26, 0, 0, 0, 0, 0, 0, 0, 0, 0, 0, 0, 0, 0, 1, 0, 2, 0, 2, 0, 0, 0, 0x22, 0, 0xF0,
+            0xE1, 0, 0, 0, 0, 0,
         ],
     );
     put_all(&mut bytes, 0, &table);
     put_all(&mut bytes, CALLED, &ONE);
-    put(&mut bytes, &[(0x14, 0x02), (CALLED + 0x22, 2), (CALLED + 0x15, 0x80)]);
+    put(
+        &mut bytes,
+        &[(0x14, 0x02), (CALLED + 0x22, 2), (CALLED + 0x15, 0x80)],
+    );
     put(&mut bytes, changes);
     bytes
 }
@@ -380,18 +391,31 @@ fn tables_are_laid_out(rt: HostRuntime) -> Result<(), Fail> {
         (CALLED + 0x15, 0x82, 12),
     ] {
         let file = file_of_table(&[(at, value)]);
-        assert_eq!(rt; read_load(alloc, &file).err(), fault(LoadCause::BadTable, 1, place));
+        assert_eq!(rt;
+            read_load(alloc, &file).err(),
+            fault(LoadCause::BadTable, 1, place)
+        );
     }
 
     // A second table is refused at its start, whatever it is.
     let second = file_of_table(&[(CALLED + 0x14, 0x02), (DATA + 12, 2)]);
-    assert_eq!(rt; read_load(alloc, &second).err(), fault(LoadCause::BadTable, 2, 0));
+    assert_eq!(rt;
+        read_load(alloc, &second).err(),
+        fault(LoadCause::BadTable, 2, 0)
+    );
 
     let file = file_of_table(&[]);
     let load = read_load(alloc, &file)?;
     assert_eq!(rt; load.table(), Some(1));
     assert_eq!(rt; load.target_count(), 1);
-    assert_eq!(rt; load.target(0), Some(Target { file: 1, segment: 2, offset: 2 }));
+    assert_eq!(rt;
+        load.target(0),
+        Some(Target {
+            file: 1,
+            segment: 2,
+            offset: 2
+        })
+    );
     assert_eq!(rt; load.target(1), None);
     let plain = read_load(alloc, &ONE)?;
     assert_eq!(rt; plain.table(), None);
