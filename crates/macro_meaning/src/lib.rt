@@ -1,0 +1,9 @@
+//! What macros and conditional assembly mean: the definitions that the crate of their expansion cites (ORCA/M reference
+//! manual, "Macros" and "Conditional assembly").
+#![tactic(auto)]
+
+mod faults;
+mod statements;
+
+pub use faults::{MacroCause, MacroFault};
+pub use statements::{Declaration, Kind, Statement};
