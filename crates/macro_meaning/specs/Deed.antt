@@ -1,5 +1,5 @@
 -- What a visited line does (ORCA/M reference manual, "Conditional assembly directives").
-use Rattle.std.specs.Prelude.{◌≡◌, ℕ, ◌+◌, ◌-◌, ◌==◌, Bool, true, false, not, nat_lt, nat_le, ℤ, pos, negsuc, int_lt, int_le, List, [], ◌∷◌, length, take, drop, codes, slice_get, Option, Some, None, is_some, Result, Ok, Err, if◌then◌else◌}
+use Rattle.std.specs.Prelude.{◌≡◌, ℕ, zero, suc, ◌==◌, Bool, true, false, not, nat_lt, nat_le, ℤ, pos, negsuc, int_lt, int_le, List, [], ◌∷◌, length, take, drop, codes, slice_get, Option, Some, None, is_some, Result, Ok, Err, if◌then◌else◌}
 use Rattle.omf_format.specs.Value.{signed, truth}
 use Rattle.orca_meaning.specs.Line.{Line, Fields, part, is_comment, three_fields}
 use Rattle.macro_meaning.specs.declared.faults.MacroCause.{MacroCause}
@@ -121,9 +121,9 @@ printed_answer kind (Err cause) = Err cause
 
 -- so many bytes from a place on, counted from 1
 abbrev pub middle_from : List ℕ → ℤ → ℤ → Result (List ℕ) MacroCause
-middle_from text (pos 0) count = Err BadSetting
-middle_from text (pos start) (pos count) = Ok (take count (drop (start - 1) text))
-middle_from text (pos start) (negsuc count) = Err BadSetting
+middle_from text (pos zero) count = Err BadSetting
+middle_from text (pos (suc start)) (pos count) = Ok (take count (drop start text))
+middle_from text (pos (suc start)) (negsuc count) = Err BadSetting
 middle_from text (negsuc start) count = Err BadSetting
 
 abbrev pub middle_of : Result (List ℕ × (ℕ × ℕ)) MacroCause → Result (List ℕ) MacroCause

@@ -2,10 +2,10 @@
 use Rattle.std.specs.Prelude.{ℕ, ◌+◌, ◌-◌, Bool, true, false, nat_lt, not, List, [], ◌∷◌, ◌++◌, length, map, codes, bytes_eq, Option, Some, None, if◌then◌else◌}
 use Rattle.macro_meaning.specs.declared.faults.MacroCause.{MacroCause}
 use Rattle.macro_meaning.specs.declared.faults.MacroCause.TheVariants.{Unclosed, BadArguments}
-use Rattle.orca_meaning.specs.Characters.{folded, is_name}
+use Rattle.orca_meaning.specs.Token.{name_at}
 use Rattle.orca_meaning.specs.Line.{Line, Fields, part, is_comment, three_fields}
 use Rattle.macro_meaning.specs.Pieces.{pieces}
-use Rattle.macro_meaning.specs.Statements.{is_operation, symbol_name}
+use Rattle.macro_meaning.specs.Statements.{is_operation, whole, symbol_name}
 
 -- ---- the lines of a file
 
@@ -61,16 +61,15 @@ abbrev pub label_of : List ℕ → Option (Option (List ℕ))
 label_of [] = Some None
 label_of (byte ∷ behind) = elim (symbol_name (byte ∷ behind)) [ None ↦ None | Some name ↦ Some (Some name) ]
 
-abbrev pub model_from : List ℕ → Option (Option (List ℕ)) → Option (List (List ℕ)) → Option Model
-model_from name (Some label) (Some parameters) = Some (record { name = name; label = label; parameters = parameters })
-model_from name (Some label) None = None
-model_from name None parameters = None
+abbrev pub model_from : Option (List ℕ) → Option (Option (List ℕ)) → Option (List (List ℕ)) → Option Model
+model_from (Some name) (Some label) (Some parameters) = Some (record { name = name; label = label; parameters = parameters })
+model_from (Some name) (Some label) None = None
+model_from (Some name) None parameters = None
+model_from None label parameters = None
 
 abbrev pub model_by : List ℕ → Fields → Option Model
 model_by text fields =
-    if is_name (part text fields.operation)
-    then model_from (folded (part text fields.operation)) (label_of (part text fields.label)) (parameters_of (part text fields.operand))
-    else None
+    model_from (whole (name_at (part text fields.operation))) (label_of (part text fields.label)) (parameters_of (part text fields.operand))
 
 -- a model line: a label parameter `&NAME` or none, a name as operation, and parameters `&NAME` parted by commas
 unfoldable pub model_of : List ℕ → Option Model

@@ -11,13 +11,18 @@ use Rattle.orca_meaning.specs.Characters.{folded}
 use Rattle.orca_meaning.specs.Operation.{beside}
 use Rattle.orca_meaning.specs.Token.{Found, name_at, symbol_at}
 
+-- the statements that don't declare or set symbols
+unfoldable pub other_statements : List (List ℕ × Statement)
+other_statements =
+    (codes "AIF", BranchIf) ∷ (codes "AGO", Branch) ∷ (codes "ACTR", Count) ∷ (codes "ANOP", Nothing) ∷
+    (codes "MEXIT", Leave) ∷ (codes "MEND", Leave) ∷ (codes "MNOTE", Note) ∷ (codes "MACRO", Define) ∷ []
+
+-- the statements by their spellings
 unfoldable pub statements : List (List ℕ × Statement)
 statements =
     (codes "LCLA", Declare (Local Number)) ∷ (codes "LCLB", Declare (Local Flag)) ∷ (codes "LCLC", Declare (Local Text)) ∷
     (codes "GBLA", Declare (Shared Number)) ∷ (codes "GBLB", Declare (Shared Flag)) ∷ (codes "GBLC", Declare (Shared Text)) ∷
-    (codes "SETA", Set Number) ∷ (codes "SETB", Set Flag) ∷ (codes "SETC", Set Text) ∷ (codes "AMID", Middle) ∷
-    (codes "AIF", BranchIf) ∷ (codes "AGO", Branch) ∷ (codes "ACTR", Count) ∷ (codes "ANOP", Nothing) ∷
-    (codes "MEXIT", Leave) ∷ (codes "MEND", Leave) ∷ (codes "MNOTE", Note) ∷ (codes "MACRO", Define) ∷ []
+    (codes "SETA", Set Number) ∷ (codes "SETB", Set Flag) ∷ (codes "SETC", Set Text) ∷ (codes "AMID", Middle) ∷ other_statements
 
 -- the statement that an operation is, in upper or lower case
 unfoldable pub statement_of : List ℕ → Option Statement

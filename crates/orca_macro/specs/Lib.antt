@@ -1,0 +1,4 @@
+pub mod Held
+pub mod View
+pub mod Piece
+pub mod DefinitionView
