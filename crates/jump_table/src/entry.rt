@@ -7,8 +7,8 @@ ghost use Rattle.load_meaning.specs.declared.table.Entry.{Entry};
 ghost use Rattle.load_meaning.specs.Table.{HasCode, IsEntryAt, code_bytes, written_at};
 
 use byteorder::{ByteOrder, LittleEndian};
-use omf_base::number_at;
 use load_meaning::Entry;
+use omf_base::number_at;
 
 /// The code of an entry whose target isn't loaded: a JSL to the loader at $E1F000.
 pub const UNLOADED: [u8; 4] = [0x22, 0x00, 0xF0, 0xE1];
