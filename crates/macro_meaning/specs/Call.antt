@@ -1,11 +1,11 @@
 -- Calls of macros: how operands are bound to parameters (ORCA/M reference manual, "Macro calls").
-use Rattle.std.specs.Prelude.{ℕ, ◌+◌, Bool, true, false, ◌==◌, List, [], ◌∷◌, bytes_eq, slice_get, Option, Some, None, is_some, if◌then◌else◌}
+use Rattle.std.specs.Prelude.{ℕ, ◌+◌, Bool, ◌==◌, List, [], ◌∷◌, bytes_eq, slice_get, Option, Some, None, is_some, if◌then◌else◌}
 use Rattle.std.specs.List.{list_any}
 use Rattle.macro_meaning.specs.declared.statements.Kind.TheVariants.{Text}
 use Rattle.orca_meaning.specs.Token.{Found, name_at}
 use Rattle.macro_meaning.specs.Definition.{Model}
 use Rattle.macro_meaning.specs.Pieces.{pieces}
-use Rattle.macro_meaning.specs.Symbol.{Symbol, Own, Symbols, with_name, is_count}
+use Rattle.macro_meaning.specs.Symbol.{Own, Symbols, with_name, is_count}
 
 -- a parameter, the text that it gets, and the place of the parameter that the next operand without keyword gets
 pub record Binding : Type 0 where

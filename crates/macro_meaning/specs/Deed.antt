@@ -1,6 +1,6 @@
 -- What a visited line does (ORCA/M reference manual, "Conditional assembly directives").
-use Rattle.std.specs.Prelude.{◌≡◌, ℕ, zero, suc, ◌==◌, Bool, true, false, not, nat_lt, nat_le, ℤ, pos, negsuc, int_lt, int_le, List, [], ◌∷◌, length, take, drop, codes, slice_get, Option, Some, None, is_some, Result, Ok, Err, if◌then◌else◌}
-use Rattle.omf_format.specs.Value.{signed, truth}
+use Rattle.std.specs.Prelude.{◌≡◌, ℕ, zero, suc, ◌==◌, Bool, true, false, nat_lt, ℤ, pos, negsuc, int_le, List, [], ◌∷◌, length, take, drop, codes, slice_get, Option, Some, None, is_some, Result, Ok, Err, if◌then◌else◌}
+use Rattle.omf_format.specs.Value.{signed}
 use Rattle.orca_meaning.specs.Line.{Line, Fields, part, is_comment, three_fields}
 use Rattle.macro_meaning.specs.declared.faults.MacroCause.{MacroCause}
 use Rattle.macro_meaning.specs.declared.faults.MacroCause.TheVariants.{LineTooLong, TooManyLines, NoSuchSymbol, BadSetting, BadArguments, NoSequenceSymbol, Unclosed, Counter, TooNested, Noted, Memory}
@@ -16,7 +16,7 @@ use Rattle.macro_meaning.specs.Definition.{Definition, first_named, counts, oper
 use Rattle.macro_meaning.specs.Pieces.{pieces, quoted, joined}
 use Rattle.macro_meaning.specs.Statements.{statement_of, symbol_name, sequence_name, target_name}
 use Rattle.macro_meaning.specs.Substitution.{naming_at, substituted}
-use Rattle.macro_meaning.specs.Symbol.{Symbol, Own, Common, Symbols, Values, text_of, is_count, kind_of, declaration_of, is_kind, is_declaration, signed_decimal}
+use Rattle.macro_meaning.specs.Symbol.{Symbol, Symbols, Values, text_of, is_count, kind_of, declaration_of, is_kind, is_declaration, signed_decimal}
 use Rattle.orca_meaning.specs.Characters.{folded}
 
 pub data Deed : Type 0 where

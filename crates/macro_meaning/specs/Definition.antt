@@ -1,5 +1,5 @@
 -- Macro definitions (ORCA/M reference manual, "Macro definitions").
-use Rattle.std.specs.Prelude.{ℕ, ◌+◌, ◌-◌, Bool, true, false, nat_lt, not, List, [], ◌∷◌, ◌++◌, length, map, codes, bytes_eq, Option, Some, None, if◌then◌else◌}
+use Rattle.std.specs.Prelude.{ℕ, ◌+◌, Bool, nat_lt, List, [], ◌∷◌, ◌++◌, length, map, codes, bytes_eq, Option, Some, None, if◌then◌else◌}
 use Rattle.macro_meaning.specs.declared.faults.MacroCause.{MacroCause}
 use Rattle.macro_meaning.specs.declared.faults.MacroCause.TheVariants.{Unclosed, BadArguments}
 use Rattle.orca_meaning.specs.Token.{name_at}

@@ -1,5 +1,5 @@
 -- Texts parted by commas or plus signs, and texts in quotes.
-use Rattle.std.specs.Prelude.{ℕ, zero, suc, ◌+◌, ◌-◌, Bool, true, false, ◌&&◌, ◌||◌, ◌==◌, nat_lt, List, [], ◌∷◌, ◌++◌, length, take, drop, Option, Some, None, if◌then◌else◌}
+use Rattle.std.specs.Prelude.{ℕ, ◌+◌, ◌-◌, Bool, ◌&&◌, ◌||◌, ◌==◌, nat_lt, List, [], ◌∷◌, ◌++◌, length, take, drop, Option, Some, None, if◌then◌else◌}
 use Rattle.std.specs.List.{position_or_len}
 use Rattle.orca_meaning.specs.Quotes.{quote_behind, is_closed}
 use Rattle.orca_meaning.specs.Token.{Found}

@@ -1,12 +1,11 @@
 -- Symbols in a line, and the texts that come in their place (ORCA/M reference manual, "Symbolic parameters").
-use Rattle.std.specs.Prelude.{ℕ, zero, suc, ◌+◌, ◌-◌, Bool, true, false, ◌||◌, ◌&&◌, ◌==◌, nat_le, nat_lt, List, [], ◌∷◌, ◌++◌, length, take, drop, slice_index, Option, Some, None, is_some, if◌then◌else◌}
+use Rattle.std.specs.Prelude.{ℕ, zero, suc, ◌+◌, ◌-◌, Bool, true, false, ◌||◌, ◌&&◌, ◌==◌, nat_le, nat_lt, List, [], ◌∷◌, ◌++◌, take, drop, slice_index, Option, Some, None, if◌then◌else◌}
 use Rattle.std.specs.Char.{to_ascii_uppercase}
 use Rattle.std.specs.List.{prefix_len}
 use Rattle.orca_meaning.specs.declared.lines.Span.{Span}
 use Rattle.orca_meaning.specs.Characters.{is_letter, is_name_start, is_name_byte, folded}
 use Rattle.orca_meaning.specs.Quotes.{is_closed, quote_after}
 use Rattle.orca_meaning.specs.Line.{Fields, part}
-use Rattle.macro_meaning.specs.declared.statements.Kind.{Kind}
 use Rattle.macro_meaning.specs.declared.statements.Kind.TheVariants.{Number, Flag, Text}
 use Rattle.macro_meaning.specs.declared.statements.Statement.{Statement}
 use Rattle.macro_meaning.specs.declared.statements.Statement.TheVariants.{Declare, Set, Middle, BranchIf, Branch, Count, Nothing, Leave, Note, Define}

@@ -1,5 +1,5 @@
 -- Symbols, and the texts for which they stand (ORCA/M reference manual, "Symbolic parameters").
-use Rattle.std.specs.Prelude.{ℕ, Bool, true, false, List, [], ◌∷◌, ◌++◌, codes, bytes_eq, Option, Some, None, ℤ, pos, negsuc, ◌+◌, if◌then◌else◌}
+use Rattle.std.specs.Prelude.{ℕ, Bool, true, false, List, [], ◌∷◌, codes, bytes_eq, Option, Some, None, ℤ, pos, negsuc, ◌+◌, if◌then◌else◌}
 use Rattle.std.specs.Fmt.{digits}
 use Rattle.macro_meaning.specs.declared.statements.Kind.{Kind}
 use Rattle.macro_meaning.specs.declared.statements.Kind.TheVariants.{Number, Flag, Text}

@@ -5,7 +5,6 @@ use Rattle.orca_meaning.specs.Line.{Line, line_of, part}
 use Rattle.macro_meaning.specs.declared.faults.MacroCause.{MacroCause}
 use Rattle.macro_meaning.specs.declared.faults.MacroCause.TheVariants.{TooManyLines, NoSequenceSymbol, Counter, TooNested}
 use Rattle.macro_meaning.specs.declared.statements.Kind.{Kind}
-use Rattle.macro_meaning.specs.declared.statements.Declaration.{Declaration}
 use Rattle.macro_meaning.specs.declared.statements.Declaration.TheVariants.{Local, Shared}
 use Rattle.macro_meaning.specs.Call.{no_symbols}
 use Rattle.macro_meaning.specs.Deed.{Deed, Rests, Gives, Declares, Sets, Goes, Counts, Leaves, Calls, Fails, Setting, IsDeed}
@@ -154,8 +153,15 @@ abbrev pub call_of : List Visit → Visit → Line → ℕ → Symbols → Move
 call_of before v line place symbols =
     if v.depth == 32 then Stops line TooNested
     else On (record {
-      macro = Some place; line = 0; depth = v.depth + 1; caller = Some (length before);
-      root = root_by v.caller v.root line.number; counter = 255; symbols = symbols; texts = v.texts; calls = v.calls + 1;
+      macro = Some place;
+      line = 0;
+      depth = v.depth + 1;
+      caller = Some (length before);
+      root = root_by v.caller v.root line.number;
+      counter = 255;
+      symbols = symbols;
+      texts = v.texts;
+      calls = v.calls + 1;
     })
 
 unfoldable pub move_of : Program → List Visit → Visit → Line → Deed → Move
@@ -212,5 +218,13 @@ no_texts name = None
 -- the source's first line
 abbrev pub first_visit : Visit
 first_visit = record {
-  macro = None; line = 0; depth = 0; caller = None; root = 0; counter = 255; symbols = no_symbols; texts = no_texts; calls = 0;
+  macro = None;
+  line = 0;
+  depth = 0;
+  caller = None;
+  root = 0;
+  counter = 255;
+  symbols = no_symbols;
+  texts = no_texts;
+  calls = 0;
 }

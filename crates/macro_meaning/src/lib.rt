@@ -3,7 +3,9 @@
 #![tactic(auto)]
 
 mod faults;
+mod laws;
 mod statements;
 
 pub use faults::{MacroCause, MacroFault};
+pub use laws::sources_have_one_answer;
 pub use statements::{Declaration, Kind, Statement};

@@ -1,4 +1,0 @@
-pub mod Held
-pub mod View
-pub mod Piece
-pub mod DefinitionView
