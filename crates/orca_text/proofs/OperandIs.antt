@@ -18,6 +18,7 @@ use Rattle.orca_meaning.specs.declared.lines.TextCause.{TextCause}
 use Rattle.orca_meaning.specs.declared.lines.TextCause.TheVariants.{LineTooLong, TooManyLines, BadOperand, BadNumber, Memory}
 use Rattle.orca_meaning.specs.declared.mnemonics.Mnemonic.{Mnemonic}
 use Rattle.orca_meaning.specs.declared.operators.Operands.TheVariants.{Labels}
+use Rattle.orca_meaning.specs.declared.operators.Operands.{Operands}
 use Rattle.orca_meaning.specs.Token as token
 use Rattle.orca_meaning.specs.Formula.{Formula, Single, Group, Signed, Joined, tree_of, sign_code, operator_code, pending, is_large, has_large, MeansAt}
 use Rattle.orca_meaning.specs.FormulaLaws.{one_tree, sign_has_one, operator_has_two}
@@ -67,7 +68,7 @@ peak_tree here now most (Joined operator left right) more =
     ap (peak here now most) split ∙ peak_tree here now most left (kept_terms second ++ last) ∙ peak_tree here (now + 1) (max most (now + p)) right last
     ∙ ap (λ (k : ℕ). peak here k (max (max (max most (now + p)) (now + 1 + q)) 0) more) count ∙ ap (λ (m : ℕ). peak here (now + 1) m more) most_is
 
-peak_is : (here : ℕ) (text : List ℕ) (terms : List Term) (large : Bool) (rest : List ℕ) (f : IsFormulaAt Labels text terms large rest) → peak here 0 0 terms ≡ pending here f.tree
+pub peak_is : {o : Operands} (here : ℕ) (text : List ℕ) (terms : List Term) (large : Bool) (rest : List ℕ) (f : IsFormulaAt o text terms large rest) → peak here 0 0 terms ≡ pending here f.tree
 peak_is here text terms large rest f =
     let whole : peak here 0 0 (kept_terms (terms_of f.tree)) ≡ pending here f.tree =
     subst (λ (t : Tree). peak here 0 0 (kept_terms (terms_of t)) ≡ pending here t) f.means.means
@@ -99,7 +100,7 @@ kept_all (term ∷ terms) small =
     let both = or_parts (is_large term) (list_any is_large terms) small in
     ap (λ (t : Term). t ∷ kept_terms terms) (kept_fitting term both.0) ∙ ap (λ (l : List Term). term ∷ l) (kept_all terms both.1)
 
-terms_are : (text : List ℕ) (terms : List Term) (large : Bool) (rest : List ℕ) (f : IsFormulaAt Labels text terms large rest) → large ≡ false → terms ≡ terms_of f.tree
+pub terms_are : {o : Operands} (text : List ℕ) (terms : List Term) (large : Bool) (rest : List ℕ) (f : IsFormulaAt o text terms large rest) → large ≡ false → terms ≡ terms_of f.tree
 terms_are text terms large rest f small = f.kept ∙ kept_all (terms_of f.tree) (sym f.large_is ∙ small)
 
 -- ---- operands

@@ -12,10 +12,13 @@ use orca_meaning::{OperandUse, Span};
 
 /// The places of a line's fields.
 #[derive(Clone, Copy)]
-pub(crate) struct Fields {
-    pub(crate) label: Span,
-    pub(crate) operation: Span,
-    pub(crate) operand: Span,
+pub struct Fields {
+    /// What begins in column 1.
+    pub label: Span,
+    /// The next field.
+    pub operation: Span,
+    /// The third field, up to the first blank outside quotes.
+    pub operand: Span,
 }
 
 fn is_blank(byte: u8) -> bool
@@ -34,8 +37,8 @@ pub(crate) fn from(text: &[u8], at: usize) -> &[u8]
     }
 }
 
-/// The bytes of a field.
-pub(crate) fn part(text: &[u8], span: Span) -> &[u8]
+/// The bytes of a field that lies in the text.
+pub fn part(text: &[u8], span: Span) -> &[u8]
     requires { LiesIn text.now span }
     ensures value { result.now ≡ part text.now span }
     ensures bound { length result.now ≤ length text.now }
@@ -82,7 +85,7 @@ fn ink_in(rest: &[u8]) -> usize
 }
 
 /// Which quote is open behind a byte.
-fn quote_behind(quote: Option<u8>, byte: u8) -> Option<u8>
+pub fn quote_behind(quote: Option<u8>, byte: u8) -> Option<u8>
     ensures { result ≡ quote_behind quote byte }
 {
     match quote {
@@ -121,9 +124,9 @@ fn blank_outside(rest: &[u8]) -> usize
     count
 }
 
-/// The label, the operation, and the third field.
+/// The label, the operation, and the third field of a line of at most 255 bytes, whatever the operation does with it.
 #[tactic(auto, unfolding(orca_meaning::specs::Line::three_fields))]
-fn three_fields(text: &[u8]) -> Fields
+pub fn three_fields(text: &[u8]) -> Fields
     requires { length text.now ≤ 255 }
     ensures value { fields result ≡ three_fields text.now }
     ensures within { HaveFields text.now (fields result) }
@@ -157,7 +160,7 @@ fn is_empty(text: &[u8]) -> bool
 }
 
 /// Whether the line is blank, or begins with `*`, `;` or `!`.
-fn is_comment(text: &[u8]) -> bool
+pub fn is_comment(text: &[u8]) -> bool
     ensures { result ≡ is_comment text.now }
 {
     match text.split_first() {

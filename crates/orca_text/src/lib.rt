@@ -14,12 +14,14 @@ mod operator_tokens;
 mod tokens;
 mod waiting;
 
+pub use fields::{Fields, is_comment, part, quote_behind, three_fields};
 pub use formula::{FormulaAt, formula_at};
 pub use formula_term::{Formula, FormulaTerm};
 pub use line::SourceLine;
 pub use lines::{Lines, read_lines};
-pub use operand::{Operand, read_operand};
-pub use operation::mnemonic_of;
+pub use operand::{Operand, is_too_deep, read_operand};
+pub use operand_tokens::{behind_byte, folded, is_name_start, name_at, name_len, symbol_at};
+pub use operation::{is_spelled, mnemonic_of};
 pub use orca_meaning::{Form, Mnemonic, OperandUse, Operands, Prefix, Span, TextCause, TextFault};
 
 #[cfg(test)]

@@ -74,8 +74,8 @@ fn most_pending(here: usize, terms: &[FormulaTerm]) -> usize
     most
 }
 
-/// Whether more than 64 values are pending at once in a formula.
-fn is_too_deep(here: usize, formula: &Formula) -> bool
+/// Whether more than 64 values are pending at once in a formula, where the location counter counts so many.
+pub fn is_too_deep(here: usize, formula: &Formula) -> bool
     requires { here ≤ 2 }
     ensures { IsTrue result ↔ (64 < peak here 0 0 formula.now) }
 {

@@ -53,7 +53,7 @@ pub(crate) enum OperatorToken {
 }
 
 /// Whether a name may begin with the byte.
-fn is_name_start(byte: u8) -> bool
+pub fn is_name_start(byte: u8) -> bool
     ensures { result ≡ is_name_start byte }
 {
     byte.is_ascii_alphabetic() || byte == b'_' || byte == b'~'
@@ -67,7 +67,7 @@ fn is_name_byte(byte: u8) -> bool
 }
 
 /// How many bytes at the front go on with a name.
-fn name_len(behind: &[u8]) -> usize
+pub fn name_len(behind: &[u8]) -> usize
     ensures value { result ≡ prefix_len is_name_byte behind.now }
     ensures bound { result ≤ length behind.now }
 {
@@ -83,8 +83,8 @@ fn name_len(behind: &[u8]) -> usize
     count
 }
 
-/// Bytes in upper case, as a name.
-fn folded(alloc: Global, bytes: &[u8]) -> Result<Name, AllocError>
+/// Bytes in upper case, as a name. They are at most 255.
+pub fn folded(alloc: Global, bytes: &[u8]) -> Result<Name, AllocError>
     requires { length bytes.now ≤ 255 }
     ensures { IfOk result (λ name. name ≡ folded bytes.now) }
 {
@@ -95,9 +95,9 @@ fn folded(alloc: Global, bytes: &[u8]) -> Result<Name, AllocError>
     Ok(Name::from_vec(name))
 }
 
-/// The longest name at the front, in upper case, and what stands behind it.
+/// The longest name at the front of a text of at most 255 bytes, in upper case, and what stands behind it.
 #[tactic(auto, unfolding(orca_meaning::specs::Token::name_at))]
-fn name_at(alloc: Global, text: &[u8]) -> Result<Option<(Name, &[u8])>, AllocError>
+pub fn name_at(alloc: Global, text: &[u8]) -> Result<Option<(Name, &[u8])>, AllocError>
     requires { length text.now ≤ 255 }
     ensures { IfOk result (λ found. MatchOption found (name_at text.now ≡ None) (λ x. name_at text.now ≡ Some (x.0, x.1.now))) }
 {
@@ -112,9 +112,9 @@ fn name_at(alloc: Global, text: &[u8]) -> Result<Option<(Name, &[u8])>, AllocErr
     Ok(Some((name, rest)))
 }
 
-/// The name of a symbol behind `&`, and what stands behind it.
+/// The name of a symbol behind `&` at the front of a text of at most 255 bytes, and what stands behind it.
 #[tactic(auto, unfolding(orca_meaning::specs::Token::symbol_at))]
-fn symbol_at(alloc: Global, text: &[u8]) -> Result<Option<(Name, &[u8])>, AllocError>
+pub fn symbol_at(alloc: Global, text: &[u8]) -> Result<Option<(Name, &[u8])>, AllocError>
     requires { length text.now ≤ 255 }
     ensures { IfOk result (λ found. MatchOption found (symbol_at text.now ≡ None) (λ x. symbol_at text.now ≡ Some (x.0, x.1.now))) }
 {
@@ -268,7 +268,7 @@ fn operand_at(
 }
 
 /// What stands behind a byte at the front.
-pub(crate) fn behind_byte(text: &[u8], wanted: u8) -> Option<&[u8]>
+pub fn behind_byte(text: &[u8], wanted: u8) -> Option<&[u8]>
     ensures { MatchOption result ((behind : List ℕ) → text.now ≢ wanted ∷ behind) (λ rest. text.now ≡ wanted ∷ rest.now) }
 {
     let Some((first, behind)) = text.split_first() else {

@@ -266,7 +266,7 @@ pub fn mnemonic_of(operation: &[u8]) -> Option<Mnemonic>
 }
 
 /// Whether the text is this spelling, in upper or lower case.
-pub(crate) fn is_spelled(text: &[u8], spelling: &[u8]) -> bool
+pub fn is_spelled(text: &[u8], spelling: &[u8]) -> bool
     ensures { result ≡ bytes_eq (folded text.now) spelling.now }
 {
     let mut left = text;

@@ -1,0 +1,283 @@
+-- What a visited line does (ORCA/M reference manual, "Conditional assembly directives").
+use Rattle.std.specs.Prelude.{◌≡◌, ℕ, zero, suc, ◌==◌, Bool, true, false, nat_lt, ℤ, pos, negsuc, int_le, List, [], ◌∷◌, length, take, drop, codes, slice_get, Option, Some, None, is_some, Result, Ok, Err, if◌then◌else◌}
+use Rattle.omf_format.specs.Value.{signed}
+use Rattle.orca_meaning.specs.Line.{Line, Fields, part, is_comment, three_fields}
+use Rattle.macro_meaning.specs.declared.faults.MacroCause.{MacroCause}
+use Rattle.macro_meaning.specs.declared.faults.MacroCause.TheVariants.{LineTooLong, TooManyLines, NoSuchSymbol, BadSetting, BadArguments, NoSequenceSymbol, Unclosed, Counter, TooNested, Noted, Memory}
+use Rattle.macro_meaning.specs.declared.statements.Kind.{Kind}
+use Rattle.macro_meaning.specs.declared.statements.Kind.TheVariants.{Number, Flag, Text}
+use Rattle.macro_meaning.specs.declared.statements.Declaration.{Declaration}
+use Rattle.macro_meaning.specs.declared.statements.Declaration.TheVariants.{Local, Shared}
+use Rattle.macro_meaning.specs.declared.statements.Statement.{Statement}
+use Rattle.macro_meaning.specs.declared.statements.Statement.TheVariants.{Declare, Set, Middle, BranchIf, Branch, Count, Nothing, Leave, Note, Define}
+use Rattle.macro_meaning.specs.Call.{bound, names_count}
+use Rattle.macro_meaning.specs.Condition.{Answer, IsNumber, IsCondition}
+use Rattle.macro_meaning.specs.Definition.{Definition, first_named, counts, operation_is}
+use Rattle.macro_meaning.specs.Pieces.{pieces, quoted, joined}
+use Rattle.macro_meaning.specs.Statements.{statement_of, symbol_name, sequence_name, target_name}
+use Rattle.macro_meaning.specs.Substitution.{naming_at, substituted}
+use Rattle.macro_meaning.specs.Symbol.{Symbol, Symbols, Values, text_of, is_count, kind_of, declaration_of, is_kind, is_declaration, signed_decimal}
+use Rattle.orca_meaning.specs.Characters.{folded}
+
+pub data Deed : Type 0 where
+  -- nothing
+  Rests : Deed
+  -- it gives a line
+  Gives : (text : List ℕ) → Deed
+  -- it declares a symbol
+  Declares : (name : List ℕ) (declaration : Declaration) → Deed
+  -- it sets a symbol to a text
+  Sets : (name : List ℕ) (kind : Kind) (text : List ℕ) → Deed
+  -- it branches to a sequence symbol
+  Goes : (name : List ℕ) → Deed
+  -- it sets the counter
+  Counts : (n : ℕ) → Deed
+  -- it ends its expansion
+  Leaves : Deed
+  -- it calls the macro at this place among the definitions, with these symbols
+  Calls : (place : ℕ) (symbols : Symbols) → Deed
+  -- it has a fault
+  Fails : (cause : MacroCause) → Deed
+
+-- ---- faults that stand together
+
+-- NoSuchSymbol comes before BadSetting
+abbrev pub earlier : MacroCause → MacroCause → MacroCause
+earlier NoSuchSymbol other = NoSuchSymbol
+earlier BadSetting other = other
+earlier LineTooLong other = LineTooLong
+earlier TooManyLines other = TooManyLines
+earlier BadArguments other = BadArguments
+earlier NoSequenceSymbol other = NoSequenceSymbol
+earlier Unclosed other = Unclosed
+earlier Counter other = Counter
+earlier TooNested other = TooNested
+earlier (Noted n) other = Noted n
+earlier Memory other = Memory
+
+-- two answers, or the earlier of their faults
+abbrev pub both : {A B : Type 0} → Result A MacroCause → Result B MacroCause → Result (A × B) MacroCause
+both (Ok a) (Ok b) = Ok (a, b)
+both (Ok a) (Err cause) = Err cause
+both (Err cause) (Ok b) = Err cause
+both (Err cause) (Err other) = Err (earlier cause other)
+
+abbrev pub or_bad : {A : Type 0} → Option A → Result A MacroCause
+or_bad None = Err BadSetting
+or_bad (Some a) = Ok a
+
+-- ---- declarations
+
+-- a second declaration by the same statement changes nothing
+abbrev pub again : List ℕ → Declaration → Option Symbol → Option Deed
+again name declaration None = None
+again name declaration (Some symbol) =
+    Some (if is_declaration declaration (declaration_of symbol) then Rests else Fails BadSetting)
+
+-- a shared symbol has one kind everywhere
+abbrev pub first_time : List ℕ → Declaration → Option (Kind × List ℕ) → Deed
+first_time name (Local kind) shared = Declares name (Local kind)
+first_time name (Shared kind) None = Declares name (Shared kind)
+first_time name (Shared kind) (Some (other, text)) = if is_kind kind other then Declares name (Shared kind) else Fails BadSetting
+
+abbrev pub or_deed : Option Deed → Deed → Deed
+or_deed None deed = deed
+or_deed (Some first) deed = first
+
+unfoldable pub declaring : Values → Declaration → Option (List ℕ) → Deed
+declaring values declaration None = Fails BadSetting
+declaring values declaration (Some name) =
+    if is_count name then Fails BadSetting
+    else or_deed (again name declaration (values.symbols name)) (first_time name declaration (values.texts name))
+
+-- ---- settings
+
+abbrev pub of_kind : List ℕ → Kind → Option Symbol → Result (List ℕ) MacroCause
+of_kind name kind None = Err NoSuchSymbol
+of_kind name kind (Some symbol) = if is_kind kind (kind_of symbol) then Ok name else Err BadSetting
+
+-- the symbol of this kind that a label names
+unfoldable pub settable : Values → Kind → Option (List ℕ) → Result (List ℕ) MacroCause
+settable values kind None = Err BadSetting
+settable values kind (Some name) = if is_count name then Err BadSetting else of_kind name kind (values.symbols name)
+
+abbrev pub set_to : Kind → Result (List ℕ × List ℕ) MacroCause → Deed
+set_to kind (Ok (name, text)) = Sets name kind text
+set_to kind (Err cause) = Fails cause
+
+-- the symbol in the label is set to this text
+unfoldable pub setting : Values → Kind → List ℕ → Result (List ℕ) MacroCause → Deed
+setting values kind label text = set_to kind (both (settable values kind (symbol_name label)) text)
+
+-- a number as SETA and SETB print it
+abbrev pub printed : Kind → ℕ → List ℕ
+printed Number n = signed_decimal (signed n)
+printed Flag n = if n == 0 then codes "0" else codes "1"
+printed Text n = signed_decimal (signed n)
+
+abbrev pub printed_answer : Kind → Answer → Result (List ℕ) MacroCause
+printed_answer kind (Ok n) = Ok (printed kind n)
+printed_answer kind (Err cause) = Err cause
+
+-- so many bytes from a place on, counted from 1
+abbrev pub middle_from : List ℕ → ℤ → ℤ → Result (List ℕ) MacroCause
+middle_from text (pos zero) count = Err BadSetting
+middle_from text (pos (suc start)) (pos count) = Ok (take count (drop start text))
+middle_from text (pos (suc start)) (negsuc count) = Err BadSetting
+middle_from text (negsuc start) count = Err BadSetting
+
+abbrev pub middle_of : Result (List ℕ × (ℕ × ℕ)) MacroCause → Result (List ℕ) MacroCause
+middle_of (Ok (text, (start, count))) = middle_from text (signed start) (signed count)
+middle_of (Err cause) = Err cause
+
+-- ---- branches, the counter, notes
+
+abbrev pub go_if : ℕ → List ℕ → Deed
+go_if n name = if n == 0 then Rests else Goes name
+
+abbrev pub going : Result (ℕ × List ℕ) MacroCause → Deed
+going (Ok (n, name)) = go_if n name
+going (Err cause) = Fails cause
+
+abbrev pub going_to : Option (List ℕ) → Deed
+going_to None = Fails BadSetting
+going_to (Some name) = Goes name
+
+abbrev pub counting : Answer → Deed
+counting (Ok n) = Counts n
+counting (Err cause) = Fails cause
+
+-- a note of severity 8 or more
+abbrev pub noted : ℕ → Deed
+noted n = if int_le (pos 8) (signed n) then Fails (Noted n) else Rests
+
+abbrev pub noting : Result (List ℕ × ℕ) MacroCause → Deed
+noting (Ok (text, n)) = noted n
+noting (Err cause) = Fails cause
+
+-- ---- statements
+
+-- `e,.NAME`
+abbrev pub IsBranchIf : Values → List (List ℕ) → Deed → Type 0
+IsBranchIf values (condition ∷ target ∷ []) deed =
+    (answer : Answer) × IsCondition values condition answer × (deed ≡ going (both answer (or_bad (target_name target))))
+IsBranchIf values _ deed = deed ≡ Fails BadSetting
+
+-- `'text',s,n`
+abbrev pub IsMiddle : Values → List ℕ → List (List ℕ) → Deed → Type 0
+IsMiddle values label (text ∷ start ∷ count ∷ []) deed =
+    (s n : Answer) × IsNumber values start s × IsNumber values count n
+    × (deed ≡ setting values Text label (middle_of (both (or_bad (quoted text)) (both s n))))
+IsMiddle values label _ deed = deed ≡ setting values Text label (Err BadSetting)
+
+-- `'text',n`
+abbrev pub IsNote : Values → List (List ℕ) → Deed → Type 0
+IsNote values (text ∷ severity ∷ []) deed =
+    (answer : Answer) × IsNumber values severity answer × (deed ≡ noting (both (or_bad (quoted text)) answer))
+IsNote values _ deed = deed ≡ Fails BadSetting
+
+abbrev pub IsSetting : Values → Kind → List ℕ → List ℕ → Deed → Type 0
+IsSetting values Number label operand deed =
+    (answer : Answer) × IsCondition values operand answer × (deed ≡ setting values Number label (printed_answer Number answer))
+IsSetting values Flag label operand deed =
+    (answer : Answer) × IsCondition values operand answer × (deed ≡ setting values Flag label (printed_answer Flag answer))
+IsSetting values Text label operand deed = deed ≡ setting values Text label (or_bad (joined (pieces 0x2B operand)))
+
+-- a line without operation, and ANOP: a line is given for an ordinary label
+abbrev pub resting : List ℕ → List ℕ → Deed
+resting [] text = Rests
+resting (byte ∷ behind) text = Gives text
+
+-- what a statement does, by its label and its operand, in a line with this text
+abbrev pub IsDone : Values → Statement → List ℕ → List ℕ → List ℕ → Deed → Type 0
+IsDone values (Declare declaration) text label operand deed = deed ≡ declaring values declaration (symbol_name operand)
+IsDone values (Set kind) text label operand deed = IsSetting values kind label operand deed
+IsDone values Middle text label operand deed = IsMiddle values label (pieces 0x2C operand) deed
+IsDone values BranchIf text label operand deed = IsBranchIf values (pieces 0x2C operand) deed
+IsDone values Branch text label operand deed = deed ≡ going_to (target_name operand)
+IsDone values Count text label operand deed = (answer : Answer) × IsNumber values operand answer × (deed ≡ counting answer)
+IsDone values Nothing text label operand deed = deed ≡ resting label text
+IsDone values Leave text label operand deed = deed ≡ Leaves
+IsDone values Note text label operand deed = IsNote values (pieces 0x2C operand) deed
+IsDone values Define text label operand deed = deed ≡ Gives text
+
+-- ---- calls
+
+abbrev pub called : ℕ → Option Symbols → Deed
+called place None = Fails BadArguments
+called place (Some symbols) = Calls place symbols
+
+abbrev pub calling : ℕ → Definition → List ℕ → List ℕ → Deed
+calling place d label operand = if names_count d.model then Fails BadSetting else called place (bound d.model label operand)
+
+-- the macro at a place, where it counts; any other line is given
+abbrev pub calling_if : ℕ → List ℕ → ℕ → Option Definition → List ℕ → List ℕ → Deed
+calling_if root text place None label operand = Gives text
+calling_if root text place (Some d) label operand = if counts root d then calling place d label operand else Gives text
+
+abbrev pub calling_at : List Definition → ℕ → List ℕ → Option ℕ → List ℕ → List ℕ → Deed
+calling_at definitions root text None label operand = Gives text
+calling_at definitions root text (Some place) label operand = calling_if root text place (slice_get definitions place) label operand
+
+-- ---- lines
+
+-- where a line stands: the definitions, the line of the source at which its outermost expansion began, whether it is a
+-- line of the source itself, and what its symbols stand for
+pub record Setting : Type 0 where
+  pub definitions : List Definition
+  pub root : ℕ
+  pub in_source : Bool
+  pub values : Values
+
+-- a statement, a call of a macro, or a line that is given; a line without operation is read as ANOP
+abbrev pub IsDoneBy : Setting → List ℕ → Fields → Option Statement → Deed → Type 0
+IsDoneBy s text fields (Some statement) deed = IsDone s.values statement text (part text fields.label) (part text fields.operand) deed
+IsDoneBy s text fields None deed =
+    deed ≡ calling_at s.definitions s.root text (first_named (folded (part text fields.operation)) s.definitions) (part text fields.label) (part text fields.operand)
+
+abbrev pub operation_or_anop : List ℕ → Option Statement
+operation_or_anop [] = Some Nothing
+operation_or_anop (byte ∷ behind) = statement_of (byte ∷ behind)
+
+-- the line behind a sequence symbol in column 1
+abbrev pub behind_sequence : List ℕ → List ℕ → List ℕ
+behind_sequence text label = if is_some (sequence_name label) then drop (length label) text else text
+
+unfoldable pub cut : List ℕ → List ℕ
+cut text = behind_sequence text (part text (three_fields text).label)
+
+abbrev pub IsStatement : Setting → List ℕ → Fields → Deed → Type 0
+IsStatement s text fields deed = IsDoneBy s text fields (operation_or_anop (part text fields.operation)) deed
+
+abbrev pub IsAfterCut : Setting → Bool → List ℕ → Deed → Type 0
+IsAfterCut s true text deed = deed ≡ Rests
+IsAfterCut s false text deed = IsStatement s text (three_fields text) deed
+
+-- the MACRO line of a definition in the source does nothing more
+abbrev pub IsAfterText : Setting → Bool → List ℕ → Deed → Type 0
+IsAfterText s true text deed = deed ≡ Rests
+IsAfterText s false text deed = IsAfterCut s (is_comment (cut text)) (cut text) deed
+
+abbrev pub begins_definition : Setting → Line → Bool
+begins_definition s line = if s.in_source then operation_is (codes "MACRO") line else false
+
+abbrev pub IsShort : Setting → Line → Bool → List ℕ → Deed → Type 0
+IsShort s line true text deed = deed ≡ Fails LineTooLong
+IsShort s line false text deed = IsAfterText s (begins_definition s line) text deed
+
+-- with the symbols' texts in place
+abbrev pub IsWithTexts : Setting → Line → Option (List ℕ) → Deed → Type 0
+IsWithTexts s line None deed = deed ≡ Fails NoSuchSymbol
+IsWithTexts s line (Some text) deed = IsShort s line (nat_lt 255 (length text)) text deed
+
+-- the text of a line with the symbols' texts in place
+abbrev pub shown : Values → Line → Option (List ℕ)
+shown values line = substituted (text_of values) (naming_at line.text line.fields) 0 0 line.text
+
+abbrev pub IsWritten : Setting → Line → Bool → Deed → Type 0
+IsWritten s line true deed = deed ≡ Rests
+IsWritten s line false deed = IsWithTexts s line (shown s.values line) deed
+
+-- what a visited line does; a comment does nothing
+abbrev pub IsDeed : Setting → Line → Deed → Type 0
+IsDeed s line deed = IsWritten s line (is_comment line.text) deed

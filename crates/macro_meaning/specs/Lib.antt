@@ -1,0 +1,12 @@
+pub mod Statements
+pub mod Symbol
+pub mod Pieces
+pub mod Substitution
+pub mod Condition
+pub mod Definition
+pub mod Call
+pub mod Deed
+pub mod Visit
+pub mod Expansion
+pub mod VisitLaws
+pub mod ExpansionLaws

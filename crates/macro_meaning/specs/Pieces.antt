@@ -1,0 +1,60 @@
+-- Texts parted by commas or plus signs, and texts in quotes.
+use Rattle.std.specs.Prelude.{ℕ, ◌+◌, ◌-◌, Bool, ◌&&◌, ◌||◌, ◌==◌, nat_lt, List, [], ◌∷◌, ◌++◌, length, take, drop, Option, Some, None, if◌then◌else◌}
+use Rattle.std.specs.List.{position_or_len}
+use Rattle.orca_meaning.specs.Quotes.{quote_behind, is_closed}
+use Rattle.orca_meaning.specs.Token.{Found}
+
+-- How many parentheses are open behind a byte. In quotes a parenthesis is text, and so is one that closes none.
+abbrev pub open_behind : Option ℕ → ℕ → ℕ → ℕ
+open_behind None count byte = if byte == 0x28 then count + 1 else if byte == 0x29 then count - 1 else count
+open_behind (Some quote) count byte = count
+
+-- whether the byte is a separator outside quotes and parentheses
+abbrev pub parts : ℕ → Option ℕ → ℕ → ℕ → Bool
+parts separator quote count byte = is_closed quote && count == 0 && byte == separator
+
+-- one more byte of the first piece
+abbrev pub with_byte : ℕ → List (List ℕ) → List (List ℕ)
+with_byte byte [] = (byte ∷ []) ∷ []
+with_byte byte (piece ∷ pieces) = (byte ∷ piece) ∷ pieces
+
+-- the pieces between the separators outside quotes and parentheses, where this quote and so many parentheses are open
+unfoldable pub pieces_from : ℕ → Option ℕ → ℕ → List ℕ → List (List ℕ)
+pieces_from separator quote count [] = [] ∷ []
+pieces_from separator quote count (byte ∷ behind) =
+    if parts separator quote count byte then [] ∷ pieces_from separator None 0 behind
+    else with_byte byte (pieces_from separator (quote_behind quote byte) (open_behind quote count byte) behind)
+
+abbrev pub pieces : ℕ → List ℕ → List (List ℕ)
+pieces separator text = pieces_from separator None 0 text
+
+-- ---- texts in quotes
+
+-- the text between a quote at the front and the next one of its kind, and what stands behind that
+unfoldable pub closed_at : ℕ → List ℕ → Found (List ℕ)
+closed_at quote behind =
+    let n = position_or_len (λ byte. byte == quote) behind in
+    if nat_lt n (length behind) then Some (take n behind, drop (n + 1) behind) else None
+
+unfoldable pub quoted_at : List ℕ → Found (List ℕ)
+quoted_at [] = None
+quoted_at (quote ∷ behind) = if quote == 0x27 || quote == 0x22 then closed_at quote behind else None
+
+-- the text in quotes that this is, with nothing behind
+abbrev pub only : Found (List ℕ) → Option (List ℕ)
+only None = None
+only (Some (text, [])) = Some text
+only (Some (text, byte ∷ behind)) = None
+
+abbrev pub quoted : List ℕ → Option (List ℕ)
+quoted text = only (quoted_at text)
+
+abbrev pub appended : Option (List ℕ) → Option (List ℕ) → Option (List ℕ)
+appended (Some a) (Some b) = Some (a ++ b)
+appended (Some a) None = None
+appended None b = None
+
+-- texts in quotes, joined
+unfoldable pub joined : List (List ℕ) → Option (List ℕ)
+joined [] = Some []
+joined (piece ∷ pieces) = appended (quoted piece) (joined pieces)

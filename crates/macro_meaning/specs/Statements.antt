@@ -1,0 +1,55 @@
+-- The statements of conditional assembly, and the labels that branches go to (ORCA/M reference manual, "Conditional
+-- assembly directives").
+use Rattle.std.specs.Prelude.{ℕ, Bool, ◌==◌, List, [], ◌∷◌, codes, bytes_eq, Option, Some, None, if◌then◌else◌}
+use Rattle.macro_meaning.specs.declared.statements.Kind.TheVariants.{Number, Flag, Text}
+use Rattle.macro_meaning.specs.declared.statements.Declaration.TheVariants.{Local, Shared}
+use Rattle.macro_meaning.specs.declared.statements.Statement.{Statement}
+use Rattle.macro_meaning.specs.declared.statements.Statement.TheVariants.{Declare, Set, Middle, BranchIf, Branch, Count, Nothing, Leave, Note, Define}
+use Rattle.orca_meaning.specs.Characters.{folded}
+use Rattle.orca_meaning.specs.Operation.{beside}
+use Rattle.orca_meaning.specs.Token.{Found, name_at, symbol_at}
+
+-- the statements that don't declare or set symbols
+unfoldable pub other_statements : List (List ℕ × Statement)
+other_statements =
+    (codes "AIF", BranchIf) ∷ (codes "AGO", Branch) ∷ (codes "ACTR", Count) ∷ (codes "ANOP", Nothing) ∷
+    (codes "MEXIT", Leave) ∷ (codes "MEND", Leave) ∷ (codes "MNOTE", Note) ∷ (codes "MACRO", Define) ∷ []
+
+-- the statements by their spellings
+unfoldable pub statements : List (List ℕ × Statement)
+statements =
+    (codes "LCLA", Declare (Local Number)) ∷ (codes "LCLB", Declare (Local Flag)) ∷ (codes "LCLC", Declare (Local Text)) ∷
+    (codes "GBLA", Declare (Shared Number)) ∷ (codes "GBLB", Declare (Shared Flag)) ∷ (codes "GBLC", Declare (Shared Text)) ∷
+    (codes "SETA", Set Number) ∷ (codes "SETB", Set Flag) ∷ (codes "SETC", Set Text) ∷ (codes "AMID", Middle) ∷ other_statements
+
+-- the statement that an operation is, in upper or lower case
+unfoldable pub statement_of : List ℕ → Option Statement
+statement_of operation = beside (folded operation) statements
+
+abbrev pub is_operation : List ℕ → List ℕ → Bool
+is_operation spelling operation = bytes_eq (folded operation) spelling
+
+-- ---- names of symbols, and sequence symbols
+
+-- what was found, where nothing stands behind it
+abbrev pub whole : Found (List ℕ) → Option (List ℕ)
+whole None = None
+whole (Some (name, [])) = Some name
+whole (Some (name, byte ∷ behind)) = None
+
+-- `&NAME` and nothing else: the name, in upper case
+abbrev pub symbol_name : List ℕ → Option (List ℕ)
+symbol_name text = whole (symbol_at text)
+
+abbrev pub behind_dot : List ℕ → Found (List ℕ)
+behind_dot [] = None
+behind_dot (byte ∷ behind) = if byte == 0x2E then name_at behind else None
+
+-- `.NAME` and nothing else: the name of a sequence symbol, in upper case
+abbrev pub sequence_name : List ℕ → Option (List ℕ)
+sequence_name text = whole (behind_dot text)
+
+-- where a branch goes: a sequence symbol, maybe behind a `^`
+abbrev pub target_name : List ℕ → Option (List ℕ)
+target_name [] = None
+target_name (byte ∷ behind) = if byte == 0x5E then sequence_name behind else sequence_name (byte ∷ behind)

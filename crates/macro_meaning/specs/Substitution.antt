@@ -1,0 +1,131 @@
+-- Symbols in a line, and the texts that come in their place (ORCA/M reference manual, "Symbolic parameters").
+use Rattle.std.specs.Prelude.{ℕ, zero, suc, ◌+◌, ◌-◌, Bool, true, false, ◌||◌, ◌&&◌, ◌==◌, nat_le, nat_lt, List, [], ◌∷◌, ◌++◌, take, drop, slice_index, Option, Some, None, if◌then◌else◌}
+use Rattle.std.specs.Char.{to_ascii_uppercase}
+use Rattle.std.specs.List.{prefix_len}
+use Rattle.orca_meaning.specs.declared.lines.Span.{Span}
+use Rattle.orca_meaning.specs.Characters.{is_letter, is_name_start, is_name_byte, folded}
+use Rattle.orca_meaning.specs.Quotes.{is_closed, quote_after}
+use Rattle.orca_meaning.specs.Line.{Fields, part}
+use Rattle.macro_meaning.specs.declared.statements.Kind.TheVariants.{Number, Flag, Text}
+use Rattle.macro_meaning.specs.declared.statements.Statement.{Statement}
+use Rattle.macro_meaning.specs.declared.statements.Statement.TheVariants.{Declare, Set, Middle, BranchIf, Branch, Count, Nothing, Leave, Note, Define}
+use Rattle.macro_meaning.specs.Statements.{statement_of}
+
+-- what `&NAME` is at a place: the symbol's text comes in its place; or it names the symbol, which must be declared; or it
+-- names one that is declared there
+pub data Naming : Type 0 where
+  Replaced : Naming
+  Named : Naming
+  Declared : Naming
+
+-- ---- which it is
+
+abbrev pub lies_in : Span → ℕ → Bool
+lies_in field at = nat_le field.from at && nat_lt at field.to
+
+-- `L:` or `C:` stands directly before a place
+abbrev pub asks_before : List ℕ → ℕ → Bool
+asks_before text at =
+    let letter = to_ascii_uppercase (slice_index text (at - 2)) in
+    (letter == 0x4C || letter == 0x43) && slice_index text (at - 1) == 0x3A
+
+-- the same in a field, outside its quotes
+abbrev pub is_asked : List ℕ → Span → ℕ → Bool
+is_asked text field at =
+    nat_le (field.from + 2) at && nat_lt at field.to && asks_before text at && is_closed (quote_after None (take (at - field.from) (drop field.from text)))
+
+-- the statements whose operand may ask for `L:&NAME` and `C:&NAME`
+abbrev pub may_ask : Statement → Bool
+may_ask (Declare declaration) = false
+may_ask (Set Number) = true
+may_ask (Set Flag) = true
+may_ask (Set Text) = false
+may_ask Middle = true
+may_ask BranchIf = true
+may_ask Branch = false
+may_ask Count = true
+may_ask Nothing = false
+may_ask Leave = false
+may_ask Note = true
+may_ask Define = false
+
+-- the statements that set the symbol in their label
+abbrev pub sets_label : Statement → Bool
+sets_label (Declare declaration) = false
+sets_label (Set kind) = true
+sets_label Middle = true
+sets_label BranchIf = false
+sets_label Branch = false
+sets_label Count = false
+sets_label Nothing = false
+sets_label Leave = false
+sets_label Note = false
+sets_label Define = false
+
+abbrev pub declares : Statement → Bool
+declares (Declare declaration) = true
+declares (Set kind) = false
+declares Middle = false
+declares BranchIf = false
+declares Branch = false
+declares Count = false
+declares Nothing = false
+declares Leave = false
+declares Note = false
+declares Define = false
+
+-- In three places `&NAME` isn't replaced: in the operand of a declaration, in the label of a statement that sets it, and
+-- directly behind `L:` or `C:`.
+abbrev pub naming_by : Option Statement → List ℕ → Fields → ℕ → Naming
+naming_by None text fields at = Replaced
+naming_by (Some statement) text fields at =
+    if declares statement && lies_in fields.operand at then Declared
+    else if sets_label statement && lies_in fields.label at then Named
+    else if may_ask statement && is_asked text fields.operand at then Named
+    else Replaced
+
+-- which it is at a place of a line, as it is written
+unfoldable pub naming_at : List ℕ → Fields → ℕ → Naming
+naming_at text fields at = naming_by (statement_of (part text fields.operation)) text fields at
+
+-- ---- the text of a line
+
+-- how long the name at the front is, and with the dot that goes with it
+abbrev pub name_length : List ℕ → ℕ
+name_length text = prefix_len is_name_byte text
+
+unfoldable pub taken_length : List ℕ → ℕ
+taken_length text = if slice_index text (name_length text) == 0x2E then name_length text + 1 else name_length text
+
+abbrev pub with_front : List ℕ → Option (List ℕ) → Option (List ℕ)
+with_front front None = None
+with_front front (Some text) = Some (front ++ text)
+
+abbrev pub first_passes : (ℕ → Bool) → List ℕ → Bool
+first_passes test [] = false
+first_passes test (byte ∷ behind) = test byte
+
+-- behind an `&`: the text in its place, and how many of the bytes behind it go with it; None where the symbol isn't declared
+abbrev pub in_place : (List ℕ → Option (List ℕ)) → Naming → List ℕ → Option (List ℕ × ℕ)
+in_place text_of Replaced behind =
+    if first_passes is_letter behind
+    then elim (text_of (folded (take (name_length behind) behind))) [ None ↦ None | Some text ↦ Some (text, taken_length behind) ]
+    else Some (0x26 ∷ [], 0)
+in_place text_of Named behind =
+    if first_passes is_name_start behind
+    then elim (text_of (folded (take (name_length behind) behind))) [ None ↦ None | Some text ↦ Some (0x26 ∷ [], 0) ]
+    else Some (0x26 ∷ [], 0)
+in_place text_of Declared behind = Some (0x26 ∷ [], 0)
+
+-- From a place on: the text with each symbol's text in its place, from left to right. The first so many bytes were taken
+-- already, and what comes in place of a symbol isn't read again. None where a symbol isn't declared.
+unfoldable pub substituted : (List ℕ → Option (List ℕ)) → (ℕ → Naming) → ℕ → ℕ → List ℕ → Option (List ℕ)
+substituted text_of naming at taken [] = Some []
+substituted text_of naming at (suc taken) (byte ∷ behind) = substituted text_of naming (at + 1) taken behind
+substituted text_of naming at zero (byte ∷ behind) =
+    if byte == 0x26
+    then elim (in_place text_of (naming at) behind) [
+      | None ↦ None
+      | Some found ↦ with_front found.0 (substituted text_of naming (at + 1) found.1 behind)
+    ]
+    else with_front (byte ∷ []) (substituted text_of naming (at + 1) 0 behind)

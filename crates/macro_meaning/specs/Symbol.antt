@@ -1,0 +1,84 @@
+-- Symbols, and the texts for which they stand (ORCA/M reference manual, "Symbolic parameters").
+use Rattle.std.specs.Prelude.{ℕ, Bool, true, false, List, [], ◌∷◌, codes, bytes_eq, Option, Some, None, ℤ, pos, negsuc, ◌+◌, if◌then◌else◌}
+use Rattle.std.specs.Fmt.{digits}
+use Rattle.macro_meaning.specs.declared.statements.Kind.{Kind}
+use Rattle.macro_meaning.specs.declared.statements.Kind.TheVariants.{Number, Flag, Text}
+use Rattle.macro_meaning.specs.declared.statements.Declaration.{Declaration}
+use Rattle.macro_meaning.specs.declared.statements.Declaration.TheVariants.{Local, Shared}
+
+-- a symbol of an expansion: its own, with its text, or one that all expansions share
+pub data Symbol : Type 0 where
+  Own : (kind : Kind) (text : List ℕ) → Symbol
+  Common : (kind : Kind) → Symbol
+
+-- what names stand for in an expansion, and the texts of the shared symbols with their kinds
+abbrev pub Symbols : Type 0
+Symbols = List ℕ → Option Symbol
+
+abbrev pub SharedTexts : Type 0
+SharedTexts = List ℕ → Option (Kind × List ℕ)
+
+-- the same with one more name
+abbrev pub with_name : {A : Type 0} → List ℕ → A → (List ℕ → Option A) → List ℕ → Option A
+with_name name value values asked = if bytes_eq name asked then Some value else values asked
+
+-- all that a line may name: the symbols of its expansion, the shared texts, and how many macros were called
+pub record Values : Type 0 where
+  pub symbols : Symbols
+  pub texts : SharedTexts
+  pub calls : ℕ
+
+-- the symbol SYSCNT, which is declared everywhere
+abbrev pub count_name : List ℕ
+count_name = codes "SYSCNT"
+
+abbrev pub is_count : List ℕ → Bool
+is_count name = bytes_eq count_name name
+
+abbrev pub decimal : ℕ → List ℕ
+decimal n = digits 10 false n
+
+abbrev pub shared_text : Option (Kind × List ℕ) → Option (List ℕ)
+shared_text None = None
+shared_text (Some (kind, text)) = Some text
+
+abbrev pub symbol_text : SharedTexts → List ℕ → Option Symbol → Option (List ℕ)
+symbol_text texts name None = None
+symbol_text texts name (Some (Own kind text)) = Some text
+symbol_text texts name (Some (Common kind)) = shared_text (texts name)
+
+-- the text of a symbol, if it is declared; that of SYSCNT is the number of calls
+unfoldable pub text_of : Values → List ℕ → Option (List ℕ)
+text_of values name = if is_count name then Some (decimal values.calls) else symbol_text values.texts name (values.symbols name)
+
+-- ---- what symbols hold
+
+abbrev pub kind_of : Symbol → Kind
+kind_of (Own kind text) = kind
+kind_of (Common kind) = kind
+
+abbrev pub declaration_of : Symbol → Declaration
+declaration_of (Own kind text) = Local kind
+declaration_of (Common kind) = Shared kind
+
+abbrev pub is_kind : Kind → Kind → Bool
+is_kind Number Number = true
+is_kind Flag Flag = true
+is_kind Text Text = true
+is_kind _ _ = false
+
+abbrev pub is_declaration : Declaration → Declaration → Bool
+is_declaration (Local a) (Local b) = is_kind a b
+is_declaration (Shared a) (Shared b) = is_kind a b
+is_declaration _ _ = false
+
+-- what a symbol holds at first
+abbrev pub first_text : Kind → List ℕ
+first_text Number = codes "0"
+first_text Flag = codes "0"
+first_text Text = []
+
+-- a signed number as it is printed
+abbrev pub signed_decimal : ℤ → List ℕ
+signed_decimal (pos n) = decimal n
+signed_decimal (negsuc n) = 0x2D ∷ decimal (n + 1)

@@ -1,0 +1,230 @@
+-- Visits: the lines that an expansion goes over, one behind another (ORCA/M reference manual, "Macros" and "Conditional
+-- assembly").
+use Rattle.std.specs.Prelude.{◌≡◌, ℕ, zero, suc, ◌+◌, ◌-◌, ◌==◌, Bool, true, false, List, [], ◌∷◌, ◌++◌, length, take, slice_get, bytes_eq, Option, Some, None, is_some, if◌then◌else◌}
+use Rattle.orca_meaning.specs.Line.{Line, line_of, part}
+use Rattle.macro_meaning.specs.declared.faults.MacroCause.{MacroCause}
+use Rattle.macro_meaning.specs.declared.faults.MacroCause.TheVariants.{TooManyLines, NoSequenceSymbol, Counter, TooNested}
+use Rattle.macro_meaning.specs.declared.statements.Kind.{Kind}
+use Rattle.macro_meaning.specs.declared.statements.Declaration.TheVariants.{Local, Shared}
+use Rattle.macro_meaning.specs.Call.{no_symbols}
+use Rattle.macro_meaning.specs.Deed.{Deed, Rests, Gives, Declares, Sets, Goes, Counts, Leaves, Calls, Fails, Setting, IsDeed}
+use Rattle.macro_meaning.specs.Definition.{Body, Definition}
+use Rattle.macro_meaning.specs.Statements.{sequence_name}
+use Rattle.macro_meaning.specs.Symbol.{Symbol, Own, Common, Symbols, SharedTexts, with_name, first_text}
+
+-- the lines of the source, and the macros
+pub record Program : Type 0 where
+  pub source : Body
+  pub definitions : List Definition
+
+-- A visited line: the macro whose line it is by its place among the definitions, or the source; the line's place there; how
+-- deep its expansion is nested; the place in the list of visits of the one that called it; the line of the source at
+-- which the outermost expansion began; the counter and the symbols of its expansion; the shared texts; and how many macros
+-- were called.
+pub record Visit : Type 0 where
+  pub macro : Option ℕ
+  pub line : ℕ
+  pub depth : ℕ
+  pub caller : Option ℕ
+  pub root : ℕ
+  pub counter : ℕ
+  pub symbols : Symbols
+  pub texts : SharedTexts
+  pub calls : ℕ
+
+-- what follows on a visit
+pub data Move : Type 0 where
+  On : (v : Visit) → Move
+  Ends : Move
+  Stops : (line : Line) (cause : MacroCause) → Move
+
+-- ---- lines
+
+abbrev pub no_body : Body
+no_body = record { lines = []; reach = 0 }
+
+abbrev pub body_from : Option Definition → Body
+body_from None = no_body
+body_from (Some d) = d.body
+
+abbrev pub body_of : Program → Option ℕ → Body
+body_of program None = program.source
+body_of program (Some place) = body_from (slice_get program.definitions place)
+
+abbrev pub line_at : Program → Option ℕ → ℕ → Option Line
+line_at program macro place = slice_get (body_of program macro).lines place
+
+-- the line of the source at which the outermost expansion of a visit began; for a line of the source that line
+abbrev pub root_by : Option ℕ → ℕ → ℕ → ℕ
+root_by None root number = number
+root_by (Some place) root number = root
+
+abbrev pub is_source : Option ℕ → Bool
+is_source None = true
+is_source (Some place) = false
+
+abbrev pub setting_of : Program → Visit → ℕ → Setting
+setting_of program v number = record {
+  definitions = program.definitions;
+  root = root_by v.caller v.root number;
+  in_source = is_source v.macro;
+  values = record { symbols = v.symbols; texts = v.texts; calls = v.calls };
+}
+
+-- ---- what a deed leaves
+
+abbrev pub set_by : List ℕ → Kind → List ℕ → Visit → Option Symbol → Visit
+set_by name kind text v None = v
+set_by name kind text v (Some (Own other old)) = record v { symbols = with_name name (Own kind text) v.symbols }
+set_by name kind text v (Some (Common other)) = record v { texts = with_name name (kind, text) v.texts }
+
+-- the first declaration of a shared symbol gives it a text
+abbrev pub shared_first : List ℕ → Kind → SharedTexts → SharedTexts
+shared_first name kind texts = if is_some (texts name) then texts else with_name name (kind, first_text kind) texts
+
+abbrev pub after : Visit → Deed → Visit
+after v Rests = v
+after v (Gives text) = v
+after v (Declares name (Local kind)) = record v { symbols = with_name name (Own kind (first_text kind)) v.symbols }
+after v (Declares name (Shared kind)) = record v { symbols = with_name name (Common kind) v.symbols; texts = shared_first name kind v.texts }
+after v (Sets name kind text) = set_by name kind text v (v.symbols name)
+after v (Goes name) = v
+after v (Counts n) = record v { counter = n }
+after v Leaves = v
+after v (Calls place symbols) = v
+after v (Fails cause) = v
+
+-- ---- what follows
+
+abbrev pub if_line : Option Line → Move → Move → Move
+if_line None on otherwise = otherwise
+if_line (Some line) on otherwise = on
+
+abbrev pub onward : Visit → Visit
+onward v = record v { line = v.line + 1 }
+
+-- the visit of the line behind a call, with what all expansions share as it is now
+abbrev pub resumed : Visit → Visit → Visit
+resumed v last = record v { line = v.line + 1; texts = last.texts; calls = last.calls }
+
+-- behind an expansion: the line behind its call, or behind that of the expansion around it where no line is there
+unfoldable pub returned : Program → List Visit → Visit → ℕ → Option ℕ → Move
+returned program before last zero caller = Ends
+returned program before last (suc depth) None = Ends
+returned program before last (suc depth) (Some place) = elim (slice_get before place) [
+  | None ↦ Ends
+  | Some v ↦ if_line (line_at program v.macro (v.line + 1)) (On (resumed v last)) (returned program before last depth v.caller)
+]
+
+-- the next line of the body, or what is behind the expansion
+unfoldable pub next_line : Program → List Visit → Visit → Move
+next_line program before v = if_line (line_at program v.macro (v.line + 1)) (On (onward v)) (returned program before v v.depth v.caller)
+
+-- the places of the lines that have a sequence symbol, as they are written
+abbrev pub same_name : List ℕ → Option (List ℕ) → Bool
+same_name name None = false
+same_name name (Some other) = bytes_eq other name
+
+abbrev pub has_sequence : List ℕ → Line → Bool
+has_sequence name line = same_name name (sequence_name (part line.text line.fields.label))
+
+unfoldable pub places_from : ℕ → List ℕ → List Line → List ℕ
+places_from at name [] = []
+places_from at name (line ∷ lines) =
+    if has_sequence name line then at ∷ places_from (at + 1) name lines else places_from (at + 1) name lines
+
+abbrev pub only_one : List ℕ → Option ℕ
+only_one [] = None
+only_one (place ∷ []) = Some place
+only_one (place ∷ next ∷ places) = None
+
+-- the only line to which a branch can go
+unfoldable pub target_of : Body → List ℕ → Option ℕ
+target_of body name = only_one (places_from 0 name (take body.reach body.lines))
+
+-- a branch lowers the counter of its expansion
+abbrev pub branch_to : Visit → Line → Option ℕ → Move
+branch_to v line None = Stops line NoSequenceSymbol
+branch_to v line (Some place) =
+    if v.counter == 0 then Stops line Counter else On (record v { line = place; counter = v.counter - 1 })
+
+-- an expansion begins at the first line of the macro
+abbrev pub call_of : List Visit → Visit → Line → ℕ → Symbols → Move
+call_of before v line place symbols =
+    if v.depth == 32 then Stops line TooNested
+    else On (record {
+      macro = Some place;
+      line = 0;
+      depth = v.depth + 1;
+      caller = Some (length before);
+      root = root_by v.caller v.root line.number;
+      counter = 255;
+      symbols = symbols;
+      texts = v.texts;
+      calls = v.calls + 1;
+    })
+
+unfoldable pub move_of : Program → List Visit → Visit → Line → Deed → Move
+move_of program before v line Rests = next_line program before v
+move_of program before v line (Gives text) = next_line program before v
+move_of program before v line (Declares name declaration) = next_line program before (after v (Declares name declaration))
+move_of program before v line (Sets name kind text) = next_line program before (after v (Sets name kind text))
+move_of program before v line (Goes name) = branch_to v line (target_of (body_of program v.macro) name)
+move_of program before v line (Counts n) = next_line program before (after v (Counts n))
+move_of program before v line Leaves = returned program before v v.depth v.caller
+move_of program before v line (Calls place symbols) = call_of before v line place symbols
+move_of program before v line (Fails cause) = Stops line cause
+
+-- ---- visits
+
+-- the lines that a deed gives
+abbrev pub given_by : Line → Deed → List Line
+given_by line Rests = []
+given_by line (Gives text) = line_of line.file line.number text ∷ []
+given_by line (Declares name declaration) = []
+given_by line (Sets name kind text) = []
+given_by line (Goes name) = []
+given_by line (Counts n) = []
+given_by line Leaves = []
+given_by line (Calls place symbols) = []
+given_by line (Fails cause) = []
+
+-- the most visits
+abbrev pub most_visits : ℕ
+most_visits = 1000000
+
+abbrev pub IsVisitOf : Program → List Visit → Visit → Line → Bool → List Line → Move → Type 0
+IsVisitOf program before v line true given move = (given ≡ []) × (move ≡ Stops line TooManyLines)
+IsVisitOf program before v line false given move =
+    (deed : Deed) × IsDeed (setting_of program v line.number) line deed × (given ≡ given_by line deed) × (move ≡ move_of program before v line deed)
+
+abbrev pub IsVisitAt : Program → List Visit → Visit → Option Line → List Line → Move → Type 0
+IsVisitAt program before v None given move = (given ≡ []) × (move ≡ Ends)
+IsVisitAt program before v (Some line) given move = IsVisitOf program before v line (length before == most_visits) given move
+
+-- a visit behind these others gives these lines, and this follows on it
+abbrev pub IsVisit : Program → List Visit → Visit → List Line → Move → Type 0
+IsVisit program before v given move = IsVisitAt program before v (line_at program v.macro v.line) given move
+
+-- each of these visits follows on the one before it; together they give these lines, and the last is followed by this
+abbrev pub Follow : Program → List Visit → Visit → List Visit → List Line → Move → Type 0
+Follow program before v [] given end = IsVisit program before v given end
+Follow program before v (w ∷ ws) given end =
+    (first rest : List Line) × IsVisit program before v first (On w) × (given ≡ first ++ rest) × Follow program (before ++ v ∷ []) w ws rest end
+
+abbrev pub no_texts : SharedTexts
+no_texts name = None
+
+-- the source's first line
+abbrev pub first_visit : Visit
+first_visit = record {
+  macro = None;
+  line = 0;
+  depth = 0;
+  caller = None;
+  root = 0;
+  counter = 255;
+  symbols = no_symbols;
+  texts = no_texts;
+  calls = 0;
+}

@@ -1,0 +1,11 @@
+//! What holds of the expansion of macros. This function does nothing: it is there for its contract.
+
+ghost use Rattle.macro_meaning.specs.ExpansionLaws.{OneExpansion, NoFaultBeside, OneFirstFault};
+
+/// A source with macro files expands to one list of lines, or has one first fault: a visited line does one thing, so there is
+/// one list of visits.
+pub fn sources_have_one_answer()
+    ensures expansion { OneExpansion }
+    ensures beside { NoFaultBeside }
+    ensures fault { OneFirstFault }
+{}
