@@ -1,4 +1,3 @@
-use Rattle.std.proofs.Common.{◌≡◌}
 use Rattle.omf_format.specs.declared.fault.FileCause.TheVariants as causes
 use Rattle.link_resolve.proofs.FileRefusals.{of_file, truncated_other, header_other, unsupported_other, record_other}
 use Rattle.link_resolve.proofs.input.file_fault.Goals as goal

@@ -1,4 +1,4 @@
-use Rattle.std.proofs.Common.{◌≡◌, sym, ◌∙◌}
+use Rattle.std.proofs.Common.{sym, ◌∙◌}
 use Rattle.link_resolve.proofs.FileRefusals.{of_segment}
 use Rattle.link_resolve.proofs.input.read_segments.Goals as goal
 

@@ -1,6 +1,6 @@
-use Rattle.std.proofs.Common.{◌≡◌, ℕ, List, Option, None, sym, ap, ◌∙◌, arith}
+use Rattle.std.proofs.Common.{sym, ap, ◌∙◌}
 use Rattle.std.specs.Prelude.{option_map}
-use Rattle.link_meaning.specs.Search.{Found, entries, finds}
+use Rattle.link_meaning.specs.Search.{entries, finds}
 use Rattle.link_resolve.specs.Definitions.{told_definition}
 use Rattle.link_resolve.proofs.ResolvingLaws.{none_seen, one_seen, several_seen}
 use Rattle.link_resolve.proofs.linked.Linked.symbol.Goals as goal
