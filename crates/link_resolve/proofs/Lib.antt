@@ -14,3 +14,4 @@ pub mod LinkedLaws
 pub mod TitleLaws
 pub mod ResolvingLaws
 pub mod FileRefusals
+pub mod OfferLaws
