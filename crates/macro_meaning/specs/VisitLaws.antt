@@ -134,15 +134,15 @@ same_visit : (v w : Visit) → On v ≡ On w → v ≡ w
 unfolding visit_of
 same_visit v w e = ap (λ (m : Move). visit_of m v) e
 
-pub follow_once : (program : Program) (before : List Visit) (v : Visit) (ws xs : List Visit) (given given' : List Line) (end end' : Move) → IsEnd end → IsEnd end'
-    → Follow program before v ws given end → Follow program before v xs given' end' → (given ≡ given') × (end ≡ end')
-follow_once program before v [] [] given given' end end' is is' p q = visit_once program before v given given' end end' p q
-follow_once program before v [] (x ∷ xs) given given' end end' is is' p q =
+pub follow_once : (program : Program) (before : List Visit) (v : Visit) (ws xs : List Visit) (given given' : List Line) (end behind : Move) → IsEnd end → IsEnd behind
+    → Follow program before v ws given end → Follow program before v xs given' behind → (given ≡ given') × (end ≡ behind)
+follow_once program before v [] [] given given' end behind is is' p q = visit_once program before v given given' end behind p q
+follow_once program before v [] (x ∷ xs) given given' end behind is is' p q =
     absurd (not_on end x is (visit_once program before v given q.0 end (On x) p q.2).1)
-follow_once program before v (w ∷ ws) [] given given' end end' is is' p q =
-    absurd (not_on end' w is' (visit_once program before v given' p.0 end' (On w) q p.2).1)
-follow_once program before v (w ∷ ws) (x ∷ xs) given given' end end' is is' p q =
+follow_once program before v (w ∷ ws) [] given given' end behind is is' p q =
+    absurd (not_on behind w is' (visit_once program before v given' p.0 behind (On w) q p.2).1)
+follow_once program before v (w ∷ ws) (x ∷ xs) given given' end behind is is' p q =
     let step = visit_once program before v p.0 q.0 (On w) (On x) p.2 q.2 in
     let w_is : w ≡ x = same_visit w x step.1 in
-    let rest = follow_once program (before ++ v ∷ []) w ws xs p.1 q.1 end end' is is' p.4 (subst (λ (y : Visit). Follow program (before ++ v ∷ []) y xs q.1 end') (sym w_is) q.4) in
+    let rest = follow_once program (before ++ v ∷ []) w ws xs p.1 q.1 end behind is is' p.4 (subst (λ (y : Visit). Follow program (before ++ v ∷ []) y xs q.1 behind) (sym w_is) q.4) in
     (p.3 ∙ ap (λ (f : List Line). f ++ p.1) step.0 ∙ ap (λ (r : List Line). q.0 ++ r) rest.0 ∙ sym q.3, rest.1)
