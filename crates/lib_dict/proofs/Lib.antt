@@ -6,3 +6,4 @@ pub mod PartLaws
 pub mod RowLaws
 pub mod RowLoops
 pub mod ReadLaws
+pub mod LayoutLaws
