@@ -30,11 +30,11 @@ numbers_same x y e = cc
 little_two : (x y : ℕ) (tail : List ℕ) → little_number 2 (x ∷ y ∷ tail) ≡ little_number 2 (x ∷ y ∷ [])
 little_two x y tail = refl
 
-two_digits : (x y : ℕ) (tail : List ℕ) → number_at 2 0 (x ∷ y ∷ []) ≡ number_at 2 0 (x ∷ y ∷ tail)
+pub two_digits : (x y : ℕ) (tail : List ℕ) → number_at 2 0 (x ∷ y ∷ []) ≡ number_at 2 0 (x ∷ y ∷ tail)
 unfolding number_at
 two_digits x y tail = sym (little_two x y tail)
 
-third_byte : (x y b : ℕ) (tail : List ℕ) → number_at 1 2 (x ∷ y ∷ b ∷ tail) ≡ b
+pub third_byte : (x y b : ℕ) (tail : List ℕ) → number_at 1 2 (x ∷ y ∷ b ∷ tail) ≡ b
 unfolding number_at
 third_byte x y b tail = omega arith
 
@@ -145,7 +145,7 @@ are_numbers (suc n) bytes numbers e = by (step_of n bytes numbers (sym (numbers_
 
 -- ---- the third record
 
-abbrev Placed : Type 0
+abbrev pub Placed : Type 0
 Placed = List (ℕ × List ℕ)
 
 abbrev some_placed : Placed → Option Placed
@@ -155,7 +155,7 @@ placed_same : (x y : Placed) → some_placed x ≡ some_placed y → x ≡ y
 placed_same x y e = cc
 
 -- names with their places, the first of them there
-abbrev placed_from : ℕ → List (List ℕ) → Placed
+abbrev pub placed_from : ℕ → List (List ℕ) → Placed
 placed_from at [] = []
 placed_from at (name ∷ names) = (at, name) ∷ placed_from (at + 1 + length name) names
 
@@ -225,7 +225,7 @@ starts (name ∷ names) at d x e = by (at == d) refl e (starts names (at + 1 + l
 
     by : (t : Bool) → t ≡ (at == d) → (if t then Some (at, name) else first_pair (λ y. y.0 == d) (placed_from (at + 1 + length name) names)) ≡ Some x
         → (first_pair (λ y. y.0 == d) (placed_from (at + 1 + length name) names) ≡ Some x
-            → (before : List (List ℕ)) × (behind : List (List ℕ)) × (names ≡ before ++ x.1 ∷ behind) × (d ≡ at + 1 + length name + length (flat_map counted before)))
+        → (before : List (List ℕ)) × (behind : List (List ℕ)) × (names ≡ before ++ x.1 ∷ behind) × (d ≡ at + 1 + length name + length (flat_map counted before)))
         → (before : List (List ℕ)) × (behind : List (List ℕ)) × (name ∷ names ≡ before ++ x.1 ∷ behind) × (d ≡ at + length (flat_map counted before))
     by true is e go =
         let same = some_same (at, name) x e in
@@ -246,7 +246,7 @@ record Found (at number : ℕ) (segments : List Segment) (x : ℕ × Segment) : 
   start : x.1.start ≡ at
   other : (form_of x.1.fields.kind == 0x08) ≡ false
 
-abbrev fits_row : ℕ → ℕ × Segment → Bool
+abbrev pub fits_row : ℕ → ℕ × Segment → Bool
 fits_row at x = x.1.start == at && not (form_of x.1.fields.kind == 0x08)
 
 found : (at number : ℕ) (segments : List Segment) (x : ℕ × Segment) → first_pair (fits_row at) (numbered_from number segments) ≡ Some x → Found at number segments x

@@ -7,3 +7,4 @@ pub mod RowLaws
 pub mod RowLoops
 pub mod ReadLaws
 pub mod LayoutLaws
+pub mod LayoutReads

@@ -82,3 +82,7 @@ pub record IsDictionary (segments : List Segment) (rows : List Row) : Type 0 whe
 -- the rows that are read from a library are those of its dictionary
 abbrev pub RowsAreLaidOut : Type 0
 RowsAreLaidOut = (segments : List Segment) (rows : List Row) → is_library segments ≡ true → rows_of segments ≡ Ok rows → IsDictionary segments rows
+
+-- and a file's dictionary is read, with its rows
+abbrev pub LaidOutIsRead : Type 0
+LaidOutIsRead = (file : List ℕ) (segments : List Segment) (rows : List Row) → IsFile segments file → IsDictionary segments rows → rows_of segments ≡ Ok rows
