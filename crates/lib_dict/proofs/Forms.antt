@@ -42,7 +42,7 @@ unfolding file_numbers
 step_cut zero rest short = refl
 step_cut (suc n) rest short = rw (lt-ltb (length rest) 2 short) refl
 
-step_end : (n : ℕ) (rest : List ℕ) → 2 ≤ length rest → number_at 2 0 rest ≡ 0 → file_numbers (suc n) rest ≡ (if length rest == 2 then Some [] else None)
+pub step_end : (n : ℕ) (rest : List ℕ) → 2 ≤ length rest → number_at 2 0 rest ≡ 0 → file_numbers (suc n) rest ≡ (if length rest == 2 then Some [] else None)
 unfolding file_numbers
 step_end n rest long zero' = rw (le-ltb (length rest) 2 long, eq-eqb (number_at 2 0 rest) 0 zero') refl
 
@@ -56,7 +56,7 @@ step_over n rest long some over =
     let two : 2 ≤ length rest = omega arith in
     rw (le-ltb (length rest) 2 two, some, le-ltb (length rest) 3 long, lt-ltb (length rest) (3 + number_at 1 2 rest) over) refl
 
-step_more : (n : ℕ) (rest : List ℕ) → 3 ≤ length rest → (number_at 2 0 rest == 0) ≡ false → 3 + number_at 1 2 rest ≤ length rest
+pub step_more : (n : ℕ) (rest : List ℕ) → 3 ≤ length rest → (number_at 2 0 rest == 0) ≡ false → 3 + number_at 1 2 rest ≤ length rest
     → file_numbers (suc n) rest ≡ option_map (λ ks. number_at 2 0 rest ∷ ks) (file_numbers n (drop (3 + number_at 1 2 rest) rest))
 unfolding file_numbers
 step_more n rest long some within =
@@ -167,7 +167,7 @@ drop-nil : (n : ℕ) → drop {A = ℕ} n [] ≡ []
 drop-nil zero = refl
 drop-nil (suc n) = refl
 
-names_none : (n at : ℕ) → names_from n at [] ≡ Some []
+pub names_none : (n at : ℕ) → names_from n at [] ≡ Some []
 unfolding names_from
 names_none zero at = refl
 names_none (suc n) at = refl
@@ -182,7 +182,7 @@ names_over : (n at b : ℕ) (rest : List ℕ) → length rest < b → names_from
 unfolding names_from
 names_over n at b rest over = rw (lt-ltb (length rest) b over) refl
 
-names_more : (n at b : ℕ) (rest : List ℕ) → b ≤ length rest → names_from (suc n) at (b ∷ rest) ≡ option_map (λ names. (at, take b rest) ∷ names) (names_from n (at + 1 + b) (drop b rest))
+pub names_more : (n at b : ℕ) (rest : List ℕ) → b ≤ length rest → names_from (suc n) at (b ∷ rest) ≡ option_map (λ names. (at, take b rest) ∷ names) (names_from n (at + 1 + b) (drop b rest))
 unfolding names_from
 names_more n at b rest within = rw (le-ltb (length rest) b within) refl
 

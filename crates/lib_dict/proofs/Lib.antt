@@ -6,3 +6,5 @@ pub mod PartLaws
 pub mod RowLaws
 pub mod RowLoops
 pub mod ReadLaws
+pub mod LayoutLaws
+pub mod LayoutReads

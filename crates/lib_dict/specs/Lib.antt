@@ -3,3 +3,4 @@ pub mod View
 pub mod Rows
 pub mod Parts
 pub mod Tables
+pub mod DictionaryLayout

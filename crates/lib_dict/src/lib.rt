@@ -5,6 +5,7 @@
 mod dictionary;
 mod fault;
 mod known;
+mod laws;
 mod names_behind;
 mod outer;
 mod parts;
@@ -16,4 +17,5 @@ mod tests;
 
 pub use dictionary::{Dictionary, Row};
 pub use fault::DictFault;
+pub use laws::rows_are_laid_out;
 pub use reading::read_dictionary;
