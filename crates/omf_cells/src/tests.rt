@@ -1,5 +1,5 @@
 // What no clause says: that the definitions are those of the field, and that memory is enough.
-use crate::{Cell, LoadCause, LoadFault, Places, PlacesFault, Target, patch_into, read_load};
+use crate::{Cell, LoadCause, LoadFault, read_load};
 use std::alloc::Global;
 use std::test::Fail;
 
@@ -199,6 +199,7 @@ fn entries_name_places(rt: HostRuntime) {
     let number = fault_of_entry(alloc, 3, 0, &[(BEHIND + 0x22, 1)]);
     assert_eq!(rt; number, fault(LoadCause::Sequence, 2, 65));
 }
+<<<<<<< HEAD
 
 /// Bytes over those from a place on, as far as there are any.
 fn put_all(bytes: &mut [u8], from: usize, more: &[u8]) {
@@ -423,3 +424,5 @@ fn tables_are_laid_out(rt: HostRuntime) -> Result<(), Fail> {
     assert_eq!(rt; plain.target(0), None);
     Ok(())
 }
+=======
+>>>>>>> 9d26c4d6468b8edbcb7b5ea4360d84bcfa936695
