@@ -16,3 +16,4 @@ pub mod ScriptBlocks
 pub mod Checking
 pub mod Empty
 pub mod BegunSound
+pub mod Filled
