@@ -7,7 +7,7 @@ use Rattle.link_meaning.specs.First.{first_some}
 use Rattle.link_meaning.specs.Member.{Member, Offer}
 use Rattle.link_meaning.specs.Uses.{Use}
 use Rattle.link_meaning.specs.Search.{Found}
-use Rattle.link_meaning.specs.LinkedList.{Asked, asked, found_for, row_for, unless_found, wanted_by, wanted}
+use Rattle.link_meaning.specs.LinkedList.{Asked, asked, unless_found, wanted_by, wanted}
 use Rattle.link_resolve.specs.declared.names.Outcome.{Outcome}
 use Rattle.link_resolve.specs.declared.names.Outcome.TheVariants.{Nothing, One, Several}
 use Rattle.link_resolve.specs.declared.uses.Use as kept
@@ -18,7 +18,7 @@ use Rattle.link_resolve.specs.Offers.{IsRow}
 use Rattle.link_resolve.specs.Resolving.{IsShape}
 use Rattle.link_resolve.specs.Wanted.{wanted_at, WantsNothing, IsWanted}
 use Rattle.link_resolve.proofs.Lists.{drop_at}
-use Rattle.link_resolve.proofs.ResolvingLaws.{IsUse, Stands, stands, take_more, take_past}
+use Rattle.link_resolve.proofs.ResolvingLaws.{IsUse, stands, take_more, take_past}
 
 pub row_unless : (found : List Found) (o : Outcome) (row : Option Member) → IsShape found o → o ≡ Nothing → unless_found found row ≡ row
 row_unless [] o row shape is = refl

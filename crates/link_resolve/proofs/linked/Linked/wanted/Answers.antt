@@ -1,4 +1,4 @@
-use Rattle.std.proofs.Common.{◌≡◌, ℕ, ◌<◌, ◌≤◌, length, Some, None, refl, ap, arith}
+use Rattle.std.proofs.Common.{◌<◌, ◌≤◌, length, Some, None, refl, ap, arith}
 use Rattle.std.proofs.lemmas.Option.{slice_get_read}
 use Rattle.link_resolve.proofs.ResolvingLaws.{use_is, place_within}
 use Rattle.link_resolve.proofs.WantedLaws.{wants_so, wants_next, wanted_here, wanted_none}
