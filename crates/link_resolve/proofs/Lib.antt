@@ -15,3 +15,4 @@ pub mod TitleLaws
 pub mod ResolvingLaws
 pub mod FileRefusals
 pub mod OfferLaws
+pub mod WantedLaws

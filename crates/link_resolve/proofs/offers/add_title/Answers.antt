@@ -1,4 +1,4 @@
-use Rattle.std.proofs.Common.{◌≡◌, Bool, ◌++◌, ◌∷◌, [], sym, subst}
+use Rattle.std.proofs.Common.{Bool, ◌++◌, ◌∷◌, [], sym, subst}
 use Rattle.std.specs.Prelude.{if◌then◌else◌}
 use Rattle.link_resolve.specs.Names.{Indexes, key_of}
 use Rattle.link_resolve.proofs.OnOks.{on_ok}

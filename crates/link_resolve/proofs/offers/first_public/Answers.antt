@@ -1,4 +1,4 @@
-use Rattle.std.proofs.Common.{◌≡◌, sym, ap, ◌∙◌}
+use Rattle.std.proofs.Common.{sym, ap, ◌∙◌}
 use Rattle.link_resolve.specs.Offers.{number_of}
 use Rattle.link_resolve.proofs.offers.first_public.Goals as goal
 

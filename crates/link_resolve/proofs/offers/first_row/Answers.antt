@@ -1,8 +1,8 @@
-use Rattle.std.proofs.Common.{◌≡◌, ℕ, List, sym, ap, ◌∙◌}
+use Rattle.std.proofs.Common.{ℕ, List, sym, ap, ◌∙◌}
 use Rattle.std.specs.Option.{option_or}
 use Rattle.link_meaning.specs.declared.search.Step.TheVariants.{Everyone}
 use Rattle.link_resolve.specs.declared.names.Outcome.{Outcome}
-use Rattle.link_resolve.specs.Names.{Named, Row, outcome}
+use Rattle.link_resolve.specs.Names.{Named, outcome}
 use Rattle.link_resolve.specs.Offers.{number_of}
 use Rattle.link_resolve.proofs.offers.first_row.Goals as goal
 

@@ -1,4 +1,3 @@
-use Rattle.std.proofs.Common.{◌≡◌}
 use Rattle.link_resolve.specs.declared.offers.Offers.{Offers}
 use Rattle.link_resolve.proofs.OfferLaws.{offered_none}
 use Rattle.link_resolve.proofs.offers.Offers.new.Goals as goal
