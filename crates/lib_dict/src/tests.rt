@@ -1,8 +1,7 @@
 // What no clause says: that the definitions are those of the field, and that memory is enough.
 use crate::{DictFault, Row, read_dictionary};
 use omf_format::{FileCause, FileFault};
-use std::alloc::{AllocError, Global};
-use std::test::Fail;
+use std::alloc::Global;
 
 /// A segment MAIN with a GLOBAL G, a private GEQU Q, a LOCAL and an EQU: put together by hand.
 const MAIN: [u8; 102] = [
@@ -34,51 +33,48 @@ const DICTIONARY: [u8; 196] = [
 ];
 
 /// The library of those two files.
-fn library(alloc: Global) -> Result<Vec<u8>, AllocError> {
-    let mut bytes = Vec::new(alloc);
-    bytes.extend_from_slice(&DICTIONARY)?;
-    bytes.extend_from_slice(&MAIN)?;
-    bytes.extend_from_slice(&OTHER)?;
-    bytes.extend_from_slice(&MAIN)?;
-    Ok(bytes)
+fn library() -> [u8; 465] {
+    let mut bytes = [0; 465];
+    bytes[..196].copy_from_slice(&DICTIONARY);
+    bytes[196..298].copy_from_slice(&MAIN);
+    bytes[298..363].copy_from_slice(&OTHER);
+    bytes[363..].copy_from_slice(&MAIN);
+    bytes
+}
+
+fn put(bytes: &mut [u8], changes: &[(usize, u8)]) {
+    for (at, value) in changes {
+        if let Some(byte) = bytes.get_mut(*at) {
+            *byte = *value;
+        }
+    }
 }
 
 /// The fault of that library with bytes changed at displacements.
 fn fault_of(alloc: Global, changes: &[(usize, u8)]) -> Option<DictFault> {
-    match library(alloc) {
-        Ok(bytes) => {
-            let mut bytes = bytes;
-            for (at, value) in changes {
-                if let Some(byte) = bytes.get_mut(*at) {
-                    *byte = *value;
-                }
-            }
-            read_dictionary(alloc, &bytes).err()
-        }
-        Err(AllocError) => Some(DictFault::Memory),
-    }
+    let mut bytes = library();
+    put(&mut bytes, changes);
+    read_dictionary(alloc, &bytes).err()
 }
 
 #[test]
-fn the_rows_of_a_library(rt: HostRuntime) -> Result<(), Fail> {
-    let alloc = rt.alloc();
-    let bytes = library(alloc)?;
-    let dictionary = match read_dictionary(alloc, &bytes) {
+fn the_rows_of_a_library(rt: HostRuntime) {
+    let bytes = library();
+    let dictionary = match read_dictionary(rt.alloc(), &bytes) {
         Ok(dictionary) => dictionary,
         Err(fault) => panic!(rt; "{fault:?}"),
     };
     assert_eq!(rt; dictionary.count(), 7);
-    let wanted: [(&[u8], u16, bool, u32); 7] = [
-        (b"MAIN", 1, false, 196),
-        (b"G", 1, false, 196),
-        (b"Q", 1, true, 196),
-        (b"G", 2, true, 298),
-        (b"MAIN", 2, false, 363),
-        (b"G", 2, false, 363),
-        (b"Q", 2, true, 363),
+    let wanted: [(u32, &[u8], u16, bool, u32); 7] = [
+        (0, b"MAIN", 1, false, 196),
+        (1, b"G", 1, false, 196),
+        (2, b"Q", 1, true, 196),
+        (3, b"G", 2, true, 298),
+        (4, b"MAIN", 2, false, 363),
+        (5, b"G", 2, false, 363),
+        (6, b"Q", 2, true, 363),
     ];
-    let mut place = 0;
-    for (name, file, private, at) in wanted {
+    for (place, name, file, private, at) in wanted {
         let row = Row {
             name,
             file,
@@ -86,10 +82,8 @@ fn the_rows_of_a_library(rt: HostRuntime) -> Result<(), Fail> {
             at,
         };
         assert_eq!(rt; dictionary.row(place), Some(row), "row {place}");
-        place += 1;
     }
     assert_eq!(rt; dictionary.row(7), None);
-    Ok(())
 }
 
 #[test]
