@@ -1,0 +1,12 @@
+//! The expansion of macros and conditional assembly (ORCA/M reference manual, "Macros" and "Conditional assembly").
+#![tactic(auto)]
+
+mod body;
+mod call;
+mod condition;
+mod held;
+mod model_line;
+mod names;
+mod pieces;
+mod substitution;
+mod symbols;
