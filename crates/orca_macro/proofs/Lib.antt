@@ -8,3 +8,5 @@ pub mod Targets
 pub mod Formed
 pub mod Numbers
 pub mod Binds
+pub mod Scans
+pub mod Firsts

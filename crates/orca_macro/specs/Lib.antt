@@ -3,3 +3,4 @@ pub mod View
 pub mod Piece
 pub mod DefinitionView
 pub mod Calling
+pub mod Parts

@@ -4,9 +4,11 @@
 mod body;
 mod call;
 mod condition;
+mod definitions;
 mod held;
 mod model_line;
 mod names;
 mod pieces;
+mod program;
 mod substitution;
 mod symbols;
