@@ -1,0 +1,12 @@
+pub mod Maps
+pub mod Parted
+pub mod Fronts
+pub mod Signed
+pub mod Terms
+pub mod Models
+pub mod Targets
+pub mod Formed
+pub mod Numbers
+pub mod Binds
+pub mod Scans
+pub mod Firsts

@@ -1,0 +1,6 @@
+pub mod Held
+pub mod View
+pub mod Piece
+pub mod DefinitionView
+pub mod Calling
+pub mod Parts

@@ -1,0 +1,141 @@
+//! Lines that are visited one behind another.
+
+ghost use Rattle.std.specs.Prelude.{◌≡◌, ◌≤◌, ◌<◌, ◌+◌, ◌^◌, ◌∷◌, ◌++◌, [], List, ℕ, length, take, bytes_eq, Some, None, IfOk, IfSome, OnOk, MatchOption, if◌then◌else◌};
+ghost use Rattle.macro_meaning.specs.Visit.{places_from, target_of, has_sequence};
+ghost use Rattle.orca_meaning.specs.Line.{HaveFields, part};
+ghost use Rattle.orca_macro.specs.Held.{held};
+ghost use Rattle.orca_macro.specs.DefinitionView.{summary, with_place};
+ghost use Rattle.orca_text.specs.View.{line};
+
+use crate::held::{look, put};
+use crate::names::sequence_name;
+use indexmap::IndexMap;
+use orca_text::{Lines, SourceLine};
+use std::alloc::{AllocError, Global};
+use std::marker::Model;
+
+/// The place of a sequence symbol.
+#[derive(Clone, Copy, Debug, Drop)]
+pub(crate) enum Target {
+    /// The only line that has it.
+    Once(u32),
+    /// Two lines or more have it.
+    Twice,
+}
+
+/// Lines that are visited one behind another. Branches go to the first so many of them, whose sequence symbols are in a
+/// map. Contracts see the lines and how many these are.
+#[derive(Drop)]
+pub(crate) struct Body {
+    lines: Lines,
+    reach: u32,
+    targets: IndexMap<Vec<u8>, Target>,
+}
+
+impl Model for Body {
+    ghost use Rattle.std.specs.Prelude.{◌≡◌, ◌≤◌, ℕ, List, length, take};
+    ghost use Rattle.macro_meaning.specs.Definition as meaning;
+    ghost use Rattle.macro_meaning.specs.Visit.{places_from};
+    ghost use Rattle.orca_macro.specs.Held.{held};
+    ghost use Rattle.orca_macro.specs.DefinitionView.{summary};
+
+    ghost Value = { meaning.Body };
+
+    ghost view = { λ body. record { lines = body.lines; reach = body.reach } };
+
+    ghost invariant = { λ body. (q : List ℕ) → held body.targets q ≡ summary (places_from 0 q (take body.reach body.lines)) };
+}
+
+/// One more line with this sequence symbol.
+fn add(
+    alloc: Global,
+    targets: &mut IndexMap<Vec<u8>, Target>,
+    name: &[u8],
+    at: u32,
+) -> Result<(), AllocError>
+    ensures { OnOk result ((q : List ℕ) → held targets.new q ≡ (if bytes_eq name.now q then with_place at (held targets.old q) else held targets.old q)) }
+{
+    let place = match look(targets, name) {
+        Some(_) => Target::Twice,
+        None => Target::Once(at),
+    };
+    put(alloc, targets, name, place)
+}
+
+/// The sequence symbol of a line, if it has one.
+fn add_line(
+    alloc: Global,
+    targets: &mut IndexMap<Vec<u8>, Target>,
+    of: &SourceLine,
+    at: u32,
+) -> Result<(), AllocError>
+    requires { HaveFields of.now.text (line of.now).fields }
+    ensures { OnOk result ((q : List ℕ) → held targets.new q ≡ (if has_sequence q (line of.now) then with_place at (held targets.old q) else held targets.old q)) }
+{
+    match sequence_name(alloc, of.part(of.label))? {
+        Some(name) => add(alloc, targets, name.bytes(), at),
+        None => Ok(()),
+    }
+}
+
+/// The sequence symbols of the first so many lines.
+fn targets_of(
+    alloc: Global,
+    lines: &Lines,
+    reach: u32,
+) -> Result<IndexMap<Vec<u8>, Target>, AllocError>
+    requires { reach ≤ length lines.now }
+    ensures { IfOk result (λ targets. (q : List ℕ) → held targets q ≡ summary (places_from 0 q (take reach lines.now))) }
+{
+    let mut targets = IndexMap::new(alloc);
+    let mut at = 0;
+    'lines: while at < reach {
+        let Some(line) = lines.get(at) else {
+            return Ok(targets);
+        };
+        add_line(alloc, &mut targets, line, at)?;
+        at += 1;
+    }
+    Ok(targets)
+}
+
+impl Body {
+    ghost use Rattle.std.specs.Prelude.{slice_get};
+
+    /// These lines, and how many of them a branch can go to.
+    pub(crate) fn of(alloc: Global, lines: Lines, reach: u32) -> Result<Body, AllocError>
+        requires { reach ≤ length lines }
+        ensures { IfOk result (λ body. body ≡ record { lines = lines; reach = reach }) }
+    {
+        let targets = targets_of(alloc, &lines, reach)?;
+        Ok(Body {
+            lines,
+            reach,
+            targets,
+        })
+    }
+
+    /// The line at a place.
+    pub(crate) fn line(&self, place: u32) -> Option<&SourceLine>
+        ensures line { MatchOption result (slice_get self.now.lines place ≡ None) (λ found. slice_get self.now.lines place ≡ Some (line found.now)) }
+        ensures fields { IfSome result (λ found. HaveFields found.now.text (line found.now).fields) }
+        ensures bound { IfSome result (λ _. place + 1 < 2 ^ 32) }
+    {
+        if place < self.lines.count() {
+            return self.lines.get(place);
+        }
+        None
+    }
+
+    /// The only line to which a branch to this sequence symbol can go.
+    #[tactic(auto, unfolding(macro_meaning::specs::Visit::target_of), using(crate::proofs::Targets::found_once, crate::proofs::Targets::found_twice, crate::proofs::Targets::found_none))]
+    pub(crate) fn target(&self, name: &[u8]) -> Option<u32>
+        ensures { result ≡ target_of self.now name.now }
+    {
+        match look(&self.targets, name) {
+            Some(Target::Once(place)) => Some(*place),
+            Some(Target::Twice) => None,
+            None => None,
+        }
+    }
+}

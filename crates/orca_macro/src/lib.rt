@@ -1,0 +1,14 @@
+//! The expansion of macros and conditional assembly (ORCA/M reference manual, "Macros" and "Conditional assembly").
+#![tactic(auto)]
+
+mod body;
+mod call;
+mod condition;
+mod definitions;
+mod held;
+mod model_line;
+mod names;
+mod pieces;
+mod program;
+mod substitution;
+mod symbols;

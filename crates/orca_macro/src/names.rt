@@ -1,0 +1,137 @@
+//! Which statement an operation is, and the names of symbols and sequence symbols.
+
+ghost use Rattle.std.specs.Prelude.{◌≡◌, ◌≤◌, List, ℕ, length, bytes_eq, Some, None, IfOk, MatchOption};
+ghost use Rattle.std.specs.Option.{option_map};
+ghost use Rattle.orca_meaning.specs.Characters.{folded};
+ghost use Rattle.orca_meaning.specs.Operation.{beside};
+ghost use Rattle.orca_meaning.specs.Token.{Found};
+ghost use Rattle.macro_meaning.specs.Statements.{statement_of, other_statements, is_operation, whole, behind_dot, symbol_name, sequence_name, target_name};
+
+use macro_meaning::{Declaration, Kind, Statement};
+use omf_base::Name;
+use orca_text::{behind_byte, is_spelled, name_at, symbol_at};
+use std::alloc::{AllocError, Global};
+
+/// Whether an operation has this spelling.
+pub(crate) fn is_operation(operation: &[u8], spelling: &[u8]) -> bool
+    ensures { result ≡ bytes_eq spelling.now (folded operation.now) }
+{
+    is_spelled(operation, spelling)
+}
+
+/// The statements that don't declare or set symbols.
+#[tactic(auto, unfolding(macro_meaning::specs::Statements::other_statements, orca_meaning::specs::Operation::beside))]
+fn other_statement(operation: &[u8]) -> Option<Statement>
+    ensures { result ≡ beside (folded operation.now) other_statements }
+{
+    if is_operation(operation, b"AIF") {
+        return Some(Statement::BranchIf);
+    }
+    if is_operation(operation, b"AGO") {
+        return Some(Statement::Branch);
+    }
+    if is_operation(operation, b"ACTR") {
+        return Some(Statement::Count);
+    }
+    if is_operation(operation, b"ANOP") {
+        return Some(Statement::Nothing);
+    }
+    if is_operation(operation, b"MEXIT") {
+        return Some(Statement::Leave);
+    }
+    if is_operation(operation, b"MEND") {
+        return Some(Statement::Leave);
+    }
+    if is_operation(operation, b"MNOTE") {
+        return Some(Statement::Note);
+    }
+    if is_operation(operation, b"MACRO") {
+        return Some(Statement::Define);
+    }
+    None
+}
+
+/// The statement that an operation is, in upper or lower case.
+#[tactic(auto, unfolding(macro_meaning::specs::Statements::statement_of, macro_meaning::specs::Statements::statements, orca_meaning::specs::Operation::beside))]
+pub(crate) fn statement_of(operation: &[u8]) -> Option<Statement>
+    ensures { result ≡ statement_of operation.now }
+{
+    if is_operation(operation, b"LCLA") {
+        return Some(Statement::Declare(Declaration::Local(Kind::Number)));
+    }
+    if is_operation(operation, b"LCLB") {
+        return Some(Statement::Declare(Declaration::Local(Kind::Flag)));
+    }
+    if is_operation(operation, b"LCLC") {
+        return Some(Statement::Declare(Declaration::Local(Kind::Text)));
+    }
+    if is_operation(operation, b"GBLA") {
+        return Some(Statement::Declare(Declaration::Shared(Kind::Number)));
+    }
+    if is_operation(operation, b"GBLB") {
+        return Some(Statement::Declare(Declaration::Shared(Kind::Flag)));
+    }
+    if is_operation(operation, b"GBLC") {
+        return Some(Statement::Declare(Declaration::Shared(Kind::Text)));
+    }
+    if is_operation(operation, b"SETA") {
+        return Some(Statement::Set(Kind::Number));
+    }
+    if is_operation(operation, b"SETB") {
+        return Some(Statement::Set(Kind::Flag));
+    }
+    if is_operation(operation, b"SETC") {
+        return Some(Statement::Set(Kind::Text));
+    }
+    if is_operation(operation, b"AMID") {
+        return Some(Statement::Middle);
+    }
+    other_statement(operation)
+}
+
+/// What was found, where nothing stands behind it.
+pub(crate) fn whole(found: Option<(Name, &[u8])>) -> Option<Name>
+    ensures { result ≡ whole (option_map (λ x. (x.0, x.1.now)) found.entry) }
+{
+    match found {
+        Some((name, rest)) => {
+            if rest.is_empty() {
+                return Some(name);
+            }
+            None
+        }
+        None => None,
+    }
+}
+
+/// The name of a symbol, where the text is `&NAME` and nothing else.
+pub(crate) fn symbol_name(alloc: Global, text: &[u8]) -> Result<Option<Name>, AllocError>
+    requires { length text.now ≤ 255 }
+    ensures { IfOk result (λ name. name ≡ symbol_name text.now) }
+{
+    let found = symbol_at(alloc, text)?;
+    Ok(whole(found))
+}
+
+/// The name of a sequence symbol, where the text is `.NAME` and nothing else.
+pub(crate) fn sequence_name(alloc: Global, text: &[u8]) -> Result<Option<Name>, AllocError>
+    requires { length text.now ≤ 255 }
+    ensures { IfOk result (λ name. name ≡ sequence_name text.now) }
+{
+    let Some(behind) = behind_byte(text, b'.') else {
+        return Ok(None);
+    };
+    let found = name_at(alloc, behind)?;
+    Ok(whole(found))
+}
+
+/// Where a branch goes: a sequence symbol, maybe behind a `^`.
+pub(crate) fn target_name(alloc: Global, text: &[u8]) -> Result<Option<Name>, AllocError>
+    requires { length text.now ≤ 255 }
+    ensures { IfOk result (λ name. name ≡ target_name text.now) }
+{
+    match behind_byte(text, b'^') {
+        Some(behind) => sequence_name(alloc, behind),
+        None => sequence_name(alloc, text),
+    }
+}

@@ -1,0 +1,152 @@
+//! The lines of the source, and the macros.
+
+ghost use Rattle.std.specs.Prelude.{◌≡◌, ◌≤◌, ◌<◌, ◌+◌, ◌^◌, [], List, ℕ, length, take, map, slice_get, bytes_eq, Some, None, IfOk, IfSome, OnOk, MatchOption, if◌then◌else◌, is_some};
+ghost use Rattle.macro_meaning.specs.Definition.{first_named, or_else};
+ghost use Rattle.macro_meaning.specs.Visit.{line_at, body_of, no_body, target_of};
+ghost use Rattle.orca_meaning.specs.Line.{HaveFields};
+ghost use Rattle.orca_macro.specs.Held.{held};
+ghost use Rattle.orca_macro.specs.Parts.{definition};
+ghost use Rattle.orca_text.specs.View.{line};
+
+use crate::body::Body;
+use crate::definitions::Definition;
+use crate::held::{look, put};
+use indexmap::IndexMap;
+use orca_text::SourceLine;
+use std::alloc::{AllocError, Global};
+use std::marker::Model;
+
+/// The lines of the source, and the macros with their names. Contracts see the lines and the macros.
+#[derive(Drop)]
+pub(crate) struct Program {
+    source: Body,
+    definitions: Vec<Definition>,
+    names: IndexMap<Vec<u8>, usize>,
+}
+
+impl Model for Program {
+    ghost use Rattle.std.specs.Prelude.{◌≡◌, ℕ, List, map};
+    ghost use Rattle.macro_meaning.specs.Visit as meaning;
+    ghost use Rattle.macro_meaning.specs.Definition.{first_named};
+    ghost use Rattle.orca_macro.specs.Held.{held};
+    ghost use Rattle.orca_macro.specs.Parts.{definition};
+
+    ghost Value = { meaning.Program };
+
+    ghost view = { λ program. record { source = program.source; definitions = map definition program.definitions.items } };
+
+    ghost invariant = { λ program. (q : List ℕ) → held program.names q ≡ first_named q (map definition program.definitions.items) };
+}
+
+/// The definition at a place.
+fn definition_at(definitions: &[Definition], at: usize) -> Option<&Definition>
+    ensures { MatchOption result (length definitions.now ≤ at) (λ d. slice_get (map definition definitions.now) at ≡ Some (definition d.now)) }
+{
+    definitions.get(at)
+}
+
+/// The place of a name's definition, unless it has an earlier one.
+#[tactic(auto, using(crate::proofs::Firsts::stays, crate::proofs::Firsts::comes))]
+fn add_name(
+    alloc: Global,
+    names: &mut IndexMap<Vec<u8>, usize>,
+    name: &[u8],
+    at: usize,
+) -> Result<(), AllocError>
+    ensures { OnOk result ((q : List ℕ) → held names.new q ≡ or_else (held names.old q) (if bytes_eq name.now q then Some at else None)) }
+{
+    if let Some(_) = look(names, name) {
+        return Ok(());
+    }
+    put(alloc, names, name, at)
+}
+
+/// The place of each name's first definition.
+#[tactic(auto, using(crate::proofs::Firsts::next_name, crate::proofs::Firsts::all_names))]
+fn names_of(
+    alloc: Global,
+    definitions: &[Definition],
+) -> Result<IndexMap<Vec<u8>, usize>, AllocError>
+    ensures { IfOk result (λ names. (q : List ℕ) → held names q ≡ first_named q (map definition definitions.now)) }
+{
+    let mut names = IndexMap::new(alloc);
+    let mut at = 0;
+    'definitions: loop {
+        let Some(found) = definition_at(definitions, at) else {
+            return Ok(names);
+        };
+        add_name(alloc, &mut names, found.model.name.bytes(), at)?;
+        at += 1;
+    }
+}
+
+impl Program {
+    ghost use Rattle.std.specs.Prelude.{◌≡◌, map};
+
+    /// These lines and macros.
+    pub(crate) fn of(
+        alloc: Global,
+        source: Body,
+        definitions: Vec<Definition>,
+    ) -> Result<Program, AllocError>
+        ensures { IfOk result (λ program. program ≡ record { source = source; definitions = map definition definitions.items }) }
+    {
+        let names = names_of(alloc, definitions.as_slice())?;
+        Ok(Program {
+            source,
+            definitions,
+            names,
+        })
+    }
+
+    /// The first macro of a name, with its place.
+    #[tactic(auto, using(crate::proofs::Firsts::within))]
+    pub(crate) fn named(&self, name: &[u8]) -> Option<(usize, &Definition)>
+        ensures { MatchOption result (first_named name.now self.now.definitions ≡ None)
+            (λ x. (first_named name.now self.now.definitions ≡ Some x.0) × (slice_get self.now.definitions x.0 ≡ Some (definition x.1.now))) }
+    {
+        let Some(place) = look(&self.names, name) else {
+            return None;
+        };
+        match definition_at(self.definitions.as_slice(), *place) {
+            Some(found) => Some((*place, found)),
+            None => unreachable!(),
+        }
+    }
+
+    /// The body of the macro at a place, or of the source.
+    fn body(&self, place: Option<usize>) -> Option<&Body>
+        ensures { MatchOption result (body_of self.now place ≡ no_body) (λ body. body_of self.now place ≡ body.now) }
+    {
+        match place {
+            None => Some(&self.source),
+            Some(at) => match definition_at(self.definitions.as_slice(), at) {
+                Some(found) => Some(&found.body),
+                None => None,
+            },
+        }
+    }
+
+    /// A line of the macro at a place, or of the source.
+    pub(crate) fn line(&self, place: Option<usize>, at: u32) -> Option<&SourceLine>
+        ensures line { MatchOption result (line_at self.now place at ≡ None) (λ found. line_at self.now place at ≡ Some (line found.now)) }
+        ensures fields { IfSome result (λ found. HaveFields found.now.text (line found.now).fields) }
+        ensures bound { IfSome result (λ _. at + 1 < 2 ^ 32) }
+    {
+        match self.body(place) {
+            Some(body) => body.line(at),
+            None => None,
+        }
+    }
+
+    /// The only line to which a branch to this sequence symbol can go.
+    #[tactic(auto, unfolding(macro_meaning::specs::Visit::target_of, macro_meaning::specs::Visit::places_from))]
+    pub(crate) fn target(&self, place: Option<usize>, name: &[u8]) -> Option<u32>
+        ensures { result ≡ target_of (body_of self.now place) name.now }
+    {
+        match self.body(place) {
+            Some(body) => body.target(name),
+            None => None,
+        }
+    }
+}

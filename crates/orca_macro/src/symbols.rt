@@ -1,0 +1,304 @@
+//! Symbols, and the texts for which they stand (ORCA/M reference manual, "Symbolic parameters").
+
+ghost use Rattle.std.specs.Prelude.{◌≡◌, ◌+◌, ◌<◌, ◌≤◌, ◌^◌, [], List, ℕ, length, bytes_eq, Some, None, IfOk, IfSome, OnOk, MatchOption, IsTrue, if◌then◌else◌, option_map};
+ghost use Rattle.macro_meaning.specs.Symbol.{text_of, decimal, signed_decimal, kind_of, declaration_of, is_kind, is_declaration, first_text, is_count, with_name};
+ghost use Rattle.macro_meaning.specs.Call.{no_symbols};
+ghost use Rattle.macro_meaning.specs.Visit.{no_texts};
+ghost use Rattle.orca_macro.specs.Held.{held};
+ghost use Rattle.orca_macro.specs.View.{symbol, shared_text, symbols_of, texts_of, values};
+
+use crate::held::{look, put};
+use indexmap::IndexMap;
+use macro_meaning::{Declaration, Kind};
+use omf_base::{Line, Name, NameFault};
+use std::alloc::{AllocError, Global};
+use std::marker::Model;
+
+/// A symbol of an expansion.
+#[derive(Debug, Drop)]
+pub(crate) enum Symbol {
+    /// Its own, with its text.
+    Own(Kind, Name),
+    /// One that all expansions share.
+    Common(Kind),
+}
+
+/// The text of a shared symbol.
+#[derive(Debug, Drop)]
+pub(crate) struct SharedText {
+    pub(crate) kind: Kind,
+    pub(crate) text: Name,
+}
+
+/// The symbols of an expansion by name.
+#[derive(Drop)]
+pub(crate) struct Symbols {
+    pub(crate) map: IndexMap<Vec<u8>, Symbol>,
+}
+
+/// The texts of the shared symbols by name.
+#[derive(Drop)]
+pub(crate) struct Texts {
+    pub(crate) map: IndexMap<Vec<u8>, SharedText>,
+}
+
+/// How many macros were called, with its digits. Contracts see the number.
+#[derive(Drop)]
+pub(crate) struct Calls {
+    count: u32,
+    digits: Name,
+}
+
+impl Model for Calls {
+    ghost use Rattle.std.specs.Prelude.{◌≡◌, ℕ};
+    ghost use Rattle.macro_meaning.specs.Symbol.{decimal};
+
+    ghost Value = { ℕ };
+
+    ghost view = { λ calls. calls.count };
+
+    ghost invariant = { λ calls. calls.digits ≡ decimal calls.count };
+}
+
+/// Bytes, of which there are at most 255.
+pub(crate) fn name(alloc: Global, bytes: &[u8]) -> Result<Name, AllocError>
+    requires { length bytes.now ≤ 255 }
+    ensures { IfOk result (λ n. n ≡ bytes.now) }
+{
+    match Name::of(alloc, bytes) {
+        Ok(name) => Ok(name),
+        Err(NameFault::TooLong) => unreachable!(),
+        Err(NameFault::Memory) => Err(AllocError),
+    }
+}
+
+/// A number in decimal digits.
+#[tactic(auto, using(crate::proofs::Signed::decimal_short))]
+fn decimal(alloc: Global, n: u32) -> Result<Name, AllocError>
+    ensures { IfOk result (λ v. v ≡ decimal n) }
+{
+    let mut line = Line::new(alloc);
+    match line.dec(n) {
+        Ok(()) => name(alloc, line.bytes()),
+        Err(_) => Err(AllocError),
+    }
+}
+
+/// A signed number in decimal digits.
+#[tactic(auto, using(crate::proofs::Signed::decimal_short))]
+pub(crate) fn signed_decimal(alloc: Global, z: i32) -> Result<Name, AllocError>
+    ensures { IfOk result (λ v. v ≡ signed_decimal z) }
+{
+    if z >= 0 {
+        return decimal(alloc, z.unsigned_abs());
+    }
+    let mut line = Line::new(alloc);
+    match line.text("-") {
+        Ok(()) => {}
+        Err(_) => return Err(AllocError),
+    }
+    match line.dec(z.unsigned_abs()) {
+        Ok(()) => name(alloc, line.bytes()),
+        Err(_) => Err(AllocError),
+    }
+}
+
+impl Calls {
+    /// None.
+    pub(crate) fn none(alloc: Global) -> Result<Calls, AllocError>
+        ensures { IfOk result (λ calls. calls ≡ 0) }
+    {
+        Calls::of(alloc, 0)
+    }
+
+    fn of(alloc: Global, count: u32) -> Result<Calls, AllocError>
+        ensures { IfOk result (λ calls. calls ≡ count) }
+    {
+        let digits = decimal(alloc, count)?;
+        Ok(Calls { count, digits })
+    }
+
+    /// One more.
+    pub(crate) fn rise(&mut self, alloc: Global) -> Result<(), AllocError>
+        requires { self.old + 1 < 2 ^ 32 }
+        ensures { OnOk result (self.new ≡ self.old + 1) }
+    {
+        *self = Calls::of(alloc, self.count + 1)?;
+        Ok(())
+    }
+
+    /// Its digits.
+    pub(crate) fn digits(&self) -> &[u8]
+        ensures value { result.now ≡ decimal self.now }
+        ensures short { length result.now ≤ 255 }
+    {
+        self.digits.bytes()
+    }
+}
+
+/// All that a line may name.
+#[derive(Clone, Copy)]
+pub(crate) struct Values<'a> {
+    pub(crate) symbols: &'a Symbols,
+    pub(crate) texts: &'a Texts,
+    pub(crate) calls: &'a Calls,
+}
+
+/// Whether a name is SYSCNT.
+pub(crate) fn is_count(name: &[u8]) -> bool
+    ensures { result ≡ is_count name.now }
+{
+    b"SYSCNT".as_slice() == name
+}
+
+impl Symbols {
+    /// None.
+    pub(crate) fn new(alloc: Global) -> Symbols
+        ensures { symbols_of result ≡ no_symbols }
+    {
+        Symbols {
+            map: IndexMap::new(alloc),
+        }
+    }
+
+    /// What a name stands for.
+    pub(crate) fn get(&self, name: &[u8]) -> Option<&Symbol>
+        ensures { MatchOption result (symbols_of self.now name.now ≡ None) (λ s. symbols_of self.now name.now ≡ Some (symbol s.now)) }
+    {
+        look(&self.map, name)
+    }
+
+    /// Gives a name a symbol.
+    pub(crate) fn set(
+        &mut self,
+        alloc: Global,
+        name: &[u8],
+        value: Symbol,
+    ) -> Result<(), AllocError>
+        ensures { OnOk result (symbols_of self.new ≡ with_name name.now (symbol value) (symbols_of self.old)) }
+    {
+        match put(alloc, &mut self.map, name, value) {
+            Ok(()) => Ok(()),
+            Err(_) => Err(AllocError),
+        }
+    }
+}
+
+impl Texts {
+    /// None.
+    pub(crate) fn new(alloc: Global) -> Texts
+        ensures { texts_of result ≡ no_texts }
+    {
+        Texts {
+            map: IndexMap::new(alloc),
+        }
+    }
+
+    /// The text of a name.
+    pub(crate) fn get(&self, name: &[u8]) -> Option<&SharedText>
+        ensures { MatchOption result (texts_of self.now name.now ≡ None) (λ s. texts_of self.now name.now ≡ Some (shared_text s.now)) }
+    {
+        look(&self.map, name)
+    }
+
+    /// Gives a name a text.
+    pub(crate) fn set(
+        &mut self,
+        alloc: Global,
+        name: &[u8],
+        value: SharedText,
+    ) -> Result<(), AllocError>
+        ensures { OnOk result (texts_of self.new ≡ with_name name.now (shared_text value) (texts_of self.old)) }
+    {
+        match put(alloc, &mut self.map, name, value) {
+            Ok(()) => Ok(()),
+            Err(_) => Err(AllocError),
+        }
+    }
+}
+
+/// The text of a shared symbol.
+fn common_text<'a>(texts: &'a Texts, name: &[u8]) -> Option<&'a [u8]>
+    ensures short { IfSome result (λ t. length t.now ≤ 255) }
+    ensures text { MatchOption result (Rattle.macro_meaning.specs.Symbol.shared_text (texts_of texts.now name.now) ≡ None)
+        (λ t. Rattle.macro_meaning.specs.Symbol.shared_text (texts_of texts.now name.now) ≡ Some t.now) }
+{
+    match texts.get(name) {
+        Some(found) => Some(found.text.bytes()),
+        None => None,
+    }
+}
+
+/// The text of a symbol in upper case, if it is declared.
+#[tactic(auto, unfolding(macro_meaning::specs::Symbol::text_of))]
+pub(crate) fn text_of<'a>(of: Values<'a>, name: &[u8]) -> Option<&'a [u8]>
+    ensures text { MatchOption result (text_of (values of.entry) name.now ≡ None) (λ t. text_of (values of.entry) name.now ≡ Some t.now) }
+    ensures short { IfSome result (λ t. length t.now ≤ 255) }
+{
+    if is_count(name) {
+        return Some(of.calls.digits());
+    }
+    match of.symbols.get(name) {
+        Some(Symbol::Own(_, text)) => Some(text.bytes()),
+        Some(Symbol::Common(_)) => common_text(of.texts, name),
+        None => None,
+    }
+}
+
+/// What a symbol holds.
+pub(crate) fn kind_of(of: &Symbol) -> Kind
+    ensures { result ≡ kind_of (symbol of.now) }
+{
+    match of {
+        Symbol::Own(kind, _) => *kind,
+        Symbol::Common(kind) => *kind,
+    }
+}
+
+/// How a symbol was declared.
+pub(crate) fn declaration_of(of: &Symbol) -> Declaration
+    ensures { result ≡ declaration_of (symbol of.now) }
+{
+    match of {
+        Symbol::Own(kind, _) => Declaration::Local(*kind),
+        Symbol::Common(kind) => Declaration::Shared(*kind),
+    }
+}
+
+/// Whether two kinds are the same.
+pub(crate) fn is_kind(kind: Kind, other: Kind) -> bool
+    ensures { result ≡ is_kind kind other }
+{
+    match kind {
+        Kind::Number => matches!(other, Kind::Number),
+        Kind::Flag => matches!(other, Kind::Flag),
+        Kind::Text => matches!(other, Kind::Text),
+    }
+}
+
+/// Whether two declarations are the same.
+pub(crate) fn is_declaration(declaration: Declaration, other: Declaration) -> bool
+    ensures { result ≡ is_declaration declaration other }
+{
+    match declaration {
+        Declaration::Local(kind) => match other {
+            Declaration::Local(second) => is_kind(kind, second),
+            Declaration::Shared(_) => false,
+        },
+        Declaration::Shared(kind) => match other {
+            Declaration::Local(_) => false,
+            Declaration::Shared(second) => is_kind(kind, second),
+        },
+    }
+}
+
+/// What a symbol holds at first.
+pub(crate) fn first_text(alloc: Global, kind: Kind) -> Result<Name, AllocError>
+    ensures { IfOk result (λ v. v ≡ first_text kind) }
+{
+    match kind {
+        Kind::Number => name(alloc, b"0"),
+        Kind::Flag => name(alloc, b"0"),
+        Kind::Text => name(alloc, b""),
+    }
+}
