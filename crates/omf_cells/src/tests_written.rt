@@ -199,9 +199,18 @@ fn pages_are_passed_over(rt: HostRuntime) -> Result<(), Fail> {
     assert_eq!(rt; gap(alloc, 0)?.as_slice(), [0, 0, 0, 0].as_slice());
     assert_eq!(rt; gap(alloc, 1)?.as_slice(), [0, 0, 0x81, 0, 0].as_slice());
     assert_eq!(rt; gap(alloc, 127)?.as_slice(), [0, 0, 0xFF, 0, 0].as_slice());
-    assert_eq!(rt; gap(alloc, 128)?.as_slice(), [0, 0, 0xFF, 0x81, 0, 0].as_slice());
-    assert_eq!(rt; gap(alloc, 129)?.as_slice(), [0, 0, 0xFF, 0x82, 0, 0].as_slice());
-    assert_eq!(rt; gap(alloc, 254)?.as_slice(), [0, 0, 0xFF, 0xFF, 0, 0].as_slice());
+    assert_eq!(rt;
+        gap(alloc, 128)?.as_slice(),
+        [0, 0, 0xFF, 0x81, 0, 0].as_slice()
+    );
+    assert_eq!(rt;
+        gap(alloc, 129)?.as_slice(),
+        [0, 0, 0xFF, 0x82, 0, 0].as_slice()
+    );
+    assert_eq!(rt;
+        gap(alloc, 254)?.as_slice(),
+        [0, 0, 0xFF, 0xFF, 0, 0].as_slice()
+    );
     Ok(())
 }
 
