@@ -2,7 +2,7 @@
 use Rattle.std.proofs.Common.{◌≡◌, ℕ, true, List, [], ◌∷◌, Option, Some, None, Ok, Err, refl, sym, ap, subst, ◌∙◌}
 use Rattle.omf_format.specs.declared.fault.RecordFault.{RecordFault}
 use Rattle.omf_format.specs.Record.{Record}
-use Rattle.omf_format.specs.Reading.{Reader, next_answer, after_next, HandsOut, records_of, IsBody}
+use Rattle.omf_format.specs.Reading.{Reader, next_answer, after_next, records_of, IsBody}
 use Rattle.omf_format.specs.File.{body_reader}
 use Rattle.omf_format.specs.FileLaws.{Answer, gave, same_found, open_at_some, open_at_fault, ended_at_none}
 use Rattle.std.specs.Prelude.{option_map}

@@ -1,5 +1,5 @@
 -- A file's fault is that of the input.
-use Rattle.std.proofs.Common.{◌≡◌, ◌⊎◌, inl, inr, ℕ, List, None, Some, refl, sym, ap, subst, ◌∙◌}
+use Rattle.std.proofs.Common.{◌≡◌, inr, ℕ, List, None, Some, refl, sym, ap, subst, ◌∙◌}
 use Rattle.omf_format.specs.declared.fault.FileCause.{FileCause}
 use Rattle.omf_format.specs.declared.fault.FileCause.TheVariants as causes
 use Rattle.omf_format.specs.declared.fault.FileFault.{FileFault}
@@ -8,8 +8,8 @@ use Rattle.omf_records.specs.Segments.{UnlessMemory, IsRefused}
 use Rattle.omf_format.specs.File.{IsFirstFault}
 use Rattle.link_meaning.specs.declared.fault.LinkCause.{LinkCause}
 use Rattle.link_meaning.specs.declared.fault.LinkFault.{LinkFault}
-use Rattle.link_meaning.specs.LinkFaults.{link_cause, segments_fault, HasFileFault, OfFile, OfSegment}
-use Rattle.link_resolve.specs.Reading.{memory_fault, IsFileRefused}
+use Rattle.link_meaning.specs.LinkFaults.{link_cause, segments_fault, OfFile, OfSegment}
+use Rattle.link_resolve.specs.Reading.{IsFileRefused}
 
 abbrev pub fault_at : LinkCause → ℕ → ℕ → ℕ → LinkFault
 fault_at cause file segment at = record { cause = cause; name = None; spot = record { file = file; segment = segment; at = at } }

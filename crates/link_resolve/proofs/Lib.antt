@@ -14,3 +14,5 @@ pub mod LinkedLaws
 pub mod TitleLaws
 pub mod ResolvingLaws
 pub mod FileRefusals
+pub mod OfferLaws
+pub mod WantedLaws

@@ -13,10 +13,8 @@ use Rattle.link_meaning.specs.Defines.{Definition, defined_in, data_title_of}
 use Rattle.link_meaning.specs.Uses.{Use, data_name, uses_of, usings_of}
 use Rattle.link_meaning.specs.Search.{Found, entries_from, entries, data_titles}
 use Rattle.link_meaning.specs.LinkedList.{Asked, asked_from, asked}
-use Rattle.link_resolve.specs.declared.names.Names.{Names}
 use Rattle.link_resolve.specs.declared.uses.Use as kept
 use Rattle.link_resolve.specs.declared.definitions.Origin.{Origin}
-use Rattle.link_resolve.specs.declared.definitions.Definitions.{Definitions}
 use Rattle.link_resolve.specs.declared.linked.LinkedMember.{LinkedMember}
 use Rattle.link_resolve.specs.declared.linked.Linked.{Linked}
 use Rattle.link_resolve.specs.Names.{Indexes}

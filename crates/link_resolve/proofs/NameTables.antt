@@ -1,16 +1,15 @@
 -- Tables of names: a look-up finds what the rows have, and one more row goes behind the others.
-use Rattle.std.proofs.Common.{◌≡◌, ℕ, Bool, true, false, List, [], ◌∷◌, ◌++◌, Option, Some, None, refl, sym, ap, subst, ◌∙◌}
+use Rattle.std.proofs.Common.{◌≡◌, ℕ, Bool, true, false, List, [], ◌∷◌, ◌++◌, Option, Some, refl, sym, ap, subst, ◌∙◌}
 use Rattle.std.specs.Prelude.{filter, if◌then◌else◌, ◌==◌}
 use Rattle.std.proofs.lemmas.Bool.{and_parts, eqb-true}
 use Rattle.std.specs.Str.{bytes_eq}
-use Rattle.indexmap.specs.IndexMap.{get, get_by, Updates}
+use Rattle.indexmap.specs.IndexMap.{get_by, Updates}
 use Rattle.link_meaning.specs.Search.{is_step}
 use Rattle.link_resolve.specs.contracts.names.KeyPartialEq.TheImpl as test
 use Rattle.link_meaning.specs.declared.search.Step.{Step}
 use Rattle.link_meaning.specs.declared.search.Step.TheVariants.{Within, OfUnit, Everyone}
 use Rattle.link_resolve.specs.declared.names.Key.{Key}
 use Rattle.link_resolve.specs.declared.names.Outcome.{Outcome}
-use Rattle.link_resolve.specs.declared.names.Outcome.TheVariants.{Nothing, One, Several}
 use Rattle.link_resolve.specs.declared.names.Names.{Names}
 use Rattle.link_resolve.specs.Names.{Named, Row, key_of, is_key, is_row, seen_of, added, outcome, found_or, Indexes}
 

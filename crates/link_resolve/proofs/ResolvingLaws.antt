@@ -1,7 +1,7 @@
 -- Uses one by one.
 use Rattle.std.proofs.Common.{◌≡◌, ◌⊎◌, inl, inr, ℕ, zero, suc, ◌+◌, ◌-◌, ◌≤◌, ◌<◌, List, [], ◌∷◌, ◌++◌, length, map, take, drop, Option, Some, None, refl, sym, ap, subst, ◌∙◌, arith}
 use Rattle.std.specs.Prelude.{slice_get, option_map}
-use Rattle.std.proofs.lemmas.Option.{slice_get-map, slice_get_within, slice_get_past}
+use Rattle.std.proofs.lemmas.Option.{slice_get-map, slice_get_within}
 use Rattle.std.proofs.lemmas.List.{length-map, length-take-le, take-append-drop}
 use Rattle.link_meaning.specs.declared.fault.LinkCause.{LinkCause}
 use Rattle.link_meaning.specs.declared.search.Want.{Want}
@@ -125,7 +125,7 @@ fails_so list k u o is shape =
 
 -- ---- the first
 
-take_more : {A : Type 0} → (xs : List A) (k : ℕ) (x : A) → slice_get xs k ≡ Some x → take (k + 1) xs ≡ take k xs ++ x ∷ []
+pub take_more : {A : Type 0} → (xs : List A) (k : ℕ) (x : A) → slice_get xs k ≡ Some x → take (k + 1) xs ≡ take k xs ++ x ∷ []
 take_more [] k x e = absurd cc
 take_more {A} (y ∷ xs) zero x e = let same : y ≡ x = cc in ap (λ (z : A). z ∷ []) same
 take_more {A} (y ∷ xs) (suc k) x e =
@@ -156,16 +156,17 @@ first_use list k u o cause is shape fails none = record {
   fails = fails_so list k u o is shape ∙ fails;
 }
 
+-- so many or more are all
+pub take_past : {A : Type 0} → (xs : List A) (n : ℕ) → length xs ≤ n → take n xs ≡ xs
+take_past [] zero less = refl
+take_past [] (suc n) less = refl
+take_past (x ∷ xs) zero less = absurd (omega arith)
+take_past {A} (x ∷ xs) (suc n) less = ap (λ (l : List A). x ∷ l) (take_past xs n (omega arith))
+
 pub none_all : (list : List Member) (table : Linked) (k : ℕ) → Holds list table → length table.uses.items ≤ k → HasNone (FailsToResolve list) (take k (asked list)) → HasNone (FailsToResolve list) (asked list)
 none_all list table k holds past none =
     let size : length (asked list) ≡ length table.uses.items = sym (length-map (asked list) told_use) ∙ sym (ap length holds.uses) ∙ length-map table.uses.items use_of in
     subst (HasNone (FailsToResolve list)) (take_past (asked list) k (omega (arith, size, past))) none
-  where
-    take_past : {A : Type 0} → (xs : List A) (n : ℕ) → length xs ≤ n → take n xs ≡ xs
-    take_past [] zero less = refl
-    take_past [] (suc n) less = refl
-    take_past (x ∷ xs) zero less = absurd (omega arith)
-    take_past {A} (x ∷ xs) (suc n) less = ap (λ (l : List A). x ∷ l) (take_past xs n (omega arith))
 
 -- ---- the first definition
 

@@ -2,7 +2,6 @@
 use Rattle.std.proofs.Common.{◌≡◌, ℕ, ◌+◌, ◌<◌, length, drop, get_or, Bool, true, false, List, [], ◌∷◌, ◌++◌, map, Some, refl, sym, ap, subst, ◌∙◌}
 use Rattle.std.specs.Prelude.{filter, ◌&&◌, slice_get, if◌then◌else◌}
 use Rattle.std.specs.Str.{bytes_eq}
-use Rattle.std.specs.List.{flat_map}
 use Rattle.std.proofs.lemmas.List.{map-append}
 use Rattle.std.proofs.lemmas.List.Concat.{flat_map-cons}
 use Rattle.link_meaning.specs.declared.search.Step.{Step}
@@ -15,9 +14,8 @@ use Rattle.link_resolve.specs.declared.names.Outcome.{Outcome}
 use Rattle.link_resolve.specs.declared.names.Outcome.TheVariants.{Nothing, One, Several}
 use Rattle.link_resolve.specs.declared.names.Names.{Names}
 use Rattle.link_resolve.specs.declared.definitions.Origin.{Origin}
-use Rattle.link_resolve.specs.declared.definitions.Definitions.{Definitions}
 use Rattle.link_resolve.specs.Names.{Named, Row, Indexes, is_row, seen_of, outcome}
-use Rattle.link_resolve.specs.Definitions.{Seen, Sees, IsOf, is_found, key_of_found, AreDefinitions}
+use Rattle.link_resolve.specs.Definitions.{Seen, Sees, IsOf, is_found, key_of_found}
 use Rattle.link_resolve.specs.Linked.{place_rows, SeesPlace, names_of, used_places}
 use Rattle.link_resolve.proofs.Lists.{drop_or}
 

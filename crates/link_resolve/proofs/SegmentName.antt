@@ -1,12 +1,12 @@
 -- SEGNAME lies in the file.
-use Rattle.std.proofs.Common.{◌≡◌, ℕ, ◌+◌, ◌-◌, ◌≤◌, Bool, true, false, List, ◌++◌, length, take, drop, replicate, refl, sym, ap, subst, ◌∙◌, append_assoc, arith}
-use Rattle.std.specs.Prelude.{min, ◌==◌, if◌then◌else◌}
+use Rattle.std.proofs.Common.{◌≡◌, ℕ, ◌+◌, ◌-◌, ◌≤◌, Bool, true, false, List, ◌++◌, length, take, drop, replicate, sym, ap, subst, ◌∙◌, append_assoc, arith}
+use Rattle.std.specs.Prelude.{◌==◌, if◌then◌else◌}
 use Rattle.std.proofs.Math.Seq.{take-append_seam}
 use Rattle.std.proofs.lemmas.List.{take-append-drop, length-take, length-drop}
 use Rattle.omf_format.specs.Number.{number_at}
 use Rattle.omf_format.specs.Name.{without_trailing, name_at, name_size}
 use Rattle.omf_format.specs.Header.{Fields, fields_of, names_end}
-use Rattle.omf_format.specs.HeaderLaws.{IsSound, sound_from_none}
+use Rattle.omf_format.specs.HeaderLaws.{sound_from_none}
 use Rattle.omf_format.specs.File.{IsHeader}
 use Rattle.load_meaning.specs.PlainLaws.{trailing-restores}
 use Rattle.link_resolve.proofs.Lists.{drop_twice}

@@ -1,18 +1,17 @@
 -- Tables of titles, and one more title.
-use Rattle.std.proofs.Common.{◌≡◌, ℕ, Bool, true, false, List, [], ◌∷◌, ◌++◌, map, None, refl, sym, ap, subst, ◌∙◌, append-nil}
-use Rattle.std.specs.Prelude.{◌==◌, if◌then◌else◌}
+use Rattle.std.proofs.Common.{◌≡◌, ℕ, Bool, List, [], ◌∷◌, ◌++◌, None, refl, sym, ap, subst, ◌∙◌, append-nil}
+use Rattle.std.specs.Prelude.{if◌then◌else◌}
 use Rattle.std.proofs.lemmas.Bool.{eq-eqb, ne_eqb}
 use Rattle.std.proofs.lemmas.List.{map-append}
 use Rattle.omf_format.specs.Header.{form_of, is_private}
 use Rattle.omf_format.specs.File.{Segment}
 use Rattle.link_meaning.specs.declared.search.Step.{Step}
-use Rattle.link_meaning.specs.Member.{Member}
 use Rattle.link_meaning.specs.Defines.{Definition, outer_scope, title_of, data_title_of}
 use Rattle.link_meaning.specs.Search.{Found, step_for}
 use Rattle.link_resolve.specs.declared.names.Names.{Names}
 use Rattle.link_resolve.specs.declared.definitions.Origin.{Origin}
 use Rattle.link_resolve.specs.Names.{Named, Row, Indexes}
-use Rattle.link_resolve.specs.Definitions.{IsOf, key_of_found, founds_in}
+use Rattle.link_resolve.specs.Definitions.{key_of_found, founds_in}
 use Rattle.link_resolve.specs.Linked.{place_rows, GainsTitle}
 
 none_gained : (titles : Names) (origin : Origin) (place : ℕ) (ds : List Definition) → ds ≡ [] → GainsTitle titles titles origin place ds

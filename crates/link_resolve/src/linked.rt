@@ -4,21 +4,24 @@ ghost use Rattle.std.specs.Prelude.{◌≡◌, ◌+◌, ◌-◌, ◌<◌, ◌≤
 ghost use Rattle.std.specs.List.{flat_map};
 ghost use Rattle.omf_records.specs.Segments.{IsSound, shown};
 ghost use Rattle.link_meaning.specs.Sizes.{body_size};
-ghost use Rattle.link_meaning.specs.Member.{Member};
+ghost use Rattle.link_meaning.specs.Member.{Member, Offer};
 ghost use Rattle.link_meaning.specs.Defines.{data_title_of};
 ghost use Rattle.link_meaning.specs.Uses.{data_name};
 ghost use Rattle.link_meaning.specs.Search.{Found, entries, data_titles, decided, outer_steps, named, finds, finds_data};
 ghost use Rattle.link_meaning.specs.First.{HasNone};
-ghost use Rattle.link_meaning.specs.LinkedList.{asked, found_for};
+ghost use Rattle.link_meaning.specs.LinkedList.{asked, found_for, wanted_by};
 ghost use Rattle.link_resolve.specs.Names.{Row, Indexes, key_of};
 ghost use Rattle.link_resolve.specs.Resolving.{first_found, IsShape, IsHeld, FailsToResolve, IsFirstUse, cause_of};
 ghost use Rattle.link_resolve.specs.Definitions.{AreDefinitions, IsOf, Sees, founds_in, definition_of, told_definition};
 ghost use Rattle.link_resolve.specs.Uses.{use_of};
+ghost use Rattle.link_resolve.specs.Offers.{AreOffers, IsRow};
+ghost use Rattle.link_resolve.specs.Wanted.{WantsNothing, IsWanted};
 ghost use Rattle.link_resolve.specs.Linked.{Holds, GainsTitle, SeesPlace, names_of, used_places};
 ghost use Rattle.link_meaning.specs.declared.search.Step.TheVariants.{Within};
 
 use crate::definitions::{Definition, Definitions, Origin, outer_step};
 use crate::names::{Key, Names, Outcome};
+use crate::offers::Offers;
 use crate::segname::title;
 use crate::uses::{Use, add_uses};
 use link_meaning::{LinkCause, Step, Want};
@@ -218,6 +221,42 @@ impl<'a> Linked<'a> {
             Want::One => self.find(used.place, used.name),
             Want::Any => self.find(used.place, used.name),
         }
+    }
+
+    /// The number of the row, from 0, whose member a use wants: one that finds nothing, and for which there is a row.
+    fn row_wanted(&self, offers: &Offers, used: &Use) -> Option<usize>
+        requires positive { 0 < used.now.place }
+        requires within { used.now.place ≤ length self.now.members.items }
+        ensures { (list : List Member) (os : List Offer) (m : Member) → Holds list self.now → AreOffers os offers.now
+            → slice_get list (used.now.place - 1) ≡ Some m → IsRow os (wanted_by os list used.now.place m (use_of used.now).1) result }
+    {
+        match self.found_for(used) {
+            Outcome::Nothing => {
+                let member = &self.members[used.place as usize - 1];
+                offers.row_for(member.origin, used.want, used.name)
+            }
+            Outcome::One(_) => None,
+            Outcome::Several(_) => None,
+        }
+    }
+
+    /// The first use, in list and record order, that wants a member: its number, from 0, and that of the row that would bring
+    /// the member in. The first `from` uses are known to want nothing.
+    pub fn wanted(&self, offers: &Offers, from: usize) -> Option<(usize, usize)>
+        requires { IsHeld self.now }
+        ensures { (list : List Member) (os : List Offer) → Holds list self.now → AreOffers os offers.now → WantsNothing os list from
+            → IsWanted os list result }
+    {
+        let mut number = from;
+        'uses: while number < self.uses.as_slice().len() {
+            let used = &self.uses[number];
+            match self.row_wanted(offers, used) {
+                Some(row) => return Some((number, row)),
+                None => {}
+            }
+            number += 1;
+        }
+        None
     }
 
     /// The first definition that a name finds in the member at this place, from 1, used there or not. None where the place is

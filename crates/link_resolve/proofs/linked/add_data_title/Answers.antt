@@ -1,4 +1,4 @@
-use Rattle.std.proofs.Common.{◌≡◌, [], length, arith}
+use Rattle.std.proofs.Common.{◌≡◌, length, arith}
 use Rattle.omf_records.specs.Segments.{shown}
 use Rattle.link_resolve.proofs.OnOks.{on_ok}
 use Rattle.link_resolve.proofs.Lists.{empty, not_empty}

@@ -1,5 +1,4 @@
-use Rattle.std.proofs.Common.{◌≡◌, Ok, sym, ap, ◌∙◌}
-use Rattle.omf_records.specs.View.{seen}
+use Rattle.std.proofs.Common.{sym}
 use Rattle.link_resolve.proofs.ComingLaws.{coming_fault, walked, layout_kept}
 use Rattle.link_resolve.proofs.reading.next_record.Goals as goal
 

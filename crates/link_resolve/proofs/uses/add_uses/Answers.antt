@@ -1,11 +1,10 @@
-use Rattle.std.proofs.Common.{◌≡◌, ◌++◌, ℕ, List, map, refl, ap, ◌∙◌}
-use Rattle.std.specs.List.{flat_map}
+use Rattle.std.proofs.Common.{ℕ, map, refl, ap, ◌∙◌}
 use Rattle.omf_format.specs.Field.{Layout}
 use Rattle.omf_format.specs.Record.{Record}
 use Rattle.omf_records.specs.Segments.{shown}
 use Rattle.omf_records.specs.View.{view}
-use Rattle.link_meaning.specs.Uses.{Use, used_by, uses_of}
-use Rattle.link_resolve.specs.Uses.{use_of, at_place}
+use Rattle.link_meaning.specs.Uses.{used_by, uses_of}
+use Rattle.link_resolve.specs.Uses.{use_of}
 use Rattle.link_resolve.proofs.ComingLaws.{coming_view, found_next, found_end}
 use Rattle.link_resolve.proofs.UseLaws.{gave_more, gave_all, body_lab_len}
 use Rattle.link_resolve.proofs.uses.add_uses.Goals as goal

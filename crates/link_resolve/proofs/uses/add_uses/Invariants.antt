@@ -1,4 +1,4 @@
-use Rattle.std.proofs.Common.{◌++◌, ℕ, length, map}
+use Rattle.std.proofs.Common.{◌++◌, length, map}
 use Rattle.std.specs.List.{flat_map}
 use Rattle.omf_records.specs.Segments.{shown}
 use Rattle.link_meaning.specs.Uses.{used_by}

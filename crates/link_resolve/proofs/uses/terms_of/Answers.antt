@@ -1,4 +1,4 @@
-use Rattle.std.proofs.Common.{◌≡◌, ℕ, [], Ok, Err, sym, ap, ◌∙◌, append-nil}
+use Rattle.std.proofs.Common.{ap, ◌∙◌}
 use Rattle.omf_format.specs.Expression.{Expression, terms_in}
 use Rattle.link_resolve.proofs.Spelled.{read_back, never_wrong}
 use Rattle.link_resolve.proofs.uses.terms_of.Goals as goal

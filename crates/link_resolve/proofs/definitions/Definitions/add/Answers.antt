@@ -1,8 +1,7 @@
-use Rattle.std.proofs.Common.{◌≡◌}
 use Rattle.std.specs.List.{flat_map}
 use Rattle.omf_records.specs.Segments.{shown}
 use Rattle.link_meaning.specs.Sizes.{located}
-use Rattle.link_meaning.specs.Defines.{title_of, defined_by, defined_in}
+use Rattle.link_meaning.specs.Defines.{title_of, defined_in}
 use Rattle.link_resolve.proofs.OnOks.{on_ok}
 use Rattle.link_resolve.proofs.DefinitionLaws.{gains_both, defined_at}
 use Rattle.link_resolve.proofs.definitions.Definitions.add.Goals as goal

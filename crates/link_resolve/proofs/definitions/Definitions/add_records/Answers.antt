@@ -1,8 +1,8 @@
-use Rattle.std.proofs.Common.{◌≡◌, ◌+◌, ◌≤◌, ◌<◌, ◌^◌, ℕ, arith}
+use Rattle.std.proofs.Common.{◌+◌, ◌<◌, ◌^◌, ℕ, arith}
 use Rattle.omf_format.specs.Record.{Record}
 use Rattle.omf_records.specs.Segments.{shown}
 use Rattle.omf_records.specs.View.{view}
-use Rattle.link_meaning.specs.Sizes.{size_at, located, body_size, place_behind}
+use Rattle.link_meaning.specs.Sizes.{located, body_size, place_behind}
 use Rattle.link_resolve.proofs.ComingLaws.{coming_view, found_next, found_end}
 use Rattle.link_resolve.proofs.DefinitionLaws.{defining_all, defining_end, defining_within, defining_more}
 use Rattle.link_resolve.proofs.definitions.Definitions.add_records.Goals as goal

@@ -1,6 +1,5 @@
-use Rattle.std.proofs.Common.{◌≡◌, [], length, sym, arith}
+use Rattle.std.proofs.Common.{◌≡◌, length, arith}
 use Rattle.omf_records.specs.Segments.{shown}
-use Rattle.link_resolve.specs.Names.{key_of}
 use Rattle.link_resolve.proofs.OnOks.{on_ok}
 use Rattle.link_resolve.proofs.Lists.{empty, not_empty}
 use Rattle.link_resolve.proofs.DefinitionLaws.{titled_none, titled}

@@ -1,4 +1,3 @@
-use Rattle.std.proofs.Common.{◌≡◌}
 use Rattle.link_resolve.specs.Names.{key_of}
 use Rattle.link_resolve.proofs.DefinitionLaws.{seen_all}
 use Rattle.link_resolve.proofs.definitions.Definitions.look.Goals as goal

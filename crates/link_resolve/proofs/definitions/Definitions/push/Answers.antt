@@ -1,4 +1,4 @@
-use Rattle.std.proofs.Common.{◌≡◌, List, length, ap}
+use Rattle.std.proofs.Common.{List, length, ap}
 use Rattle.link_resolve.specs.declared.definitions.Definition as kept
 use Rattle.link_resolve.specs.declared.definitions.Definitions.{Definitions}
 use Rattle.link_resolve.specs.Names.{key_of}

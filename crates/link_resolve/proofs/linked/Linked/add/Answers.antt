@@ -1,4 +1,4 @@
-use Rattle.std.proofs.Common.{◌≡◌, ◌+◌, ℕ, List, [], length, map, drop, refl, ap, ◌∙◌, arith}
+use Rattle.std.proofs.Common.{◌+◌, ℕ, List, length, drop, refl, ap, ◌∙◌}
 use Rattle.std.specs.List.{flat_map}
 use Rattle.omf_records.specs.Segments.{shown}
 use Rattle.link_meaning.specs.Uses.{data_name}

@@ -1,15 +1,13 @@
-use Rattle.std.proofs.Common.{◌≡◌, ℕ, ◌-◌, ◌<◌, List, length, map, Some, refl, sym, ap, subst, ◌∙◌, arith}
+use Rattle.std.proofs.Common.{◌≡◌, ℕ, ◌-◌, ◌<◌, length, map, Some, refl, ap, subst, ◌∙◌, arith}
 use Rattle.std.specs.Prelude.{slice_get}
-use Rattle.std.specs.Borrow.{Bor}
 use Rattle.std.proofs.lemmas.Option.{slice_get_read}
 use Rattle.link_meaning.specs.declared.search.Step.TheVariants.{Within}
-use Rattle.link_meaning.specs.Member.{Member}
 use Rattle.link_meaning.specs.Uses.{usings_of}
 use Rattle.link_meaning.specs.Search.{Found, entries, named, decided}
 use Rattle.link_resolve.specs.declared.names.Outcome.{Outcome}
 use Rattle.link_resolve.specs.declared.names.Outcome.TheVariants.{Nothing, One, Several}
-use Rattle.link_resolve.specs.Definitions.{Sees, IsOf}
-use Rattle.link_resolve.specs.Linked.{Holds, names_of, used_places, ToldMember, told_member, kept_member}
+use Rattle.link_resolve.specs.Definitions.{Sees}
+use Rattle.link_resolve.specs.Linked.{names_of, used_places, ToldMember}
 use Rattle.link_resolve.proofs.SearchLaws.{seen_definitions, finds_own, finds_used, finds_outer, one_some, several_some}
 use Rattle.link_resolve.proofs.LinkedLaws.{member_is, member_of}
 use Rattle.link_resolve.proofs.linked.Linked.find.Goals as goal

@@ -1,4 +1,4 @@
-use Rattle.std.proofs.Common.{◌≡◌, ℕ, List, sym, ◌∙◌}
+use Rattle.std.proofs.Common.{◌≡◌, ℕ, sym, ◌∙◌}
 use Rattle.link_meaning.specs.declared.search.Step.TheVariants.{OfUnit, Everyone}
 use Rattle.link_meaning.specs.Search.{Found, data_titles, named, finds_data}
 use Rattle.link_resolve.specs.declared.names.Outcome.TheVariants.{Nothing, One, Several}

@@ -1,4 +1,4 @@
-use Rattle.std.proofs.Common.{◌≡◌, ℕ, List, Some, refl}
+use Rattle.std.proofs.Common.{◌≡◌, ℕ, Some, refl}
 use Rattle.std.specs.Prelude.{slice_get}
 use Rattle.link_meaning.specs.declared.search.Step.TheVariants.{OfUnit, Everyone}
 use Rattle.link_meaning.specs.Search.{Found, named}

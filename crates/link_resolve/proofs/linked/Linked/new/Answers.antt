@@ -1,4 +1,3 @@
-use Rattle.std.proofs.Common.{◌≡◌}
 use Rattle.link_resolve.specs.declared.linked.Linked.{Linked}
 use Rattle.link_resolve.proofs.LinkedLaws.{held_none}
 use Rattle.link_resolve.proofs.linked.Linked.new.Goals as goal

@@ -1,4 +1,4 @@
-use Rattle.std.proofs.Common.{◌≡◌, ℕ, ◌<◌, length, refl, sym, ap, ◌∙◌, arith}
+use Rattle.std.proofs.Common.{◌<◌, length, refl, sym, ap, ◌∙◌, arith}
 use Rattle.std.proofs.lemmas.Option.{slice_get_read}
 use Rattle.link_resolve.proofs.ResolvingLaws.{use_is, place_within, none_before, none_next, first_use}
 use Rattle.link_resolve.proofs.linked.Linked.unresolved.Goals as goal

@@ -1,4 +1,4 @@
-use Rattle.std.proofs.Common.{◌≤◌, ◌-◌, List, length, take}
+use Rattle.std.proofs.Common.{◌-◌, List, length, take}
 use Rattle.link_meaning.specs.First.{HasNone}
 use Rattle.link_meaning.specs.Member.{Member}
 use Rattle.link_meaning.specs.LinkedList.{asked}

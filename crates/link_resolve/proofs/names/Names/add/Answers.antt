@@ -1,4 +1,3 @@
-use Rattle.std.proofs.Common.{◌≡◌}
 use Rattle.link_resolve.specs.declared.names.Names.{Names}
 use Rattle.link_resolve.proofs.NameTables.{added_row}
 use Rattle.link_resolve.proofs.names.Names.add.Goals as goal

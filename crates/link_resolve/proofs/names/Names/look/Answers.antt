@@ -1,6 +1,5 @@
-use Rattle.std.proofs.Common.{◌≡◌, List, Some, None, sym, ap, ◌∙◌}
+use Rattle.std.proofs.Common.{Some, None, sym, ap, ◌∙◌}
 use Rattle.std.specs.Option.{option_copied}
-use Rattle.link_resolve.specs.Names.{Row, key_of}
 use Rattle.link_resolve.proofs.NameTables.{looked_up}
 use Rattle.link_resolve.proofs.names.Names.look.Goals as goal
 
