@@ -28,6 +28,7 @@ times:
 bench: build
 	bench/run build/omf
 	bench/text
+	bench/body
 
 refuse: build
 	tools/refuse build/omf
