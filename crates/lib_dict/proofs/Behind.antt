@@ -8,7 +8,7 @@ use Rattle.omf_format.specs.File.{Segment, segment_at}
 use Rattle.omf_records.specs.declared.segment.SegmentView.{SegmentView}
 use Rattle.omf_records.specs.Segments.{shown}
 use Rattle.omf_records.specs.SegmentLaws.{shown_at, none_past}
-use Rattle.lib_dict.specs.declared.outer.Outer.{Outer}
+use Rattle.lib_dict.specs.declared.listed.Outer.{Outer}
 use Rattle.lib_dict.specs.Library.{LibraryRow}
 use Rattle.lib_dict.specs.View.{outer_row}
 use Rattle.lib_dict.specs.Tables.{other_rows, behind_rows}

@@ -8,3 +8,6 @@ pub mod RowLoops
 pub mod ReadLaws
 pub mod LayoutLaws
 pub mod LayoutReads
+pub mod MemberLaws
+pub mod FileLaws
+pub mod SizeLaws

@@ -4,3 +4,5 @@ pub mod Rows
 pub mod Parts
 pub mod Tables
 pub mod DictionaryLayout
+pub mod Made
+pub mod Sizes
