@@ -6,3 +6,16 @@ pub mod Step
 pub mod Transcript
 pub mod Replies
 pub mod ScriptCommandLaws
+pub mod Heads
+pub mod State
+pub mod Presences
+pub mod Stands
+pub mod Found
+pub mod Commands
+pub mod Refusals
+pub mod Steps
+pub mod Needs
+pub mod PokeLaws
+pub mod StandsLaws
+pub mod PutLaws
+pub mod OnceLaws

@@ -1,25 +1,14 @@
 -- Scripts: the lines of a text, the words of a line, and the command that the words give. Scripts are this project's own.
-use Rattle.std.specs.Prelude.{◌≡◌, ℕ, ◌+◌, ◌<◌, ◌≤◌, Bool, true, false, not, ◌&&◌, ◌||◌, ◌==◌, nat_le, List, [], ◌∷◌, ◌++◌, length, map, filter, slice_index, codes, bytes_eq, Result, Ok, Err, if◌then◌else◌}
-use Rattle.std.specs.List.{AllByRecursion, list_all, list_any, slice_split, onto_first}
+use Rattle.std.specs.Prelude.{◌≡◌, ℕ, ◌+◌, ◌<◌, ◌≤◌, Bool, true, false, not, ◌&&◌, ◌||◌, ◌==◌, nat_le, List, [], ◌∷◌, ◌++◌, length, map, filter, codes, bytes_eq, Result, Ok, Err, if◌then◌else◌}
+use Rattle.std.specs.List.{AllByRecursion, list_all, list_any, slice_split}
 use Rattle.std.specs.Str.Parse.{digits_value}
+use Rattle.omf_format.specs.Lines.{lines_of}
 use Rattle.loader_machine.specs.declared.script.ScriptCause.{ScriptCause}
 use Rattle.loader_machine.specs.declared.script.ScriptCause.TheVariants.{TooManyLines, BadWord, UnknownCommand, BanksFirst, WrongCount, BadNumber, BankTwice}
 use Rattle.loader_machine.specs.declared.script.ScriptFault.{ScriptFault}
 use Rattle.loader_machine.specs.Command.{Command, Banks, Load, Bytes}
 
 -- ---- lines
-
--- a line ends with LF, or with a CR before no LF
-abbrev pub ends_line : ℕ → List ℕ → Bool
-ends_line byte behind = byte == 0x0A || (byte == 0x0D && not (slice_index behind 0 == 0x0A))
-
--- The lines of a text, without their ends, which are LF, CR or CR LF. Bytes behind the last end are a line too.
-unfoldable pub lines_of : List ℕ → List (List ℕ)
-lines_of [] = []
-lines_of (byte ∷ behind) =
-    if ends_line byte behind then [] ∷ lines_of behind
-    else if byte == 0x0D then lines_of behind
-    else onto_first byte (lines_of behind)
 
 -- the most lines of a script
 abbrev pub most_lines : ℕ

@@ -8,7 +8,8 @@ use Rattle.loader_machine.specs.declared.script.ScriptCause.{ScriptCause}
 use Rattle.loader_machine.specs.declared.script.ScriptCause.TheVariants.{BadWord, UnknownCommand, BanksFirst, WrongCount}
 use Rattle.loader_machine.specs.Command.{Command, Banks, Load, Bytes}
 use Rattle.iigs_meaning.specs.Banks.{AreDistinctTo}
-use Rattle.loader_machine.specs.Script.{lines_of, written, line_command, Give, IsScript, IsCommand, AreCommands, is_number, number_of, is_word, stands_twice, banks_of, load_of, bytes_of, are_bytes_numbers, command_of, words_of, is_well_formed}
+use Rattle.omf_format.specs.Lines.{lines_of}
+use Rattle.loader_machine.specs.Script.{written, line_command, Give, IsScript, IsCommand, AreCommands, is_number, number_of, is_word, stands_twice, banks_of, load_of, bytes_of, are_bytes_numbers, command_of, words_of, is_well_formed}
 
 abbrev failed : ScriptCause → Result Command ScriptCause
 failed cause = Err cause

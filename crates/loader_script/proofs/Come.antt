@@ -2,8 +2,10 @@
 use Rattle.std.proofs.Common.{◌≡◌, ℕ, ◌+◌, List, [], ◌∷◌, ◌++◌, length, append_assoc, sym, ap, subst, ◌∙◌, arith}
 use Rattle.std.proofs.lemmas.List.{length-append, append-nil}
 use Rattle.loader_machine.specs.Command.{Command}
-use Rattle.loader_machine.specs.Script.{lines_of, AreGood, IsScript}
-use Rattle.loader_machine.specs.ScriptLaws.{AreGood-push, AreGood-push_skipped, lines_of-nil}
+use Rattle.omf_format.specs.Lines.{lines_of}
+use Rattle.loader_machine.specs.Script.{AreGood, IsScript}
+use Rattle.omf_format.specs.Lines.{lines_of-nil}
+use Rattle.loader_machine.specs.ScriptLaws.{AreGood-push, AreGood-push_skipped}
 use Rattle.loader_script.specs.Lines.{HasTaken, Skipped, Gave}
 
 -- so many lines were read, none is bad, they gave these commands, and this text is left

@@ -1,4 +1,3 @@
-pub mod FirstLine
 pub mod FirstWord
 pub mod Digits
 pub mod BankNumbers

@@ -3,8 +3,9 @@ use Rattle.std.specs.Prelude.{◌≡◌, ℕ, true, false, List, [], ◌∷◌, 
 use Rattle.std.specs.List.{AllByRecursion, join_with_byte}
 use Rattle.loader_machine.specs.declared.script.ScriptCause.{ScriptCause}
 use Rattle.loader_machine.specs.Command.{Command}
-use Rattle.loader_machine.specs.Script.{lines_of, words_of, IsScript, IsFirstBadLine, AreCommands}
-use Rattle.loader_machine.specs.ScriptLaws.{HasNoEnd}
+use Rattle.omf_format.specs.Lines.{lines_of}
+use Rattle.loader_machine.specs.Script.{words_of, IsScript, IsFirstBadLine, AreCommands}
+use Rattle.omf_format.specs.Lines.{HasNoEnd}
 
 -- bytes without LF and CR, and then LF, are a line; the lines behind are those of the rest
 abbrev pub LfEndsLine : Type 0

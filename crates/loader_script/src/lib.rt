@@ -4,7 +4,6 @@
 
 mod command;
 mod laws;
-mod lines;
 mod numbers;
 mod parsing;
 mod replies;

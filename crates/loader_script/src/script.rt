@@ -6,9 +6,9 @@ ghost use Rattle.loader_script.specs.View.{command, IsRefused, line_for};
 ghost use Rattle.loader_script.specs.Lines.{HasTaken, IsBadFor};
 
 use crate::command::Command;
-use crate::lines::split_line;
 use crate::parsing::line_command;
 use loader_machine::{ScriptCause, ScriptFault};
+use omf_base::split_line;
 use std::alloc::Global;
 use std::marker::Model;
 

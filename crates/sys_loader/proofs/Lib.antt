@@ -1,10 +1,4 @@
-pub mod Lists
-pub mod Locked
-pub mod Placing
-pub mod Sound
-pub mod Growing
-pub mod Loads
-pub mod Agreeing
-pub mod Settled
-pub mod Starting
-pub mod Once
+pub mod Script
+pub mod Wants
+pub mod Lies
+pub mod Dealing

@@ -1,6 +1,3 @@
-pub mod Loaded
 pub mod View
-pub mod Files
-pub mod Calls
-pub mod Meets
-pub mod Laws
+pub mod Replies
+pub mod Lying

@@ -1,0 +1,66 @@
+-- What stands in a segment in memory: its cells at the places of the user's segments, or a table's entries, and the pokes over
+-- them (GS/OS Reference, appendix F, "Segment body" and jump table segment).
+use Rattle.std.specs.Prelude.{ℕ, ◌+◌, ◌==◌, List, [], ◌∷◌, map, Option, None, unwrap_or, if◌then◌else◌}
+use Rattle.std.specs.Option.{option_map}
+use Rattle.std.specs.FinMap.{get}
+use Rattle.omf_format.specs.File.{Segment}
+use Rattle.load_meaning.specs.declared.table.Target.{Target}
+use Rattle.load_meaning.specs.declared.table.Entry.{Entry}
+use Rattle.load_meaning.specs.Cells.{byte_of, cells}
+use Rattle.load_meaning.specs.Table.{table_bytes}
+use Rattle.load_meaning.specs.LoadTable.{is_table, targets_of}
+use Rattle.iigs_meaning.specs.declared.handles.Handle.{Handle}
+use Rattle.iigs_meaning.specs.Fits.{Slots}
+use Rattle.loader_machine.specs.State.{Pokes}
+use Rattle.loader_machine.specs.Presences.{presence_at, there_at, active_at}
+
+-- where the segments of a user are: its ID; the address of each of its segments; and the address of the segment that a table's
+-- entry names by file and number, where that segment is active
+pub record Setting : Type 0 where
+  pub id : ℕ
+  pub place : ℕ → ℕ
+  pub target : ℕ → ℕ → Option ℕ
+
+-- the entry in memory of a table's target: it has the user's ID, and jumps to the target where that is active
+abbrev pub entry_for : Setting → Target → Entry
+entry_for at t = record {
+  user = at.id;
+  file = t.file;
+  segment = t.segment;
+  offset = t.offset;
+  loaded = option_map (λ place. place + t.offset) (at.target t.file t.segment);
+}
+
+-- the bytes of a table in memory
+unfoldable pub entries_bytes : Setting → List Target → List ℕ
+entries_bytes at targets = table_bytes (map (entry_for at) targets)
+
+-- the bytes of a segment as it is read
+unfoldable pub read_bytes : Setting → Segment → List ℕ
+read_bytes at s = if is_table s then entries_bytes at (targets_of s) else map (byte_of at.place) (cells s)
+
+-- the bytes, of which the first has this place, with the pokes over them
+abbrev pub over_from : ℕ → Pokes → List ℕ → List ℕ
+over_from at pokes [] = []
+over_from at pokes (b ∷ bytes) = unwrap_or (get pokes at) b ∷ over_from (at + 1) pokes bytes
+
+unfoldable pub over : Pokes → List ℕ → List ℕ
+over pokes bytes = over_from 0 pokes bytes
+
+-- what stands in a segment
+unfoldable pub stands : Setting → Pokes → Segment → List ℕ
+stands at pokes s = over pokes (read_bytes at s)
+
+-- ---- the setting of a user
+
+-- the address of a segment, 0 for one that isn't there
+abbrev pub place_in : Slots → List (Option Handle) → ℕ → ℕ
+place_in slots handles number = unwrap_or (there_at (presence_at slots handles number)) 0
+
+-- the address of an active segment; file 1 is the user's own
+abbrev pub target_in : Slots → List (Option Handle) → ℕ → ℕ → Option ℕ
+target_in slots handles file number = if file == 1 then active_at (presence_at slots handles number) else None
+
+-- the setting of the user with an ID, from the slots and the handles of its segments
+abbrev pub setting : ℕ → Slots → List (Option Handle) → Setting
+setting id slots handles = record { id = id; place = place_in slots handles; target = target_in slots handles }

@@ -1,0 +1,82 @@
+-- What a state of the loader's machine holds, and what is seen of a user. User IDs and limits are this project's own.
+use Rattle.std.specs.Prelude.{ℕ, ◌-◌, Bool, true, false, List, [], map, nat_lt, Option, None, slice_get, slice_set, if◌then◌else◌}
+use Rattle.std.specs.Option.{option_and_then, option_map_or}
+use Rattle.std.specs.FinMap.{FinMap, empty}
+use Rattle.std.specs.Ordering.{nat_cmp}
+use Rattle.iigs_meaning.specs.declared.handles.Handle.{Handle}
+use Rattle.iigs_meaning.specs.Fits.{Slots}
+use Rattle.iigs_meaning.specs.Blocks.{new_slots}
+use Rattle.loader_machine.specs.Heads.{Head, at_number}
+pub use Rattle.loader_machine.specs.declared.seen.Life.{Life}
+pub use Rattle.loader_machine.specs.declared.seen.Life.TheVariants.{Running, Dormant}
+
+abbrev pub is_running : Life → Bool
+is_running Running = true
+is_running Dormant = false
+
+-- bytes that were written into a segment since it was read, by their places in it
+abbrev pub Pokes : Type 0
+Pokes = FinMap nat_cmp ℕ
+
+abbrev pub no_pokes : Pokes
+no_pokes = empty
+
+-- what is held of a segment: its handle, if it has one, and its pokes. No other byte of memory is held: what stands in a block
+-- follows from the user's file.
+pub record Held : Type 0 where
+  pub handle : Option Handle
+  pub pokes : Pokes
+
+-- a segment without a handle
+abbrev pub absent : Held
+absent = record { handle = None; pokes = no_pokes }
+
+-- a segment under this handle, as it was read
+abbrev pub fresh : Option Handle → Held
+fresh handle = record { handle = handle; pokes = no_pokes }
+
+-- a program: the path of its file, whether it runs, and for each segment of the file what is held of it
+pub record User : Type 0 where
+  pub path : List ℕ
+  pub life : Life
+  pub segments : List Held
+
+-- the configured banks, the slots with their blocks, and the users in the order in which they were made; None is gone
+pub record Machine : Type 0 where
+  pub banks : List ℕ
+  pub slots : Slots
+  pub users : List (Option User)
+
+-- these banks, every slot free, and no user
+abbrev pub empty_of : List ℕ → Machine
+empty_of banks = record { banks = banks; slots = new_slots; users = [] }
+
+-- users have the IDs from $1001 on, in the order in which they are made
+abbrev pub first_id : ℕ
+first_id = 0x1001
+
+-- so many users can be made
+abbrev pub max_users : ℕ
+max_users = 255
+
+-- the user with an ID, if it was made and isn't gone
+abbrev pub user_of : {U : Type 0} → List (Option U) → ℕ → Option U
+user_of users id = if nat_lt id first_id then None else option_and_then (λ user. user) (slice_get users (id - first_id))
+
+-- the users with this one in the place of an ID's
+abbrev pub with_user : {U : Type 0} → List (Option U) → ℕ → Option U → List (Option U)
+with_user users id user = slice_set users (id - first_id) user
+
+-- the handles of a user's segments
+abbrev pub handles_of : User → List (Option Handle)
+handles_of user = map (λ held. held.handle) user.segments
+
+-- what is held of the segment with a number
+abbrev pub held_at : User → ℕ → Held
+held_at user number = option_map_or (λ held. held) (at_number user.segments number) absent
+
+-- what a loader and the machine both know of a user
+pub record Seen : Type 0 where
+  pub life : Life
+  pub handles : List (Option Handle)
+  pub heads : List Head
