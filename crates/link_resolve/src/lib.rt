@@ -11,6 +11,8 @@ mod offers;
 mod reading;
 mod segname;
 mod sizes;
+#[cfg(test)]
+mod tests;
 mod uses;
 
 pub use checks::segments_fault;
