@@ -81,8 +81,11 @@ fn part_count(load: &LoadFile) -> u32 {
     count
 }
 
-/// What is told of the file for a word: its segments, the sum of its bytes in memory, or its parts.
+/// What is told of the file for a word: nothing, its segments, the sum of its bytes in memory, or its parts.
 fn told(alloc: Global, task: &str, file: &[u8]) -> Result<u32, AllocError> {
+    if task == "input" {
+        return Ok(0);
+    }
     match load_of(alloc, file) {
         Ok(load) if task == "patch" => patched_sum(alloc, &load),
         Ok(load) if task == "cells" => Ok(part_count(&load)),
@@ -91,10 +94,10 @@ fn told(alloc: Global, task: &str, file: &[u8]) -> Result<u32, AllocError> {
     }
 }
 
-/// Does what the words say: `read FILE`, `patch FILE` or `cells FILE`.
+/// Does what the words say: `input FILE`, `read FILE`, `patch FILE` or `cells FILE`.
 fn run(rt: &HostRuntime, words: &[String]) -> io::Result<ExitCode> {
     let [_, task, path] = words else {
-        println!(rt; "usage: load_speed read|patch|cells FILE")?;
+        println!(rt; "usage: load_speed input|read|patch|cells FILE")?;
         return Ok(ExitCode::from(2));
     };
     let mut files = HostFiles::new(rt);
