@@ -29,6 +29,7 @@ bench: build
 	bench/run build/omf
 	bench/text
 	bench/body
+	bench/load
 
 refuse: build
 	tools/refuse build/omf

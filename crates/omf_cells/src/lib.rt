@@ -24,6 +24,12 @@ mod targets;
 #[cfg(test)]
 mod tests;
 #[cfg(test)]
+mod tests_files;
+#[cfg(test)]
+mod tests_patches;
+#[cfg(test)]
+mod tests_tables;
+#[cfg(test)]
 mod tests_written;
 mod told;
 mod written;

@@ -1,5 +1,6 @@
 // What no clause says: that the definitions are those of the field, and that memory is enough.
-use crate::{Cell, LoadCause, LoadFault, read_load};
+use crate::tests_files::{cells, read};
+use crate::{Cell, LoadCause, LoadFault, LoadFile, read_load};
 use std::alloc::Global;
 use std::test::Fail;
 
@@ -123,33 +124,71 @@ fn express_load_is_not_read(rt: HostRuntime) {
 #[test]
 fn cells_are_bytes_and_zeros(rt: HostRuntime) -> Result<(), Fail> {
     let alloc = rt.alloc();
-    let load = read_load(alloc, &ONE)?;
-    assert_eq!(rt; load.count(), 1);
-    let want = [0xA9, 0x01, 0x60, 0, 0, 0, 0, 0];
-    for (at, byte) in want.iter().enumerate() {
-        assert_eq!(rt; load.cell(1, at as u32), Some(Cell::Byte(*byte)));
-    }
-    assert_eq!(rt; load.cell(1, 8), None);
-    assert_eq!(rt; load.cell(0, 0), None);
-    assert_eq!(rt; load.cell(2, 0), None);
-    assert_eq!(rt; load.header(1).map(|header| header.length), Some(8));
-    assert!(rt; load.header(0).is_none());
-    assert!(rt; load.header(2).is_none());
+    let zero = Some(Cell::Byte(0));
+    let want = [
+        Some(Cell::Byte(0xA9)),
+        Some(Cell::Byte(0x01)),
+        Some(Cell::Byte(0x60)),
+        zero,
+        zero,
+        zero,
+        zero,
+        zero,
+        None,
+    ];
+    assert_eq!(rt; cells(alloc, &ONE, 1, 0, 9)?.as_slice(), want.as_slice());
+    let none = [None];
+    assert_eq!(rt; cells(alloc, &ONE, 0, 0, 1)?.as_slice(), none.as_slice());
+    assert_eq!(rt; cells(alloc, &ONE, 2, 0, 1)?.as_slice(), none.as_slice());
     Ok(())
 }
 
+fn count(load: &LoadFile) -> u32 {
+    load.count()
+}
+
+/// LENGTH of the segment with this number.
+fn length_of(load: &LoadFile, segment: u32) -> Option<u32> {
+    match load.header(segment) {
+        Some(header) => Some(header.length),
+        None => None,
+    }
+}
+
 #[test]
-fn data_is_written_as_a_whole(rt: HostRuntime) -> Result<(), Fail> {
-    let alloc = rt.alloc();
-    let load = read_load(alloc, &ONE)?;
-    let length = load.header(1).expect(&rt, "there is a segment").length;
+fn segments_have_headers(rt: HostRuntime) -> Result<(), Fail> {
+    let Ok(load) = read(rt.alloc(), &ONE) else {
+        return Err(Fail::new("the file is read"));
+    };
+    assert_eq!(rt; count(&load), 1);
+    assert_eq!(rt; length_of(&load, 1), Some(8));
+    assert_eq!(rt; length_of(&load, 0), None);
+    assert_eq!(rt; length_of(&load, 2), None);
+    Ok(())
+}
+
+/// The bytes of the first segment, which has no patches.
+fn data_of(alloc: Global, load: &LoadFile) -> Result<Vec<u8>, Fail> {
+    let length = match load.header(1) {
+        Some(header) => header.length,
+        None => return Err(Fail::new("there is a segment")),
+    };
     let mut out = vec![in alloc; 0xFFu8; length as usize]?;
     if load.has_patches(1) {
         return Err(Fail::new("no record is a patch"));
     }
     load.data_into(1, &mut out);
+    Ok(out)
+}
+
+#[test]
+fn data_is_written_as_a_whole(rt: HostRuntime) -> Result<(), Fail> {
+    let alloc = rt.alloc();
+    let Ok(load) = read(alloc, &ONE) else {
+        return Err(Fail::new("the file is read"));
+    };
     let want = [0xA9, 0x01, 0x60, 0, 0, 0, 0, 0];
-    assert_eq!(rt; out.as_slice(), want.as_slice());
+    assert_eq!(rt; data_of(alloc, &load)?.as_slice(), want.as_slice());
     Ok(())
 }
 

@@ -1,0 +1,327 @@
+//! Patches of load files against cells, faults and bytes that were worked out apart from this code.
+
+use crate::tests_files::{add, cells, fault_in, file_of_one, patched};
+use crate::{Cell, LoadCause, LoadFault, Places, PlacesFault};
+use std::alloc::Global;
+use std::test::Fail;
+
+fn fault(cause: LoadCause, segment: u32, at: u32) -> Option<LoadFault> {
+    Some(LoadFault { cause, segment, at })
+}
+
+/// The LCONST of eight bytes.
+const DATA: [u8; 13] = [0xF2, 8, 0, 0, 0, 1, 2, 3, 4, 5, 6, 7, 8];
+
+/// The displacement of the first record behind it in the first segment.
+const PATCH: u32 = 0x37 + 13;
+
+/// The records of eight bytes of data and then these.
+fn body_of_patches(alloc: Global, patches: &[u8]) -> Result<Vec<u8>, Fail> {
+    let mut body = Vec::new(alloc);
+    body.extend_from_slice(&DATA)?;
+    body.extend_from_slice(patches)?;
+    body.push(0)?;
+    Ok(body)
+}
+
+/// The fault of one segment of eight bytes with these patches.
+fn fault_of_patches(alloc: Global, patches: &[u8]) -> Result<Option<LoadFault>, Fail> {
+    let body = body_of_patches(alloc, patches)?;
+    let file = file_of_one(alloc, 8, &body)?;
+    Ok(fault_in(alloc, &file))
+}
+
+#[test]
+fn patches_lie_inside(rt: HostRuntime) -> Result<(), Fail> {
+    let alloc = rt.alloc();
+    let outside = fault(LoadCause::PatchOutside, 1, PATCH);
+
+    // RELOC up to LENGTH and one past it, and at the last location of 32 bits; then the same for cRELOC and SUPER.
+    for (patch, want) in [
+        (&[0xE2u8, 4, 0, 4, 0, 0, 0, 0, 0, 0, 0] as &[u8], None),
+        (&[0xE2, 4, 0, 5, 0, 0, 0, 0, 0, 0, 0], outside),
+        (&[0xE2, 1, 0, 0xFF, 0xFF, 0xFF, 0xFF, 0, 0, 0, 0], outside),
+        (&[0xF5, 3, 0, 5, 0, 0, 0], None),
+        (&[0xF5, 3, 0, 6, 0, 0, 0], outside),
+        (&[0xF7, 3, 0, 0, 0, 0, 0, 6], None),
+        (&[0xF7, 3, 0, 0, 0, 0, 0, 7], outside),
+        (&[0xF7, 3, 0, 0, 0, 1, 0, 5], None),
+        (&[0xF7, 3, 0, 0, 0, 1, 0, 6], outside),
+        (&[0xF7, 3, 0, 0, 0, 0, 0xFF, 0x81], None),
+        (&[0xF7, 4, 0, 0, 0, 0, 0x81, 0, 0], outside),
+    ] {
+        assert_eq!(rt; fault_of_patches(alloc, patch)?, want);
+    }
+    Ok(())
+}
+
+#[test]
+fn patches_have_targets(rt: HostRuntime) -> Result<(), Fail> {
+    let alloc = rt.alloc();
+    let none = fault(LoadCause::NoSuchTarget, 1, PATCH);
+
+    // INTERSEG: file 2, segment 2, and both within; cINTERSEG of segments 0 and 1. Types 14 and 26 name segment 1, and types
+    // 15 and 27 segment 2; in type 2 the byte behind the offset does.
+    for (patch, want) in [
+        (
+            &[0xE3u8, 1, 0, 0, 0, 0, 0, 2, 0, 1, 0, 0, 0, 0, 0] as &[u8],
+            none,
+        ),
+        (&[0xE3, 1, 0, 0, 0, 0, 0, 1, 0, 2, 0, 0, 0, 0, 0], none),
+        (&[0xE3, 1, 0, 0, 0, 0, 0, 1, 0, 1, 0, 0, 0, 0, 0], None),
+        (&[0xF6, 1, 0, 0, 0, 0, 0, 0], none),
+        (&[0xF6, 1, 0, 0, 0, 1, 0, 0], None),
+        (&[0xF7, 3, 0, 0, 0, 14, 0, 0], None),
+        (&[0xF7, 3, 0, 0, 0, 15, 0, 0], none),
+        (&[0xF7, 3, 0, 0, 0, 26, 0, 0], None),
+        (&[0xF7, 3, 0, 0, 0, 27, 0, 0], none),
+        (&[0xF7, 3, 0, 0, 0, 2, 0, 0], none),
+    ] {
+        assert_eq!(rt; fault_of_patches(alloc, patch)?, want);
+    }
+    Ok(())
+}
+
+/// The fault of two segments of eight bytes, the first with these patches and the second with this number, where their KINDs
+/// have these high bytes.
+fn fault_of_two(
+    alloc: Global,
+    patches: &[u8],
+    first: u8,
+    second: u8,
+    number: u8,
+) -> Result<Option<LoadFault>, Fail> {
+    let body = body_of_patches(alloc, patches)?;
+    let mut file = Vec::new(alloc);
+    add(&mut file, 1, [0, first], 8, &body)?;
+    add(&mut file, number, [0, second], 8, &[0])?;
+    Ok(fault_in(alloc, &file))
+}
+
+#[test]
+fn dynamic_and_skipped_targets(rt: HostRuntime) -> Result<(), Fail> {
+    let alloc = rt.alloc();
+    let dynamic = fault(LoadCause::DynamicTarget, 1, PATCH);
+    let none = fault(LoadCause::NoSuchTarget, 1, PATCH);
+
+    // cRELOC, and cINTERSEG of segments 1 and 2. $80 is dynamic, and $02 is skipped.
+    let own = [0xF5, 1, 0, 0, 0, 0, 0];
+    let same = [0xF6, 1, 0, 0, 0, 1, 0, 0];
+    let other = [0xF6, 1, 0, 0, 0, 2, 0, 0];
+    assert_eq!(rt; fault_of_two(alloc, &own, 0x80, 0x80, 2)?, None);
+    assert_eq!(rt; fault_of_two(alloc, &same, 0x80, 0x80, 2)?, None);
+    assert_eq!(rt; fault_of_two(alloc, &other, 0x80, 0x00, 2)?, None);
+    assert_eq!(rt; fault_of_two(alloc, &other, 0x00, 0x80, 2)?, dynamic);
+    assert_eq!(rt; fault_of_two(alloc, &other, 0x80, 0x80, 2)?, dynamic);
+    assert_eq!(rt; fault_of_two(alloc, &own, 0x02, 0x00, 2)?, none);
+    assert_eq!(rt; fault_of_two(alloc, &same, 0x02, 0x00, 2)?, none);
+    assert_eq!(rt; fault_of_two(alloc, &other, 0x00, 0x02, 2)?, none);
+    assert_eq!(rt; fault_of_two(alloc, &other, 0x00, 0x82, 2)?, none);
+    Ok(())
+}
+
+#[test]
+fn each_patch_before_the_next(rt: HostRuntime) -> Result<(), Fail> {
+    let alloc = rt.alloc();
+
+    // cINTERSEG of segment 2 and then one past LENGTH; the two in the other order; one past LENGTH of segment 9.
+    let near = [0xF6, 1, 0, 0, 0, 2, 0, 0, 0xF6, 1, 0, 8, 0, 1, 0, 0];
+    let far = [0xF6, 1, 0, 8, 0, 1, 0, 0, 0xF6, 1, 0, 0, 0, 2, 0, 0];
+    let both = [0xF6, 1, 0, 8, 0, 9, 0, 0];
+    let outside = fault(LoadCause::PatchOutside, 1, PATCH);
+    let dynamic = fault(LoadCause::DynamicTarget, 1, PATCH);
+    assert_eq!(rt; fault_of_two(alloc, &near, 0x00, 0x80, 2)?, dynamic);
+    assert_eq!(rt; fault_of_two(alloc, &far, 0x00, 0x80, 2)?, outside);
+    assert_eq!(rt; fault_of_two(alloc, &both, 0x00, 0x80, 2)?, outside);
+    assert_eq!(rt;
+        fault_of_two(alloc, &near, 0x00, 0x00, 2)?,
+        fault(LoadCause::PatchOutside, 1, PATCH + 8)
+    );
+
+    // The numbers of all segments come before any patch.
+    let number = fault_of_two(alloc, &far, 0x00, 0x80, 3)?;
+    assert_eq!(rt; number, fault(LoadCause::Sequence, 2, 0x37 + 13 + 17));
+    Ok(())
+}
+
+/// The fault of a segment of $300 zeros with a SUPER of type 0 that has these two low bytes in page 2.
+fn fault_of_page(alloc: Global, first: u8, second: u8) -> Result<Option<LoadFault>, Fail> {
+    let body = [
+        0xF1, 0, 3, 0, 0, 0xF7, 5, 0, 0, 0, 0, 0x82, 1, first, second, 0,
+    ];
+    let file = file_of_one(alloc, 0x300, &body)?;
+    Ok(fault_in(alloc, &file))
+}
+
+/// The fault of such a segment whose SUPER passes over 2 ^ 24 pages, so that its location is 2 ^ 32.
+fn fault_of_far_page(alloc: Global) -> Result<Option<LoadFault>, Fail> {
+    let mut body = vec![in alloc; 0xF1, 0, 3, 0, 0, 0xF7, 0x0C, 0x04, 0x02, 0, 0]?;
+    for _ in 0..132_104u32 {
+        body.push(0xFF)?;
+    }
+    body.extend_from_slice(&[0x88, 0, 0, 0])?;
+    let file = file_of_one(alloc, 0x300, &body)?;
+    Ok(fault_in(alloc, &file))
+}
+
+#[test]
+fn locations_of_a_super_rise_by_pages(rt: HostRuntime) -> Result<(), Fail> {
+    let alloc = rt.alloc();
+    let outside = fault(LoadCause::PatchOutside, 1, 0x3C);
+    assert_eq!(rt; fault_of_page(alloc, 0xFE, 0xFF)?, outside);
+    assert_eq!(rt; fault_of_page(alloc, 0xFD, 0xFE)?, None);
+    assert_eq!(rt; fault_of_far_page(alloc)?, outside);
+    Ok(())
+}
+
+/// A byte of a place in a segment.
+fn part(segment: u16, offset: u32, shift: i8, index: u8) -> Option<Cell> {
+    Some(Cell::Part {
+        file: 1,
+        segment,
+        offset,
+        shift,
+        index,
+    })
+}
+
+/// Twelve segments, the first one with the bytes 1, 2, 3 by turns and a SUPER of each type in the order of their numbers, each
+/// of one location, the next three bytes.
+fn file_of_types(alloc: Global) -> Result<Vec<u8>, Fail> {
+    let mut body = vec![in alloc; 0xF2, 81, 0, 0, 0]?;
+    for _ in 0..27u32 {
+        body.extend_from_slice(&[1, 2, 3])?;
+    }
+    let mut at = 0u8;
+    for form in 0..38u8 {
+        if form < 3 || form > 13 {
+            body.extend_from_slice(&[0xF7, 3, 0, 0, 0, form, 0, at])?;
+            at = at.wrapping_add(3);
+        }
+    }
+    body.push(0)?;
+    let mut file = Vec::new(alloc);
+    add(&mut file, 1, [0, 0], 81, &body)?;
+    for number in 2..13u8 {
+        add(&mut file, number, [0, 0], 0, &[0])?;
+    }
+    Ok(file)
+}
+
+#[test]
+fn each_type_of_super_is_read(rt: HostRuntime) -> Result<(), Fail> {
+    let alloc = rt.alloc();
+    let file = file_of_types(alloc)?;
+    let near = cells(alloc, &file, 1, 0, 9)?;
+    let wanted = [
+        part(1, 0x201, 0, 0),
+        part(1, 0x201, 0, 1),
+        Some(Cell::Byte(3)),
+        part(1, 0x201, 0, 0),
+        part(1, 0x201, 0, 1),
+        part(1, 0x201, 0, 2),
+        part(3, 0x201, 0, 0),
+        part(3, 0x201, 0, 1),
+        part(3, 0x201, 0, 2),
+    ];
+    assert_eq!(rt; near.as_slice(), wanted.as_slice());
+    for segment in 1..13u16 {
+        let at = u32::from(segment).wrapping_mul(3);
+        let whole = [
+            part(segment, 0x201, 0, 0),
+            part(segment, 0x201, 0, 1),
+            Some(Cell::Byte(3)),
+        ];
+        let low = cells(alloc, &file, 1, at.wrapping_add(6), 3)?;
+        assert_eq!(rt; low.as_slice(), whole.as_slice());
+        let bank = [
+            part(segment, 0x201, -16, 0),
+            part(segment, 0x201, -16, 1),
+            Some(Cell::Byte(3)),
+        ];
+        let high = cells(alloc, &file, 1, at.wrapping_add(42), 3)?;
+        assert_eq!(rt; high.as_slice(), bank.as_slice());
+    }
+    Ok(())
+}
+
+/// Eight bytes of data and four zeros; a SUPER of type 0 at 2 and of type 26 at 3, whose offsets are read from the data; a
+/// RELOC of one byte at 4, shifted right by 8.
+fn file_over_one_another(alloc: Global) -> Result<Vec<u8>, Fail> {
+    let body = body_of_patches(
+        alloc,
+        &[
+            0xF7, 3, 0, 0, 0, 0, 0, 2, 0xF7, 3, 0, 0, 0, 26, 0, 3, 0xE2, 1, 0xF8, 4, 0, 0, 0, 0x78,
+            0x56, 0x34, 0x12,
+        ],
+    )?;
+    file_of_one(alloc, 12, &body)
+}
+
+#[test]
+fn cells_are_the_last_patches(rt: HostRuntime) -> Result<(), Fail> {
+    let alloc = rt.alloc();
+    let file = file_over_one_another(alloc)?;
+    let wanted = [
+        Some(Cell::Byte(2)),
+        part(1, 0x0403, 0, 0),
+        part(1, 0x0504, -16, 0),
+        part(1, 0x1234_5678, -8, 0),
+        Some(Cell::Byte(6)),
+    ];
+    assert_eq!(rt; cells(alloc, &file, 1, 1, 5)?.as_slice(), wanted.as_slice());
+    let last = [Some(Cell::Byte(0)), None];
+    assert_eq!(rt; cells(alloc, &file, 1, 11, 2)?.as_slice(), last.as_slice());
+
+    // At $F00000 the bytes are those of $F00403, of $F00504 shifted right by 16, and of $1324_5678 by 8.
+    let bytes = patched(alloc, &file, 1, 0x00F0_0000, 0)?;
+    let want = [1, 2, 0x03, 0xF0, 0x56, 6, 7, 8, 0, 0, 0, 0];
+    assert_eq!(rt; bytes.as_slice(), want.as_slice());
+    Ok(())
+}
+
+#[test]
+fn places_are_added_before_the_shift(rt: HostRuntime) -> Result<(), Fail> {
+    let alloc = rt.alloc();
+
+    // RELOC of $345678 shifted right by 8; cINTERSEG of $FFFF in segment 2 shifted left by 4; the second one's own RELOC.
+    let body = body_of_patches(
+        alloc,
+        &[
+            0xE2, 4, 0xF8, 0, 0, 0, 0, 0x78, 0x56, 0x34, 0, 0xF6, 4, 4, 4, 0, 2, 0xFF, 0xFF,
+        ],
+    )?;
+    let own = body_of_patches(alloc, &[0xE2, 4, 0, 2, 0, 0, 0, 1, 0, 0, 0xE0])?;
+    let mut file = Vec::new(alloc);
+    add(&mut file, 1, [0, 0], 8, &body)?;
+    add(&mut file, 2, [0, 0], 8, &own)?;
+
+    // $F034_5678, $2_0003 + $FFFF and $2_0003 + $E000_0001
+    let first = patched(alloc, &file, 1, 0xF000_0000, 0x0002_0003)?;
+    let want = [0x56, 0x34, 0xF0, 0, 0x20, 0, 0x30, 0];
+    assert_eq!(rt; first.as_slice(), want.as_slice());
+    let second = patched(alloc, &file, 2, 0xF000_0000, 0x0002_0003)?;
+    assert_eq!(rt; second.as_slice(), [1, 2, 4, 0, 2, 0xE0, 7, 8].as_slice());
+
+    // A sum above 32 bits begins again at 0.
+    let wrapped = patched(alloc, &file, 2, 0, 0xFFFF_FFFF)?;
+    assert_eq!(rt; wrapped.as_slice(), [1, 2, 0, 0, 0, 0xE0, 7, 8].as_slice());
+    Ok(())
+}
+
+#[test]
+fn places_are_set_one_by_one(rt: HostRuntime) -> Result<(), Fail> {
+    let alloc = rt.alloc();
+    assert_eq!(rt; fault_in(alloc, &[]), fault(LoadCause::NotLoadFile, 0, 0));
+    let mut places = match Places::new(alloc, 2) {
+        Ok(places) => places,
+        Err(PlacesFault::Memory) => return Err(Fail::new("memory is ample")),
+    };
+    assert_eq!(rt; places.get(1), None);
+    places.set(2, Some(7));
+    assert_eq!(rt; places.get(2), Some(7));
+    assert_eq!(rt; places.get(1), None);
+    assert_eq!(rt; places.get(0), None);
+    assert_eq!(rt; places.get(3), None);
+    Ok(())
+}
