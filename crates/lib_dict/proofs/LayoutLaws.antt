@@ -1,10 +1,10 @@
 -- What is read of a dictionary is laid out so.
-use Rattle.std.proofs.Common.{◌≡◌, ℕ, zero, suc, ◌+◌, ◌*◌, ◌/◌, ◌%◌, ◌<◌, ◌≤◌, Bool, true, false, cond, eqb, ltb, List, [], ◌∷◌, ◌++◌, length, take, drop, map, Option, Some, None, Result, Ok, Err, inl, inr, refl, sym, ap, subst, ◌∙◌, append_assoc, arith}
+use Rattle.std.proofs.Common.{◌≡◌, ℕ, zero, suc, ◌+◌, ◌*◌, ◌/◌, ◌%◌, ◌≤◌, Bool, true, false, ltb, List, [], ◌∷◌, ◌++◌, length, take, drop, Option, Some, None, Result, Ok, Err, inl, inr, refl, sym, ap, subst, ◌∙◌, arith}
 use Rattle.std.specs.Prelude.{◌||◌, ◌&&◌, not, nat_eq, nat_lt, ◌==◌, if◌then◌else◌, slice_get, option_map}
 use Rattle.std.specs.List.{list_any, flat_map}
 use Rattle.std.specs.Str.{bytes_eq}
-use Rattle.std.proofs.lemmas.Bool.{eqb-true, eqb-false, eq-eqb, ltb-false, and_parts}
-use Rattle.std.proofs.lemmas.List.{append-nil, length-append, length-take, length-drop}
+use Rattle.std.proofs.lemmas.Bool.{eqb-true, eqb-false, ltb-false, and_parts}
+use Rattle.std.proofs.lemmas.List.{length-append, length-take, length-drop}
 use Rattle.std.proofs.lemmas.List.Concat.{flat_map-cons}
 use Rattle.byteorder.specs.Endian.{little_number}
 use Rattle.omf_format.specs.Number.{number_at}
@@ -17,7 +17,7 @@ use Rattle.link_meaning.specs.First.{IsIn}
 use Rattle.link_meaning.specs.Member.{Row, is_library}
 use Rattle.link_meaning.specs.Defines.{Scope, ForSegment, ForUnit, ForAll, Definition, outer_scope, defined_in}
 use Rattle.link_meaning.specs.Dictionary.{long_bytes, file_numbers, names_from, numbered_from, has_scope, first_pair, or_false, row_at, rows_from, rows_in, rows_of_records, rows_of}
-use Rattle.lib_dict.specs.DictionaryLayout.{counted, AreFileNumbers, AreNames, StartsAt, DefinesSo, IsRow, AreRows, IsDictionary}
+use Rattle.lib_dict.specs.DictionaryLayout.{counted, AreFileNumbers, AreNames, IsRow, AreRows, IsDictionary}
 
 -- ---- the first record
 

@@ -1,23 +1,21 @@
 -- What is laid out of a dictionary is read.
-use Rattle.std.proofs.Common.{◌≡◌, ℕ, zero, suc, ◌+◌, ◌-◌, ◌*◌, ◌/◌, ◌%◌, ◌<◌, ◌≤◌, Bool, true, false, cond, eqb, List, [], ◌∷◌, ◌++◌, length, take, drop, map, Option, Some, None, Result, Ok, Err, inl, inr, refl, sym, ap, subst, ◌∙◌, append_assoc, arith}
-use Rattle.std.specs.Prelude.{◌||◌, ◌&&◌, not, nat_eq, ◌==◌, if◌then◌else◌, slice_get, option_map}
+use Rattle.std.proofs.Common.{◌≡◌, ℕ, zero, suc, ◌+◌, ◌*◌, ◌/◌, ◌%◌, ◌<◌, ◌≤◌, Bool, true, false, List, [], ◌∷◌, ◌++◌, length, take, drop, Option, Some, Result, Ok, inl, inr, refl, sym, ap, subst, ◌∙◌, arith}
+use Rattle.std.specs.Prelude.{◌||◌, ◌&&◌, not, ◌==◌, if◌then◌else◌, slice_get, option_map}
 use Rattle.std.specs.List.{list_any, flat_map}
 use Rattle.std.specs.Str.{bytes_eq}
 use Rattle.std.proofs.lemmas.Bool.{eq-eqb, ne_eqb}
 use Rattle.std.proofs.lemmas.List.{take_at, drop_at, length-append}
 use Rattle.std.proofs.lemmas.List.Concat.{flat_map-cons}
-use Rattle.byteorder.specs.Endian.{little_number}
 use Rattle.omf_format.specs.Number.{number_at}
-use Rattle.omf_format.specs.Field.{◌>>=◌}
 use Rattle.omf_format.specs.Header.{form_of}
-use Rattle.omf_format.specs.Record.{Record, LongConst}
+use Rattle.omf_format.specs.Record.{Record}
 use Rattle.omf_format.specs.File.{Segment, AreSegments, IsFile, segment_at}
 use Rattle.omf_format.specs.FileLaws.{header_lies}
 use Rattle.link_meaning.specs.First.{IsIn}
 use Rattle.link_meaning.specs.Member.{Row}
 use Rattle.link_meaning.specs.Defines.{Scope, Definition, outer_scope, defined_in}
 use Rattle.link_meaning.specs.Dictionary.{file_numbers, names_from, numbered_from, has_scope, first_pair, row_at, rows_from, rows_in, rows_of_records, rows_of}
-use Rattle.lib_dict.specs.DictionaryLayout.{counted, AreFileNumbers, AreNames, StartsAt, DefinesSo, IsRow, AreRows, IsDictionary}
+use Rattle.lib_dict.specs.DictionaryLayout.{counted, AreFileNumbers, IsRow, AreRows, IsDictionary}
 use Rattle.lib_dict.proofs.Forms.{step_end, step_more, names_more, names_none}
 use Rattle.lib_dict.proofs.LayoutLaws.{placed_from, Placed, fits_row, two_digits, third_byte}
 

@@ -8,3 +8,9 @@ pub mod RowLoops
 pub mod ReadLaws
 pub mod LayoutLaws
 pub mod LayoutReads
+pub mod MemberLaws
+pub mod FileLaws
+pub mod SizeLaws
+pub mod MovedLaws
+pub mod BorneLaws
+pub mod MadeLaws

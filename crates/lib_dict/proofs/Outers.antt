@@ -1,17 +1,17 @@
 -- The rows of a segment, record by record.
-use Rattle.std.proofs.Common.{◌≡◌, ℕ, ◌+◌, Bool, true, false, eqb, List, [], ◌∷◌, ◌++◌, length, map, Option, Some, None, Result, Ok, Err, OnOk, refl, sym, ap, ◌∙◌, append_assoc, arith}
+use Rattle.std.proofs.Common.{◌≡◌, ◌≤◌, ℕ, zero, suc, ◌+◌, Bool, true, false, List, [], ◌∷◌, ◌++◌, length, map, Option, Some, None, Result, Ok, Err, OnOk, refl, sym, ap, ◌∙◌, arith}
 use Rattle.std.specs.Prelude.{not, if◌then◌else◌, ◌==◌}
 use Rattle.std.specs.List.{filter_map, flat_map, cons_option}
 use Rattle.std.proofs.lemmas.List.{map-append, append-nil}
 use Rattle.std.proofs.lemmas.List.Concat.{flat_map-cons}
 use Rattle.std.proofs.lemmas.List.Elements.{filter_map-append}
-use Rattle.omf_format.specs.Header.{is_private}
-use Rattle.omf_format.specs.Record.{Record, End, Const, LongConst, Align, Org, Space, Reloc, InterSeg, ShortReloc, ShortInterSeg, Super, Using, Strong, Label, Equate, Formula, Entry}
-use Rattle.omf_format.specs.Reading.{Reader, HandsOut}
-use Rattle.omf_format.specs.File.{Segment}
+use Rattle.omf_format.specs.Field.{Layout, IsName}
+use Rattle.omf_format.specs.Header.{Fields, is_private}
+use Rattle.omf_format.specs.Record.{Record, End, Const, LongConst, Align, Org, Space, Reloc, InterSeg, ShortReloc, ShortInterSeg, Super, Using, Strong, Label, Equate, Formula, Entry, IsRecord}
+use Rattle.omf_format.specs.File.{Segment, body_reader}
 use Rattle.link_meaning.specs.Sizes.{size_at, located_from, located, Located}
-use Rattle.link_meaning.specs.Defines.{Scope, ForSegment, ForUnit, ForAll, Definition, scope_of, outer_scope, title_of, defined_by, defined_in}
-use Rattle.lib_dict.specs.Library.{LibraryRow, name_in, outer_name, outer_names, segment_rows}
+use Rattle.link_meaning.specs.Defines.{ForUnit, ForAll, Definition, scope_of, outer_scope, title_of, defined_by, defined_in}
+use Rattle.lib_dict.specs.Library.{name_in, outer_name, outer_names, segment_rows}
 use Rattle.lib_dict.specs.View.{outer_of, row_of_name, record_rows}
 
 abbrev name_of : ℕ × Record → Option (List ℕ × Bool)
@@ -144,3 +144,41 @@ put_titled file front at s founds name private some place same named flag =
     ∙ ap (λ (l : List ℕ). row_of_name file (front + s.start) (l, private) ∷ record_rows file (front + s.start) s.records) named
     ∙ ap (λ (b : Bool). row_of_name file (front + s.start) (s.fields.name, b) ∷ record_rows file (front + s.start) s.records) flag
     ∙ rows-titled file front s (λ e. some (ap length e))
+
+-- ---- names are short
+
+name_short : (lab_len : ℕ) (name : List ℕ) → lab_len ≤ 255 → IsName lab_len name → length name ≤ 255
+name_short zero name few is = is.1
+name_short (suc n) name few is = omega (arith, is.1)
+
+abbrev some_name : List ℕ × Bool → Option (List ℕ × Bool)
+some_name n = Some n
+
+short_of : (global : Bool) (name : List ℕ) (private : Bool) (n : List ℕ × Bool) → some_name n ≡ (if global then Some (name, private) else None) → length name ≤ 255 → length n.0 ≤ 255
+short_of true name private n is short = let same : n ≡ (name, private) = cc in omega (arith, ap (λ (m : List ℕ × Bool). length m.0) same)
+short_of false name private n is short = absurd cc
+
+-- a name of a record that is read has at most 255 bytes
+pub outer_short : (l : Layout) (r : Record) (n : List ℕ × Bool) → IsRecord l r → l.lab_len ≤ 255 → Some n ≡ outer_of r → length n.0 ≤ 255
+outer_short l (Label global name size form private) n is few found = short_of global name (not (private == 0)) n found (name_short l.lab_len name few is.0)
+outer_short l (Equate global name size form private expr) n is few found = short_of global name (not (private == 0)) n found (name_short l.lab_len name few is.0)
+outer_short l End n is few found = absurd cc
+outer_short l (Const bytes) n is few found = absurd cc
+outer_short l (LongConst bytes) n is few found = absurd cc
+outer_short l (Align k) n is few found = absurd cc
+outer_short l (Org k) n is few found = absurd cc
+outer_short l (Space k) n is few found = absurd cc
+outer_short l (Reloc count shift location offset) n is few found = absurd cc
+outer_short l (InterSeg count shift location file segment offset) n is few found = absurd cc
+outer_short l (ShortReloc count shift location offset) n is few found = absurd cc
+outer_short l (ShortInterSeg count shift location segment offset) n is few found = absurd cc
+outer_short l (Super form bytes) n is few found = absurd cc
+outer_short l (Using name) n is few found = absurd cc
+outer_short l (Strong name) n is few found = absurd cc
+outer_short l (Formula code count k expr) n is few found = absurd cc
+outer_short l (Entry segment offset name) n is few found = absurd cc
+
+-- LABLEN of a body's reader is the header's
+pub lab_len-reader : (start : ℕ) (f : Fields) (file : List ℕ) → (body_reader start f file).layout.lab_len ≡ f.lab_len
+unfolding body_reader
+lab_len-reader start f file = refl

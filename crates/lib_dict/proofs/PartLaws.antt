@@ -1,19 +1,18 @@
 -- The three records of a dictionary, taken one after another.
-use Rattle.std.proofs.Common.{◌≡◌, ℕ, ◌+◌, ◌^◌, ◌<◌, ◌≤◌, Bool, true, false, cond, List, [], ◌∷◌, ◌++◌, length, Option, Some, None, Result, Ok, Err, refl, sym, ap, subst, ◌∙◌, arith}
+use Rattle.std.proofs.Common.{◌≡◌, ℕ, ◌+◌, ◌≤◌, Bool, true, false, cond, List, [], ◌∷◌, length, Option, Some, None, Result, Ok, Err, refl, sym, ap, subst, ◌∙◌, arith}
 use Rattle.std.proofs.lemmas.List.{length-append}
 use Rattle.byteorder.specs.Endian.{little_bytes}
 use Rattle.byteorder.specs.Numbers.{length-bytes_low_first}
-use Rattle.omf_format.specs.declared.fault.RecordFault.{RecordFault}
 use Rattle.omf_format.specs.declared.fault.Flaw.{Flaw}
 use Rattle.omf_format.specs.Field.{Layout}
 use Rattle.omf_format.specs.HeaderLaws.{IsBytes}
 use Rattle.omf_format.specs.Record.{Record, End, Const, LongConst, Align, Org, Space, Reloc, InterSeg, ShortReloc, ShortInterSeg, Super, Using, Strong, Label, Equate, Formula, Entry, spelling}
-use Rattle.omf_format.specs.RecordLaws.{TakesRecord, front-takes}
+use Rattle.omf_format.specs.RecordLaws.{front-takes}
 use Rattle.omf_format.specs.Reading.{Reader, front, told, moved, place_of, next_answer, after_next, HandsOut}
 use Rattle.omf_format.specs.FileLaws.{Answer, gave, same_found}
-use Rattle.omf_format.specs.BodyLaws.{Found, found_by, none_at_end}
+use Rattle.omf_format.specs.BodyLaws.{found_by, none_at_end}
 use Rattle.link_meaning.specs.Dictionary.{long_bytes}
-use Rattle.lib_dict.specs.Parts.{Texts, TakesLong, TakesLast, HasParts, HasPlace}
+use Rattle.lib_dict.specs.Parts.{Texts, TakesLong, TakesLast, HasParts}
 
 -- a record that was taken is the first of those that come
 record Took (new last : Reader) (at : ℕ) (bytes : List ℕ) (founds : List (ℕ × Record)) : Type 0 where

@@ -1,27 +1,21 @@
 -- The dictionary of a library, from its three records on.
-use Rattle.std.proofs.Common.{◌≡◌, ℕ, zero, suc, ◌+◌, ◌*◌, ◌/◌, ◌%◌, ◌^◌, ◌<◌, ◌≤◌, Bool, true, false, eqb, List, [], ◌∷◌, ◌++◌, length, take, drop, map, Option, Some, None, Result, Ok, Err, refl, sym, ap, subst, ◌∙◌, arith}
-use Rattle.std.specs.Prelude.{unwrap_or, ◌==◌, if◌then◌else◌, slice_get}
+use Rattle.std.proofs.Common.{◌≡◌, ℕ, ◌+◌, ◌/◌, ◌%◌, ◌^◌, ◌<◌, ◌≤◌, false, List, [], ◌∷◌, length, take, drop, map, Option, Some, None, Result, Err, refl, sym, ap, subst, ◌∙◌, arith}
+use Rattle.std.specs.Prelude.{unwrap_or, ◌==◌}
 use Rattle.std.proofs.lemmas.Bool.{eq-eqb, ne_eqb}
 use Rattle.std.proofs.lemmas.List.{length-take, length-drop}
-use Rattle.omf_format.specs.declared.fault.FileFault.{FileFault}
 use Rattle.omf_format.specs.Field.{◌>>=◌}
 use Rattle.omf_format.specs.Header.{Fields, form_of}
 use Rattle.omf_format.specs.HeaderLaws.{IsBytes}
 use Rattle.omf_format.specs.Record.{Record}
-use Rattle.omf_format.specs.Reading.{Reader, HandsOut, records_of, IsBody}
-use Rattle.omf_format.specs.File.{Segment, body_reader, IsHeader, IsFile, segment_at}
+use Rattle.omf_format.specs.File.{Segment, body_reader, IsFile, segment_at}
 use Rattle.omf_format.specs.FileLaws.{header_lies, segments_fit}
 use Rattle.omf_format.specs.BodyLaws.{body_fits}
-use Rattle.omf_header.specs.View.{fields}
-use Rattle.omf_records.specs.declared.segment.SegmentView.{SegmentView}
-use Rattle.omf_records.specs.Segments.{placed, shown, IsSound}
 use Rattle.link_meaning.specs.Member.{Row, is_library}
 use Rattle.link_meaning.specs.Dictionary.{long_bytes, file_numbers, names_from, numbered_from, or_false, rows_from, rows_in, rows_of_records, rows_of}
 use Rattle.lib_dict.specs.declared.fault.DictFault.{DictFault}
 use Rattle.lib_dict.specs.declared.fault.DictFault.TheVariants as dict
 use Rattle.lib_dict.specs.declared.dictionary.Row as declared
-use Rattle.lib_dict.specs.declared.rows.Tables.{Tables}
-use Rattle.lib_dict.specs.Library.{LibraryRow, told_row, HasRows, IsNoLibrary, IsFalseAt}
+use Rattle.lib_dict.specs.Library.{HasRows, IsNoLibrary, IsFalseAt}
 use Rattle.lib_dict.specs.Rows.{seen_row, HasNoRows}
 use Rattle.lib_dict.specs.Parts.{Texts, HasParts, HasPlace}
 use Rattle.lib_dict.specs.Tables.{SameNumbers, starts_of, AreNumbers, AreStarts, numbers_in, names_in, IsInFile, AreRowsIn, IsRowFault}

@@ -1,6 +1,6 @@
 -- What is looked up for a row is what the definition says of it.
-use Rattle.std.proofs.Common.{◌≡◌, ℕ, zero, suc, ◌+◌, ◌-◌, ◌*◌, ◌^◌, ◌<◌, ◌≤◌, Bool, true, false, cond, eqb, ltb, List, [], ◌∷◌, ◌++◌, length, take, drop, map, Option, Some, None, Result, Ok, Err, refl, sym, ap, subst, ◌∙◌, arith}
-use Rattle.std.specs.Prelude.{◌||◌, ◌&&◌, not, nat_eq, ◌==◌, if◌then◌else◌, slice_get, option_map, unwrap_or}
+use Rattle.std.proofs.Common.{◌≡◌, ℕ, zero, suc, ◌+◌, ◌<◌, ◌≤◌, Bool, true, false, eqb, ltb, List, [], ◌∷◌, length, take, drop, map, Option, Some, None, Result, Ok, Err, refl, sym, ap, subst, ◌∙◌, arith}
+use Rattle.std.specs.Prelude.{◌||◌, ◌&&◌, not, nat_eq, ◌==◌, if◌then◌else◌, slice_get, option_map}
 use Rattle.std.specs.Option.{option_map_or}
 use Rattle.std.specs.List.{list_any, flat_map, filter_map, cons_option}
 use Rattle.std.specs.Str.{bytes_eq}
@@ -17,9 +17,9 @@ use Rattle.link_meaning.specs.Member.{Row}
 use Rattle.link_meaning.specs.Defines.{Scope, ForSegment, ForUnit, ForAll, Definition, defined_in}
 use Rattle.link_meaning.specs.Dictionary.{names_from, numbered_from, has_scope, first_pair, or_false, row_at}
 use Rattle.lib_dict.specs.declared.rows.Tables.{Tables}
-use Rattle.lib_dict.specs.Library.{LibraryRow, told_row, name_in, outer_name, outer_names, segment_rows, is_dictionary}
+use Rattle.lib_dict.specs.Library.{LibraryRow, name_in, outer_name, outer_names, segment_rows, is_dictionary}
 use Rattle.lib_dict.specs.View.{outer_row}
-use Rattle.lib_dict.specs.Tables.{same_row, SameNumbers, HoldsRows, starts_of, other_rows, behind_rows, numbers_in, names_in, IsInFile, FitsTables, IsNameAt, row_in, IsRowAnswer}
+use Rattle.lib_dict.specs.Tables.{same_row, starts_of, other_rows, behind_rows, numbers_in, names_in, FitsTables, IsNameAt, row_in, IsRowAnswer}
 use Rattle.lib_dict.proofs.Sets.{or_false as or_none, list_any-append, list_any-map}
 
 -- a row

@@ -1,10 +1,9 @@
 -- The rows of the second record, as far as they were read.
-use Rattle.std.proofs.Common.{◌≡◌, ℕ, zero, suc, ◌+◌, ◌*◌, ◌/◌, ◌%◌, ◌^◌, ◌<◌, ◌≤◌, List, [], ◌∷◌, ◌++◌, length, take, drop, map, Option, Some, None, Result, Ok, Err, refl, sym, ap, ◌∙◌, append_assoc, arith}
+use Rattle.std.proofs.Common.{◌≡◌, ℕ, zero, suc, ◌+◌, ◌*◌, ◌/◌, ◌%◌, ◌<◌, ◌≤◌, List, [], ◌∷◌, ◌++◌, length, take, drop, map, Some, None, Result, Ok, Err, refl, sym, ap, ◌∙◌, append_assoc, arith}
 use Rattle.std.proofs.lemmas.List.{append-nil, length-drop, map-append, length-append}
 use Rattle.omf_format.specs.Field.{◌>>=◌}
-use Rattle.omf_format.specs.File.{Segment}
 use Rattle.link_meaning.specs.Member.{Row}
-use Rattle.link_meaning.specs.Dictionary.{numbered_from, row_at, rows_from}
+use Rattle.link_meaning.specs.Dictionary.{numbered_from, rows_from}
 use Rattle.lib_dict.specs.declared.dictionary.Row as declared
 use Rattle.lib_dict.specs.declared.rows.Tables.{Tables}
 use Rattle.lib_dict.specs.Library.{LibraryRow, told_row}

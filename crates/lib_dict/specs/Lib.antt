@@ -4,3 +4,7 @@ pub mod Rows
 pub mod Parts
 pub mod Tables
 pub mod DictionaryLayout
+pub mod Made
+pub mod Sizes
+pub mod MadeReads
+pub mod MadeOnce

@@ -1,9 +1,12 @@
--- Libraries: the rows of a dictionary that is read, and the names that segments have for others (GS/OS Reference, appendix F,
--- "Library Dictionary Segment").
-use Rattle.std.specs.Prelude.{◌≡◌, ℕ, ◌+◌, Bool, true, false, List, map, Option, Some, None, Ok, Err, ◌==◌}
-use Rattle.std.specs.List.{filter_map}
+-- Libraries: the rows of a dictionary that is read, and the library of files (GS/OS Reference, appendix F, "Library
+-- Dictionary Segment"; the dictionary's header and the order of its rows are this project's own choice).
+use Rattle.std.specs.Prelude.{◌≡◌, ◌<◌, ◌≤◌, ℕ, ◌+◌, ◌*◌, Bool, true, false, List, [], ◌∷◌, ◌++◌, length, map, replicate, Option, Some, None, Ok, Err, ◌==◌, if◌then◌else◌}
+use Rattle.std.specs.List.{flat_map, filter_map, list_any}
 use Rattle.std.specs.Option.{option_map_or}
-use Rattle.omf_format.specs.Header.{form_of}
+use Rattle.byteorder.specs.Endian.{little_bytes}
+use Rattle.omf_format.specs.Field.{written_layout}
+use Rattle.omf_format.specs.Header.{Fields, form_of, header_bytes}
+use Rattle.omf_format.specs.Record.{End, LongConst, spelling}
 use Rattle.omf_format.specs.File.{Segment, IsFile, segment_at}
 use Rattle.link_meaning.specs.Member.{Row, is_library}
 use Rattle.link_meaning.specs.Defines.{Scope, ForSegment, ForUnit, ForAll, Definition, defined_in}
@@ -50,7 +53,7 @@ pub record IsFalseAt (file : List ℕ) (at : ℕ) : Type 0 where
   pub library : is_library segments ≡ true
   pub false' : rows_of segments ≡ Err at
 
--- ---- the names that segments have for others
+-- ---- the rows of a library that is made
 
 -- a name that the segment has for others than itself, and whether it is private
 abbrev pub name_in : Scope → List ℕ → Option (List ℕ × Bool)
@@ -69,6 +72,131 @@ outer_names s = filter_map outer_name (defined_in s)
 abbrev pub segment_rows : ℕ → ℕ → Segment → List LibraryRow
 segment_rows file front s = map (λ n. record { name = n.0; file = file; private = n.1; at = front + s.start }) (outer_names s)
 
+-- a file of a library: its name, its bytes, and the segments that they are
+pub record LibraryFile : Type 0 where
+  pub name : List ℕ
+  pub bytes : List ℕ
+  pub segments : List Segment
+
+-- the rows of these files, one behind another, where the first has this number and begins at this displacement
+abbrev pub rows_from : ℕ → ℕ → List LibraryFile → List LibraryRow
+rows_from number front [] = []
+rows_from number front (file ∷ files) = flat_map (segment_rows number front) file.segments ++ rows_from (number + 1) (front + length file.bytes) files
+
+-- ---- the dictionary that is made
+
+-- the first record: the files' numbers, each with the file's name behind it, and 0
+abbrev pub files_text : ℕ → List LibraryFile → List ℕ
+files_text number [] = little_bytes 2 0
+files_text number (file ∷ files) = little_bytes 2 number ++ length file.name ∷ file.name ++ files_text (number + 1) files
+
+-- the third record: the rows' names
+unfoldable pub names_text : List LibraryRow → List ℕ
+names_text rows = flat_map (λ row. length row.name ∷ row.name) rows
+
+-- a row: where its name stands in the third record, its file's number, 1 where it is private, and where its segment starts
+unfoldable pub row_text : ℕ → LibraryRow → List ℕ
+row_text name row = little_bytes 4 name ++ (little_bytes 2 row.file ++ (little_bytes 2 (if row.private then 1 else 0) ++ little_bytes 4 row.at))
+
+-- the second record: the rows, where the first one's name stands there in the third
+abbrev pub rows_text : ℕ → List LibraryRow → List ℕ
+rows_text name [] = []
+rows_text name (row ∷ rows) = row_text name row ++ rows_text (name + 1 + length row.name) rows
+
+-- the dictionary's header, where the three records have so many bytes together
+abbrev pub dictionary_fields : ℕ → Fields
+dictionary_fields n = record {
+  byte_count = 0;
+  res_spc = 0;
+  length = n;
+  lab_len = 0;
+  version = 2;
+  bank_size = 0;
+  kind = 0x0008;
+  org = 0;
+  align = 0;
+  seg_num = 1;
+  entry = 0;
+  disp_name = 0;
+  disp_data = 0;
+  load_name = replicate 10 32;
+  name = 0x44 ∷ 0x49 ∷ 0x43 ∷ 0x54 ∷ 0x49 ∷ 0x4F ∷ 0x4E ∷ 0x41 ∷ 0x52 ∷ 0x59 ∷ [];
+}
+
+-- its body: the three records, and END
+unfoldable pub dictionary_body : List ℕ → List ℕ → List ℕ → List ℕ
+dictionary_body first second third =
+    spelling written_layout (LongConst first) ++ (spelling written_layout (LongConst second) ++ (spelling written_layout (LongConst third) ++ spelling written_layout End))
+
+unfoldable pub dictionary_text : List ℕ → List ℕ → List ℕ → List ℕ
+dictionary_text first second third =
+    let body = dictionary_body first second third in
+    header_bytes (dictionary_fields (length first + length second + length third)) (length body) ++ body
+
+-- how many bytes the dictionary of these files has: its header of $37 bytes and its name of 10, the codes and the lengths of three
+-- records, what stands in them, and END
+unfoldable pub dictionary_size : List LibraryFile → ℕ
+dictionary_size files =
+    let rows = rows_from 1 0 files in
+    0x37 + 10 + (5 + length (files_text 1 files)) + (5 + 12 * length rows) + (5 + length (names_text rows)) + 1
+
+-- the rows of the library: the first file begins behind the dictionary
+unfoldable pub library_rows : List LibraryFile → List LibraryRow
+library_rows files = rows_from 1 (dictionary_size files) files
+
+-- the library of these files: the dictionary, and then each file's bytes
+unfoldable pub library_bytes : List LibraryFile → List ℕ
+library_bytes files =
+    dictionary_text (files_text 1 files) (rows_text 0 (library_rows files)) (names_text (library_rows files)) ++ flat_map (λ file. file.bytes) files
+
+-- ---- what is made of files
+
+-- a file that is given, by its name and its bytes
+pub record Given : Type 0 where
+  pub name : List ℕ
+  pub bytes : List ℕ
+
 -- the segment is a dictionary
 abbrev pub is_dictionary : Segment → Bool
 is_dictionary s = form_of s.fields.kind == 0x08
+
+-- the file is the one that was given, and each segment of it may stand in a library: none is a dictionary
+pub record IsMember (given : Given) (file : LibraryFile) : Type 0 where
+  pub name : file.name ≡ given.name
+  pub bytes : file.bytes ≡ given.bytes
+  pub segments : IsFile file.segments file.bytes
+  pub others : list_any is_dictionary file.segments ≡ false
+
+abbrev pub AreMembers : List Given → List LibraryFile → Type 0
+AreMembers [] [] = Unit {0}
+AreMembers [] (file ∷ files) = ⊥
+AreMembers (given ∷ all) [] = ⊥
+AreMembers (given ∷ all) (file ∷ files) = IsMember given file × AreMembers all files
+
+-- the most bytes that a file has
+abbrev pub most_bytes : ℕ
+most_bytes = 16777216
+
+-- the bytes are the library of the given files
+pub record IsLibraryOf (given : List Given) (bytes : List ℕ) : Type 0 where
+  pub files : List LibraryFile
+  pub members : AreMembers given files
+  pub short : length bytes ≤ most_bytes
+  pub made : bytes ≡ library_bytes files
+
+-- the library of the given files would be longer than a file may be
+pub record IsTooLong (given : List Given) : Type 0 where
+  pub files : List LibraryFile
+  pub members : AreMembers given files
+  pub long : most_bytes < length (library_bytes files)
+
+-- the first segment of a sound file that is a dictionary, with its number
+pub record HasDictionary (bytes : List ℕ) (number at : ℕ) : Type 0 where
+  pub before : List Segment
+  pub dictionary : Segment
+  pub behind : List Segment
+  pub is_file : IsFile (before ++ dictionary ∷ behind) bytes
+  pub none_before : list_any is_dictionary before ≡ false
+  pub is : is_dictionary dictionary ≡ true
+  pub number' : number ≡ length before + 1
+  pub at' : at ≡ dictionary.start

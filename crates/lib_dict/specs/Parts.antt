@@ -1,6 +1,6 @@
 -- The three records of a dictionary, as they are taken from its body. No public clause cites this module.
 use Rattle.std.specs.Prelude.{◌≡◌, ◌<◌, ◌^◌, ℕ, ◌+◌, Bool, true, false, List, [], ◌∷◌, length, Option, Some, None, Ok}
-use Rattle.omf_format.specs.Record.{Record, LongConst}
+use Rattle.omf_format.specs.Record.{Record}
 use Rattle.omf_format.specs.Reading.{Reader, next_answer, after_next}
 use Rattle.link_meaning.specs.Dictionary.{long_bytes}
 use Rattle.lib_dict.specs.declared.parts.Parts.{Parts}

@@ -1,5 +1,5 @@
 -- How a dictionary's rows are seen, and why a file has no dictionary.
-use Rattle.std.specs.Prelude.{◌≡◌, ℕ, List}
+use Rattle.std.specs.Prelude.{ℕ, List}
 use Rattle.lib_dict.specs.declared.fault.DictFault.{DictFault}
 use Rattle.lib_dict.specs.declared.fault.DictFault.TheVariants as dict
 use Rattle.omf_format.specs.File.{IsFirstFault}

@@ -1,8 +1,8 @@
 -- How the names that segments have for others are seen, record by record.
-use Rattle.std.specs.Prelude.{ℕ, ◌+◌, Bool, not, List, map, Option, Some, None, ◌==◌, if◌then◌else◌}
+use Rattle.std.specs.Prelude.{ℕ, Bool, not, List, map, Option, Some, None, ◌==◌, if◌then◌else◌}
 use Rattle.std.specs.List.{filter_map}
 use Rattle.omf_format.specs.Record.{Record, End, Const, LongConst, Align, Org, Space, Reloc, InterSeg, ShortReloc, ShortInterSeg, Super, Using, Strong, Label, Equate, Formula, Entry}
-use Rattle.lib_dict.specs.declared.outer.Outer.{Outer}
+use Rattle.lib_dict.specs.declared.listed.Outer.{Outer}
 use Rattle.lib_dict.specs.Library.{LibraryRow}
 
 -- a row without where the bytes of its name lie

@@ -5,7 +5,7 @@ ghost use Rattle.std.specs.List.{list_any};
 ghost use Rattle.lib_dict.specs.View.{outer_row};
 ghost use Rattle.lib_dict.specs.Tables.{same_row, HoldsRows};
 
-use crate::outer::Outer;
+use crate::listed::Outer;
 use indexmap::IndexSet;
 use std::alloc::{AllocError, Global};
 

@@ -4,8 +4,13 @@
 
 mod dictionary;
 mod fault;
+mod files;
 mod known;
 mod laws;
+mod listed;
+mod making;
+mod member;
+mod members;
 mod names_behind;
 mod outer;
 mod parts;
@@ -14,8 +19,11 @@ mod record_forms;
 mod rows;
 #[cfg(test)]
 mod tests;
+mod texts;
 
 pub use dictionary::{Dictionary, Row};
-pub use fault::DictFault;
-pub use laws::rows_are_laid_out;
+pub use fault::{DictFault, LibCause, LibFault};
+pub use laws::{made_is_read, rows_are_laid_out};
+pub use making::make_library;
+pub use member::Member;
 pub use reading::read_dictionary;

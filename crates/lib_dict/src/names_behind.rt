@@ -5,7 +5,8 @@ ghost use Rattle.omf_records.specs.Segments.{shown, IsSound};
 ghost use Rattle.lib_dict.specs.View.{outer_row};
 ghost use Rattle.lib_dict.specs.Tables.{other_rows, behind_rows};
 
-use crate::outer::{Outer, put_rows};
+use crate::listed::Outer;
+use crate::outer::put_rows;
 use omf_records::{SegmentList, SegmentView};
 use std::alloc::{AllocError, Global};
 

@@ -1,25 +1,15 @@
 //! The names that segments have for others.
 
-ghost use Rattle.std.specs.Prelude.{◌≡◌, ◌<◌, ◌+◌, ◌^◌, ◌++◌, map, option_map, OnOk};
+ghost use Rattle.std.specs.Prelude.{◌≡◌, ◌<◌, ◌≤◌, ◌+◌, ◌^◌, ◌++◌, length, map, option_map, OnOk};
 ghost use Rattle.omf_records.specs.View.{view};
 ghost use Rattle.omf_records.specs.Segments.{shown, IsSound};
 ghost use Rattle.omf_format.specs.Reading.{IsBody, records_of};
 ghost use Rattle.lib_dict.specs.View.{outer_row, outer_of, record_rows};
 ghost use Rattle.lib_dict.specs.Library.{segment_rows};
 
+use crate::listed::Outer;
 use omf_records::{Rec, Records, SegmentView};
 use std::alloc::AllocError;
-
-/// A name that a segment has for others: its SEGNAME, a GLOBAL or a GEQU.
-#[derive(Clone, Copy, Debug, PartialEq, Eq, Hash)]
-pub struct Outer<'a> {
-    pub name: &'a [u8],
-    /// The number of the segment's file in a library.
-    pub file: u16,
-    pub private: bool,
-    /// Where the segment starts.
-    pub at: u64,
-}
 
 /// The name that a record defines for others, and whether it is private.
 fn outer_of<'a>(rec: &Rec<'a>) -> Option<(&'a [u8], bool)>
@@ -66,7 +56,8 @@ fn put_records<'a>(
     file: u16,
     at: u64,
 ) -> Result<(), AllocError>
-    requires { IsBody records }
+    requires body { IsBody records }
+    requires narrow { records.layout.lab_len ≤ 255 }
     ensures { OnOk result (map outer_row rows.new.items ≡ map outer_row rows.old.items ++ record_rows file at (records_of records.entry)) }
 {
     let mut records = records;
@@ -109,5 +100,6 @@ pub fn put_rows<'a>(
             at,
         })?;
     }
+    let _lab_len = view.header.lab_len;
     put_records(rows, view.records(), file, at)
 }

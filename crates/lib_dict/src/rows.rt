@@ -9,7 +9,7 @@ ghost use Rattle.lib_dict.specs.Tables.{FitsTables, IsNameAt, IsRowAnswer, rows_
 use crate::dictionary::Row;
 use crate::fault::DictFault;
 use crate::known::is_known;
-use crate::outer::Outer;
+use crate::listed::Outer;
 use crate::record_forms::{behind, number};
 use indexmap::IndexSet;
 use omf_records::SegmentList;
@@ -33,7 +33,8 @@ pub struct Tables<'a, 'b> {
 /// The name that starts there.
 fn name_at(third: &[u8], at: usize) -> &[u8]
     requires { IsNameAt third.now at }
-    ensures { result.now ≡ take (numbers.number_at 1 at third.now) (drop (at + 1) third.now) }
+    ensures value { result.now ≡ take (numbers.number_at 1 at third.now) (drop (at + 1) third.now) }
+    ensures short { length result.now ≤ 255 }
 {
     let size = number(third, at, 1) as usize;
     let name = behind(third, at + 1);

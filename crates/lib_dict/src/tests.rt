@@ -1,7 +1,10 @@
 // What no clause says: that the definitions are those of the field, and that memory is enough.
-use crate::{DictFault, Row, read_dictionary};
+ghost use Rattle.std.specs.Prelude.{◌<◌, ◌^◌, length, IfOk};
+
+use crate::{DictFault, LibCause, LibFault, Member, Row, make_library, read_dictionary};
+use omf_base::{Name, NameFault, Spot};
 use omf_format::{FileCause, FileFault};
-use std::alloc::Global;
+use std::alloc::{AllocError, Global};
 
 /// A segment MAIN with a GLOBAL G, a private GEQU Q, a LOCAL and an EQU: put together by hand.
 const MAIN: [u8; 102] = [
@@ -130,6 +133,45 @@ fn a_false_dictionary_has_its_place(rt: HostRuntime) {
 }
 
 #[test]
+fn each_cause_of_a_false_dictionary(rt: HostRuntime) {
+    let alloc = rt.alloc();
+
+    // No 0 behind the files, a row of 11 bytes, a fourth LCONST, and one record fewer: the dictionary is to blame.
+    let no_end: &[(usize, u8)] = &[(79, 3)];
+    let short_row: &[(usize, u8)] = &[(82, 83), (169, 0xF2), (170, 21), (171, 0), (174, 0)];
+    let fourth: &[(usize, u8)] = &[
+        (171, 15),
+        (190, 0xF2),
+        (191, 0),
+        (192, 0),
+        (193, 0),
+        (194, 0),
+    ];
+    let third_missing: &[(usize, u8)] = &[(170, 0)];
+    for changes in [no_end, short_row, fourth, third_missing] {
+        assert_eq!(rt; fault_of(alloc, changes), Some(DictFault::BadLibrary(0)));
+    }
+
+    // A name that is a LOCAL there, or an EQU, and a name that isn't there: the second row is to blame.
+    for name in [0x4C, 0x45, 0x5A] {
+        assert_eq!(rt;
+            fault_of(alloc, &[(181, name)]),
+            Some(DictFault::BadLibrary(98)),
+            "the name {name}"
+        );
+    }
+
+    // A segment behind the dictionary that is a dictionary too: its first row is to blame.
+    assert_eq!(rt;
+        fault_of(alloc, &[(383, 8)]),
+        Some(DictFault::BadLibrary(134))
+    );
+
+    // LENGTH isn't looked at.
+    assert_eq!(rt; fault_of(alloc, &[(8, 0)]), None);
+}
+
+#[test]
 fn what_is_no_library(rt: HostRuntime) {
     let alloc = rt.alloc();
     assert_eq!(rt;
@@ -149,4 +191,65 @@ fn what_is_no_library(rt: HostRuntime) {
         read_dictionary(alloc, &DICTIONARY[..43]).err(),
         Some(DictFault::File(cut))
     );
+}
+
+/// A file with a name.
+fn member(alloc: Global, name: &[u8], bytes: &[u8]) -> Result<Member, NameFault>
+    requires { length bytes.now < 2 ^ 32 }
+    ensures { IfOk result (λ member. length member.bytes.items < 2 ^ 32) }
+{
+    Ok(Member {
+        name: Name::of(alloc, name)?,
+        bytes: Vec::from_slice(alloc, bytes)?,
+    })
+}
+
+/// The library of two files.
+fn made(
+    alloc: Global,
+    first: Member,
+    second: Member,
+) -> Result<Result<Vec<u8>, LibFault>, AllocError>
+    requires first { length first.bytes.items < 2 ^ 32 }
+    requires second { length second.bytes.items < 2 ^ 32 }
+{
+    let mut members = Vec::new(alloc);
+    members.push(first)?;
+    members.push(second)?;
+    Ok(make_library(alloc, &members))
+}
+
+/// The library of the files `a` and `bb`, or the fault.
+fn outcome(alloc: Global, a: &[u8], bb: &[u8]) -> Result<Result<Vec<u8>, LibFault>, NameFault>
+    requires a { length a.now < 2 ^ 32 }
+    requires bb { length bb.now < 2 ^ 32 }
+{
+    let first = member(alloc, b"a", a)?;
+    let second = member(alloc, b"bb", bb)?;
+    Ok(made(alloc, first, second)?)
+}
+
+#[test]
+fn a_library_is_made(rt: HostRuntime) {
+    let alloc = rt.alloc();
+    let mut second = [0; 167];
+    second[..65].copy_from_slice(&OTHER);
+    second[65..].copy_from_slice(&MAIN);
+    match outcome(alloc, &MAIN, &second) {
+        Ok(Ok(bytes)) => assert!(rt; bytes.as_slice() == library().as_slice()),
+        Ok(Err(fault)) => panic!(rt; "{fault:?}"),
+        Err(fault) => panic!(rt; "{fault:?}"),
+    }
+    let cut = LibFault {
+        cause: LibCause::Truncated,
+        spot: Spot {
+            file: 1,
+            segment: 1,
+            at: 43,
+        },
+    };
+    match outcome(alloc, &MAIN[..43], &MAIN) {
+        Ok(answer) => assert_eq!(rt; answer.err(), Some(cut)),
+        Err(fault) => panic!(rt; "{fault:?}"),
+    }
 }

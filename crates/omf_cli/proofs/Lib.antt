@@ -8,3 +8,4 @@ pub mod Runs
 pub mod Completes
 pub mod Once
 pub mod Loadables
+pub mod Libraries

@@ -10,6 +10,7 @@ pub data Form : Type 0 where
   Link : (output : List ℕ) (inputs : List (List ℕ)) → Form
   Dump : (inputs : List (List ℕ)) → Form
   Run : (inputs : List (List ℕ)) → Form
+  Lib : (output : List ℕ) (inputs : List (List ℕ)) → Form
 
 -- an output, and so many inputs behind it
 abbrev pub with_output : ℕ → ℕ → List (List ℕ) → Option (List ℕ × List (List ℕ))
@@ -20,16 +21,18 @@ with_output least most (output ∷ inputs) = if is_path output && are_paths leas
 abbrev pub inputs_only : ℕ → ℕ → List (List ℕ) → Option (List (List ℕ))
 inputs_only least most inputs = if are_paths least most inputs then Some inputs else None
 
--- `link OUT OBJ`, `dump FILE`, `run SCRIPT`; other words have no form
+-- `link OUT OBJ`, `dump FILE`, `run SCRIPT`, `lib OUT OBJ..`; other words have no form
 abbrev pub form_of : List (List ℕ) → Option Form
 form_of [] = None
 form_of (name ∷ words) =
     if bytes_eq name (codes "link") then option_map (λ w. Link w.0 w.1) (with_output 1 1 words)
     else (if bytes_eq name (codes "dump") then option_map Dump (inputs_only 1 1 words)
-    else (if bytes_eq name (codes "run") then option_map Run (inputs_only 1 1 words) else None))
+    else (if bytes_eq name (codes "run") then option_map Run (inputs_only 1 1 words)
+    else (if bytes_eq name (codes "lib") then option_map (λ w. Lib w.0 w.1) (with_output 1 255 words) else None)))
 
 -- a form as it was read from words
 abbrev pub shown : Words → Form
 shown (words.Link output inputs) = Link output.now (words_of inputs.now)
 shown (words.Dump inputs) = Dump (words_of inputs.now)
 shown (words.Run inputs) = Run (words_of inputs.now)
+shown (words.Lib output inputs) = Lib output.now (words_of inputs.now)

@@ -9,7 +9,7 @@ use Rattle.load_meaning.specs.Loadable.{IsLoadable}
 use Rattle.loader_machine.specs.Machine.{CanLoad}
 use Rattle.omf_io.specs.Outside.{Outside}
 use Rattle.omf_cli.specs.declared.status.Status.TheVariants.{CannotRead, CannotWrite}
-use Rattle.omf_cli.specs.Form.{Link, Run}
+use Rattle.omf_cli.specs.Form.{Link, Run, Lib}
 use Rattle.omf_cli.specs.Tool.{HasRun}
 
 -- the load file of plain members is a file of one segment: it has the stated fields, and in memory the members' bytes in order and the zeros behind them, LENGTH in all
@@ -33,6 +33,10 @@ LinkedIsLoadable = (file output : List ℕ) → IsBytes file → (linked : IsLin
 abbrev pub OutputsAreAskedForOnce : Type 0
 OutputsAreAskedForOnce = (output : List ℕ) (inputs : List (List ℕ)) (o : Outside) → o.store.asked + length inputs ≤ 2 ^ 64 - 1
     → HasRun CannotWrite (Some (Link output inputs)) o → o.new_store.asked ≡ o.store.asked + length inputs
+
+abbrev pub LibrariesAreAskedForOnce : Type 0
+LibrariesAreAskedForOnce = (output : List ℕ) (inputs : List (List ℕ)) (o : Outside) → o.store.asked + length inputs ≤ 2 ^ 64 - 1
+    → HasRun CannotWrite (Some (Lib output inputs)) o → o.new_store.asked ≡ o.store.asked + length inputs
 
 -- where a script couldn't be read, the store was asked for no more than the script
 abbrev pub ScriptsAreAskedForOnce : Type 0

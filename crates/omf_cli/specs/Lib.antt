@@ -12,6 +12,8 @@ pub mod Made
 pub mod Making
 pub mod Link
 pub mod Dump
+pub mod LibCauses
+pub mod Library
 pub mod Script
 pub mod Tool
 pub mod Code

@@ -3,12 +3,13 @@ use Rattle.std.specs.Prelude.{◌≡◌, Option, None, Some}
 use Rattle.omf_io.specs.Outside.{Outside}
 use Rattle.omf_cli.specs.declared.status.Status.{Status}
 use Rattle.omf_cli.specs.declared.status.Status.TheVariants as status
-use Rattle.omf_cli.specs.Form.{Form, Link, Dump, Run}
+use Rattle.omf_cli.specs.Form.{Form, Link, Dump, Run, Lib}
 use Rattle.omf_cli.specs.Lines.{usage_line}
 use Rattle.omf_cli.specs.Printing.{Ends}
 use Rattle.omf_cli.specs.Making.{MakesRun, CanMake}
 use Rattle.omf_cli.specs.Dump.{DumpMakes}
 use Rattle.omf_cli.specs.Link.{LinkMakes}
+use Rattle.omf_cli.specs.Library.{LibMakes}
 use Rattle.omf_cli.specs.Script.{ScriptRun, CanRun}
 
 -- the usage line, and nothing else
@@ -22,6 +23,7 @@ HasRun result None o = UsageRun result o
 HasRun result (Some (Link output inputs)) o = MakesRun LinkMakes (Some output) inputs result o
 HasRun result (Some (Dump inputs)) o = MakesRun DumpMakes None inputs result o
 HasRun result (Some (Run inputs)) o = ScriptRun inputs result o
+HasRun result (Some (Lib output inputs)) o = MakesRun (LibMakes inputs) (Some output) inputs result o
 
 -- the command can be done: the store tells its inputs, they have no fault, and no count rises
 abbrev pub CanSucceed : Option Form → Outside → Type 0
@@ -29,3 +31,4 @@ CanSucceed None o = ⊥
 CanSucceed (Some (Link output inputs)) o = CanMake LinkMakes inputs o
 CanSucceed (Some (Dump inputs)) o = CanMake DumpMakes inputs o
 CanSucceed (Some (Run inputs)) o = CanRun inputs o
+CanSucceed (Some (Lib output inputs)) o = CanMake (LibMakes inputs) inputs o

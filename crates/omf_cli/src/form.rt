@@ -17,6 +17,10 @@ pub enum Form<'a> {
     Run {
         inputs: &'a [String],
     },
+    Lib {
+        output: &'a str,
+        inputs: &'a [String],
+    },
 }
 
 /// A path is a word of 1 to 255 bytes.
@@ -74,6 +78,10 @@ pub fn read_form(words: &[String]) -> Option<Form<'_>>
         "run" => {
             let inputs = inputs_only(1, 1, words)?;
             Some(Form::Run { inputs })
+        }
+        "lib" => {
+            let (output, inputs) = with_output(1, 255, words)?;
+            Some(Form::Lib { output, inputs })
         }
         _ => None,
     }

@@ -1,6 +1,6 @@
 //! Laws of linking and of runs. These functions do nothing: each is there for its contract.
 
-ghost use Rattle.omf_cli.specs.Laws.{WrittenIsLoadFile, LinkedIsLoadable, OutputsAreAskedForOnce, ScriptsAreAskedForOnce};
+ghost use Rattle.omf_cli.specs.Laws.{WrittenIsLoadFile, LinkedIsLoadable, OutputsAreAskedForOnce, LibrariesAreAskedForOnce, ScriptsAreAskedForOnce};
 
 /// The load file of a plain object file is a file of one segment, which has the members' bytes in memory.
 pub fn written_is_a_load_file()
@@ -16,5 +16,6 @@ pub fn linked_is_loadable()
 /// nothing else: that failure, and none of a later read, is the cause.
 pub fn inputs_are_asked_for_once()
     ensures outputs { OutputsAreAskedForOnce }
+    ensures libraries { LibrariesAreAskedForOnce }
     ensures scripts { ScriptsAreAskedForOnce }
 {}

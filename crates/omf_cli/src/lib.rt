@@ -5,6 +5,7 @@ mod content;
 mod dump;
 mod form;
 mod laws;
+mod library;
 mod link;
 mod load_file;
 mod making;

@@ -8,6 +8,7 @@ ghost use Rattle.omf_cli.specs.Tool.{HasRun, CanSucceed};
 
 use crate::dump::Dump;
 use crate::form::{Form, read_form};
+use crate::library::Lib;
 use crate::link::Link;
 use crate::making::run_maker;
 use crate::printing::{print, usage_line};
@@ -20,7 +21,8 @@ use std::alloc::Global;
 ///
 /// `link OUT OBJ` links one plain object file. The input is read before anything is written. `dump FILE` prints a line
 /// for each segment of a file, and one for each of its records. `run SCRIPT` runs a script of loader commands, which is read
-/// whole before, and prints a line for each. Other words print the usage line.
+/// whole before, and prints a line for each. `lib OUT OBJ..` makes a library of 1 to 255 object files, whose paths are their
+/// names in it; all are read in order before anything is written. Other words print the usage line.
 pub fn run_tool<F: Files, S: Sink>(
     alloc: Global,
     words: &Vec<String>,
@@ -43,5 +45,8 @@ pub fn run_tool<F: Files, S: Sink>(
         }
         Some(Form::Dump { inputs }) => run_maker(alloc, &Dump, None, inputs, files, out),
         Some(Form::Run { inputs }) => run_file(alloc, inputs, files, out),
+        Some(Form::Lib { output, inputs }) => {
+            run_maker(alloc, &Lib { inputs }, Some(output), inputs, files, out)
+        }
     }
 }

@@ -1,8 +1,6 @@
-use Rattle.std.proofs.Common.{◌≡◌, ◌+◌, ◌<◌, ◌++◌, length, map, Some, None, sym, arith}
+use Rattle.std.proofs.Common.{◌≡◌, ◌+◌, Some, None, arith}
 use Rattle.omf_format.specs.File.{segment_at}
 use Rattle.omf_records.specs.Segments.{shown}
-use Rattle.lib_dict.specs.View.{outer_row}
-use Rattle.lib_dict.specs.Tables.{other_rows}
 use Rattle.lib_dict.proofs.Behind.{passed_first, passed_next, passed_within, passed_all}
 use Rattle.lib_dict.proofs.names_behind.names_behind.Goals as goal
 

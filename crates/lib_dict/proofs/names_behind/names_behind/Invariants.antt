@@ -1,4 +1,4 @@
-use Rattle.std.proofs.Common.{◌-◌, ◌+◌, ◌≤◌, length}
+use Rattle.std.proofs.Common.{◌-◌, ◌+◌, length}
 use Rattle.lib_dict.proofs.Behind.{PassedRows}
 use Rattle.lib_dict.proofs.names_behind.names_behind.Given as goal
 

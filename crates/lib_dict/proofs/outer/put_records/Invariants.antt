@@ -9,6 +9,7 @@ abbrev pub invariant-records : goal.invariant-records
 invariant-records l = record {
   before : List (ℕ × Record);
   run : HandsOut l.initial.records before l.records;
+  same : l.records.layout ≡ l.initial.records.layout;
   rows : map outer_row l.rows.items ≡ map outer_row l.initial.rows.items ++ record_rows l.file l.at before;
 }
 

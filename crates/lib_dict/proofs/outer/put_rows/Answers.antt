@@ -1,15 +1,20 @@
-use Rattle.std.proofs.Common.{◌≡◌, ℕ, ◌+◌, ◌++◌, ◌∷◌, [], List, Bool, true, false, length, eqb, map, Vec, Global, refl, sym, ap, ◌∙◌, append_assoc, arith}
+use Rattle.std.proofs.Common.{◌≡◌, ℕ, ◌+◌, ◌++◌, ◌∷◌, [], List, false, length, eqb, map, Vec, Global, sym, ap, ◌∙◌, append_assoc, arith}
 use Rattle.std.proofs.lemmas.Bool.{eqb-true}
 use Rattle.std.proofs.lemmas.List.{map-append}
-use Rattle.omf_format.specs.Reading.{records_of}
-use Rattle.omf_format.specs.File.{Segment}
+use Rattle.omf_format.specs.Reading.{Reader, records_of}
+use Rattle.omf_header.specs.View.{fields}
 use Rattle.omf_records.specs.Segments.{shown}
-use Rattle.lib_dict.specs.declared.outer.Outer.{Outer}
+use Rattle.lib_dict.specs.declared.listed.Outer.{Outer}
 use Rattle.lib_dict.specs.Library.{LibraryRow}
 use Rattle.lib_dict.specs.View.{outer_row, row_of_name, record_rows}
-use Rattle.lib_dict.proofs.Outers.{put_untitled, put_titled, on_ok}
+use Rattle.lib_dict.proofs.Outers.{put_untitled, put_titled, on_ok, lab_len-reader}
 use Rattle.lib_dict.proofs.outer.put_rows.Goals.{then-not-is_empty+in_ok-push, else-not-is_empty}
 use Rattle.lib_dict.proofs.outer.put_rows.Goals as goal
+
+pub put_records-requires-clause-narrow : goal.put_records-requires-clause-narrow
+put_records-requires-clause-narrow c =
+    let v = c.args.view.now in
+    omega (arith, ap (λ (r : Reader). r.layout.lab_len) c.records.ensures, lab_len-reader v.start (fields v.header) v.file.now)
 
 pub returns : goal.returns
 returns c =

@@ -1,4 +1,3 @@
-use Rattle.std.proofs.Common.{arith}
 use Rattle.omf_format.specs.Reading.{records_of}
 use Rattle.lib_dict.proofs.PartLaws.{has_parts, none_last}
 use Rattle.lib_dict.proofs.parts.parts_of.Goals as goal

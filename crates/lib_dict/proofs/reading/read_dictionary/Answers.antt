@@ -1,8 +1,7 @@
-use Rattle.std.proofs.Common.{◌≡◌, ℕ, List, Some, sym, ap, subst, ◌∙◌}
+use Rattle.std.proofs.Common.{◌≡◌, ℕ, List, sym, ap, subst, ◌∙◌}
 use Rattle.omf_format.specs.Header.{form_of}
 use Rattle.omf_format.specs.Record.{Record}
 use Rattle.omf_format.specs.Reading.{records_of}
-use Rattle.omf_format.specs.File.{segment_at}
 use Rattle.omf_records.specs.Segments.{shown}
 use Rattle.lib_dict.specs.Parts.{Texts, seen_parts, HasParts}
 use Rattle.lib_dict.proofs.ReadLaws.{false_first, told_rows, false_rows, parts_fit}

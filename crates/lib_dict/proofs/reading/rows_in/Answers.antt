@@ -1,5 +1,4 @@
-use Rattle.std.proofs.Common.{◌≡◌, ℕ, ◌+◌, List, Some, None, map, drop, length, IfOk, IfErr, sym, subst, arith}
-use Rattle.omf_format.specs.File.{Segment}
+use Rattle.std.proofs.Common.{List, Some, None, map, drop, IfOk, IfErr, sym, subst, arith}
 use Rattle.lib_dict.specs.Library.{LibraryRow}
 use Rattle.lib_dict.specs.View.{outer_row}
 use Rattle.lib_dict.specs.Tables.{AreNumbers, AreStarts, HoldsRows, AreRowsIn, IsRowFault}

@@ -1,11 +1,11 @@
-use Rattle.std.proofs.Common.{◌≡◌, ℕ, ◌+◌, Bool, true, false, List, take, drop, map, refl, sym, ap, ◌∙◌, arith}
+use Rattle.std.proofs.Common.{◌≡◌, ℕ, ◌+◌, true, take, drop, map, refl, sym, ap, ◌∙◌, arith}
 use Rattle.std.specs.Prelude.{nat_eq, not}
 use Rattle.std.specs.List.{list_any}
 use Rattle.omf_format.specs.Number.{number_at}
 use Rattle.lib_dict.specs.Library.{LibraryRow}
 use Rattle.lib_dict.specs.View.{outer_row}
 use Rattle.lib_dict.specs.Tables.{same_row}
-use Rattle.lib_dict.proofs.RowLaws.{made, wanted_row, private_of, text_at, row_unnamed, row_unnumbered, row_name_at, row_unknown, row_known, rows_equal, told_so}
+use Rattle.lib_dict.proofs.RowLaws.{made, private_of, text_at, row_unnamed, row_unnumbered, row_name_at, row_unknown, row_known, rows_equal, told_so}
 use Rattle.lib_dict.proofs.rows.row_of.Goals as goal
 
 pub returns-then-not-contains : goal.returns-then-not-contains
@@ -26,7 +26,7 @@ returns-then-not-is_known c =
     let t = c.args.tables.now in
     let bytes = c.args.bytes.now in
     let any : list_any (nat_eq (number_at 4 0 bytes)) t.starts.keys ≡ true = ap (λ (n : ℕ). list_any (nat_eq n) t.starts.keys) (sym c.number-start.ensures.value) ∙ sym c.contains.ensures ∙ c.if-not-contains.false in
-    let name : text_at t bytes ≡ c.name_at-name.result.now = sym (c.name_at-name.ensures ∙ ap (λ (d : ℕ). take (number_at 1 d t.third.now) (drop (d + 1) t.third.now)) c.number-start.ensures.value) in
+    let name : text_at t bytes ≡ c.name_at-name.result.now = sym (c.name_at-name.ensures.value ∙ ap (λ (d : ℕ). take (number_at 1 d t.third.now) (drop (d + 1) t.third.now)) c.number-start.ensures.value) in
     let private : private_of bytes ≡ not (nat_eq c.number-private.result 0) = ap (λ (n : ℕ). not (nat_eq n 0)) (sym c.number-private.ensures.value) in
     let at : number_at 4 8 bytes ≡ c.from.result = omega (arith, c.number-at.ensures.value) in
     let row = rows_equal (text_at t bytes) c.name_at-name.result.now 0 0 (private_of bytes) (not (nat_eq c.number-private.result 0)) (number_at 4 8 bytes) c.from.result name refl private at in
@@ -38,7 +38,7 @@ returns c =
     let bytes = c.args.bytes.now in
     let any : list_any (nat_eq (number_at 4 0 bytes)) t.starts.keys ≡ true = ap (λ (n : ℕ). list_any (nat_eq n) t.starts.keys) (sym c.number-start.ensures.value) ∙ sym c.contains.ensures ∙ c.if-not-contains.false in
     let number : list_any (nat_eq (number_at 2 4 bytes)) t.numbers.keys ≡ true = ap (λ (n : ℕ). list_any (nat_eq n) t.numbers.keys) (sym c.number.ensures.value) ∙ sym c.contains-2.ensures ∙ c.if-not-contains-2.false in
-    let name : text_at t bytes ≡ c.name_at-name.result.now = sym (c.name_at-name.ensures ∙ ap (λ (d : ℕ). take (number_at 1 d t.third.now) (drop (d + 1) t.third.now)) c.number-start.ensures.value) in
+    let name : text_at t bytes ≡ c.name_at-name.result.now = sym (c.name_at-name.ensures.value ∙ ap (λ (d : ℕ). take (number_at 1 d t.third.now) (drop (d + 1) t.third.now)) c.number-start.ensures.value) in
     let private : private_of bytes ≡ not (nat_eq c.number-private.result 0) = ap (λ (n : ℕ). not (nat_eq n 0)) (sym c.number-private.ensures.value) in
     let at : number_at 4 8 bytes ≡ c.from.result = omega (arith, c.number-at.ensures.value) in
     let row = rows_equal (text_at t bytes) c.name_at-name.result.now 0 0 (private_of bytes) (not (nat_eq c.number-private.result 0)) (number_at 4 8 bytes) c.from.result name refl private at in

@@ -1,4 +1,4 @@
-use Rattle.std.proofs.Common.{ℕ, List, Some, None, take, sym, subst, arith}
+use Rattle.std.proofs.Common.{ℕ, List, Some, None, take, subst}
 use Rattle.lib_dict.specs.Rows.{seen_row}
 use Rattle.lib_dict.specs.Tables.{IsRowAnswer}
 use Rattle.lib_dict.proofs.RowLoops.{rows_next, rows_false, rows_all}

@@ -1,9 +1,13 @@
+use Rattle.omf_cli.specs.Library.{LibMakes}
 use Rattle.omf_cli.specs.Link.{LinkMakes}
 use Rattle.omf_cli.proofs.Once.{unwritten_reads, unread_reads}
 use Rattle.omf_cli.proofs.laws.inputs_are_asked_for_once.Goals as goal
 
 pub returns-clause-outputs : goal.returns-clause-outputs
 returns-clause-outputs c = unwritten_reads LinkMakes
+
+pub returns-clause-libraries : goal.returns-clause-libraries
+returns-clause-libraries c = λ output inputs o small run. unwritten_reads (LibMakes inputs) output inputs o small run
 
 pub returns-clause-scripts : goal.returns-clause-scripts
 returns-clause-scripts c = unread_reads

@@ -1,0 +1,166 @@
+-- Files that are read one after another.
+use Rattle.std.proofs.Common.{◌≡◌, ℕ, zero, suc, ◌+◌, ◌^◌, ◌<◌, ◌≤◌, Bool, true, false, List, [], ◌∷◌, ◌++◌, length, take, drop, get_or, map, Some, None, refl, sym, ap, subst, ◌∙◌, arith}
+use Rattle.std.specs.Prelude.{◌||◌, slice_get}
+use Rattle.std.specs.List.{list_any}
+use Rattle.std.proofs.lemmas.List.{take_more, map-append, length-take, length-map}
+use Rattle.omf_format.specs.File.{Segment, IsFile, segment_at}
+use Rattle.omf_format.specs.FileLaws.{segments_fit}
+use Rattle.omf_records.specs.declared.segment.SegmentView.{SegmentView}
+use Rattle.omf_records.specs.Segments.{shown}
+use Rattle.omf_records.specs.SegmentLaws.{shown_at, none_past}
+use Rattle.lib_dict.specs.declared.fault.LibCause.{LibCause}
+use Rattle.lib_dict.specs.declared.fault.LibCause.TheVariants.{Truncated, BadHeader, Unsupported, BadRecord, TooLong, Memory}
+use Rattle.lib_dict.specs.declared.fault.LibFault.{LibFault}
+use Rattle.lib_dict.specs.declared.member.Member.{Member}
+use Rattle.lib_dict.specs.declared.members.Read.{Read}
+use Rattle.lib_dict.specs.Library.{Given, LibraryFile, is_dictionary, IsMember, AreMembers, HasDictionary}
+use Rattle.lib_dict.specs.Made.{given_file, library_file, FirstDictionary, HasMemberFault, OfDictionary, IsFirstMemberFault, ByCause, IsMemberRefused, IsLibRefused}
+use Rattle.lib_dict.proofs.Sets.{list_any-append, or_false}
+
+-- ---- the first dictionary
+
+-- the segments so far are none
+pub record PassedOthers (list : List Segment) (passed : ℕ) : Type 0 where
+  pub within : passed ≤ length list
+  pub none : list_any is_dictionary (take passed list) ≡ false
+
+take-at : (list : List Segment) (k : ℕ) (s : Segment) → slice_get list k ≡ Some s → take (k + 1) list ≡ take k list ++ s ∷ []
+take-at [] k s is = absurd cc
+take-at (t ∷ list) zero s is = let same : t ≡ s = cc in ap (λ (u : Segment). u ∷ []) same
+take-at (t ∷ list) (suc k) s is = let step : suc k + 1 ≡ suc (k + 1) = omega arith in ap (λ (n : ℕ). take n (t ∷ list)) step ∙ ap (λ (l : List Segment). t ∷ l) (take-at list k s is)
+
+parts-at : (list : List Segment) (k : ℕ) (s : Segment) → slice_get list k ≡ Some s → list ≡ take k list ++ s ∷ drop (k + 1) list
+parts-at [] k s is = absurd cc
+parts-at (t ∷ list) zero s is = let same : t ≡ s = cc in ap (λ (u : Segment). u ∷ list) same
+parts-at (t ∷ list) (suc k) s is =
+    let step : suc k + 1 ≡ suc (k + 1) = omega arith in
+    ap (λ (l : List Segment). t ∷ l) (parts-at list k s is) ∙ ap (λ (n : ℕ). (t ∷ take k list) ++ s ∷ drop n (t ∷ list)) (sym step)
+
+within-at : (list : List Segment) (k : ℕ) (s : Segment) → slice_get list k ≡ Some s → k < length list
+within-at [] k s is = absurd cc
+within-at (t ∷ list) zero s is = omega arith
+within-at (t ∷ list) (suc k) s is = let rest = within-at list k s is in omega arith
+
+pub passed_within : (list : List Segment) (k : ℕ) (v : SegmentView) → Some (shown v) ≡ segment_at list (k + 1) → k < length list
+passed_within list k v is = within-at list k (shown v) (shown_at list k v is)
+
+pub passed_next : (list : List Segment) (k : ℕ) (v : SegmentView) → PassedOthers list k → Some (shown v) ≡ segment_at list (k + 1) → is_dictionary (shown v) ≡ false → PassedOthers list (k + 1)
+passed_next list k v p is other =
+    let here = shown_at list k v is in
+    let lt = within-at list k (shown v) here in
+    record {
+      within = omega arith;
+      none =
+          ap (list_any is_dictionary) (take-at list k (shown v) here)
+          ∙ list_any-append is_dictionary (take k list) (shown v ∷ [])
+          ∙ ap (λ (b : Bool). b || (is_dictionary (shown v) || false)) p.none
+          ∙ or_false (is_dictionary (shown v))
+          ∙ other;
+    }
+
+take-all : (k : ℕ) (list : List Segment) → length list ≤ k → take k list ≡ list
+take-all zero [] le = refl
+take-all zero (s ∷ list) le = absurd (omega arith)
+take-all (suc k) [] le = refl
+take-all (suc k) (s ∷ list) le = ap (λ (l : List Segment). s ∷ l) (take-all k list (omega arith))
+
+pub passed_all : (list : List Segment) (k : ℕ) → PassedOthers list k → None ≡ segment_at list (k + 1) → list_any is_dictionary list ≡ false
+passed_all list k p none = ap (list_any is_dictionary) (sym (take-all k list (none_past list k none))) ∙ p.none
+
+pub passed_found : (list : List Segment) (k : ℕ) (v : SegmentView) → PassedOthers list k → Some (shown v) ≡ segment_at list (k + 1) → is_dictionary (shown v) ≡ true → FirstDictionary list (Some (k + 1, v.start))
+passed_found list k v p is found =
+    let here = shown_at list k v is in
+    let lt = within-at list k (shown v) here in
+    (take k list, shown v, drop (k + 1) list, parts-at list k (shown v) here, p.none, found, omega (arith, length-take k list), refl)
+
+-- ---- a file
+
+pub has_dictionary : (bytes : List ℕ) (list : List Segment) (number at : ℕ) → IsFile list bytes → FirstDictionary list (Some (number, at)) → HasDictionary bytes number at
+has_dictionary bytes list number at is d = record {
+  before = d.0;
+  dictionary = d.1;
+  behind = d.2;
+  is_file = subst (λ (l : List Segment). IsFile l bytes) d.3 is;
+  none_before = d.4;
+  is = d.5;
+  number' = d.6;
+  at' = d.7;
+}
+
+pub of_dictionary : (bytes : List ℕ) (list : List Segment) (number at : ℕ) → IsFile list bytes → FirstDictionary list (Some (number, at)) → HasMemberFault bytes BadRecord number at
+of_dictionary bytes list number at is d = OfDictionary (has_dictionary bytes list number at is d) refl
+
+-- the segments of a file are few
+pub few_in : (list : List Segment) (bytes : List ℕ) → IsFile list bytes → length bytes < 2 ^ 32 → length list + 2 < 2 ^ 32
+few_in list bytes is short = omega (arith, segments_fit list 0 bytes (length bytes) is)
+
+-- ---- all files
+
+-- one file more
+AreMembers-push : (given : List Given) (files : List LibraryFile) (g : Given) (f : LibraryFile) → AreMembers given files → IsMember g f → AreMembers (given ++ g ∷ []) (files ++ f ∷ [])
+AreMembers-push [] [] g f are is = (is, tt)
+AreMembers-push [] (x ∷ files) g f are is = absurd are
+AreMembers-push (y ∷ given) [] g f are is = absurd are
+AreMembers-push (y ∷ given) (x ∷ files) g f are is = (are.0, AreMembers-push given files g f are.1 is)
+
+-- the files so far were read
+pub record ReadSoFar (members : List Member) (i file : ℕ) (reads : List Read) : Type 0 where
+  pub number : file ≡ i + 1
+  pub are : AreMembers (map given_file (take i members)) (map library_file reads)
+
+pub read_none : (members : List Member) (reads : List Read) → reads ≡ [] → ReadSoFar members 0 1 reads
+read_none members reads none = record { number = refl; are = subst (λ (l : List Read). AreMembers [] (map library_file l)) (sym none) tt }
+
+pub read_more : (members : List Member) (i file : ℕ) (reads new : List Read) (m : Member) (r : Read) → ReadSoFar members i file reads → i < length members → m ≡ get_or members i m
+    → IsMember (given_file m) (library_file r) → new ≡ reads ++ r ∷ [] → ReadSoFar members (i + 1) (file + 1) new
+read_more members i file reads new m r so_far lt is one is_new =
+    let front : map given_file (take (i + 1) members) ≡ map given_file (take i members) ++ given_file m ∷ [] =
+    ap (map given_file) (take_more members i m lt ∙ ap (λ (x : Member). take i members ++ x ∷ []) (sym is)) ∙ map-append given_file (take i members) (m ∷ []) in
+    let back : map library_file new ≡ map library_file reads ++ library_file r ∷ [] = ap (map library_file) is_new ∙ map-append library_file reads (r ∷ []) in
+    record {
+      number = omega (arith, so_far.number);
+      are =
+          subst (λ (l : List Given). AreMembers l (map library_file new)) (sym front)
+          (subst (AreMembers (map given_file (take i members) ++ given_file m ∷ [])) (sym back)
+          (AreMembers-push (map given_file (take i members)) (map library_file reads) (given_file m) (library_file r) so_far.are one));
+    }
+
+take-whole : (k : ℕ) (xs : List Member) → length xs ≤ k → take k xs ≡ xs
+take-whole zero [] le = refl
+take-whole zero (s ∷ list) le = absurd (omega arith)
+take-whole (suc k) [] le = refl
+take-whole (suc k) (s ∷ list) le = ap (λ (l : List Member). s ∷ l) (take-whole k list (omega arith))
+
+pub read_all : (members : List Member) (i file : ℕ) (reads : List Read) → ReadSoFar members i file reads → length members ≤ i → AreMembers (map given_file members) (map library_file reads)
+read_all members i file reads so_far past = subst (λ (l : List Member). AreMembers (map given_file l) (map library_file reads)) (take-whole i members past) so_far.are
+
+parts-member : (members : List Member) (i : ℕ) (m : Member) → i < length members → m ≡ get_or members i m → members ≡ take i members ++ m ∷ drop (suc i) members
+parts-member [] i m lt is = absurd (omega arith)
+parts-member (x ∷ members) zero m lt is = ap (λ (y : Member). y ∷ members) (sym is)
+parts-member (x ∷ members) (suc i) m lt is = ap (λ (l : List Member). x ∷ l) (parts-member members i m (omega arith) is)
+
+-- a file at fault
+pub read_fails : (members : List Member) (i file : ℕ) (reads : List Read) (m : Member) (fault : LibFault) → ReadSoFar members i file reads → i < length members → m ≡ get_or members i m
+    → IsMemberRefused fault file m.bytes.items → IsLibRefused fault (map given_file members)
+read_fails members i file reads m fault so_far lt is refused = by fault.cause _ _ refused
+  where
+    first : (fault.spot.file ≡ file) × HasMemberFault m.bytes.items fault.cause fault.spot.segment fault.spot.at → IsFirstMemberFault (map given_file members) fault
+    first h = record {
+      before = map given_file (take i members);
+      file = given_file m;
+      behind = map given_file (drop (suc i) members);
+      parts = ap (map given_file) (parts-member members i m lt is) ∙ map-append given_file (take i members) (m ∷ drop (suc i) members);
+      files = map library_file reads;
+      sound = so_far.are;
+      number = omega (arith, h.0, so_far.number, length-map (take i members) given_file, length-take i members);
+      here = h.1;
+    }
+
+    by : (cause : LibCause) (L M : Type 0) → ByCause cause ((fault.spot.file ≡ file) × HasMemberFault m.bytes.items fault.cause fault.spot.segment fault.spot.at) ⊥ M
+        → ByCause cause (IsFirstMemberFault (map given_file members) fault) L M
+    by Truncated L M h = first h
+    by BadHeader L M h = first h
+    by Unsupported L M h = first h
+    by BadRecord L M h = first h
+    by TooLong L M h = absurd h
+    by Memory L M h = h
