@@ -29,3 +29,5 @@ pub mod ReadMembers
 pub mod LinkWrittenLaws
 pub mod PlaceFits
 pub mod ValueFits
+pub mod EmitFaults
+pub mod EmitFaultLaws

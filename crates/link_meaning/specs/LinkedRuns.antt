@@ -29,7 +29,7 @@ abbrev pub AreSoundItems : List Member → List Told → List Item → Type 0
 AreSoundItems list table [] = Unit {0}
 AreSoundItems list table (i ∷ is) = IsSoundAt list table i i.here.content × AreSoundItems list table is
 
-state_from-append : (list : List Member) (table : List Told) (state : State) (xs ys : List Item) → state_from list table state (xs ++ ys) ≡ state_from list table (state_from list table state xs) ys
+pub state_from-append : (list : List Member) (table : List Told) (state : State) (xs ys : List Item) → state_from list table state (xs ++ ys) ≡ state_from list table (state_from list table state xs) ys
 state_from-append list table state [] ys = refl
 state_from-append list table state (x ∷ xs) ys = state_from-append list table (gained state x (made list table state x)) xs ys
 
