@@ -1,5 +1,5 @@
 -- Files have one answer at most; and where no record has a fault each gives its cells.
-use Rattle.std.proofs.Common.{◌≡◌, ◌↔◌, inl, inr, ℕ, ◌+◌, ◌<◌, ◌≤◌, List, [], ◌∷◌, ◌++◌, length, Option, Some, None, Result, Ok, Err, refl, sym, ap, subst, ◌∙◌, append_assoc, arith}
+use Rattle.std.proofs.Common.{◌≡◌, inl, inr, ℕ, ◌≤◌, List, [], ◌∷◌, ◌++◌, length, Option, None, Result, Ok, Err, refl, sym, ap, subst, ◌∙◌, append_assoc}
 use Rattle.std.proofs.lemmas.Bool.{cases_lt}
 use Rattle.omf_base.specs.declared.spot.Spot.{Spot}
 use Rattle.link_meaning.specs.declared.fault.LinkCause.{LinkCause}
@@ -7,17 +7,16 @@ use Rattle.link_meaning.specs.declared.fault.LinkFault.{LinkFault}
 use Rattle.link_meaning.specs.First.{HasNone, IsFirst}
 use Rattle.link_meaning.specs.FirstLaws.{HasOne, one_first, none_yet, none_more}
 use Rattle.link_meaning.specs.Member.{Member}
-use Rattle.link_meaning.specs.Search.{Found}
 use Rattle.link_meaning.specs.Rings.{equates}
 use Rattle.link_meaning.specs.LinkValues.{Told, IsTable}
 use Rattle.link_meaning.specs.TableLaws.{one_table}
-use Rattle.link_meaning.specs.LinkedCells.{Item, State, Made, items, made, gained, state_from, state_behind}
-use Rattle.link_meaning.specs.LinkFaults.{IsFirstResolveFault, IsResolved, spot_in}
+use Rattle.link_meaning.specs.LinkedCells.{Item, State, Made, items, made, state_from, state_behind}
+use Rattle.link_meaning.specs.LinkFaults.{IsResolved, spot_in}
 use Rattle.link_meaning.specs.LinkFaultLaws.{one_program, one_resolve_fault, resolved_sound}
 use Rattle.link_meaning.specs.LinkWritten.{AreMade, start, written_file}
 use Rattle.link_meaning.specs.LinkedRuns.{state_from-append}
 use Rattle.link_meaning.specs.ValueFits.{linked_stands_for}
-use Rattle.link_meaning.specs.EmitFaults.{HasRingFault, HasValueFault, HasSizeFault, most_bytes, Rings, Values, Size, emit_phases, HasEmitFault, IsFirstEmitFault, IsEmitted, OfResolving, OfEmitting, IsFirstLinkFault, IsLinkable, IsLinkedTo, IsEmitAnswer, IsLinkAnswer, OneLinkAnswer, OneEmitAnswer, LinkAnswersAsEmit, MadeWhereSound, LinkableStandsFor}
+use Rattle.link_meaning.specs.EmitFaults.{HasRingFault, HasValueFault, most_bytes, Rings, Values, Size, emit_phases, HasEmitFault, IsFirstEmitFault, IsEmitted, OfResolving, OfEmitting, IsFirstLinkFault, IsLinkedTo, OneLinkAnswer, OneEmitAnswer, LinkAnswersAsEmit, MadeWhereSound, LinkableStandsFor}
 
 -- ---- one first fault
 

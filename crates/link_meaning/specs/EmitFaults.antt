@@ -1,11 +1,10 @@
 -- Why resolved files aren't linked: the first fault of the phases in which equates and records get their values and the load
 -- file is written; and what the linker answers.
-use Rattle.std.specs.Prelude.{◌≡◌, ◌<◌, ◌↔◌, ℕ, List, [], ◌∷◌, length, Option, Some, None, Result, Ok, Err}
+use Rattle.std.specs.Prelude.{◌≡◌, ◌<◌, ◌↔◌, ℕ, List, [], ◌∷◌, length, Some, None, Result, Ok, Err}
 use Rattle.std.specs.List.{AllByRecursion}
 use Rattle.omf_format.specs.HeaderLaws.{IsBytes}
 use Rattle.omf_format.specs.File.{Segment, IsFile}
 use Rattle.load_meaning.specs.WrittenFile.{AreReadAs}
-use Rattle.link_meaning.specs.declared.fault.LinkCause.{LinkCause}
 use Rattle.link_meaning.specs.declared.fault.LinkCause.TheVariants.{Circular, FileTooLong}
 use Rattle.link_meaning.specs.declared.fault.LinkFault.{LinkFault}
 use Rattle.link_meaning.specs.First.{IsFirst, HasNone}

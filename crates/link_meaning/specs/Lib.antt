@@ -31,3 +31,6 @@ pub mod PlaceFits
 pub mod ValueFits
 pub mod EmitFaults
 pub mod EmitFaultLaws
+pub mod EquateValues
+pub mod EquateValueLaws
+pub mod EquatePlaces

@@ -2,6 +2,7 @@
 
 ghost use Rattle.link_meaning.specs.LinkWritten.{LinkedStandsFor};
 ghost use Rattle.link_meaning.specs.EmitFaults.{OneLinkAnswer, OneEmitAnswer, LinkAnswersAsEmit, MadeWhereSound, LinkableStandsFor};
+ghost use Rattle.link_meaning.specs.EquateValues.{OneValue, NoneOnRing, TableOfValues};
 
 /// The file that the linker writes is a file of the load segments and the table, and each of them stands for its linked
 /// cells.
@@ -26,4 +27,12 @@ pub fn records_without_a_fault_give_cells()
 /// linked cells.
 pub fn linkable_files_stand_for_their_cells()
     ensures { LinkableStandsFor }
+{}
+
+/// An equate has one value at most, and none where it leads back to itself; the values of all equates of resolved files are
+/// their table.
+pub fn equates_have_one_value()
+    ensures one { OneValue }
+    ensures none_on_ring { NoneOnRing }
+    ensures table { TableOfValues }
 {}

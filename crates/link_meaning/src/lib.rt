@@ -9,7 +9,7 @@ mod search;
 
 pub use fault::{LinkCause, LinkFault};
 pub use laws::{
-    files_have_one_answer, linkable_files_stand_for_their_cells,
+    equates_have_one_value, files_have_one_answer, linkable_files_stand_for_their_cells,
     linked_files_stand_for_their_cells, records_without_a_fault_give_cells,
 };
 pub use search::{Step, Want};
