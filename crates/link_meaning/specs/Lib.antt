@@ -34,3 +34,4 @@ pub mod EmitFaultLaws
 pub mod EquateValues
 pub mod EquateValueLaws
 pub mod EquatePlaces
+pub mod LinkedWalk
