@@ -1,5 +1,5 @@
 -- An equate has one value at most, none on a ring; and the values of all equates are the table.
-use Rattle.std.proofs.Common.{◌≡◌, inl, inr, Bool, true, false, eqb, cond, List, [], ◌∷◌, Result, refl, sym, ap, subst, ◌∙◌}
+use Rattle.std.proofs.Common.{◌≡◌, inl, inr, Bool, true, false, eqb, cond, List, [], ◌∷◌, Result, refl, sym, ap, subst, ◌∙◌, ℕ, ◌<◌, ◌≤◌, arith}
 use Rattle.std.specs.Prelude.{◌&&◌}
 use Rattle.std.proofs.lemmas.Bool.{and_parts, and_from, eqb-true, eq-eqb}
 use Rattle.omf_format.specs.declared.value.Value.{Value}
@@ -29,6 +29,18 @@ no_way list x y a (ByOthers e t c p go) (Through from next to leads path) same =
 
 pub none_on_ring : NoneOnRing
 none_on_ring list e a has ring = no_way list e e a has ring refl
+
+-- ---- ranks
+
+-- Where ranks never rise on the way, and fall on every way from an equate, it leads not back to itself.
+along : (list : List Member) (rank : Found → ℕ) → ((e f : Found) → LeadsTo list e f → rank f ≤ rank e) → (x y : Found) → Path list x y → rank y ≤ rank x
+along list rank falls x y (Last from to leads) = falls x y leads
+along list rank falls x y (Through from next to leads path) = omega (arith, falls x next leads, along list rank falls next y path)
+
+pub none_by_rank : (list : List Member) (rank : Found → ℕ) → ((e f : Found) → LeadsTo list e f → rank f ≤ rank e) → (x y : Found) → ((f : Found) → LeadsTo list x f → rank f < rank x)
+    → Path list x y → x ≡ y → ⊥
+none_by_rank list rank falls x y below (Last from to leads) same = omega (arith, below y leads, ap rank same)
+none_by_rank list rank falls x y below (Through from next to leads path) same = omega (arith, below next leads, along list rank falls next y path, ap rank same)
 
 -- ---- from values to the table
 
