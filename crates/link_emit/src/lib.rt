@@ -17,3 +17,6 @@ pub use image::{ImageFault, put_image, put_images};
 pub use plain::put_plain;
 pub use put::put_formula;
 pub use record::{Site, put_record};
+
+#[cfg(test)]
+mod tests;
