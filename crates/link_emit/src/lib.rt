@@ -12,7 +12,7 @@ mod record;
 mod slots;
 
 pub use content::Content;
-pub use file::file_of;
+pub use file::{file_of, write_linked};
 pub use fit::{Fit, Formula, Frame, Load, fitted};
 pub use image::{ImageFault, put_image, put_images};
 pub use plain::put_plain;
