@@ -29,3 +29,9 @@ pub mod ReadMembers
 pub mod LinkWrittenLaws
 pub mod PlaceFits
 pub mod ValueFits
+pub mod EmitFaults
+pub mod EmitFaultLaws
+pub mod EquateValues
+pub mod EquateValueLaws
+pub mod EquatePlaces
+pub mod LinkedWalk

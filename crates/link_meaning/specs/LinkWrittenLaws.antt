@@ -146,7 +146,7 @@ cleared-le kind = omega arith
 cleared-form : (kind : ℕ) → form_of (cleared kind) ≡ form_of kind
 cleared-form kind = omega arith
 
-load_header_fits : (list : List Member) (number : ℕ) (x : List ℕ) → ((m : Member) → IsIn list m → HasHeader m.segment.fields) → IsIn (load_names list) x → HasHeader (load_fields list number x)
+pub load_header_fits : (list : List Member) (number : ℕ) (x : List ℕ) → ((m : Member) → IsIn list m → HasHeader m.segment.fields) → IsIn (load_names list) x → HasHeader (load_fields list number x)
 unfolding load_fields load_members
 load_header_fits list number x each is =
     let some = some_members list x is in
@@ -254,7 +254,7 @@ loads_read list table number (x ∷ xs) tables last (s ∷ segments) have rest a
 
 -- ---- the file
 
-in_at : (list front : List Member) (m : Member) (back : List Member) → list ≡ front ++ m ∷ back → IsIn list m
+pub in_at : (list front : List Member) (m : Member) (back : List Member) → list ≡ front ++ m ∷ back → IsIn list m
 in_at list front m back parts = subst (λ (l : List Member). IsIn l m) (sym parts) (there front)
   where
     there : (front : List Member) → IsIn (front ++ m ∷ back) m

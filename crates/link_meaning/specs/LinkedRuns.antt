@@ -21,7 +21,7 @@ use Rattle.link_meaning.specs.MadeLaws.{no_runs, both_runs, zero_runs, length-ze
 
 -- ---- records one behind another
 
-abbrev item : ℕ → Member → Located → Item
+abbrev pub item : ℕ → Member → Located → Item
 item place m r = record { place = place; member = m; here = r }
 
 -- each of these records is sound
@@ -29,7 +29,7 @@ abbrev pub AreSoundItems : List Member → List Told → List Item → Type 0
 AreSoundItems list table [] = Unit {0}
 AreSoundItems list table (i ∷ is) = IsSoundAt list table i i.here.content × AreSoundItems list table is
 
-state_from-append : (list : List Member) (table : List Told) (state : State) (xs ys : List Item) → state_from list table state (xs ++ ys) ≡ state_from list table (state_from list table state xs) ys
+pub state_from-append : (list : List Member) (table : List Told) (state : State) (xs ys : List Item) → state_from list table state (xs ++ ys) ≡ state_from list table (state_from list table state xs) ys
 state_from-append list table state [] ys = refl
 state_from-append list table state (x ∷ xs) ys = state_from-append list table (gained state x (made list table state x)) xs ys
 
@@ -42,12 +42,12 @@ sound-append list table [] ys are = (tt, are)
 sound-append list table (x ∷ xs) ys are = let rest = sound-append list table xs ys are.1 in ((are.0, rest.0), rest.1)
 
 -- these records belong to members at no later place
-abbrev Below : ℕ → List Item → Type 0
+abbrev pub Below : ℕ → List Item → Type 0
 Below n [] = Unit {0}
 Below n (i ∷ is) = (i.place ≤ n) × Below n is
 
 -- a state is at no later place than its records
-state_place : (list : List Member) (table : List Told) (state : State) (n : ℕ) (is : List Item) → state.place ≤ n → Below n is → (state_from list table state is).place ≤ n
+pub state_place : (list : List Member) (table : List Told) (state : State) (n : ℕ) (is : List Item) → state.place ≤ n → Below n is → (state_from list table state is).place ≤ n
 state_place list table state n [] le below = le
 state_place list table state n (i ∷ is) le below = state_place list table (gained state i (made list table state i)) n is (by_made (made list table state i)) below.1
   where
@@ -112,7 +112,7 @@ few_on list table state (i ∷ is) small few are sound =
 
 -- ---- members
 
-items_from-append : (place : ℕ) (xs ys : List Member) → items_from place (xs ++ ys) ≡ items_from place xs ++ items_from (place + length xs) ys
+pub items_from-append : (place : ℕ) (xs ys : List Member) → items_from place (xs ++ ys) ≡ items_from place xs ++ items_from (place + length xs) ys
 items_from-append place [] ys = ap (λ (n : ℕ). items_from n ys) (omega arith)
 items_from-append place (x ∷ xs) ys =
     let own = map (item place x) (located x.segment) in
@@ -154,7 +154,7 @@ own_above : (n place : ℕ) (m : Member) (rs : List Located) → n < place → A
 own_above n place m [] lt = tt
 own_above n place m (r ∷ rs) lt = (lt, own_above n place m rs lt)
 
-are_below : (n place : ℕ) (ms : List Member) → place + length ms ≤ n + 1 → Below n (items_from place ms)
+pub are_below : (n place : ℕ) (ms : List Member) → place + length ms ≤ n + 1 → Below n (items_from place ms)
 are_below n place [] le = tt
 are_below n place (m ∷ ms) le = below-append n (map (item place m) (located m.segment)) (items_from (place + 1) ms) (own_below n place m (located m.segment) (omega arith)) (are_below n (place + 1) ms (omega (arith, le)))
 
@@ -163,7 +163,7 @@ are_above n place [] lt = tt
 are_above n place (m ∷ ms) lt = above-append n (map (item place m) (located m.segment)) (items_from (place + 1) ms) (own_above n place m (located m.segment) lt) (are_above n (place + 1) ms (omega (arith, lt)))
 
 -- the records of the members up to one
-up_to : (front : List Member) (m : Member) (back : List Member) → filter (λ (i : Item). leb i.place (length front + 1)) (items_from 1 (front ++ m ∷ back))
+pub up_to : (front : List Member) (m : Member) (back : List Member) → filter (λ (i : Item). leb i.place (length front + 1)) (items_from 1 (front ++ m ∷ back))
     ≡ items_from 1 front ++ map (item (length front + 1) m) (located m.segment)
 up_to front m back =
     let n = length front + 1 in

@@ -132,7 +132,7 @@ pub behind-le : (loc : ℕ) (founds : List (ℕ × Record)) → loc ≤ place_be
 behind-le loc [] = omega arith
 behind-le loc (found ∷ founds) = omega (arith, behind-le (loc + size_at loc found.1) founds)
 
-in-append : {A : Type 0} (xs ys : List A) (x : A) → IsIn (xs ++ ys) x → IsIn xs x ⊎ IsIn ys x
+pub in-append : {A : Type 0} (xs ys : List A) (x : A) → IsIn (xs ++ ys) x → IsIn xs x ⊎ IsIn ys x
 in-append [] ys x is = inr is
 in-append (y ∷ xs) ys x (inl e) = inl (inl e)
 in-append (y ∷ xs) ys x (inr more) = elim (in-append xs ys x more) [
@@ -161,7 +161,7 @@ by_record at place (Equate global name size form private expr) d (inr more) = ab
 by_record at place (Formula code count n expr) d is = absurd is
 by_record at place (Entry segment offset name) d is = absurd is
 
-abbrev of_located : Located → List Definition
+abbrev pub of_located : Located → List Definition
 of_located r = defined_by r.at r.location r.content
 
 by_records : (loc : ℕ) (founds : List (ℕ × Record)) (d : Definition) → IsIn (flat_map of_located (located_from loc founds)) d → d.place ≤ place_behind loc founds
@@ -192,7 +192,7 @@ by_definition s d is = elim (in-append (title_of s) (flat_map of_located (locate
   | inr h ↦ by_records 0 s.records d h
 ]
 
-own_entry : (place : ℕ) (m : Member) (ds : List Definition) (f : Found) → IsIn (map (λ (d : Definition). record { place = place; member = m; definition = d }) ds) f → (f.place ≡ place) × (f.member ≡ m) × IsIn ds f.definition
+pub own_entry : (place : ℕ) (m : Member) (ds : List Definition) (f : Found) → IsIn (map (λ (d : Definition). record { place = place; member = m; definition = d }) ds) f → (f.place ≡ place) × (f.member ≡ m) × IsIn ds f.definition
 own_entry place m [] f is = absurd is
 own_entry place m (d ∷ ds) f (inl e) = (ap (λ (x : Found). x.place) (sym e), ap (λ (x : Found). x.member) (sym e), inl (ap (λ (x : Found). x.definition) e))
 own_entry place m (d ∷ ds) f (inr more) = let rest = own_entry place m ds f more in (rest.0, rest.1, inr rest.2)

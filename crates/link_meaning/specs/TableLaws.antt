@@ -41,18 +41,18 @@ unfolding finds named
 in_entries list place m name f is =
     in_filter _ (entries list) f (in_decided (steps_of list place m) (named name (entries list)) f is)
 
-in_equates : (list : List Member) (e f : Found) → LeadsTo list e f → IsIn (equates list) f
+pub in_equates : (list : List Member) (e f : Found) → LeadsTo list e f → IsIn (equates list) f
 unfolding equates
 in_equates list e f leads = filter_in is_equate (entries list) f (in_entries list e.place e.member leads.name f leads.found) leads.equate
 
 -- ---- the same value where the same names are told
 
 -- two tables tell the same of what a name found first
-abbrev Alike : List Member → List Told → List Told → List Found → Type 0
+abbrev pub Alike : List Member → List Told → List Told → List Found → Type 0
 Alike list a b [] = Unit {0}
 Alike list a b (f ∷ found) = found_value list a f ≡ found_value list b f
 
-abbrev AreAlike : List Member → List Told → List Told → ℕ → Member → List (List ℕ) → Type 0
+abbrev pub AreAlike : List Member → List Told → List Told → ℕ → Member → List (List ℕ) → Type 0
 AreAlike list a b place m names = AllByRecursion (λ name. Alike list a b (finds list place m name)) names
 
 pub all_front : {A : Type 0} → (P : A → Type 0) (xs ys : List A) → AllByRecursion P (xs ++ ys) → AllByRecursion P xs
@@ -154,7 +154,7 @@ tree_same list a b place m location (Some tree) all =
     ap (settled list a place m tree) (value_same list a b place m location m.segment.fields.lab_len 0 tree all)
     ∙ settled_same list a b place m tree (value (environment list b place m location) m.segment.fields.lab_len 0 tree) all
 
-equate_same : (list : List Member) (a b : List Told) (e : Found) → AreAlike list a b e.place e.member (names_in e.member.segment.fields.lab_len e.definition.expr)
+pub equate_same : (list : List Member) (a b : List Told) (e : Found) → AreAlike list a b e.place e.member (names_in e.member.segment.fields.lab_len e.definition.expr)
     → equate_value list a e ≡ equate_value list b e
 unfolding value_in
 equate_same list a b e all = by_expr e.definition.expr all
@@ -171,7 +171,7 @@ all_from P (x ∷ xs) f = (f x (inl refl), all_from P xs (λ y is. f y (inr is))
 
 -- ---- ways between equates
 
-path_on : (list : List Member) (x y z : Found) → Path list x y → LeadsTo list y z → Path list x z
+pub path_on : (list : List Member) (x y z : Found) → Path list x y → LeadsTo list y z → Path list x z
 path_on list x y z (Last from to leads) on = Through x y z leads (Last y z on)
 path_on list x y z (Through from next to leads path) on = Through x next z leads (path_on list next y z path on)
 
@@ -253,7 +253,7 @@ found_same list a b e f name asked found go = by_test (is_equate f) refl
         let leads : LeadsTo list e f = record { name = name; asked = asked; found = found; equate = is } in
         ap (λ (r : Result Value ValueFault). elim f.definition.expr as (λ y. Result Value ValueFault) [ None ↦ Ok (Rattle.link_meaning.specs.LinkValues.place_value list f.place f.member f.definition.place) | Some text ↦ r ]) (go f leads)
 
-alike_from : (list : List Member) (a b : List Told) (e : Found)
+pub alike_from : (list : List Member) (a b : List Told) (e : Found)
     → ((g : Found) → LeadsTo list e g → told a g.place g.definition.at ≡ told b g.place g.definition.at)
     → AreAlike list a b e.place e.member (names_in e.member.segment.fields.lab_len e.definition.expr)
 alike_from list a b e go =

@@ -294,7 +294,7 @@ module _ (files : List (List ℕ)) (list : List Member) (table : List Told) (byt
       (records_sound front m ms parts 0 m.segment.records (omega arith) (read_records m.segment (read m (in_middle front m ms parts))))
       (subst (λ (n : ℕ). AreSoundItems list table (items_from n ms)) next (items_sound (front ++ m ∷ []) ms (parts ∙ sym (append_assoc front (m ∷ []) ms))))
 
-  all_sound : AreSoundItems list table (items list)
+  pub all_sound : AreSoundItems list table (items list)
   unfolding items
   all_sound = items_sound [] list refl
 

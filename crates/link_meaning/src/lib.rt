@@ -8,5 +8,8 @@ mod laws;
 mod search;
 
 pub use fault::{LinkCause, LinkFault};
-pub use laws::linked_files_stand_for_their_cells;
+pub use laws::{
+    equates_have_one_value, files_have_one_answer, linkable_files_stand_for_their_cells,
+    linked_files_stand_for_their_cells, records_without_a_fault_give_cells,
+};
 pub use search::{Step, Want};

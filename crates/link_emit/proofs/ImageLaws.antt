@@ -1,0 +1,127 @@
+-- A header, a body and END are the text of a load segment.
+use Rattle.std.proofs.Common.{◌≡◌, ℕ, ◌+◌, ◌<◌, ◌≤◌, List, [], ◌∷◌, ◌++◌, length, map, Result, Ok, Err, sym, ap, subst, ◌∙◌, append_assoc, arith}
+use Rattle.std.specs.Prelude.{OnOk}
+use Rattle.std.specs.List.{flat_map}
+use Rattle.std.proofs.lemmas.List.{length-append, append-nil}
+use Rattle.std.proofs.lemmas.List.Concat.{flat_map-cons}
+use Rattle.omf_format.specs.Header.{Fields, header_bytes, IsWritable}
+use Rattle.omf_format.specs.WrittenHeader.{length-header}
+use Rattle.omf_format.specs.Record.{spelling}
+use Rattle.load_meaning.specs.Cells.{Patch}
+use Rattle.load_meaning.specs.WrittenBody.{AreWritten, zeros_behind, written_cells, body_text}
+use Rattle.load_meaning.specs.StoredLaws.{zeros-le, cells_size}
+use Rattle.load_meaning.specs.WrittenFile.{Image, image_body, image_text, file_text}
+use Rattle.omf_header.specs.View.{fields}
+use Rattle.omf_header.specs.declared.header.Header.{Header}
+use Rattle.omf_cells.specs.declared.written.Patch as kept
+use Rattle.omf_cells.specs.WrittenParts.{seen}
+use Rattle.link_emit.specs.declared.content.Content.{Content}
+use Rattle.link_emit.specs.Images.{with_space, image_in, images_in, IsReady, AreReady}
+
+pub zeros_fit : (content : List ℕ) (patches : List Patch) → AreWritten (length content) 0 patches → zeros_behind (written_cells content patches) ≤ length content
+unfolding written_cells
+zeros_fit content patches are = omega (arith, zeros-le (written_cells content patches), cells_size content patches are)
+
+abbrev pub image : Fields → List ℕ → List Patch → Image
+image f content patches = record { fields = f; content = content; patches = patches }
+
+pub text_is : (f : Fields) (content : List ℕ) (patches : List Patch) (front body : List ℕ) → body ≡ body_text f.seg_num content patches
+    → front ≡ header_bytes (with_space f (zeros_behind (written_cells content patches))) (length body + 1) → front ++ (body ++ 0 ∷ []) ≡ image_text (image f content patches)
+unfolding image_text image_body spelling
+text_is f content patches front body b h =
+    let g = with_space f (zeros_behind (written_cells content patches)) in
+    let whole : body ++ 0 ∷ [] ≡ image_body (image f content patches) = ap (λ (l : List ℕ). l ++ 0 ∷ []) b in
+    let size : length body + 1 ≡ length (image_body (image f content patches)) = sym (length-append body (0 ∷ [])) ∙ ap length whole in
+    ap (λ (l : List ℕ). l ++ (body ++ 0 ∷ [])) (h ∙ ap (header_bytes g) size)
+    ∙ ap (λ (l : List ℕ). header_bytes g (length (image_body (image f content patches))) ++ l) whole
+
+-- how long it is
+pub text_size : (f : Fields) (content : List ℕ) (patches : List Patch) (body : List ℕ) → length f.load_name ≡ 10 → body ≡ body_text f.seg_num content patches
+    → length (image_text (image f content patches)) ≡ 0x37 + length f.name + (length body + 1)
+unfolding image_text image_body spelling
+text_size f content patches body ten b =
+    let g = with_space f (zeros_behind (written_cells content patches)) in
+    let all = body_text f.seg_num content patches ++ 0 ∷ [] in
+    omega (arith, length-append (header_bytes g (length all)) all, length-header g (length all) ten, length-append (body_text f.seg_num content patches) (0 ∷ []), ap length b)
+
+-- the fields with the body's zeros may be written
+pub space_writable : (f : Fields) (zeros : ℕ) → IsWritable (with_space f 0) → zeros ≤ f.length → IsWritable (with_space f zeros)
+space_writable f zeros is le = record { version = is.version; banks = is.banks; listed = is.listed; spaced = le }
+
+-- ---- what is put
+
+pub put_whole : {A E : Type 0} → (r : Result A E) (f : Fields) (content : List ℕ) (patches : List Patch) (front body out new : List ℕ) → body ≡ body_text f.seg_num content patches
+    → front ≡ header_bytes (with_space f (zeros_behind (written_cells content patches))) (length body + 1) → OnOk r (new ≡ out ++ (front ++ (body ++ 0 ∷ []))) → OnOk r (new ≡ out ++ image_text (image f content patches))
+put_whole (Ok x) f content patches front body out new b h more = more ∙ ap (λ (l : List ℕ). out ++ l) (text_is f content patches front body b h)
+put_whole (Err e) f content patches front body out new b h more = tt
+
+pub whole_size : (f : Fields) (content : List ℕ) (patches : List Patch) (front body : List ℕ) → body ≡ body_text f.seg_num content patches
+    → front ≡ header_bytes (with_space f (zeros_behind (written_cells content patches))) (length body + 1) → length (image_text (image f content patches)) ≡ length front + (length body + 1)
+whole_size f content patches front body b h =
+    ap length (sym (text_is f content patches front body b h)) ∙ omega (arith, length-append front (body ++ 0 ∷ []), length-append body (0 ∷ []))
+
+-- ---- what is lent stands for what is held
+
+pub zeros_is : (zeros : ℕ) (content bytes : List ℕ) (patches items : List kept.Patch) → zeros ≡ zeros_behind (written_cells bytes (map seen items)) → bytes ≡ content → items ≡ patches
+    → zeros ≡ zeros_behind (written_cells content (map seen patches))
+zeros_is zeros content bytes patches items is same over =
+    is ∙ ap (λ (l : List ℕ). zeros_behind (written_cells l (map seen items))) same ∙ ap (λ (l : List kept.Patch). zeros_behind (written_cells content (map seen l))) over
+
+pub body_is : (own : ℕ) (body content bytes : List ℕ) (patches items : List kept.Patch) → body ≡ body_text own bytes (map seen items) → bytes ≡ content → items ≡ patches
+    → body ≡ body_text own content (map seen patches)
+body_is own body content bytes patches items is same over =
+    is ∙ ap (λ (l : List ℕ). body_text own l (map seen items)) same ∙ ap (λ (l : List kept.Patch). body_text own content (map seen l)) over
+
+pub front_is : (f : Fields) (front body text : List ℕ) (zeros other : ℕ) → front ≡ header_bytes (with_space f zeros) (length body + 1) → zeros ≡ other → text ≡ body → front ≡ header_bytes (with_space f other) (length text + 1)
+front_is f front body text zeros other is same whole =
+    is ∙ ap (λ (z : ℕ). header_bytes (with_space f z) (length body + 1)) same ∙ ap (λ (l : List ℕ). header_bytes (with_space f other) (length l + 1)) (sym whole)
+
+-- ---- answers
+
+abbrev failed : {A E : Type 0} → E → Result A E
+failed e = Err e
+
+pub err_moved : {A B E : Type 0} → (a b : E) → failed {A = A} a ≡ failed b → failed {A = B} a ≡ failed b
+err_moved a b e = let same : a ≡ b = cc in ap failed same
+
+pub ok_moved : {A E : Type 0} → (r : Result A E) (new out x y : List ℕ) → x ≡ y → OnOk r (new ≡ out ++ x) → OnOk r (new ≡ out ++ y)
+ok_moved (Ok v) new out x y same more = more ∙ ap (λ (l : List ℕ). out ++ l) same
+ok_moved (Err e) new out x y same more = tt
+
+-- ---- one behind another
+
+pub one_image : (out new all : List ℕ) (headers more_headers : List Header) (contents more_contents : List Content) (h : Header) (content : Content) → headers ≡ h ∷ more_headers → contents ≡ content ∷ more_contents
+    → new ≡ out ++ image_text (image_in (fields h) content) → out ++ file_text (images_in headers contents) ≡ all → new ++ file_text (images_in more_headers more_contents) ≡ all
+unfolding file_text
+one_image out new all headers more_headers contents more_contents h content hs cs more whole =
+    let first = image_text (image_in (fields h) content) in
+    let rest = flat_map image_text (images_in more_headers more_contents) in
+    let parts : flat_map image_text (images_in headers contents) ≡ first ++ rest =
+    ap (λ (l : List Header). flat_map image_text (images_in l contents)) hs
+    ∙ ap (λ (l : List Content). flat_map image_text (images_in (h ∷ more_headers) l)) cs
+    ∙ flat_map-cons image_text (image_in (fields h) content) (images_in more_headers more_contents) in
+    ap (λ (l : List ℕ). l ++ rest) more ∙ append_assoc out first rest ∙ ap (λ (l : List ℕ). out ++ l) (sym parts) ∙ whole
+
+-- where the first is too long all are
+pub long_image : (out all : List ℕ) (n : ℕ) (headers more_headers : List Header) (contents more_contents : List Content) (h : Header) (content : Content) → headers ≡ h ∷ more_headers → contents ≡ content ∷ more_contents
+    → out ++ file_text (images_in headers contents) ≡ all → n < length out + length (image_text (image_in (fields h) content)) → n < length all
+unfolding file_text
+long_image out all n headers more_headers contents more_contents h content hs cs whole long =
+    let first = image_text (image_in (fields h) content) in
+    let rest = flat_map image_text (images_in more_headers more_contents) in
+    let parts : flat_map image_text (images_in headers contents) ≡ first ++ rest =
+    ap (λ (l : List Header). flat_map image_text (images_in l contents)) hs
+    ∙ ap (λ (l : List Content). flat_map image_text (images_in (h ∷ more_headers) l)) cs
+    ∙ flat_map-cons image_text (image_in (fields h) content) (images_in more_headers more_contents) in
+    omega (arith, long, ap length whole, length-append out (flat_map image_text (images_in headers contents)), ap length parts, length-append first rest)
+
+pub more_ready : (headers more_headers : List Header) (contents more_contents : List Content) (h : Header) (content : Content) → headers ≡ h ∷ more_headers → contents ≡ content ∷ more_contents
+    → AreReady headers contents → IsReady (fields h) content × AreReady more_headers more_contents
+more_ready headers more_headers contents more_contents h content hs cs ready =
+    subst (λ (l : List Content). AreReady (h ∷ more_headers) l) cs (subst (λ (l : List Header). AreReady l contents) hs ready)
+
+-- behind the last nothing is left
+pub none_left : (out all : List ℕ) (headers : List Header) (contents : List Content) → length headers ≡ 0 → out ++ file_text (images_in headers contents) ≡ all → out ≡ all
+unfolding file_text
+none_left out all [] contents none whole = sym (append-nil out) ∙ whole
+none_left out all (h ∷ headers) contents none whole = absurd (omega (arith, none))

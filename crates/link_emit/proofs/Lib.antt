@@ -1,0 +1,6 @@
+pub mod FitLaws
+pub mod ContentLaws
+pub mod ImageLaws
+pub mod PutLaws
+pub mod FileLaws
+pub mod LoadLaws

@@ -1,0 +1,14 @@
+use Rattle.std.proofs.Common.{◌≡◌, ◌++◌, length}
+use Rattle.load_meaning.specs.WrittenFile.{file_text}
+use Rattle.link_emit.specs.Images.{images_in, AreReady}
+use Rattle.link_emit.proofs.image.put_images.Given as goal
+
+-- the load segments so far and those that are left
+abbrev pub invariant-loads : goal.invariant-loads
+invariant-loads l = record {
+  whole : l.out.items ++ file_text (images_in l.headers_left l.contents_left) ≡ l.initial.out.items ++ file_text (images_in l.headers l.contents);
+  left : AreReady l.headers_left l.contents_left;
+}
+
+abbrev pub decreases-loads : goal.decreases-loads
+decreases-loads l = length l.headers_left

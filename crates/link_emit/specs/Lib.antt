@@ -1,0 +1,5 @@
+pub mod Fits
+pub mod Contents
+pub mod Images
+pub mod Puts
+pub mod Plain

@@ -1,0 +1,98 @@
+//! The load file: its load segments, and the jump table behind them.
+
+ghost use Rattle.std.specs.Prelude.{◌≡◌, ◌≤◌, ◌+◌, ◌<◌, ◌^◌, ◌++◌, IfOk, IfErr, OnOk, IsErrOf, length, map};
+ghost use Rattle.omf_header.specs.View.{fields};
+ghost use Rattle.load_meaning.specs.Cells.{Byte};
+ghost use Rattle.load_meaning.specs.Table.{file_entry, table_bytes};
+ghost use Rattle.load_meaning.specs.WrittenFile.{file_text, table_fields};
+ghost use Rattle.link_meaning.specs.LinkWritten.{table_images};
+ghost use Rattle.link_emit.specs.Contents.{HoldsCells};
+ghost use Rattle.link_emit.specs.Images.{images_in, AreReady};
+
+use crate::content::Content;
+use crate::image::{ImageFault, put_image, put_images};
+use jump_table::Table;
+use omf_base::{Name, NameFault};
+use omf_header::{Header, Kind};
+use std::alloc::Global;
+
+/// The content of the jump table's segment.
+fn table_content(alloc: Global, table: &Table) -> Result<Content, ImageFault>
+    ensures ok { IfOk result (λ content. HoldsCells (map Byte (table_bytes (map file_entry table.now))) content) }
+    ensures memory_alone { IfErr result (λ fault. fault ≡ ImageFault.Memory) }
+{
+    let bytes = match table.segment_bytes(alloc) {
+        Ok(bytes) => bytes,
+        Err(_) => return Err(ImageFault::Memory),
+    };
+    let mut content = Content::new(alloc);
+    content.put_bytes(&bytes)?;
+    Ok(content)
+}
+
+/// The header of the jump table's segment, which is the load segment with this number.
+fn table_header(alloc: Global, number: u16, size: u32) -> Result<Header, ImageFault>
+    ensures ok { IfOk result (λ header. fields header ≡ table_fields number size) }
+    ensures memory_alone { IfErr result (λ fault. fault ≡ ImageFault.Memory) }
+{
+    let name = match Name::of(alloc, b"~JumpTable") {
+        Ok(name) => name,
+        Err(NameFault::Memory) => return Err(ImageFault::Memory),
+        Err(NameFault::TooLong) => unreachable!(),
+    };
+    Ok(Header {
+        byte_count: 0,
+        res_spc: 0,
+        length: size,
+        lab_len: 0,
+        version: 2,
+        bank_size: 0x10000,
+        kind: Kind { bits: 0x0002 },
+        org: 0,
+        align: 0,
+        seg_num: number,
+        entry: 0,
+        disp_name: 0,
+        disp_data: 0,
+        load_name: [0x20; 10],
+        name,
+    })
+}
+
+/// Appends the jump table, where it has an entry.
+fn put_table(alloc: Global, out: &mut Vec<u8>, number: u16, table: &Table) -> Result<(), ImageFault>
+    ensures ok { OnOk result (out.new.items ≡ out.old.items ++ file_text (table_images number table.now)) }
+    ensures too_long { IsErrOf result ImageFault.TooLong → 0x1000000 < length out.old.items + length (file_text (table_images number table.now)) }
+{
+    if table.count() == 0 {
+        return Ok(());
+    }
+    let content = table_content(alloc, table)?;
+    let header = table_header(alloc, number, content.len() as u32)?;
+    put_image(alloc, out, &header, &content)
+}
+
+/// The load file of load segments with these headers and contents, and of the jump table, where it has an entry. It is too long
+/// where it would exceed 16,777,216 bytes.
+pub fn file_of(
+    alloc: Global,
+    headers: &[Header],
+    contents: &[Content],
+    table: &Table,
+) -> Result<Vec<u8>, ImageFault>
+    requires ready { AreReady headers.now contents.now }
+    requires few { length headers.now + 1 < 2 ^ 16 }
+    ensures ok { IfOk result (λ file. file.items ≡ file_text (images_in headers.now contents.now ++ table_images (length headers.now + 1) table.now)) }
+    ensures too_long { IsErrOf result ImageFault.TooLong
+        → 0x1000000 < length (file_text (images_in headers.now contents.now ++ table_images (length headers.now + 1) table.now)) }
+{
+    let mut file = Vec::new(alloc);
+    match put_images(alloc, &mut file, headers, contents) {
+        Ok(()) => {}
+        Err(fault) => return Err(fault),
+    }
+    match put_table(alloc, &mut file, headers.len() as u16 + 1, table) {
+        Ok(()) => Ok(file),
+        Err(fault) => Err(fault),
+    }
+}

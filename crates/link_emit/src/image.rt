@@ -1,0 +1,174 @@
+//! Load segments, as they are written one behind another.
+
+ghost use Rattle.std.specs.Prelude.{◌≡◌, ◌≤◌, ◌+◌, ◌<◌, ◌++◌, ◌∷◌, [], IfOk, IfErr, OnOk, IsErrOf, length};
+ghost use Rattle.omf_format.specs.Header.{IsWritable, header_bytes};
+ghost use Rattle.omf_header.specs.View.{fields};
+ghost use Rattle.load_meaning.specs.WrittenFile.{image_text, file_text};
+ghost use Rattle.link_emit.specs.Images.{with_space, image_in, images_in, IsReady, AreReady};
+
+use crate::content::Content;
+use omf_base::{Name, NameFault};
+use omf_cells::{Body, BodyFault, body_of};
+use omf_header::{Header, WriteHeaderFault, write_header};
+use std::alloc::{AllocError, AllocFailed, Global};
+
+/// The most bytes that a load file has.
+pub const MOST_BYTES: usize = 0x100_0000;
+
+/// Why no load segment is written.
+#[derive(Clone, Copy, Debug, PartialEq, Eq)]
+pub enum ImageFault {
+    /// The file would exceed 16,777,216 bytes.
+    TooLong,
+    Memory,
+}
+
+impl From<AllocError> for ImageFault {
+    ghost use Rattle.std.specs.Prelude.{◌≡◌};
+    ghost use Rattle.link_emit.specs.declared.image.ImageFault.TheVariants.{Memory};
+
+    ghost from_gives = { λ _ fault. fault ≡ Memory };
+
+    fn from(_: AllocError) -> ImageFault {
+        ImageFault::Memory
+    }
+}
+
+impl<T: Drop> From<AllocFailed<T>> for ImageFault {
+    ghost use Rattle.std.specs.Prelude.{◌≡◌};
+    ghost use Rattle.link_emit.specs.declared.image.ImageFault.TheVariants.{Memory};
+
+    ghost from_gives = { λ _ fault. fault ≡ Memory };
+
+    fn from(_: AllocFailed<T>) -> ImageFault {
+        ImageFault::Memory
+    }
+}
+
+impl From<BodyFault> for ImageFault {
+    ghost use Rattle.std.specs.Prelude.{◌≡◌};
+    ghost use Rattle.link_emit.specs.declared.image.ImageFault.TheVariants.{Memory};
+
+    ghost from_gives = { λ _ fault. fault ≡ Memory };
+
+    fn from(_: BodyFault) -> ImageFault {
+        ImageFault::Memory
+    }
+}
+
+/// The header with so many zeros behind the body.
+fn spaced(alloc: Global, header: &Header, zeros: u32) -> Result<Header, ImageFault>
+    ensures ok { IfOk result (λ written. fields written ≡ with_space (fields header.now) zeros) }
+    ensures memory_alone { IfErr result (λ fault. fault ≡ ImageFault.Memory) }
+{
+    let name = match Name::of(alloc, header.name.bytes()) {
+        Ok(name) => name,
+        Err(NameFault::Memory) => return Err(ImageFault::Memory),
+        Err(NameFault::TooLong) => unreachable!(),
+    };
+    Ok(Header {
+        byte_count: header.byte_count,
+        res_spc: zeros,
+        length: header.length,
+        lab_len: header.lab_len,
+        version: header.version,
+        bank_size: header.bank_size,
+        kind: header.kind,
+        org: header.org,
+        align: header.align,
+        seg_num: header.seg_num,
+        entry: header.entry,
+        disp_name: header.disp_name,
+        disp_data: header.disp_data,
+        load_name: header.load_name,
+        name,
+    })
+}
+
+/// The bytes of a header before a body with END behind it; RESSPC is as the body has it.
+fn front_of(alloc: Global, header: &Header, body: &Body) -> Result<Vec<u8>, ImageFault>
+    requires { IsWritable (with_space (fields header.now) body.now.zeros) }
+    ensures ok { IfOk result (λ front. front.items ≡ header_bytes (with_space (fields header.now) body.now.zeros) (length body.now.bytes.items + 1)) }
+    ensures too_long { IsErrOf result ImageFault.TooLong → 0x1000000 < 0x37 + length header.now.name + (length body.now.bytes.items + 1) }
+{
+    let size = body.bytes.as_slice().len();
+    if size >= MOST_BYTES {
+        return Err(ImageFault::TooLong);
+    }
+    let written = spaced(alloc, header, body.zeros)?;
+    match write_header(alloc, &written, size as u32 + 1) {
+        Ok(front) => Ok(front),
+        Err(WriteHeaderFault::TooLong) => Err(ImageFault::TooLong),
+        Err(WriteHeaderFault::Memory) => Err(ImageFault::Memory),
+    }
+}
+
+/// Appends a header, a body and END.
+fn put_text(out: &mut Vec<u8>, front: &[u8], body: &[u8]) -> Result<(), ImageFault>
+    ensures ok { OnOk result (out.new.items ≡ out.old.items ++ (front.now ++ (body.now ++ 0 ∷ []))) }
+    ensures too_long { IsErrOf result ImageFault.TooLong → 0x1000000 < length out.old.items + (length front.now + (length body.now + 1)) }
+{
+    let left = MOST_BYTES.saturating_sub(out.as_slice().len());
+    if front.len() + body.len() >= left {
+        return Err(ImageFault::TooLong);
+    }
+    out.extend_from_slice(front)?;
+    out.extend_from_slice(body)?;
+    out.push(0)?;
+    Ok(())
+}
+
+/// LOADNAME has ten bytes.
+fn know_size(load_name: [u8; 10])
+    ensures { length load_name ≡ 10 }
+{}
+
+/// Appends a load segment: its header, with RESSPC as the body has it, and its body. It is too long where the file would exceed
+/// 16,777,216 bytes.
+pub fn put_image(
+    alloc: Global,
+    out: &mut Vec<u8>,
+    header: &Header,
+    content: &Content,
+) -> Result<(), ImageFault>
+    requires { IsReady (fields header.now) content.now }
+    ensures ok { OnOk result (out.new.items ≡ out.old.items ++ image_text (image_in (fields header.now) content.now)) }
+    ensures too_long { IsErrOf result ImageFault.TooLong → 0x1000000 < length out.old.items + length (image_text (image_in (fields header.now) content.now)) }
+{
+    know_size(header.load_name);
+    let body = body_of(alloc, header.seg_num, content.bytes(), content.patches())?;
+    let front = match front_of(alloc, header, &body) {
+        Ok(front) => front,
+        Err(fault) => return Err(fault),
+    };
+    put_text(out, front.as_slice(), body.bytes.as_slice())
+}
+
+/// Appends load segments, one behind another.
+pub fn put_images(
+    alloc: Global,
+    out: &mut Vec<u8>,
+    headers: &[Header],
+    contents: &[Content],
+) -> Result<(), ImageFault>
+    requires { AreReady headers.now contents.now }
+    ensures ok { OnOk result (out.new.items ≡ out.old.items ++ file_text (images_in headers.now contents.now)) }
+    ensures too_long { IsErrOf result ImageFault.TooLong → 0x1000000 < length out.old.items + length (file_text (images_in headers.now contents.now)) }
+{
+    let mut headers_left = headers;
+    let mut contents_left = contents;
+    'loads: while let Some((header, more_headers)) = headers_left.split_first() {
+        match contents_left.split_first() {
+            Some((content, more_contents)) => {
+                match put_image(alloc, out, header, content) {
+                    Ok(()) => {}
+                    Err(fault) => return Err(fault),
+                }
+                headers_left = more_headers;
+                contents_left = more_contents;
+            }
+            None => unreachable!(),
+        }
+    }
+    Ok(())
+}

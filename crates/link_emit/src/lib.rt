@@ -1,0 +1,17 @@
+//! The linker's second half: the values of equates and of records, how they fit, and the load file that is written (GS/OS
+//! Reference, appendix F; the rules by which a value fits are this project's own).
+#![tactic(auto)]
+
+mod content;
+mod file;
+mod fit;
+mod image;
+mod plain;
+mod put;
+
+pub use content::Content;
+pub use file::file_of;
+pub use fit::{Fit, Formula, Frame, Load, fitted};
+pub use image::{ImageFault, put_image, put_images};
+pub use plain::put_plain;
+pub use put::put_formula;

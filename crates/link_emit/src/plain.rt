@@ -1,0 +1,51 @@
+//! What a record without an expression puts into its load segment.
+
+ghost use Rattle.std.specs.Prelude.{◌≡◌, ◌+◌, ◌<◌, ◌^◌, ◌++◌, List, OnOk, length};
+ghost use Rattle.load_meaning.specs.Cells.{Cell};
+ghost use Rattle.link_meaning.specs.Sizes.{padding, size_at};
+ghost use Rattle.omf_records.specs.View.{view};
+ghost use Rattle.link_emit.specs.Contents.{HoldsCells};
+ghost use Rattle.link_emit.specs.Plain.{plain_cells};
+
+use crate::content::Content;
+use omf_records::Rec;
+use std::alloc::AllocError;
+
+/// How far it is to the least multiple of a step at or behind a place; 0 for the step 0.
+#[tactic(auto, unfolding(link_meaning::specs::Sizes::padding))]
+fn padding(step: u32, at: u32) -> u32
+    ensures { result ≡ padding step at }
+{
+    if step == 0 {
+        return 0;
+    }
+    let (step, at) = (u64::from(step), u64::from(at));
+    let pad = at.next_multiple_of(step) - at;
+    pad as u32
+}
+
+/// Puts what a record gives that stands at this place of its segment; an expression gives nothing here.
+pub fn put_plain(content: &mut Content, rec: &Rec, location: u32) -> Result<(), AllocError>
+    requires { length content.old.bytes.items + size_at location (view rec.now) < 2 ^ 32 }
+    ensures { OnOk result ((cells : List Cell) → HoldsCells cells content.old → HoldsCells (cells ++ plain_cells location (view rec.now)) content.new) }
+{
+    match rec {
+        Rec::Const { bytes } => content.put_bytes(bytes),
+        Rec::LongConst { bytes } => content.put_bytes(bytes),
+        Rec::Align { n } => content.put_zeros(padding(*n, location) as usize),
+        Rec::Org { n } => content.put_zeros(*n as usize),
+        Rec::Space { n } => content.put_zeros(*n as usize),
+        Rec::End
+        | Rec::Reloc { .. }
+        | Rec::InterSeg { .. }
+        | Rec::ShortReloc { .. }
+        | Rec::ShortInterSeg { .. }
+        | Rec::Super { .. }
+        | Rec::Using { .. }
+        | Rec::Strong { .. }
+        | Rec::Label { .. }
+        | Rec::Equate { .. }
+        | Rec::Formula { .. }
+        | Rec::Entry { .. } => Ok(()),
+    }
+}

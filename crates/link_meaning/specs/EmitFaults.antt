@@ -1,0 +1,126 @@
+-- Why resolved files aren't linked: the first fault of the phases in which equates and records get their values and the load
+-- file is written; and what the linker answers.
+use Rattle.std.specs.Prelude.{◌≡◌, ◌<◌, ◌↔◌, ℕ, List, [], ◌∷◌, length, Some, None, Result, Ok, Err}
+use Rattle.std.specs.List.{AllByRecursion}
+use Rattle.omf_format.specs.HeaderLaws.{IsBytes}
+use Rattle.omf_format.specs.File.{Segment, IsFile}
+use Rattle.load_meaning.specs.WrittenFile.{AreReadAs}
+use Rattle.link_meaning.specs.declared.fault.LinkCause.TheVariants.{Circular, FileTooLong}
+use Rattle.link_meaning.specs.declared.fault.LinkFault.{LinkFault}
+use Rattle.link_meaning.specs.First.{IsFirst, HasNone}
+use Rattle.link_meaning.specs.Member.{Member}
+use Rattle.link_meaning.specs.Search.{Found}
+use Rattle.link_meaning.specs.Rings.{equates, IsCircular}
+use Rattle.link_meaning.specs.LinkValues.{Told, IsTable}
+use Rattle.link_meaning.specs.LinkedCells.{Item, items, state_behind, made}
+use Rattle.link_meaning.specs.LinkWritten.{AreMade, start, images, written_file, linked_cells, HaveCells}
+use Rattle.link_meaning.specs.LinkFaults.{nowhere, spot_in, IsFirstResolveFault, IsResolved}
+
+-- ---- rings
+
+-- the equate leads back to itself
+pub record HasRingFault (list : List Member) (before : List Found) (e : Found) (fault : LinkFault) : Type 0 where
+  pub ring : IsCircular list e
+  pub told : fault ≡ record { cause = Circular; name = Some e.definition.name; spot = spot_in e.member e.definition.at }
+
+-- ---- values
+
+-- the record, behind those before it, gives no cells: its expression has no value, or the value doesn't fit
+pub record HasValueFault (list : List Member) (table : List Told) (before : List Item) (i : Item) (fault : LinkFault) : Type 0 where
+  pub cause : made list table (state_behind list table before) i ≡ Err fault.cause
+  pub name : fault.name ≡ None
+  pub spot : fault.spot ≡ spot_in i.member i.here.at
+
+-- ---- the file
+
+-- a load file has at most so many bytes
+abbrev pub most_bytes : ℕ
+most_bytes = 0x1000000
+
+-- the load file would have more
+pub record HasSizeFault (list : List Member) (table : List Told) (fault : LinkFault) : Type 0 where
+  pub long : most_bytes < length (written_file list table)
+  pub told : fault ≡ record { cause = FileTooLong; name = None; spot = nowhere }
+
+-- ---- the phases
+
+-- the phases behind layout, in their order
+pub data EmitPhase : Type 0 where
+  Rings : EmitPhase
+  Values : EmitPhase
+  Size : EmitPhase
+
+abbrev pub emit_phases : List EmitPhase
+emit_phases = Rings ∷ Values ∷ Size ∷ []
+
+-- what a phase finds in the linked list: the first equate, in list and record order, that leads back to itself; the first
+-- record, in that order, that gives no cells; a file that is too long
+abbrev pub HasEmitFault : List Member → List EmitPhase → EmitPhase → LinkFault → Type 0
+HasEmitFault list before Rings fault = IsFirst (HasRingFault list) (equates list) fault
+HasEmitFault list before Values fault = (table : List Told) × IsTable list table × IsFirst (HasValueFault list table) (items list) fault
+HasEmitFault list before Size fault = (table : List Told) × IsTable list table × HasSizeFault list table fault
+
+-- the first fault of these phases
+abbrev pub IsFirstEmitFault : List Member → LinkFault → Type 0
+IsFirstEmitFault list fault = IsFirst (HasEmitFault list) emit_phases fault
+
+-- the equates of the list have these values, and none of these phases finds a fault
+pub record IsEmitted (list : List Member) (table : List Told) : Type 0 where
+  pub valued : IsTable list table
+  pub sound : HasNone (HasEmitFault list) emit_phases
+
+-- ---- all phases
+
+-- the first fault of all phases: of those in which the files are resolved, and where these find none, of those behind them
+pub data IsFirstLinkFault (files : List (List ℕ)) (fault : LinkFault) : Type 0 where
+  OfResolving : IsFirstResolveFault files fault → IsFirstLinkFault files fault
+  OfEmitting : (list : List Member) → IsResolved files list → IsFirstEmitFault list fault → IsFirstLinkFault files fault
+
+-- no phase finds a fault in the files, which have this linked list, whose equates have these values
+pub record IsLinkable (files : List (List ℕ)) (list : List Member) (table : List Told) : Type 0 where
+  pub resolved : IsResolved files list
+  pub emitted : IsEmitted list table
+
+-- the load file of the files
+pub record IsLinkedTo (files : List (List ℕ)) (output : List ℕ) : Type 0 where
+  pub list : List Member
+  pub table : List Told
+  pub linkable : IsLinkable files list table
+  pub is_written : output ≡ written_file list table
+
+-- ---- what the linker answers
+
+-- of a linked list: the load file, or the first fault
+abbrev pub IsEmitAnswer : List Member → Result (List ℕ) LinkFault → Type 0
+IsEmitAnswer list (Ok output) = (table : List Told) × IsEmitted list table × (output ≡ written_file list table)
+IsEmitAnswer list (Err fault) = IsFirstEmitFault list fault
+
+-- of files
+abbrev pub IsLinkAnswer : List (List ℕ) → Result (List ℕ) LinkFault → Type 0
+IsLinkAnswer files (Ok output) = IsLinkedTo files output
+IsLinkAnswer files (Err fault) = IsFirstLinkFault files fault
+
+-- ---- laws
+
+-- Files have one answer at most: one load file, or one first fault, and not both.
+abbrev pub OneLinkAnswer : Type 0
+OneLinkAnswer = (files : List (List ℕ)) (a b : Result (List ℕ) LinkFault) → IsLinkAnswer files a → IsLinkAnswer files b → a ≡ b
+
+-- And so has a linked list, for the phases behind layout.
+abbrev pub OneEmitAnswer : Type 0
+OneEmitAnswer = (list : List Member) (a b : Result (List ℕ) LinkFault) → IsEmitAnswer list a → IsEmitAnswer list b → a ≡ b
+
+-- What the linker answers of resolved files is what it answers of their linked list.
+abbrev pub LinkAnswersAsEmit : Type 0
+LinkAnswersAsEmit = (files : List (List ℕ)) (list : List Member) (a : Result (List ℕ) LinkFault) → IsResolved files list → IsEmitAnswer list a → IsLinkAnswer files a
+
+-- No record has a fault exactly where each gives its cells.
+abbrev pub MadeWhereSound : Type 0
+MadeWhereSound = (list : List Member) (table : List Told) → HasNone (HasValueFault list table) (items list) ↔ AreMade list table start (items list)
+
+-- The load file of files without a fault is a file of the load segments and the table, and each of them stands for its linked
+-- cells.
+abbrev pub LinkableStandsFor : Type 0
+LinkableStandsFor = (files : List (List ℕ)) (list : List Member) (table : List Told) → AllByRecursion IsBytes files → IsLinkable files list table
+    → (segments : List Segment) × IsFile segments (written_file list table) × AreReadAs (images list table) segments
+    × HaveCells (linked_cells list table) segments

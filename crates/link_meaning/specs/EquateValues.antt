@@ -1,0 +1,43 @@
+-- The value of one equate, by those of the equates to which it leads.
+use Rattle.std.specs.Prelude.{◌≡◌, ℕ, ◌↔◌, List, [], ◌∷◌, Result}
+use Rattle.std.specs.List.{AllByRecursion}
+use Rattle.omf_format.specs.HeaderLaws.{IsBytes}
+use Rattle.omf_format.specs.declared.value.Value.{Value}
+use Rattle.omf_format.specs.declared.value.ValueFault.{ValueFault}
+use Rattle.link_meaning.specs.First.{IsIn}
+use Rattle.link_meaning.specs.Member.{Member}
+use Rattle.link_meaning.specs.Search.{Found}
+use Rattle.link_meaning.specs.Rings.{equates, LeadsTo, IsCircular}
+use Rattle.link_meaning.specs.LinkValues.{Told, told, equate_value, IsTable}
+use Rattle.link_meaning.specs.LinkFaults.{IsResolved}
+
+-- An equate has its value, or its fault, once those to which it leads have theirs: it is what the expression stands for where a
+-- table tells them.
+pub data HasValue (list : List Member) : Found → Result Value ValueFault → Type 0 where
+  ByOthers : (e : Found) (table : List Told) (answer : Result Value ValueFault) → answer ≡ equate_value list table e
+      → ((f : Found) → LeadsTo list e f → HasValue list f (told table f.place f.definition.at)) → HasValue list e answer
+
+-- each row tells the value of its equate
+abbrev pub TellValues : List Member → List Found → List Told → Type 0
+TellValues list [] [] = Unit {0}
+TellValues list [] (t ∷ rows) = ⊥
+TellValues list (e ∷ es) [] = ⊥
+TellValues list (e ∷ es) (t ∷ rows) = (t.place ≡ e.place) × (t.at ≡ e.definition.at) × HasValue list e t.answer × TellValues list es rows
+
+-- equates of one member and one displacement are one
+abbrev pub AreApart : List Found → Type 0
+AreApart es = (e f : Found) → IsIn es e → IsIn es f → e.place ≡ f.place → e.definition.at ≡ f.definition.at → e ≡ f
+
+-- ---- laws
+
+-- An equate has one value at most, and none where it leads back to itself.
+abbrev pub OneValue : Type 0
+OneValue = (list : List Member) (e : Found) (a b : Result Value ValueFault) → HasValue list e a → HasValue list e b → a ≡ b
+
+abbrev pub NoneOnRing : Type 0
+NoneOnRing = (list : List Member) (e : Found) (a : Result Value ValueFault) → HasValue list e a → IsCircular list e → ⊥
+
+-- In resolved files the table of values is the one that tells each equate its value.
+abbrev pub TableOfValues : Type 0
+TableOfValues = (files : List (List ℕ)) (list : List Member) (table : List Told) → AllByRecursion IsBytes files → IsResolved files list
+    → TellValues list (equates list) table ↔ IsTable list table
