@@ -1,0 +1,10 @@
+pub mod Answer
+pub mod Operations
+pub mod Constant
+pub mod Formulas
+pub mod Pieces
+pub mod Instruction
+pub mod Elements
+pub mod State
+pub mod Statement
+pub mod Object

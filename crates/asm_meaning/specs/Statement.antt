@@ -1,0 +1,302 @@
+-- Statements: what each operation does (ORCA/M reference manual, "Assembler directives"; GS/OS Reference, appendix F), and
+-- the first fault of one (the order is this project's own).
+use Rattle.std.specs.Prelude.{◌≡◌, ℕ, ◌-◌, ◌^◌, Bool, true, false, not, ◌||◌, ◌&&◌, ◌==◌, nat_lt, nat_le, List, [], ◌∷◌, ◌++◌, length, map, replicate, codes, bytes_eq, Option, Some, None, Ok, Err, if◌then◌else◌}
+use Rattle.std.specs.Int.{is_power_of_two}
+use Rattle.std.specs.List.{list_any}
+use Rattle.omf_format.specs.Field.{◌>>=◌}
+use Rattle.omf_format.specs.Expression.{Tree, Leaf, Constant}
+use Rattle.omf_format.specs.Header.{alignment_of, form_of, is_listed}
+use Rattle.omf_format.specs.Record.{Record, End, Align, Org, Space, Using, Label, Equate}
+use Rattle.orca_meaning.specs.declared.mnemonics.Mnemonic.{Mnemonic}
+use Rattle.orca_meaning.specs.Characters.{folded, is_name}
+use Rattle.orca_meaning.specs.Line.{Line, part}
+use Rattle.orca_meaning.specs.Operand.{Meaning, IsGoodOperand, IsBadOperand, HasBadNumber}
+use Rattle.asm_meaning.specs.declared.directives.Class.{Class}
+use Rattle.asm_meaning.specs.declared.directives.Switch.{Switch}
+use Rattle.asm_meaning.specs.declared.directives.Directive.TheVariants as directives
+use Rattle.asm_meaning.specs.declared.faults.AsmCause.TheVariants.{UnknownOperation, OutsideSegment, BadLabel, BadOperand, BadNumber, Duplicate, DoesNotFit}
+use Rattle.asm_meaning.specs.Answer.{Answer, both}
+use Rattle.asm_meaning.specs.Constant.{Constants, Amount, Known, Written, amount, tree_of_amount}
+use Rattle.asm_meaning.specs.Elements.{Element, IsList, list_pieces}
+use Rattle.asm_meaning.specs.Formulas.{IsFormula, formula_of, number_of, expression_text}
+use Rattle.asm_meaning.specs.Instruction.{instruction}
+use Rattle.asm_meaning.specs.Operations.{Operation, Instruction, Directs, operation_of}
+use Rattle.asm_meaning.specs.Pieces.{records_of}
+use Rattle.asm_meaning.specs.State.{Segment, State, begun, closed, grown, marked, in_segment, within_length, turned}
+
+-- ---- inside and outside of segments
+
+-- `*+` at the front, with which ORG moves the location counter, and what stands behind it
+abbrev pub behind_here : List ℕ → Option (List ℕ)
+behind_here [] = None
+behind_here (byte ∷ []) = None
+behind_here (byte ∷ next ∷ behind) = if byte == 0x2A && next == 0x2B then Some behind else None
+
+abbrev pub is_some_text : Option (List ℕ) → Bool
+is_some_text None = false
+is_some_text (Some text) = true
+
+abbrev pub is_labelled : List ℕ → Bool
+is_labelled [] = false
+is_labelled (byte ∷ label) = true
+
+-- Which statements may not stand outside segments: those that give something to a segment, and those with a label that isn't
+-- the name of a segment or of a GEQU.
+abbrev pub needs_segment : Operation → List ℕ → List ℕ → Bool
+needs_segment (Instruction mnemonic) label operand = true
+needs_segment (Directs (directives.Begin class)) label operand = false
+needs_segment (Directs directives.End) label operand = true
+needs_segment (Directs directives.Entry) label operand = true
+needs_segment (Directs directives.Using) label operand = true
+needs_segment (Directs directives.Equ) label operand = true
+needs_segment (Directs directives.Gequ) label operand = false
+needs_segment (Directs directives.Constants) label operand = true
+needs_segment (Directs directives.Space) label operand = true
+needs_segment (Directs directives.Align) label operand = is_labelled label
+needs_segment (Directs directives.Org) label operand = is_labelled label || is_some_text (behind_here operand)
+needs_segment (Directs directives.Kind) label operand = true
+needs_segment (Directs (directives.Turn switch)) label operand = is_labelled label
+needs_segment (Directs directives.Nothing) label operand = is_labelled label
+needs_segment (Directs directives.Ignored) label operand = is_labelled label
+
+abbrev pub begins_segment : Operation → Bool
+begins_segment (Instruction mnemonic) = false
+begins_segment (Directs (directives.Begin class)) = true
+begins_segment (Directs directives.End) = false
+begins_segment (Directs directives.Entry) = false
+begins_segment (Directs directives.Using) = false
+begins_segment (Directs directives.Equ) = false
+begins_segment (Directs directives.Gequ) = false
+begins_segment (Directs directives.Constants) = false
+begins_segment (Directs directives.Space) = false
+begins_segment (Directs directives.Align) = false
+begins_segment (Directs directives.Org) = false
+begins_segment (Directs directives.Kind) = false
+begins_segment (Directs (directives.Turn switch)) = false
+begins_segment (Directs directives.Nothing) = false
+begins_segment (Directs directives.Ignored) = false
+
+-- a statement stands on the wrong side
+abbrev pub is_misplaced : Option Segment → Operation → List ℕ → List ℕ → Bool
+is_misplaced None operation label operand = needs_segment operation label operand
+is_misplaced (Some s) operation label operand = begins_segment operation
+
+-- ---- labels
+
+abbrev pub needs_label : Operation → Bool
+needs_label (Instruction mnemonic) = false
+needs_label (Directs (directives.Begin class)) = true
+needs_label (Directs directives.End) = false
+needs_label (Directs directives.Entry) = true
+needs_label (Directs directives.Using) = false
+needs_label (Directs directives.Equ) = true
+needs_label (Directs directives.Gequ) = true
+needs_label (Directs directives.Constants) = false
+needs_label (Directs directives.Space) = false
+needs_label (Directs directives.Align) = false
+needs_label (Directs directives.Org) = false
+needs_label (Directs directives.Kind) = false
+needs_label (Directs (directives.Turn switch)) = false
+needs_label (Directs directives.Nothing) = false
+needs_label (Directs directives.Ignored) = false
+
+abbrev pub is_among : List (List ℕ) → List ℕ → Bool
+is_among names name = list_any (bytes_eq name) names
+
+-- The names that a label may not be again: in a segment those that it defines, and outside those of the GEQUs there. The
+-- name of a segment is the first that it defines.
+abbrev pub taken_names : State → Option Segment → Operation → List (List ℕ)
+taken_names state None operation = if begins_segment operation then [] else map (λ row. row.0) state.outside
+taken_names state (Some s) operation = s.names
+
+abbrev pub not_among : List (List ℕ) → List ℕ → Answer (List ℕ)
+not_among names label = if is_among names label then Err Duplicate else Ok label
+
+-- a label in upper case; nothing is no label
+abbrev pub label_of : State → Operation → List ℕ → Answer (List ℕ)
+label_of state operation [] = if needs_label operation then Err BadLabel else Ok []
+label_of state operation (byte ∷ label) =
+    if is_name (byte ∷ label) then not_among (taken_names state state.segment operation) (folded (byte ∷ label)) else Err BadLabel
+
+-- ---- operands
+
+-- the operand of an instruction, or what is wrong with it
+pub data IsOperandOf (mnemonic : Mnemonic) (text : List ℕ) (answer : Answer Meaning) : Type 0 where
+  Good : (operand : Meaning) → IsGoodOperand (Some mnemonic) text operand → answer ≡ Ok operand → IsOperandOf mnemonic text answer
+  Bad : IsBadOperand (Some mnemonic) text → answer ≡ Err BadOperand → IsOperandOf mnemonic text answer
+  Large : HasBadNumber (Some mnemonic) text → answer ≡ Err BadNumber → IsOperandOf mnemonic text answer
+
+-- a name of at most ten bytes and spaces up to ten; none is ten spaces
+unfoldable pub load_name_of : List ℕ → Answer (List ℕ)
+load_name_of [] = Ok (replicate 10 0x20)
+load_name_of (byte ∷ text) =
+    if is_name (byte ∷ text) && nat_le (length (byte ∷ text)) 10
+    then Ok (folded (byte ∷ text) ++ replicate (10 - length (byte ∷ text)) 0x20) else Err BadOperand
+
+abbrev pub name_of : List ℕ → Answer (List ℕ)
+name_of text = if is_name text then Ok (folded text) else Err BadOperand
+
+-- ON or OFF, in upper or lower case
+abbrev pub switch_of : List ℕ → Answer Bool
+switch_of text =
+    if bytes_eq (folded text) (codes "ON") then Ok true
+    else if bytes_eq (folded text) (codes "OFF") then Ok false
+    else Err BadOperand
+
+-- the constants of the segment, and those from outside
+abbrev pub constants_in : Option Segment → List (List ℕ × ℕ)
+constants_in None = []
+constants_in (Some s) = s.constants
+
+abbrev pub constants_of : State → Constants
+constants_of state = constants_in state.segment ++ state.outside
+
+-- the number that a formula is
+abbrev pub number_in : State → Option Tree → Answer ℕ
+number_in state found = formula_of found >>= number_of (constants_of state)
+
+-- ---- directives with a number
+
+-- a power of two up to $10000, and in a segment up to its alignment
+abbrev pub is_alignment : Option Segment → ℕ → Bool
+is_alignment None n = is_power_of_two n && nat_le n 0x10000
+is_alignment (Some s) n = is_power_of_two n && nat_le n (alignment_of s.header.align)
+
+abbrev pub alignment_in : State → ℕ → Answer ℕ
+alignment_in state n = if is_alignment state.segment n then Ok n else Err BadOperand
+
+-- in a segment ORG moves the location counter forward
+abbrev pub distance_in : Option Segment → ℕ → Answer ℕ
+distance_in None n = Ok n
+distance_in (Some s) n = if nat_lt n (2 ^ 31) then Ok n else Err BadOperand
+
+-- KIND has two bytes, and its type is one that is listed
+abbrev pub listed_kind : ℕ → Answer ℕ
+listed_kind n = if not (is_listed (form_of n)) then Err BadOperand else if nat_lt 0xFFFF n then Err DoesNotFit else Ok n
+
+-- what ALIGN and ORG do: outside segments they wait for the next one
+abbrev pub aligned : State → Option Segment → List ℕ → ℕ → State
+aligned state None label n = record state { align = n }
+aligned state (Some s) label n = in_segment (marked label 0x4E (Align n ∷ [])) state
+
+abbrev pub moved : State → Option Segment → List ℕ → ℕ → State
+moved state None label n = record state { org = n }
+moved state (Some s) label n = in_segment (marked label 0x4E (Org n ∷ [])) state
+
+abbrev pub with_kind : ℕ → Segment → Segment
+with_kind n s = record s { header = record s.header { kind = n } }
+
+-- ---- EQU and GEQU
+
+-- the record: no length, type $4E, not private
+abbrev pub equate : Bool → List ℕ → Tree → Record
+equate global label tree = Equate global label 0 0x4E 0 (expression_text tree)
+
+-- a constant is known from the next line on
+abbrev pub with_constant : List ℕ → Amount → Constants → Constants
+with_constant label (Known n) constants = (label, n) ∷ constants
+with_constant label (Written tree) constants = constants
+
+abbrev pub equated : Bool → List ℕ → Amount → Segment → Segment
+equated global label a s =
+    record (grown label [] (equate global label (tree_of_amount a) ∷ []) s) { constants = with_constant label a s.constants }
+
+abbrev pub equating : State → Bool → Answer (List ℕ) → Option Tree → Answer State
+equating state global label found =
+    both label (formula_of found >>= amount (constants_of state))
+    >>= λ (name, a). Ok (in_segment (equated global name a) state)
+
+-- outside segments GEQU is a constant, and waits for the front of the next segment
+abbrev pub equating_outside : State → Answer (List ℕ) → Option Tree → Answer State
+equating_outside state label found =
+    both label (number_in state found)
+    >>= λ (name, n). Ok (record state { outside = (name, n) ∷ state.outside; front = state.front ++ equate true name (Leaf (Constant n)) ∷ [] })
+
+abbrev pub equating_global : State → Option Segment → Answer (List ℕ) → Option Tree → Answer State
+equating_global state None label found = equating_outside state label found
+equating_global state (Some s) label found = equating state true label found
+
+-- ---- what a directive does, by the formula of its operand
+
+abbrev pub spacing : State → Answer (List ℕ) → Option Tree → Answer State
+spacing state label found =
+    both label (number_in state found) >>= λ (name, n). Ok (in_segment (marked name 0x4E (Space n ∷ [])) state)
+
+abbrev pub aligning : State → Answer (List ℕ) → Option Tree → Answer State
+aligning state label found =
+    both label (number_in state found >>= alignment_in state) >>= λ (name, n). Ok (aligned state state.segment name n)
+
+abbrev pub moving : State → Answer (List ℕ) → Option Tree → Answer State
+moving state label found =
+    both label (number_in state found >>= distance_in state.segment) >>= λ (name, n). Ok (moved state state.segment name n)
+
+abbrev pub kinding : State → Answer (List ℕ) → Option Tree → Answer State
+kinding state label found =
+    both label (number_in state found >>= listed_kind)
+    >>= λ (name, n). Ok (in_segment (λ s. with_kind n (marked name 0x4E [] s)) state)
+
+-- the formula of ORG: in a segment it stands behind `*+`
+abbrev pub IsMoveText : Option (List ℕ) → Option Tree → Type 0
+IsMoveText None found = found ≡ None
+IsMoveText (Some text) found = IsFormula text found
+
+abbrev pub IsMove : Option Segment → List ℕ → Option Tree → Type 0
+IsMove None text found = IsFormula text found
+IsMove (Some s) text found = IsMoveText (behind_here text) found
+
+-- ---- what each operation does
+
+abbrev pub marking : State → ℕ → Answer (List ℕ) → Answer (List Record) → Answer State
+marking state form label contents = both label contents >>= λ (name, found). Ok (in_segment (marked name form found) state)
+
+abbrev pub beginning : State → Line → Class → Answer (List ℕ) → List ℕ → Answer State
+beginning state line class label text =
+    both label (load_name_of text) >>= λ (name, load_name). Ok (begun state line class name load_name)
+
+abbrev pub turning : State → Switch → Answer (List ℕ) → List ℕ → Answer State
+turning state switch label text =
+    both label (switch_of text) >>= λ (name, on). Ok (turned switch on (in_segment (marked name 0x4E []) state))
+
+-- an ENTRY's label is a GLOBAL of length 0 that isn't private
+abbrev pub entering : State → Answer (List ℕ) → Answer State
+entering state label = label >>= λ name. Ok (in_segment (grown name (Label true name 0 0x4E 0 ∷ []) []) state)
+
+-- What a statement leaves, or its first fault, by its operation, its label and the text of its operand.
+unfoldable pub IsDone : State → Line → Operation → Answer (List ℕ) → List ℕ → Answer State → Type 0
+IsDone state line (Instruction mnemonic) label text answer =
+    (operand : Answer Meaning) × IsOperandOf mnemonic text operand
+    × (answer ≡ marking state 0x4D label (operand >>= instruction (constants_of state) state.widths mnemonic >>= λ pieces. Ok (records_of pieces)))
+IsDone state line (Directs (directives.Begin class)) label text answer = answer ≡ beginning state line class label text
+IsDone state line (Directs directives.End) label text answer = answer ≡ (marking state 0x4E label (Ok (End ∷ [])) >>= λ left. Ok (closed left))
+IsDone state line (Directs directives.Entry) label text answer = answer ≡ entering state label
+IsDone state line (Directs directives.Using) label text answer = answer ≡ marking state 0x4E label (name_of text >>= λ name. Ok (Using name ∷ []))
+IsDone state line (Directs directives.Equ) label text answer = (found : Option Tree) × IsFormula text found × (answer ≡ equating state false label found)
+IsDone state line (Directs directives.Gequ) label text answer =
+    (found : Option Tree) × IsFormula text found × (answer ≡ equating_global state state.segment label found)
+IsDone state line (Directs directives.Constants) label text answer =
+    (found : Option (List Element)) × IsList text found
+    × (answer ≡ marking state 0x4E label (list_pieces (constants_of state) state.msb found >>= λ pieces. Ok (records_of pieces)))
+IsDone state line (Directs directives.Space) label text answer = (found : Option Tree) × IsFormula text found × (answer ≡ spacing state label found)
+IsDone state line (Directs directives.Align) label text answer = (found : Option Tree) × IsFormula text found × (answer ≡ aligning state label found)
+IsDone state line (Directs directives.Org) label text answer = (found : Option Tree) × IsMove state.segment text found × (answer ≡ moving state label found)
+IsDone state line (Directs directives.Kind) label text answer = (found : Option Tree) × IsFormula text found × (answer ≡ kinding state label found)
+IsDone state line (Directs (directives.Turn switch)) label text answer = answer ≡ turning state switch label text
+IsDone state line (Directs directives.Nothing) label text answer = answer ≡ marking state 0x4E label (Ok [])
+IsDone state line (Directs directives.Ignored) label text answer = answer ≡ marking state 0x4E label (Ok [])
+
+-- ---- lines
+
+abbrev pub IsPlaced : State → Line → Operation → List ℕ → List ℕ → Bool → Answer State → Type 0
+IsPlaced state line operation label text true answer = answer ≡ Err OutsideSegment
+IsPlaced state line operation label text false answer =
+    (left : Answer State) × IsDone state line operation (label_of state operation label) text left × (answer ≡ (left >>= within_length))
+
+abbrev pub IsKnown : State → Line → Option Operation → List ℕ → List ℕ → Answer State → Type 0
+IsKnown state line None label text answer = answer ≡ Err UnknownOperation
+IsKnown state line (Some operation) label text answer =
+    IsPlaced state line operation label text (is_misplaced state.segment operation label text) answer
+
+-- what a line leaves where lines before it left this, or its first fault
+abbrev pub IsStep : State → Line → Answer State → Type 0
+IsStep state line answer =
+    IsKnown state line (operation_of (part line.text line.fields.operation)) (part line.text line.fields.label) (part line.text line.fields.operand) answer

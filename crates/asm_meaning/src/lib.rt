@@ -1,0 +1,9 @@
+//! What assembling means: the definitions that the assembler's crate cites (ORCA/M reference manual, "Assembler directives";
+//! WDC 65C816 data sheet, addressing modes; GS/OS Reference, appendix F). What this project adds or leaves out is its own.
+#![tactic(auto)]
+
+mod directives;
+mod faults;
+
+pub use directives::{Class, Directive, Switch};
+pub use faults::{AsmCause, AsmFault};
