@@ -126,12 +126,19 @@ IsValueAt References text value rest =
 IsValueAt WeakReferences text value rest =
     (inner : List ℕ) × (names : List (List ℕ)) × (closed_at text ≡ Some (inner, rest)) × AreNames inner names × (value ≡ Weak names)
 
--- how often an element stands, at the front; where it isn't said, the type stands there
-pub data IsRepeatAt (text : List ℕ) (repeat : Repeat) (rest : List ℕ) : Type 0 where
-  IsComputed : (behind : List ℕ) (tree : Tree) → text ≡ 0x28 ∷ behind → MeansAt Labels behind tree (0x29 ∷ rest) → repeat ≡ Computed tree
-      → IsRepeatAt text repeat rest
-  IsDecimal : (n : ℕ) → digits_at 10 text ≡ Some (n, rest) → repeat ≡ Digits n → IsRepeatAt text repeat rest
-  IsOnce : rest ≡ text → repeat ≡ Once → IsRepeatAt text repeat rest
+-- what stands behind a parenthesis that opens at the front
+abbrev pub behind_parenthesis : List ℕ → Option (List ℕ)
+behind_parenthesis [] = None
+behind_parenthesis (byte ∷ behind) = if byte == 0x28 then Some behind else None
+
+-- how often an element stands, at the front: a formula in parentheses, decimal digits, or nothing
+abbrev pub IsRepeatBy : Option (List ℕ) → Found ℕ → List ℕ → Repeat → List ℕ → Type 0
+IsRepeatBy (Some behind) digits text repeat rest = (tree : Tree) × MeansAt Labels behind tree (0x29 ∷ rest) × (repeat ≡ Computed tree)
+IsRepeatBy None (Some found) text repeat rest = (repeat ≡ Digits found.0) × (rest ≡ found.1)
+IsRepeatBy None None text repeat rest = (repeat ≡ Once) × (rest ≡ text)
+
+abbrev pub IsRepeatAt : List ℕ → Repeat → List ℕ → Type 0
+IsRepeatAt text repeat rest = IsRepeatBy (behind_parenthesis text) (digits_at 10 text) text repeat rest
 
 -- an element stands at the front: how often, its type, and its value in quotes
 pub record IsElementAt (text : List ℕ) (element : Element) (rest : List ℕ) : Type 0 where

@@ -8,3 +8,5 @@ pub mod Elements
 pub mod State
 pub mod Statement
 pub mod Object
+pub mod StatementLaws
+pub mod ObjectLaws
