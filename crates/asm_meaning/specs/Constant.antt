@@ -5,14 +5,9 @@ use Rattle.omf_format.specs.Value.{number_of_one, number_of_two, divides}
 use Rattle.asm_meaning.specs.declared.faults.AsmCause.TheVariants.{UnknownConstant, DivideByZero}
 use Rattle.asm_meaning.specs.Answer.{Answer}
 
--- names with their values, the later ones first
+-- the names whose values are known, with their values
 abbrev pub Constants : Type 0
-Constants = List (List ℕ × ℕ)
-
--- the value of a name
-unfoldable pub known : Constants → List ℕ → Option ℕ
-known [] name = None
-known (row ∷ rows) name = if bytes_eq row.0 name then Some row.1 else known rows name
+Constants = List ℕ → Option ℕ
 
 -- ---- the number that a formula is
 
@@ -32,7 +27,7 @@ abbrev pub worth_of_term : Constants → Term → Worth
 worth_of_term constants (Operator code) = Open
 worth_of_term constants Location = Open
 worth_of_term constants (Constant n) = Number n
-worth_of_term constants (Named code name) = if code == 0x83 then number_or_open (known constants name) else Open
+worth_of_term constants (Named code name) = if code == 0x83 then number_or_open (constants name) else Open
 worth_of_term constants (Offset n) = Open
 
 abbrev pub worth_of_one : ℕ → Worth → Worth
@@ -72,7 +67,7 @@ abbrev pub term_with_values : Constants → Term → Term
 term_with_values constants (Operator code) = Operator code
 term_with_values constants Location = Location
 term_with_values constants (Constant n) = Constant n
-term_with_values constants (Named code name) = if code == 0x83 then number_or (Named code name) (known constants name) else Named code name
+term_with_values constants (Named code name) = if code == 0x83 then number_or (Named code name) (constants name) else Named code name
 term_with_values constants (Offset n) = Offset n
 
 -- each known constant gives its value

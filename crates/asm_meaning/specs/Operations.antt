@@ -7,6 +7,8 @@ use Rattle.orca_meaning.specs.Operation.{beside, mnemonic_of}
 use Rattle.asm_meaning.specs.declared.directives.Class.TheVariants.{Code, PrivateCode, Data, PrivateData}
 use Rattle.asm_meaning.specs.declared.directives.Switch.TheVariants.{LongA, LongI, Msb}
 use Rattle.asm_meaning.specs.declared.directives.Directive.{Directive}
+use Rattle.asm_meaning.specs.declared.directives.Operation.{Operation}
+use Rattle.asm_meaning.specs.declared.directives.Operation.TheVariants.{Instruct, Direct}
 use Rattle.asm_meaning.specs.declared.directives.Directive.TheVariants.{Begin, End, Entry, Using, Equ, Gequ, Constants, Space, Align, Org, Kind, Turn, Nothing, Ignored}
 
 -- accepted, without effect
@@ -26,13 +28,8 @@ directives =
     (codes "DC", Constants) ∷ (codes "DS", Space) ∷ (codes "ALIGN", Align) ∷ (codes "ORG", Org) ∷ (codes "KIND", Kind) ∷
     (codes "LONGA", Turn LongA) ∷ (codes "LONGI", Turn LongI) ∷ (codes "MSB", Turn Msb) ∷ (codes "ANOP", Nothing) ∷ map as_ignored ignored
 
--- an operation: an instruction or a directive
-pub data Operation : Type 0 where
-  Instruction : (mnemonic : Mnemonic) → Operation
-  Directs : (directive : Directive) → Operation
-
 -- what an operation is, in upper or lower case; a line without one is read as ANOP
 unfoldable pub operation_of : List ℕ → Option Operation
-operation_of [] = Some (Directs Nothing)
+operation_of [] = Some (Direct Nothing)
 operation_of (byte ∷ behind) =
-    option_or (option_map Instruction (mnemonic_of (byte ∷ behind))) (option_map Directs (beside (folded (byte ∷ behind)) directives))
+    option_or (option_map Instruct (mnemonic_of (byte ∷ behind))) (option_map Direct (beside (folded (byte ∷ behind)) directives))

@@ -5,6 +5,7 @@ use Rattle.std.specs.Option.{option_map}
 use Rattle.omf_format.specs.Header.{Fields}
 use Rattle.omf_format.specs.Record.{Record, Label}
 use Rattle.orca_meaning.specs.Line.{Line}
+use Rattle.macro_meaning.specs.Symbol.{with_name}
 use Rattle.asm_meaning.specs.declared.directives.Class.{Class}
 use Rattle.asm_meaning.specs.declared.directives.Class.TheVariants.{Code, PrivateCode, Data, PrivateData}
 use Rattle.asm_meaning.specs.declared.directives.Switch.{Switch}
@@ -15,14 +16,17 @@ use Rattle.asm_meaning.specs.Constant.{Constants}
 use Rattle.asm_meaning.specs.Instruction.{Widths}
 use Rattle.asm_meaning.specs.Pieces.{place_behind, length_at}
 
--- a segment that hasn't ended: the line that begins it, its class, its header so far, the names that it defines, which of
--- them are constants, and its records
+-- the names that a segment defines, each with its value where it is a constant
+abbrev pub Names : Type 0
+Names = List ℕ → Option (Option ℕ)
+
+-- a segment that hasn't ended: the line that begins it, its class, its header so far, the names that it defines, and its
+-- records
 pub record Segment : Type 0 where
   pub begun : Line
   pub class : Class
   pub header : Fields
-  pub names : List (List ℕ)
-  pub constants : Constants
+  pub names : Names
   pub body : List Record
 
 -- a segment that has ended: its header, and its records up to END
@@ -42,12 +46,18 @@ pub record State : Type 0 where
   pub segment : Option Segment
   pub ended : List Ended
 
+abbrev pub no_constants : Constants
+no_constants name = None
+
+abbrev pub no_names : Names
+no_names name = None
+
 -- before the first line: the registers have 16 bits, and MSB is off
 abbrev pub start : State
 start = record {
   widths = record { long_a = true; long_i = true };
   msb = false;
-  outside = [];
+  outside = no_constants;
   org = 0;
   align = 0;
   front = [];
@@ -110,8 +120,7 @@ begun state line class name load_name = record state {
     begun = line;
     class = class;
     header = header_of state class name load_name;
-    names = name ∷ [];
-    constants = [];
+    names = with_name name None no_names;
     body = state.front;
   });
 }
@@ -127,9 +136,9 @@ closed state = record state { segment = None; ended = state.ended ++ ended_of st
 -- ---- statements in a segment
 
 -- one more name, where the statement has a label
-abbrev pub with_name : List ℕ → List (List ℕ) → List (List ℕ)
-with_name [] names = names
-with_name (byte ∷ label) names = names ++ (byte ∷ label) ∷ []
+abbrev pub with_label : List ℕ → Option ℕ → Names → Names
+with_label [] value names = names
+with_label (byte ∷ label) value names = with_name (byte ∷ label) value names
 
 -- LOCAL for a label: its length is that of the statement, as far as two bytes hold it, its type tells instructions ($4D)
 -- from other statements ($4E), and it isn't private
@@ -138,12 +147,12 @@ local_of [] form size = []
 local_of (byte ∷ label) form size = Label false (byte ∷ label) (min size 0xFFFF) form 0 ∷ []
 
 -- a statement's records stand at the end of the segment, behind these for its label, which becomes one of its names
-abbrev pub grown : List ℕ → List Record → List Record → Segment → Segment
-grown label front contents s = record s { names = with_name label s.names; body = s.body ++ (front ++ contents) }
+abbrev pub grown : List ℕ → Option ℕ → List Record → List Record → Segment → Segment
+grown label value front contents s = record s { names = with_label label value s.names; body = s.body ++ (front ++ contents) }
 
 -- the same with LOCAL for its label
 abbrev pub marked : List ℕ → ℕ → List Record → Segment → Segment
-marked label form contents s = grown label (local_of label form (length_at (cells_of s) contents)) contents s
+marked label form contents s = grown label None (local_of label form (length_at (cells_of s) contents)) contents s
 
 abbrev pub in_segment : (Segment → Segment) → State → State
 in_segment change state = record state { segment = option_map change state.segment }

@@ -1,8 +1,8 @@
 -- Statements: what each operation does (ORCA/M reference manual, "Assembler directives"; GS/OS Reference, appendix F), and
 -- the first fault of one (the order is this project's own).
-use Rattle.std.specs.Prelude.{◌≡◌, ℕ, ◌-◌, ◌^◌, Bool, true, false, not, ◌||◌, ◌&&◌, ◌==◌, nat_lt, nat_le, List, [], ◌∷◌, ◌++◌, length, map, replicate, codes, bytes_eq, Option, Some, None, Ok, Err, if◌then◌else◌}
+use Rattle.std.specs.Prelude.{is_some, ◌≡◌, ℕ, ◌-◌, ◌^◌, Bool, true, false, not, ◌||◌, ◌&&◌, ◌==◌, nat_lt, nat_le, List, [], ◌∷◌, ◌++◌, length, map, replicate, codes, bytes_eq, Option, Some, None, Ok, Err, if◌then◌else◌}
 use Rattle.std.specs.Int.{is_power_of_two}
-use Rattle.std.specs.List.{list_any}
+use Rattle.std.specs.Option.{option_or}
 use Rattle.omf_format.specs.Field.{◌>>=◌}
 use Rattle.omf_format.specs.Expression.{Tree, Leaf, Constant}
 use Rattle.omf_format.specs.Header.{alignment_of, form_of, is_listed}
@@ -10,6 +10,7 @@ use Rattle.omf_format.specs.Record.{Record, End, Align, Org, Space, Using, Label
 use Rattle.orca_meaning.specs.declared.mnemonics.Mnemonic.{Mnemonic}
 use Rattle.orca_meaning.specs.Characters.{folded, is_name}
 use Rattle.orca_meaning.specs.Line.{Line, part}
+use Rattle.macro_meaning.specs.Symbol.{with_name}
 use Rattle.orca_meaning.specs.Operand.{Meaning, IsGoodOperand, IsBadOperand, HasBadNumber}
 use Rattle.asm_meaning.specs.declared.directives.Class.{Class}
 use Rattle.asm_meaning.specs.declared.directives.Switch.{Switch}
@@ -20,7 +21,9 @@ use Rattle.asm_meaning.specs.Constant.{Constants, Amount, Known, Written, amount
 use Rattle.asm_meaning.specs.Elements.{Element, IsList, list_pieces}
 use Rattle.asm_meaning.specs.Formulas.{IsFormula, formula_of, number_of, expression_text}
 use Rattle.asm_meaning.specs.Instruction.{instruction}
-use Rattle.asm_meaning.specs.Operations.{Operation, Instruction, Directs, operation_of}
+use Rattle.asm_meaning.specs.declared.directives.Operation.{Operation}
+use Rattle.asm_meaning.specs.declared.directives.Operation.TheVariants.{Instruct, Direct}
+use Rattle.asm_meaning.specs.Operations.{operation_of}
 use Rattle.asm_meaning.specs.Pieces.{records_of}
 use Rattle.asm_meaning.specs.State.{Segment, State, begun, closed, grown, marked, in_segment, within_length, turned}
 
@@ -43,38 +46,38 @@ is_labelled (byte ∷ label) = true
 -- Which statements may not stand outside segments: those that give something to a segment, and those with a label that isn't
 -- the name of a segment or of a GEQU.
 abbrev pub needs_segment : Operation → List ℕ → List ℕ → Bool
-needs_segment (Instruction mnemonic) label operand = true
-needs_segment (Directs (directives.Begin class)) label operand = false
-needs_segment (Directs directives.End) label operand = true
-needs_segment (Directs directives.Entry) label operand = true
-needs_segment (Directs directives.Using) label operand = true
-needs_segment (Directs directives.Equ) label operand = true
-needs_segment (Directs directives.Gequ) label operand = false
-needs_segment (Directs directives.Constants) label operand = true
-needs_segment (Directs directives.Space) label operand = true
-needs_segment (Directs directives.Align) label operand = is_labelled label
-needs_segment (Directs directives.Org) label operand = is_labelled label || is_some_text (behind_here operand)
-needs_segment (Directs directives.Kind) label operand = true
-needs_segment (Directs (directives.Turn switch)) label operand = is_labelled label
-needs_segment (Directs directives.Nothing) label operand = is_labelled label
-needs_segment (Directs directives.Ignored) label operand = is_labelled label
+needs_segment (Instruct mnemonic) label operand = true
+needs_segment (Direct (directives.Begin class)) label operand = false
+needs_segment (Direct directives.End) label operand = true
+needs_segment (Direct directives.Entry) label operand = true
+needs_segment (Direct directives.Using) label operand = true
+needs_segment (Direct directives.Equ) label operand = true
+needs_segment (Direct directives.Gequ) label operand = false
+needs_segment (Direct directives.Constants) label operand = true
+needs_segment (Direct directives.Space) label operand = true
+needs_segment (Direct directives.Align) label operand = is_labelled label
+needs_segment (Direct directives.Org) label operand = is_labelled label || is_some_text (behind_here operand)
+needs_segment (Direct directives.Kind) label operand = true
+needs_segment (Direct (directives.Turn switch)) label operand = is_labelled label
+needs_segment (Direct directives.Nothing) label operand = is_labelled label
+needs_segment (Direct directives.Ignored) label operand = is_labelled label
 
 abbrev pub begins_segment : Operation → Bool
-begins_segment (Instruction mnemonic) = false
-begins_segment (Directs (directives.Begin class)) = true
-begins_segment (Directs directives.End) = false
-begins_segment (Directs directives.Entry) = false
-begins_segment (Directs directives.Using) = false
-begins_segment (Directs directives.Equ) = false
-begins_segment (Directs directives.Gequ) = false
-begins_segment (Directs directives.Constants) = false
-begins_segment (Directs directives.Space) = false
-begins_segment (Directs directives.Align) = false
-begins_segment (Directs directives.Org) = false
-begins_segment (Directs directives.Kind) = false
-begins_segment (Directs (directives.Turn switch)) = false
-begins_segment (Directs directives.Nothing) = false
-begins_segment (Directs directives.Ignored) = false
+begins_segment (Instruct mnemonic) = false
+begins_segment (Direct (directives.Begin class)) = true
+begins_segment (Direct directives.End) = false
+begins_segment (Direct directives.Entry) = false
+begins_segment (Direct directives.Using) = false
+begins_segment (Direct directives.Equ) = false
+begins_segment (Direct directives.Gequ) = false
+begins_segment (Direct directives.Constants) = false
+begins_segment (Direct directives.Space) = false
+begins_segment (Direct directives.Align) = false
+begins_segment (Direct directives.Org) = false
+begins_segment (Direct directives.Kind) = false
+begins_segment (Direct (directives.Turn switch)) = false
+begins_segment (Direct directives.Nothing) = false
+begins_segment (Direct directives.Ignored) = false
 
 -- a statement stands on the wrong side
 abbrev pub is_misplaced : Option Segment → Operation → List ℕ → List ℕ → Bool
@@ -84,39 +87,36 @@ is_misplaced (Some s) operation label operand = begins_segment operation
 -- ---- labels
 
 abbrev pub needs_label : Operation → Bool
-needs_label (Instruction mnemonic) = false
-needs_label (Directs (directives.Begin class)) = true
-needs_label (Directs directives.End) = false
-needs_label (Directs directives.Entry) = true
-needs_label (Directs directives.Using) = false
-needs_label (Directs directives.Equ) = true
-needs_label (Directs directives.Gequ) = true
-needs_label (Directs directives.Constants) = false
-needs_label (Directs directives.Space) = false
-needs_label (Directs directives.Align) = false
-needs_label (Directs directives.Org) = false
-needs_label (Directs directives.Kind) = false
-needs_label (Directs (directives.Turn switch)) = false
-needs_label (Directs directives.Nothing) = false
-needs_label (Directs directives.Ignored) = false
+needs_label (Instruct mnemonic) = false
+needs_label (Direct (directives.Begin class)) = true
+needs_label (Direct directives.End) = false
+needs_label (Direct directives.Entry) = true
+needs_label (Direct directives.Using) = false
+needs_label (Direct directives.Equ) = true
+needs_label (Direct directives.Gequ) = true
+needs_label (Direct directives.Constants) = false
+needs_label (Direct directives.Space) = false
+needs_label (Direct directives.Align) = false
+needs_label (Direct directives.Org) = false
+needs_label (Direct directives.Kind) = false
+needs_label (Direct (directives.Turn switch)) = false
+needs_label (Direct directives.Nothing) = false
+needs_label (Direct directives.Ignored) = false
 
-abbrev pub is_among : List (List ℕ) → List ℕ → Bool
-is_among names name = list_any (bytes_eq name) names
-
--- The names that a label may not be again: in a segment those that it defines, and outside those of the GEQUs there. The
+-- Whether a label is a name that there is already: in a segment one that it defines, and outside one of the GEQUs there. The
 -- name of a segment is the first that it defines.
-abbrev pub taken_names : State → Option Segment → Operation → List (List ℕ)
-taken_names state None operation = if begins_segment operation then [] else map (λ row. row.0) state.outside
-taken_names state (Some s) operation = s.names
+abbrev pub is_taken : State → Option Segment → Operation → List ℕ → Bool
+is_taken state None operation label = if begins_segment operation then false else is_some (state.outside label)
+is_taken state (Some s) operation label = is_some (s.names label)
 
-abbrev pub not_among : List (List ℕ) → List ℕ → Answer (List ℕ)
-not_among names label = if is_among names label then Err Duplicate else Ok label
+abbrev pub free_label : Bool → List ℕ → Answer (List ℕ)
+free_label taken label = if taken then Err Duplicate else Ok label
 
 -- a label in upper case; nothing is no label
 abbrev pub label_of : State → Operation → List ℕ → Answer (List ℕ)
 label_of state operation [] = if needs_label operation then Err BadLabel else Ok []
 label_of state operation (byte ∷ label) =
-    if is_name (byte ∷ label) then not_among (taken_names state state.segment operation) (folded (byte ∷ label)) else Err BadLabel
+    if is_name (byte ∷ label) then free_label (is_taken state state.segment operation (folded (byte ∷ label))) (folded (byte ∷ label)) else Err BadLabel
 
 -- ---- operands
 
@@ -143,13 +143,18 @@ switch_of text =
     else if bytes_eq (folded text) (codes "OFF") then Ok false
     else Err BadOperand
 
--- the constants of the segment, and those from outside
-abbrev pub constants_in : Option Segment → List (List ℕ × ℕ)
-constants_in None = []
-constants_in (Some s) = s.constants
+-- a name's value in the segment
+abbrev pub value_in : Option (Option ℕ) → Option ℕ
+value_in None = None
+value_in (Some value) = value
 
+abbrev pub constants_in : Option Segment → Constants
+constants_in None name = None
+constants_in (Some s) name = value_in (s.names name)
+
+-- the constants of the segment, and else those from outside
 abbrev pub constants_of : State → Constants
-constants_of state = constants_in state.segment ++ state.outside
+constants_of state name = option_or (constants_in state.segment name) (state.outside name)
 
 -- the number that a formula is
 abbrev pub number_in : State → Option Tree → Answer ℕ
@@ -193,13 +198,12 @@ abbrev pub equate : Bool → List ℕ → Tree → Record
 equate global label tree = Equate global label 0 0x4E 0 (expression_text tree)
 
 -- a constant is known from the next line on
-abbrev pub with_constant : List ℕ → Amount → Constants → Constants
-with_constant label (Known n) constants = (label, n) ∷ constants
-with_constant label (Written tree) constants = constants
+abbrev pub value_of : Amount → Option ℕ
+value_of (Known n) = Some n
+value_of (Written tree) = None
 
 abbrev pub equated : Bool → List ℕ → Amount → Segment → Segment
-equated global label a s =
-    record (grown label [] (equate global label (tree_of_amount a) ∷ []) s) { constants = with_constant label a s.constants }
+equated global label a s = grown label (value_of a) [] (equate global label (tree_of_amount a) ∷ []) s
 
 abbrev pub equating : State → Bool → Answer (List ℕ) → Option Tree → Answer State
 equating state global label found =
@@ -210,7 +214,7 @@ equating state global label found =
 abbrev pub equating_outside : State → Answer (List ℕ) → Option Tree → Answer State
 equating_outside state label found =
     both label (number_in state found)
-    >>= λ (name, n). Ok (record state { outside = (name, n) ∷ state.outside; front = state.front ++ equate true name (Leaf (Constant n)) ∷ [] })
+    >>= λ (name, n). Ok (record state { outside = with_name name n state.outside; front = state.front ++ equate true name (Leaf (Constant n)) ∷ [] })
 
 abbrev pub equating_global : State → Option Segment → Answer (List ℕ) → Option Tree → Answer State
 equating_global state None label found = equating_outside state label found
@@ -259,30 +263,30 @@ turning state switch label text =
 
 -- an ENTRY's label is a GLOBAL of length 0 that isn't private
 abbrev pub entering : State → Answer (List ℕ) → Answer State
-entering state label = label >>= λ name. Ok (in_segment (grown name (Label true name 0 0x4E 0 ∷ []) []) state)
+entering state label = label >>= λ name. Ok (in_segment (grown name None (Label true name 0 0x4E 0 ∷ []) []) state)
 
 -- What a statement leaves, or its first fault, by its operation, its label and the text of its operand.
 unfoldable pub IsDone : State → Line → Operation → Answer (List ℕ) → List ℕ → Answer State → Type 0
-IsDone state line (Instruction mnemonic) label text answer =
+IsDone state line (Instruct mnemonic) label text answer =
     (operand : Answer Meaning) × IsOperandOf mnemonic text operand
     × (answer ≡ marking state 0x4D label (operand >>= instruction (constants_of state) state.widths mnemonic >>= λ pieces. Ok (records_of pieces)))
-IsDone state line (Directs (directives.Begin class)) label text answer = answer ≡ beginning state line class label text
-IsDone state line (Directs directives.End) label text answer = answer ≡ (marking state 0x4E label (Ok (End ∷ [])) >>= λ left. Ok (closed left))
-IsDone state line (Directs directives.Entry) label text answer = answer ≡ entering state label
-IsDone state line (Directs directives.Using) label text answer = answer ≡ marking state 0x4E label (name_of text >>= λ name. Ok (Using name ∷ []))
-IsDone state line (Directs directives.Equ) label text answer = (found : Option Tree) × IsFormula text found × (answer ≡ equating state false label found)
-IsDone state line (Directs directives.Gequ) label text answer =
+IsDone state line (Direct (directives.Begin class)) label text answer = answer ≡ beginning state line class label text
+IsDone state line (Direct directives.End) label text answer = answer ≡ (marking state 0x4E label (Ok (End ∷ [])) >>= λ left. Ok (closed left))
+IsDone state line (Direct directives.Entry) label text answer = answer ≡ entering state label
+IsDone state line (Direct directives.Using) label text answer = answer ≡ marking state 0x4E label (name_of text >>= λ name. Ok (Using name ∷ []))
+IsDone state line (Direct directives.Equ) label text answer = (found : Option Tree) × IsFormula text found × (answer ≡ equating state false label found)
+IsDone state line (Direct directives.Gequ) label text answer =
     (found : Option Tree) × IsFormula text found × (answer ≡ equating_global state state.segment label found)
-IsDone state line (Directs directives.Constants) label text answer =
+IsDone state line (Direct directives.Constants) label text answer =
     (found : Option (List Element)) × IsList text found
     × (answer ≡ marking state 0x4E label (list_pieces (constants_of state) state.msb found >>= λ pieces. Ok (records_of pieces)))
-IsDone state line (Directs directives.Space) label text answer = (found : Option Tree) × IsFormula text found × (answer ≡ spacing state label found)
-IsDone state line (Directs directives.Align) label text answer = (found : Option Tree) × IsFormula text found × (answer ≡ aligning state label found)
-IsDone state line (Directs directives.Org) label text answer = (found : Option Tree) × IsMove state.segment text found × (answer ≡ moving state label found)
-IsDone state line (Directs directives.Kind) label text answer = (found : Option Tree) × IsFormula text found × (answer ≡ kinding state label found)
-IsDone state line (Directs (directives.Turn switch)) label text answer = answer ≡ turning state switch label text
-IsDone state line (Directs directives.Nothing) label text answer = answer ≡ marking state 0x4E label (Ok [])
-IsDone state line (Directs directives.Ignored) label text answer = answer ≡ marking state 0x4E label (Ok [])
+IsDone state line (Direct directives.Space) label text answer = (found : Option Tree) × IsFormula text found × (answer ≡ spacing state label found)
+IsDone state line (Direct directives.Align) label text answer = (found : Option Tree) × IsFormula text found × (answer ≡ aligning state label found)
+IsDone state line (Direct directives.Org) label text answer = (found : Option Tree) × IsMove state.segment text found × (answer ≡ moving state label found)
+IsDone state line (Direct directives.Kind) label text answer = (found : Option Tree) × IsFormula text found × (answer ≡ kinding state label found)
+IsDone state line (Direct (directives.Turn switch)) label text answer = answer ≡ turning state switch label text
+IsDone state line (Direct directives.Nothing) label text answer = answer ≡ marking state 0x4E label (Ok [])
+IsDone state line (Direct directives.Ignored) label text answer = answer ≡ marking state 0x4E label (Ok [])
 
 -- ---- lines
 

@@ -16,7 +16,9 @@ use Rattle.asm_meaning.specs.Answer.{Answer}
 use Rattle.asm_meaning.specs.Elements.{Repeat, Once, Digits, Computed, Value, Numbers, Fixed, Text, Asked, Weak, Element, Kind, Number, Hexadecimal, Binary, Characters, References, WeakReferences, closed_at, text_at, bytes_of_digits, kind_at, AreNames, IsValueAt, behind_parenthesis, IsRepeatBy, IsElementAt, AreElements, IsList, list_pieces}
 use Rattle.asm_meaning.specs.Formulas.{IsFormula, AreFormulas}
 use Rattle.asm_meaning.specs.Instruction.{instruction}
-use Rattle.asm_meaning.specs.Operations.{Operation, Instruction, Directs, operation_of}
+use Rattle.asm_meaning.specs.declared.directives.Operation.{Operation}
+use Rattle.asm_meaning.specs.declared.directives.Operation.TheVariants.{Instruct, Direct}
+use Rattle.asm_meaning.specs.Operations.{operation_of}
 use Rattle.asm_meaning.specs.Pieces.{records_of}
 use Rattle.asm_meaning.specs.State.{Segment, State, within_length}
 use Rattle.asm_meaning.specs.Statement.{behind_here, IsOperandOf, Good, Bad, Large, constants_of, IsMoveText, IsMove, marking, equating, equating_global, spacing, aligning, moving, kinding, IsDone, IsPlaced, IsKnown, IsStep, label_of, is_misplaced}
@@ -181,25 +183,25 @@ move_once (Some s) text a b p q = by_text (behind_here text) p q
 done_once : (state : State) (line : Line) (operation : Operation) (label : Answer (List ℕ)) (text : List ℕ) (a b : Answer State)
     → IsDone state line operation label text a → IsDone state line operation label text b → a ≡ b
 unfolding IsDone
-done_once state line (Instruction mnemonic) label text a b p q =
+done_once state line (Instruct mnemonic) label text a b p q =
     let given : Answer Meaning → Answer State = λ x. marking state 0x4D label (x >>= instruction (constants_of state) state.widths mnemonic >>= λ pieces. Ok (records_of pieces)) in
     p.2 ∙ ap given (operand_once mnemonic text p.0 q.0 p.1 q.1) ∙ sym q.2
-done_once state line (Directs (directives.Begin class)) label text a b p q = p ∙ sym q
-done_once state line (Directs directives.End) label text a b p q = p ∙ sym q
-done_once state line (Directs directives.Entry) label text a b p q = p ∙ sym q
-done_once state line (Directs directives.Using) label text a b p q = p ∙ sym q
-done_once state line (Directs directives.Equ) label text a b p q = p.2 ∙ ap (equating state false label) (formula_once text p.0 q.0 p.1 q.1) ∙ sym q.2
-done_once state line (Directs directives.Gequ) label text a b p q = p.2 ∙ ap (equating_global state state.segment label) (formula_once text p.0 q.0 p.1 q.1) ∙ sym q.2
-done_once state line (Directs directives.Constants) label text a b p q =
+done_once state line (Direct (directives.Begin class)) label text a b p q = p ∙ sym q
+done_once state line (Direct directives.End) label text a b p q = p ∙ sym q
+done_once state line (Direct directives.Entry) label text a b p q = p ∙ sym q
+done_once state line (Direct directives.Using) label text a b p q = p ∙ sym q
+done_once state line (Direct directives.Equ) label text a b p q = p.2 ∙ ap (equating state false label) (formula_once text p.0 q.0 p.1 q.1) ∙ sym q.2
+done_once state line (Direct directives.Gequ) label text a b p q = p.2 ∙ ap (equating_global state state.segment label) (formula_once text p.0 q.0 p.1 q.1) ∙ sym q.2
+done_once state line (Direct directives.Constants) label text a b p q =
     let given : Option (List Element) → Answer State = λ x. marking state 0x4E label (list_pieces (constants_of state) state.msb x >>= λ pieces. Ok (records_of pieces)) in
     p.2 ∙ ap given (list_once text p.0 q.0 p.1 q.1) ∙ sym q.2
-done_once state line (Directs directives.Space) label text a b p q = p.2 ∙ ap (spacing state label) (formula_once text p.0 q.0 p.1 q.1) ∙ sym q.2
-done_once state line (Directs directives.Align) label text a b p q = p.2 ∙ ap (aligning state label) (formula_once text p.0 q.0 p.1 q.1) ∙ sym q.2
-done_once state line (Directs directives.Org) label text a b p q = p.2 ∙ ap (moving state label) (move_once state.segment text p.0 q.0 p.1 q.1) ∙ sym q.2
-done_once state line (Directs directives.Kind) label text a b p q = p.2 ∙ ap (kinding state label) (formula_once text p.0 q.0 p.1 q.1) ∙ sym q.2
-done_once state line (Directs (directives.Turn switch)) label text a b p q = p ∙ sym q
-done_once state line (Directs directives.Nothing) label text a b p q = p ∙ sym q
-done_once state line (Directs directives.Ignored) label text a b p q = p ∙ sym q
+done_once state line (Direct directives.Space) label text a b p q = p.2 ∙ ap (spacing state label) (formula_once text p.0 q.0 p.1 q.1) ∙ sym q.2
+done_once state line (Direct directives.Align) label text a b p q = p.2 ∙ ap (aligning state label) (formula_once text p.0 q.0 p.1 q.1) ∙ sym q.2
+done_once state line (Direct directives.Org) label text a b p q = p.2 ∙ ap (moving state label) (move_once state.segment text p.0 q.0 p.1 q.1) ∙ sym q.2
+done_once state line (Direct directives.Kind) label text a b p q = p.2 ∙ ap (kinding state label) (formula_once text p.0 q.0 p.1 q.1) ∙ sym q.2
+done_once state line (Direct (directives.Turn switch)) label text a b p q = p ∙ sym q
+done_once state line (Direct directives.Nothing) label text a b p q = p ∙ sym q
+done_once state line (Direct directives.Ignored) label text a b p q = p ∙ sym q
 
 -- a line leaves one thing
 pub step_once : (state : State) (line : Line) (a b : Answer State) → IsStep state line a → IsStep state line b → a ≡ b

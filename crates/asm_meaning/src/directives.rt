@@ -1,4 +1,6 @@
-//! The directives (ORCA/M reference manual, "Assembler directives").
+//! Operations: instructions and directives (ORCA/M reference manual, "Assembler directives").
+
+use orca_meaning::Mnemonic;
 
 /// What kind of segment begins.
 #[derive(Clone, Copy, PartialEq, Eq, Debug)]
@@ -55,4 +57,13 @@ pub enum Directive {
     Nothing,
     /// A directive that is accepted without effect.
     Ignored,
+}
+
+/// What a line's operation is.
+#[derive(Clone, Copy, PartialEq, Eq, Debug)]
+pub enum Operation {
+    /// An instruction.
+    Instruct(Mnemonic),
+    /// A directive.
+    Direct(Directive),
 }

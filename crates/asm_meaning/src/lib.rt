@@ -6,6 +6,6 @@ mod directives;
 mod faults;
 mod laws;
 
-pub use directives::{Class, Directive, Switch};
+pub use directives::{Class, Directive, Operation, Switch};
 pub use faults::{AsmCause, AsmFault};
 pub use laws::sources_have_one_object;
