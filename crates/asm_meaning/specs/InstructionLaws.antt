@@ -42,7 +42,7 @@ filter_keeps P test (x ∷ xs) all = by_test (test x) (filter_keeps P test xs al
     by_test false rest = rest
 
 -- P holds of what was found, where it holds of all
-abbrev Holds : {A : Type 0} → (A → Type 0) → Option A → Type 0
+abbrev pub Holds : {A : Type 0} → (A → Type 0) → Option A → Type 0
 Holds P None = Unit {0}
 Holds P (Some x) = P x
 
@@ -57,7 +57,7 @@ found_holds P test (x ∷ xs) all = by_test (test x) (found_holds P test xs all.
 -- ---- operands
 
 -- the operand of a mode has one to four bytes
-abbrev HasBytes : Widths → Mnemonic → Mode → Type 0
+abbrev pub HasBytes : Widths → Mnemonic → Mode → Type 0
 HasBytes widths mnemonic mode = IsTrue (is_count (operand_bytes widths mnemonic mode))
 
 value_bytes : (b : Bool) → IsTrue (is_count (cond b 3 2 - 1))
@@ -65,7 +65,7 @@ value_bytes true = refl
 value_bytes false = refl
 
 -- forms with one formula
-abbrev HasFormula : Form → Type 0
+abbrev pub HasFormula : Form → Type 0
 HasFormula forms.Nothing = ⊥
 HasFormula forms.Accumulator = ⊥
 HasFormula forms.Immediate = Unit {0}
@@ -100,7 +100,7 @@ modes_have_bytes widths mnemonic forms.BracketY has = (refl, tt)
 modes_have_bytes widths mnemonic forms.Pair has = (refl, tt)
 modes_have_bytes widths mnemonic forms.Other has = tt
 
-offered_have_bytes : (widths : Widths) (mnemonic : Mnemonic) (form : Form) (p : Prefix) → HasFormula form → AllByRecursion (HasBytes widths mnemonic) (offered mnemonic form p)
+pub offered_have_bytes : (widths : Widths) (mnemonic : Mnemonic) (form : Form) (p : Prefix) → HasFormula form → AllByRecursion (HasBytes widths mnemonic) (offered mnemonic form p)
 unfolding offered
 offered_have_bytes widths mnemonic form p has = filter_keeps (HasBytes widths mnemonic) _ (modes_of form) (modes_have_bytes widths mnemonic form has)
 
@@ -153,7 +153,7 @@ immediate_has : (text : List ℕ) → Holds HasFormula (immediate_form text)
 immediate_has [] = tt
 immediate_has (byte ∷ behind) = tt
 
-form_has : (o : Opening) (rest : List ℕ) → Holds HasFormula (form_behind o rest)
+pub form_has : (o : Opening) (rest : List ℕ) → Holds HasFormula (form_behind o rest)
 form_has Open rest = plain_has (whole_index rest)
 form_has Hash rest = immediate_has rest
 form_has Round rest = round_has (indexes_around 0x29 rest)
@@ -337,7 +337,7 @@ given_plain constants widths mnemonic p chosen modes (source ∷ destination ∷
     moved_plain constants mnemonic chosen source destination pieces small (fine.0, (fine.1.0, tt)) e
 
 -- what an instruction with a good operand of a line gives can be written
-modes_plain : (constants : Constants) (widths : Widths) (mnemonic : Mnemonic) (p : Prefix) (trees : List Tree) (modes : List Mode) (pieces : List Piece) → AreSmall constants
+pub modes_plain : (constants : Constants) (widths : Widths) (mnemonic : Mnemonic) (p : Prefix) (trees : List Tree) (modes : List Mode) (pieces : List Piece) → AreSmall constants
     → AreFineTrees trees → ((t : Tree) → trees ≡ t ∷ [] → AllByRecursion (HasBytes widths mnemonic) modes) → in_modes constants widths mnemonic p trees modes ≡ Ok pieces → ArePlainPieces pieces
 modes_plain constants widths mnemonic p trees [] pieces small fine have e = absurd cc
 modes_plain constants widths mnemonic p trees (mode ∷ modes) pieces small fine have e = given_plain constants widths mnemonic p mode modes trees pieces small fine have e

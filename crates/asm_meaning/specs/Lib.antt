@@ -14,3 +14,6 @@ pub mod Formed
 pub mod AmountLaws
 pub mod PieceLaws
 pub mod InstructionLaws
+pub mod GivenLaws
+pub mod Sound
+pub mod StepSound

@@ -17,9 +17,9 @@ use Rattle.asm_meaning.specs.declared.directives.Switch.{Switch}
 use Rattle.asm_meaning.specs.declared.directives.Directive.TheVariants as directives
 use Rattle.asm_meaning.specs.declared.faults.AsmCause.TheVariants.{UnknownOperation, OutsideSegment, BadLabel, BadOperand, BadNumber, Duplicate, DoesNotFit}
 use Rattle.asm_meaning.specs.Answer.{Answer, both}
-use Rattle.asm_meaning.specs.Constant.{Constants, Amount, Known, Written, amount, tree_of_amount}
+use Rattle.asm_meaning.specs.Constant.{needed, worth, Constants, Amount, Known, Written, amount, tree_of_amount}
 use Rattle.asm_meaning.specs.Elements.{Element, IsList, list_pieces}
-use Rattle.asm_meaning.specs.Formulas.{IsFormula, formula_of, number_of, expression_text}
+use Rattle.asm_meaning.specs.Formulas.{IsFormula, formula_of, expression_text}
 use Rattle.asm_meaning.specs.Instruction.{instruction}
 use Rattle.asm_meaning.specs.declared.directives.Operation.{Operation}
 use Rattle.asm_meaning.specs.declared.directives.Operation.TheVariants.{Instruct, Direct}
@@ -158,7 +158,7 @@ constants_of state name = option_or (constants_in state.segment name) (state.out
 
 -- the number that a formula is
 abbrev pub number_in : State → Option Tree → Answer ℕ
-number_in state found = formula_of found >>= number_of (constants_of state)
+number_in state found = formula_of found >>= λ tree. needed (worth (constants_of state) tree)
 
 -- ---- directives with a number
 
