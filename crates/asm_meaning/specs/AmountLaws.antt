@@ -1,17 +1,17 @@
 -- What is written of a formula can be written: its numbers have 32 bits, its names 1 to 255 bytes, and at most 64 values
 -- are pending.
-use Rattle.std.proofs.Common.{◌≡◌, ℕ, zero, suc, ◌+◌, ◌-◌, ◌*◌, ◌/◌, ◌^◌, ◌<◌, ◌≤◌, max, Bool, true, false, cond, eqb, leb, ltb, List, [], ◌∷◌, ◌++◌, length, Option, Some, None, Result, Ok, Err, refl, sym, ap, subst, ◌∙◌, arith}
+use Rattle.std.proofs.Common.{◌≡◌, ℕ, zero, suc, ◌+◌, ◌-◌, ◌*◌, ◌/◌, ◌^◌, ◌<◌, ◌≤◌, Bool, true, false, cond, eqb, leb, ltb, List, Option, Some, None, Ok, refl, sym, subst, arith}
 use Rattle.std.specs.Prelude.{ℤ, pos, negsuc, ◌&&◌, bit_and, bit_or, bit_xor, int_div, int_rem, neg_ℤ, FitsSigned, ◌%◌}
 use Rattle.std.specs.Int.Bits.{and_lt}
 use Rattle.std.proofs.Math.Nat.{div-le_self, mod-le}
 use Rattle.std.proofs.Math.Facts.{Fits-of_lt, sfits_to_z}
 use Rattle.std.proofs.lemmas.Nat.{or_lt, xor_lt}
-use Rattle.std.specs.Int.{w32, cast_signed, cast_unsigned, bit_not}
-use Rattle.omf_format.specs.Expression.{Term, Operator, Location, Constant, Named, Offset, Tree, Leaf, Unary, Binary, IsTree, IsExpression, depth, operand_count}
-use Rattle.omf_format.specs.Value.{number_of_one, number_of_two, arithmetic, logical, comparison, bitwise, wrapped, shifted, truth, bits_of, signed, holds, divides}
+use Rattle.std.specs.Int.{w32, bit_not}
+use Rattle.omf_format.specs.Expression.{Operator, Location, Constant, Named, Offset, Tree, Leaf, Unary, Binary, IsTree, IsExpression, depth}
+use Rattle.omf_format.specs.Value.{number_of_one, number_of_two, arithmetic, logical, comparison, bitwise, wrapped, shifted, truth, bits_of, signed, divides}
 use Rattle.orca_meaning.specs.Formula.{pending, values_of, placed}
 use Rattle.asm_meaning.specs.Answer.{Answer}
-use Rattle.asm_meaning.specs.Constant.{Constants, Worth, Number, Open, Divided, number_or_open, worth_of_term, worth_of_one, worth_of_two, worth, number_or, term_with_values, with_values, Amount, Known, Written, amount_by, amount, tree_of_amount}
+use Rattle.asm_meaning.specs.Constant.{Constants, Worth, Number, Open, Divided, number_or_open, worth_of_one, worth_of_two, worth, number_or, with_values, Amount, Known, Written, amount_by, amount}
 use Rattle.asm_meaning.specs.Formulas.{expression_text}
 
 -- each known value has 32 bits

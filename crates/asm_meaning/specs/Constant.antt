@@ -1,5 +1,5 @@
 -- Constants: formulas whose value the assembler knows (ORCA/M reference manual, "Expressions" and "EQU").
-use Rattle.std.specs.Prelude.{ℕ, ◌&&◌, ◌==◌, List, [], ◌∷◌, bytes_eq, Option, Some, None, Ok, Err, if◌then◌else◌}
+use Rattle.std.specs.Prelude.{ℕ, ◌&&◌, ◌==◌, List, Option, Some, None, Ok, Err, if◌then◌else◌}
 use Rattle.omf_format.specs.Expression.{Term, Operator, Location, Constant, Named, Offset, Tree, Leaf, Unary, Binary}
 use Rattle.omf_format.specs.Value.{number_of_one, number_of_two, divides}
 use Rattle.asm_meaning.specs.declared.faults.AsmCause.TheVariants.{UnknownConstant, DivideByZero}

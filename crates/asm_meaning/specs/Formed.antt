@@ -1,5 +1,5 @@
 -- A formula of a line, with numbers that fit, has a tree of terms that can be written.
-use Rattle.std.proofs.Common.{◌≡◌, ℕ, ◌^◌, ◌≤◌, Bool, true, false, cond, eqb, leb, List, [], ◌∷◌, ◌++◌, length, refl, sym, ap, subst, ◌∙◌, append_assoc, append-nil}
+use Rattle.std.proofs.Common.{◌≡◌, ℕ, ◌^◌, ◌≤◌, Bool, true, false, leb, List, [], ◌∷◌, ◌++◌, length, refl, sym, ap, subst, ◌∙◌}
 use Rattle.std.specs.Prelude.{◌||◌}
 use Rattle.std.specs.List.{list_any}
 use Rattle.std.proofs.lemmas.Bool.{leb-false}
@@ -12,9 +12,7 @@ use Rattle.orca_meaning.specs.declared.operators.Operator.TheVariants.{Multiply,
 use Rattle.orca_meaning.specs.declared.operators.Sign as signs
 use Rattle.orca_meaning.specs.declared.operators.Sign.TheVariants.{Negate, Not}
 use Rattle.orca_meaning.specs.Token.{Operand, Here, Number, Label, LengthOf, CountOf, Token, Value, Before, Between, Opens, Closes}
-use Rattle.orca_meaning.specs.Formula.{Formula, Single, Group, Signed, Joined, sign_code, operator_code, term_of, tree_of, tokens_of, StandsAt, MeansAt, pending, placed, is_large, has_large}
-use Rattle.orca_meaning.specs.Complete.{complete, one_form}
-use Rattle.orca_meaning.specs.Front.{Compared, Longer, Shorter, compared, taken, formula_ends}
+use Rattle.orca_meaning.specs.Formula.{Formula, Single, Group, Signed, Joined, sign_code, operator_code, term_of, tree_of, tokens_of, MeansAt, is_large, has_large}
 use Rattle.orca_meaning.specs.FormulaLaws.{sign_has_one, operator_has_two}
 use Rattle.orca_meaning.specs.TokenLaws.{HasFineName, HaveFineNames, fine_names}
 

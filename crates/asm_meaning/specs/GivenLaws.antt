@@ -1,15 +1,14 @@
 -- What the operands of a line of at most 255 bytes give can be written.
-use Rattle.std.proofs.Common.{◌≡◌, ℕ, ◌+◌, ◌-◌, ◌^◌, ◌<◌, ◌≤◌, Bool, true, false, cond, eqb, ltb, leb, List, [], ◌∷◌, ◌++◌, length, take, drop, map, Option, Some, None, Result, Ok, Err, refl, sym, ap, subst, ◌∙◌, arith}
+use Rattle.std.proofs.Common.{◌≡◌, ℕ, ◌+◌, ◌-◌, ◌≤◌, Bool, true, false, cond, eqb, ltb, leb, List, [], ◌∷◌, length, take, drop, map, Option, Some, None, Ok, Err, refl, sym, ap, subst, ◌∙◌, arith}
 use Rattle.std.specs.Prelude.{◌||◌, ◌&&◌, IsTrue}
 use Rattle.std.specs.Char.{to_ascii_uppercase, is_digit}
 use Rattle.std.specs.Str.Parse.{digits_value}
 use Rattle.std.specs.List.{AllByRecursion, list_any, position_or_len, prefix_len}
 use Rattle.std.proofs.lemmas.Bool.{ltb-false, leb-true, le-leb, and_parts}
 use Rattle.std.proofs.lemmas.List.{length-drop, length-take, length-map}
-use Rattle.omf_format.specs.Field.{◌>>=◌, written_layout, is_count}
+use Rattle.omf_format.specs.Field.{is_count}
 use Rattle.omf_format.specs.FieldLaws.{bind_ok}
-use Rattle.omf_format.specs.Expression.{Tree, Leaf, Named, IsTree, IsExpression, depth}
-use Rattle.omf_format.specs.Record.{Record, Formula, Strong}
+use Rattle.omf_format.specs.Expression.{Tree, Leaf, Named, IsTree}
 use Rattle.orca_meaning.specs.declared.forms.Opening.{Opening}
 use Rattle.orca_meaning.specs.declared.forms.Opening.TheVariants.{Open, Hash, Round, Square}
 use Rattle.orca_meaning.specs.declared.forms.Prefix.{Prefix}
@@ -20,19 +19,19 @@ use Rattle.orca_meaning.specs.declared.operators.Operands.TheVariants.{Labels}
 use Rattle.orca_meaning.specs.Characters.{is_name_start, is_name_byte, folded}
 use Rattle.orca_meaning.specs.Formula.{MeansAt, pending, has_large}
 use Rattle.orca_meaning.specs.FormulaLaws.{pending-one}
-use Rattle.orca_meaning.specs.Operand.{Meaning, opening, body, prefix, behind_opening, behind_prefix, form_behind, IsOperand, IsMissing, IsInAccumulator, IsOne, IsTwo, IsGoodOperand, AreShallow, values_here}
-use Rattle.orca_meaning.specs.Token.{digits_at, Token, Stand, token_at, expects_behind, name_at, Found}
+use Rattle.orca_meaning.specs.Operand.{Meaning, opening, body, prefix, behind_opening, behind_prefix, form_behind, IsOperand, IsMissing, IsInAccumulator, IsOne, IsTwo, IsGoodOperand, AreShallow}
+use Rattle.orca_meaning.specs.Token.{digits_at, Token, Stand, expects_behind, name_at, Found}
 use Rattle.orca_meaning.specs.TokenLaws.{token-shorter}
 use Rattle.asm_meaning.specs.declared.faults.AsmCause.TheVariants.{BadOperand, BadNumber}
 use Rattle.asm_meaning.specs.Answer.{Answer, both, all_of, with_first}
 use Rattle.asm_meaning.specs.Constant.{Constants, Amount, Known, Written, amount}
-use Rattle.asm_meaning.specs.Elements.{with_byte, text_at, IsList, Repeat, Value, Numbers, Fixed, Text, Asked, Weak, Element, Kind, Number, Hexadecimal, Binary, Characters, References, WeakReferences, closed_at, kind_at, width_at, AreNames, IsValueAt, IsRepeatBy, behind_parenthesis, IsElementAt, AreElements, count_of, number_piece, numbered, weak_piece, strong_piece, value_pieces, element_pieces, list_pieces, joined}
+use Rattle.asm_meaning.specs.Elements.{with_byte, text_at, IsList, Repeat, Value, Element, Kind, Number, Hexadecimal, Binary, Characters, References, WeakReferences, closed_at, kind_at, width_at, AreNames, IsValueAt, IsRepeatBy, behind_parenthesis, IsElementAt, AreElements, count_of, number_piece, numbered, weak_piece, strong_piece, value_pieces, element_pieces, list_pieces, joined}
 use Rattle.asm_meaning.specs.Formed.{formed}
 use Rattle.asm_meaning.specs.Formulas.{AreFormulas, judged, expression_text}
-use Rattle.asm_meaning.specs.Instruction.{Widths, offered, in_modes, instruction}
-use Rattle.asm_meaning.specs.Pieces.{Piece, Bytes, Whole, copies}
+use Rattle.asm_meaning.specs.Instruction.{Widths, offered, instruction}
+use Rattle.asm_meaning.specs.Pieces.{Piece}
 use Rattle.asm_meaning.specs.AmountLaws.{AreSmall, IsFineAmount, fine_amount, is_written}
-use Rattle.asm_meaning.specs.PieceLaws.{IsPlain, IsPlainPiece, ArePlainPieces, copies_plain, joined_plain}
+use Rattle.asm_meaning.specs.PieceLaws.{IsPlainPiece, ArePlainPieces, copies_plain, joined_plain}
 use Rattle.asm_meaning.specs.InstructionLaws.{AreFineTrees, both_ok, expr_plain, HasFormula, HasBytes, Holds, form_has, offered_have_bytes, modes_plain}
 
 -- ---- formulas of a line

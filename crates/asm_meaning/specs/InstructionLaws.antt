@@ -1,12 +1,12 @@
 -- What an instruction gives can be written.
-use Rattle.std.proofs.Common.{◌≡◌, ℕ, zero, suc, ◌+◌, ◌-◌, ◌^◌, ◌<◌, ◌≤◌, max, Bool, true, false, cond, eqb, ltb, leb, List, [], ◌∷◌, ◌++◌, length, Option, Some, None, Result, Ok, Err, refl, sym, ap, subst, ◌∙◌, arith}
-use Rattle.std.specs.Prelude.{filter, find, ◌&&◌, IsTrue}
+use Rattle.std.proofs.Common.{◌≡◌, ℕ, ◌-◌, ◌^◌, ◌<◌, ◌≤◌, Bool, true, false, cond, eqb, ltb, leb, List, [], ◌∷◌, Option, Some, None, Ok, Err, refl, ap, subst, arith}
+use Rattle.std.specs.Prelude.{filter, find, IsTrue}
 use Rattle.std.specs.Option.{option_map}
-use Rattle.std.specs.List.{AllByRecursion, list_any}
+use Rattle.std.specs.List.{AllByRecursion}
 use Rattle.omf_format.specs.Field.{◌>>=◌, written_layout, is_count}
 use Rattle.omf_format.specs.FieldLaws.{bind_ok}
-use Rattle.omf_format.specs.Expression.{Tree, Leaf, Binary, Constant, Location, IsTree, IsExpression, depth}
-use Rattle.omf_format.specs.Record.{Record, Formula, IsRecord}
+use Rattle.omf_format.specs.Expression.{Tree, Leaf, Binary, Constant, IsTree, IsExpression, depth}
+use Rattle.omf_format.specs.Record.{Formula, IsRecord}
 use Rattle.orca_meaning.specs.declared.forms.Form.{Form}
 use Rattle.orca_meaning.specs.declared.forms.Form.TheVariants as forms
 use Rattle.orca_meaning.specs.declared.forms.Prefix.{Prefix}
@@ -16,20 +16,19 @@ use Rattle.orca_meaning.specs.declared.forms.Index.{Index}
 use Rattle.orca_meaning.specs.declared.forms.Index.TheVariants.{Absent, X, Y, S}
 use Rattle.orca_meaning.specs.declared.mnemonics.Mnemonic.{Mnemonic}
 use Rattle.orca_meaning.specs.declared.modes.Mode.{Mode}
-use Rattle.orca_meaning.specs.declared.operators.Operands.TheVariants.{Labels}
-use Rattle.orca_meaning.specs.Formula.{MeansAt, pending, placed, has_large}
+use Rattle.orca_meaning.specs.Formula.{pending, placed}
 use Rattle.orca_meaning.specs.FormulaLaws.{pending-two}
 use Rattle.orca_meaning.specs.Length.{length_of, has_long_operand}
-use Rattle.orca_meaning.specs.Operand.{Meaning, opening, body, prefix, form_behind, plain_form, round_form, square_form, immediate_form, whole_index, indexes_around, IsOperand, IsMissing, IsInAccumulator, IsOne, IsTwo, IsGoodOperand}
+use Rattle.orca_meaning.specs.Operand.{form_behind, plain_form, round_form, square_form, immediate_form, whole_index, indexes_around}
 use Rattle.std.proofs.lemmas.Bool.{leb-true, eqb-false, and_parts}
 use Rattle.asm_meaning.specs.declared.faults.AsmCause.TheVariants.{DoesNotFit}
 use Rattle.asm_meaning.specs.Answer.{Answer, both}
 use Rattle.asm_meaning.specs.Constant.{Constants, Amount, Known, Written, amount, tree_of_amount}
 use Rattle.asm_meaning.specs.Formulas.{expression_text}
-use Rattle.asm_meaning.specs.Instruction.{Widths, operand_bytes, modes_of, Kind, Missing, Value, Address, Distance, Banks, Sign, kind_of, is_address, is_asked, offered, address_code, is_long_jump, operand_record, shifted, shift_in, value_shift, with_tree, with_number, with_known, with_amount, without_amount, mode_of_number, mode_of_tree, or_fault, or_first, holds, is_distance, bank, bank_record, banks_written, moved, given_by, in_modes, instruction}
-use Rattle.asm_meaning.specs.Pieces.{Piece, Bytes, Whole}
+use Rattle.asm_meaning.specs.Instruction.{Widths, operand_bytes, modes_of, Kind, Missing, Value, Address, Distance, Banks, Sign, kind_of, is_address, offered, address_code, is_long_jump, operand_record, shifted, shift_in, with_tree, with_number, with_known, with_amount, without_amount, mode_of_number, mode_of_tree, or_fault, or_first, holds, is_distance, bank, bank_record, banks_written, moved, given_by, in_modes}
+use Rattle.asm_meaning.specs.Pieces.{Piece}
 use Rattle.asm_meaning.specs.AmountLaws.{AreSmall, IsFineAmount, fine_amount, is_written, tree-placed}
-use Rattle.asm_meaning.specs.PieceLaws.{IsPlain, IsPlainPiece, ArePlainPieces}
+use Rattle.asm_meaning.specs.PieceLaws.{IsPlain, ArePlainPieces}
 
 -- ---- lists of modes
 

@@ -17,3 +17,6 @@ pub mod InstructionLaws
 pub mod GivenLaws
 pub mod Sound
 pub mod StepSound
+pub mod LinesShort
+pub mod ObjectFile
+pub mod LabelLaws

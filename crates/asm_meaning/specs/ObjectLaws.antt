@@ -1,5 +1,5 @@
 -- A source with macro files has one answer: one object at most, or one first fault.
-use Rattle.std.proofs.Common.{◌≡◌, ℕ, ◌<◌, ◌≤◌, List, [], ◌∷◌, ◌++◌, length, Option, Some, None, Result, Ok, Err, refl, sym, ap, subst, ◌∙◌, arith}
+use Rattle.std.proofs.Common.{◌≡◌, ℕ, List, [], ◌∷◌, ◌++◌, length, Option, Some, None, Ok, Err, refl, sym, ap, subst, ◌∙◌, arith}
 use Rattle.orca_meaning.specs.Line.{Line}
 use Rattle.macro_meaning.specs.declared.faults.MacroFault.{MacroFault}
 use Rattle.macro_meaning.specs.Expansion as expansion
@@ -9,8 +9,8 @@ use Rattle.asm_meaning.specs.declared.faults.AsmCause.{AsmCause}
 use Rattle.asm_meaning.specs.declared.faults.AsmCause.TheVariants.{Unclosed}
 use Rattle.asm_meaning.specs.declared.faults.AsmFault.{AsmFault}
 use Rattle.asm_meaning.specs.Answer.{Answer}
-use Rattle.asm_meaning.specs.Object.{object_text, most_bytes, AreSteps, HasLines, IsObject, cause_of, HasBadLine, IsFirstFault, InExpansion, InLine, InSegment, InLength}
-use Rattle.asm_meaning.specs.State.{Segment, Ended, State, start}
+use Rattle.asm_meaning.specs.Object.{object_text, AreSteps, HasLines, IsObject, cause_of, HasBadLine, IsFirstFault, InExpansion, InLine, InSegment, InLength}
+use Rattle.asm_meaning.specs.State.{Segment, State, start}
 use Rattle.asm_meaning.specs.Statement.{IsStep}
 use Rattle.asm_meaning.specs.StatementLaws.{step_once}
 

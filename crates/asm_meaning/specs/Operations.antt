@@ -1,7 +1,6 @@
 -- Operations of the assembler: the directives by their spellings (ORCA/M reference manual, "Assembler directives").
 use Rattle.std.specs.Prelude.{ℕ, List, [], ◌∷◌, codes, map, Option, Some}
 use Rattle.std.specs.Option.{option_map, option_or}
-use Rattle.orca_meaning.specs.declared.mnemonics.Mnemonic.{Mnemonic}
 use Rattle.orca_meaning.specs.Characters.{folded}
 use Rattle.orca_meaning.specs.Operation.{beside, mnemonic_of}
 use Rattle.asm_meaning.specs.declared.directives.Class.TheVariants.{Code, PrivateCode, Data, PrivateData}

@@ -1,6 +1,6 @@
 -- The records of statements: which of them can be written, and how many cells they give.
-use Rattle.std.proofs.Common.{◌≡◌, ℕ, zero, suc, ◌+◌, ◌-◌, ◌^◌, ◌<◌, ◌≤◌, Bool, true, false, cond, leb, List, [], ◌∷◌, ◌++◌, length, refl, sym, ap, subst, ◌∙◌, arith}
-use Rattle.std.specs.List.{AllByRecursion, flat_map}
+use Rattle.std.proofs.Common.{◌≡◌, ℕ, zero, suc, ◌+◌, ◌^◌, ◌<◌, ◌≤◌, Bool, true, false, cond, leb, List, [], ◌∷◌, ◌++◌, length, refl, sym, subst, arith}
+use Rattle.std.specs.List.{AllByRecursion}
 use Rattle.std.proofs.lemmas.Bool.{leb-true}
 use Rattle.std.proofs.lemmas.List.Concat.{flat_map-cons}
 use Rattle.omf_format.specs.Field.{written_layout}
@@ -8,7 +8,7 @@ use Rattle.omf_format.specs.Record.{Record, Const, LongConst, IsRecord}
 use Rattle.omf_format.specs.Reading.{is_end}
 use Rattle.load_meaning.specs.RunLaws.{IsBodyRecord}
 use Rattle.link_meaning.specs.Sizes.{size_at}
-use Rattle.asm_meaning.specs.Pieces.{Piece, Bytes, Whole, constant_records, records_behind, records_of, copies, place_behind, length_at}
+use Rattle.asm_meaning.specs.Pieces.{Piece, Bytes, Whole, constant_records, records_behind, copies, place_behind, length_at}
 use Rattle.asm_meaning.specs.Elements.{joined}
 
 -- a record of a body that has a spelling as long as it gives less than 2 ^ 32 cells

@@ -1,30 +1,21 @@
 -- What lines leave can be written: the records have spellings, the headers' fields have their widths, and LENGTH is the
 -- number of cells.
-use Rattle.std.proofs.Common.{◌≡◌, ℕ, ◌+◌, ◌-◌, ◌*◌, ◌%◌, ◌^◌, ◌<◌, ◌≤◌, min, Bool, true, false, cond, eqb, ltb, leb, not, List, [], ◌∷◌, ◌++◌, length, take, drop, Option, Some, None, Result, Ok, Err, refl, sym, ap, subst, ◌∙◌, append_assoc, arith}
+use Rattle.std.proofs.Common.{◌≡◌, ℕ, ◌+◌, ◌^◌, ◌<◌, ◌≤◌, min, Bool, true, false, cond, List, [], ◌∷◌, ◌++◌, length, Option, Some, None, refl, sym, ap, ◌∙◌, append_assoc, arith}
 use Rattle.std.specs.Prelude.{replicate, is_some, bytes_eq, ◌&&◌, ◌||◌, IsTrue}
 use Rattle.std.specs.Int.{is_power_of_two}
 use Rattle.std.specs.List.{AllByRecursion}
 use Rattle.std.specs.Option.{option_map, option_or}
-use Rattle.std.proofs.lemmas.Bool.{ltb-false, ltb-true, leb-true, and_parts}
-use Rattle.std.proofs.lemmas.List.{length-append, length-map, length-drop, length-take}
-use Rattle.omf_format.specs.Field.{◌>>=◌, written_layout, IsName}
-use Rattle.omf_format.specs.FieldLaws.{bind_ok}
-use Rattle.omf_format.specs.Expression.{Tree, Leaf, Constant, IsTree, depth}
-use Rattle.omf_format.specs.Header.{Fields, is_listed, form_of, IsWritable}
-use Rattle.omf_format.specs.Record.{Record, End, Align, Org, Space, Using, Label, Equate, IsRecord}
-use Rattle.orca_meaning.specs.Characters.{is_name, folded}
+use Rattle.omf_format.specs.Header.{Fields, is_listed, form_of}
+use Rattle.omf_format.specs.Record.{Record, End, Label}
 use Rattle.orca_meaning.specs.Line.{Line}
 use Rattle.macro_meaning.specs.Symbol.{with_name}
 use Rattle.asm_meaning.specs.declared.directives.Class.{Class}
 use Rattle.asm_meaning.specs.declared.directives.Class.TheVariants.{Code, PrivateCode, Data, PrivateData}
 use Rattle.asm_meaning.specs.declared.directives.Switch.{Switch}
 use Rattle.asm_meaning.specs.declared.directives.Switch.TheVariants.{LongA, LongI, Msb}
-use Rattle.asm_meaning.specs.Answer.{Answer}
-use Rattle.asm_meaning.specs.Constant.{Constants, Amount, Known, Written, tree_of_amount}
-use Rattle.asm_meaning.specs.Formulas.{expression_text}
 use Rattle.asm_meaning.specs.Pieces.{place_behind, length_at}
-use Rattle.asm_meaning.specs.State.{Names, Segment, Ended, State, start, no_names, cells_of, kind_of, bank_size_of, greatest_length, header_of, begun, ended_of, closed, with_label, local_of, grown, marked, in_segment, is_too_long, within_length, turned}
-use Rattle.asm_meaning.specs.AmountLaws.{AreSmall, IsFineAmount, is_written}
+use Rattle.asm_meaning.specs.State.{Names, Segment, Ended, State, start, no_names, cells_of, kind_of, bank_size_of, header_of, begun, ended_of, closed, with_label, local_of, grown, marked, in_segment, turned}
+use Rattle.asm_meaning.specs.AmountLaws.{AreSmall}
 use Rattle.asm_meaning.specs.PieceLaws.{IsPlain, ArePlain, all-append, place_behind-append}
 use Rattle.asm_meaning.specs.GivenLaws.{IsNameLength}
 
@@ -134,7 +125,10 @@ marked_sound label form contents s sound is fits plain =
 -- a change of the open segment
 pub change_sound : (change : Segment → Segment) (state : State) → IsSound state → ((s : Segment) → IsSoundSegment s → IsSoundSegment (change s)) → IsSound (in_segment change state)
 change_sound change state sound keeps = record {
-  outside = sound.outside; org = sound.org; align = sound.align; front = sound.front;
+  outside = sound.outside;
+  org = sound.org;
+  align = sound.align;
+  front = sound.front;
   segment = by_segment state.segment sound.segment;
   ended = sound.ended;
 }
@@ -153,9 +147,17 @@ turned_sound Msb on state sound = record { outside = sound.outside; org = sound.
 
 header_sound : (state : State) (class : Class) (name load_name : List ℕ) → IsSound state → IsNameLength name → length load_name ≡ 10 → IsSoundHeader (header_of state class name load_name)
 header_sound state class name load_name sound is ten = record {
-  version = refl; res_spc = refl; entry = refl;
-  bank_size = banks class; kind = kinds class; listed = lists class;
-  org = sound.org; align = sound.align; seg_num = omega arith; load_name = ten; name = is;
+  version = refl;
+  res_spc = refl;
+  entry = refl;
+  bank_size = banks class;
+  kind = kinds class;
+  listed = lists class;
+  org = sound.org;
+  align = sound.align;
+  seg_num = omega arith;
+  load_name = ten;
+  name = is;
 }
   where
     banks : (c : Class) → bank_size_of c ≤ 0x10000
@@ -178,7 +180,10 @@ header_sound state class name load_name sound is ten = record {
 
 pub begun_sound : (state : State) (line : Line) (class : Class) (name load_name : List ℕ) → IsSound state → IsNameLength name → length load_name ≡ 10 → IsSound (begun state line class name load_name)
 begun_sound state line class name load_name sound is ten = record {
-  outside = sound.outside; org = omega arith; align = omega arith; front = tt;
+  outside = sound.outside;
+  org = omega arith;
+  align = omega arith;
+  front = tt;
   segment = record {
     header = header_sound state class name load_name sound is ten;
     names = given_small name None no_names (λ asked n e. absurd cc) no_value;
@@ -203,7 +208,11 @@ end_cells at label form size =
 
 pub ends_sound : (label : List ℕ) (state : State) → IsSound state → IsShort state → IsLabelText label → IsSound (closed (in_segment (marked label 0x4E (End ∷ [])) state))
 ends_sound label state sound short is = record {
-  outside = sound.outside; org = sound.org; align = sound.align; front = sound.front; segment = tt;
+  outside = sound.outside;
+  org = sound.org;
+  align = sound.align;
+  front = sound.front;
+  segment = tt;
   ended = all-append IsSoundEnded state.ended (ended_of (option_map (marked label 0x4E (End ∷ [])) state.segment)) sound.ended (by_segment state.segment sound.segment short);
 }
   where
@@ -212,15 +221,26 @@ ends_sound label state sound short is = record {
     by_segment (Some s) p q =
         let local = local_of label 0x4E (length_at (cells_of s) (End ∷ [])) in
         let cells : place_behind 0 (s.body ++ (local ++ End ∷ [])) ≡ cells_of s =
-        place_behind-append 0 s.body (local ++ End ∷ []) ∙ end_cells (cells_of s) label 0x4E (length_at (cells_of s) (End ∷ [])) in
-        (record {
-          header = record {
-            version = p.header.version; res_spc = p.header.res_spc; entry = p.header.entry; bank_size = p.header.bank_size; kind = p.header.kind; listed = p.header.listed;
-            org = p.header.org; align = p.header.align; seg_num = p.header.seg_num; load_name = p.header.load_name; name = p.header.name;
-          };
-          inner = s.body ++ local;
-          body = sym (append_assoc s.body local (End ∷ []));
-          plain = all-append IsPlain s.body local p.body (local_plain label 0x4E (length_at (cells_of s) (End ∷ [])) is (omega arith));
-          length' = refl;
-          short = omega (arith, cells, q);
-        }, tt)
+        place_behind-append 0 s.body (local ++ End ∷ []) ∙ end_cells (cells_of s) label 0x4E (length_at (cells_of s) (End ∷ [])) in (
+          record {
+            header = record {
+              version = p.header.version;
+              res_spc = p.header.res_spc;
+              entry = p.header.entry;
+              bank_size = p.header.bank_size;
+              kind = p.header.kind;
+              listed = p.header.listed;
+              org = p.header.org;
+              align = p.header.align;
+              seg_num = p.header.seg_num;
+              load_name = p.header.load_name;
+              name = p.header.name;
+            };
+            inner = s.body ++ local;
+            body = sym (append_assoc s.body local (End ∷ []));
+            plain = all-append IsPlain s.body local p.body (local_plain label 0x4E (length_at (cells_of s) (End ∷ [])) is (omega arith));
+            length' = refl;
+            short = omega (arith, cells, q);
+          },
+          tt,
+        )

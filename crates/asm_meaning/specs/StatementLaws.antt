@@ -1,19 +1,19 @@
 -- A line leaves one thing: what an operand's text is, is determined, and so is all that follows from it.
-use Rattle.std.proofs.Common.{◌≡◌, ℕ, Bool, true, false, List, [], ◌∷◌, ◌++◌, length, Option, Some, None, Result, Ok, Err, refl, sym, ap, subst, ◌∙◌}
+use Rattle.std.proofs.Common.{◌≡◌, ℕ, Bool, true, false, List, [], ◌∷◌, Option, Some, None, Ok, refl, sym, ap, subst, ◌∙◌}
 use Rattle.std.specs.List.{position_or_len}
 use Rattle.omf_format.specs.Field.{◌>>=◌}
 use Rattle.omf_format.specs.Expression.{Tree}
 use Rattle.orca_meaning.specs.declared.operators.Operands.TheVariants.{Labels}
 use Rattle.orca_meaning.specs.declared.mnemonics.Mnemonic.{Mnemonic}
-use Rattle.orca_meaning.specs.Formula.{MeansAt, has_large}
+use Rattle.orca_meaning.specs.Formula.{has_large}
 use Rattle.orca_meaning.specs.FormulaLaws.{one_tree}
 use Rattle.orca_meaning.specs.Line.{Line, part}
-use Rattle.orca_meaning.specs.Operand.{Meaning, IsGoodOperand, IsBadOperand, HasBadNumber}
+use Rattle.orca_meaning.specs.Operand.{Meaning, IsGoodOperand, HasBadNumber}
 use Rattle.orca_meaning.specs.OperandLaws.{one_operand}
 use Rattle.orca_meaning.specs.Token.{digits_at, name_at, Found}
 use Rattle.asm_meaning.specs.declared.directives.Directive.TheVariants as directives
 use Rattle.asm_meaning.specs.Answer.{Answer}
-use Rattle.asm_meaning.specs.Elements.{Repeat, Once, Digits, Computed, Value, Numbers, Fixed, Text, Asked, Weak, Element, Kind, Number, Hexadecimal, Binary, Characters, References, WeakReferences, closed_at, text_at, bytes_of_digits, kind_at, AreNames, IsValueAt, behind_parenthesis, IsRepeatBy, IsElementAt, AreElements, IsList, list_pieces}
+use Rattle.asm_meaning.specs.Elements.{Repeat, Computed, Value, Numbers, Fixed, Text, Asked, Weak, Element, Kind, Number, Hexadecimal, Binary, Characters, References, WeakReferences, closed_at, text_at, bytes_of_digits, kind_at, AreNames, IsValueAt, behind_parenthesis, IsRepeatBy, IsElementAt, AreElements, IsList, list_pieces}
 use Rattle.asm_meaning.specs.Formulas.{IsFormula, AreFormulas}
 use Rattle.asm_meaning.specs.Instruction.{instruction}
 use Rattle.asm_meaning.specs.declared.directives.Operation.{Operation}

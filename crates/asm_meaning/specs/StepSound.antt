@@ -1,46 +1,43 @@
 -- Each line keeps what is left sound.
-use Rattle.std.proofs.Common.{◌≡◌, ℕ, ◌+◌, ◌-◌, ◌^◌, ◌<◌, ◌≤◌, Bool, true, false, cond, eqb, ltb, leb, not, List, [], ◌∷◌, ◌++◌, length, take, drop, map, Option, Some, None, Result, Ok, Err, refl, sym, ap, subst, ◌∙◌, arith}
-use Rattle.std.specs.Prelude.{replicate, is_some, codes, bytes_eq, ◌&&◌}
+use Rattle.std.proofs.Common.{◌≡◌, ℕ, ◌-◌, ◌^◌, ◌<◌, ◌≤◌, Bool, true, false, cond, eqb, ltb, leb, not, List, [], ◌∷◌, ◌++◌, length, drop, Option, Some, None, Ok, Err, refl, sym, ap, subst, ◌∙◌, arith}
+use Rattle.std.specs.Prelude.{replicate, bytes_eq, ◌&&◌}
 use Rattle.std.specs.Char.{to_ascii_uppercase}
-use Rattle.std.specs.List.{AllByRecursion}
 use Rattle.std.specs.Option.{option_or}
 use Rattle.std.proofs.lemmas.Bool.{ltb-false, ltb-true, leb-true, and_parts}
 use Rattle.std.proofs.lemmas.List.{length-append, length-map, length-drop, length-take, length-replicate}
-use Rattle.omf_format.specs.Field.{◌>>=◌, written_layout}
+use Rattle.omf_format.specs.Field.{◌>>=◌}
 use Rattle.omf_format.specs.FieldLaws.{bind_ok}
 use Rattle.omf_format.specs.Expression.{Tree, Leaf, Constant, IsTree}
 use Rattle.omf_format.specs.Header.{is_listed, form_of}
-use Rattle.omf_format.specs.Record.{Record, End, Align, Org, Space, Using, Label, Equate}
+use Rattle.omf_format.specs.Record.{Record, End, Align, Org, Space, Using, Label}
 use Rattle.orca_meaning.specs.declared.mnemonics.Mnemonic.{Mnemonic}
 use Rattle.orca_meaning.specs.declared.operators.Operands.TheVariants.{Labels}
 use Rattle.orca_meaning.specs.Characters.{is_name, folded}
-use Rattle.orca_meaning.specs.Formula.{MeansAt, pending}
+use Rattle.orca_meaning.specs.Formula.{pending}
 use Rattle.orca_meaning.specs.FormulaLaws.{pending-one}
 use Rattle.orca_meaning.specs.declared.lines.Span.{Span}
 use Rattle.orca_meaning.specs.Line.{Line, part}
 use Rattle.orca_meaning.specs.Operand.{Meaning}
-use Rattle.macro_meaning.specs.Symbol.{with_name}
 use Rattle.asm_meaning.specs.declared.directives.Class.{Class}
 use Rattle.asm_meaning.specs.declared.directives.Class.TheVariants.{Code, PrivateCode, Data, PrivateData}
-use Rattle.asm_meaning.specs.declared.directives.Switch.{Switch}
 use Rattle.asm_meaning.specs.declared.directives.Directive.TheVariants as directives
 use Rattle.asm_meaning.specs.declared.directives.Operation.{Operation}
 use Rattle.asm_meaning.specs.declared.directives.Operation.TheVariants.{Instruct, Direct}
-use Rattle.asm_meaning.specs.declared.faults.AsmCause.TheVariants.{BadLabel, BadOperand, BadNumber, Duplicate, UnknownConstant, DoesNotFit, SegmentTooLong}
+use Rattle.asm_meaning.specs.declared.faults.AsmCause.TheVariants.{BadLabel, BadOperand, BadNumber, DoesNotFit, SegmentTooLong}
 use Rattle.asm_meaning.specs.Answer.{Answer, both}
-use Rattle.asm_meaning.specs.Constant.{Constants, Worth, Number, Open, Divided, worth, needed, Amount, Known, Written, amount, tree_of_amount}
-use Rattle.asm_meaning.specs.Elements.{Element, IsList, list_pieces}
-use Rattle.asm_meaning.specs.Formulas.{IsFormula, formula_of, expression_text}
+use Rattle.asm_meaning.specs.Constant.{Worth, Number, Open, Divided, worth, needed, Amount, Known, Written, amount, tree_of_amount}
+use Rattle.asm_meaning.specs.Elements.{list_pieces}
+use Rattle.asm_meaning.specs.Formulas.{IsFormula, formula_of}
 use Rattle.asm_meaning.specs.Instruction.{instruction}
 use Rattle.asm_meaning.specs.Operations.{operation_of}
 use Rattle.asm_meaning.specs.Pieces.{Piece, records_of}
-use Rattle.asm_meaning.specs.State.{Names, Segment, State, cells_of, greatest_length, begun, closed, grown, marked, in_segment, is_too_long, within_length, turned}
+use Rattle.asm_meaning.specs.State.{Segment, State, cells_of, greatest_length, begun, closed, grown, marked, in_segment, is_too_long, within_length}
 use Rattle.asm_meaning.specs.Statement.{behind_here, needs_label, is_taken, free_label, label_of, IsOperandOf, Good, Bad, Large, load_name_of, name_of, switch_of, value_in, constants_in, constants_of, number_in, alignment_in, distance_in, listed_kind, aligned, moved, with_kind, equate, value_of, equated, equating, equating_outside, equating_global, spacing, aligning, moving, kinding, IsMoveText, IsMove, marking, beginning, turning, entering, IsDone, IsPlaced, IsKnown, IsStep, is_misplaced}
 use Rattle.asm_meaning.specs.AmountLaws.{AreSmall, IsFineAmount, fine_amount, small_worth, is_written}
 use Rattle.asm_meaning.specs.InstructionLaws.{both_ok}
 use Rattle.asm_meaning.specs.PieceLaws.{IsPlain, ArePlain, ArePlainPieces, all-append, records_plain}
 use Rattle.asm_meaning.specs.GivenLaws.{IsNameLength, instruction_plain, judged_fine, list_plain}
-use Rattle.asm_meaning.specs.Sound.{HaveSmall, IsSoundSegment, IsSound, IsShort, InSegment, IsLabelText, change_sound, grown_sound, marked_sound, mark_sound, turned_sound, begun_sound, ends_sound}
+use Rattle.asm_meaning.specs.Sound.{IsSoundSegment, IsSound, IsShort, InSegment, IsLabelText, change_sound, grown_sound, marked_sound, mark_sound, turned_sound, begun_sound, ends_sound}
 
 abbrev okay : {A : Type 0} → A → Answer A
 okay a = Ok a
@@ -252,10 +249,12 @@ outside_sound state next text label found sound short is formula e =
     let small = number_small state text found all.0.1 sound short formula parts.1 in
     subst IsSound (same_okay _ next all.2) (record {
       outside = λ name n v. by_name all.0.0 all.0.1 name n small (bytes_eq all.0.0 name) v;
-      org = sound.org; align = sound.align;
+      org = sound.org;
+      align = sound.align;
       front = all-append IsPlain state.front (equate true all.0.0 (Leaf (Constant all.0.1)) ∷ []) sound.front
-      (equate_plain true all.0.0 (Leaf (Constant all.0.1)) (is all.0.0 parts.0) small (omega arith), tt);
-      segment = sound.segment; ended = sound.ended;
+          (equate_plain true all.0.0 (Leaf (Constant all.0.1)) (is all.0.0 parts.0) small (omega arith), tt);
+      segment = sound.segment;
+      ended = sound.ended;
     })
   where
     same : (m n : ℕ) → Some m ≡ Some n → m ≡ n
@@ -364,10 +363,20 @@ kind_listed m n e = by_listed (is_listed (form_of m)) refl e
 with_kind_sound : (n : ℕ) (s : Segment) → IsSoundSegment s → is_listed (form_of n) ≡ true → n < 2 ^ 16 → IsSoundSegment (with_kind n s)
 with_kind_sound n s sound listed small = record {
   header = record {
-    version = sound.header.version; res_spc = sound.header.res_spc; entry = sound.header.entry; bank_size = sound.header.bank_size; kind = small; listed = listed;
-    org = sound.header.org; align = sound.header.align; seg_num = sound.header.seg_num; load_name = sound.header.load_name; name = sound.header.name;
+    version = sound.header.version;
+    res_spc = sound.header.res_spc;
+    entry = sound.header.entry;
+    bank_size = sound.header.bank_size;
+    kind = small;
+    listed = listed;
+    org = sound.header.org;
+    align = sound.header.align;
+    seg_num = sound.header.seg_num;
+    load_name = sound.header.load_name;
+    name = sound.header.name;
   };
-  names = sound.names; body = sound.body;
+  names = sound.names;
+  body = sound.body;
 }
 
 kinding_sound : (state next : State) (label : Answer (List ℕ)) (found : Option Tree) → IsSound state → ((name : List ℕ) → label ≡ Ok name → IsLabelText name)
