@@ -1,0 +1,2 @@
+pub mod ModeView
+pub mod Tables
