@@ -1,2 +1,5 @@
+pub mod Held
 pub mod ModeView
 pub mod Tables
+pub mod NamesView
+pub mod AmountView

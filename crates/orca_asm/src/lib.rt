@@ -2,7 +2,10 @@
 //! GS/OS Reference, appendix F).
 #![tactic(auto)]
 
+mod amount;
+mod held;
 mod mode;
+mod names;
 mod operation;
 
 pub use asm_meaning::{AsmCause, AsmFault};
