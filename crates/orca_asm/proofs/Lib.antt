@@ -1,3 +1,4 @@
 pub mod Maps
 pub mod Amounts
 pub mod Values
+pub mod Written

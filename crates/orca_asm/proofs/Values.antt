@@ -82,7 +82,7 @@ same_two code r s v w (IsDivided p q) (IsDivided p' q') =
 test : Constants → Term → Bool
 test constants t = is_number_term (written_term constants t)
 
-numbers_append : (constants : Constants) (a b : List Term) → are_numbers constants (a ++ b) ≡ (are_numbers constants a && are_numbers constants b)
+pub numbers_append : (constants : Constants) (a b : List Term) → are_numbers constants (a ++ b) ≡ (are_numbers constants a && are_numbers constants b)
 numbers_append constants a b = list_all-append (λ t. is_number_term (written_term constants t)) a b
 
 name_value : (constants : Constants) (at code : ℕ) (name : List ℕ) (o : Option ℕ) → is_number_term (number_or (Named code name) o) ≡ true → Same (operand_value nowhere at (number_or (Named code name) o)) (number_or_open o)
@@ -160,8 +160,8 @@ worth_is_open constants (Binary code a b) is none =
 
 -- ---- what is written
 
-written_append : (constants : Constants) (back : ℕ) (a b : List Term) → all_written constants back (a ++ b) ≡ all_written constants back a ++ all_written constants back b
+pub written_append : (constants : Constants) (back : ℕ) (a b : List Term) → all_written constants back (a ++ b) ≡ all_written constants back a ++ all_written constants back b
 written_append constants back a b = flat_map-append (λ t. written_terms back (written_term constants t)) a b
 
-one_written : (constants : Constants) (back : ℕ) (t : Term) → all_written constants back (t ∷ []) ≡ written_terms back (written_term constants t)
+pub one_written : (constants : Constants) (back : ℕ) (t : Term) → all_written constants back (t ∷ []) ≡ written_terms back (written_term constants t)
 one_written constants back t = flat_map-cons (λ x. written_terms back (written_term constants x)) t [] ∙ append-nil (written_terms back (written_term constants t))

@@ -1,15 +1,19 @@
 -- How what is written of formulas is seen.
-use Rattle.std.specs.Prelude.{ℕ, Bool, true, false, ◌==◌, List, [], ◌∷◌, ◌++◌, map, Option, Some, None, Result, Ok, Err, if◌then◌else◌}
+use Rattle.std.specs.Prelude.{◌≡◌, ◌≤◌, ℕ, Bool, true, false, ◌==◌, List, [], ◌∷◌, ◌++◌, map, Option, Some, None, Result, Ok, Err, if◌then◌else◌}
 use Rattle.std.specs.List.{list_all, flat_map}
 use Rattle.omf_format.specs.declared.value.Value.{Value}
 use Rattle.omf_format.specs.declared.value.Value.TheVariants.{Fixed, At}
 use Rattle.omf_format.specs.declared.value.ValueFault.{ValueFault}
 use Rattle.omf_format.specs.declared.value.ValueFault.TheVariants.{DivideByZero, NotRelocatable, Unknown}
-use Rattle.omf_format.specs.Expression.{Term, Operator, Location, Constant, Named, Offset, Tree}
+use Rattle.omf_format.specs.Expression.{Term, Operator, Location, Constant, Named, Offset, Tree, IsTree, terms_of, terms_text, depth}
 use Rattle.omf_format.specs.Value.{Environment}
 use Rattle.orca_meaning.specs.Formula.{placed}
 use Rattle.asm_meaning.specs.Constant as meaning
 use Rattle.asm_meaning.specs.Constant.{Constants, term_with_values}
+use Rattle.asm_meaning.specs.Answer.{Answer}
+use Rattle.asm_meaning.specs.declared.faults.AsmCause.{AsmCause}
+use Rattle.orca_asm.specs.declared.amount.Amount.{Amount}
+use Rattle.orca_asm.specs.declared.amount.Amount.TheVariants as amounts
 use Rattle.orca_asm.specs.declared.amount.Worth.{Worth}
 use Rattle.orca_asm.specs.declared.amount.Worth.TheVariants as worths
 
@@ -31,6 +35,10 @@ written_terms back (Offset n) = Offset n ∷ []
 
 abbrev pub all_written : Constants → ℕ → List Term → List Term
 all_written constants back terms = flat_map (λ t. written_terms back (written_term constants t)) terms
+
+-- terms with known values in place of names
+abbrev pub with_terms : Constants → List Term → List Term
+with_terms constants terms = map (written_term constants) terms
 
 abbrev pub is_number_term : Term → Bool
 is_number_term (Operator code) = true
@@ -60,3 +68,30 @@ worth_view worths.Divided = meaning.Divided
 -- a tree with the location counter less a number in place of each, unless that is 0
 abbrev pub placed_by : ℕ → Tree → Tree
 placed_by back tree = if back == 0 then tree else placed back tree
+
+-- these are the terms of a formula that can be written
+pub record IsFormulaOf (terms : List Term) (tree : Tree) : Type 0 where
+  pub terms_are : terms ≡ terms_of tree
+  pub formed : IsTree 0 tree
+  pub shallow : depth tree ≤ 64
+
+-- an amount as it is kept: the number, or the bytes of the terms
+pub data Kept : Type 0 where
+  Number : (n : ℕ) → Kept
+  Text : (bytes : List ℕ) → Kept
+
+abbrev pub kept_of : ℕ → meaning.Amount → Kept
+kept_of back (meaning.Known n) = Number n
+kept_of back (meaning.Written tree) = Text (terms_text 0 (terms_of (placed_by back tree)))
+
+abbrev pub kept_answer : ℕ → Answer meaning.Amount → Answer Kept
+kept_answer back (Ok a) = Ok (kept_of back a)
+kept_answer back (Err cause) = Err cause
+
+abbrev pub kept_view : Amount → Kept
+kept_view (amounts.Known n) = Number n
+kept_view (amounts.Written text) = Text text.items
+
+abbrev pub amount_view : Result Amount AsmCause → Answer Kept
+amount_view (Ok a) = Ok (kept_view a)
+amount_view (Err cause) = Err cause

@@ -5,11 +5,13 @@ ghost use Rattle.std.specs.List.{list_all};
 ghost use Rattle.omf_format.specs.Expression.{AreTerms, IsTerm, term_text, terms_text, Tree, Spells};
 ghost use Rattle.omf_format.specs.Value.{value};
 ghost use Rattle.omf_expr.specs.View.{view};
-ghost use Rattle.orca_asm.specs.AmountView.{less_location, written_term, written_terms, all_written, is_number_term, are_numbers, worth_of_value, nowhere, worth_view};
+ghost use Rattle.asm_meaning.specs.Constant.{amount};
+ghost use Rattle.orca_asm.specs.AmountView.{with_terms, IsFormulaOf, amount_view, kept_answer, less_location, written_term, written_terms, all_written, is_number_term, are_numbers, worth_of_value, nowhere, worth_view};
 ghost use Rattle.orca_asm.specs.NamesView.{constants};
 ghost use Rattle.orca_text.specs.View.{term};
 
 use crate::names::Known;
+use asm_meaning::AsmCause;
 use omf_expr::{Env, Expr, Term, Value, ValueFault, evaluate, put_term};
 use orca_text::FormulaTerm;
 use std::alloc::{AllocError, Global};
@@ -128,8 +130,9 @@ fn put_terms(
     terms: &[FormulaTerm],
 ) -> Result<bool, AllocError>
     requires { AreTerms 0 (map term terms.now) }
-    ensures { IfOk result (λ all. (out.new.items ≡ out.old.items ++ terms_text 0 (all_written (constants known.entry) back (map term terms.now)))
-        × (all ≡ are_numbers (constants known.entry) (map term terms.now))) }
+    ensures text { OnOk result (out.new.items ≡ out.old.items ++ terms_text 0 (all_written (constants known.entry) back (map term terms.now))) }
+    ensures numbers { IfOk result (λ all. all ≡ are_numbers (constants known.entry) (map term terms.now)) }
+    ensures fine { OnOk result (AreTerms 0 (with_terms (constants known.entry) (map term terms.now))) }
 {
     let mut all = true;
     let mut left = terms;
@@ -164,5 +167,49 @@ fn number_of(of: Result<Value, ValueFault>) -> Worth
         Err(ValueFault::DivideByZero) => Worth::Divided,
         Err(ValueFault::NotRelocatable) => Worth::Open,
         Err(ValueFault::Unknown(_)) => Worth::Open,
+    }
+}
+
+/// What a formula amounts to.
+#[derive(Debug, Drop)]
+pub(crate) enum Amount {
+    /// A number.
+    Known(u32),
+    /// The terms of the expression that is written, without its end.
+    Written(Vec<u8>),
+}
+
+/// The value of terms that all are numbers and operators, whose text stands there. The end is put behind them and taken away again.
+fn value_behind(out: &mut Vec<u8>) -> Result<Worth, AllocError>
+    ensures text { OnOk result (out.new.items ≡ out.old.items) }
+    ensures value { IfOk result (λ w. (tree : Tree) → Spells 0 (out.old.items ++ 0x00 ∷ []) tree → worth_view w ≡ worth_of_value (value nowhere 0 0 tree)) }
+{
+    out.push(0)?;
+    let worth = value_of(out.as_slice());
+    let _end = out.pop();
+    Ok(worth)
+}
+
+/// What a formula amounts to where these constants are known. In an instruction the location counter is written less a
+/// number, and elsewhere as it is (0).
+pub(crate) fn amount_of(
+    alloc: Global,
+    known: Known<'_>,
+    back: u8,
+    terms: &[FormulaTerm],
+) -> Result<Result<Amount, AsmCause>, AllocError>
+    requires { AreTerms 0 (map term terms.now) }
+    ensures { IfOk result (λ answer. (tree : Tree) → IsFormulaOf (map term terms.now) tree → amount_view answer ≡ kept_answer back (amount (constants known.entry) tree)) }
+{
+    let mut out = Vec::new(alloc);
+    let all = put_terms(&mut out, known, back, terms)?;
+    if !all {
+        return Ok(Ok(Amount::Written(out)));
+    }
+    let worth = value_behind(&mut out)?;
+    match worth {
+        Worth::Number(n) => Ok(Ok(Amount::Known(n))),
+        Worth::Divided => Ok(Err(AsmCause::DivideByZero)),
+        Worth::Open => Ok(Ok(Amount::Written(out))),
     }
 }
