@@ -17,7 +17,7 @@ location_put old one two three back a b c =
     c ∙ ap (λ (l : List ℕ). l ++ z) (b ∙ ap (λ (l : List ℕ). l ++ y) a)
     ∙ append_assoc (old ++ x) y z ∙ append_assoc old x (y ++ z) ∙ ap (λ (l : List ℕ). old ++ (x ++ (y ++ l))) (sym (append-nil z))
 
-terms_text-append : (a b : List Term) → terms_text 0 (a ++ b) ≡ terms_text 0 a ++ terms_text 0 b
+pub terms_text-append : (a b : List Term) → terms_text 0 (a ++ b) ≡ terms_text 0 a ++ terms_text 0 b
 terms_text-append [] b = refl
 terms_text-append (t ∷ a) b = ap (λ (l : List ℕ). term_text 0 t ++ l) (terms_text-append a b) ∙ sym (append_assoc (term_text 0 t) (terms_text 0 a) (terms_text 0 b))
 

@@ -3,3 +3,5 @@ pub mod ModeView
 pub mod Tables
 pub mod NamesView
 pub mod AmountView
+pub mod PieceView
+pub mod Chosen

@@ -4,8 +4,10 @@
 
 mod amount;
 mod held;
+mod instruct;
 mod mode;
 mod names;
 mod operation;
+mod piece;
 
 pub use asm_meaning::{AsmCause, AsmFault};
