@@ -4,3 +4,4 @@ pub mod Values
 pub mod Written
 pub mod Ends
 pub mod Instructed
+pub mod ByFormulas

@@ -3,6 +3,7 @@
 #![tactic(auto)]
 
 mod amount;
+mod causes;
 mod held;
 mod instruct;
 mod mode;
