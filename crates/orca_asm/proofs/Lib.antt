@@ -1,5 +1,6 @@
 pub mod Maps
 pub mod Amounts
+pub mod Labels
 pub mod Values
 pub mod Written
 pub mod Ends

@@ -5,3 +5,4 @@ pub mod NamesView
 pub mod AmountView
 pub mod PieceView
 pub mod Chosen
+pub mod OperandView

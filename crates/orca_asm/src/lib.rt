@@ -6,8 +6,10 @@ mod amount;
 mod causes;
 mod held;
 mod instruct;
+mod label;
 mod mode;
 mod names;
+mod operand;
 mod operation;
 mod piece;
 
