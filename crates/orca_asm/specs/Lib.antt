@@ -6,3 +6,4 @@ pub mod AmountView
 pub mod PieceView
 pub mod Chosen
 pub mod OperandView
+pub mod ElementView

@@ -4,6 +4,7 @@
 
 mod amount;
 mod causes;
+mod element;
 mod held;
 mod instruct;
 mod label;
