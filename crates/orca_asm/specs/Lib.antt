@@ -6,4 +6,5 @@ pub mod AmountView
 pub mod PieceView
 pub mod Chosen
 pub mod OperandView
+pub mod FormulasView
 pub mod ElementView

@@ -5,6 +5,7 @@
 mod amount;
 mod causes;
 mod element;
+mod formulas;
 mod held;
 mod instruct;
 mod label;
