@@ -9,6 +9,7 @@ mod formulas;
 mod held;
 mod instruct;
 mod label;
+mod lists;
 mod mode;
 mod names;
 mod operand;
