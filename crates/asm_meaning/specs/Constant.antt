@@ -1,0 +1,95 @@
+-- Constants: formulas whose value the assembler knows (ORCA/M reference manual, "Expressions" and "EQU").
+use Rattle.std.specs.Prelude.{ℕ, ◌&&◌, ◌==◌, List, Option, Some, None, Ok, Err, if◌then◌else◌}
+use Rattle.omf_format.specs.Expression.{Term, Operator, Location, Constant, Named, Offset, Tree, Leaf, Unary, Binary}
+use Rattle.omf_format.specs.Value.{number_of_one, number_of_two, divides}
+use Rattle.asm_meaning.specs.declared.faults.AsmCause.TheVariants.{UnknownConstant, DivideByZero}
+use Rattle.asm_meaning.specs.Answer.{Answer}
+
+-- the names whose values are known, with their values
+abbrev pub Constants : Type 0
+Constants = List ℕ → Option ℕ
+
+-- ---- the number that a formula is
+
+-- what a formula is worth: a number; none, since the location counter, an attribute or a name that is no known constant
+-- stands in it; or a number divided by 0
+pub data Worth : Type 0 where
+  Number : (n : ℕ) → Worth
+  Open : Worth
+  Divided : Worth
+
+abbrev pub number_or_open : Option ℕ → Worth
+number_or_open None = Open
+number_or_open (Some n) = Number n
+
+-- of a name ($83) its value, and of its length or its count nothing
+abbrev pub worth_of_term : Constants → Term → Worth
+worth_of_term constants (Operator code) = Open
+worth_of_term constants Location = Open
+worth_of_term constants (Constant n) = Number n
+worth_of_term constants (Named code name) = if code == 0x83 then number_or_open (constants name) else Open
+worth_of_term constants (Offset n) = Open
+
+abbrev pub worth_of_one : ℕ → Worth → Worth
+worth_of_one code (Number a) = Number (number_of_one code a)
+worth_of_one code Open = Open
+worth_of_one code Divided = Divided
+
+-- a formula that is open is no constant, whatever it divides
+abbrev pub worth_of_two : ℕ → Worth → Worth → Worth
+worth_of_two code (Number a) (Number b) = if divides code && b == 0 then Divided else Number (number_of_two code a b)
+worth_of_two code (Number a) Open = Open
+worth_of_two code (Number a) Divided = Divided
+worth_of_two code Open b = Open
+worth_of_two code Divided (Number b) = Divided
+worth_of_two code Divided Open = Open
+worth_of_two code Divided Divided = Divided
+
+-- what a formula is worth where these names are known
+unfoldable pub worth : Constants → Tree → Worth
+worth constants (Leaf term) = worth_of_term constants term
+worth constants (Unary code a) = worth_of_one code (worth constants a)
+worth constants (Binary code a b) = worth_of_two code (worth constants a) (worth constants b)
+
+-- the number, where one is needed
+abbrev pub needed : Worth → Answer ℕ
+needed (Number n) = Ok n
+needed Open = Err UnknownConstant
+needed Divided = Err DivideByZero
+
+-- ---- what is written of a formula that isn't a constant
+
+abbrev pub number_or : Term → Option ℕ → Term
+number_or term None = term
+number_or term (Some n) = Constant n
+
+abbrev pub term_with_values : Constants → Term → Term
+term_with_values constants (Operator code) = Operator code
+term_with_values constants Location = Location
+term_with_values constants (Constant n) = Constant n
+term_with_values constants (Named code name) = if code == 0x83 then number_or (Named code name) (constants name) else Named code name
+term_with_values constants (Offset n) = Offset n
+
+-- each known constant gives its value
+abbrev pub with_values : Constants → Tree → Tree
+with_values constants (Leaf term) = Leaf (term_with_values constants term)
+with_values constants (Unary code a) = Unary code (with_values constants a)
+with_values constants (Binary code a b) = Binary code (with_values constants a) (with_values constants b)
+
+-- a number, or the expression that is written
+pub data Amount : Type 0 where
+  Known : (n : ℕ) → Amount
+  Written : (tree : Tree) → Amount
+
+abbrev pub amount_by : Tree → Worth → Answer Amount
+amount_by tree (Number n) = Ok (Known n)
+amount_by tree Open = Ok (Written tree)
+amount_by tree Divided = Err DivideByZero
+
+unfoldable pub amount : Constants → Tree → Answer Amount
+amount constants tree = amount_by (with_values constants tree) (worth constants tree)
+
+-- the expression of an amount; that of a number is the number
+abbrev pub tree_of_amount : Amount → Tree
+tree_of_amount (Known n) = Leaf (Constant n)
+tree_of_amount (Written tree) = tree

@@ -1,0 +1,211 @@
+-- The elements of DC (ORCA/M reference manual, "Declare Constant").
+use Rattle.std.specs.Prelude.{◌≡◌, ℕ, ◌+◌, ◌-◌, ◌/◌, ◌^◌, zero, suc, Bool, not, ◌||◌, ◌&&◌, ◌==◌, nat_lt, nat_le, bit_or, List, [], ◌∷◌, ◌++◌, length, take, drop, map, filter, replicate, Option, Some, None, Ok, Err, if◌then◌else◌}
+use Rattle.std.specs.Char.{is_digit, to_ascii_uppercase}
+use Rattle.std.specs.List.{position_or_len, list_all, flat_map}
+use Rattle.std.specs.Str.Parse.{digits_value}
+use Rattle.byteorder.specs.Endian.{little_bytes}
+use Rattle.omf_format.specs.Field.{◌>>=◌}
+use Rattle.omf_format.specs.Expression.{Tree, Leaf, Named}
+use Rattle.omf_format.specs.Record.{Formula, Strong}
+use Rattle.orca_meaning.specs.declared.operators.Operands.TheVariants.{Labels}
+use Rattle.orca_meaning.specs.Formula.{MeansAt}
+use Rattle.orca_meaning.specs.Token.{Found, digits_at, name_at}
+use Rattle.asm_meaning.specs.declared.faults.AsmCause.TheVariants.{BadOperand, BadNumber}
+use Rattle.asm_meaning.specs.Answer.{Answer, both, all_of}
+use Rattle.asm_meaning.specs.Constant.{Constants, Amount, Known, Written, amount}
+use Rattle.asm_meaning.specs.Formulas.{AreFormulas, judged, number_of, expression_text}
+use Rattle.asm_meaning.specs.Pieces.{Piece, Bytes, Whole, copies}
+
+-- ---- elements
+
+-- how often an element stands: once, as often as decimal digits say, or as a formula in parentheses says
+pub data Repeat : Type 0 where
+  Once : Repeat
+  Digits : (n : ℕ) → Repeat
+  Computed : (tree : Tree) → Repeat
+
+-- the value of an element: numbers of so many bytes, constant bytes, a text, names that are asked for, or names that may be missing
+pub data Value : Type 0 where
+  Numbers : (width : ℕ) (trees : List Tree) → Value
+  Fixed : (bytes : List ℕ) → Value
+  Text : (bytes : List ℕ) → Value
+  Asked : (names : List (List ℕ)) → Value
+  Weak : (names : List (List ℕ)) → Value
+
+pub record Element : Type 0 where
+  pub repeat : Repeat
+  pub value : Value
+
+-- ---- digits
+
+-- the bytes of digits, so many a byte with the first of them highest; missing ones are 0
+unfoldable pub packed : ℕ → ℕ → ℕ → List ℕ → List ℕ
+packed base each zero digits = []
+packed base each (suc n) digits = digits_value base (take each (digits ++ replicate each 0x30)) ∷ packed base each n (drop each digits)
+
+abbrev pub is_space : ℕ → Bool
+is_space byte = byte == 0x20
+
+abbrev pub without_spaces : List ℕ → List ℕ
+without_spaces text = filter (λ byte. not (is_space byte)) text
+
+abbrev pub packed_digits : ℕ → ℕ → List ℕ → Option (List ℕ)
+packed_digits base each [] = None
+packed_digits base each (digit ∷ digits) =
+    if list_all (λ byte. is_digit byte base) (digit ∷ digits)
+    then Some (packed base each ((length (digit ∷ digits) + (each - 1)) / each) (digit ∷ digits)) else None
+
+-- the bytes of digits, of which there is one at least, with spaces between them: two hexadecimal ones a byte, or eight binary ones
+unfoldable pub bytes_of_digits : ℕ → ℕ → List ℕ → Option (List ℕ)
+bytes_of_digits base each text = packed_digits base each (without_spaces text)
+
+-- ---- values
+
+-- the text up to the next `'`, and what stands behind that
+unfoldable pub closed_at : List ℕ → Found (List ℕ)
+closed_at text =
+    let n = position_or_len (λ byte. byte == 0x27) text in
+    if nat_lt n (length text) then Some (take n text, drop (n + 1) text) else None
+
+abbrev pub with_byte : ℕ → Found (List ℕ) → Found (List ℕ)
+with_byte byte None = None
+with_byte byte (Some (text, rest)) = Some (byte ∷ text, rest)
+
+-- the text up to the next `'` behind which no other one stands; two of them are one quote of the text
+unfoldable pub text_at : List ℕ → Found (List ℕ)
+text_at [] = None
+text_at (byte ∷ []) = if byte == 0x27 then Some ([], []) else None
+text_at (byte ∷ next ∷ behind) =
+    if byte == 0x27 then (if next == 0x27 then with_byte 0x27 (text_at behind) else Some ([], next ∷ behind))
+    else with_byte byte (text_at (next ∷ behind))
+
+-- the names, one at least, that commas part in a text
+abbrev pub AreNames : List ℕ → List (List ℕ) → Type 0
+AreNames text [] = ⊥
+AreNames text (name ∷ []) = name_at text ≡ Some (name, [])
+AreNames text (name ∷ next ∷ names) = (behind : List ℕ) × (name_at text ≡ Some (name, 0x2C ∷ behind)) × AreNames behind (next ∷ names)
+
+-- the types of elements: I and A with the bytes of each number, H, B, C, R, S
+pub data Kind : Type 0 where
+  Number : (width : ℕ) → Kind
+  Hexadecimal : Kind
+  Binary : Kind
+  Characters : Kind
+  References : Kind
+  WeakReferences : Kind
+
+-- the number of bytes behind I and A, which is 2 where none stands there
+abbrev pub width_at : List ℕ → Kind × List ℕ
+width_at [] = (Number 2, [])
+width_at (digit ∷ behind) = if nat_le 0x31 digit && nat_le digit 0x34 then (Number (digit - 0x30), behind) else (Number 2, digit ∷ behind)
+
+-- the type at the front, in upper or lower case
+unfoldable pub kind_at : List ℕ → Found Kind
+kind_at [] = None
+kind_at (letter ∷ behind) =
+    let capital = to_ascii_uppercase letter in
+    if capital == 0x49 || capital == 0x41 then Some (width_at behind)
+    else if capital == 0x48 then Some (Hexadecimal, behind)
+    else if capital == 0x42 then Some (Binary, behind)
+    else if capital == 0x43 then Some (Characters, behind)
+    else if capital == 0x52 then Some (References, behind)
+    else if capital == 0x53 then Some (WeakReferences, behind)
+    else None
+
+-- the value of a type stands at the front, behind its opening quote and with its closing one
+abbrev pub IsValueAt : Kind → List ℕ → Value → List ℕ → Type 0
+IsValueAt (Number width) text value rest =
+    (inner : List ℕ) × (trees : List Tree) × (closed_at text ≡ Some (inner, rest)) × AreFormulas inner trees × (value ≡ Numbers width trees)
+IsValueAt Hexadecimal text value rest =
+    (inner bytes : List ℕ) × (closed_at text ≡ Some (inner, rest)) × (bytes_of_digits 16 2 inner ≡ Some bytes) × (value ≡ Fixed bytes)
+IsValueAt Binary text value rest =
+    (inner bytes : List ℕ) × (closed_at text ≡ Some (inner, rest)) × (bytes_of_digits 2 8 inner ≡ Some bytes) × (value ≡ Fixed bytes)
+IsValueAt Characters text value rest = (bytes : List ℕ) × (text_at text ≡ Some (bytes, rest)) × (value ≡ Text bytes)
+IsValueAt References text value rest =
+    (inner : List ℕ) × (names : List (List ℕ)) × (closed_at text ≡ Some (inner, rest)) × AreNames inner names × (value ≡ Asked names)
+IsValueAt WeakReferences text value rest =
+    (inner : List ℕ) × (names : List (List ℕ)) × (closed_at text ≡ Some (inner, rest)) × AreNames inner names × (value ≡ Weak names)
+
+-- what stands behind a parenthesis that opens at the front
+abbrev pub behind_parenthesis : List ℕ → Option (List ℕ)
+behind_parenthesis [] = None
+behind_parenthesis (byte ∷ behind) = if byte == 0x28 then Some behind else None
+
+-- how often an element stands, at the front: a formula in parentheses, decimal digits, or nothing
+abbrev pub IsRepeatBy : Option (List ℕ) → Found ℕ → List ℕ → Repeat → List ℕ → Type 0
+IsRepeatBy (Some behind) digits text repeat rest = (tree : Tree) × MeansAt Labels behind tree (0x29 ∷ rest) × (repeat ≡ Computed tree)
+IsRepeatBy None (Some found) text repeat rest = (repeat ≡ Digits found.0) × (rest ≡ found.1)
+IsRepeatBy None None text repeat rest = (repeat ≡ Once) × (rest ≡ text)
+
+abbrev pub IsRepeatAt : List ℕ → Repeat → List ℕ → Type 0
+IsRepeatAt text repeat rest = IsRepeatBy (behind_parenthesis text) (digits_at 10 text) text repeat rest
+
+-- an element stands at the front: how often, its type, and its value in quotes
+pub record IsElementAt (text : List ℕ) (element : Element) (rest : List ℕ) : Type 0 where
+  pub behind_repeat : List ℕ
+  pub kind : Kind
+  pub behind_quote : List ℕ
+  pub repeat : IsRepeatAt text element.repeat behind_repeat
+  pub of_kind : kind_at behind_repeat ≡ Some (kind, 0x27 ∷ behind_quote)
+  pub value : IsValueAt kind behind_quote element.value rest
+
+-- the elements, one at least, that commas part in an operand
+abbrev pub AreElements : List ℕ → List Element → Type 0
+AreElements text [] = ⊥
+AreElements text (element ∷ []) = IsElementAt text element []
+AreElements text (element ∷ next ∷ elements) =
+    (behind : List ℕ) × IsElementAt text element (0x2C ∷ behind) × AreElements behind (next ∷ elements)
+
+-- ---- what they give
+
+-- a count is 1 to 65,535
+abbrev pub in_range : ℕ → Answer ℕ
+in_range n = if nat_le 1 n && nat_le n 65535 then Ok n else Err BadOperand
+
+abbrev pub count_of : Constants → Repeat → Answer ℕ
+count_of constants Once = Ok 1
+count_of constants (Digits n) = if nat_le (2 ^ 32) n then Err BadNumber else in_range n
+count_of constants (Computed tree) = number_of constants tree >>= in_range
+
+-- a number of so many bytes, of which a constant is cut to them, and EXPR ($EB) stands for another
+abbrev pub number_piece : ℕ → Amount → Piece
+number_piece width (Known n) = Bytes (little_bytes width n)
+number_piece width (Written tree) = Whole (Formula 0xEB width 0 (expression_text tree))
+
+abbrev pub numbered : Constants → ℕ → Tree → Answer Piece
+numbered constants width tree = judged tree >>= λ t. amount constants t >>= λ a. Ok (number_piece width a)
+
+-- with MSB on the bytes of a text have their high bits set
+abbrev pub text_byte : Bool → ℕ → ℕ
+text_byte msb byte = if msb then bit_or byte 0x80 else byte
+
+-- EXPR of two bytes with the weak name ($82)
+abbrev pub weak_piece : List ℕ → Piece
+weak_piece name = Whole (Formula 0xEB 2 0 (expression_text (Leaf (Named 0x82 name))))
+
+abbrev pub strong_piece : List ℕ → Piece
+strong_piece name = Whole (Strong name)
+
+abbrev pub value_pieces : Constants → Bool → Value → Answer (List Piece)
+value_pieces constants msb (Numbers width trees) = all_of (numbered constants width) trees
+value_pieces constants msb (Fixed bytes) = Ok (Bytes bytes ∷ [])
+value_pieces constants msb (Text bytes) = Ok (Bytes (map (text_byte msb) bytes) ∷ [])
+value_pieces constants msb (Asked names) = Ok (map strong_piece names)
+value_pieces constants msb (Weak names) = Ok (map weak_piece names)
+
+-- what an element gives: its value so often
+unfoldable pub element_pieces : Constants → Bool → Element → Answer (List Piece)
+element_pieces constants msb element =
+    both (count_of constants element.repeat) (value_pieces constants msb element.value) >>= λ found. Ok (copies found.0 found.1)
+
+-- the elements that an operand is, if it is a list of them
+abbrev pub IsList : List ℕ → Option (List Element) → Type 0
+IsList text None = (elements : List Element) → AreElements text elements → ⊥
+IsList text (Some elements) = AreElements text elements
+
+abbrev pub joined : List (List Piece) → List Piece
+joined all = flat_map (λ pieces. pieces) all
+
+abbrev pub list_pieces : Constants → Bool → Option (List Element) → Answer (List Piece)
+list_pieces constants msb None = Err BadOperand
+list_pieces constants msb (Some elements) = all_of (element_pieces constants msb) elements >>= λ found. Ok (joined found)

@@ -1,0 +1,41 @@
+-- What statements give: constant bytes and records, of which neighbouring bytes are one record (GS/OS Reference,
+-- appendix F, CONST and LCONST).
+use Rattle.std.specs.Prelude.{ℕ, zero, suc, ◌+◌, ◌-◌, nat_le, List, [], ◌∷◌, ◌++◌, length, if◌then◌else◌}
+use Rattle.omf_format.specs.Record.{Record, Const, LongConst}
+use Rattle.link_meaning.specs.Sizes.{size_at}
+
+-- constant bytes, or a record of another kind
+pub data Piece : Type 0 where
+  Bytes : (bytes : List ℕ) → Piece
+  Whole : (content : Record) → Piece
+
+-- constant bytes: no record of none, CONST of 1 to 223, and LCONST of more
+abbrev pub constant_records : List ℕ → List Record
+constant_records [] = []
+constant_records (byte ∷ bytes) =
+    (if nat_le (length (byte ∷ bytes)) 223 then Const (byte ∷ bytes) else LongConst (byte ∷ bytes)) ∷ []
+
+-- the records of pieces behind constant bytes that have no record yet
+unfoldable pub records_behind : List ℕ → List Piece → List Record
+records_behind bytes [] = constant_records bytes
+records_behind bytes (Bytes more ∷ pieces) = records_behind (bytes ++ more) pieces
+records_behind bytes (Whole content ∷ pieces) = constant_records bytes ++ content ∷ records_behind [] pieces
+
+abbrev pub records_of : List Piece → List Record
+records_of pieces = records_behind [] pieces
+
+-- pieces so often
+abbrev pub copies : ℕ → List Piece → List Piece
+copies zero pieces = []
+copies (suc n) pieces = pieces ++ copies n pieces
+
+-- ---- cells
+
+-- the place behind these records, where the first stands at this place of its segment
+unfoldable pub place_behind : ℕ → List Record → ℕ
+place_behind at [] = at
+place_behind at (content ∷ contents) = place_behind (at + size_at at content) contents
+
+-- the length of a statement is the number of cells that its records give
+unfoldable pub length_at : ℕ → List Record → ℕ
+length_at at contents = place_behind at contents - at

@@ -1,0 +1,306 @@
+-- Statements: what each operation does (ORCA/M reference manual, "Assembler directives"; GS/OS Reference, appendix F), and
+-- the first fault of one (the order is this project's own).
+use Rattle.std.specs.Prelude.{is_some, ◌≡◌, ℕ, ◌-◌, ◌^◌, Bool, true, false, not, ◌||◌, ◌&&◌, ◌==◌, nat_lt, nat_le, List, [], ◌∷◌, ◌++◌, length, replicate, codes, bytes_eq, Option, Some, None, Ok, Err, if◌then◌else◌}
+use Rattle.std.specs.Int.{is_power_of_two}
+use Rattle.std.specs.Option.{option_or}
+use Rattle.omf_format.specs.Field.{◌>>=◌}
+use Rattle.omf_format.specs.Expression.{Tree, Leaf, Constant}
+use Rattle.omf_format.specs.Header.{alignment_of, form_of, is_listed}
+use Rattle.omf_format.specs.Record.{Record, End, Align, Org, Space, Using, Label, Equate}
+use Rattle.orca_meaning.specs.declared.mnemonics.Mnemonic.{Mnemonic}
+use Rattle.orca_meaning.specs.Characters.{folded, is_name}
+use Rattle.orca_meaning.specs.Line.{Line, part}
+use Rattle.macro_meaning.specs.Symbol.{with_name}
+use Rattle.orca_meaning.specs.Operand.{Meaning, IsGoodOperand, IsBadOperand, HasBadNumber}
+use Rattle.asm_meaning.specs.declared.directives.Class.{Class}
+use Rattle.asm_meaning.specs.declared.directives.Switch.{Switch}
+use Rattle.asm_meaning.specs.declared.directives.Directive.TheVariants as directives
+use Rattle.asm_meaning.specs.declared.faults.AsmCause.TheVariants.{UnknownOperation, OutsideSegment, BadLabel, BadOperand, BadNumber, Duplicate, DoesNotFit}
+use Rattle.asm_meaning.specs.Answer.{Answer, both}
+use Rattle.asm_meaning.specs.Constant.{needed, worth, Constants, Amount, Known, Written, amount, tree_of_amount}
+use Rattle.asm_meaning.specs.Elements.{Element, IsList, list_pieces}
+use Rattle.asm_meaning.specs.Formulas.{IsFormula, formula_of, expression_text}
+use Rattle.asm_meaning.specs.Instruction.{instruction}
+use Rattle.asm_meaning.specs.declared.directives.Operation.{Operation}
+use Rattle.asm_meaning.specs.declared.directives.Operation.TheVariants.{Instruct, Direct}
+use Rattle.asm_meaning.specs.Operations.{operation_of}
+use Rattle.asm_meaning.specs.Pieces.{records_of}
+use Rattle.asm_meaning.specs.State.{Segment, State, begun, closed, grown, marked, in_segment, within_length, turned}
+
+-- ---- inside and outside of segments
+
+-- `*+` at the front, with which ORG moves the location counter, and what stands behind it
+abbrev pub behind_here : List ℕ → Option (List ℕ)
+behind_here [] = None
+behind_here (byte ∷ []) = None
+behind_here (byte ∷ next ∷ behind) = if byte == 0x2A && next == 0x2B then Some behind else None
+
+abbrev pub is_some_text : Option (List ℕ) → Bool
+is_some_text None = false
+is_some_text (Some text) = true
+
+abbrev pub is_labelled : List ℕ → Bool
+is_labelled [] = false
+is_labelled (byte ∷ label) = true
+
+-- Which statements may not stand outside segments: those that give something to a segment, and those with a label that isn't
+-- the name of a segment or of a GEQU.
+abbrev pub needs_segment : Operation → List ℕ → List ℕ → Bool
+needs_segment (Instruct mnemonic) label operand = true
+needs_segment (Direct (directives.Begin class)) label operand = false
+needs_segment (Direct directives.End) label operand = true
+needs_segment (Direct directives.Entry) label operand = true
+needs_segment (Direct directives.Using) label operand = true
+needs_segment (Direct directives.Equ) label operand = true
+needs_segment (Direct directives.Gequ) label operand = false
+needs_segment (Direct directives.Constants) label operand = true
+needs_segment (Direct directives.Space) label operand = true
+needs_segment (Direct directives.Align) label operand = is_labelled label
+needs_segment (Direct directives.Org) label operand = is_labelled label || is_some_text (behind_here operand)
+needs_segment (Direct directives.Kind) label operand = true
+needs_segment (Direct (directives.Turn switch)) label operand = is_labelled label
+needs_segment (Direct directives.Nothing) label operand = is_labelled label
+needs_segment (Direct directives.Ignored) label operand = is_labelled label
+
+abbrev pub begins_segment : Operation → Bool
+begins_segment (Instruct mnemonic) = false
+begins_segment (Direct (directives.Begin class)) = true
+begins_segment (Direct directives.End) = false
+begins_segment (Direct directives.Entry) = false
+begins_segment (Direct directives.Using) = false
+begins_segment (Direct directives.Equ) = false
+begins_segment (Direct directives.Gequ) = false
+begins_segment (Direct directives.Constants) = false
+begins_segment (Direct directives.Space) = false
+begins_segment (Direct directives.Align) = false
+begins_segment (Direct directives.Org) = false
+begins_segment (Direct directives.Kind) = false
+begins_segment (Direct (directives.Turn switch)) = false
+begins_segment (Direct directives.Nothing) = false
+begins_segment (Direct directives.Ignored) = false
+
+-- a statement stands on the wrong side
+abbrev pub is_misplaced : Option Segment → Operation → List ℕ → List ℕ → Bool
+is_misplaced None operation label operand = needs_segment operation label operand
+is_misplaced (Some s) operation label operand = begins_segment operation
+
+-- ---- labels
+
+abbrev pub needs_label : Operation → Bool
+needs_label (Instruct mnemonic) = false
+needs_label (Direct (directives.Begin class)) = true
+needs_label (Direct directives.End) = false
+needs_label (Direct directives.Entry) = true
+needs_label (Direct directives.Using) = false
+needs_label (Direct directives.Equ) = true
+needs_label (Direct directives.Gequ) = true
+needs_label (Direct directives.Constants) = false
+needs_label (Direct directives.Space) = false
+needs_label (Direct directives.Align) = false
+needs_label (Direct directives.Org) = false
+needs_label (Direct directives.Kind) = false
+needs_label (Direct (directives.Turn switch)) = false
+needs_label (Direct directives.Nothing) = false
+needs_label (Direct directives.Ignored) = false
+
+-- Whether a label is a name that there is already: in a segment one that it defines, and outside one of the GEQUs there. The
+-- name of a segment is the first that it defines.
+abbrev pub is_taken : State → Option Segment → Operation → List ℕ → Bool
+is_taken state None operation label = if begins_segment operation then false else is_some (state.outside label)
+is_taken state (Some s) operation label = is_some (s.names label)
+
+abbrev pub free_label : Bool → List ℕ → Answer (List ℕ)
+free_label taken label = if taken then Err Duplicate else Ok label
+
+-- a label in upper case; nothing is no label
+abbrev pub label_of : State → Operation → List ℕ → Answer (List ℕ)
+label_of state operation [] = if needs_label operation then Err BadLabel else Ok []
+label_of state operation (byte ∷ label) =
+    if is_name (byte ∷ label) then free_label (is_taken state state.segment operation (folded (byte ∷ label))) (folded (byte ∷ label)) else Err BadLabel
+
+-- ---- operands
+
+-- the operand of an instruction, or what is wrong with it
+pub data IsOperandOf (mnemonic : Mnemonic) (text : List ℕ) (answer : Answer Meaning) : Type 0 where
+  Good : (operand : Meaning) → IsGoodOperand (Some mnemonic) text operand → answer ≡ Ok operand → IsOperandOf mnemonic text answer
+  Bad : IsBadOperand (Some mnemonic) text → answer ≡ Err BadOperand → IsOperandOf mnemonic text answer
+  Large : HasBadNumber (Some mnemonic) text → answer ≡ Err BadNumber → IsOperandOf mnemonic text answer
+
+-- a name of at most ten bytes and spaces up to ten; none is ten spaces
+unfoldable pub load_name_of : List ℕ → Answer (List ℕ)
+load_name_of [] = Ok (replicate 10 0x20)
+load_name_of (byte ∷ text) =
+    if is_name (byte ∷ text) && nat_le (length (byte ∷ text)) 10
+    then Ok (folded (byte ∷ text) ++ replicate (10 - length (byte ∷ text)) 0x20) else Err BadOperand
+
+abbrev pub name_of : List ℕ → Answer (List ℕ)
+name_of text = if is_name text then Ok (folded text) else Err BadOperand
+
+-- ON or OFF, in upper or lower case
+abbrev pub switch_of : List ℕ → Answer Bool
+switch_of text =
+    if bytes_eq (folded text) (codes "ON") then Ok true
+    else if bytes_eq (folded text) (codes "OFF") then Ok false
+    else Err BadOperand
+
+-- a name's value in the segment
+abbrev pub value_in : Option (Option ℕ) → Option ℕ
+value_in None = None
+value_in (Some value) = value
+
+abbrev pub constants_in : Option Segment → Constants
+constants_in None name = None
+constants_in (Some s) name = value_in (s.names name)
+
+-- the constants of the segment, and else those from outside
+abbrev pub constants_of : State → Constants
+constants_of state name = option_or (constants_in state.segment name) (state.outside name)
+
+-- the number that a formula is
+abbrev pub number_in : State → Option Tree → Answer ℕ
+number_in state found = formula_of found >>= λ tree. needed (worth (constants_of state) tree)
+
+-- ---- directives with a number
+
+-- a power of two up to $10000, and in a segment up to its alignment
+abbrev pub is_alignment : Option Segment → ℕ → Bool
+is_alignment None n = is_power_of_two n && nat_le n 0x10000
+is_alignment (Some s) n = is_power_of_two n && nat_le n (alignment_of s.header.align)
+
+abbrev pub alignment_in : State → ℕ → Answer ℕ
+alignment_in state n = if is_alignment state.segment n then Ok n else Err BadOperand
+
+-- in a segment ORG moves the location counter forward
+abbrev pub distance_in : Option Segment → ℕ → Answer ℕ
+distance_in None n = Ok n
+distance_in (Some s) n = if nat_lt n (2 ^ 31) then Ok n else Err BadOperand
+
+-- KIND has two bytes, and its type is one that is listed
+abbrev pub listed_kind : ℕ → Answer ℕ
+listed_kind n = if not (is_listed (form_of n)) then Err BadOperand else if nat_lt 0xFFFF n then Err DoesNotFit else Ok n
+
+-- what ALIGN and ORG do: outside segments they wait for the next one
+abbrev pub aligned : State → Option Segment → List ℕ → ℕ → State
+aligned state None label n = record state { align = n }
+aligned state (Some s) label n = in_segment (marked label 0x4E (Align n ∷ [])) state
+
+abbrev pub moved : State → Option Segment → List ℕ → ℕ → State
+moved state None label n = record state { org = n }
+moved state (Some s) label n = in_segment (marked label 0x4E (Org n ∷ [])) state
+
+abbrev pub with_kind : ℕ → Segment → Segment
+with_kind n s = record s { header = record s.header { kind = n } }
+
+-- ---- EQU and GEQU
+
+-- the record: no length, type $4E, not private
+abbrev pub equate : Bool → List ℕ → Tree → Record
+equate global label tree = Equate global label 0 0x4E 0 (expression_text tree)
+
+-- a constant is known from the next line on
+abbrev pub value_of : Amount → Option ℕ
+value_of (Known n) = Some n
+value_of (Written tree) = None
+
+abbrev pub equated : Bool → List ℕ → Amount → Segment → Segment
+equated global label a s = grown label (value_of a) [] (equate global label (tree_of_amount a) ∷ []) s
+
+abbrev pub equating : State → Bool → Answer (List ℕ) → Option Tree → Answer State
+equating state global label found =
+    both label (formula_of found >>= amount (constants_of state))
+    >>= λ (name, a). Ok (in_segment (equated global name a) state)
+
+-- outside segments GEQU is a constant, and waits for the front of the next segment
+abbrev pub equating_outside : State → Answer (List ℕ) → Option Tree → Answer State
+equating_outside state label found =
+    both label (number_in state found)
+    >>= λ (name, n). Ok (record state { outside = with_name name n state.outside; front = state.front ++ equate true name (Leaf (Constant n)) ∷ [] })
+
+abbrev pub equating_global : State → Option Segment → Answer (List ℕ) → Option Tree → Answer State
+equating_global state None label found = equating_outside state label found
+equating_global state (Some s) label found = equating state true label found
+
+-- ---- what a directive does, by the formula of its operand
+
+abbrev pub spacing : State → Answer (List ℕ) → Option Tree → Answer State
+spacing state label found =
+    both label (number_in state found) >>= λ (name, n). Ok (in_segment (marked name 0x4E (Space n ∷ [])) state)
+
+abbrev pub aligning : State → Answer (List ℕ) → Option Tree → Answer State
+aligning state label found =
+    both label (number_in state found >>= alignment_in state) >>= λ (name, n). Ok (aligned state state.segment name n)
+
+abbrev pub moving : State → Answer (List ℕ) → Option Tree → Answer State
+moving state label found =
+    both label (number_in state found >>= distance_in state.segment) >>= λ (name, n). Ok (moved state state.segment name n)
+
+abbrev pub kinding : State → Answer (List ℕ) → Option Tree → Answer State
+kinding state label found =
+    both label (number_in state found >>= listed_kind)
+    >>= λ (name, n). Ok (in_segment (λ s. with_kind n (marked name 0x4E [] s)) state)
+
+-- the formula of ORG: in a segment it stands behind `*+`
+abbrev pub IsMoveText : Option (List ℕ) → Option Tree → Type 0
+IsMoveText None found = found ≡ None
+IsMoveText (Some text) found = IsFormula text found
+
+abbrev pub IsMove : Option Segment → List ℕ → Option Tree → Type 0
+IsMove None text found = IsFormula text found
+IsMove (Some s) text found = IsMoveText (behind_here text) found
+
+-- ---- what each operation does
+
+abbrev pub marking : State → ℕ → Answer (List ℕ) → Answer (List Record) → Answer State
+marking state form label contents = both label contents >>= λ (name, found). Ok (in_segment (marked name form found) state)
+
+abbrev pub beginning : State → Line → Class → Answer (List ℕ) → List ℕ → Answer State
+beginning state line class label text =
+    both label (load_name_of text) >>= λ (name, load_name). Ok (begun state line class name load_name)
+
+abbrev pub turning : State → Switch → Answer (List ℕ) → List ℕ → Answer State
+turning state switch label text =
+    both label (switch_of text) >>= λ (name, on). Ok (turned switch on (in_segment (marked name 0x4E []) state))
+
+-- an ENTRY's label is a GLOBAL of length 0 that isn't private
+abbrev pub entering : State → Answer (List ℕ) → Answer State
+entering state label = label >>= λ name. Ok (in_segment (grown name None (Label true name 0 0x4E 0 ∷ []) []) state)
+
+-- What a statement leaves, or its first fault, by its operation, its label and the text of its operand.
+unfoldable pub IsDone : State → Line → Operation → Answer (List ℕ) → List ℕ → Answer State → Type 0
+IsDone state line (Instruct mnemonic) label text answer =
+    (operand : Answer Meaning) × IsOperandOf mnemonic text operand
+    × (answer ≡ marking state 0x4D label (operand >>= instruction (constants_of state) state.widths mnemonic >>= λ pieces. Ok (records_of pieces)))
+IsDone state line (Direct (directives.Begin class)) label text answer = answer ≡ beginning state line class label text
+IsDone state line (Direct directives.End) label text answer = answer ≡ (marking state 0x4E label (Ok (End ∷ [])) >>= λ left. Ok (closed left))
+IsDone state line (Direct directives.Entry) label text answer = answer ≡ entering state label
+IsDone state line (Direct directives.Using) label text answer = answer ≡ marking state 0x4E label (name_of text >>= λ name. Ok (Using name ∷ []))
+IsDone state line (Direct directives.Equ) label text answer = (found : Option Tree) × IsFormula text found × (answer ≡ equating state false label found)
+IsDone state line (Direct directives.Gequ) label text answer =
+    (found : Option Tree) × IsFormula text found × (answer ≡ equating_global state state.segment label found)
+IsDone state line (Direct directives.Constants) label text answer =
+    (found : Option (List Element)) × IsList text found
+    × (answer ≡ marking state 0x4E label (list_pieces (constants_of state) state.msb found >>= λ pieces. Ok (records_of pieces)))
+IsDone state line (Direct directives.Space) label text answer = (found : Option Tree) × IsFormula text found × (answer ≡ spacing state label found)
+IsDone state line (Direct directives.Align) label text answer = (found : Option Tree) × IsFormula text found × (answer ≡ aligning state label found)
+IsDone state line (Direct directives.Org) label text answer = (found : Option Tree) × IsMove state.segment text found × (answer ≡ moving state label found)
+IsDone state line (Direct directives.Kind) label text answer = (found : Option Tree) × IsFormula text found × (answer ≡ kinding state label found)
+IsDone state line (Direct (directives.Turn switch)) label text answer = answer ≡ turning state switch label text
+IsDone state line (Direct directives.Nothing) label text answer = answer ≡ marking state 0x4E label (Ok [])
+IsDone state line (Direct directives.Ignored) label text answer = answer ≡ marking state 0x4E label (Ok [])
+
+-- ---- lines
+
+abbrev pub IsPlaced : State → Line → Operation → List ℕ → List ℕ → Bool → Answer State → Type 0
+IsPlaced state line operation label text true answer = answer ≡ Err OutsideSegment
+IsPlaced state line operation label text false answer =
+    (left : Answer State) × IsDone state line operation (label_of state operation label) text left × (answer ≡ (left >>= within_length))
+
+abbrev pub IsKnown : State → Line → Option Operation → List ℕ → List ℕ → Answer State → Type 0
+IsKnown state line None label text answer = answer ≡ Err UnknownOperation
+IsKnown state line (Some operation) label text answer =
+    IsPlaced state line operation label text (is_misplaced state.segment operation label text) answer
+
+-- what a line leaves where lines before it left this, or its first fault
+abbrev pub IsStep : State → Line → Answer State → Type 0
+IsStep state line answer =
+    IsKnown state line (operation_of (part line.text line.fields.operation)) (part line.text line.fields.label) (part line.text line.fields.operand) answer

@@ -1,0 +1,12 @@
+-- A part of the table of directives.
+use Rattle.std.specs.Prelude.{ℕ, List, [], ◌∷◌, ◌++◌, codes, map}
+use Rattle.asm_meaning.specs.declared.directives.Switch.TheVariants.{LongA, LongI, Msb}
+use Rattle.asm_meaning.specs.declared.directives.Directive.{Directive}
+use Rattle.asm_meaning.specs.declared.directives.Directive.TheVariants.{Constants, Space, Align, Org, Kind, Turn, Nothing}
+use Rattle.asm_meaning.specs.Operations.{ignored, as_ignored}
+
+-- those behind GEQU
+abbrev pub later : List (List ℕ × Directive)
+later =
+    (codes "DC", Constants) ∷ (codes "DS", Space) ∷ (codes "ALIGN", Align) ∷ (codes "ORG", Org) ∷ (codes "KIND", Kind) ∷
+    (codes "LONGA", Turn LongA) ∷ (codes "LONGI", Turn LongI) ∷ (codes "MSB", Turn Msb) ∷ (codes "ANOP", Nothing) ∷ map as_ignored ignored

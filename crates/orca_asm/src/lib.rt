@@ -1,0 +1,14 @@
+//! The assembler: source lines to object segments (ORCA/M reference manual, "Assembler directives"; WDC 65C816 data sheet;
+//! GS/OS Reference, appendix F).
+#![tactic(auto)]
+
+mod amount;
+mod causes;
+mod held;
+mod instruct;
+mod mode;
+mod names;
+mod operation;
+mod piece;
+
+pub use asm_meaning::{AsmCause, AsmFault};

@@ -1,0 +1,119 @@
+//! The names that a segment defines, and the constants from outside segments.
+
+ghost use Rattle.std.specs.Prelude.{◌≡◌, [], List, ℕ, length, bytes_eq, Some, None, IfOk, OnOk, MatchOption, is_some, option_copied, if◌then◌else◌};
+ghost use Rattle.macro_meaning.specs.Symbol.{with_name};
+ghost use Rattle.asm_meaning.specs.State.{no_names, no_constants};
+ghost use Rattle.orca_asm.specs.Held.{held};
+ghost use Rattle.orca_asm.specs.NamesView.{names_of, outside_of, constants, value_in_names};
+
+use crate::held::{look, put};
+use indexmap::IndexMap;
+use std::alloc::{AllocError, Global};
+
+/// The names that a segment defines, each with its value where it is a constant.
+#[derive(Drop)]
+pub(crate) struct Names {
+    pub(crate) map: IndexMap<Vec<u8>, Option<u32>>,
+}
+
+/// The constants from outside segments.
+#[derive(Drop)]
+pub(crate) struct Outside {
+    pub(crate) map: IndexMap<Vec<u8>, u32>,
+}
+
+/// The constants that are known at a line.
+#[derive(Clone, Copy)]
+pub(crate) struct Known<'a> {
+    /// Those of the open segment are among its names.
+    pub(crate) names: Option<&'a Names>,
+    pub(crate) outside: &'a Outside,
+}
+
+impl Names {
+    /// None.
+    #[tactic(auto, using(crate::proofs::Maps::no_names_held))]
+    pub(crate) fn new(alloc: Global) -> Names
+        ensures { names_of result ≡ no_names }
+    {
+        Names {
+            map: IndexMap::new(alloc),
+        }
+    }
+
+    /// A name's value, if the segment defines it.
+    pub(crate) fn get(&self, name: &[u8]) -> Option<Option<u32>>
+        ensures { result ≡ names_of self.now name.now }
+    {
+        match look(&self.map, name) {
+            Some(value) => Some(*value),
+            None => None,
+        }
+    }
+
+    /// One more name.
+    pub(crate) fn set(
+        &mut self,
+        alloc: Global,
+        name: &[u8],
+        value: Option<u32>,
+    ) -> Result<(), AllocError>
+        ensures { OnOk result (names_of self.new ≡ with_name name.now value (names_of self.old)) }
+    {
+        put(alloc, &mut self.map, name, value)
+    }
+}
+
+impl Outside {
+    /// None.
+    #[tactic(auto, using(crate::proofs::Maps::no_constants_held))]
+    pub(crate) fn new(alloc: Global) -> Outside
+        ensures { outside_of result ≡ no_constants }
+    {
+        Outside {
+            map: IndexMap::new(alloc),
+        }
+    }
+
+    /// A constant's value.
+    pub(crate) fn get(&self, name: &[u8]) -> Option<u32>
+        ensures { result ≡ outside_of self.now name.now }
+    {
+        match look(&self.map, name) {
+            Some(value) => Some(*value),
+            None => None,
+        }
+    }
+
+    /// One more constant.
+    pub(crate) fn set(&mut self, alloc: Global, name: &[u8], value: u32) -> Result<(), AllocError>
+        ensures { OnOk result (outside_of self.new ≡ with_name name.now value (outside_of self.old)) }
+    {
+        put(alloc, &mut self.map, name, value)
+    }
+}
+
+/// The value of a name in the open segment.
+fn value_in(names: Option<&Names>, name: &[u8]) -> Option<u32>
+    ensures { result ≡ value_in_names (option_copied names.entry) name.now }
+{
+    match names {
+        Some(found) => match found.get(name) {
+            Some(value) => value,
+            None => None,
+        },
+        None => None,
+    }
+}
+
+impl<'a> Known<'a> {
+    /// The value of a name: in the segment, and else outside.
+    pub(crate) fn value(self, name: &[u8]) -> Option<u32>
+        ensures { result ≡ constants self.entry name.now }
+    {
+        match value_in(self.names, name) {
+            Some(value) => Some(value),
+            None => self.outside.get(name),
+        }
+    }
+}
