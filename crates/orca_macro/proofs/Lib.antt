@@ -8,5 +8,7 @@ pub mod Targets
 pub mod Formed
 pub mod Numbers
 pub mod Binds
+pub mod Both
 pub mod Scans
 pub mod Firsts
+pub mod Returns

@@ -4,3 +4,5 @@ pub mod Piece
 pub mod DefinitionView
 pub mod Calling
 pub mod Parts
+pub mod DeedView
+pub mod Stacks
