@@ -29,6 +29,7 @@ bench: build
 	bench/run build/omf
 	bench/text
 	bench/body
+	bench/macro
 
 refuse: build
 	tools/refuse build/omf

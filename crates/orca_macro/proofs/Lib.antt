@@ -12,3 +12,7 @@ pub mod Both
 pub mod Scans
 pub mod Firsts
 pub mod Returns
+pub mod Moves
+pub mod Free
+pub mod Runs
+pub mod Whole

@@ -74,3 +74,7 @@ goes_further program before last depth caller f frames rest come e is =
     let a = around program before last come.depth' come.caller' f frames rest e come.callers in
     let on : if_line (line_at program f.macro f.line) (On (resumed a.v last)) (returned program before last a.v.depth a.v.caller) ≡ returned program before last a.v.depth a.v.caller = rw is refl in
     record { depth' = a.v.depth; caller' = a.v.caller; callers = a.callers; same = come.same ∙ a.is ∙ on }
+
+-- the stack is empty
+pub ended_so : (program : Program) (before : List Visit) (last : Visit) (depth : ℕ) (caller : Option ℕ) (frames : List Frame) → ComesTo program before last depth caller frames → frames ≡ [] → returned program before last depth caller ≡ Ends
+ended_so program before last depth caller frames come e = come.same ∙ ended program before last come.depth' come.caller' frames e come.callers

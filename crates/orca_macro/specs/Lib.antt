@@ -6,3 +6,6 @@ pub mod Calling
 pub mod Parts
 pub mod DeedView
 pub mod Stacks
+pub mod Changes
+pub mod StateView
+pub mod Files

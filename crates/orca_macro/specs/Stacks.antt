@@ -3,14 +3,13 @@ use Rattle.std.proofs.Common.{◌≡◌, ℕ, zero, suc, ◌+◌, Bool, true, fa
 use Rattle.std.specs.Prelude.{slice_get, reverse}
 use Rattle.std.proofs.lemmas.List.{reverse-append, map-append, length-reverse, length-map}
 use Rattle.orca_meaning.specs.Line.{Line}
-use Rattle.macro_meaning.specs.Symbol.{Symbols}
-use Rattle.macro_meaning.specs.Deed as deeds
-use Rattle.macro_meaning.specs.Visit.{Program, Visit, Move, On, Ends, Stops, move_of}
+use Rattle.macro_meaning.specs.Symbol.{Symbols, SharedTexts}
+use Rattle.macro_meaning.specs.Visit.{Visit, Move, On, Ends, Stops}
+use Rattle.orca_macro.specs.declared.frames.Frames.{Frames}
 use Rattle.orca_macro.specs.declared.frames.Scope.{Scope}
-use Rattle.orca_macro.specs.declared.symbols.Texts.{Texts}
 use Rattle.orca_macro.specs.declared.visits.Outcome.{Outcome}
 use Rattle.orca_macro.specs.declared.visits.Outcome.TheVariants as outcomes
-use Rattle.orca_macro.specs.View.{symbols_of, texts_of}
+use Rattle.orca_macro.specs.View.{symbols_of}
 
 -- where an expansion goes back
 pub record Frame : Type 0 where
@@ -22,6 +21,10 @@ pub record Frame : Type 0 where
 
 abbrev pub frame : Scope → Frame
 frame s = record { macro = s.place; line = s.line; root = s.root; counter = s.counter; symbols = symbols_of s.symbols }
+
+-- the stack, its top first
+abbrev pub stack_of : Frames → List Frame
+stack_of frames = reverse (map frame frames.items.items)
 
 pub pushed : (old new : List Scope) (x : Scope) → new ≡ old ++ x ∷ [] → reverse (map frame new) ≡ frame x ∷ reverse (map frame old)
 pushed old new x e = ap (λ (l : List Scope). reverse (map frame l)) e ∙ ap reverse (map-append frame old (x ∷ [])) ∙ reverse-append (map frame old) (map frame (x ∷ []))
@@ -49,22 +52,21 @@ Stacks before (suc depth) (Some place) (f ∷ fs) =
     × (v.symbols ≡ f.symbols) × HasRoot v.caller v.root f.root × (v.depth ≡ depth) × Stacks before depth v.caller fs
 
 -- the visit stands here, and the stack has its callers
-pub record Stands (before : List Visit) (v : Visit) (f : Frame) (fs : List Frame) (texts : Texts) (calls : ℕ) : Type 0 where
+pub record Stands (before : List Visit) (v : Visit) (f : Frame) (fs : List Frame) (texts : SharedTexts) (calls : ℕ) : Type 0 where
   pub macro : v.macro ≡ f.macro
   pub line : v.line ≡ f.line
   pub counter : v.counter ≡ f.counter
   pub symbols : v.symbols ≡ f.symbols
   pub root : HasRoot v.caller v.root f.root
-  pub texts_are : v.texts ≡ texts_of texts
+  pub texts_are : v.texts ≡ texts
   pub calls_are : v.calls ≡ calls
   pub callers : Stacks before v.depth v.caller fs
 
--- what follows is this
-abbrev pub Moves : Program → List Visit → Visit → Line → deeds.Deed → Outcome → Frame → List Frame → Texts → ℕ → Type 0
-Moves program before v line deed outcomes.Goes f fs texts calls =
-    (w : Visit) × (move_of program before v line deed ≡ On w) × Stands (before ++ v ∷ []) w f fs texts calls
-Moves program before v line deed outcomes.Ends f fs texts calls = move_of program before v line deed ≡ Ends
-Moves program before v line deed (outcomes.Stops cause) f fs texts calls = move_of program before v line deed ≡ Stops line cause
+-- what follows on these visits is this: the next one stands here, or it is the end, or the line has a fault
+abbrev pub MovesTo : Move → List Visit → Line → Outcome → Frame → List Frame → SharedTexts → ℕ → Type 0
+MovesTo move before line outcomes.Goes f fs texts calls = (w : Visit) × (move ≡ On w) × Stands before w f fs texts calls
+MovesTo move before line outcomes.Ends f fs texts calls = move ≡ Ends
+MovesTo move before line (outcomes.Stops cause) f fs texts calls = move ≡ Stops line cause
 
 -- an expansion goes on behind its call
 pub record IsBack (before : List Visit) (last w : Visit) (f : Frame) (fs : List Frame) : Type 0 where

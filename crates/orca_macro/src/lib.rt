@@ -6,7 +6,7 @@ mod call;
 mod condition;
 mod deed;
 mod definitions;
-mod expand;
+mod expansion;
 mod frames;
 mod held;
 mod model_line;
@@ -17,7 +17,7 @@ mod substitution;
 mod symbols;
 mod visits;
 
-pub use expand::expand;
+pub use expansion::expand;
 pub use macro_meaning::{MacroCause, MacroFault};
 
 #[cfg(test)]
