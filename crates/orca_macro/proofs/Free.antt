@@ -29,7 +29,7 @@ use Rattle.macro_meaning.specs.Statements.{symbol_name, target_name}
 use Rattle.macro_meaning.specs.Symbol.{Symbol, Symbols, Values, is_count, kind_of, declaration_of, is_kind, is_declaration}
 use Rattle.macro_meaning.specs.Visit.{Program, Visit, Move, On, Ends, Stops, IsVisitOf, IsVisitAt, IsVisit, Follow, line_at, if_line, onward, resumed, returned, next_line, branch_to, target_of, body_of, call_of, move_of, after, setting_of, root_by, most_visits, first_visit}
 
-pub is_memory : MacroCause → Bool
+unfoldable pub is_memory : MacroCause → Bool
 is_memory LineTooLong = false
 is_memory TooManyLines = false
 is_memory NoSuchSymbol = false

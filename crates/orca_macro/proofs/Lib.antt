@@ -16,3 +16,4 @@ pub mod Moves
 pub mod Free
 pub mod Runs
 pub mod Whole
+pub mod Texts

@@ -1,6 +1,6 @@
 -- Files that are read one behind another.
 use Rattle.std.proofs.Common.{◌≡◌, ℕ, zero, suc, ◌+◌, Bool, true, false, List, [], ◌∷◌, ◌++◌, length, map, Option, Some, None, refl, sym, ap, subst, ◌∙◌, arith, append_assoc, append-nil}
-use Rattle.std.specs.Prelude.{slice_get, Result, Ok, Err}
+use Rattle.std.specs.Prelude.{slice_get, Result, Ok, Err, IfOk, IfErr}
 use Rattle.std.specs.Global.{Vec}
 use Rattle.std.proofs.lemmas.List.{length-map}
 use Rattle.omf_format.specs.Lines.{lines_of}
@@ -13,7 +13,11 @@ use Rattle.macro_meaning.specs.Expansion.{line_fault_of, next_file, fault_at, Ha
 use Rattle.macro_meaning.specs.Visit.{Program, Ends}
 use Rattle.orca_macro.specs.Parts.{HaveOwn}
 use Rattle.orca_macro.proofs.Free.{is_memory, parts_free, stops_free}
-use Rattle.orca_macro.specs.Files.{lines_from, AllOwn, IsTextFaultFor, IsTextFault, first_part_in, definitions_of, IsProgram, HasVisited}
+use Rattle.orca_meaning.specs.declared.lines.TextCause.{TextCause}
+use Rattle.orca_meaning.specs.declared.lines.TextCause.TheVariants as texts
+use Rattle.orca_meaning.specs.declared.lines.TextFault.{TextFault}
+use Rattle.orca_text.specs.Refusals.{IsRefusedFor, IsRefused}
+use Rattle.orca_macro.specs.Files.{texts_of_files, CanRead, lines_from, AllOwn, IsTextFaultFor, IsTextFault, first_part_in, definitions_of, IsProgram, HasVisited}
 
 -- ---- lines
 
@@ -205,19 +209,23 @@ source_refused source macros fault good is =
     text_refused source macros fault.cause fault
     (text_fault_as (file_text_fault 0 source) (first_of_files file_text_fault source macros) fault.cause fault (λ e. ap (λ (o : Option MacroFault). or_else o (file_text_fault 0 source)) good ∙ e) is)
 
+clash : is_memory Memory ≡ false → ⊥
+unfolding is_memory
+clash e = let both : true ≡ false = e in absurd cc
+
 -- any fault but want of memory is the first
 first_is : (source : List ℕ) (macros : List (List ℕ)) (cause : MacroCause) (fault : MacroFault) → is_memory cause ≡ false → IsFirstFault source macros fault → IsFaultFor cause source macros fault
-first_is source macros LineTooLong fault no is = is
-first_is source macros TooManyLines fault no is = is
-first_is source macros NoSuchSymbol fault no is = is
-first_is source macros BadSetting fault no is = is
-first_is source macros BadArguments fault no is = is
-first_is source macros NoSequenceSymbol fault no is = is
-first_is source macros Unclosed fault no is = is
-first_is source macros Counter fault no is = is
-first_is source macros TooNested fault no is = is
-first_is source macros (Noted n) fault no is = is
-first_is source macros Memory fault no is = absurd cc
+first_is source macros LineTooLong fault free is = is
+first_is source macros TooManyLines fault free is = is
+first_is source macros NoSuchSymbol fault free is = is
+first_is source macros BadSetting fault free is = is
+first_is source macros BadArguments fault free is = is
+first_is source macros NoSequenceSymbol fault free is = is
+first_is source macros Unclosed fault free is = is
+first_is source macros Counter fault free is = is
+first_is source macros TooNested fault free is = is
+first_is source macros (Noted n) fault free is = is
+first_is source macros Memory fault free is = absurd (clash free)
 
 -- a definition has a fault
 pub parts_refused : (source : List ℕ) (macros : List (List ℕ)) (lines : List Line) (files : List (List Line)) (fault : MacroFault) → lines ≡ numbered 0 1 (lines_of source) → files ≡ lines_from 1 macros
@@ -240,3 +248,24 @@ module _ (source : List ℕ) (macros : List (List ℕ)) (lines : List Line) (fil
       let stops : StopsAt (program_of source macros) has.line has.cause = subst (λ (p : Program). StopsAt p has.line has.cause) (program_is source macros lines files lines_are files_are program is) has.stops in
       first_is source macros fault.cause fault (ap (λ (f : MacroFault). is_memory f.cause) has.is ∙ stops_free (program_of source macros) has.line has.cause stops)
       (InVisit good_files has.line has.cause stops has.is)
+
+  pub all_expand : (found : Result (List Line) MacroFault) → HasVisited program found → IfOk found (λ (x : List Line). IsExpanded source macros x)
+  all_expand (Ok x) has = visits_expand x has
+  all_expand (Err fault) has = tt
+
+  pub all_refused : (found : Result (List Line) MacroFault) → HasVisited program found → IfErr found (λ (fault : MacroFault). IsMacroFault source macros fault)
+  all_refused (Ok x) has = tt
+  all_refused (Err fault) has = visits_refused fault has
+
+pub can_read : (file : ℕ) (source : List ℕ) (fault : TextFault) → IsRefused file source fault → CanRead fault.cause
+can_read file source fault is = by_cause fault.cause is.cause_is
+  where
+    by_cause : (cause : TextCause) → IsRefusedFor cause fault.line source → CanRead cause
+    by_cause texts.LineTooLong is = tt
+    by_cause texts.TooManyLines is = tt
+    by_cause texts.BadOperand is = is
+    by_cause texts.BadNumber is = is
+    by_cause texts.Memory is = tt
+
+pub none_left : (files : List (Vec ℕ)) → length files ≡ 0 → length (texts_of_files files) ≡ 0
+none_left files none = length-map files (λ (file : Vec ℕ). file.items) ∙ none

@@ -2,6 +2,8 @@
 use Rattle.std.specs.Prelude.{◌≡◌, ℕ, true, false, List, [], ◌∷◌, ◌++◌, map, length, Option, Some, None, Result, Ok, Err}
 use Rattle.std.specs.Global.{Vec}
 use Rattle.omf_format.specs.Lines.{lines_of}
+use Rattle.orca_meaning.specs.declared.lines.TextCause.{TextCause}
+use Rattle.orca_meaning.specs.declared.lines.TextCause.TheVariants as texts
 use Rattle.orca_meaning.specs.Line.{Line, numbered}
 use Rattle.macro_meaning.specs.declared.faults.MacroCause.{MacroCause}
 use Rattle.macro_meaning.specs.declared.faults.MacroCause.TheVariants.{LineTooLong, TooManyLines, NoSuchSymbol, BadSetting, BadArguments, NoSequenceSymbol, Unclosed, Counter, TooNested, Noted, Memory}
@@ -31,6 +33,14 @@ IsTextFaultFor Memory first fault = (fault.file ≡ 0) × (fault.line ≡ 0)
 
 abbrev pub IsTextFault : Option MacroFault → MacroFault → Type 0
 IsTextFault first fault = IsTextFaultFor fault.cause first fault
+
+-- what can be wrong with a file that is read
+abbrev pub CanRead : TextCause → Type 0
+CanRead texts.LineTooLong = Unit {0}
+CanRead texts.TooManyLines = Unit {0}
+CanRead texts.BadOperand = ⊥
+CanRead texts.BadNumber = ⊥
+CanRead texts.Memory = Unit {0}
 
 -- the lines of files, of which the first has this number
 unfoldable pub lines_from : ℕ → List (List ℕ) → List (List Line)

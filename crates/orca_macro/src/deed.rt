@@ -1,6 +1,6 @@
 //! What a visited line does (ORCA/M reference manual, "Conditional assembly directives").
 
-ghost use Rattle.std.specs.Prelude.{◌≡◌, ◌≤◌, ◌<◌, [], List, ℕ, ℤ, length, pos, int_le, codes, slice_get, Some, None, Ok, Err, IfOk, IfErr, IfSome, OnOk, MatchOption};
+ghost use Rattle.std.specs.Prelude.{◌≡◌, ◌≤◌, ◌<◌, [], List, ℕ, ℤ, length, take, drop, pos, int_le, codes, slice_get, Some, None, Ok, Err, IfOk, IfErr, IfSome, OnOk, MatchOption};
 ghost use Rattle.omf_format.specs.Value.{signed};
 ghost use Rattle.macro_meaning.specs.Deed.{earlier, both, or_bad, first_time, declaring, settable, setting, printed, printed_answer, middle_from, middle_of, go_if, going, going_to, counting, noted, noting, IsBranchIf, IsMiddle, IsNote, IsSetting, IsDone, resting, calling, calling_at, begins_definition, IsDeed, IsStatement, IsDoneBy, cut};
 ghost use Rattle.macro_meaning.specs.Statements.{symbol_name, target_name};
@@ -256,6 +256,7 @@ fn set_number(
 }
 
 /// Texts in quotes, joined.
+#[tactic(auto, using(crate::proofs::Texts::joined_fits))]
 fn joined_text(alloc: Global, operand: &[u8]) -> Result<Result<Name, MacroCause>, AllocError>
     requires { length operand.now ≤ 255 }
     ensures { IfOk result (λ text. text ≡ or_bad (joined (pieces 0x2B operand.now))) }
@@ -267,7 +268,34 @@ fn joined_text(alloc: Global, operand: &[u8]) -> Result<Result<Name, MacroCause>
     }
 }
 
+/// The first so many bytes.
+#[tactic(auto, using(crate::proofs::Texts::take_whole))]
+fn front_of(text: &[u8], count: usize) -> &[u8]
+    ensures value { result.now ≡ take count text.now }
+    ensures bound { length result.now ≤ length text.now }
+{
+    if count < text.len() {
+        let (front, _) = text.split_at(count);
+        return front;
+    }
+    text
+}
+
+/// What stands behind the first so many bytes.
+#[tactic(auto, using(crate::proofs::Parted::drop_all))]
+fn behind_first(text: &[u8], count: usize) -> &[u8]
+    ensures value { result.now ≡ drop count text.now }
+    ensures bound { length result.now ≤ length text.now }
+{
+    if count < text.len() {
+        let (_, behind) = text.split_at(count);
+        return behind;
+    }
+    &[]
+}
+
 /// So many bytes of a text from a place on, counted from 1.
+#[tactic(auto, using(crate::proofs::Texts::middle_good, crate::proofs::Texts::middle_low, crate::proofs::Texts::middle_few))]
 fn middle_from(
     alloc: Global,
     text: &[u8],
@@ -277,15 +305,15 @@ fn middle_from(
     requires { length text.now ≤ 255 }
     ensures { IfOk result (λ found. found ≡ middle_from text.now start count) }
 {
-    if start < 1 || count < 0 {
+    if start < 1 {
         return Ok(Err(MacroCause::BadSetting));
     }
-    let Some(behind) = text.get(start.unsigned_abs() as usize - 1..) else {
-        return Ok(Ok(name(alloc, b"")?));
-    };
-    let most = behind.len().min(count.unsigned_abs() as usize);
-    let (front, _) = behind.split_at(most);
-    Ok(Ok(name(alloc, front)?))
+    if count < 0 {
+        return Ok(Err(MacroCause::BadSetting));
+    }
+    let behind = behind_first(text, start.unsigned_abs() as usize - 1);
+    let found = name(alloc, front_of(behind, count.unsigned_abs() as usize))?;
+    Ok(Ok(found))
 }
 
 /// AMID of a text, a place and a count.
@@ -545,7 +573,8 @@ fn statement(alloc: Global, at: Standing<'_>, text: &[u8]) -> Result<Deed, Alloc
 #[tactic(auto, unfolding(macro_meaning::specs::Deed::cut))]
 fn cut(alloc: Global, text: &[u8]) -> Result<&[u8], AllocError>
     requires { length text.now ≤ 255 }
-    ensures { IfOk result (λ rest. rest.now ≡ cut text.now) }
+    ensures value { IfOk result (λ rest. rest.now ≡ cut text.now) }
+    ensures bound { IfOk result (λ rest. length rest.now ≤ length text.now) }
 {
     let label = part(text, three_fields(text).label);
     match sequence_name(alloc, label)? {

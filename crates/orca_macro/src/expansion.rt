@@ -7,7 +7,7 @@ ghost use Rattle.macro_meaning.specs.Visit.{Visit, line_at, given_by, root_by, s
 ghost use Rattle.omf_format.specs.Lines.{lines_of};
 ghost use Rattle.orca_meaning.specs.Line.{HaveFields, numbered};
 ghost use Rattle.orca_macro.specs.DeedView.{deed};
-ghost use Rattle.orca_macro.specs.Files.{texts_of_files, lines_from, IsTextFault, AllOwn, first_part_in, definitions_of, IsProgram, HasVisited};
+ghost use Rattle.orca_macro.specs.Files.{texts_of_files, CanRead, lines_from, IsTextFault, AllOwn, first_part_in, definitions_of, IsProgram, HasVisited};
 ghost use Rattle.orca_macro.specs.Parts.{definition, HaveOwn};
 ghost use Rattle.orca_macro.specs.StateView.{StandsIn, Visited};
 ghost use Rattle.orca_text.specs.Refusals.{IsRefused};
@@ -51,6 +51,7 @@ fn no_memory() -> MacroFault
 
 /// A fault of reading.
 fn text_fault(fault: TextFault) -> MacroFault
+    requires { CanRead fault.cause }
     ensures { (file : ℕ) (source : List ℕ) → IsRefused file source fault → IsTextFault (file_text_fault file source) result }
 {
     match fault.cause {
@@ -64,11 +65,14 @@ fn text_fault(fault: TextFault) -> MacroFault
             file: fault.file,
             line: fault.line,
         },
-        TextCause::BadOperand | TextCause::BadNumber | TextCause::Memory => no_memory(),
+        TextCause::Memory => no_memory(),
+        TextCause::BadOperand => unreachable!(),
+        TextCause::BadNumber => unreachable!(),
     }
 }
 
 /// The lines of a file.
+#[tactic(auto, using(crate::proofs::Whole::can_read))]
 fn read_file(alloc: Global, file: u32, bytes: &[u8]) -> Result<Lines, MacroFault>
     ensures lines { IfOk result (λ lines. lines ≡ numbered file 1 (lines_of bytes.now)) }
     ensures good { IfOk result (λ lines. file_text_fault file bytes.now ≡ None) }
@@ -240,7 +244,8 @@ fn visit(
     let root = root_of(state, of.line);
     let found = deed_at(alloc, program, state, root, of)?;
     give(alloc, out, of, &found)?;
-    step(alloc, program, state, root, found)
+    let outcome = step(alloc, program, state, root, found)?;
+    Ok(outcome)
 }
 
 /// The lines that the visits give, or the fault of the first that has one.
@@ -258,7 +263,8 @@ fn visit_all(alloc: Global, program: &Program) -> Result<Result<Lines, MacroFaul
         if count == MOST_VISITS {
             return Ok(Err(fault_of(line, MacroCause::TooManyLines)));
         }
-        match visit(alloc, program, &mut state, line, &mut out)? {
+        let outcome = visit(alloc, program, &mut state, line, &mut out)?;
+        match outcome {
             Outcome::Goes => {}
             Outcome::Ends => return Ok(Ok(out)),
             Outcome::Stops(cause) => return Ok(Err(fault_of(line, cause))),
@@ -273,7 +279,8 @@ pub fn expand(alloc: Global, source: &[u8], macros: &Vec<Vec<u8>>) -> Result<Lin
     ensures lines { IfOk result (λ lines. IsExpanded source.now (texts_of_files macros.now.items) lines) }
     ensures refused { IfErr result (λ fault. IsMacroFault source.now (texts_of_files macros.now.items) fault) }
 {
-    let files = match read_all(alloc, macros.as_slice()) {
+    let texts = macros.as_slice();
+    let files = match read_all(alloc, texts) {
         Ok(files) => files,
         Err(fault) => return Err(fault),
     };
@@ -281,7 +288,8 @@ pub fn expand(alloc: Global, source: &[u8], macros: &Vec<Vec<u8>>) -> Result<Lin
         Ok(lines) => lines,
         Err(fault) => return Err(fault),
     };
-    let program = match program_of(alloc, &lines, files.as_slice()) {
+    let parts = files.as_slice();
+    let program = match program_of(alloc, &lines, parts) {
         Ok(Ok(program)) => program,
         Ok(Err(fault)) => return Err(fault),
         Err(_) => return Err(no_memory()),
