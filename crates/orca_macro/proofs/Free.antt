@@ -206,7 +206,7 @@ middle_deed_free values label (a ∷ []) d p = deed_as d _ p (setting_free value
 middle_deed_free values label (a ∷ b ∷ []) d p = deed_as d _ p (setting_free values Text label (Err BadSetting) bad_free)
 middle_deed_free values label (a ∷ b ∷ c ∷ []) d p =
     deed_as d _ p.4 (setting_free values Text label _ (middle_free _ (both_free (or_bad (quoted a)) (both p.0 p.1) (or_bad_free (quoted a))
-      (both_free p.0 p.1 (is_number_free values b p.0 p.2) (is_number_free values c p.1 p.3)))))
+    (both_free p.0 p.1 (is_number_free values b p.0 p.2) (is_number_free values c p.1 p.3)))))
 middle_deed_free values label (a ∷ b ∷ c ∷ x ∷ ps) d p = deed_as d _ p (setting_free values Text label (Err BadSetting) bad_free)
 
 note_free : (values : Values) (ps : List (List ℕ)) (d : Deed) → IsNote values ps d → DeedFree d

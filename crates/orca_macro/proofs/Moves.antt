@@ -48,10 +48,20 @@ depth_is before (suc depth) (Some place) (f ∷ fs) is = ap suc (depth_is before
 
 pub left_goes : (before : List Visit) (v last w : Visit) (line : Line) (move : Move) (f f' : Frame) (fs fs' : List Frame) (texts : SharedTexts) (calls : ℕ) → Stands before v f fs texts calls
     → move ≡ On w → IsBack before v w f' fs' → MovesTo move (before ++ last ∷ []) line outcomes.Goes f' fs' texts calls
-left_goes before v last w line move f f' fs fs' texts calls s is back = (w, is, record {
-  macro = back.macro; line = back.line; counter = back.counter; symbols = back.symbols; root = back.root;
-  texts_are = back.texts ∙ s.texts_are; calls_are = back.calls ∙ s.calls_are; callers = Stacks-more before w.depth w.caller fs' last back.callers;
-})
+left_goes before v last w line move f f' fs fs' texts calls s is back = (
+  w,
+  is,
+  record {
+    macro = back.macro;
+    line = back.line;
+    counter = back.counter;
+    symbols = back.symbols;
+    root = back.root;
+    texts_are = back.texts ∙ s.texts_are;
+    calls_are = back.calls ∙ s.calls_are;
+    callers = Stacks-more before w.depth w.caller fs' last back.callers;
+  },
+)
 
 -- ---- the next line
 
@@ -67,11 +77,20 @@ pub onward_goes : (program : Program) (before : List Visit) (v last : Visit) (li
 unfolding next_line
 onward_goes program before v last line found f fs texts calls s is =
     let goes : next_line program before v ≡ On (onward v) =
-    ap (λ (o : Option Line). if_line o (On (onward v)) (returned program before v v.depth v.caller)) (line_behind program before v f fs texts calls s ∙ is) in
-    (onward v, goes, record {
-      macro = s.macro; line = ap (λ (k : ℕ). k + 1) s.line; counter = s.counter; symbols = s.symbols; root = s.root;
-      texts_are = s.texts_are; calls_are = s.calls_are; callers = Stacks-more before v.depth v.caller fs last s.callers;
-    })
+    ap (λ (o : Option Line). if_line o (On (onward v)) (returned program before v v.depth v.caller)) (line_behind program before v f fs texts calls s ∙ is) in (
+      onward v,
+      goes,
+      record {
+        macro = s.macro;
+        line = ap (λ (k : ℕ). k + 1) s.line;
+        counter = s.counter;
+        symbols = s.symbols;
+        root = s.root;
+        texts_are = s.texts_are;
+        calls_are = s.calls_are;
+        callers = Stacks-more before v.depth v.caller fs last s.callers;
+      },
+    )
 
 pub onward_ends : (program : Program) (before : List Visit) (v : Visit) (f : Frame) (fs : List Frame) (texts : SharedTexts) (calls : ℕ) → Stands before v f fs texts calls
     → line_at program f.macro (f.line + 1) ≡ None → returned program before v v.depth v.caller ≡ next_line program before v
@@ -103,11 +122,20 @@ pub branch_goes : (program : Program) (before : List Visit) (v : Visit) (line : 
 branch_goes program before v line name f fs texts calls place s is some =
     let goes : branch_to v line (target_of (body_of program v.macro) name) ≡ On (record v { line = place; counter = v.counter - 1 }) =
     ap (branch_to v line) (target_by program before v name f fs texts calls (Some place) s is)
-    ∙ ap (λ (b : Bool). cond b (Stops line Counter) (On (record v { line = place; counter = v.counter - 1 }))) (ap (λ (k : ℕ). eqb k 0) s.counter ∙ ne_eqb f.counter 0 some) in
-    (record v { line = place; counter = v.counter - 1 }, goes, record {
-      macro = s.macro; line = refl; counter = ap (λ (k : ℕ). k - 1) s.counter; symbols = s.symbols; root = s.root;
-      texts_are = s.texts_are; calls_are = s.calls_are; callers = Stacks-more before v.depth v.caller fs v s.callers;
-    })
+    ∙ ap (λ (b : Bool). cond b (Stops line Counter) (On (record v { line = place; counter = v.counter - 1 }))) (ap (λ (k : ℕ). eqb k 0) s.counter ∙ ne_eqb f.counter 0 some) in (
+      record v { line = place; counter = v.counter - 1 },
+      goes,
+      record {
+        macro = s.macro;
+        line = refl;
+        counter = ap (λ (k : ℕ). k - 1) s.counter;
+        symbols = s.symbols;
+        root = s.root;
+        texts_are = s.texts_are;
+        calls_are = s.calls_are;
+        callers = Stacks-more before v.depth v.caller fs v s.callers;
+      },
+    )
 
 -- ---- calls
 
@@ -117,7 +145,15 @@ call_deep before v line place symbols f fs texts calls s deep = rw (depth_is bef
 
 called_visit : List Visit → Visit → ℕ → Symbols → ℕ → Visit
 called_visit before v place symbols root = record {
-  macro = Some place; line = 0; depth = v.depth + 1; caller = Some (length before); root = root; counter = 255; symbols = symbols; texts = v.texts; calls = v.calls + 1;
+  macro = Some place;
+  line = 0;
+  depth = v.depth + 1;
+  caller = Some (length before);
+  root = root;
+  counter = 255;
+  symbols = symbols;
+  texts = v.texts;
+  calls = v.calls + 1;
 }
 
 pub call_goes : (before : List Visit) (v : Visit) (line : Line) (place : ℕ) (symbols : Symbols) (f : Frame) (fs : List Frame) (texts : SharedTexts) (calls root : ℕ) → Stands before v f fs texts calls
@@ -128,13 +164,21 @@ unfolding called_visit
 call_goes before v line place symbols f fs texts calls root s few root_is =
     let shallow : eqb v.depth 32 ≡ false = ap (λ (d : ℕ). eqb d 32) (depth_is before v.depth v.caller fs s.callers) ∙ ne_eqb (length fs) 32 few in
     let goes : call_of before v line place symbols ≡ On (called_visit before v place symbols (root_by v.caller v.root line.number)) =
-    ap (λ (b : Bool). cond b (Stops line TooNested) (On (called_visit before v place symbols (root_by v.caller v.root line.number)))) shallow in
-    (called_visit before v place symbols (root_by v.caller v.root line.number), goes, record {
-      macro = refl; line = refl; counter = refl; symbols = refl; root = sym root_is;
-      texts_are = s.texts_are; calls_are = ap (λ (k : ℕ). k + 1) s.calls_are;
-      callers = subst (λ (d : ℕ). Stacks (before ++ v ∷ []) d (Some (length before)) (record f { line = f.line + 1 } ∷ fs)) (one_more v.depth)
-        (v, get_last before v, s.macro, ap (λ (k : ℕ). k + 1) s.line, s.counter, s.symbols, s.root, refl, Stacks-more before v.depth v.caller fs v s.callers);
-    })
+    ap (λ (b : Bool). cond b (Stops line TooNested) (On (called_visit before v place symbols (root_by v.caller v.root line.number)))) shallow in (
+      called_visit before v place symbols (root_by v.caller v.root line.number),
+      goes,
+      record {
+        macro = refl;
+        line = refl;
+        counter = refl;
+        symbols = refl;
+        root = sym root_is;
+        texts_are = s.texts_are;
+        calls_are = ap (λ (k : ℕ). k + 1) s.calls_are;
+        callers = subst (λ (d : ℕ). Stacks (before ++ v ∷ []) d (Some (length before)) (record f { line = f.line + 1 } ∷ fs)) (one_more v.depth)
+            (v, get_last before v, s.macro, ap (λ (k : ℕ). k + 1) s.line, s.counter, s.symbols, s.root, refl, Stacks-more before v.depth v.caller fs v s.callers);
+      },
+    )
   where
     one_more : (n : ℕ) → suc n ≡ n + 1
     one_more n = omega arith
@@ -145,12 +189,22 @@ pub declared_stands : (before : List Visit) (v : Visit) (name : List ℕ) (decla
     → Stands before v f fs texts calls → IsDeclared name declaration f.symbols symbols' texts texts'
     → Stands before (after v (deeds.Declares name declaration)) (record f { symbols = symbols' }) fs texts' calls
 declared_stands before v name (Local kind) f fs texts texts' calls symbols' s is = record {
-  macro = s.macro; line = s.line; counter = s.counter; root = s.root; calls_are = s.calls_are; callers = s.callers;
+  macro = s.macro;
+  line = s.line;
+  counter = s.counter;
+  root = s.root;
+  calls_are = s.calls_are;
+  callers = s.callers;
   symbols = ap (λ (m : Symbols). with_name name (Own kind (first_text kind)) m) s.symbols ∙ sym is.0;
   texts_are = s.texts_are ∙ sym is.1;
 }
 declared_stands before v name (Shared kind) f fs texts texts' calls symbols' s is = record {
-  macro = s.macro; line = s.line; counter = s.counter; root = s.root; calls_are = s.calls_are; callers = s.callers;
+  macro = s.macro;
+  line = s.line;
+  counter = s.counter;
+  root = s.root;
+  calls_are = s.calls_are;
+  callers = s.callers;
   symbols = ap (λ (m : Symbols). with_name name (Common kind) m) s.symbols ∙ sym is.0;
   texts_are = ap (λ (t : SharedTexts). shared_first name kind t) s.texts_are ∙ sym is.1;
 }
@@ -163,22 +217,47 @@ assigned_stands before v name kind text f fs texts texts' calls symbols' s is =
   where
     by_symbol : (o : Option Symbol) → IsAssigned name kind text o f.symbols symbols' texts texts' → Stands before (set_by name kind text v o) (record f { symbols = symbols' }) fs texts' calls
     by_symbol None is = record {
-      macro = s.macro; line = s.line; counter = s.counter; root = s.root; calls_are = s.calls_are; callers = s.callers;
-      symbols = s.symbols ∙ sym is.0; texts_are = s.texts_are ∙ sym is.1;
+      macro = s.macro;
+      line = s.line;
+      counter = s.counter;
+      root = s.root;
+      calls_are = s.calls_are;
+      callers = s.callers;
+      symbols = s.symbols ∙ sym is.0;
+      texts_are = s.texts_are ∙ sym is.1;
     }
     by_symbol (Some (Own other was)) is = record {
-      macro = s.macro; line = s.line; counter = s.counter; root = s.root; calls_are = s.calls_are; callers = s.callers;
-      symbols = ap (λ (m : Symbols). with_name name (Own kind text) m) s.symbols ∙ sym is.0; texts_are = s.texts_are ∙ sym is.1;
+      macro = s.macro;
+      line = s.line;
+      counter = s.counter;
+      root = s.root;
+      calls_are = s.calls_are;
+      callers = s.callers;
+      symbols = ap (λ (m : Symbols). with_name name (Own kind text) m) s.symbols ∙ sym is.0;
+      texts_are = s.texts_are ∙ sym is.1;
     }
     by_symbol (Some (Common other)) is = record {
-      macro = s.macro; line = s.line; counter = s.counter; root = s.root; calls_are = s.calls_are; callers = s.callers;
-      symbols = s.symbols ∙ sym is.0; texts_are = ap (λ (t : SharedTexts). with_name name (kind, text) t) s.texts_are ∙ sym is.1;
+      macro = s.macro;
+      line = s.line;
+      counter = s.counter;
+      root = s.root;
+      calls_are = s.calls_are;
+      callers = s.callers;
+      symbols = s.symbols ∙ sym is.0;
+      texts_are = ap (λ (t : SharedTexts). with_name name (kind, text) t) s.texts_are ∙ sym is.1;
     }
 
 pub counted_stands : (before : List Visit) (v : Visit) (n : ℕ) (f : Frame) (fs : List Frame) (texts : SharedTexts) (calls : ℕ) → Stands before v f fs texts calls
     → Stands before (after v (deeds.Counts n)) (record f { counter = n }) fs texts calls
 counted_stands before v n f fs texts calls s = record {
-  macro = s.macro; line = s.line; counter = refl; symbols = s.symbols; root = s.root; texts_are = s.texts_are; calls_are = s.calls_are; callers = s.callers;
+  macro = s.macro;
+  line = s.line;
+  counter = refl;
+  symbols = s.symbols;
+  root = s.root;
+  texts_are = s.texts_are;
+  calls_are = s.calls_are;
+  callers = s.callers;
 }
 
 -- what follows, by what the code has as its deed
@@ -195,5 +274,5 @@ unfolding move_of
 called program before v line place symbols f f' fs fs' texts calls calls' root s few root_is now stack more =
     subst (λ (n : ℕ). MovesTo (call_of before v line place symbols) (before ++ v ∷ []) line outcomes.Goes f' fs' texts n) (sym more)
     (subst (λ (x : List Frame). MovesTo (call_of before v line place symbols) (before ++ v ∷ []) line outcomes.Goes f' x texts (calls + 1)) (sym stack)
-      (subst (λ (x : Frame). MovesTo (call_of before v line place symbols) (before ++ v ∷ []) line outcomes.Goes x (record f { line = f.line + 1 } ∷ fs) texts (calls + 1)) (sym now)
-        (call_goes before v line place symbols f fs texts calls root s few root_is)))
+    (subst (λ (x : Frame). MovesTo (call_of before v line place symbols) (before ++ v ∷ []) line outcomes.Goes x (record f { line = f.line + 1 } ∷ fs) texts (calls + 1)) (sym now)
+    (call_goes before v line place symbols f fs texts calls root s few root_is)))

@@ -41,7 +41,13 @@ around program before last depth caller f frames rest e is = by_depth depth call
 
     of : (depth place : ℕ) (s : Stacks before (suc depth) (Some place) (f ∷ rest)) → Around program before last (suc depth) (Some place) f rest
     of depth place s = record {
-      v = s.0; macro = s.2; line = s.3; counter = s.4; symbols = s.5; root = s.6; callers = subst (λ (d : ℕ). Stacks before d s.0.caller rest) (sym s.7) s.8;
+      v = s.0;
+      macro = s.2;
+      line = s.3;
+      counter = s.4;
+      symbols = s.5;
+      root = s.6;
+      callers = subst (λ (d : ℕ). Stacks before d s.0.caller rest) (sym s.7) s.8;
       is = by_top depth place s.0 s.1 s.2 s.3 s.7;
     }
 
@@ -63,9 +69,11 @@ pub comes_back : (program : Program) (before : List Visit) (last : Visit) (depth
     → frames ≡ f ∷ rest → line_at program f.macro f.line ≡ Some l → (w : Visit) × (returned program before last depth caller ≡ On w) × IsBack before last w f rest
 comes_back program before last depth caller f frames rest l come e is =
     let a = around program before last come.depth' come.caller' f frames rest e come.callers in
-    let goes : if_line (line_at program f.macro f.line) (On (resumed a.v last)) (returned program before last a.v.depth a.v.caller) ≡ On (resumed a.v last) = rw is refl in
-    (resumed a.v last, come.same ∙ a.is ∙ goes,
-      record { macro = a.macro; line = a.line; counter = a.counter; symbols = a.symbols; root = a.root; texts = refl; calls = refl; callers = a.callers })
+    let goes : if_line (line_at program f.macro f.line) (On (resumed a.v last)) (returned program before last a.v.depth a.v.caller) ≡ On (resumed a.v last) = rw is refl in (
+      resumed a.v last,
+      come.same ∙ a.is ∙ goes,
+      record { macro = a.macro; line = a.line; counter = a.counter; symbols = a.symbols; root = a.root; texts = refl; calls = refl; callers = a.callers },
+    )
 
 -- no line is there
 pub goes_further : (program : Program) (before : List Visit) (last : Visit) (depth : ℕ) (caller : Option ℕ) (f : Frame) (frames rest : List Frame) → ComesTo program before last depth caller frames

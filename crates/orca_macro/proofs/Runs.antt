@@ -84,12 +84,22 @@ pub record UnderWay (program : Program) (s : State) (count : ℕ) (out : List Li
 pub starts : (program : Program) (s : State) (out : List Line) → frame s.scope ≡ record { macro = None; line = 0; root = 0; counter = 255; symbols = no_symbols } → stack_of s.frames ≡ [] → texts_of s.texts ≡ no_texts → s.calls ≡ 0 → out ≡ []
     → UnderWay program s 0 out
 starts program s out now none texts calls empty = record {
-  before = []; v = first_visit;
+  before = [];
+  v = first_visit;
   stands = record {
-    macro = sym (ap (λ (f : Frame). f.macro) now); line = sym (ap (λ (f : Frame). f.line) now); counter = sym (ap (λ (f : Frame). f.counter) now); symbols = sym (ap (λ (f : Frame). f.symbols) now);
-    root = tt; texts_are = sym texts; calls_are = sym calls; callers = subst (λ (fs : List Frame). Stacks [] 0 None fs) (sym none) tt;
+    macro = sym (ap (λ (f : Frame). f.macro) now);
+    line = sym (ap (λ (f : Frame). f.line) now);
+    counter = sym (ap (λ (f : Frame). f.counter) now);
+    symbols = sym (ap (λ (f : Frame). f.symbols) now);
+    root = tt;
+    texts_are = sym texts;
+    calls_are = sym calls;
+    callers = subst (λ (fs : List Frame). Stacks [] 0 None fs) (sym none) tt;
   };
-  count_is = refl; few = omega arith; calls = omega (arith, calls); short = omega (arith, ap length empty);
+  count_is = refl;
+  few = omega arith;
+  calls = omega (arith, calls);
+  short = omega (arith, ap length empty);
   goes_on = λ ws rest end follow. subst (λ (o : List Line). HasVisits program (o ++ rest) end) (sym empty) (record { visits = ws; follow = follow });
 }
 
@@ -124,9 +134,13 @@ pub goes : (program : Program) (s s' : State) (count : ℕ) (out out' : List Lin
 goes program s s' count out out' l u few calls short vd =
     let w = vd.moves.0 in
     record {
-      before = u.before ++ u.v ∷ []; v = w; stands = vd.moves.2;
+      before = u.before ++ u.v ∷ [];
+      v = w;
+      stands = vd.moves.2;
       count_is = omega (arith, u.count_is, length-append u.before (u.v ∷ []));
-      few = omega (arith, few, u.few); calls = omega (arith, calls, u.calls); short = omega (arith, short, u.short);
+      few = omega (arith, few, u.few);
+      calls = omega (arith, calls, u.calls);
+      short = omega (arith, short, u.short);
       goes_on = λ ws rest end follow.
           subst (λ (o : List Line). HasVisits program o end) (sym (append_assoc out vd.given rest) ∙ ap (λ (o : List Line). o ++ rest) (sym vd.new_is))
           (u.goes_on (w ∷ ws) (vd.given ++ rest) end (vd.given, rest, subst (λ (m : Move). IsVisit program u.before u.v vd.given m) vd.moves.1 vd.is, refl, follow));
@@ -141,6 +155,8 @@ ended program s s' count out out' l u vd =
 pub stopped : (program : Program) (s s' : State) (count : ℕ) (out out' : List Line) (l : Line) (cause : MacroCause) (fault : MacroFault) (u : UnderWay program s count out)
     → Visited program u.before u.v l (outcomes.Stops cause) s' out out' → fault ≡ fault_at l cause → IsStopped program fault
 stopped program s s' count out out' l cause fault u vd fault_is = record {
-  line = l; cause = cause; is = fault_is;
+  line = l;
+  cause = cause;
+  is = fault_is;
   stops = record { given = out ++ vd.given; visited = u.goes_on [] vd.given (Stops l cause) (subst (λ (m : Move). IsVisit program u.before u.v vd.given m) vd.moves vd.is) };
 }

@@ -20,7 +20,8 @@ use crate::pieces::{Piece, joined, pieces, quoted};
 use crate::program::Program;
 use crate::substitution::shown;
 use crate::symbols::{
-    Symbols, Texts, Values, declaration_of, is_count, is_declaration, is_kind, kind_of, name, signed_decimal,
+    Symbols, Texts, Values, declaration_of, is_count, is_declaration, is_kind, kind_of, name,
+    signed_decimal,
 };
 use macro_meaning::{Declaration, Kind, MacroCause, Statement};
 use omf_base::Name;
@@ -362,11 +363,7 @@ fn middle(
 }
 
 /// AIF.
-fn branch_if(
-    alloc: Global,
-    of: Values<'_>,
-    operands: &[Piece<'_>],
-) -> Result<Deed, AllocError>
+fn branch_if(alloc: Global, of: Values<'_>, operands: &[Piece<'_>]) -> Result<Deed, AllocError>
     ensures { IfOk result (λ d. IsBranchIf (values of.entry) operands.now (deed d)) }
 {
     match operands {
@@ -439,11 +436,7 @@ fn noting(text: &[u8], answer: Result<u32, MacroCause>) -> Deed
 }
 
 /// MNOTE.
-fn note(
-    alloc: Global,
-    of: Values<'_>,
-    operands: &[Piece<'_>],
-) -> Result<Deed, AllocError>
+fn note(alloc: Global, of: Values<'_>, operands: &[Piece<'_>]) -> Result<Deed, AllocError>
     ensures { IfOk result (λ d. IsNote (values of.entry) operands.now (deed d)) }
 {
     match operands {
@@ -554,14 +547,7 @@ fn statement(alloc: Global, at: Standing<'_>, text: &[u8]) -> Result<Deed, Alloc
     let label = part(text, fields.label);
     let operand = part(text, fields.operand);
     if operation.is_empty() {
-        return done(
-            alloc,
-            at.values,
-            Statement::Nothing,
-            text,
-            label,
-            operand,
-        );
+        return done(alloc, at.values, Statement::Nothing, text, label, operand);
     }
     match statement_of(operation) {
         Some(found) => done(alloc, at.values, found, text, label, operand),
@@ -595,11 +581,7 @@ fn begins_definition(at: Standing<'_>, of: &SourceLine) -> bool
 }
 
 /// What a visited line does.
-pub(crate) fn deed_of(
-    alloc: Global,
-    at: Standing<'_>,
-    of: &SourceLine,
-) -> Result<Deed, AllocError>
+pub(crate) fn deed_of(alloc: Global, at: Standing<'_>, of: &SourceLine) -> Result<Deed, AllocError>
     requires { HaveFields of.now.text (line of.now).fields }
     ensures { IfOk result (λ d. IsDeed (where_ at.entry) (line of.now) (deed d)) }
 {

@@ -15,7 +15,7 @@ ghost use Rattle.orca_text.specs.View.{line};
 
 use crate::body::Body;
 use crate::deed::{Deed, Standing, deed_of};
-use crate::definitions::{Definition, scan_file};
+use crate::definitions::{Definition, fault_at, scan_file};
 use crate::frames::State;
 use crate::program::Program;
 use crate::symbols::Values;
@@ -26,17 +26,6 @@ use std::alloc::{AllocError, Global};
 
 /// How many lines are visited at most.
 const MOST_VISITS: u32 = 1_000_000;
-
-/// A fault at a line.
-fn fault_of(of: &SourceLine, cause: MacroCause) -> MacroFault
-    ensures { result ≡ fault_at (line of.now) cause }
-{
-    MacroFault {
-        cause,
-        file: of.file,
-        line: of.line,
-    }
-}
 
 /// Memory ran out.
 fn no_memory() -> MacroFault
@@ -133,11 +122,7 @@ fn scan_all(
 }
 
 /// The program of these lines and macros.
-fn built(
-    alloc: Global,
-    plain: Lines,
-    definitions: Vec<Definition>,
-) -> Result<Program, AllocError>
+fn built(alloc: Global, plain: Lines, definitions: Vec<Definition>) -> Result<Program, AllocError>
     ensures { IfOk result (λ program. program ≡ record { source = record { lines = plain; reach = length plain }; definitions = map definition definitions.items }) }
 {
     let reach = plain.count();
@@ -261,13 +246,13 @@ fn visit_all(alloc: Global, program: &Program) -> Result<Result<Lines, MacroFaul
             return Ok(Ok(out));
         };
         if count == MOST_VISITS {
-            return Ok(Err(fault_of(line, MacroCause::TooManyLines)));
+            return Ok(Err(fault_at(line, MacroCause::TooManyLines)));
         }
         let outcome = visit(alloc, program, &mut state, line, &mut out)?;
         match outcome {
             Outcome::Goes => {}
             Outcome::Ends => return Ok(Ok(out)),
-            Outcome::Stops(cause) => return Ok(Err(fault_of(line, cause))),
+            Outcome::Stops(cause) => return Ok(Err(fault_at(line, cause))),
         }
         count += 1;
     }

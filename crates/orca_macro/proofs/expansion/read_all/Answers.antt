@@ -19,7 +19,7 @@ files-preserved c =
     record {
       lines = subst (λ (n : ℕ). c.push.new.self.items ++ lines_from n (texts_of_files c.in-Some.behind.now) ≡ lines_from 1 (texts_of_files c.args.macros.now)) next
           (lines_more c.files.found.items c.push.new.self.items c.files.file c.as_slice.result.now (texts_of_files c.in-Some.behind.now) (texts_of_files c.files.left.now) c.in-Ok.lines (lines_from 1 (texts_of_files c.args.macros.now))
-            first c.files.invariant.lines c.in-Ok.ensures.lines c.in-Ok-push.ensures.items);
+          first c.files.invariant.lines c.in-Ok.ensures.lines c.in-Ok-push.ensures.items);
       good = subst (λ (n : ℕ). first_in file_text_fault n (texts_of_files c.in-Some.behind.now) ≡ first_in file_text_fault 1 (texts_of_files c.args.macros.now)) next
           (good_more c.files.file c.as_slice.result.now (texts_of_files c.in-Some.behind.now) (texts_of_files c.files.left.now) (first_in file_text_fault 1 (texts_of_files c.args.macros.now)) first c.files.invariant.good c.in-Ok.ensures.good);
     }

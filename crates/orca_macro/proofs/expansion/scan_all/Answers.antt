@@ -20,6 +20,6 @@ files-preserved c =
 
 pub returns : goal.returns
 returns c = (
-    scan_all_good c.files.left.now (first_part_in c.args.macros.now) (rw c.in_default.is at c.split_first.ensures.cases) c.files.invariant.good,
-    scan_end (map definition c.files.definitions.items) c.files.left.now (map definition c.args.definitions.now.items ++ definitions_of c.args.macros.now) (rw c.in_default.is at c.split_first.ensures.cases) c.files.invariant.definitions,
-  )
+  scan_all_good c.files.left.now (first_part_in c.args.macros.now) (rw c.in_default.is at c.split_first.ensures.cases) c.files.invariant.good,
+  scan_end (map definition c.files.definitions.items) c.files.left.now (map definition c.args.definitions.now.items ++ definitions_of c.args.macros.now) (rw c.in_default.is at c.split_first.ensures.cases) c.files.invariant.definitions,
+)

@@ -10,4 +10,4 @@ unfolding move_of
 returns-clause-moves c = λ before v line stands.
     c.onward.ensures before (after v (deeds.Declares c.args.name.now c.args.declaration)) v line (texts_of c.declare.new.texts) c.args.state.now.calls
     (declared_stands before v c.args.name.now c.args.declaration (frame c.args.state.now.scope) (stack_of c.args.state.now.frames) (texts_of c.args.state.now.texts) (texts_of c.declare.new.texts) c.args.state.now.calls
-      (symbols_of c.declare.new.symbols) stands c.in_ok-declare.ensures)
+    (symbols_of c.declare.new.symbols) stands c.in_ok-declare.ensures)
