@@ -30,6 +30,7 @@ bench: build
 	bench/text
 	bench/body
 	bench/load
+	bench/macro
 
 refuse: build
 	tools/refuse build/omf

@@ -1,5 +1,5 @@
 -- The expansion of a source with macro files, and its first fault.
-use Rattle.std.specs.Prelude.{◌≡◌, ℕ, ◌+◌, true, false, List, [], ◌∷◌, ◌++◌, Option, Some, None}
+use Rattle.std.specs.Prelude.{◌≡◌, ℕ, ◌+◌, min, true, false, List, [], ◌∷◌, ◌++◌, Option, Some, None}
 use Rattle.omf_format.specs.Lines.{lines_of}
 use Rattle.orca_meaning.specs.declared.lines.TextCause.{TextCause}
 use Rattle.orca_meaning.specs.declared.lines.TextCause.TheVariants as texts
@@ -16,10 +16,14 @@ use Rattle.macro_meaning.specs.Visit.{Program, Visit, Move, Ends, Stops, Follow,
 abbrev pub file_parts : ℕ → List ℕ → List Part
 file_parts file bytes = parts_of None (numbered file 1 (lines_of bytes))
 
+-- the number of the next macro file; no number is above 4,294,967,295
+abbrev pub next_file : ℕ → ℕ
+next_file file = min (file + 1) 4294967295
+
 -- the macros of files, of which the first has this number
 unfoldable pub macros_in : ℕ → List (List ℕ) → List Definition
 macros_in file [] = []
-macros_in file (bytes ∷ more) = definitions_in false (file_parts file bytes) ++ macros_in (file + 1) more
+macros_in file (bytes ∷ more) = definitions_in false (file_parts file bytes) ++ macros_in (next_file file) more
 
 -- the macro files' definitions come before those of the source
 abbrev pub program_of : List ℕ → List (List ℕ) → Program
@@ -58,7 +62,7 @@ file_part_fault file bytes = line_fault_of (first_part_fault (file_parts file by
 -- the first in files, of which the first has this number
 unfoldable pub first_in : (ℕ → List ℕ → Option MacroFault) → ℕ → List (List ℕ) → Option MacroFault
 first_in fault file [] = None
-first_in fault file (bytes ∷ more) = or_else (fault file bytes) (first_in fault (file + 1) more)
+first_in fault file (bytes ∷ more) = or_else (fault file bytes) (first_in fault (next_file file) more)
 
 -- macro files in order, and then the source
 abbrev pub first_of_files : (ℕ → List ℕ → Option MacroFault) → List ℕ → List (List ℕ) → Option MacroFault

@@ -8,5 +8,12 @@ pub mod Targets
 pub mod Formed
 pub mod Numbers
 pub mod Binds
+pub mod Both
 pub mod Scans
 pub mod Firsts
+pub mod Returns
+pub mod Moves
+pub mod Free
+pub mod Runs
+pub mod Whole
+pub mod Texts

@@ -4,3 +4,8 @@ pub mod Piece
 pub mod DefinitionView
 pub mod Calling
 pub mod Parts
+pub mod DeedView
+pub mod Stacks
+pub mod Changes
+pub mod StateView
+pub mod Files

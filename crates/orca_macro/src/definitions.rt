@@ -67,7 +67,7 @@ fn copy_range(alloc: Global, lines: &Lines, from: u32, to: u32) -> Result<Lines,
 }
 
 /// A fault at a line.
-fn fault_at(of: &SourceLine, cause: MacroCause) -> MacroFault
+pub(crate) fn fault_at(of: &SourceLine, cause: MacroCause) -> MacroFault
     ensures { result ≡ fault_at (line of.now) cause }
 {
     MacroFault {

@@ -4,7 +4,10 @@
 mod body;
 mod call;
 mod condition;
+mod deed;
 mod definitions;
+mod expansion;
+mod frames;
 mod held;
 mod model_line;
 mod names;
@@ -12,3 +15,10 @@ mod pieces;
 mod program;
 mod substitution;
 mod symbols;
+mod visits;
+
+pub use expansion::expand;
+pub use macro_meaning::{MacroCause, MacroFault};
+
+#[cfg(test)]
+mod tests;

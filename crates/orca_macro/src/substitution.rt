@@ -239,3 +239,39 @@ pub(crate) fn naming_at(of: &SourceLine, at: u32) -> Naming
 {
     naming_by(statement_of(of.part(of.operation)), of, at)
 }
+
+/// The text of a line with the symbols' texts in place; none where a symbol isn't declared.
+#[tactic(auto, unfolding(macro_meaning::specs::Substitution::substituted), using(crate::proofs::Fronts::front_more, crate::proofs::Fronts::put_more, crate::proofs::Fronts::put_none, crate::proofs::Fronts::front_whole, crate::proofs::Fronts::front_start))]
+pub(crate) fn shown(
+    alloc: Global,
+    of: Values<'_>,
+    source: &SourceLine,
+) -> Result<Option<Vec<u8>>, AllocError>
+    requires { HaveFields source.now.text (line source.now).fields }
+    ensures { IfOk result (λ found. MatchOption found
+        (substituted (text_of (values of.entry)) (naming_at source.now.text (line source.now).fields) 0 0 source.now.text ≡ None)
+        (λ v. substituted (text_of (values of.entry)) (naming_at source.now.text (line source.now).fields) 0 0 source.now.text ≡ Some v.items)) }
+{
+    let mut out = Vec::with_capacity(alloc, source.text.bytes().len())?;
+    let mut at: u32 = 0;
+    let mut taken: usize = 0;
+    let mut left = source.text.bytes();
+    'bytes: while let Some((byte, behind)) = left.split_first() {
+        if taken > 0 {
+            taken -= 1;
+        } else if *byte == b'&' {
+            match in_place(alloc, of, naming_at(source, at), behind)? {
+                Some((text, more)) => {
+                    out.extend_from_slice(text)?;
+                    taken = more;
+                }
+                None => return Ok(None),
+            }
+        } else {
+            out.push(*byte)?;
+        }
+        at += 1;
+        left = behind;
+    }
+    Ok(Some(out))
+}

@@ -1,0 +1,37 @@
+-- Faults that stand together.
+use Rattle.std.proofs.Common.{◌≡◌, ℕ, Bool, false, eqb, List, [], ◌∷◌, length, Option, Some, None, refl, sym, ap, subst, ◌∙◌}
+use Rattle.std.specs.Prelude.{Result, Ok, Err, IfOk}
+use Rattle.orca_meaning.specs.Line.{Fields, part, three_fields}
+use Rattle.macro_meaning.specs.declared.statements.Statement.{Statement}
+use Rattle.macro_meaning.specs.Statements.{statement_of}
+use Rattle.orca_macro.specs.declared.deed.Deed.{Deed}
+use Rattle.orca_macro.specs.DeedView.{deed}
+use Rattle.macro_meaning.specs.declared.faults.MacroCause.{MacroCause}
+use Rattle.macro_meaning.specs.Deed as meaning
+use Rattle.macro_meaning.specs.Deed.{Setting, both, or_bad, operation_or_anop, IsDone, IsDoneBy, IsStatement}
+
+-- the second one, where the first can only be BadSetting
+pub second_fault : {A B : Type 0} (found : Option A) (cause : MacroCause) → both {A = A} {B = B} (or_bad found) (Err cause) ≡ Err cause
+second_fault None cause = refl
+second_fault (Some a) cause = refl
+
+some_operation : (operation : List ℕ) → eqb (length operation) 0 ≡ false → operation_or_anop operation ≡ statement_of operation
+some_operation [] some = absurd cc
+some_operation (byte ∷ behind) some = refl
+
+-- a line with a statement
+statement_is : (s : Setting) (text : List ℕ) (fields : Fields) (operation label operand : List ℕ) (found : Statement) (d : meaning.Deed) → fields ≡ three_fields text
+    → operation ≡ part text fields.operation → label ≡ part text fields.label → operand ≡ part text fields.operand → eqb (length operation) 0 ≡ false → Some found ≡ statement_of operation
+    → IsDone s.values found text label operand d → IsStatement s text (three_fields text) d
+statement_is s text fields operation label operand found d fields_are operation_is label_is operand_is some is done =
+    let by_operand : IsDone s.values found text label (part text fields.operand) d = subst (λ (o : List ℕ). IsDone s.values found text label o d) operand_is done in
+    let by_label : IsDone s.values found text (part text fields.label) (part text fields.operand) d = subst (λ (l : List ℕ). IsDone s.values found text l (part text fields.operand) d) label_is by_operand in
+    let which : operation_or_anop (part text fields.operation) ≡ Some found = ap operation_or_anop (sym operation_is) ∙ some_operation operation some ∙ sym is in
+    subst (λ (f : Fields). IsStatement s text f d) fields_are (subst (λ (o : Option Statement). IsDoneBy s text fields o d) (sym which) by_label)
+
+pub statement_ok : {E : Type 0} (s : Setting) (text : List ℕ) (fields : Fields) (operation label operand : List ℕ) (found : Statement) (r : Result Deed E) → fields ≡ three_fields text
+    → operation ≡ part text fields.operation → label ≡ part text fields.label → operand ≡ part text fields.operand → eqb (length operation) 0 ≡ false → Some found ≡ statement_of operation
+    → IfOk r (λ (d : Deed). IsDone s.values found text label operand (deed d)) → IfOk r (λ (d : Deed). IsStatement s text (three_fields text) (deed d))
+statement_ok s text fields operation label operand found (Ok d) fields_are operation_is label_is operand_is some is done =
+    statement_is s text fields operation label operand found (deed d) fields_are operation_is label_is operand_is some is done
+statement_ok s text fields operation label operand found (Err e) fields_are operation_is label_is operand_is some is done = done

@@ -1,0 +1,35 @@
+use Rattle.std.proofs.Common.{◌≡◌, Option, None, sym, ap, ◌∙◌}
+use Rattle.macro_meaning.specs.Expansion.{first_in, file_text_fault}
+use Rattle.orca_macro.specs.Files.{texts_of_files, lines_from}
+use Rattle.orca_macro.proofs.Whole.{own_files, parts_refused, all_expand, all_refused}
+use Rattle.orca_macro.proofs.expansion.expand.Goals as goal
+
+pub program_of-requires-clause-macros : goal.program_of-requires-clause-macros
+program_of-requires-clause-macros c =
+    let texts = ap texts_of_files c.as_slice-texts.ensures.value in
+    let files_are : c.as_slice-parts.result.now ≡ lines_from 1 (texts_of_files c.args.macros.now.items) = c.as_slice-parts.ensures.value ∙ c.in-Ok.ensures.lines ∙ ap (lines_from 1) texts in
+    own_files (texts_of_files c.args.macros.now.items) c.as_slice-parts.result.now files_are
+
+pub returns-in-Ok-Err-clause-refused : goal.returns-in-Ok-Err-clause-refused
+returns-in-Ok-Err-clause-refused c =
+    let texts = ap texts_of_files c.as_slice-texts.ensures.value in
+    let files_are : c.as_slice-parts.result.now ≡ lines_from 1 (texts_of_files c.args.macros.now.items) = c.as_slice-parts.ensures.value ∙ c.in-Ok.ensures.lines ∙ ap (lines_from 1) texts in
+    let good : first_in file_text_fault 1 (texts_of_files c.args.macros.now.items) ≡ None = sym (ap (first_in file_text_fault 1) texts) ∙ c.in-Ok.ensures.good in
+    parts_refused c.args.source.now (texts_of_files c.args.macros.now.items) c.in-Ok-read_file.lines c.as_slice-parts.result.now c.in-Ok-Err.fault c.in-Ok-read_file.ensures.lines files_are good c.in-Ok-read_file.ensures.good
+    (rw c.in-Ok-Err.field-0-is at c.in-Ok-Err.ensures)
+
+pub returns-in-Ok-visit_all-clause-lines : goal.returns-in-Ok-visit_all-clause-lines
+returns-in-Ok-visit_all-clause-lines c =
+    let texts = ap texts_of_files c.as_slice-texts.ensures.value in
+    let files_are : c.as_slice-parts.result.now ≡ lines_from 1 (texts_of_files c.args.macros.now.items) = c.as_slice-parts.ensures.value ∙ c.in-Ok.ensures.lines ∙ ap (lines_from 1) texts in
+    let good : first_in file_text_fault 1 (texts_of_files c.args.macros.now.items) ≡ None = sym (ap (first_in file_text_fault 1) texts) ∙ c.in-Ok.ensures.good in
+    all_expand c.args.source.now (texts_of_files c.args.macros.now.items) c.in-Ok-read_file.lines c.as_slice-parts.result.now c.in-Ok-read_file.ensures.lines files_are good c.in-Ok-read_file.ensures.good c.in-Ok-Ok.program
+    (rw c.in-Ok-Ok.field-0-is at c.in-Ok-Ok.ensures) c.in-Ok-visit_all.found c.in-Ok-visit_all.ensures
+
+pub returns-in-Ok-visit_all-clause-refused : goal.returns-in-Ok-visit_all-clause-refused
+returns-in-Ok-visit_all-clause-refused c =
+    let texts = ap texts_of_files c.as_slice-texts.ensures.value in
+    let files_are : c.as_slice-parts.result.now ≡ lines_from 1 (texts_of_files c.args.macros.now.items) = c.as_slice-parts.ensures.value ∙ c.in-Ok.ensures.lines ∙ ap (lines_from 1) texts in
+    let good : first_in file_text_fault 1 (texts_of_files c.args.macros.now.items) ≡ None = sym (ap (first_in file_text_fault 1) texts) ∙ c.in-Ok.ensures.good in
+    all_refused c.args.source.now (texts_of_files c.args.macros.now.items) c.in-Ok-read_file.lines c.as_slice-parts.result.now c.in-Ok-read_file.ensures.lines files_are good c.in-Ok-read_file.ensures.good c.in-Ok-Ok.program
+    (rw c.in-Ok-Ok.field-0-is at c.in-Ok-Ok.ensures) c.in-Ok-visit_all.found c.in-Ok-visit_all.ensures

@@ -1,0 +1,13 @@
+use Rattle.macro_meaning.specs.Deed as deeds
+use Rattle.macro_meaning.specs.Visit.{after, move_of}
+use Rattle.orca_macro.specs.Stacks.{frame, stack_of}
+use Rattle.orca_macro.specs.View.{symbols_of, texts_of}
+use Rattle.orca_macro.proofs.Moves.{assigned_stands}
+use Rattle.orca_macro.proofs.visits.assigned.Goals as goal
+
+pub returns-clause-moves : goal.returns-clause-moves
+unfolding move_of
+returns-clause-moves c = λ before v line stands.
+    c.onward.ensures before (after v (deeds.Sets c.args.name.now c.args.kind c.args.text)) v line (texts_of c.assign.new.texts) c.args.state.now.calls
+    (assigned_stands before v c.args.name.now c.args.kind c.args.text (frame c.args.state.now.scope) (stack_of c.args.state.now.frames) (texts_of c.args.state.now.texts) (texts_of c.assign.new.texts) c.args.state.now.calls
+    (symbols_of c.assign.new.symbols) stands c.in_ok-assign.ensures)

@@ -1,0 +1,17 @@
+-- What declarations and settings make of symbols and of the shared texts.
+use Rattle.std.specs.Prelude.{◌≡◌, ℕ, List, Option, Some, None}
+use Rattle.macro_meaning.specs.declared.statements.Kind.{Kind}
+use Rattle.macro_meaning.specs.declared.statements.Declaration.{Declaration}
+use Rattle.macro_meaning.specs.declared.statements.Declaration.TheVariants.{Local, Shared}
+use Rattle.macro_meaning.specs.Symbol.{Symbol, Own, Common, Symbols, SharedTexts, with_name, first_text}
+use Rattle.macro_meaning.specs.Visit.{shared_first}
+
+abbrev pub IsDeclared : List ℕ → Declaration → Symbols → Symbols → SharedTexts → SharedTexts → Type 0
+IsDeclared name (Local kind) old new texts texts' = (new ≡ with_name name (Own kind (first_text kind)) old) × (texts' ≡ texts)
+IsDeclared name (Shared kind) old new texts texts' = (new ≡ with_name name (Common kind) old) × (texts' ≡ shared_first name kind texts)
+
+-- by what the name stands for
+abbrev pub IsAssigned : List ℕ → Kind → List ℕ → Option Symbol → Symbols → Symbols → SharedTexts → SharedTexts → Type 0
+IsAssigned name kind text None old new texts texts' = (new ≡ old) × (texts' ≡ texts)
+IsAssigned name kind text (Some (Own other was)) old new texts texts' = (new ≡ with_name name (Own kind text) old) × (texts' ≡ texts)
+IsAssigned name kind text (Some (Common other)) old new texts texts' = (new ≡ old) × (texts' ≡ with_name name (kind, text) texts)

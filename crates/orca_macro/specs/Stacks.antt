@@ -1,0 +1,80 @@
+-- A stack of expansions stands for the callers of a visit.
+use Rattle.std.proofs.Common.{◌≡◌, ℕ, zero, suc, ◌+◌, Bool, true, false, List, [], ◌∷◌, ◌++◌, length, map, Option, Some, None, refl, sym, ap, ◌∙◌}
+use Rattle.std.specs.Prelude.{slice_get, reverse}
+use Rattle.std.proofs.lemmas.List.{reverse-append, map-append, length-reverse, length-map}
+use Rattle.orca_meaning.specs.Line.{Line}
+use Rattle.macro_meaning.specs.Symbol.{Symbols, SharedTexts}
+use Rattle.macro_meaning.specs.Visit.{Visit, Move, On, Ends, Stops}
+use Rattle.orca_macro.specs.declared.frames.Frames.{Frames}
+use Rattle.orca_macro.specs.declared.frames.Scope.{Scope}
+use Rattle.orca_macro.specs.declared.visits.Outcome.{Outcome}
+use Rattle.orca_macro.specs.declared.visits.Outcome.TheVariants as outcomes
+use Rattle.orca_macro.specs.View.{symbols_of}
+
+-- where an expansion goes back
+pub record Frame : Type 0 where
+  pub macro : Option ℕ
+  pub line : ℕ
+  pub root : ℕ
+  pub counter : ℕ
+  pub symbols : Symbols
+
+abbrev pub frame : Scope → Frame
+frame s = record { macro = s.place; line = s.line; root = s.root; counter = s.counter; symbols = symbols_of s.symbols }
+
+-- the stack, its top first
+abbrev pub stack_of : Frames → List Frame
+stack_of frames = reverse (map frame frames.items.items)
+
+pub pushed : (old new : List Scope) (x : Scope) → new ≡ old ++ x ∷ [] → reverse (map frame new) ≡ frame x ∷ reverse (map frame old)
+pushed old new x e = ap (λ (l : List Scope). reverse (map frame l)) e ∙ ap reverse (map-append frame old (x ∷ [])) ∙ reverse-append (map frame old) (map frame (x ∷ []))
+
+pub popped : (old new : List Scope) (x : Scope) → old ≡ new ++ x ∷ [] → reverse (map frame old) ≡ frame x ∷ reverse (map frame new)
+popped old new x e = pushed new old x e
+
+pub as_long : (l : List Scope) → length l ≡ length (reverse (map frame l))
+as_long l = sym (length-reverse (map frame l) ∙ length-map l frame)
+
+-- the root of a visit counts in an expansion alone
+abbrev pub HasRoot : Option ℕ → ℕ → ℕ → Type 0
+HasRoot None root kept = Unit {0}
+HasRoot (Some place) root kept = root ≡ kept
+
+-- the stack, its top first, has the calls of these expansions
+abbrev pub Stacks : List Visit → ℕ → Option ℕ → List Frame → Type 0
+Stacks before zero None [] = Unit {0}
+Stacks before zero None (f ∷ fs) = ⊥
+Stacks before zero (Some place) fs = ⊥
+Stacks before (suc depth) None fs = ⊥
+Stacks before (suc depth) (Some place) [] = ⊥
+Stacks before (suc depth) (Some place) (f ∷ fs) =
+    (v : Visit) × (slice_get before place ≡ Some v) × (v.macro ≡ f.macro) × (v.line + 1 ≡ f.line) × (v.counter ≡ f.counter)
+    × (v.symbols ≡ f.symbols) × HasRoot v.caller v.root f.root × (v.depth ≡ depth) × Stacks before depth v.caller fs
+
+-- the visit stands here, and the stack has its callers
+pub record Stands (before : List Visit) (v : Visit) (f : Frame) (fs : List Frame) (texts : SharedTexts) (calls : ℕ) : Type 0 where
+  pub macro : v.macro ≡ f.macro
+  pub line : v.line ≡ f.line
+  pub counter : v.counter ≡ f.counter
+  pub symbols : v.symbols ≡ f.symbols
+  pub root : HasRoot v.caller v.root f.root
+  pub texts_are : v.texts ≡ texts
+  pub calls_are : v.calls ≡ calls
+  pub callers : Stacks before v.depth v.caller fs
+
+-- what follows on these visits is this: the next one stands here, or it is the end, or the line has a fault
+abbrev pub MovesTo : Move → List Visit → Line → Outcome → Frame → List Frame → SharedTexts → ℕ → Type 0
+MovesTo move before line outcomes.Goes f fs texts calls = (w : Visit) × (move ≡ On w) × Stands before w f fs texts calls
+MovesTo move before line outcomes.Ends f fs texts calls = move ≡ Ends
+MovesTo move before line (outcomes.Stops cause) f fs texts calls = move ≡ Stops line cause
+
+-- an expansion goes on behind its call
+pub record IsBack (before : List Visit) (last w : Visit) (f : Frame) (fs : List Frame) : Type 0 where
+  pub macro : w.macro ≡ f.macro
+  pub line : w.line ≡ f.line
+  pub counter : w.counter ≡ f.counter
+  pub symbols : w.symbols ≡ f.symbols
+  pub root : HasRoot w.caller w.root f.root
+  pub texts : w.texts ≡ last.texts
+  pub calls : w.calls ≡ last.calls
+  pub callers : Stacks before w.depth w.caller fs

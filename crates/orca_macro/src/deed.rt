@@ -1,0 +1,605 @@
+//! What a visited line does (ORCA/M reference manual, "Conditional assembly directives").
+
+ghost use Rattle.std.specs.Prelude.{◌≡◌, ◌≤◌, ◌<◌, [], List, ℕ, ℤ, length, take, drop, pos, int_le, codes, slice_get, Some, None, Ok, Err, IfOk, IfErr, IfSome, OnOk, MatchOption};
+ghost use Rattle.omf_format.specs.Value.{signed};
+ghost use Rattle.macro_meaning.specs.Deed.{earlier, both, or_bad, first_time, declaring, settable, setting, printed, printed_answer, middle_from, middle_of, go_if, going, going_to, counting, noted, noting, IsBranchIf, IsMiddle, IsNote, IsSetting, IsDone, resting, calling, calling_at, begins_definition, IsDeed, IsStatement, IsDoneBy, cut};
+ghost use Rattle.macro_meaning.specs.Statements.{symbol_name, target_name};
+ghost use Rattle.macro_meaning.specs.Pieces.{pieces, quoted, joined};
+ghost use Rattle.orca_macro.specs.View.{values, symbols_of, texts_of};
+ghost use Rattle.orca_macro.specs.DeedView.{deed, where_};
+ghost use Rattle.orca_meaning.specs.Line.{HaveFields, three_fields};
+ghost use Rattle.orca_meaning.specs.Characters.{folded};
+ghost use Rattle.macro_meaning.specs.Definition.{first_named};
+ghost use Rattle.macro_meaning.specs.Condition.{Answer, IsCondition};
+ghost use Rattle.orca_text.specs.View.{line};
+
+use crate::call::{bound, names_count};
+use crate::condition::{condition, number};
+use crate::names::{is_operation, sequence_name, statement_of, symbol_name, target_name};
+use crate::pieces::{Piece, joined, pieces, quoted};
+use crate::program::Program;
+use crate::substitution::shown;
+use crate::symbols::{
+    Symbols, Texts, Values, declaration_of, is_count, is_declaration, is_kind, kind_of, name,
+    signed_decimal,
+};
+use macro_meaning::{Declaration, Kind, MacroCause, Statement};
+use omf_base::Name;
+use orca_text::{SourceLine, folded, is_comment, part, three_fields};
+use std::alloc::{AllocError, Global};
+
+/// What a visited line does.
+#[derive(Drop)]
+pub(crate) enum Deed {
+    /// Nothing.
+    Rests,
+    /// It gives a line.
+    Gives(Name),
+    /// It declares a symbol.
+    Declares(Name, Declaration),
+    /// It sets a symbol to a text.
+    Sets(Name, Kind, Name),
+    /// It branches to a sequence symbol.
+    Goes(Name),
+    /// It sets the counter.
+    Counts(u32),
+    /// It ends its expansion.
+    Leaves,
+    /// It calls the macro at this place, with these symbols.
+    Calls(usize, Symbols),
+    /// It has a fault.
+    Fails(MacroCause),
+}
+
+/// Where a line stands.
+#[derive(Clone, Copy)]
+pub(crate) struct Standing<'a> {
+    pub(crate) program: &'a Program,
+    /// The line of the source at which its outermost expansion began.
+    pub(crate) root: u32,
+    /// Whether it is a line of the source itself.
+    pub(crate) in_source: bool,
+    pub(crate) values: Values<'a>,
+}
+
+/// Of two faults that stand together the one that is answered: NoSuchSymbol comes before BadSetting.
+fn earlier(cause: MacroCause, other: MacroCause) -> MacroCause
+    ensures { result ≡ earlier cause other }
+{
+    match cause {
+        MacroCause::BadSetting => other,
+        _ => cause,
+    }
+}
+
+/// Two answers, or the earlier of their faults.
+fn both<A: Drop, B: Drop>(
+    a: Result<A, MacroCause>,
+    b: Result<B, MacroCause>,
+) -> Result<(A, B), MacroCause>
+    ensures { result ≡ both a b }
+{
+    match a {
+        Ok(first) => match b {
+            Ok(second) => Ok((first, second)),
+            Err(cause) => Err(cause),
+        },
+        Err(cause) => match b {
+            Ok(_) => Err(cause),
+            Err(other) => Err(earlier(cause, other)),
+        },
+    }
+}
+
+/// What was found; it must be there.
+fn or_bad<A: Drop>(found: Option<A>) -> Result<A, MacroCause>
+    ensures { result ≡ or_bad found }
+{
+    match found {
+        Some(a) => Ok(a),
+        None => Err(MacroCause::BadSetting),
+    }
+}
+
+/// The first declaration of a name in its expansion.
+fn first_time(texts: &Texts, declaration: Declaration, name: Name) -> Deed
+    ensures { deed result ≡ first_time name declaration (texts_of texts.now name) }
+{
+    match declaration {
+        Declaration::Local(_) => Deed::Declares(name, declaration),
+        Declaration::Shared(kind) => match texts.get(name.bytes()) {
+            None => Deed::Declares(name, declaration),
+            Some(other) => {
+                if is_kind(kind, other.kind) {
+                    return Deed::Declares(name, declaration);
+                }
+                Deed::Fails(MacroCause::BadSetting)
+            }
+        },
+    }
+}
+
+/// A declaration of a symbol.
+#[tactic(auto, unfolding(macro_meaning::specs::Deed::declaring))]
+fn declaring(of: Values<'_>, declaration: Declaration, named: Option<Name>) -> Deed
+    ensures { deed result ≡ declaring (values of.entry) declaration named }
+{
+    let Some(name) = named else {
+        return Deed::Fails(MacroCause::BadSetting);
+    };
+    if is_count(name.bytes()) {
+        return Deed::Fails(MacroCause::BadSetting);
+    }
+    match of.symbols.get(name.bytes()) {
+        Some(found) => {
+            if is_declaration(declaration, declaration_of(found)) {
+                return Deed::Rests;
+            }
+            Deed::Fails(MacroCause::BadSetting)
+        }
+        None => first_time(of.texts, declaration, name),
+    }
+}
+
+/// The symbol of this kind that a label names.
+#[tactic(auto, unfolding(macro_meaning::specs::Deed::settable))]
+fn settable(of: Values<'_>, kind: Kind, named: Option<Name>) -> Result<Name, MacroCause>
+    ensures { result ≡ settable (values of.entry) kind named }
+{
+    let Some(name) = named else {
+        return Err(MacroCause::BadSetting);
+    };
+    if is_count(name.bytes()) {
+        return Err(MacroCause::BadSetting);
+    }
+    match of.symbols.get(name.bytes()) {
+        Some(found) => {
+            if is_kind(kind, kind_of(found)) {
+                return Ok(name);
+            }
+            Err(MacroCause::BadSetting)
+        }
+        None => Err(MacroCause::NoSuchSymbol),
+    }
+}
+
+/// The symbol in the label is set to a text.
+#[tactic(auto, unfolding(macro_meaning::specs::Deed::setting))]
+fn setting(
+    alloc: Global,
+    of: Values<'_>,
+    kind: Kind,
+    label: &[u8],
+    text: Result<Name, MacroCause>,
+) -> Result<Deed, AllocError>
+    requires { length label.now ≤ 255 }
+    ensures { IfOk result (λ d. deed d ≡ setting (values of.entry) kind label.now text) }
+{
+    let named = symbol_name(alloc, label)?;
+    match both(settable(of, kind, named), text) {
+        Ok((name, text)) => Ok(Deed::Sets(name, kind, text)),
+        Err(cause) => Ok(Deed::Fails(cause)),
+    }
+}
+
+/// A number as SETA and SETB print it.
+fn printed(alloc: Global, kind: Kind, n: u32) -> Result<Name, AllocError>
+    ensures { IfOk result (λ v. v ≡ printed kind n) }
+{
+    match kind {
+        Kind::Flag => {
+            if n == 0 {
+                return name(alloc, b"0");
+            }
+            name(alloc, b"1")
+        }
+        Kind::Number => signed_decimal(alloc, n.cast_signed()),
+        Kind::Text => signed_decimal(alloc, n.cast_signed()),
+    }
+}
+
+/// An answer as SETA and SETB print it.
+fn printed_answer(
+    alloc: Global,
+    kind: Kind,
+    answer: Result<u32, MacroCause>,
+) -> Result<Result<Name, MacroCause>, AllocError>
+    ensures { IfOk result (λ v. v ≡ printed_answer kind answer) }
+{
+    match answer {
+        Ok(n) => {
+            let text = printed(alloc, kind, n)?;
+            Ok(Ok(text))
+        }
+        Err(cause) => Ok(Err(cause)),
+    }
+}
+
+/// SETA, SETB or SETC.
+fn set(
+    alloc: Global,
+    of: Values<'_>,
+    kind: Kind,
+    label: &[u8],
+    operand: &[u8],
+) -> Result<Deed, AllocError>
+    requires label { length label.now ≤ 255 }
+    requires operand { length operand.now ≤ 255 }
+    ensures { IfOk result (λ d. IsSetting (values of.entry) kind label.now operand.now (deed d)) }
+{
+    match kind {
+        Kind::Number => set_number(alloc, of, Kind::Number, label, operand),
+        Kind::Flag => set_number(alloc, of, Kind::Flag, label, operand),
+        Kind::Text => {
+            let text = joined_text(alloc, operand)?;
+            setting(alloc, of, Kind::Text, label, text)
+        }
+    }
+}
+
+/// SETA or SETB.
+fn set_number(
+    alloc: Global,
+    of: Values<'_>,
+    kind: Kind,
+    label: &[u8],
+    operand: &[u8],
+) -> Result<Deed, AllocError>
+    requires label { length label.now ≤ 255 }
+    requires operand { length operand.now ≤ 255 }
+    ensures { IfOk result (λ d. (answer : Answer)
+        × IsCondition (values of.entry) operand.now answer
+        × (deed d ≡ setting (values of.entry) kind label.now (printed_answer kind answer))) }
+{
+    let answer = condition(alloc, of, operand)?;
+    let text = printed_answer(alloc, kind, answer)?;
+    setting(alloc, of, kind, label, text)
+}
+
+/// Texts in quotes, joined.
+#[tactic(auto, using(crate::proofs::Texts::joined_fits))]
+fn joined_text(alloc: Global, operand: &[u8]) -> Result<Result<Name, MacroCause>, AllocError>
+    requires { length operand.now ≤ 255 }
+    ensures { IfOk result (λ text. text ≡ or_bad (joined (pieces 0x2B operand.now))) }
+{
+    let found = pieces(alloc, b'+', operand)?;
+    match joined(alloc, found.as_slice())? {
+        Some(text) => Ok(Ok(Name::from_vec(text))),
+        None => Ok(Err(MacroCause::BadSetting)),
+    }
+}
+
+/// The first so many bytes.
+#[tactic(auto, using(crate::proofs::Texts::take_whole))]
+fn front_of(text: &[u8], count: usize) -> &[u8]
+    ensures value { result.now ≡ take count text.now }
+    ensures bound { length result.now ≤ length text.now }
+{
+    if count < text.len() {
+        let (front, _) = text.split_at(count);
+        return front;
+    }
+    text
+}
+
+/// What stands behind the first so many bytes.
+#[tactic(auto, using(crate::proofs::Parted::drop_all))]
+fn behind_first(text: &[u8], count: usize) -> &[u8]
+    ensures value { result.now ≡ drop count text.now }
+    ensures bound { length result.now ≤ length text.now }
+{
+    if count < text.len() {
+        let (_, behind) = text.split_at(count);
+        return behind;
+    }
+    &[]
+}
+
+/// So many bytes of a text from a place on, counted from 1.
+#[tactic(auto, using(crate::proofs::Texts::middle_good, crate::proofs::Texts::middle_low, crate::proofs::Texts::middle_few))]
+fn middle_from(
+    alloc: Global,
+    text: &[u8],
+    start: i32,
+    count: i32,
+) -> Result<Result<Name, MacroCause>, AllocError>
+    requires { length text.now ≤ 255 }
+    ensures { IfOk result (λ found. found ≡ middle_from text.now start count) }
+{
+    if start < 1 {
+        return Ok(Err(MacroCause::BadSetting));
+    }
+    if count < 0 {
+        return Ok(Err(MacroCause::BadSetting));
+    }
+    let behind = behind_first(text, start.unsigned_abs() as usize - 1);
+    let found = name(alloc, front_of(behind, count.unsigned_abs() as usize))?;
+    Ok(Ok(found))
+}
+
+/// AMID of a text, a place and a count.
+#[tactic(auto, using(crate::proofs::Both::second_fault))]
+fn middle_with(
+    alloc: Global,
+    of: Values<'_>,
+    label: &[u8],
+    text: &[u8],
+    numbers: Result<(u32, u32), MacroCause>,
+) -> Result<Deed, AllocError>
+    requires label { length label.now ≤ 255 }
+    requires text { length text.now ≤ 255 }
+    ensures { IfOk result (λ d. deed d ≡ setting (values of.entry) Kind.Text label.now (middle_of (both (or_bad (quoted text.now)) numbers))) }
+{
+    match numbers {
+        Ok((start, count)) => match quoted(text) {
+            Some(inside) => {
+                let found = middle_from(alloc, inside, start.cast_signed(), count.cast_signed())?;
+                setting(alloc, of, Kind::Text, label, found)
+            }
+            None => setting(alloc, of, Kind::Text, label, Err(MacroCause::BadSetting)),
+        },
+        Err(cause) => setting(alloc, of, Kind::Text, label, Err(cause)),
+    }
+}
+
+/// AMID.
+fn middle(
+    alloc: Global,
+    of: Values<'_>,
+    label: &[u8],
+    operands: &[Piece<'_>],
+) -> Result<Deed, AllocError>
+    requires { length label.now ≤ 255 }
+    ensures { IfOk result (λ d. IsMiddle (values of.entry) label.now operands.now (deed d)) }
+{
+    match operands {
+        [text, start, count] => {
+            let start = number(alloc, of, start.bytes())?;
+            let count = number(alloc, of, count.bytes())?;
+            middle_with(alloc, of, label, text.bytes(), both(start, count))
+        }
+        _ => setting(alloc, of, Kind::Text, label, Err(MacroCause::BadSetting)),
+    }
+}
+
+/// AIF.
+fn branch_if(alloc: Global, of: Values<'_>, operands: &[Piece<'_>]) -> Result<Deed, AllocError>
+    ensures { IfOk result (λ d. IsBranchIf (values of.entry) operands.now (deed d)) }
+{
+    match operands {
+        [asked, target] => {
+            let answer = condition(alloc, of, asked.bytes())?;
+            let target = target_name(alloc, target.bytes())?;
+            Ok(going(both(answer, or_bad(target))))
+        }
+        _ => Ok(Deed::Fails(MacroCause::BadSetting)),
+    }
+}
+
+/// A branch where the value isn't 0.
+fn going(asked: Result<(u32, Name), MacroCause>) -> Deed
+    ensures { deed result ≡ going asked }
+{
+    match asked {
+        Ok((n, name)) => {
+            if n == 0 {
+                return Deed::Rests;
+            }
+            Deed::Goes(name)
+        }
+        Err(cause) => Deed::Fails(cause),
+    }
+}
+
+/// A branch.
+fn going_to(target: Option<Name>) -> Deed
+    ensures { deed result ≡ going_to target }
+{
+    match target {
+        Some(name) => Deed::Goes(name),
+        None => Deed::Fails(MacroCause::BadSetting),
+    }
+}
+
+/// ACTR.
+fn counting(answer: Result<u32, MacroCause>) -> Deed
+    ensures { deed result ≡ counting answer }
+{
+    match answer {
+        Ok(n) => Deed::Counts(n),
+        Err(cause) => Deed::Fails(cause),
+    }
+}
+
+/// A note of this severity.
+fn noted(n: u32) -> Deed
+    ensures { deed result ≡ noted n }
+{
+    if n.cast_signed() >= 8 {
+        return Deed::Fails(MacroCause::Noted(n));
+    }
+    Deed::Rests
+}
+
+/// MNOTE of a text and a severity.
+#[tactic(auto, using(crate::proofs::Both::second_fault))]
+fn noting(text: &[u8], answer: Result<u32, MacroCause>) -> Deed
+    ensures { deed result ≡ noting (both (or_bad (quoted text.now)) answer) }
+{
+    match answer {
+        Ok(n) => match quoted(text) {
+            Some(_) => noted(n),
+            None => Deed::Fails(MacroCause::BadSetting),
+        },
+        Err(cause) => Deed::Fails(cause),
+    }
+}
+
+/// MNOTE.
+fn note(alloc: Global, of: Values<'_>, operands: &[Piece<'_>]) -> Result<Deed, AllocError>
+    ensures { IfOk result (λ d. IsNote (values of.entry) operands.now (deed d)) }
+{
+    match operands {
+        [text, severity] => {
+            let answer = number(alloc, of, severity.bytes())?;
+            Ok(noting(text.bytes(), answer))
+        }
+        _ => Ok(Deed::Fails(MacroCause::BadSetting)),
+    }
+}
+
+/// ANOP, or no operation.
+fn resting(alloc: Global, label: &[u8], text: &[u8]) -> Result<Deed, AllocError>
+    requires { length text.now ≤ 255 }
+    ensures { IfOk result (λ d. deed d ≡ resting label.now text.now) }
+{
+    if label.is_empty() {
+        return Ok(Deed::Rests);
+    }
+    Ok(Deed::Gives(name(alloc, text)?))
+}
+
+/// A statement of conditional assembly.
+fn done(
+    alloc: Global,
+    of: Values<'_>,
+    statement: Statement,
+    text: &[u8],
+    label: &[u8],
+    operand: &[u8],
+) -> Result<Deed, AllocError>
+    requires text { length text.now ≤ 255 }
+    requires label { length label.now ≤ 255 }
+    requires operand { length operand.now ≤ 255 }
+    ensures { IfOk result (λ d. IsDone (values of.entry) statement text.now label.now operand.now (deed d)) }
+{
+    match statement {
+        Statement::Declare(declaration) => {
+            let named = symbol_name(alloc, operand)?;
+            Ok(declaring(of, declaration, named))
+        }
+        Statement::Set(kind) => set(alloc, of, kind, label, operand),
+        Statement::Middle => {
+            let operands = pieces(alloc, b',', operand)?;
+            middle(alloc, of, label, operands.as_slice())
+        }
+        Statement::BranchIf => {
+            let operands = pieces(alloc, b',', operand)?;
+            branch_if(alloc, of, operands.as_slice())
+        }
+        Statement::Branch => {
+            let target = target_name(alloc, operand)?;
+            Ok(going_to(target))
+        }
+        Statement::Count => {
+            let answer = number(alloc, of, operand)?;
+            Ok(counting(answer))
+        }
+        Statement::Nothing => resting(alloc, label, text),
+        Statement::Leave => Ok(Deed::Leaves),
+        Statement::Note => {
+            let operands = pieces(alloc, b',', operand)?;
+            note(alloc, of, operands.as_slice())
+        }
+        Statement::Define => Ok(Deed::Gives(name(alloc, text)?)),
+    }
+}
+
+/// A call of a macro, or a line that is given.
+fn calling(
+    alloc: Global,
+    at: Standing<'_>,
+    text: &[u8],
+    operation: &[u8],
+    label: &[u8],
+    operand: &[u8],
+) -> Result<Deed, AllocError>
+    requires text { length text.now ≤ 255 }
+    requires operation { length operation.now ≤ 255 }
+    requires label { length label.now ≤ 255 }
+    requires operand { length operand.now ≤ 255 }
+    ensures { IfOk result (λ d. deed d ≡ calling_at (where_ at.entry).definitions (where_ at.entry).root text.now
+        (first_named (folded operation.now) (where_ at.entry).definitions) label.now operand.now) }
+{
+    let asked = folded(alloc, operation)?;
+    let Some((place, found)) = at.program.named(asked.bytes()) else {
+        return Ok(Deed::Gives(name(alloc, text)?));
+    };
+    if found.behind >= at.root {
+        return Ok(Deed::Gives(name(alloc, text)?));
+    }
+    if names_count(&found.model) {
+        return Ok(Deed::Fails(MacroCause::BadSetting));
+    }
+    match bound(alloc, &found.model, label, operand)? {
+        Some(symbols) => Ok(Deed::Calls(place, symbols)),
+        None => Ok(Deed::Fails(MacroCause::BadArguments)),
+    }
+}
+
+/// A line with the texts in place, behind its sequence symbol, that isn't a comment.
+fn statement(alloc: Global, at: Standing<'_>, text: &[u8]) -> Result<Deed, AllocError>
+    requires { length text.now ≤ 255 }
+    ensures { IfOk result (λ d. IsStatement (where_ at.entry) text.now (three_fields text.now) (deed d)) }
+{
+    let fields = three_fields(text);
+    let operation = part(text, fields.operation);
+    let label = part(text, fields.label);
+    let operand = part(text, fields.operand);
+    if operation.is_empty() {
+        return done(alloc, at.values, Statement::Nothing, text, label, operand);
+    }
+    match statement_of(operation) {
+        Some(found) => done(alloc, at.values, found, text, label, operand),
+        None => calling(alloc, at, text, operation, label, operand),
+    }
+}
+
+/// The line behind a sequence symbol in column 1.
+#[tactic(auto, unfolding(macro_meaning::specs::Deed::cut))]
+fn cut(alloc: Global, text: &[u8]) -> Result<&[u8], AllocError>
+    requires { length text.now ≤ 255 }
+    ensures value { IfOk result (λ rest. rest.now ≡ cut text.now) }
+    ensures bound { IfOk result (λ rest. length rest.now ≤ length text.now) }
+{
+    let label = part(text, three_fields(text).label);
+    match sequence_name(alloc, label)? {
+        Some(_) => {
+            let (_, behind) = text.split_at(label.len());
+            Ok(behind)
+        }
+        None => Ok(text),
+    }
+}
+
+/// Whether the MACRO line of a definition in the source stands there.
+fn begins_definition(at: Standing<'_>, of: &SourceLine) -> bool
+    requires { HaveFields of.now.text (line of.now).fields }
+    ensures { result ≡ begins_definition (where_ at.entry) (line of.now) }
+{
+    at.in_source && is_operation(of.part(of.operation), b"MACRO")
+}
+
+/// What a visited line does.
+pub(crate) fn deed_of(alloc: Global, at: Standing<'_>, of: &SourceLine) -> Result<Deed, AllocError>
+    requires { HaveFields of.now.text (line of.now).fields }
+    ensures { IfOk result (λ d. IsDeed (where_ at.entry) (line of.now) (deed d)) }
+{
+    if is_comment(of.text.bytes()) {
+        return Ok(Deed::Rests);
+    }
+    let Some(text) = shown(alloc, at.values, of)? else {
+        return Ok(Deed::Fails(MacroCause::NoSuchSymbol));
+    };
+    if text.len() > 255 {
+        return Ok(Deed::Fails(MacroCause::LineTooLong));
+    }
+    if begins_definition(at, of) {
+        return Ok(Deed::Rests);
+    }
+    let rest = cut(alloc, text.as_slice())?;
+    if is_comment(rest) {
+        return Ok(Deed::Rests);
+    }
+    statement(alloc, at, rest)
+}

@@ -1,0 +1,286 @@
+//! The expansion of a source with macro files.
+
+ghost use Rattle.std.specs.Prelude.{◌≡◌, ◌≤◌, ◌<◌, ◌+◌, ◌++◌, ◌^◌, ◌==◌, [], List, ℕ, map, length, false, Some, None, IfOk, IfErr, OnOk, MatchOption};
+ghost use Rattle.macro_meaning.specs.Deed as deeds;
+ghost use Rattle.macro_meaning.specs.Expansion.{IsExpanded, IsMacroFault, fault_at, file_text_fault, first_in};
+ghost use Rattle.macro_meaning.specs.Visit.{Visit, line_at, given_by, root_by, setting_of, most_visits};
+ghost use Rattle.omf_format.specs.Lines.{lines_of};
+ghost use Rattle.orca_meaning.specs.Line.{HaveFields, numbered};
+ghost use Rattle.orca_macro.specs.DeedView.{deed};
+ghost use Rattle.orca_macro.specs.Files.{texts_of_files, CanRead, lines_from, IsTextFault, AllOwn, first_part_in, definitions_of, IsProgram, HasVisited};
+ghost use Rattle.orca_macro.specs.Parts.{definition, HaveOwn};
+ghost use Rattle.orca_macro.specs.StateView.{StandsIn, Visited};
+ghost use Rattle.orca_text.specs.Refusals.{IsRefused};
+ghost use Rattle.orca_text.specs.View.{line};
+
+use crate::body::Body;
+use crate::deed::{Deed, Standing, deed_of};
+use crate::definitions::{Definition, fault_at, scan_file};
+use crate::frames::State;
+use crate::program::Program;
+use crate::symbols::Values;
+use crate::visits::{Outcome, step};
+use macro_meaning::{MacroCause, MacroFault};
+use orca_text::{Lines, SourceLine, TextCause, TextFault, read_lines};
+use std::alloc::{AllocError, Global};
+
+/// How many lines are visited at most.
+const MOST_VISITS: u32 = 1_000_000;
+
+/// Memory ran out.
+fn no_memory() -> MacroFault
+    ensures { result ≡ record { cause = MacroCause.Memory; file = 0; line = 0 } }
+{
+    MacroFault {
+        cause: MacroCause::Memory,
+        file: 0,
+        line: 0,
+    }
+}
+
+/// A fault of reading.
+fn text_fault(fault: TextFault) -> MacroFault
+    requires { CanRead fault.cause }
+    ensures { (file : ℕ) (source : List ℕ) → IsRefused file source fault → IsTextFault (file_text_fault file source) result }
+{
+    match fault.cause {
+        TextCause::LineTooLong => MacroFault {
+            cause: MacroCause::LineTooLong,
+            file: fault.file,
+            line: fault.line,
+        },
+        TextCause::TooManyLines => MacroFault {
+            cause: MacroCause::TooManyLines,
+            file: fault.file,
+            line: fault.line,
+        },
+        TextCause::Memory => no_memory(),
+        TextCause::BadOperand => unreachable!(),
+        TextCause::BadNumber => unreachable!(),
+    }
+}
+
+/// The lines of a file.
+#[tactic(auto, using(crate::proofs::Whole::can_read))]
+fn read_file(alloc: Global, file: u32, bytes: &[u8]) -> Result<Lines, MacroFault>
+    ensures lines { IfOk result (λ lines. lines ≡ numbered file 1 (lines_of bytes.now)) }
+    ensures good { IfOk result (λ lines. file_text_fault file bytes.now ≡ None) }
+    ensures refused { IfErr result (λ fault. IsTextFault (file_text_fault file bytes.now) fault) }
+{
+    match read_lines(alloc, file, bytes) {
+        Ok(lines) => Ok(lines),
+        Err(fault) => Err(text_fault(fault)),
+    }
+}
+
+/// The lines of the macro files, in order.
+#[tactic(auto, using(crate::proofs::Whole::lines_start, crate::proofs::Whole::lines_more, crate::proofs::Whole::good_more, crate::proofs::Whole::lines_end, crate::proofs::Whole::good_end, crate::proofs::Whole::bad_file))]
+fn read_all(alloc: Global, macros: &[Vec<u8>]) -> Result<Vec<Lines>, MacroFault>
+    ensures lines { IfOk result (λ found. found.items ≡ lines_from 1 (texts_of_files macros.now)) }
+    ensures good { IfOk result (λ found. first_in file_text_fault 1 (texts_of_files macros.now) ≡ None) }
+    ensures refused { IfErr result (λ fault. IsTextFault (first_in file_text_fault 1 (texts_of_files macros.now)) fault) }
+{
+    let mut found = Vec::new(alloc);
+    let mut file: u32 = 1;
+    let mut left = macros;
+    'files: while let Some((bytes, behind)) = left.split_first() {
+        let lines = match read_file(alloc, file, bytes.as_slice()) {
+            Ok(lines) => lines,
+            Err(fault) => return Err(fault),
+        };
+        match found.push(lines) {
+            Ok(()) => {}
+            Err(_) => return Err(no_memory()),
+        }
+        file = file.saturating_add(1);
+        left = behind;
+    }
+    Ok(found)
+}
+
+/// Adds the definitions of the macro files to others, unless one has a fault.
+#[tactic(auto, using(crate::proofs::Whole::scan_more, crate::proofs::Whole::scan_good, crate::proofs::Whole::scan_bad, crate::proofs::Whole::scan_end, crate::proofs::Whole::scan_all_good))]
+fn scan_all(
+    alloc: Global,
+    macros: &[Lines],
+    definitions: &mut Vec<Definition>,
+) -> Result<Option<MacroFault>, AllocError>
+    requires { AllOwn macros.now }
+    ensures { IfOk result (λ found. MatchOption found
+        ((first_part_in macros.now ≡ None) × (map definition definitions.new.items ≡ map definition definitions.old.items ++ definitions_of macros.now))
+        (λ fault. first_part_in macros.now ≡ Some fault)) }
+{
+    let mut left = macros;
+    'files: while let Some((lines, behind)) = left.split_first() {
+        match scan_file(alloc, false, lines, definitions)? {
+            Ok(_) => {}
+            Err(fault) => return Ok(Some(fault)),
+        }
+        left = behind;
+    }
+    Ok(None)
+}
+
+/// The program of these lines and macros.
+fn built(alloc: Global, plain: Lines, definitions: Vec<Definition>) -> Result<Program, AllocError>
+    ensures { IfOk result (λ program. program ≡ record { source = record { lines = plain; reach = length plain }; definitions = map definition definitions.items }) }
+{
+    let reach = plain.count();
+    let body = Body::of(alloc, plain, reach)?;
+    Program::of(alloc, body, definitions)
+}
+
+/// The definitions of the macro files and the source, and its lines.
+#[tactic(auto, using(crate::proofs::Whole::program_good, crate::proofs::Whole::program_macros_bad, crate::proofs::Whole::program_source_bad))]
+fn program_of(
+    alloc: Global,
+    source: &Lines,
+    macros: &[Lines],
+) -> Result<Result<Program, MacroFault>, AllocError>
+    requires source { HaveOwn source.now }
+    requires macros { AllOwn macros.now }
+    ensures { IfOk result (λ found. IsProgram source.now macros.now found) }
+{
+    let mut definitions: Vec<Definition> = Vec::new(alloc);
+    match scan_all(alloc, macros, &mut definitions)? {
+        Some(fault) => return Ok(Err(fault)),
+        None => {}
+    }
+    match scan_file(alloc, true, source, &mut definitions)? {
+        Ok(plain) => {
+            let program = built(alloc, plain, definitions)?;
+            Ok(Ok(program))
+        }
+        Err(fault) => Ok(Err(fault)),
+    }
+}
+
+/// The line of the source at which the outermost expansion of a line began.
+fn root_of(state: &State, number: u32) -> u32
+    ensures { (before : List Visit) (v : Visit) → StandsIn before v state.now → result ≡ root_by v.caller v.root number }
+{
+    if state.frames.count() == 0 {
+        return number;
+    }
+    state.scope.root
+}
+
+/// What a line does.
+fn deed_at(
+    alloc: Global,
+    program: &Program,
+    state: &State,
+    root: u32,
+    of: &SourceLine,
+) -> Result<Deed, AllocError>
+    requires { HaveFields of.now.text (line of.now).fields }
+    ensures { IfOk result (λ d. (before : List Visit) (v : Visit) → StandsIn before v state.now → root ≡ root_by v.caller v.root (line of.now).number
+        → deeds.IsDeed (setting_of program.now v (line of.now).number) (line of.now) (deed d)) }
+{
+    let at = Standing {
+        program,
+        root,
+        in_source: state.scope.place.is_none(),
+        values: Values {
+            symbols: &state.scope.symbols,
+            texts: &state.texts,
+            calls: &state.calls,
+        },
+    };
+    deed_of(alloc, at, of)
+}
+
+/// The line that a deed gives, behind others.
+fn give(alloc: Global, out: &mut Lines, of: &SourceLine, given: &Deed) -> Result<(), AllocError>
+    requires { length out.old + 1 < 2 ^ 32 }
+    ensures lines { OnOk result (out.new ≡ out.old ++ given_by (line of.now) (deed given.now)) }
+    ensures few { OnOk result (length out.new ≤ length out.old + 1) }
+{
+    match given {
+        Deed::Gives(text) => out.push(alloc, of.file, of.line, text.bytes()),
+        Deed::Rests => Ok(()),
+        Deed::Declares(_, _) => Ok(()),
+        Deed::Sets(_, _, _) => Ok(()),
+        Deed::Goes(_) => Ok(()),
+        Deed::Counts(_) => Ok(()),
+        Deed::Leaves => Ok(()),
+        Deed::Calls(_, _) => Ok(()),
+        Deed::Fails(_) => Ok(()),
+    }
+}
+
+/// Visits a line.
+fn visit(
+    alloc: Global,
+    program: &Program,
+    state: &mut State,
+    of: &SourceLine,
+    out: &mut Lines,
+) -> Result<Outcome, AllocError>
+    requires fields { HaveFields of.now.text (line of.now).fields }
+    requires line { state.old.scope.line + 1 < 2 ^ 32 }
+    requires calls { state.old.calls + 1 < 2 ^ 32 }
+    requires room { length out.old + 1 < 2 ^ 32 }
+    ensures visited { IfOk result (λ outcome. (before : List Visit) (v : Visit) → StandsIn before v state.old → line_at program.now v.macro v.line ≡ Some (line of.now)
+        → (length before == most_visits) ≡ false → Visited program.now before v (line of.now) outcome state.new out.old out.new) }
+    ensures calls { IfOk result (λ outcome. state.new.calls ≤ state.old.calls + 1) }
+    ensures few { IfOk result (λ outcome. length out.new ≤ length out.old + 1) }
+{
+    let root = root_of(state, of.line);
+    let found = deed_at(alloc, program, state, root, of)?;
+    give(alloc, out, of, &found)?;
+    let outcome = step(alloc, program, state, root, found)?;
+    Ok(outcome)
+}
+
+/// The lines that the visits give, or the fault of the first that has one.
+#[tactic(auto, using(crate::proofs::Runs::finished, crate::proofs::Runs::full))]
+fn visit_all(alloc: Global, program: &Program) -> Result<Result<Lines, MacroFault>, AllocError>
+    ensures { IfOk result (λ found. HasVisited program.now found) }
+{
+    let mut out = Lines::new(alloc);
+    let mut state = State::new(alloc)?;
+    let mut count: u32 = 0;
+    'visits: loop {
+        let Some(line) = program.line(state.scope.place, state.scope.line) else {
+            return Ok(Ok(out));
+        };
+        if count == MOST_VISITS {
+            return Ok(Err(fault_at(line, MacroCause::TooManyLines)));
+        }
+        let outcome = visit(alloc, program, &mut state, line, &mut out)?;
+        match outcome {
+            Outcome::Goes => {}
+            Outcome::Ends => return Ok(Ok(out)),
+            Outcome::Stops(cause) => return Ok(Err(fault_at(line, cause))),
+        }
+        count += 1;
+    }
+}
+
+/// The lines to which a source expands with macro files, or the first fault: of reading, macro files in order and then the
+/// source; else of a definition, in the same order; else that of the first visited line that has one.
+pub fn expand(alloc: Global, source: &[u8], macros: &Vec<Vec<u8>>) -> Result<Lines, MacroFault>
+    ensures lines { IfOk result (λ lines. IsExpanded source.now (texts_of_files macros.now.items) lines) }
+    ensures refused { IfErr result (λ fault. IsMacroFault source.now (texts_of_files macros.now.items) fault) }
+{
+    let texts = macros.as_slice();
+    let files = match read_all(alloc, texts) {
+        Ok(files) => files,
+        Err(fault) => return Err(fault),
+    };
+    let lines = match read_file(alloc, 0, source) {
+        Ok(lines) => lines,
+        Err(fault) => return Err(fault),
+    };
+    let parts = files.as_slice();
+    let program = match program_of(alloc, &lines, parts) {
+        Ok(Ok(program)) => program,
+        Ok(Err(fault)) => return Err(fault),
+        Err(_) => return Err(no_memory()),
+    };
+    match visit_all(alloc, &program) {
+        Ok(found) => found,
+        Err(_) => Err(no_memory()),
+    }
+}

@@ -1,0 +1,439 @@
+// What no clause says: that memory is enough, and what the definitions make of sources written out. The lines and faults were
+// worked out by hand.
+use crate::{MacroCause, MacroFault, expand};
+use orca_text::Lines;
+use std::alloc::{AllocError, Global};
+use std::test::Fail;
+
+/// The bytes of files.
+fn files(alloc: Global, texts: &[&str]) -> Result<Vec<Vec<u8>>, AllocError> {
+    let mut all = Vec::new(alloc);
+    for text in texts {
+        all.push(Vec::from_slice(alloc, text.as_bytes())?)?;
+    }
+    Ok(all)
+}
+
+/// The lines, each with its end.
+fn text_of(alloc: Global, lines: &Lines) -> Result<Vec<u8>, AllocError> {
+    let mut text = Vec::new(alloc);
+    for place in 0..lines.count() {
+        if let Some(line) = lines.get(place) {
+            text.extend_from_slice(line.text.bytes())?;
+            text.push(b'\n')?;
+        }
+    }
+    Ok(text)
+}
+
+/// The lines to which a source expands, or its fault.
+fn expanded(
+    alloc: Global,
+    macros: &[&str],
+    source: &str,
+) -> Result<Result<Vec<u8>, MacroFault>, AllocError> {
+    let macros = files(alloc, macros)?;
+    match expand(alloc, source.as_bytes(), &macros) {
+        Ok(lines) => Ok(Ok(text_of(alloc, &lines)?)),
+        Err(fault) => Ok(Err(fault)),
+    }
+}
+
+/// Whether a source expands to this text.
+fn gives(alloc: Global, macros: &[&str], source: &str, want: &str) -> Result<bool, AllocError> {
+    match expanded(alloc, macros, source)? {
+        Ok(text) => Ok(text.as_slice() == want.as_bytes()),
+        Err(_) => Ok(false),
+    }
+}
+
+/// The fault of a source, if it has one.
+fn fault_of(
+    alloc: Global,
+    macros: &[&str],
+    source: &str,
+) -> Result<Option<MacroFault>, AllocError> {
+    match expanded(alloc, macros, source)? {
+        Ok(_) => Ok(None),
+        Err(fault) => Ok(Some(fault)),
+    }
+}
+
+fn fault(cause: MacroCause, file: u32, line: u32) -> Option<MacroFault> {
+    Some(MacroFault { cause, file, line })
+}
+
+/// The files and numbers of the lines to which a source expands.
+fn places(alloc: Global, macros: &[&str], source: &str) -> Result<Vec<(u32, u32)>, AllocError> {
+    let macros = files(alloc, macros)?;
+    let mut found = Vec::new(alloc);
+    let Ok(lines) = expand(alloc, source.as_bytes(), &macros) else {
+        return Ok(found);
+    };
+    for place in 0..lines.count() {
+        if let Some(line) = lines.get(place) {
+            found.push((line.file, line.line))?;
+        }
+    }
+    Ok(found)
+}
+
+/// A text so many times.
+fn repeated(alloc: Global, text: &str, count: u32) -> Result<String, AllocError> {
+    let mut all = String::new(alloc);
+    for _ in 0..count {
+        all.push_str(text)?;
+    }
+    Ok(all)
+}
+
+/// A text between two others.
+fn between(alloc: Global, front: &str, text: &str, behind: &str) -> Result<String, AllocError> {
+    let mut all = String::new(alloc);
+    all.push_str(front)?;
+    all.push_str(text)?;
+    all.push_str(behind)?;
+    Ok(all)
+}
+
+#[test]
+fn symbols_give_way_to_their_texts(rt: HostRuntime) -> Result<(), Fail> {
+    let alloc = rt.alloc();
+    for (line, want) in [
+        (" DC &A", " DC x.y\n"),
+        (" DC &a", " DC x.y\n"),
+        (" DC &A&B&A", " DC x.yx.y\n"),
+        (" DC &A.z", " DC x.yz\n"),
+        (" DC &A..z", " DC x.y.z\n"),
+        (" DC & &_A &1", " DC & &_A &1\n"),
+        (" DC '&A' ; &A", " DC 'x.y' ; x.y\n"),
+        (" DC &C", " DC &A\n"),
+        (" DC L:&A,C:&B", " DC L:x.y,C:\n"),
+        ("&D DC 1", "LAB DC 1\n"),
+        (" &E 5", " DC 5\n"),
+        (" DC &&A", " DC &x.y\n"),
+        ("&B", ""),
+        ("*&A", ""),
+        ("&F", ""),
+    ] {
+        let front =
+            " LCLC &A\n LCLC &B\n LCLC &C\n LCLC &D\n LCLC &E\n LCLC &F\n&A SETC 'x.y'\n&C SETC '&'+'A'\n&D SETC 'LAB'\n&E SETC 'DC'\n&F SETC '* c'\n";
+        let source = between(alloc, front, line, "\n")?;
+        assert!(rt; gives(alloc, &[], source.as_str(), want)?, "{line}");
+    }
+    Ok(())
+}
+
+#[test]
+fn statements_do_what_they_say(rt: HostRuntime) -> Result<(), Fail> {
+    let alloc = rt.alloc();
+    for (source, want) in [
+        ("", ""),
+        (
+            "* c\n LDA 5 x\nL ANOP\n ANOP\n.S ANOP\nLAB\n.T NOP\n",
+            " LDA 5 x\nL ANOP\nLAB\n NOP\n",
+        ),
+        (
+            " LCLA &A\n LCLB &B\n LCLC &C\n DC &A,&B,'&C'\n",
+            " DC 0,0,''\n",
+        ),
+        (
+            " GBLA &A\n GBLB &B\n GBLC &C\n DC &A,&B,'&C'\n",
+            " DC 0,0,''\n",
+        ),
+        (" LCLA &A\n&A SETA 2-5\n LCLA &A\n DC &A\n", " DC -3\n"),
+        (
+            " LCLA &A\n&A SETA 4294967295\n DC &A\n&A SETA 2147483648\n DC &A\n",
+            " DC -1\n DC -2147483648\n",
+        ),
+        (
+            " LCLC &B\n LCLA &A\n&B SETC 'a'+\"b,c\"\n&A SETA L:&B\n DC &A,&B\n",
+            " DC 4,ab,c\n",
+        ),
+        (
+            " LCLC &B\n&B AMID 'hello',2,3\n DC '&B'\n&B AMID 'hello',5,9\n DC '&B'\n&B AMID 'hello',9,1\n DC '&B'\n",
+            " DC 'ell'\n DC 'o'\n DC ''\n",
+        ),
+        (" LCLC &B\n&B AMID 'hello',1,0\n DC '&B'\n", " DC ''\n"),
+        (
+            " LCLB &B\n&B SETB 'longer'='longer'\n DC &B\n&B SETB 7\n DC &B\n&B SETB 'a'<>'a'\n DC &B\n",
+            " DC 1\n DC 1\n DC 0\n",
+        ),
+        (
+            " LCLC &X\n LCLA &A\n&A SETA C:&X\n DC &A\n&X SETC 'q'\n&A SETA C:&X+1\n DC &A\n",
+            " DC 0\n DC 2\n",
+        ),
+        (
+            " AGO ^.X\n LDA 1\n.x ANOP\n AIF 'a'='b',.Y\n LDA 2\n.Y ANOP\n MEXIT\n LDA 3\n",
+            " LDA 2\n",
+        ),
+        (" NOP\n MEND\n LDA 3\n", " NOP\n"),
+        (
+            " ACTR 2\n LCLA &A\n.X ANOP\n&A SETA &A+1\n DC &A\n AIF &A<3,.X\n",
+            " DC 1\n DC 2\n DC 3\n",
+        ),
+        (" MNOTE 'x',7\n MNOTE 'x',0-1\n NOP\n", " NOP\n"),
+        (" DC &SYSCNT\n", " DC 0\n"),
+        (" FOO\n MACRO\n FOO\n NOP\n MEND\n FOO\n", " FOO\n NOP\n"),
+    ] {
+        assert!(rt; gives(alloc, &[], source, want)?, "{source}");
+    }
+    Ok(())
+}
+
+#[test]
+fn macros_are_expanded(rt: HostRuntime) -> Result<(), Fail> {
+    let alloc = rt.alloc();
+    let times =
+        " MACRO\n TIMES &N\n LCLA &I\n.A ANOP\n&I SETA &I+1\n DC I1'&I'\n AIF &I<&N,.A\n MEND\n";
+    let putw =
+        " MACRO\n&LAB PUTW &V,&ADR\n AIF C:&V=0,.SKIP\n&LAB LDA #&V\n STA &ADR\n.SKIP ANOP\n MEND\n";
+    for (macros, source, want) in [
+        (
+            times,
+            "M START\n TIMES 3\n END\n",
+            "M START\n DC I1'1'\n DC I1'2'\n DC I1'3'\n END\n",
+        ),
+        (
+            putw,
+            " PUTW 7,COUNT\nX PUTW ,Y\nX putw adr=Z,9\n",
+            " LDA #7\n STA COUNT\nX LDA #9\n STA Z\n",
+        ),
+        (
+            " MACRO\n IN\n DC &SYSCNT\n MEND\n MACRO\n OUT\n IN\n DC &SYSCNT\n MEND\n",
+            " DC &SYSCNT\n OUT\n DC &SYSCNT\n",
+            " DC 0\n DC 2\n DC 2\n DC 2\n",
+        ),
+        (
+            " MACRO\n FOO &A\n LDA &A\n MEND\n MACRO\n FOO &A\n STA &A\n MEND\n",
+            " FOO (1,2)\n",
+            " LDA (1,2)\n",
+        ),
+        (
+            " MACRO\n FOO &A,&B\n DC '&A','&B'\n MEND\n",
+            " FOO 'a,b',c\n FOO\n FOO b=1,2\n FOO ,3\n",
+            " DC ''a,b'','c'\n DC '',''\n DC '2','1'\n DC '','3'\n",
+        ),
+        (
+            " MACRO\n SH\n GBLA &G\n&G SETA &G+1\n MEND\n",
+            " GBLA &G\n SH\n SH\n DC &G\n",
+            " DC 2\n",
+        ),
+        (" MACRO\n NOP &A\n DC &A\n MEND\n", " NOP 5\n", " DC 5\n"),
+        (" MACRO\n K &A\n&A\n NOP\n MEND\n", " K ;x\n", " NOP\n"),
+        (
+            " MACRO\n K\n AIF 1,.E\n NOP\n.E MEXIT\n NOP\n MEND\n",
+            " K\n LDA 1\n",
+            " LDA 1\n",
+        ),
+        (
+            " MACRO\n LOOP\n ACTR 1\n AGO .X\n.X ANOP\n MEND\n",
+            " ACTR 1\n LOOP\n AGO .Y\n.Y NOP\n",
+            " NOP\n",
+        ),
+    ] {
+        assert!(rt; gives(alloc, &[macros], source, want)?, "{source}");
+    }
+    let first = " MACRO\n A\n DC 1\n MEND\n";
+    let second = " MACRO\n A\n DC 2\n MEND\n";
+    assert!(rt; gives(alloc, &[first, second], " A\n", " DC 1\n")?);
+    assert!(rt; gives(alloc, &[second, first], " A\n", " DC 2\n")?);
+    Ok(())
+}
+
+#[test]
+fn lines_keep_their_places(rt: HostRuntime) -> Result<(), Fail> {
+    let alloc = rt.alloc();
+    let one = " MACRO\n A\n\n DC 1\n B\n MEND\n";
+    let two = "*\n MACRO\n B\n DC 2\n MEND\n";
+    let found = places(alloc, &[one, two], " NOP\n A\n NOP\n")?;
+    assert_eq!(rt;
+        found.as_slice(),
+        [(0, 1), (1, 4), (2, 4), (0, 3)].as_slice()
+    );
+    Ok(())
+}
+
+#[test]
+fn first_faults_are_answered(rt: HostRuntime) -> Result<(), Fail> {
+    let alloc = rt.alloc();
+    for (macros, source, want) in [
+        ("", " AGO .X\n", fault(MacroCause::NoSequenceSymbol, 0, 1)),
+        (
+            "",
+            ".X ANOP\n AGO .X\n.X ANOP\n",
+            fault(MacroCause::NoSequenceSymbol, 0, 2),
+        ),
+        ("", " AIF 1,.Y\n", fault(MacroCause::NoSequenceSymbol, 0, 1)),
+        ("", " AIF 0,.Y\n", None),
+        ("", ".X AGO .X\n", fault(MacroCause::Counter, 0, 1)),
+        (
+            "",
+            " ACTR 0\n AGO .X\n.X ANOP\n",
+            fault(MacroCause::Counter, 0, 2),
+        ),
+        ("", " DC &X\n", fault(MacroCause::NoSuchSymbol, 0, 1)),
+        ("", "&X SETA 1\n", fault(MacroCause::NoSuchSymbol, 0, 1)),
+        (
+            "",
+            " AIF L:&X=0,.A\n",
+            fault(MacroCause::NoSuchSymbol, 0, 1),
+        ),
+        (
+            "",
+            " LCLA &X\n LCLB &X\n",
+            fault(MacroCause::BadSetting, 0, 2),
+        ),
+        (
+            "",
+            " LCLA &X\n GBLA &X\n",
+            fault(MacroCause::BadSetting, 0, 2),
+        ),
+        (
+            "",
+            " LCLA &X\n&X SETB 1\n",
+            fault(MacroCause::BadSetting, 0, 2),
+        ),
+        (
+            "",
+            " LCLA &X\n&X SETA 1/0\n",
+            fault(MacroCause::BadSetting, 0, 2),
+        ),
+        (
+            "",
+            " LCLA &X\n&X SETA A\n",
+            fault(MacroCause::BadSetting, 0, 2),
+        ),
+        (
+            "",
+            " LCLC &X\n&X AMID 'a',0,1\n",
+            fault(MacroCause::BadSetting, 0, 2),
+        ),
+        (
+            "",
+            " LCLC &X\n&X AMID 'a',1,0-1\n",
+            fault(MacroCause::BadSetting, 0, 2),
+        ),
+        ("", " LCLA &SYSCNT\n", fault(MacroCause::BadSetting, 0, 1)),
+        ("", "&SYSCNT SETA 1\n", fault(MacroCause::BadSetting, 0, 1)),
+        ("", " MNOTE 'x',8\n", fault(MacroCause::Noted(8), 0, 1)),
+        (
+            " MACRO\n Q\n GBLB &G\n MEND\n",
+            " GBLA &G\n Q\n",
+            fault(MacroCause::BadSetting, 1, 3),
+        ),
+        (
+            " MACRO\n Q\n DC &V\n MEND\n",
+            " LCLA &V\n Q\n",
+            fault(MacroCause::NoSuchSymbol, 1, 3),
+        ),
+        (
+            " MACRO\n R\n R\n MEND\n",
+            " R\n",
+            fault(MacroCause::TooNested, 1, 3),
+        ),
+        (" MACRO\n R\n", " R\n", fault(MacroCause::Unclosed, 1, 1)),
+        (
+            " MACRO\n R &A,\n MEND\n",
+            "",
+            fault(MacroCause::BadArguments, 1, 2),
+        ),
+        (" MACRO\n MEND\n", "", fault(MacroCause::BadArguments, 1, 2)),
+        (
+            " MACRO\n R &A\n MEND\n",
+            " R 1,2\n",
+            fault(MacroCause::BadArguments, 0, 1),
+        ),
+        (
+            " MACRO\n R &A\n MEND\n",
+            " R 1,A=2\n",
+            fault(MacroCause::BadArguments, 0, 1),
+        ),
+        (
+            " MACRO\n R &SYSCNT\n MEND\n",
+            " R 1\n",
+            fault(MacroCause::BadSetting, 0, 1),
+        ),
+    ] {
+        assert_eq!(rt; fault_of(alloc, &[macros], source)?, want, "{source}");
+    }
+    Ok(())
+}
+
+#[test]
+fn faults_come_in_order(rt: HostRuntime) -> Result<(), Fail> {
+    let alloc = rt.alloc();
+    let long = repeated(alloc, "x", 256)?;
+    let open = " MACRO\n";
+    let long_source = fault_of(alloc, &[open], long.as_str())?;
+    assert_eq!(rt; long_source, fault(MacroCause::LineTooLong, 0, 1));
+    let long_macros = fault_of(alloc, &[open, long.as_str()], long.as_str())?;
+    assert_eq!(rt; long_macros, fault(MacroCause::LineTooLong, 2, 1));
+    let opened = fault_of(alloc, &["", open], " AGO .X\n MACRO\n")?;
+    assert_eq!(rt; opened, fault(MacroCause::Unclosed, 2, 1));
+    let source = fault_of(alloc, &[""], " AGO .X\n MACRO\n")?;
+    assert_eq!(rt; source, fault(MacroCause::Unclosed, 0, 2));
+    Ok(())
+}
+
+#[test]
+fn limits_are_reached_and_not_passed(rt: HostRuntime) -> Result<(), Fail> {
+    let alloc = rt.alloc();
+    let front = " LCLC &A\n&A SETC '";
+    let name = repeated(alloc, "x", 125)?;
+    let short = between(alloc, front, name.as_str(), "'\n &A&A\n")?;
+    assert_eq!(rt; fault_of(alloc, &[], short.as_str())?, None);
+    let long = between(alloc, front, name.as_str(), "'\n    &A.x&A\n")?;
+    assert_eq!(rt; fault_of(alloc, &[], long.as_str())?, None);
+    let longer = between(alloc, front, name.as_str(), "'\n    &A.xx&A\n")?;
+    assert_eq!(rt;
+        fault_of(alloc, &[], longer.as_str())?,
+        fault(MacroCause::LineTooLong, 0, 3)
+    );
+    let branches = " LCLA &I\n.A ANOP\n&I SETA &I+1\n AIF &I<";
+    assert_eq!(rt;
+        fault_of(
+            alloc,
+            &[],
+            between(alloc, branches, "256", ",.A\n")?.as_str()
+        )?,
+        None
+    );
+    let spent = fault_of(
+        alloc,
+        &[],
+        between(alloc, branches, "257", ",.A\n")?.as_str(),
+    )?;
+    assert_eq!(rt; spent, fault(MacroCause::Counter, 0, 4));
+    let nested = " MACRO\n R &N\n LCLA &M\n&M SETA &N-1\n AIF &M=0,.E\n R &M\n.E ANOP\n MEND\n";
+    assert_eq!(rt; fault_of(alloc, &[nested], " R 32\n")?, None);
+    assert_eq!(rt;
+        fault_of(alloc, &[nested], " R 33\n")?,
+        fault(MacroCause::TooNested, 1, 6)
+    );
+    Ok(())
+}
+
+#[test]
+fn a_source_of_its_most_lines_is_read(rt: HostRuntime) -> Result<(), Fail> {
+    let alloc = rt.alloc();
+    let most = repeated(alloc, "\n", 65536)?;
+    assert_eq!(rt; fault_of(alloc, &[], most.as_str())?, None);
+    let more = between(alloc, most.as_str(), "\n", "")?;
+    let found = fault_of(alloc, &[], more.as_str())?;
+    assert_eq!(rt; found, fault(MacroCause::TooManyLines, 0, 65537));
+    Ok(())
+}
+
+#[test]
+fn a_million_lines_are_visited(rt: HostRuntime) -> Result<(), Fail> {
+    let alloc = rt.alloc();
+    // Two lines, then three visits a pass, and the lines behind the loop.
+    let front = " ACTR 600000\n LCLA &I\n.A ANOP\n&I SETA &I+1\n AIF &I<";
+    let most = between(alloc, front, "333332", ",.A\n ANOP\n ANOP\n")?;
+    assert_eq!(rt; fault_of(alloc, &[], most.as_str())?, None);
+    let more = between(alloc, front, "333332", ",.A\n ANOP\n ANOP\n ANOP\n")?;
+    let found = fault_of(alloc, &[], more.as_str())?;
+    assert_eq!(rt; found, fault(MacroCause::TooManyLines, 0, 8));
+    Ok(())
+}
