@@ -8,3 +8,4 @@ pub mod RowLoops
 pub mod ReadLaws
 pub mod LayoutLaws
 pub mod LayoutReads
+pub mod RowCounts
