@@ -448,14 +448,14 @@ long_is (Equate global name size form private expr) bytes e = absurd cc
 long_is (Formula code count n expr) bytes e = absurd cc
 long_is (Entry segment offset name) bytes e = absurd cc
 
-record InParts (s : Segment) (others : List Segment) (first second third : List ℕ) (rows : List Row) : Type 0 where
-  numbers : List ℕ
-  files : AreFileNumbers numbers first
-  names : List (List ℕ)
-  named : AreNames names third
-  rows' : AreRows (s ∷ others) numbers names rows second
+pub record InParts (s : Segment) (others : List Segment) (first second third : List ℕ) (rows : List Row) : Type 0 where
+  pub numbers : List ℕ
+  pub files : AreFileNumbers numbers first
+  pub names : List (List ℕ)
+  pub named : AreNames names third
+  pub rows' : AreRows (s ∷ others) numbers names rows second
 
-in_parts : (s : Segment) (others : List Segment) (at : ℕ) (first second third : List ℕ) (rows : List Row) → rows_in s.start at first second third others ≡ Ok rows → InParts s others first second third rows
+pub in_parts : (s : Segment) (others : List Segment) (at : ℕ) (first second third : List ℕ) (rows : List Row) → rows_in s.start at first second third others ≡ Ok rows → InParts s others first second third rows
 unfolding rows_in
 in_parts s others at first second third rows e =
     let one = bind_ok (or_false s.start (file_numbers (length first) first)) _ rows e in

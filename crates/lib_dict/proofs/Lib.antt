@@ -14,3 +14,4 @@ pub mod SizeLaws
 pub mod MovedLaws
 pub mod BorneLaws
 pub mod MadeLaws
+pub mod RowCounts

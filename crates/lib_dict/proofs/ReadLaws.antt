@@ -159,11 +159,11 @@ false_rows list file s parts dict.Memory is here form has bad = tt
 
 -- ---- the places of rows fit 32 bits
 
-left_within : (start : ℕ) (f : Fields) (file : List ℕ) → length (body_reader start f file).left ≤ (body_reader start f file).end
+pub left_within : (start : ℕ) (f : Fields) (file : List ℕ) → length (body_reader start f file).left ≤ (body_reader start f file).end
 unfolding body_reader
 left_within start f file = omega (arith, length-drop (start + f.disp_data) (take (start + f.byte_count) file), length-take (start + f.byte_count) file)
 
-end_is : (start : ℕ) (f : Fields) (file : List ℕ) → (body_reader start f file).end ≡ start + f.byte_count
+pub end_is : (start : ℕ) (f : Fields) (file : List ℕ) → (body_reader start f file).end ≡ start + f.byte_count
 unfolding body_reader
 end_is start f file = refl
 

@@ -1,6 +1,6 @@
 //! Reading the dictionary of a library.
 
-ghost use Rattle.std.specs.Prelude.{◌≡◌, ◌<◌, ◌+◌, ◌^◌, length, drop, IfOk, IfErr};
+ghost use Rattle.std.specs.Prelude.{◌≡◌, ◌<◌, ◌≤◌, ◌+◌, ◌*◌, ◌^◌, length, drop, IfOk, IfErr};
 ghost use Rattle.omf_format.specs.File.{IsFile};
 ghost use Rattle.omf_records.specs.Segments.{IsRefused};
 ghost use Rattle.link_meaning.specs.Dictionary.{rows_in};
@@ -78,6 +78,7 @@ fn rows_in<'a>(
 pub fn read_dictionary<'a>(alloc: Global, file: &'a [u8]) -> Result<Dictionary<'a>, DictFault>
     requires { length file.now < 2 ^ 32 }
     ensures rows { IfOk result (λ dictionary. HasRows file.now dictionary) }
+    ensures few { IfOk result (λ dictionary. 12 * length dictionary ≤ length file.now) }
     ensures refused { IfErr result (λ fault. HasNoRows fault file.now) }
 {
     let list = match segments(alloc, file) {

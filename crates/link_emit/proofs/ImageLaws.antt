@@ -125,3 +125,7 @@ pub none_left : (out all : List ℕ) (headers : List Header) (contents : List Co
 unfolding file_text
 none_left out all [] contents none whole = sym (append-nil out) ∙ whole
 none_left out all (h ∷ headers) contents none whole = absurd (omega (arith, none))
+
+pub on_ok : {A E : Type 0} → (r : Result A E) (P Q : Type 0) → (P → Q) → OnOk r P → OnOk r Q
+on_ok (Ok x) P Q f p = f p
+on_ok (Err e) P Q f p = p

@@ -4,3 +4,4 @@ pub mod ImageLaws
 pub mod PutLaws
 pub mod FileLaws
 pub mod LoadLaws
+pub mod RecordLaws

@@ -3,3 +3,4 @@ pub mod Contents
 pub mod Images
 pub mod Puts
 pub mod Plain
+pub mod Records

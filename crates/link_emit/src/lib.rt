@@ -8,6 +8,7 @@ mod fit;
 mod image;
 mod plain;
 mod put;
+mod record;
 
 pub use content::Content;
 pub use file::file_of;
@@ -15,3 +16,7 @@ pub use fit::{Fit, Formula, Frame, Load, fitted};
 pub use image::{ImageFault, put_image, put_images};
 pub use plain::put_plain;
 pub use put::put_formula;
+pub use record::{Site, put_record};
+
+#[cfg(test)]
+mod tests;

@@ -205,7 +205,7 @@ one_member list e f at to p q same = settle (parted p.front e.member p.back q.fr
 found_of : ℕ → Member → Definition → Found
 found_of place member definition = record { place = place; member = member; definition = definition }
 
-passes_filter : {A : Type 0} → (p : A → Bool) (xs : List A) (x : A) → IsIn (Rattle.std.specs.Prelude.filter p xs) x → p x ≡ true
+pub passes_filter : {A : Type 0} → (p : A → Bool) (xs : List A) (x : A) → IsIn (Rattle.std.specs.Prelude.filter p xs) x → p x ≡ true
 passes_filter p [] x is = absurd is
 passes_filter {A} p (y ∷ ys) x is = by_test (p y) refl is (λ more. passes_filter p ys x more)
   where

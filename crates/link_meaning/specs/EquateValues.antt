@@ -41,3 +41,8 @@ NoneOnRing = (list : List Member) (e : Found) (a : Result Value ValueFault) → 
 abbrev pub TableOfValues : Type 0
 TableOfValues = (files : List (List ℕ)) (list : List Member) (table : List Told) → AllByRecursion IsBytes files → IsResolved files list
     → TellValues list (equates list) table ↔ IsTable list table
+
+-- Where no equate of resolved files leads back to itself they have a table of values.
+abbrev pub TableWithoutRings : Type 0
+TableWithoutRings = (files : List (List ℕ)) (list : List Member) → AllByRecursion IsBytes files → IsResolved files list
+    → ((e : Found) → IsIn (equates list) e → IsCircular list e → ⊥) → (table : List Told) × IsTable list table

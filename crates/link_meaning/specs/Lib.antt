@@ -35,3 +35,4 @@ pub mod EquateValues
 pub mod EquateValueLaws
 pub mod EquatePlaces
 pub mod LinkedWalk
+pub mod EquateTables

@@ -2,7 +2,7 @@
 
 ghost use Rattle.link_meaning.specs.LinkWritten.{LinkedStandsFor};
 ghost use Rattle.link_meaning.specs.EmitFaults.{OneLinkAnswer, OneEmitAnswer, LinkAnswersAsEmit, MadeWhereSound, LinkableStandsFor};
-ghost use Rattle.link_meaning.specs.EquateValues.{OneValue, NoneOnRing, TableOfValues};
+ghost use Rattle.link_meaning.specs.EquateValues.{OneValue, NoneOnRing, TableOfValues, TableWithoutRings};
 
 /// The file that the linker writes is a file of the load segments and the table, and each of them stands for its linked
 /// cells.
@@ -30,9 +30,10 @@ pub fn linkable_files_stand_for_their_cells()
 {}
 
 /// An equate has one value at most, and none where it leads back to itself; the values of all equates of resolved files are
-/// their table.
+/// their table, which is there where no equate leads back to itself.
 pub fn equates_have_one_value()
     ensures one { OneValue }
     ensures none_on_ring { NoneOnRing }
     ensures table { TableOfValues }
+    ensures without_rings { TableWithoutRings }
 {}

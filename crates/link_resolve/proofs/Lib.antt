@@ -16,3 +16,14 @@ pub mod ResolvingLaws
 pub mod FileRefusals
 pub mod OfferLaws
 pub mod WantedLaws
+pub mod LibraryLaws
+pub mod OpeningLaws
+pub mod GrowLaws
+pub mod GatherLaws
+pub mod LoadNames
+pub mod LaidLaws
+pub mod PhaseLaws
+pub mod AmongLaws
+pub mod LayoutFaults
+pub mod ProgramLaws
+pub mod ResolveLaws

@@ -1,11 +1,11 @@
 -- One more member of the linked list.
-use Rattle.std.proofs.Common.{◌≡◌, ℕ, zero, suc, ◌+◌, List, [], ◌∷◌, ◌++◌, length, map, drop, Some, refl, sym, ap, subst, ◌∙◌, append_assoc, append-nil, arith}
+use Rattle.std.proofs.Common.{◌≡◌, ℕ, zero, suc, ◌+◌, ◌-◌, ◌≤◌, ◌<◌, Option, None, List, [], ◌∷◌, ◌++◌, length, map, drop, Some, refl, sym, ap, subst, ◌∙◌, append_assoc, append-nil, arith}
 use Rattle.std.specs.Prelude.{slice_get, option_map}
 use Rattle.std.specs.List.{flat_map}
 use Rattle.std.specs.Borrow.{Bor}
 use Rattle.std.proofs.Math.Seq.{drop-append_seam}
 use Rattle.std.proofs.lemmas.List.{map-append, length-map}
-use Rattle.std.proofs.lemmas.Option.{slice_get-map}
+use Rattle.std.proofs.lemmas.Option.{slice_get-map, slice_get_within}
 use Rattle.std.proofs.lemmas.List.Concat.{flat_map-cons}
 use Rattle.omf_format.specs.File.{Segment}
 use Rattle.link_meaning.specs.Member.{Member}
@@ -20,11 +20,11 @@ use Rattle.link_resolve.specs.declared.linked.Linked.{Linked}
 use Rattle.link_resolve.specs.Names.{Indexes}
 use Rattle.link_resolve.specs.Definitions.{AreDefinitions, IsOf, founds_in}
 use Rattle.link_resolve.specs.Uses.{use_of, told_use, at_place}
-use Rattle.link_resolve.specs.Linked.{names_of, ToldMember, kept_member, told_member, place_rows, Holds, GainsTitle}
+use Rattle.link_resolve.specs.Linked.{names_of, ToldMember, kept_member, told_member, place_rows, Holds, GainsTitle, OriginOf, member_at}
 
 -- ---- lists
 
-entries_from-snoc : (defines : Segment → List Definition) (place : ℕ) (list : List Member) (m : Member) → entries_from defines place (list ++ m ∷ []) ≡ entries_from defines place list ++ founds_in (place + length list) m (defines m.segment)
+pub entries_from-snoc : (defines : Segment → List Definition) (place : ℕ) (list : List Member) (m : Member) → entries_from defines place (list ++ m ∷ []) ≡ entries_from defines place list ++ founds_in (place + length list) m (defines m.segment)
 entries_from-snoc defines place [] m =
     let same : place ≡ place + 0 = omega arith in
     append-nil (founds_in place m (defines m.segment)) ∙ ap (λ (p : ℕ). founds_in p m (defines m.segment)) same
@@ -33,10 +33,10 @@ entries_from-snoc defines place (x ∷ list) m =
     ap (λ (l : List Found). founds_in place x (defines x.segment) ++ l) (entries_from-snoc defines (place + 1) list m ∙ ap (λ (p : ℕ). entries_from defines (place + 1) list ++ founds_in p m (defines m.segment)) same)
     ∙ sym (append_assoc (founds_in place x (defines x.segment)) (entries_from defines (place + 1) list) (founds_in (place + suc (length list)) m (defines m.segment)))
 
-abbrev uses_at : ℕ → Member → List Use → List Asked
+abbrev pub uses_at : ℕ → Member → List Use → List Asked
 uses_at place m uses = map (λ u. record { place = place; member = m; use' = u }) uses
 
-asked_from-snoc : (place : ℕ) (list : List Member) (m : Member) → asked_from place (list ++ m ∷ []) ≡ asked_from place list ++ uses_at (place + length list) m (uses_of m.segment)
+pub asked_from-snoc : (place : ℕ) (list : List Member) (m : Member) → asked_from place (list ++ m ∷ []) ≡ asked_from place list ++ uses_at (place + length list) m (uses_of m.segment)
 asked_from-snoc place [] m =
     let same : place ≡ place + 0 = omega arith in
     append-nil (uses_at place m (uses_of m.segment)) ∙ ap (λ (p : ℕ). uses_at p m (uses_of m.segment)) same
@@ -146,3 +146,36 @@ member_is list kept k m x holds at there =
 
 pub member_of : (m : Member) (x : LinkedMember) → kept_member x ≡ told_member m → IsOf m x.origin
 member_of m x is = (sym (ap (λ (t : ToldMember). t.file) is), sym (ap (λ (t : ToldMember). t.number) is), sym (ap (λ (t : ToldMember). t.from) is))
+
+-- ---- where a member comes from
+
+place_as : (place : ℕ) → 0 < place → (k : ℕ) × (place ≡ suc k)
+place_as zero some = absurd (omega arith)
+place_as (suc k) some = (k, refl)
+
+pub origin_some : (list : List Member) (kept : Linked) (place : ℕ) (x : LinkedMember) → Holds list kept → 0 < place → slice_get kept.members.items (place - 1) ≡ Some x → OriginOf (member_at list place) (Some x.origin)
+origin_some list kept place x holds some there =
+    let p = place_as place some in
+    let less : place - 1 ≡ p.0 = omega (arith, p.1) in
+    let at : slice_get kept.members.items p.0 ≡ Some x = ap (slice_get kept.members.items) (sym less) ∙ there in
+    subst (λ (n : ℕ). OriginOf (member_at list n) (Some x.origin)) (sym p.1) (settle (slice_get list p.0) p.0 refl at)
+  where
+    settle : (o : Option Member) → (k : ℕ) → slice_get list k ≡ o → slice_get kept.members.items k ≡ Some x → OriginOf o (Some x.origin)
+    settle None k e at =
+        let clash : None ≡ Some (kept_member x) =
+        sym (ap (option_map told_member) e) ∙ sym (slice_get-map told_member list k) ∙ sym (ap (λ (l : List ToldMember). slice_get l k) holds.members)
+        ∙ slice_get-map kept_member kept.members.items k ∙ ap (option_map kept_member) at in
+        cc
+    settle (Some m) k e at = member_of m x (member_is list kept k m x holds e at)
+
+pub origin_none : (list : List Member) (kept : Linked) (place : ℕ) → Holds list kept → 0 < place → length kept.members.items ≤ place - 1 → OriginOf (member_at list place) None
+origin_none list kept place holds some past =
+    let p = place_as place some in
+    subst (λ (n : ℕ). OriginOf (member_at list n) None) (sym p.1) (settle (slice_get list p.0) refl)
+  where
+    settle : (o : Option Member) → slice_get list (place_as place some).0 ≡ o → OriginOf o None
+    settle None e = tt
+    settle (Some m) e =
+        let p = place_as place some in
+        let within = slice_get_within list p.0 m e in
+        absurd (omega (arith, within, past, p.1, count_is list kept holds))

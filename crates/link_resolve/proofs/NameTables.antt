@@ -35,7 +35,7 @@ looked_up rows names key found ix is =
 
 -- ---- one key, and one more row
 
-step_same : (s t : Step) → is_step s t ≡ true → s ≡ t
+pub step_same : (s t : Step) → is_step s t ≡ true → s ≡ t
 step_same (Within p) (Within q) e = ap Within (eqb-true p q e)
 step_same (Within p) (OfUnit file from) e = absurd cc
 step_same (Within p) Everyone e = absurd cc

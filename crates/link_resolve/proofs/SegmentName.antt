@@ -56,3 +56,17 @@ name_lies start f file is inside =
     let room : start + from_by (g.lab_len == 0) at + length g.name ≤ length file = omega (arith, ends, few, length-drop (from_by (g.lab_len == 0) at) bytes, length-drop start file, inside) in
     let lies : Lies start g file = record { text = whole; within = room } in
     subst (λ (x : Fields). Lies start x file) (sym is.fields) lies
+
+-- LOADNAME lies there, and ends in the file
+pub load_name_lies : (start : ℕ) (f : Fields) (file : List ℕ) → IsHeader start f file → start ≤ length file
+    → (take 10 (drop (start + f.disp_name) file) ≡ f.load_name) × (start + f.disp_name + 10 ≤ length file)
+unfolding fields_of names_end
+load_name_lies start f file is inside =
+    let bytes = drop start file in
+    let g = fields_of bytes in
+    let sound = sound_from_none bytes is.passes in
+    let moved = drop_twice start g.disp_name file in
+    let text : take 10 (drop (start + g.disp_name) file) ≡ g.load_name = ap (take 10) moved in
+    let room : start + g.disp_name + 10 ≤ length file = omega (arith, sound.names, sound.data', sound.whole, length-drop start file, inside) in
+    let P : Fields → Type 0 = λ x. (take 10 (drop (start + x.disp_name) file) ≡ x.load_name) × (start + x.disp_name + 10 ≤ length file) in
+    subst P (sym is.fields) (text, room)

@@ -1,5 +1,5 @@
 -- Tables of titles, and one more title.
-use Rattle.std.proofs.Common.{◌≡◌, ℕ, Bool, List, [], ◌∷◌, ◌++◌, None, refl, sym, ap, subst, ◌∙◌, append-nil}
+use Rattle.std.proofs.Common.{◌≡◌, inl, inr, ℕ, Bool, List, [], ◌∷◌, ◌++◌, None, refl, sym, ap, subst, ◌∙◌, append-nil}
 use Rattle.std.specs.Prelude.{if◌then◌else◌}
 use Rattle.std.proofs.lemmas.Bool.{eq-eqb, ne_eqb}
 use Rattle.std.proofs.lemmas.List.{map-append}
@@ -7,12 +7,16 @@ use Rattle.omf_format.specs.Header.{form_of, is_private}
 use Rattle.omf_format.specs.File.{Segment}
 use Rattle.link_meaning.specs.declared.search.Step.{Step}
 use Rattle.link_meaning.specs.Defines.{Definition, outer_scope, title_of, data_title_of}
-use Rattle.link_meaning.specs.Search.{Found, step_for}
+use Rattle.link_meaning.specs.Member.{Member}
+use Rattle.link_meaning.specs.Search.{Found, step_for, finds_data}
+use Rattle.link_resolve.specs.declared.names.Outcome.{Outcome}
+use Rattle.link_resolve.specs.declared.names.Outcome.TheVariants.{Nothing, One, Several}
+use Rattle.link_resolve.specs.Opening.{OpensNothing}
 use Rattle.link_resolve.specs.declared.names.Names.{Names}
 use Rattle.link_resolve.specs.declared.definitions.Origin.{Origin}
 use Rattle.link_resolve.specs.Names.{Named, Row, Indexes}
 use Rattle.link_resolve.specs.Definitions.{key_of_found, founds_in}
-use Rattle.link_resolve.specs.Linked.{place_rows, GainsTitle}
+use Rattle.link_resolve.specs.Linked.{place_rows, GainsTitle, SeesPlace}
 
 none_gained : (titles : Names) (origin : Origin) (place : ℕ) (ds : List Definition) → ds ≡ [] → GainsTitle titles titles origin place ds
 none_gained titles origin place ds none fs m of ix =
@@ -67,3 +71,51 @@ gained old new origin place s form name private step is data' named some hidden 
         let rows : place_rows fs ++ (key_as step name, place) ∷ [] ≡ place_rows (fs ++ f ∷ []) =
         ap (λ (k : Named). place_rows fs ++ (k, place) ∷ []) key ∙ sym (map-append (λ (x : Found). (key_of_found x, x.place)) fs (f ∷ [])) in
         subst (λ (l : List Row). Indexes l new) rows (more (place_rows fs) ix)
+
+-- ---- whether a member may open a use again
+
+title_is : (s : Segment) (form : ℕ) (name : List ℕ) → form ≡ form_of s.fields.kind → form ≡ 0x01 → name ≡ s.fields.name → (name ≡ [] → ⊥) → (d : Definition) × (data_title_of s ≡ d ∷ []) × (d.name ≡ name)
+unfolding title_of
+title_is s form name is data' named some = by_name s.fields.name (sym named) (of_data s form is data')
+  where
+    by_name : (n : List ℕ) → n ≡ name → data_title_of s ≡ (elim n as (λ n. List Definition) [
+      | [] ↦ []
+      | b ∷ bs ↦ record { name = b ∷ bs; scope = outer_scope (is_private s.fields.kind); place = 0; at = s.start; expr = None; size = 0; form = 0x4E } ∷ []
+    ]) → (d : Definition) × (data_title_of s ≡ d ∷ []) × (d.name ≡ name)
+    by_name [] e titles = absurd (some (sym e))
+    by_name (b ∷ bs) e titles = (record { name = b ∷ bs; scope = outer_scope (is_private s.fields.kind); place = 0; at = s.start; expr = None; size = 0; form = 0x4E }, titles, e)
+
+none_titled : (s : Segment) (form : ℕ) (name : List ℕ) → form ≡ form_of s.fields.kind → form ≡ 0x01 → name ≡ s.fields.name → name ≡ [] → data_title_of s ≡ []
+unfolding title_of
+none_titled s form name is data' named none = of_data s form is data' ∙ by_name s.fields.name (sym named ∙ none)
+  where
+    by_name : (n : List ℕ) → n ≡ [] → (elim n as (λ n. List Definition) [
+      | [] ↦ []
+      | b ∷ bs ↦ record { name = b ∷ bs; scope = outer_scope (is_private s.fields.kind); place = 0; at = s.start; expr = None; size = 0; form = 0x4E } ∷ []
+    ]) ≡ []
+    by_name [] e = refl
+    by_name (b ∷ bs) e = absurd cc
+
+pub code_opens_nothing : (list : List Member) (m : Member) (s : Segment) (form : ℕ) → m.segment ≡ s → form ≡ form_of s.fields.kind → (form ≡ 0x01 → ⊥) → OpensNothing list m
+unfolding data_title_of
+code_opens_nothing list m s form same is other =
+    inl (ap data_title_of same ∙ ap (λ (b : Bool). if b then title_of s else []) (ne_eqb (form_of s.fields.kind) 0x01 (λ e. other (is ∙ e))))
+
+pub unnamed_opens_nothing : (list : List Member) (m : Member) (s : Segment) (form : ℕ) (name : List ℕ) → m.segment ≡ s → form ≡ form_of s.fields.kind → form ≡ 0x01 → name ≡ s.fields.name → name ≡ [] → OpensNothing list m
+unnamed_opens_nothing list m s form name same is data' named none = inl (ap data_title_of same ∙ none_titled s form name is data' named none)
+
+seen_nothing : (found : List Found) → SeesPlace found Nothing → found ≡ []
+seen_nothing [] seen = refl
+seen_nothing (f ∷ []) seen = let clash : Nothing ≡ One seen.0 = seen.1 in absurd cc
+seen_nothing (f ∷ g ∷ more) seen = let clash : Nothing ≡ Several seen.0 = seen.1 in absurd cc
+
+pub new_opens_nothing : (list : List Member) (m : Member) (s : Segment) (form : ℕ) (name : List ℕ) (answer : Outcome) → m.segment ≡ s → form ≡ form_of s.fields.kind → form ≡ 0x01 → name ≡ s.fields.name → (name ≡ [] → ⊥)
+    → SeesPlace (finds_data list m name) answer → answer ≡ Nothing → OpensNothing list m
+new_opens_nothing list m s form name answer same is data' named some seen nothing =
+    let d = title_is s form name is data' named some in
+    inr (
+      d.0,
+      ap data_title_of same ∙ d.1,
+      seen_nothing (finds_data list m d.0.name)
+          (subst (λ (o : Outcome). SeesPlace (finds_data list m d.0.name) o) nothing (subst (λ (n : List ℕ). SeesPlace (finds_data list m n) answer) (sym d.2) seen)),
+    )

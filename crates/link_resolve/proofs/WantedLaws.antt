@@ -3,6 +3,7 @@ use Rattle.std.proofs.Common.{◌≡◌, ℕ, ◌+◌, ◌-◌, ◌≤◌, List,
 use Rattle.std.specs.Prelude.{slice_get}
 use Rattle.std.specs.Option.{option_or}
 use Rattle.std.proofs.lemmas.List.{take-append-drop, length-map}
+use Rattle.std.proofs.lemmas.Option.{slice_get_within}
 use Rattle.link_meaning.specs.First.{first_some}
 use Rattle.link_meaning.specs.Member.{Member, Offer}
 use Rattle.link_meaning.specs.Uses.{Use}
@@ -68,7 +69,7 @@ wanted_here os list k u number is row so_far =
     ∙ first_some-append (wanted_at os list) (take k (asked list)) (is.use' ∷ drop (k + 1) (asked list))
     ∙ ap (λ (o : Option Member). option_or o (option_or (wanted_at os list is.use') (first_some (wanted_at os list) (drop (k + 1) (asked list))))) so_far
     ∙ ap (λ (o : Option Member). option_or o (first_some (wanted_at os list) (drop (k + 1) (asked list)))) row.2 in
-    (row.0, row.1, first, so_far)
+    (row.0, row.1, first, so_far, slice_get_within (asked list) k is.use' is.at)
 
 pub wanted_none : (os : List Offer) (list : List Member) (table : Linked) (k : ℕ) → Holds list table → length table.uses.items ≤ k → WantsNothing os list k → wanted os list ≡ None
 unfolding wanted

@@ -1,5 +1,5 @@
 -- What is kept of the linked list.
-use Rattle.std.specs.Prelude.{◌≡◌, ℕ, ◌++◌, List, map}
+use Rattle.std.specs.Prelude.{◌≡◌, ℕ, zero, suc, ◌++◌, List, Option, Some, None, map, slice_get}
 use Rattle.std.specs.List.{flat_map}
 use Rattle.std.specs.Borrow.{Bor}
 use Rattle.link_meaning.specs.Member.{Member}
@@ -36,6 +36,18 @@ told_member m = record { file = m.file; number = m.number; from = m.from; usings
 -- titles, each with its member's place
 abbrev pub place_rows : List Found → List Row
 place_rows fs = map (λ f. (key_of_found f, f.place)) fs
+
+-- the member at a place, from 1
+abbrev pub member_at : List Member → ℕ → Option Member
+member_at list zero = None
+member_at list (suc k) = slice_get list k
+
+-- where that member comes from, if there is one
+abbrev pub OriginOf : Option Member → Option Origin → Type 0
+OriginOf None None = Unit {0}
+OriginOf None (Some origin) = ⊥
+OriginOf (Some m) None = ⊥
+OriginOf (Some m) (Some origin) = IsOf m origin
 
 -- this is the list
 pub record Holds (list : List Member) (kept : Linked) : Type 0 where

@@ -1,5 +1,5 @@
 -- The first use that wants a member.
-use Rattle.std.specs.Prelude.{◌≡◌, ℕ, List, take, slice_get, Option, Some, None}
+use Rattle.std.specs.Prelude.{◌≡◌, ◌<◌, ℕ, List, length, take, slice_get, Option, Some, None}
 use Rattle.link_meaning.specs.First.{first_some}
 use Rattle.link_meaning.specs.Member.{Member, Offer}
 use Rattle.link_meaning.specs.LinkedList.{Asked, asked, wanted_by, wanted}
@@ -16,4 +16,4 @@ WantsNothing os list k = first_some (wanted_at os list) (take k (asked list)) �
 abbrev pub IsWanted : List Offer → List Member → Option (ℕ × ℕ) → Type 0
 IsWanted os list None = wanted os list ≡ None
 IsWanted os list (Some found) =
-    (o : Offer) × (slice_get os found.1 ≡ Some o) × (wanted os list ≡ Some o.member) × WantsNothing os list found.0
+    (o : Offer) × (slice_get os found.1 ≡ Some o) × (wanted os list ≡ Some o.member) × WantsNothing os list found.0 × (found.0 < length (asked list))

@@ -29,7 +29,7 @@ pub fn memory_fault() -> LinkFault
 }
 
 /// A fault of a place in an input.
-fn fault_in(file: u32, segment: u32, at: u32, cause: LinkCause) -> LinkFault
+pub fn fault_in(file: u32, segment: u32, at: u32, cause: LinkCause) -> LinkFault
     ensures { result ≡ record { cause = cause; name = None; spot = record { file = file; segment = segment; at = at } } }
 {
     LinkFault {

@@ -4,13 +4,23 @@
 
 mod checks;
 mod definitions;
+mod gather;
+mod grow;
 mod input;
+mod layout;
+mod library;
 mod linked;
 mod names;
 mod offers;
+mod program;
 mod reading;
+mod resolving;
+#[cfg(test)]
+mod samples;
 mod segname;
 mod sizes;
+#[cfg(test)]
+mod tests;
 mod uses;
 
 pub use checks::segments_fault;
@@ -19,4 +29,6 @@ pub use input::{memory_fault, read_segments};
 pub use linked::Linked;
 pub use names::Outcome;
 pub use offers::Offers;
+pub use program::{LinkMember, Program};
+pub use resolving::{are_few, resolve};
 pub use sizes::{body_size, size_at};

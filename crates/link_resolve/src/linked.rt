@@ -18,6 +18,10 @@ ghost use Rattle.link_resolve.specs.Offers.{AreOffers, IsRow};
 ghost use Rattle.link_resolve.specs.Wanted.{WantsNothing, IsWanted};
 ghost use Rattle.link_resolve.specs.Linked.{Holds, GainsTitle, SeesPlace, names_of, used_places};
 ghost use Rattle.link_meaning.specs.declared.search.Step.TheVariants.{Within};
+ghost use Rattle.std.specs.Prelude.{false};
+ghost use Rattle.link_meaning.specs.LinkedList.{Asked};
+ghost use Rattle.link_resolve.specs.Linked.{OriginOf, member_at};
+ghost use Rattle.link_resolve.specs.Opening.{OpensNothing};
 
 use crate::definitions::{Definition, Definitions, Origin, outer_step};
 use crate::names::{Key, Names, Outcome};
@@ -100,6 +104,59 @@ impl<'a> Linked<'a> {
         }
     }
 
+    /// How many members there are.
+    pub fn count(&self) -> u32
+        requires { length self.now.members.items < 2 ^ 32 }
+        ensures { result ≡ length self.now.members.items }
+    {
+        self.members.as_slice().len() as u32
+    }
+
+    /// Where the member at a place of the list, from 1, comes from.
+    pub fn origin(&self, place: u32) -> Option<Origin>
+        ensures { (list : List Member) → Holds list self.now → OriginOf (member_at list place) result }
+    {
+        if place == 0 {
+            return None;
+        }
+        match self.members.as_slice().get(place as usize - 1) {
+            Some(member) => Some(member.origin),
+            None => None,
+        }
+    }
+
+    /// The use with this number, from 0: where its member comes from, its name, and the displacement of its record.
+    pub fn used(&self, number: usize) -> (Origin, &'a [u8], u32)
+        requires held { IsHeld self.now }
+        requires within { number < length self.now.uses.items }
+        ensures { (list : List Member) (a : Asked) → Holds list self.now → slice_get (asked list) number ≡ Some a
+            → IsOf a.member result.0 × (result.1.now ≡ a.use'.name) × (result.2 ≡ a.use'.at) }
+    {
+        let found = &self.uses[number];
+        let member = &self.members[found.place as usize - 1];
+        (member.origin, found.name, found.at)
+    }
+
+    /// Whether a segment that is to be the next member may open a use again that finds something: it is a data segment with
+    /// the name of another one that its unit sees.
+    pub fn opens(&self, segment: &SegmentView, origin: Origin) -> bool
+        ensures { result ≡ false → (list : List Member) (m : Member) → Holds list self.now → IsOf m origin → m.segment ≡ shown segment.now
+            → OpensNothing list m }
+    {
+        if segment.header.kind.form() != 0x01 {
+            return false;
+        }
+        let name = segment.header.name.bytes();
+        if name.is_empty() {
+            return false;
+        }
+        match self.find_data(origin, name) {
+            Outcome::Nothing => false,
+            Outcome::One(_) => true,
+            Outcome::Several(_) => true,
+        }
+    }
+
     /// One more member, behind the others.
     pub fn add(
         &mut self,
@@ -110,8 +167,9 @@ impl<'a> Linked<'a> {
         requires sound { IsSound segment.now }
         requires short { body_size (shown segment.now) < 2 ^ 32 }
         requires few { length self.old.members.items + 1 < 2 ^ 32 }
-        ensures { OnOk result ((list : List Member) (m : Member) → IsOf m origin → m.segment ≡ shown segment.now
+        ensures added { OnOk result ((list : List Member) (m : Member) → IsOf m origin → m.segment ≡ shown segment.now
             → Holds list self.old → Holds (list ++ m ∷ []) self.new) }
+        ensures one { OnOk result (length self.new.members.items ≡ length self.old.members.items + 1) }
     {
         let place = self.members.as_slice().len() as u32 + 1;
         let before = self.uses.as_slice().len();
@@ -277,6 +335,13 @@ impl<'a> Linked<'a> {
             Outcome::One(number) => self.definitions.get(number),
             Outcome::Several(number) => self.definitions.get(number),
         }
+    }
+
+    /// The definition with a number, from 0, of all in list and record order.
+    pub fn definition(&self, number: usize) -> Option<Definition<'a>>
+        ensures { (list : List Member) → Holds list self.now → option_map definition_of result ≡ option_map told_definition (slice_get (entries list) number) }
+    {
+        self.definitions.get(number)
     }
 
     /// The first use, in list and record order, that doesn't resolve: why, and its number, from 0.

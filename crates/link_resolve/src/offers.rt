@@ -1,12 +1,12 @@
 //! What the rows of libraries offer: which row serves a use that finds nothing.
 
-ghost use Rattle.std.specs.Prelude.{◌≡◌, ◌++◌, ◌∷◌, [], List, ℕ, OnOk, if◌then◌else◌};
+ghost use Rattle.std.specs.Prelude.{◌≡◌, ◌<◌, ◌++◌, ◌∷◌, [], List, ℕ, Some, length, slice_get, OnOk, if◌then◌else◌};
 ghost use Rattle.link_meaning.specs.declared.search.Step.TheVariants.{OfUnit, Everyone};
 ghost use Rattle.link_meaning.specs.Member.{Member, Offer};
 ghost use Rattle.link_meaning.specs.LinkedList.{row_for};
 ghost use Rattle.link_resolve.specs.Names.{Row, Indexes, key_of, outcome};
 ghost use Rattle.link_resolve.specs.Definitions.{IsOf};
-ghost use Rattle.link_resolve.specs.Offers.{AreOffers, IsOfferOf, IsRow, number_of, first_number};
+ghost use Rattle.link_resolve.specs.Offers.{AreOffers, told_origin, IsOfferOf, IsRow, number_of, first_number};
 
 use crate::definitions::{Origin, outer_step};
 use crate::names::{Key, Names, Outcome};
@@ -77,6 +77,21 @@ impl<'a> Offers<'a> {
             names: Names::new(alloc),
             titles: Names::new(alloc),
         }
+    }
+
+    /// How many rows there are.
+    pub fn count(&self) -> usize
+        ensures { result ≡ length self.now.origins.items }
+    {
+        self.origins.as_slice().len()
+    }
+
+    /// The member that the row with this number, from 0, would bring in.
+    pub fn origin(&self, number: usize) -> Origin
+        requires { number < length self.now.origins.items }
+        ensures { (os : List Offer) (o : Offer) → AreOffers os self.now → slice_get os number ≡ Some o → result ≡ told_origin o }
+    {
+        self.origins[number]
     }
 
     /// One more row, behind the others: its name, whether it is private, the member that it would bring in, and whether that

@@ -33,3 +33,12 @@ pub fn title<'a>(segment: &SegmentView<'a>) -> &'a [u8]
     let size = segment.header.name.bytes().len();
     bytes_at(segment.file, segment.start as usize + names, size)
 }
+
+/// LOADNAME, as a slice of the file (DISPNAME).
+pub fn load_name<'a>(segment: &SegmentView<'a>) -> &'a [u8]
+    requires { IsPlaced (placed segment.now) }
+    ensures { result.now ≡ segment.now.header.load_name }
+{
+    let start = segment.start as usize + segment.header.disp_name as usize;
+    bytes_at(segment.file, start, 10)
+}

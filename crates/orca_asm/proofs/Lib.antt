@@ -1,5 +1,9 @@
 pub mod Maps
 pub mod Amounts
+pub mod Labels
+pub mod Listed
+pub mod NamesListed
+pub mod Quoted
 pub mod Values
 pub mod Written
 pub mod Ends

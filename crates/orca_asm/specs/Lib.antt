@@ -5,3 +5,6 @@ pub mod NamesView
 pub mod AmountView
 pub mod PieceView
 pub mod Chosen
+pub mod OperandView
+pub mod FormulasView
+pub mod ElementView

@@ -4,10 +4,15 @@
 
 mod amount;
 mod causes;
+mod element;
+mod formulas;
 mod held;
 mod instruct;
+mod label;
+mod lists;
 mod mode;
 mod names;
+mod operand;
 mod operation;
 mod piece;
 

@@ -9,8 +9,8 @@ use Rattle.link_resolve.specs.Uses.{use_of}
 use Rattle.link_resolve.proofs.LinkedLaws.{usings_are, held_more}
 use Rattle.link_resolve.proofs.linked.Linked.add.Goals as goal
 
-pub returns : goal.returns
-returns c = λ list m of same holds.
+pub returns-clause-added : goal.returns-clause-added
+returns-clause-added c = λ list m of same holds.
     let old = c.args.self.now in
     let s = shown c.args.segment.now in
     let place = length c.as_slice.result.now + 1 in

@@ -1,0 +1,152 @@
+-- What records give, and the last byte of a member.
+use Rattle.std.proofs.Common.{◌≡◌, ℕ, suc, ◌+◌, ◌-◌, ◌<◌, ◌≤◌, Bool, false, eqb, List, [], ◌∷◌, ◌++◌, length, map, get_or, Option, Some, None, Result, Ok, Err, refl, sym, ap, subst, ◌∙◌, arith}
+use Rattle.std.proofs.lemmas.List.{length-append, length-map, map-append, append-nil}
+use Rattle.omf_format.specs.declared.value.Value.{Value}
+use Rattle.omf_format.specs.declared.value.ValueFault.{ValueFault}
+use Rattle.omf_format.specs.Record.{Record, Equate, Formula}
+use Rattle.load_meaning.specs.Cells.{Cell, Byte, Part}
+use Rattle.link_meaning.specs.declared.fault.LinkCause.{LinkCause}
+use Rattle.load_meaning.specs.declared.table.Target.{Target}
+use Rattle.link_meaning.specs.Fitting.{Fit, Frame, is_jsl_byte, ends_in_jsl, fitted, fit_cells, targets_behind, value_cause}
+use Rattle.link_meaning.specs.Member.{Member}
+use Rattle.link_meaning.specs.Layout.{load_headers, load_of, offset_of}
+use Rattle.link_meaning.specs.LinkValues.{Told, value_in}
+use Rattle.link_meaning.specs.LinkedCells.{State, Item, bank_of, table_number, frame_of, cells_before, made_by}
+use Rattle.link_meaning.specs.LinkWritten.{byte_under}
+use Rattle.link_emit.specs.declared.content.Content.{Content}
+use Rattle.link_emit.specs.declared.fit.Formula as kept
+use Rattle.link_emit.specs.declared.fit.Load.{Load}
+use Rattle.link_emit.specs.declared.record.Site.{Site}
+use Rattle.link_emit.specs.Contents.{HoldsCells}
+use Rattle.link_emit.specs.Plain.{plain_cells}
+use Rattle.link_emit.specs.Puts.{PutsValue}
+use Rattle.link_emit.specs.Records.{IsSite, StandsAt, PutsMade}
+
+-- ---- the last byte
+
+abbrev last_of : List ℕ → Option ℕ
+last_of [] = None
+last_of (b ∷ []) = Some b
+last_of (b ∷ d ∷ bytes) = last_of (d ∷ bytes)
+
+abbrev is_22 : Option ℕ → Bool
+is_22 None = false
+is_22 (Some b) = eqb b 0x22
+
+under_22 : (c : Cell) → is_jsl_byte c ≡ eqb (byte_under c) 0x22
+under_22 (Byte b) = refl
+under_22 (Part file segment offset shift index) = refl
+
+last_under : (cells : List Cell) → ends_in_jsl cells ≡ is_22 (last_of (map byte_under cells))
+last_under [] = refl
+last_under (c ∷ []) = under_22 c
+last_under (c ∷ d ∷ cells) = last_under (d ∷ cells)
+
+last-append : (xs : List ℕ) (y : ℕ) (ys : List ℕ) → last_of (xs ++ y ∷ ys) ≡ last_of (y ∷ ys)
+last-append [] y ys = refl
+last-append (x ∷ []) y ys = refl
+last-append (x ∷ z ∷ xs) y ys = last-append (z ∷ xs) y ys
+
+-- the last byte of all is that of the last cells, where there are some
+pub jsl_there : (front cells : List Cell) (bytes : List ℕ) → bytes ≡ map byte_under (front ++ cells) → length front < length bytes → ends_in_jsl cells ≡ is_22 (last_of bytes)
+jsl_there front [] bytes is more = absurd (omega (arith, more, ap length is, length-map (front ++ []) byte_under, length-append front []))
+jsl_there front (c ∷ cells) bytes is more =
+    last_under (c ∷ cells) ∙ sym (ap is_22 (ap last_of (is ∙ map-append byte_under front (c ∷ cells)) ∙ last-append (map byte_under front) (byte_under c) (map byte_under cells)))
+
+pub jsl_nowhere : (front cells : List Cell) (bytes : List ℕ) → bytes ≡ map byte_under (front ++ cells) → length bytes ≤ length front → ends_in_jsl cells ≡ false
+jsl_nowhere front [] bytes is few = refl
+jsl_nowhere front (c ∷ cells) bytes is few = absurd (omega (arith, few, ap length is, length-map (front ++ c ∷ cells) byte_under, length-append front (c ∷ cells)))
+
+-- it is where it is read
+pub last_read : (bytes : List ℕ) → 0 < length bytes → is_22 (last_of bytes) ≡ eqb (get_or bytes (length bytes - 1) 0) 0x22
+last_read [] some = absurd (omega (arith, some))
+last_read (b ∷ []) some = refl
+last_read (b ∷ d ∷ bytes) some =
+    let place : suc (length (d ∷ bytes) - 1) ≡ length (b ∷ d ∷ bytes) - 1 = omega arith in
+    last_read (d ∷ bytes) (omega arith) ∙ ap (λ (k : ℕ). eqb (get_or (b ∷ d ∷ bytes) k 0) 0x22) place
+
+-- ---- expressions
+
+pub formula_gives : (list : List Member) (told : List Told) (state : State) (i : Item) (code count n : ℕ) (expr : List ℕ) (v : Value) (fit : Fit) → value_in list told i.place i.member i.here.location expr ≡ Ok v
+    → fitted (load_headers list) (frame_of list i) state.targets (cells_before state i) code count n v ≡ Ok fit
+    → made_by list told state i (Formula code count n expr) ≡ Ok (fit_cells (table_number list) count (targets_behind state.targets fit) fit, targets_behind state.targets fit)
+formula_gives list told state i code count n expr v fit value fits = rw (value, fits) refl
+
+pub formula_unfit : (list : List Member) (told : List Told) (state : State) (i : Item) (code count n : ℕ) (expr : List ℕ) (v : Value) (cause : LinkCause) → value_in list told i.place i.member i.here.location expr ≡ Ok v
+    → fitted (load_headers list) (frame_of list i) state.targets (cells_before state i) code count n v ≡ Err cause → made_by list told state i (Formula code count n expr) ≡ Err cause
+formula_unfit list told state i code count n expr v cause value fits = rw (value, fits) refl
+
+pub formula_faulty : (list : List Member) (told : List Told) (state : State) (i : Item) (code count n : ℕ) (expr : List ℕ) (fault : ValueFault) → value_in list told i.place i.member i.here.location expr ≡ Err fault
+    → made_by list told state i (Formula code count n expr) ≡ Err (value_cause fault)
+formula_faulty list told state i code count n expr fault value = rw value refl
+
+pub equate_fine : (list : List Member) (told : List Told) (state : State) (i : Item) (global : Bool) (name : List ℕ) (size form private : ℕ) (expr : List ℕ) (v : Value)
+    → value_in list told i.place i.member i.here.location expr ≡ Ok v → made_by list told state i (Equate global name size form private expr) ≡ Ok ([], state.targets)
+equate_fine list told state i global name size form private expr v value = rw value refl
+
+pub equate_faulty : (list : List Member) (told : List Told) (state : State) (i : Item) (global : Bool) (name : List ℕ) (size form private : ℕ) (expr : List ℕ) (fault : ValueFault)
+    → value_in list told i.place i.member i.here.location expr ≡ Err fault → made_by list told state i (Equate global name size form private expr) ≡ Err (value_cause fault)
+equate_faulty list told state i global name size form private expr fault value = rw value refl
+
+-- ---- what was put is what the record gives
+
+abbrev frame : ℕ → ℕ → ℕ → Frame
+frame own bank_size place = record { own = own; bank_size = bank_size; place = place }
+
+frame_is : (list : List Member) (i : Item) (site : Site) (location : ℕ) → IsSite list i.place i.member site → i.here.location ≡ location → frame site.own site.bank_size (site.offset + location) ≡ frame_of list i
+frame_is list i site location is here =
+    ap (λ (n : ℕ). frame n site.bank_size (site.offset + location)) is.own'
+    ∙ ap (λ (n : ℕ). frame (load_of list i.member) n (site.offset + location)) is.bank_size'
+    ∙ ap (λ (n : ℕ). frame (load_of list i.member) (bank_of (load_headers list) (load_of list i.member)) (n + location)) is.offset'
+    ∙ ap (λ (n : ℕ). frame (load_of list i.member) (bank_of (load_headers list) (load_of list i.member)) (offset_of list i.place i.member + n)) (sym here)
+
+module _ (list : List Member) (told : List Told) (state : State) (i : Item) (site : Site) (loads : List Load) (targets new : List Target) (front : List Cell) (location : ℕ) (before after : Content)
+    (stands : StandsAt list told state i site loads targets front location before) (formula : kept.Formula) (expr : List ℕ) (v : Value) (value : value_in list told i.place i.member i.here.location expr ≡ Ok v) where
+  here : frame site.own site.bank_size (site.offset + location) ≡ frame_of list i
+  here = frame_is list i site location stands.site' stands.location'
+
+  -- the fit is the same in the words of the list
+  same_fit : (r : Result Fit LinkCause) → fitted (load_headers list) (frame site.own site.bank_size (site.offset + location)) targets (cells_before state i) formula.code formula.count formula.n v ≡ r
+      → fitted (load_headers list) (frame_of list i) state.targets (cells_before state i) formula.code formula.count formula.n v ≡ r
+  same_fit r is =
+      ap (λ (f : Frame). fitted (load_headers list) f state.targets (cells_before state i) formula.code formula.count formula.n v) (sym here)
+      ∙ ap (λ (ts : List Target). fitted (load_headers list) (frame site.own site.bank_size (site.offset + location)) ts (cells_before state i) formula.code formula.count formula.n v) stands.targets'
+      ∙ is
+
+  pub value_put : PutsValue (load_headers list) (frame site.own site.bank_size (site.offset + location)) (cells_before state i) formula v site.table targets new before after
+      → PutsMade (made_by list told state i (Formula formula.code formula.count formula.n expr)) (front ++ cells_before state i) new after
+  value_put puts =
+      let behind : new ≡ targets_behind state.targets puts.fit = puts.targets' ∙ ap (λ (ts : List Target). targets_behind ts puts.fit) (sym stands.targets') in
+      let cells : fit_cells site.table formula.count new puts.fit ≡ fit_cells (table_number list) formula.count (targets_behind state.targets puts.fit) puts.fit =
+      ap (λ (n : ℕ). fit_cells n formula.count new puts.fit) stands.site'.table' ∙ ap (λ (ts : List Target). fit_cells (table_number list) formula.count ts puts.fit) behind in
+      record {
+        gives = (fit_cells (table_number list) formula.count (targets_behind state.targets puts.fit) puts.fit, targets_behind state.targets puts.fit);
+        is = formula_gives list told state i formula.code formula.count formula.n expr v puts.fit value (same_fit (Ok puts.fit) puts.fits);
+        targets' = behind;
+        holds = subst (λ (l : List Cell). HoldsCells ((front ++ cells_before state i) ++ l) after) cells (puts.cells' (front ++ cells_before state i) stands.holds);
+      }
+
+  pub value_unfit : (cause : LinkCause) → fitted (load_headers list) (frame site.own site.bank_size (site.offset + location)) targets (cells_before state i) formula.code formula.count formula.n v ≡ Err cause
+      → made_by list told state i (Formula formula.code formula.count formula.n expr) ≡ Err cause
+  value_unfit cause is = formula_unfit list told state i formula.code formula.count formula.n expr v cause value (same_fit (Err cause) is)
+
+-- what a record without an expression puts
+pub plain_put : (list : List Member) (told : List Told) (state : State) (i : Item) (site : Site) (loads : List Load) (targets : List Target) (front : List Cell) (location : ℕ) (before after : Content) (r : Record)
+    → StandsAt list told state i site loads targets front location before → made_by list told state i r ≡ Ok (plain_cells i.here.location r, state.targets)
+    → ((cells : List Cell) → HoldsCells cells before → HoldsCells (cells ++ plain_cells location r) after) → PutsMade (made_by list told state i r) (front ++ cells_before state i) targets after
+plain_put list told state i site loads targets front location before after r stands is puts = record {
+  gives = (plain_cells i.here.location r, state.targets);
+  is = is;
+  targets' = sym stands.targets';
+  holds = subst (λ (n : ℕ). HoldsCells ((front ++ cells_before state i) ++ plain_cells n r) after) (sym stands.location') (puts (front ++ cells_before state i) stands.holds);
+}
+
+-- and an equate
+pub equate_put : (list : List Member) (told : List Told) (state : State) (i : Item) (site : Site) (loads : List Load) (targets : List Target) (front : List Cell) (location : ℕ) (content : Content) (r : Record)
+    → StandsAt list told state i site loads targets front location content → made_by list told state i r ≡ Ok ([], state.targets) → PutsMade (made_by list told state i r) (front ++ cells_before state i) targets content
+equate_put list told state i site loads targets front location content r stands is = record {
+  gives = ([], state.targets);
+  is = is;
+  targets' = sym stands.targets';
+  holds = subst (λ (l : List Cell). HoldsCells l content) (sym (append-nil (front ++ cells_before state i))) stands.holds;
+}

@@ -1,0 +1,82 @@
+-- Where a record stands that is put, and what is there behind it.
+use Rattle.std.specs.Prelude.{◌≡◌, ℕ, ◌++◌, true, List, length, map, Result, Ok}
+use Rattle.omf_format.specs.Record.{Record, End, Const, LongConst, Align, Org, Space, Reloc, InterSeg, ShortReloc, ShortInterSeg, Super, Using, Strong, Label, Equate, Formula, Entry}
+use Rattle.omf_format.specs.Field.{is_count}
+use Rattle.load_meaning.specs.Cells.{Cell}
+use Rattle.load_meaning.specs.declared.table.Target.{Target}
+use Rattle.link_meaning.specs.declared.fault.LinkCause.{LinkCause}
+use Rattle.link_meaning.specs.Member.{Member}
+use Rattle.link_meaning.specs.Layout.{load_headers, load_of, offset_of}
+use Rattle.omf_format.specs.declared.value.Value.{Value}
+use Rattle.omf_format.specs.declared.value.ValueFault.{ValueFault}
+use Rattle.link_meaning.specs.LinkValues.{Told, value_in}
+use Rattle.link_meaning.specs.LinkedCells.{State, Item, Made, bank_of, table_number, cells_before}
+use Rattle.link_emit.specs.declared.content.Content.{Content}
+use Rattle.link_emit.specs.declared.fit.Load.{Load}
+use Rattle.link_emit.specs.declared.record.Site.{Site}
+use Rattle.link_emit.specs.Contents.{HoldsCells}
+use Rattle.link_emit.specs.Fits.{told_load}
+
+-- a count is 1 to 4
+abbrev pub IsCounted : Record → Type 0
+IsCounted End = Unit {0}
+IsCounted (Const bytes) = Unit {0}
+IsCounted (LongConst bytes) = Unit {0}
+IsCounted (Align n) = Unit {0}
+IsCounted (Org n) = Unit {0}
+IsCounted (Space n) = Unit {0}
+IsCounted (Reloc count shift location offset) = Unit {0}
+IsCounted (InterSeg count shift location file segment offset) = Unit {0}
+IsCounted (ShortReloc count shift location offset) = Unit {0}
+IsCounted (ShortInterSeg count shift location segment offset) = Unit {0}
+IsCounted (Super form bytes) = Unit {0}
+IsCounted (Using name) = Unit {0}
+IsCounted (Strong name) = Unit {0}
+IsCounted (Label global name size form private) = Unit {0}
+IsCounted (Equate global name size form private expr) = Unit {0}
+IsCounted (Formula code count n expr) = is_count count ≡ true
+IsCounted (Entry segment offset name) = Unit {0}
+
+-- this is what the record's expression stands for, if it has one
+abbrev pub IsWorth : List Member → List Told → Item → Record → Result Value ValueFault → Type 0
+IsWorth list told i End worth = Unit {0}
+IsWorth list told i (Const bytes) worth = Unit {0}
+IsWorth list told i (LongConst bytes) worth = Unit {0}
+IsWorth list told i (Align n) worth = Unit {0}
+IsWorth list told i (Org n) worth = Unit {0}
+IsWorth list told i (Space n) worth = Unit {0}
+IsWorth list told i (Reloc count shift location offset) worth = Unit {0}
+IsWorth list told i (InterSeg count shift location file segment offset) worth = Unit {0}
+IsWorth list told i (ShortReloc count shift location offset) worth = Unit {0}
+IsWorth list told i (ShortInterSeg count shift location segment offset) worth = Unit {0}
+IsWorth list told i (Super form bytes) worth = Unit {0}
+IsWorth list told i (Using name) worth = Unit {0}
+IsWorth list told i (Strong name) worth = Unit {0}
+IsWorth list told i (Label global name size form private) worth = Unit {0}
+IsWorth list told i (Equate global name size form private expr) worth = value_in list told i.place i.member i.here.location expr ≡ worth
+IsWorth list told i (Formula code count n expr) worth = value_in list told i.place i.member i.here.location expr ≡ worth
+IsWorth list told i (Entry segment offset name) worth = Unit {0}
+
+-- the member's records go there
+pub record IsSite (list : List Member) (place : ℕ) (m : Member) (site : Site) : Type 0 where
+  pub table' : site.table ≡ table_number list
+  pub own' : site.own ≡ load_of list m
+  pub bank_size' : site.bank_size ≡ bank_of (load_headers list) (load_of list m)
+  pub offset' : site.offset ≡ offset_of list place m
+
+-- a record of the member at a site stands at this location, behind what the records before it left: their targets, and the cells of
+-- the load segment, of which so many are in front of the member
+pub record StandsAt (list : List Member) (told : List Told) (state : State) (i : Item) (site : Site) (loads : List Load) (targets : List Target) (front : List Cell) (location : ℕ) (content : Content) : Type 0 where
+  pub loads' : loads ≡ map told_load (load_headers list)
+  pub site' : IsSite list i.place i.member site
+  pub location' : i.here.location ≡ location
+  pub targets' : state.targets ≡ targets
+  pub front' : length front ≡ site.offset
+  pub holds : HoldsCells (front ++ cells_before state i) content
+
+-- these cells stand behind the others, and these are the targets then
+pub record PutsMade (made : Result Made LinkCause) (before : List Cell) (targets : List Target) (content : Content) : Type 0 where
+  pub gives : Made
+  pub is : made ≡ Ok gives
+  pub targets' : targets ≡ gives.1
+  pub holds : HoldsCells (before ++ gives.0) content

@@ -1,0 +1,206 @@
+-- The members and offers of inputs come from their files, and there are few of them.
+use Rattle.std.proofs.Common.{◌≡◌, ◌⊎◌, inl, inr, ℕ, zero, suc, ◌+◌, ◌-◌, ◌*◌, ◌≤◌, ◌<◌, ◌^◌, Bool, true, false, List, [], ◌∷◌, ◌++◌, length, map, Option, Some, None, Result, Ok, Err, refl, sym, ap, subst, ◌∙◌, arith}
+use Rattle.std.specs.Prelude.{slice_get, option_map, option_and_then, if◌then◌else◌}
+use Rattle.std.specs.List.{filter_map, cons_option}
+use Rattle.std.proofs.lemmas.List.{length-append, length-map}
+use Rattle.omf_format.specs.File.{Segment, segment_at, IsFile}
+use Rattle.omf_format.specs.FileLaws.{segments_fit}
+use Rattle.link_meaning.specs.First.{IsIn}
+use Rattle.link_meaning.specs.Member.{Row, Input, Member, Offer, is_library, members_from, objects_from, objects, offer_of, offers_from, offers}
+use Rattle.link_meaning.specs.Defines.{Definition, defined_in, outer_scope}
+use Rattle.link_meaning.specs.Dictionary.{rows_of}
+use Rattle.link_meaning.specs.LinkFaults.{segments_fault, rows_in_file, IsInput, AreInputs}
+use Rattle.link_meaning.specs.ProgressLaws.{AreSound}
+use Rattle.lib_dict.specs.DictionaryLayout.{DefinesSo}
+use Rattle.lib_dict.specs.Library.{told_row}
+use Rattle.link_resolve.specs.Libraries.{StandsIn, AllStand}
+use Rattle.link_resolve.specs.Gathered.{segment_in, IsAmong, AllAmong, IsSoundInput}
+use Rattle.link_resolve.specs.Resolved.{total_size, FewRows}
+use Rattle.link_resolve.proofs.LibraryLaws.{HasPlace, row_place, offer_is}
+use Rattle.link_resolve.proofs.OpeningLaws.{in_either}
+
+-- the files from a number on are the inputs' segments
+abbrev Behind : List (List Segment) → ℕ → List Input → Type 0
+Behind files n inputs = (k : ℕ) → slice_get files (n + k) ≡ slice_get (map (λ i. i.segments) inputs) k
+
+behind_more : (files : List (List Segment)) (n : ℕ) (i : Input) (inputs : List Input) → Behind files n (i ∷ inputs) → Behind files (n + 1) inputs
+behind_more files n i inputs behind k = let same : n + 1 + k ≡ n + suc k = omega arith in ap (slice_get files) same ∙ behind (suc k)
+
+file_at : (files : List (List Segment)) (n : ℕ) (i : Input) (inputs : List Input) → Behind files n (i ∷ inputs) → slice_get files n ≡ Some i.segments
+file_at files n i inputs behind = let same : n ≡ n + 0 = omega arith in ap (slice_get files) same ∙ behind 0
+
+-- the segment of a file
+stands : (files : List (List Segment)) (n k : ℕ) (segments : List Segment) (s : Segment) (file number : ℕ) → slice_get files n ≡ Some segments → slice_get segments k ≡ Some s → file ≡ n + 1 → number ≡ k + 1 → segment_in files file number ≡ Some s
+stands files n k segments s file number there here f e =
+    let is_file : file ≡ suc n = omega (arith, f) in
+    let is_number : number ≡ suc k = omega (arith, e) in
+    ap (λ (x : ℕ). segment_in files x number) is_file
+    ∙ ap (λ (x : ℕ). segment_in files (suc n) x) is_number
+    ∙ ap (λ (o : Option (List Segment)). option_and_then (λ (l : List Segment). segment_at l (suc k)) o) there
+    ∙ here
+
+-- ---- objects
+
+record IsFrom (file n : ℕ) (list : List Segment) (m : Member) : Type 0 where
+  k : ℕ
+  file' : m.file ≡ file
+  number : m.number ≡ n + k
+  here : slice_get list k ≡ Some m.segment
+
+member_from : (file n : ℕ) (list : List Segment) (m : Member) → IsIn (members_from file n list) m → IsFrom file n list m
+member_from file n [] m is = absurd is
+member_from file n (s ∷ list) m (inl e) = record {
+  k = 0;
+  file' = sym (ap (λ (x : Member). x.file) e);
+  number = omega (arith, sym (ap (λ (x : Member). x.number) e));
+  here = ap (λ (x : Member). some x.segment) e;
+}
+  where
+    some : Segment → Option Segment
+    some x = Some x
+member_from file n (s ∷ list) m (inr is) =
+    let rest = member_from file (n + 1) list m is in
+    record { k = suc rest.k; file' = rest.file'; number = omega (arith, rest.number); here = rest.here }
+
+objects_among_from : (files : List (List Segment)) (n : ℕ) (inputs : List Input) → Behind files n inputs → AllAmong files (objects_from (n + 1) inputs)
+objects_among_from files n [] behind m is = absurd is
+objects_among_from files n (i ∷ inputs) behind m is =
+    settle (in_either (if is_library i.segments then [] else members_from (n + 1) 1 i.segments) (objects_from (n + 1 + 1) inputs) m is) (λ more. objects_among_from files (n + 1) inputs (behind_more files n i inputs behind) m more)
+  where
+    own : (b : Bool) → IsIn (if b then [] else members_from (n + 1) 1 i.segments) m → IsAmong files m
+    own true is = absurd is
+    own false is =
+        let f = member_from (n + 1) 1 i.segments m is in
+        stands files n f.k i.segments m.segment m.file m.number (file_at files n i inputs behind) f.here f.file' (omega (arith, f.number))
+
+    settle : IsIn (if is_library i.segments then [] else members_from (n + 1) 1 i.segments) m ⊎ IsIn (objects_from (n + 1 + 1) inputs) m → (IsIn (objects_from (n + 1 + 1) inputs) m → IsAmong files m) → IsAmong files m
+    settle (inl a) go = own (is_library i.segments) a
+    settle (inr b) go = go b
+
+behind_all : (inputs : List Input) → Behind (map (λ i. i.segments) inputs) 0 inputs
+behind_all inputs k = let same : 0 + k ≡ k = omega arith in ap (slice_get (map (λ (i : Input). i.segments) inputs)) same
+
+pub objects_among : (files : List (List Segment)) (inputs : List Input) → files ≡ map (λ i. i.segments) inputs → AllAmong files (objects inputs)
+unfolding objects
+objects_among files inputs are = subst (λ (l : List (List Segment)). AllAmong l (objects_from 1 inputs)) (sym are) (objects_among_from (map (λ (i : Input). i.segments) inputs) 0 inputs (behind_all inputs))
+
+-- ---- offers
+
+abbrev AllSound : List Input → Type 0
+AllSound inputs = (i : Input) → IsIn inputs i → IsSoundInput i
+
+-- the row that offers it
+record IsOffered (file : ℕ) (segments : List Segment) (rows : List Row) (o : Offer) : Type 0 where
+  row : Row
+  among : IsIn rows row
+  is : offer_of file segments row ≡ Some o
+
+offered : (file : ℕ) (segments : List Segment) (rows : List Row) (o : Offer) → IsIn (filter_map (offer_of file segments) rows) o → IsOffered file segments rows o
+offered file segments [] o is = absurd is
+offered file segments (r ∷ rows) o is = settle (offer_of file segments r) refl is (λ more. offered file segments rows o more)
+  where
+    settle : (x : Option Offer) → offer_of file segments r ≡ x → IsIn (cons_option x (filter_map (offer_of file segments) rows)) o → (IsIn (filter_map (offer_of file segments) rows) o → IsOffered file segments rows o) → IsOffered file segments (r ∷ rows) o
+    settle None e is go = let rest = go is in record { row = rest.row; among = inr rest.among; is = rest.is }
+    settle (Some p) e (inl same) go = record { row = r; among = inl refl; is = e ∙ ap (λ (z : Offer). Some z) same }
+    settle (Some p) e (inr is) go = let rest = go is in record { row = rest.row; among = inr rest.among; is = rest.is }
+
+-- what an offer of inputs is
+record Stands (files : List (List Segment)) (o : Offer) : Type 0 where
+  among : IsAmong files o.member
+  defines : DefinesSo o.member.segment o.name o.private
+
+of_row : (files : List (List Segment)) (n : ℕ) (i : Input) (o : Offer) → slice_get files n ≡ Some i.segments → IsSoundInput i → IsOffered (n + 1) i.segments i.rows o → Stands files o
+of_row files n i o there sound is =
+    let s = sound.1 is.row is.among in
+    let p = row_place i.segments is.row (told_row i.segments is.row) refl s in
+    let same = offer_is (n + 1) i.segments is.row o p.k p.segment is.is p.number p.here in
+    let segment : Some s.segment ≡ some p.segment = sym s.here ∙ ap (segment_at i.segments) p.number ∙ p.here in
+    let one : s.segment ≡ p.segment = same_segment s.segment p.segment segment in
+    record {
+      among = stands files n p.k i.segments o.member.segment o.member.file o.member.number there (p.here ∙ ap (λ (x : Offer). some x.member.segment) (sym same)) (ap (λ (x : Offer). x.member.file) same)
+          (ap (λ (x : Offer). x.member.number) same ∙ omega (arith, p.number));
+      defines = subst (λ (x : Offer). DefinesSo x.member.segment x.name x.private) (sym same) (subst (λ (x : Segment). DefinesSo x is.row.name is.row.private) one s.defines);
+    }
+  where
+    some : Segment → Option Segment
+    some x = Some x
+
+    same_segment : (a b : Segment) → Some a ≡ Some b → a ≡ b
+    same_segment a b e = cc
+
+offers_stand : (files : List (List Segment)) (n : ℕ) (inputs : List Input) → Behind files n inputs → AllSound inputs → (o : Offer) → IsIn (offers_from (n + 1) inputs) o → Stands files o
+offers_stand files n [] behind sound o is = absurd is
+offers_stand files n (i ∷ inputs) behind sound o is =
+    settle (in_either (filter_map (offer_of (n + 1) i.segments) i.rows) (offers_from (n + 1 + 1) inputs) o is) (λ more. offers_stand files (n + 1) inputs (behind_more files n i inputs behind) (λ j there. sound j (inr there)) o more)
+  where
+    settle : IsIn (filter_map (offer_of (n + 1) i.segments) i.rows) o ⊎ IsIn (offers_from (n + 1 + 1) inputs) o → (IsIn (offers_from (n + 1 + 1) inputs) o → Stands files o) → Stands files o
+    settle (inl a) go = of_row files n i o (file_at files n i inputs behind) (sound i (inl refl)) (offered (n + 1) i.segments i.rows o a)
+    settle (inr b) go = go b
+
+all_stand : (files : List (List Segment)) (inputs : List Input) → files ≡ map (λ i. i.segments) inputs → AllSound inputs → (o : Offer) → IsIn (offers inputs) o → Stands files o
+unfolding offers
+all_stand files inputs are sound o is =
+    subst (λ (l : List (List Segment)). Stands l o) (sym are) (offers_stand (map (λ (i : Input). i.segments) inputs) 0 inputs (behind_all inputs) sound o is)
+
+pub offers_among : (files : List (List Segment)) (inputs : List Input) → files ≡ map (λ i. i.segments) inputs → AllSound inputs → (o : Offer) → IsIn (offers inputs) o → IsAmong files o.member
+offers_among files inputs are sound o is = (all_stand files inputs are sound o is).among
+
+pub offers_sound : (files : List (List Segment)) (inputs : List Input) → files ≡ map (λ i. i.segments) inputs → AllSound inputs → AreSound (offers inputs)
+offers_sound files inputs are sound o is = let d = (all_stand files inputs are sound o is).defines in (d.by, d.among, d.name', d.scope)
+
+pub files_sound : (files : List (List Segment)) (inputs : List Input) → files ≡ map (λ i. i.segments) inputs → AllSound inputs → (segments : List Segment) → IsIn files segments → segments_fault 1 segments ≡ None
+files_sound files inputs are sound segments is = over inputs sound (subst (λ (l : List (List Segment)). IsIn l segments) are is)
+  where
+    over : (inputs : List Input) → AllSound inputs → IsIn (map (λ i. i.segments) inputs) segments → segments_fault 1 segments ≡ None
+    over [] sound is = absurd is
+    over (i ∷ inputs) sound (inl e) = subst (λ (l : List Segment). segments_fault 1 l ≡ None) e (sound i (inl refl)).0
+    over (i ∷ inputs) sound (inr is) = over inputs (λ j there. sound j (inr there)) is
+
+-- ---- how many
+
+members-length : (file n : ℕ) (list : List Segment) → length (members_from file n list) ≡ length list
+members-length file n [] = refl
+members-length file n (s ∷ list) = ap suc (members-length file (n + 1) list)
+
+offers-length : (file : ℕ) (segments : List Segment) (rows : List Row) → length (filter_map (offer_of file segments) rows) ≤ length rows
+offers-length file segments [] = omega arith
+offers-length file segments (r ∷ rows) = settle (offer_of file segments r) (offers-length file segments rows)
+  where
+    settle : (x : Option Offer) → length (filter_map (offer_of file segments) rows) ≤ length rows → length (cons_option x (filter_map (offer_of file segments) rows)) ≤ suc (length rows)
+    settle None less = omega arith
+    settle (Some p) less = omega arith
+
+pub few_more : (inputs : List Input) (files : List (List ℕ)) (i : Input) (bytes : List ℕ) → AreInputs files inputs → FewRows inputs files → length i.rows ≤ length bytes → FewRows (inputs ++ i ∷ []) (files ++ bytes ∷ [])
+few_more [] [] i bytes are few less = (less, tt)
+few_more [] (f ∷ files) i bytes are few less = absurd are
+few_more (x ∷ inputs) [] i bytes are few less = absurd are
+few_more (x ∷ inputs) (f ∷ files) i bytes are few less = (few.0, few_more inputs files i bytes are.1 few.1 less)
+
+abbrev fine : List Row → Result (List Row) ℕ
+fine rows = Ok rows
+
+ok_same : (x y : List Row) → fine x ≡ fine y → x ≡ y
+ok_same x y e = cc
+
+pub all_few : (file : ℕ) (files : List (List ℕ)) (inputs : List Input) → AreInputs files inputs → FewRows inputs files → length (objects_from file inputs) + length (offers_from file inputs) ≤ total_size files
+all_few file [] [] are few = omega arith
+all_few file [] (i ∷ inputs) are few = absurd are
+all_few file (f ∷ files) [] are few = absurd are
+all_few file (f ∷ files) (i ∷ inputs) are few =
+    let rest = all_few (file + 1) files inputs are.1 few.1 in
+    let own = settle (is_library i.segments) refl in
+    omega (arith, rest, own, length-append (if is_library i.segments then [] else members_from file 1 i.segments) (objects_from (file + 1) inputs), length-append (filter_map (offer_of file i.segments) i.rows) (offers_from (file + 1) inputs))
+  where
+    settle : (b : Bool) → is_library i.segments ≡ b → length (if is_library i.segments then [] else members_from file 1 i.segments) + length (filter_map (offer_of file i.segments) i.rows) ≤ length f
+    settle true e =
+        let none : length (if is_library i.segments then [] else members_from file 1 i.segments) ≡ 0 = ap (λ (b : Bool). length (if b then [] else members_from file 1 i.segments)) e in
+        omega (arith, none, offers-length file i.segments i.rows, few.0)
+    settle false e =
+        let all : length (if is_library i.segments then [] else members_from file 1 i.segments) ≡ length i.segments = ap (λ (b : Bool). length (if b then [] else members_from file 1 i.segments)) e ∙ members-length file 1 i.segments in
+        let rows : i.rows ≡ [] = ok_same i.rows [] (sym are.0.rows ∙ ap (λ (b : Bool). if b then rows_of i.segments else fine []) e) in
+        let none : length (filter_map (offer_of file i.segments) i.rows) ≡ 0 = ap (λ (r : List Row). length (filter_map (offer_of file i.segments) r)) rows in
+        omega (arith, all, none, segments_fit i.segments 0 f (length f) are.0.is_file)
+
+pub all_fit : (files : List (List ℕ)) (inputs : List Input) → AreInputs files inputs → FewRows inputs files → length (objects inputs) + length (offers inputs) ≤ total_size files
+unfolding objects offers
+all_fit files inputs are few = all_few 1 files inputs are few

@@ -1,0 +1,202 @@
+-- What inputs add to the list and to the offers.
+use Rattle.std.proofs.Common.{◌≡◌, ◌⊎◌, inl, inr, ℕ, zero, suc, ◌+◌, ◌-◌, ◌≤◌, ◌<◌, ◌^◌, Bool, true, false, List, [], ◌∷◌, ◌++◌, length, map, take, Option, Some, None, Result, Ok, Err, refl, sym, ap, subst, ◌∙◌, append_assoc, append-nil, arith}
+use Rattle.std.specs.Prelude.{slice_get, option_map, if◌then◌else◌, ◌==◌}
+use Rattle.std.specs.List.{filter_map}
+use Rattle.std.specs.Option.{option_or}
+use Rattle.std.proofs.lemmas.List.{map-append, length-append, length-map}
+use Rattle.std.proofs.lemmas.Bool.{eq-eqb, ne_eqb, eqb-true}
+use Rattle.omf_format.specs.declared.fault.FileFault.{FileFault}
+use Rattle.omf_format.specs.File.{Segment, segment_at, AreSegments, IsFile, IsFirstFault}
+use Rattle.omf_format.specs.FileLaws.{file_same, no_file, segments_fit}
+use Rattle.link_meaning.specs.declared.fault.LinkCause.{LinkCause}
+use Rattle.link_meaning.specs.declared.fault.LinkCause.TheVariants.{BadLength, BadLibrary}
+use Rattle.link_meaning.specs.First.{IsIn}
+use Rattle.link_meaning.specs.Sizes.{body_size}
+use Rattle.link_meaning.specs.Member.{Row, Input, Member, Offer, is_library, members_from, objects_from, objects, offer_of, offers_from, offers}
+use Rattle.link_meaning.specs.Defines.{Definition, defined_in, outer_scope}
+use Rattle.link_meaning.specs.Dictionary.{rows_of}
+use Rattle.link_meaning.specs.LinkFaults.{segment_fault, segments_fault, length_fault, records_fault, type_fault, with_place, rows_in_file, HasFileFault, OfDictionary, IsInput, AreInputs}
+use Rattle.omf_format.specs.Header.{alignment_of}
+use Rattle.link_meaning.specs.declared.fault.LinkFault.{LinkFault}
+use Rattle.link_meaning.specs.ProgressLaws.{AreSound}
+use Rattle.lib_dict.specs.DictionaryLayout.{DefinesSo, IsRow, AreRows, IsDictionary, RowsAreLaidOut}
+use Rattle.lib_dict.specs.Library.{LibraryRow, told_row, HasRows, IsNoLibrary, IsFalseAt}
+use Rattle.link_resolve.specs.declared.linked.Linked.{Linked}
+use Rattle.link_resolve.specs.declared.offers.Offers as kept
+use Rattle.link_resolve.specs.declared.gather.Gathered as gathered
+use Rattle.link_resolve.specs.Linked.{Holds}
+use Rattle.link_resolve.specs.Offers.{AreOffers}
+use Rattle.link_resolve.specs.Libraries.{StartsAscend, StandsIn, AllStand}
+use Rattle.link_resolve.specs.Reading.{IsFileRefused}
+use Rattle.link_resolve.specs.Gathered as shown
+use Rattle.link_resolve.specs.Gathered.{segment_in, IsAmong, AllAmong, IsSoundInput, IsGathered, AddsInput}
+use Rattle.link_resolve.proofs.LibraryLaws.{ascend}
+use Rattle.link_resolve.proofs.OpeningLaws.{in_front, in_back, in_either}
+
+-- ---- an object file's segments
+
+abbrev pub member_as : ℕ → ℕ → Segment → Member
+member_as file number s = record { file = file; number = number; from = 0; segment = s }
+
+pub members_more : (file n : ℕ) (list : List Segment) (k : ℕ) (s : Segment) → slice_get list k ≡ Some s → members_from file n (take (k + 1) list) ≡ members_from file n (take k list) ++ member_as file (n + k) s ∷ []
+members_more file n [] k s e = absurd cc
+members_more file n (x ∷ list) zero s e =
+    let same : x ≡ s = cc in
+    let number : n ≡ n + 0 = omega arith in
+    ap (λ (y : Segment). member_as file n y ∷ []) same ∙ ap (λ (i : ℕ). member_as file i s ∷ []) number
+members_more file n (x ∷ list) (suc k) s e =
+    let next : suc k + 1 ≡ suc (k + 1) = omega arith in
+    let number : n + 1 + k ≡ n + suc k = omega arith in
+    ap (λ (i : ℕ). members_from file n (take i (x ∷ list))) next
+    ∙ ap (λ (l : List Member). member_as file n x ∷ l) (members_more file (n + 1) list k s e ∙ ap (λ (i : ℕ). members_from file (n + 1) (take k list) ++ member_as file i s ∷ []) number)
+
+-- ---- LENGTH bounds the body
+
+or_none : {A : Type 0} → (a b : Option A) → option_or a b ≡ None → (a ≡ None) × (b ≡ None)
+or_none None b e = (refl, e)
+or_none (Some x) b e = absurd cc
+
+map_none : {A B : Type 0} → (f : A → B) (a : Option A) → option_map f a ≡ None → a ≡ None
+map_none f None e = refl
+map_none f (Some x) e = absurd cc
+
+segment_sound : (first : Bool) (s : Segment) → segment_fault first s ≡ None → length_fault s ≡ None
+unfolding segment_fault
+segment_sound first s e =
+    let a = or_none (option_map (with_place s.start) (type_fault first s.fields)) (option_or (records_fault (alignment_of s.fields.align) s.records) (length_fault s)) e in
+    (or_none (records_fault (alignment_of s.fields.align) s.records) (length_fault s) a.1).1
+
+each_sound : (number : ℕ) (list : List Segment) (k : ℕ) (s : Segment) → segments_fault number list ≡ None → slice_get list k ≡ Some s → length_fault s ≡ None
+each_sound number [] k s none e = absurd cc
+each_sound number (x ∷ list) zero s none e =
+    let same : x ≡ s = cc in
+    let a = or_none (option_map (λ (found : LinkCause × ℕ). (number, found)) (segment_fault (number == 1) x)) (segments_fault (number + 1) list) none in
+    subst (λ (y : Segment). length_fault y ≡ None) same (segment_sound (number == 1) x (map_none (λ (found : LinkCause × ℕ). (number, found)) (segment_fault (number == 1) x) a.0))
+each_sound number (x ∷ list) (suc k) s none e =
+    let a = or_none (option_map (λ (found : LinkCause × ℕ). (number, found)) (segment_fault (number == 1) x)) (segments_fault (number + 1) list) none in
+    each_sound (number + 1) list k s a.1 e
+
+length_is : (s : Segment) → length_fault s ≡ None → s.fields.length ≡ body_size s + s.fields.res_spc
+length_is s e = settle (s.fields.length == body_size s + s.fields.res_spc) refl e
+  where
+    settle : (b : Bool) → (s.fields.length == body_size s + s.fields.res_spc) ≡ b → (if b then None else Some (with_place s.start BadLength)) ≡ None → s.fields.length ≡ body_size s + s.fields.res_spc
+    settle true is none = eqb-true s.fields.length (body_size s + s.fields.res_spc) is
+    settle false is none = absurd cc
+
+-- a sound segment's body is no longer than LENGTH says
+pub body_short : (list : List Segment) (k : ℕ) (s : Segment) → segments_fault 1 list ≡ None → slice_get list k ≡ Some s → body_size s ≤ s.fields.length
+body_short list k s none e = let is = length_is s (each_sound 1 list k s none e) in omega (arith, is)
+
+-- ---- a library's rows
+
+row_stands : (segments : List Segment) (numbers : List ℕ) (names : List (List ℕ)) (rows : List Row) (bytes : List ℕ) → AreRows segments numbers names rows bytes → AllStand segments rows
+row_stands segments numbers names [] bytes are row is = absurd is
+row_stands segments numbers names (x ∷ rows) bytes are row (inl e) =
+    let r = are.4 in
+    subst (StandsIn segments) e (record { segment = r.segment; here = r.here; defines = r.defines })
+row_stands segments numbers names (x ∷ rows) bytes are row (inr is) = row_stands segments numbers names rows are.1 are.5 row is
+
+pub rows_stand : (segments : List Segment) (rows : List Row) → RowsAreLaidOut → is_library segments ≡ true → rows_of segments ≡ Ok rows → AllStand segments rows
+rows_stand segments rows law library read = let d = law segments rows library read in row_stands segments d.numbers d.names rows d.second d.rows'
+
+pub told_so : (list : List Segment) (bytes : List ℕ) (told : List LibraryRow) → RowsAreLaidOut → IsFile list bytes → HasRows bytes told → shown.AreRows list told
+told_so list bytes told law is_file has =
+    let same : has.segments ≡ list = file_same has.segments list bytes has.is_file is_file in
+    let read : rows_of list ≡ Ok has.found = ap rows_of (sym same) ∙ has.read in
+    let library : is_library list ≡ true = ap is_library (sym same) ∙ has.library in
+    record {
+      rows = has.found;
+      read = read;
+      told' = has.told ∙ ap (λ (l : List Segment). map (told_row l) has.found) same;
+      stand = rows_stand list has.found law library read;
+      ascend = ascend list 0 bytes (length bytes) is_file;
+    }
+
+pub false_library : (list : List Segment) (bytes : List ℕ) (file at : ℕ) (fault : LinkFault) → IsFile list bytes → segments_fault 1 list ≡ None → is_library list ≡ true → IsFalseAt bytes at
+    → fault ≡ record { cause = BadLibrary; name = None; spot = record { file = file; segment = 1; at = at } } → IsFileRefused file bytes fault
+false_library list bytes file at fault is_file sound library is told =
+    let same : is.segments ≡ list = file_same is.segments list bytes is.is_file is_file in
+    let rows : rows_of list ≡ Err at = ap rows_of (sym same) ∙ is.false' in
+    inr (OfDictionary list at is_file sound (ap (λ (b : Bool). if b then rows_of list else Ok []) library ∙ rows) told)
+
+pub is_one : (list : List Segment) (bytes : List ℕ) → IsFile list bytes → is_library list ≡ true → IsNoLibrary bytes → ⊥
+is_one list bytes is_file library is =
+    let same : is.segments ≡ list = file_same is.segments list bytes is.is_file is_file in
+    let clash : false ≡ true = sym is.other ∙ ap is_library same ∙ library in
+    cc
+
+-- ---- one more input
+
+objects-snoc : (file : ℕ) (inputs : List Input) (input : Input) → objects_from file (inputs ++ input ∷ []) ≡ objects_from file inputs ++ (if is_library input.segments then [] else members_from (file + length inputs) 1 input.segments)
+objects-snoc file [] input =
+    let same : file ≡ file + 0 = omega arith in
+    append-nil (if is_library input.segments then [] else members_from file 1 input.segments) ∙ ap (λ (n : ℕ). if is_library input.segments then [] else members_from n 1 input.segments) same
+objects-snoc file (x ∷ inputs) input =
+    let same : file + 1 + length inputs ≡ file + suc (length inputs) = omega arith in
+    ap (λ (l : List Member). (if is_library x.segments then [] else members_from file 1 x.segments) ++ l)
+    (objects-snoc (file + 1) inputs input ∙ ap (λ (n : ℕ). objects_from (file + 1) inputs ++ (if is_library input.segments then [] else members_from n 1 input.segments)) same)
+    ∙ sym (append_assoc (if is_library x.segments then [] else members_from file 1 x.segments) (objects_from (file + 1) inputs) (if is_library input.segments then [] else members_from (file + suc (length inputs)) 1 input.segments))
+
+offers-snoc : (file : ℕ) (inputs : List Input) (input : Input) → offers_from file (inputs ++ input ∷ []) ≡ offers_from file inputs ++ filter_map (offer_of (file + length inputs) input.segments) input.rows
+offers-snoc file [] input =
+    let same : file ≡ file + 0 = omega arith in
+    append-nil (filter_map (offer_of file input.segments) input.rows) ∙ ap (λ (n : ℕ). filter_map (offer_of n input.segments) input.rows) same
+offers-snoc file (x ∷ inputs) input =
+    let same : file + 1 + length inputs ≡ file + suc (length inputs) = omega arith in
+    ap (λ (l : List Offer). filter_map (offer_of file x.segments) x.rows ++ l)
+    (offers-snoc (file + 1) inputs input ∙ ap (λ (n : ℕ). offers_from (file + 1) inputs ++ filter_map (offer_of n input.segments) input.rows) same)
+    ∙ sym (append_assoc (filter_map (offer_of file x.segments) x.rows) (offers_from (file + 1) inputs) (filter_map (offer_of (file + suc (length inputs)) input.segments) input.rows))
+
+pub gathered_more : (inputs : List Input) (input : Input) (old new : gathered.Gathered) (file : ℕ) (list : List Segment) → IsGathered inputs old → file ≡ length old.files.items + 1 → AddsInput file input old new → IsSoundInput input → input.segments ≡ list
+    → new.files.items ≡ old.files.items ++ list ∷ [] → IsGathered (inputs ++ input ∷ []) new
+unfolding objects offers
+gathered_more inputs input old new file list g number adds sound same files =
+    let at : file ≡ 1 + length inputs = omega (arith, number, ap length g.files, length-map inputs (λ (i : Input). i.segments)) in
+    record {
+      files =
+          files ∙ ap (λ (l : List (List Segment)). l ++ list ∷ []) g.files ∙ ap (λ (s : List Segment). map (λ (i : Input). i.segments) inputs ++ s ∷ []) (sym same)
+          ∙ sym (map-append (λ (i : Input). i.segments) inputs (input ∷ []));
+      objects' = subst (λ (l : List Member). Holds l new.linked) (ap (λ (n : ℕ). objects_from 1 inputs ++ (if is_library input.segments then [] else members_from n 1 input.segments)) at ∙ sym (objects-snoc 1 inputs input))
+          (adds.0 (objects_from 1 inputs) g.objects');
+      offers' = subst (λ (l : List Offer). AreOffers l new.offers) (ap (λ (n : ℕ). offers_from 1 inputs ++ filter_map (offer_of n input.segments) input.rows) at ∙ sym (offers-snoc 1 inputs input))
+          (adds.1 (offers_from 1 inputs) g.offers');
+      sound = λ i is. settle i (in_either inputs (input ∷ []) i is);
+    }
+  where
+    settle : (i : Input) → IsIn inputs i ⊎ IsIn (input ∷ []) i → IsSoundInput i
+    settle i (inl is) = g.sound i is
+    settle i (inr (inl e)) = subst IsSoundInput e sound
+    settle i (inr (inr more)) = absurd more
+
+-- an object file's input
+pub object_input : (list : List Segment) (bytes : List ℕ) → IsFile list bytes → segments_fault 1 list ≡ None → is_library list ≡ false → IsInput bytes (record { segments = list; rows = [] })
+object_input list bytes is_file sound other = record { is_file = is_file; sound = sound; rows = ap (λ (b : Bool). if b then rows_of list else Ok []) other }
+
+-- and a library's
+pub library_input : (list : List Segment) (bytes : List ℕ) (rows : List Row) → IsFile list bytes → segments_fault 1 list ≡ None → is_library list ≡ true → rows_of list ≡ Ok rows → IsInput bytes (record { segments = list; rows = rows })
+library_input list bytes rows is_file sound library read = record { is_file = is_file; sound = sound; rows = ap (λ (b : Bool). if b then rows_of list else Ok []) library ∙ read }
+
+pub gathered_none : (new : gathered.Gathered) → new.files.items ≡ [] → Holds [] new.linked → AreOffers [] new.offers → IsGathered [] new
+unfolding objects offers
+gathered_none new files linked offered = record { files = files; objects' = linked; offers' = offered; sound = λ i is. absurd is }
+
+-- a file that is one has no fault
+pub no_file_fault : (list : List Segment) (bytes : List ℕ) (fault : FileFault) → IsFile list bytes → IsFirstFault bytes fault → ⊥
+no_file_fault list bytes fault is first = no_file bytes fault list first is
+
+-- what an object file adds
+pub adds_object : (file : ℕ) (list : List Segment) (old new : gathered.Gathered) → is_library list ≡ false → new.offers ≡ old.offers → ((before : List Member) → Holds before old.linked → Holds (before ++ members_from file 1 list) new.linked)
+    → AddsInput file (record { segments = list; rows = [] }) old new
+adds_object file list old new other offered linked = (
+  λ before holds. subst (λ (b : Bool). Holds (before ++ (if b then [] else members_from file 1 list)) new.linked) (sym other) (linked before holds),
+  λ os are. subst (λ (l : List Offer). AreOffers l new.offers) (sym (append-nil os)) (subst (AreOffers os) (sym offered) are),
+)
+
+-- and a library
+pub adds_library : (file : ℕ) (list : List Segment) (rows : List Row) (old new : gathered.Gathered) → is_library list ≡ true → new.linked ≡ old.linked
+    → ((os : List Offer) → AreOffers os old.offers → AreOffers (os ++ filter_map (offer_of file list) rows) new.offers) → AddsInput file (record { segments = list; rows = rows }) old new
+adds_library file list rows old new library linked offered = (
+  λ before holds. subst (λ (b : Bool). Holds (before ++ (if b then [] else members_from file 1 list)) new.linked) (sym library)
+      (subst (λ (l : List Member). Holds l new.linked) (sym (append-nil before)) (subst (Holds before) (sym linked) holds)),
+  offered,
+)

@@ -1,0 +1,303 @@
+-- The segments of a library by their starts, and its rows.
+use Rattle.std.proofs.Common.{◌≡◌, inl, inr, ℕ, zero, suc, ◌+◌, ◌-◌, ◌≤◌, ◌<◌, Bool, true, false, not, ◌&&◌, List, [], ◌∷◌, ◌++◌, length, map, take, Option, Some, None, refl, sym, ap, subst, ◌∙◌, append_assoc, append-nil, arith}
+use Rattle.std.specs.Prelude.{slice_get, ◌||◌, option_map, if◌then◌else◌, ◌==◌}
+use Rattle.std.specs.List.{filter_map, cons_option, list_any}
+use Rattle.std.specs.Option.{option_map_or}
+use Rattle.std.specs.Str.{bytes_eq}
+use Rattle.std.proofs.lemmas.Bool.{eq-eqb, ne_eqb}
+use Rattle.omf_format.specs.Header.{form_of, is_private}
+use Rattle.omf_format.specs.File.{Segment, AreSegments, segment_at}
+use Rattle.omf_format.specs.FileLaws.{header_lies}
+use Rattle.omf_records.specs.declared.segment.SegmentView.{SegmentView}
+use Rattle.omf_records.specs.Segments.{shown}
+use Rattle.omf_records.specs.SegmentLaws.{shown_at}
+use Rattle.std.proofs.lemmas.List.Elements.{filter_map-append}
+use Rattle.link_meaning.specs.First.{IsIn}
+use Rattle.link_meaning.specs.Member.{Row, Member, Offer, offer_of}
+use Rattle.link_meaning.specs.Defines.{Definition, outer_scope, title_of, data_title_of}
+use Rattle.link_meaning.specs.LinkedList.{has_title}
+use Rattle.lib_dict.specs.Library.{LibraryRow, told_row}
+use Rattle.link_resolve.specs.declared.definitions.Origin.{Origin}
+use Rattle.link_resolve.specs.declared.offers.Offers.{Offers}
+use Rattle.link_resolve.specs.Offers.{told_origin, is_titled, IsOfferOf, AreOffers}
+use Rattle.std.proofs.lemmas.Option.{slice_get-map}
+use Rattle.std.proofs.lemmas.List.{length-map}
+use Rattle.link_resolve.specs.Libraries.{StartsAscend, StandsIn, AllStand}
+
+-- ---- starts
+
+starts_later : (segments : List Segment) (next : ℕ) (file : List ℕ) (end place : ℕ) (s : Segment) → AreSegments segments next file end → slice_get segments place ≡ Some s → next ≤ s.start
+starts_later [] next file end place s are here = absurd cc
+starts_later (t ∷ segments) next file end zero s are here = let same : t ≡ s = cc in omega (arith, ap (λ (u : Segment). u.start) same, are.0)
+starts_later (t ∷ segments) next file end (suc place) s are here =
+    let rest = starts_later segments (next + t.fields.byte_count) file end place s are.3 here in
+    omega arith
+
+pub ascend : (segments : List Segment) (next : ℕ) (file : List ℕ) (end : ℕ) → AreSegments segments next file end → StartsAscend segments
+ascend [] next file end are j k s t less a b = absurd cc
+ascend (x ∷ segments) next file end are zero zero s t less a b = absurd (omega arith)
+ascend (x ∷ segments) next file end are zero (suc k) s t less a b =
+    let same : x ≡ s = cc in
+    let lies = header_lies x.start x.fields file are.2.header in
+    let later = starts_later segments (next + x.fields.byte_count) file end k t are.3 b in
+    omega (arith, ap (λ (u : Segment). u.start) same, are.0, lies.some, later)
+ascend (x ∷ segments) next file end are (suc j) zero s t less a b = absurd (omega arith)
+ascend (x ∷ segments) next file end are (suc j) (suc k) s t less a b =
+    ascend segments (next + x.fields.byte_count) file end are.3 j k s t (omega arith) a b
+
+segment_same : (s t : Segment) → Some s ≡ Some t → s ≡ t
+segment_same s t e = cc
+
+-- a segment that starts there is between these places
+abbrev pub IsBetween : List Segment → ℕ → ℕ → ℕ → Type 0
+IsBetween list at low high = (high ≤ length list) × ((k : ℕ) (s : Segment) → slice_get list k ≡ Some s → s.start ≡ at → (low ≤ k) × (k < high))
+
+pub within_length : {A : Type 0} → (xs : List A) (k : ℕ) (x : A) → slice_get xs k ≡ Some x → k < length xs
+within_length [] k x e = absurd cc
+within_length (y ∷ xs) zero x e = omega arith
+within_length (y ∷ xs) (suc k) x e = let rest = within_length xs k x e in omega arith
+
+pub at_within : {A : Type 0} → (xs : List A) (k : ℕ) → k < length xs → (x : A) × (slice_get xs k ≡ Some x)
+at_within [] k less = absurd (omega arith)
+at_within (y ∷ xs) zero less = (y, refl)
+at_within (y ∷ xs) (suc k) less = at_within xs k (omega arith)
+
+pub between_all : (list : List Segment) (at : ℕ) → IsBetween list at 0 (length list)
+between_all list at = (omega arith, λ k s here starts. (omega arith, within_length list k s here))
+
+pub not_same : (list : List Segment) (at start k middle : ℕ) (s m : Segment) → slice_get list k ≡ Some s → slice_get list middle ≡ Some m → start ≡ m.start → s.start ≡ at → (start ≡ at → ⊥) → k ≡ middle → ⊥
+not_same list at start k middle s m here there is starts other e =
+    let same : s ≡ m = segment_same s m (sym here ∙ ap (slice_get list) e ∙ there) in
+    other (is ∙ sym (ap (λ (x : Segment). x.start) same) ∙ starts)
+
+pub between_above : (list : List Segment) (at low high middle start : ℕ) (m : Segment) → StartsAscend list → slice_get list middle ≡ Some m → start ≡ m.start → start < at → IsBetween list at low high → IsBetween list at (middle + 1) high
+between_above list at low high middle start m ascends there is less range = (
+  range.0,
+  λ k s here starts.
+      let r = range.1 k s here starts in
+      let before : k < middle → ⊥ = λ l. let asc = ascends k middle s m l here there in omega (arith, asc, starts, is, less) in
+      let same : k ≡ middle → ⊥ = not_same list at start k middle s m here there is starts (λ e. omega (arith, e, less)) in
+      (omega (arith, before, same), r.1),
+)
+
+pub between_below : (list : List Segment) (at low high middle start : ℕ) (m : Segment) → StartsAscend list → slice_get list middle ≡ Some m → start ≡ m.start → at < start → middle ≤ high → IsBetween list at low high → IsBetween list at low middle
+between_below list at low high middle start m ascends there is less within range = (
+  omega (arith, range.0, within),
+  λ k s here starts.
+      let r = range.1 k s here starts in
+      let behind : middle < k → ⊥ = λ l. let asc = ascends middle k m s l there here in omega (arith, asc, starts, is, less) in
+      let same : k ≡ middle → ⊥ = not_same list at start k middle s m here there is starts (λ e. omega (arith, e, less)) in
+      (r.0, omega (arith, behind, same)),
+)
+
+pub found_there : (list : List Segment) (at middle start : ℕ) (m : Segment) → StartsAscend list → slice_get list middle ≡ Some m → start ≡ m.start → start ≡ at → (k : ℕ) (s : Segment) → slice_get list k ≡ Some s → s.start ≡ at
+    → Some (middle + 1) ≡ Some (k + 1)
+found_there list at middle start m ascends there is eq k s here starts =
+    let before : k < middle → ⊥ = λ l. let asc = ascends k middle s m l here there in omega (arith, asc, starts, is, eq) in
+    let behind : middle < k → ⊥ = λ l. let asc = ascends middle k m s l there here in omega (arith, asc, starts, is, eq) in
+    let same : middle ≡ k = omega (arith, before, behind) in
+    ap (λ (n : ℕ). Some (n + 1)) same
+
+-- ---- titles
+
+abbrev title_as : Segment → List ℕ → List Definition
+title_as s n = elim n as (λ n. List Definition) [
+  | [] ↦ []
+  | b ∷ bs ↦ record { name = b ∷ bs; scope = outer_scope (is_private s.fields.kind); place = 0; at = s.start; expr = None; size = 0; form = 0x4E } ∷ []
+]
+
+abbrev privacy : Segment → Bool → Bool
+privacy s private = if private then is_private s.fields.kind else not (is_private s.fields.kind)
+
+abbrev has_name : List ℕ → List Definition → Bool
+has_name name ds = list_any (λ d. bytes_eq name d.name) ds
+
+or_false : (b : Bool) → (b || false) ≡ b
+or_false true = refl
+or_false false = refl
+
+title_none : (s : Segment) (name n : List ℕ) → n ≡ [] → has_name name (title_as s n) ≡ false
+title_none s name [] e = refl
+title_none s name (b ∷ bs) e = absurd cc
+
+title_some : (s : Segment) (name n : List ℕ) → (n ≡ [] → ⊥) → has_name name (title_as s n) ≡ bytes_eq name n
+title_some s name [] some = absurd (some refl)
+title_some s name (b ∷ bs) some = or_false (bytes_eq name (b ∷ bs))
+
+pub other_form : (s : Segment) (name : List ℕ) (private : Bool) (form : ℕ) → form ≡ form_of s.fields.kind → (form ≡ 0x01 → ⊥) → false ≡ has_title s name private
+unfolding data_title_of
+other_form s name private form is other =
+    sym (ap (λ (b : Bool). has_name name (if b then title_of s else []) && privacy s private) (ne_eqb (form_of s.fields.kind) 0x01 (λ e. other (is ∙ e))))
+
+titled_by : (s : Segment) (name : List ℕ) (private : Bool) (form : ℕ) → form ≡ form_of s.fields.kind → form ≡ 0x01 → has_title s name private ≡ (has_name name (title_as s s.fields.name) && privacy s private)
+unfolding data_title_of title_of
+titled_by s name private form is data' = ap (λ (b : Bool). has_name name (if b then title_as s s.fields.name else []) && privacy s private) (eq-eqb (form_of s.fields.kind) 0x01 (sym is ∙ data'))
+
+pub no_title : (s : Segment) (name : List ℕ) (private : Bool) (form : ℕ) (title : List ℕ) → form ≡ form_of s.fields.kind → form ≡ 0x01 → title ≡ s.fields.name → title ≡ [] → false ≡ has_title s name private
+no_title s name private form title is data' named none =
+    sym (titled_by s name private form is data' ∙ ap (λ (b : Bool). b && privacy s private) (title_none s name s.fields.name (sym named ∙ none)))
+
+pub other_title : (s : Segment) (name : List ℕ) (private : Bool) (form : ℕ) (title : List ℕ) → form ≡ form_of s.fields.kind → form ≡ 0x01 → title ≡ s.fields.name → (title ≡ [] → ⊥) → bytes_eq name title ≡ false
+    → false ≡ has_title s name private
+other_title s name private form title is data' named some other =
+    sym (titled_by s name private form is data' ∙ ap (λ (b : Bool). b && privacy s private) (title_some s name s.fields.name (λ e. some (named ∙ e)) ∙ ap (bytes_eq name) (sym named) ∙ other))
+
+pub same_title : (s : Segment) (name : List ℕ) (private is_so : Bool) (form : ℕ) (title : List ℕ) → form ≡ form_of s.fields.kind → form ≡ 0x01 → title ≡ s.fields.name → (title ≡ [] → ⊥) → bytes_eq name title ≡ true
+    → is_so ≡ privacy s private → is_so ≡ has_title s name private
+same_title s name private is_so form title is data' named some same so =
+    so ∙ sym (titled_by s name private form is data' ∙ ap (λ (b : Bool). b && privacy s private) (title_some s name s.fields.name (λ e. some (named ∙ e)) ∙ ap (bytes_eq name) (sym named) ∙ same))
+
+-- ---- rows
+
+-- the place of a row's segment
+pub record HasPlace (segments : List Segment) (row : Row) (at : ℕ) : Type 0 where
+  pub k : ℕ
+  pub number : row.segment ≡ suc k
+  pub segment : Segment
+  pub here : slice_get segments k ≡ Some segment
+  pub start : segment.start ≡ at
+
+pub row_place : (segments : List Segment) (row : Row) (told : LibraryRow) → told ≡ told_row segments row → StandsIn segments row → HasPlace segments row told.at
+row_place segments row told is stands = settle row.segment refl stands.here
+  where
+    settle : (n : ℕ) → row.segment ≡ n → segment_at segments n ≡ Some stands.segment → HasPlace segments row told.at
+    settle zero e here = absurd cc
+    settle (suc k) e here = record {
+      k = k;
+      number = e;
+      segment = stands.segment;
+      here = here;
+      start = sym (ap (λ (t : LibraryRow). t.at) is ∙ ap (λ (o : Option Segment). option_map_or (λ (s : Segment). s.start) o 0) stands.here);
+    }
+
+abbrev offer_with : ℕ → Row → Segment → Offer
+offer_with file row s = record { name = row.name; private = row.private; member = record { file = file; number = row.segment; from = row.from; segment = s } }
+
+offer_same : (a b : Offer) → Some a ≡ Some b → a ≡ b
+offer_same a b e = cc
+
+-- what a row offers
+pub offer_is : (file : ℕ) (segments : List Segment) (row : Row) (o : Offer) (k : ℕ) (s : Segment) → offer_of file segments row ≡ Some o → row.segment ≡ suc k → slice_get segments k ≡ Some s
+    → o ≡ record { name = row.name; private = row.private; member = record { file = file; number = row.segment; from = row.from; segment = s } }
+offer_is file segments row o k s is number here =
+    let place : row.segment - 1 ≡ k = omega (arith, number) in
+    offer_same o (offer_with file row s) (sym is ∙ ap (λ (x : Option Segment). option_map (offer_with file row) x) (ap (slice_get segments) place ∙ here))
+
+pub there_is : (file : ℕ) (segments : List Segment) (row : Row) (k : ℕ) (s : Segment) → row.segment ≡ suc k → slice_get segments k ≡ Some s
+    → offer_of file segments row ≡ Some (record { name = row.name; private = row.private; member = record { file = file; number = row.segment; from = row.from; segment = s } })
+there_is file segments row k s number here =
+    let place : row.segment - 1 ≡ k = omega (arith, number) in
+    ap (λ (x : Option Segment). option_map (offer_with file row) x) (ap (slice_get segments) place ∙ here)
+
+pub offered_so : (file : ℕ) (segments : List Segment) (row : Row) (told : LibraryRow) (o : Offer) (k : ℕ) (s : Segment) (number : ℕ) (titled : Bool) → offer_of file segments row ≡ Some o → row.segment ≡ suc k → slice_get segments k ≡ Some s
+    → told ≡ told_row segments row → number ≡ k + 1 → titled ≡ has_title s told.name told.private → IsOfferOf o told.name told.private (record { file = file; segment = number; from = told.file }) titled
+offered_so file segments row told o k s number titled is place here told_is number_is titled_is =
+    let same = offer_is file segments row o k s is place here in
+    let name : row.name ≡ told.name = sym (ap (λ (t : LibraryRow). t.name) told_is) in
+    let private : row.private ≡ told.private = sym (ap (λ (t : LibraryRow). t.private) told_is) in
+    let from : row.from ≡ told.file = sym (ap (λ (t : LibraryRow). t.file) told_is) in
+    record {
+      name' = ap (λ (x : Offer). x.name) same ∙ name;
+      private' = ap (λ (x : Offer). x.private) same ∙ private;
+      origin' = ap told_origin same ∙ origin_same file row.segment row.from number told.file (omega (arith, place, number_is)) from;
+      titled' = ap is_titled same ∙ ap (λ (n : List ℕ). has_title s n row.private) name ∙ ap (λ (b : Bool). has_title s told.name b) private ∙ sym titled_is;
+    }
+  where
+    origin_at : ℕ → ℕ → ℕ → Origin
+    origin_at file number from = record { file = file; segment = number; from = from }
+
+    origin_same : (file number from number' from' : ℕ) → number ≡ number' → from ≡ from' → origin_at file number from ≡ origin_at file number' from'
+    origin_same file number from number' from' e f = ap (λ (n : ℕ). origin_at file n from) e ∙ ap (origin_at file number') f
+
+pub in_at : {A : Type 0} → (xs : List A) (k : ℕ) (x : A) → slice_get xs k ≡ Some x → IsIn xs x
+in_at [] k x e = absurd cc
+in_at {A} (y ∷ xs) zero x e = let same : y ≡ x = cc in inl same
+in_at (y ∷ xs) (suc k) x e = inr (in_at xs k x e)
+
+-- ---- the rows so far
+
+pub take_more : {A : Type 0} → (xs : List A) (k : ℕ) (x : A) → slice_get xs k ≡ Some x → take (k + 1) xs ≡ take k xs ++ x ∷ []
+take_more [] k x e = absurd cc
+take_more {A} (y ∷ xs) zero x e = let same : y ≡ x = cc in ap (λ (z : A). z ∷ []) same
+take_more {A} (y ∷ xs) (suc k) x e =
+    let next : suc k + 1 ≡ suc (k + 1) = omega arith in
+    ap (λ (n : ℕ). take n (y ∷ xs)) next ∙ ap (λ (l : List A). y ∷ l) (take_more xs k x e)
+
+-- one more row
+pub offers_more : (file : ℕ) (segments : List Segment) (os : List Offer) (rows : List Row) (k : ℕ) (row : Row) (o : Offer) → slice_get rows k ≡ Some row → offer_of file segments row ≡ Some o
+    → (os ++ filter_map (offer_of file segments) (take k rows)) ++ o ∷ [] ≡ os ++ filter_map (offer_of file segments) (take (k + 1) rows)
+offers_more file segments os rows k row o here is =
+    let h = offer_of file segments in
+    let one : filter_map h (row ∷ []) ≡ o ∷ [] = single (h row) is in
+    append_assoc os (filter_map h (take k rows)) (o ∷ [])
+    ∙ ap (λ (l : List Offer). os ++ (filter_map h (take k rows) ++ l)) (sym one)
+    ∙ ap (λ (l : List Offer). os ++ l) (sym (filter_map-append h (take k rows) (row ∷ [])) ∙ ap (filter_map h) (sym (take_more rows k row here)))
+  where
+    single : (x : Option Offer) → x ≡ Some o → cons_option x [] ≡ o ∷ []
+    single None e = absurd cc
+    single (Some y) e = let same : y ≡ o = offer_same y o e in ap (λ (z : Offer). z ∷ []) same
+
+pub not_true : (b : Bool) → not b ≡ true → b ≡ false
+not_true true e = let clash : false ≡ true = e in absurd cc
+not_true false e = refl
+
+pub not_false : (b : Bool) → not b ≡ false → b ≡ true
+not_false true e = refl
+not_false false e = let clash : true ≡ false = e in absurd cc
+
+number_same : (a b : ℕ) → Some a ≡ Some b → a ≡ b
+number_same a b e = cc
+
+-- what was looked up for a row
+pub offered_row : (file : ℕ) (segments : List Segment) (row : Row) (told : LibraryRow) (o : Offer) (number : ℕ) (v : SegmentView) (titled : Bool) (stands : StandsIn segments row) (is : told ≡ told_row segments row) → offer_of file segments row ≡ Some o
+    → Some number ≡ Some ((row_place segments row told is stands).k + 1) → Some (shown v) ≡ segment_at segments number → titled ≡ has_title (shown v) told.name told.private
+    → IsOfferOf o told.name told.private (record { file = file; segment = number; from = told.file }) titled
+offered_row file segments row told o number v titled stands is offer numbered there titled_is =
+    let p = row_place segments row told is stands in
+    let n = number_same number (p.k + 1) numbered in
+    let here : slice_get segments p.k ≡ Some (shown v) = shown_at segments p.k v (there ∙ ap (segment_at segments) n) in
+    offered_so file segments row told o p.k (shown v) number titled offer p.number here is n titled_is
+
+-- ---- the loop
+
+-- the row that is told at a place
+pub record IsRowAt (segments : List Segment) (rows : List Row) (k : ℕ) (told : LibraryRow) : Type 0 where
+  pub row : Row
+  pub at : slice_get rows k ≡ Some row
+  pub among : IsIn rows row
+  pub told' : told ≡ told_row segments row
+
+pub row_at : (segments : List Segment) (dictionary : List LibraryRow) (rows : List Row) (k : ℕ) (told : LibraryRow) → dictionary ≡ map (told_row segments) rows → Some told ≡ slice_get dictionary k → IsRowAt segments rows k told
+row_at segments dictionary rows k told are at = settle (slice_get rows k) refl
+  where
+    both : option_map (told_row segments) (slice_get rows k) ≡ Some told
+    both = sym (slice_get-map (told_row segments) rows k) ∙ ap (λ (l : List LibraryRow). slice_get l k) (sym are) ∙ sym at
+
+    told_same : (a b : LibraryRow) → Some a ≡ Some b → a ≡ b
+    told_same a b e = cc
+
+    settle : (o : Option Row) → slice_get rows k ≡ o → IsRowAt segments rows k told
+    settle None e = let clash : option_map (told_row segments) None ≡ Some told = sym (ap (option_map (told_row segments)) e) ∙ both in absurd cc
+    settle (Some row) e = record { row = row; at = e; among = in_at rows k row e; told' = sym (told_same (told_row segments row) told (sym (ap (option_map (told_row segments)) e) ∙ both)) }
+
+pub rows_next : (file : ℕ) (segments : List Segment) (os : List Offer) (rows : List Row) (k : ℕ) (told : LibraryRow) (r : IsRowAt segments rows k told) → AllStand segments rows → (old new : Offers) → AreOffers (os ++ filter_map (offer_of file segments) (take k rows)) old
+    → ((os' : List Offer) (row : Row) (o : Offer) → told ≡ told_row segments row → StandsIn segments row → offer_of file segments row ≡ Some o → AreOffers os' old → AreOffers (os' ++ o ∷ []) new)
+    → AreOffers (os ++ filter_map (offer_of file segments) (take (k + 1) rows)) new
+rows_next file segments os rows k told r stand old new are add =
+    let s = stand r.row r.among in
+    let p = row_place segments r.row told r.told' s in
+    let offer = there_is file segments r.row p.k p.segment p.number p.here in
+    let o : Offer = offer_with file r.row p.segment in
+    subst (λ (l : List Offer). AreOffers l new) (offers_more file segments os rows k r.row o r.at offer) (add (os ++ filter_map (offer_of file segments) (take k rows)) r.row o r.told' s offer are)
+
+pub take_all : {A : Type 0} → (xs : List A) (n : ℕ) → length xs ≤ n → take n xs ≡ xs
+take_all [] zero less = refl
+take_all [] (suc n) less = refl
+take_all (x ∷ xs) zero less = absurd (omega arith)
+take_all {A} (x ∷ xs) (suc n) less = ap (λ (l : List A). x ∷ l) (take_all xs n (omega arith))
+
+pub rows_all : (file : ℕ) (segments : List Segment) (dictionary : List LibraryRow) (os : List Offer) (rows : List Row) (k : ℕ) (offers : Offers) → dictionary ≡ map (told_row segments) rows → length dictionary ≤ k
+    → AreOffers (os ++ filter_map (offer_of file segments) (take k rows)) offers → AreOffers (os ++ filter_map (offer_of file segments) rows) offers
+rows_all file segments dictionary os rows k offers are past is =
+    let size : length rows ≤ k = omega (arith, past, ap length are, length-map rows (told_row segments)) in
+    subst (λ (l : List Row). AreOffers (os ++ filter_map (offer_of file segments) l) offers) (take_all rows k size) is

@@ -1,0 +1,27 @@
+use Rattle.std.proofs.Common.{◌≡◌, ◌+◌, ◌≤◌, ◌<◌, ◌++◌, List, length, take, map, Some, sym, ap, subst, ◌∙◌, arith}
+use Rattle.std.specs.Prelude.{slice_get}
+use Rattle.std.specs.List.{filter_map}
+use Rattle.lib_dict.specs.Library.{LibraryRow, told_row}
+use Rattle.lib_dict.specs.Rows.{seen_row}
+use Rattle.link_meaning.specs.Member.{Row, Offer, offer_of}
+use Rattle.link_resolve.specs.Offers.{AreOffers}
+use Rattle.link_resolve.proofs.LibraryLaws.{row_at, rows_next, rows_all}
+use Rattle.link_resolve.proofs.library.add_rows.Goals as goal
+
+pub add_row-requires-clause-told : goal.add_row-requires-clause-told
+add_row-requires-clause-told c =
+    let r = row_at c.args.segments.now c.args.dictionary.now c.requires.told.0 c.rows.place (seen_row c.in-Some.row) c.requires.told.1 c.in-Some.ensures in
+    (r.row, r.told', c.requires.told.2 r.row r.among)
+
+pub rows-preserved : goal.rows-preserved
+rows-preserved c = (
+  omega (arith, c.rows-test.true, c.count.ensures),
+  λ os rows told stand are.
+      let r = row_at c.args.segments.now c.args.dictionary.now rows c.rows.place (seen_row c.in-Some.row) told c.in-Some.ensures in
+      rows_next c.args.file c.args.segments.now os rows c.rows.place (seen_row c.in-Some.row) r stand c.rows.offers c.add_row.new.offers (c.rows.invariant.1 os rows told stand are)
+      (λ os' row o told' stands offer are'. c.in_ok-add_row.ensures os' row o told' stands offer are'),
+)
+
+pub returns : goal.returns
+returns c = λ os rows told stand are.
+    rows_all c.args.file c.args.segments.now c.args.dictionary.now os rows c.rows.place c.rows.offers told (omega (arith, c.rows-test.false, c.count.ensures)) (c.rows.invariant.1 os rows told stand are)

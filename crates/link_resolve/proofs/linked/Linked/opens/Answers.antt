@@ -1,0 +1,19 @@
+use Rattle.std.proofs.Common.{◌≡◌, length, arith}
+use Rattle.omf_records.specs.Segments.{shown}
+use Rattle.link_resolve.proofs.Lists.{empty, not_empty}
+use Rattle.link_resolve.proofs.TitleLaws.{code_opens_nothing, unnamed_opens_nothing, new_opens_nothing}
+use Rattle.link_resolve.proofs.linked.Linked.opens.Goals as goal
+
+pub returns-then-form-ne1 : goal.returns-then-form-ne1
+returns-then-form-ne1 c = λ fine list m holds of same. code_opens_nothing list m (shown c.args.segment.now) c.form.result same c.form.ensures c.if-form-ne1.true
+
+pub returns-then-is_empty : goal.returns-then-is_empty
+returns-then-is_empty c = λ fine list m holds of same.
+    let none : length c.bytes-name.result.now ≡ 0 = grind (arith, c.is_empty.ensures, c.if-is_empty.true) in
+    unnamed_opens_nothing list m (shown c.args.segment.now) c.form.result c.bytes-name.result.now same c.form.ensures c.if-form-ne1.false c.bytes-name.ensures.value (empty c.bytes-name.result.now none)
+
+pub returns-in-Nothing : goal.returns-in-Nothing
+returns-in-Nothing c = λ fine list m holds of same.
+    let some : length c.bytes-name.result.now ≡ 0 → ⊥ = λ e. grind (arith, e, c.is_empty.ensures, c.if-is_empty.false) in
+    new_opens_nothing list m (shown c.args.segment.now) c.form.result c.bytes-name.result.now c.find_data.result same c.form.ensures c.if-form-ne1.false c.bytes-name.ensures.value (not_empty c.bytes-name.result.now some)
+    (c.find_data.ensures list m holds of) c.in-Nothing.is

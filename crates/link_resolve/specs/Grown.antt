@@ -1,0 +1,31 @@
+-- When the list may grow.
+use Rattle.std.specs.Prelude.{◌≡◌, ◌+◌, ◌<◌, ◌^◌, ℕ, None, List, length, Some, slice_get}
+use Rattle.omf_format.specs.File.{Segment}
+use Rattle.link_meaning.specs.First.{IsIn}
+use Rattle.link_meaning.specs.Member.{Input, Member, Offer, objects, offers}
+use Rattle.link_meaning.specs.ProgressLaws.{AreSound}
+use Rattle.link_meaning.specs.LinkFaults.{segments_fault}
+use Rattle.link_meaning.specs.LinkedList.{IsLinked}
+use Rattle.link_resolve.specs.declared.linked.Linked.{Linked}
+use Rattle.link_resolve.specs.declared.offers.Offers as kept
+use Rattle.link_resolve.specs.Linked.{Holds}
+use Rattle.link_resolve.specs.Offers.{AreOffers}
+use Rattle.link_resolve.specs.Gathered.{IsAmong, AllAmong}
+
+-- these are the inputs; all their segments are sound, and each row's segment is one of them and defines the row's name
+pub record MayGrow (inputs : List Input) (files : List (List Segment)) (offered : kept.Offers) (linked : Linked) : Type 0 where
+  pub objects' : Holds (objects inputs) linked
+  pub offers' : AreOffers (offers inputs) offered
+  pub few : length (objects inputs) + length (offers inputs) + 1 < 2 ^ 32
+  pub defined : AreSound (offers inputs)
+  pub among : (o : Offer) → IsIn (offers inputs) o → IsAmong files o.member
+  pub there : AllAmong files (objects inputs)
+  pub sound : (segments : List Segment) → IsIn files segments → segments_fault 1 segments ≡ None
+
+-- this is the linked list of the inputs
+pub record HasGrown (inputs : List Input) (files : List (List Segment)) (linked : Linked) : Type 0 where
+  pub list : List Member
+  pub is_linked : IsLinked inputs list
+  pub holds : Holds list linked
+  pub among : AllAmong files list
+  pub few : length list + 1 < 2 ^ 32

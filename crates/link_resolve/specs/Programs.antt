@@ -1,0 +1,49 @@
+-- A program is seen as its linked list.
+use Rattle.std.specs.Prelude.{◌≡◌, ◌<◌, ◌^◌, ◌+◌, ℕ, zero, suc, List, length, Option, Some, None, map, option_map, slice_get}
+use Rattle.std.specs.List.{filter_map}
+use Rattle.omf_format.specs.File.{Segment}
+use Rattle.omf_format.specs.Header.{Fields}
+use Rattle.omf_header.specs.View.{fields}
+use Rattle.link_meaning.specs.Member.{Member}
+use Rattle.link_meaning.specs.Layout.{load_of, offset_of, load_headers}
+use Rattle.link_resolve.specs.declared.linked.LinkedMember.{LinkedMember}
+use Rattle.link_resolve.specs.declared.program.LinkMember.{LinkMember}
+use Rattle.link_resolve.specs.declared.program.Kept.{Kept}
+use Rattle.link_resolve.specs.declared.layout.Place.{Place}
+use Rattle.link_resolve.specs.Linked.{Holds, member_at}
+use Rattle.link_resolve.specs.Gathered.{segment_in, AllAmong}
+
+abbrev pub member_in : List (List Segment) → LinkedMember → Option Member
+member_in files kept =
+    option_map (λ s. record { file = kept.origin.file; number = kept.origin.segment; from = kept.origin.from; segment = s }) (segment_in files kept.origin.file kept.origin.segment)
+
+-- the members that are kept, with their segments
+abbrev pub list_of : Kept → List Member
+list_of kept = filter_map (member_in kept.files.items) kept.linked.members.items
+
+-- where the member with this number, from 0, stands
+pub record StandsAt (list : List Member) (k : ℕ) (m : Member) (place : Place) : Type 0 where
+  pub load : place.load + 1 ≡ load_of list m
+  pub few : place.load + 1 < 2 ^ 16
+  pub offset : place.offset ≡ offset_of list (k + 1) m
+  pub small : place.offset < 2 ^ 32
+
+-- this is kept of the list
+pub record IsKept (list : List Member) (kept : Kept) : Type 0 where
+  pub holds : Holds list kept.linked
+  pub among : AllAmong kept.files.items list
+  pub few : length list < 2 ^ 32
+  pub loads : length kept.headers.items < 2 ^ 32
+  pub count : length kept.places.items ≡ length list
+  pub places : (k : ℕ) (m : Member) (place : Place) → slice_get list k ≡ Some m → slice_get kept.places.items k ≡ Some place → StandsAt list k m place
+  pub headers : map fields kept.headers.items ≡ load_headers list
+
+-- the member at a place, from 1, with its load segment and offset
+abbrev pub linked_at : List Member → ℕ → Option LinkMember
+linked_at list place =
+    option_map (λ m. record { file = m.file; segment = m.number; load_segment = load_of list m; offset = offset_of list place m }) (member_at list place)
+
+-- the header with a number, from 1
+abbrev pub header_at : List Fields → ℕ → Option Fields
+header_at headers zero = None
+header_at headers (suc k) = slice_get headers k

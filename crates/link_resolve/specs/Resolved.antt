@@ -1,0 +1,50 @@
+-- What resolving answers.
+use Rattle.std.specs.Prelude.{◌≡◌, ◌⊎◌, ◌<◌, ◌≤◌, ◌^◌, ℕ, zero, suc, ◌+◌, List, [], ◌∷◌, length, map, Option, Some, None, slice_get, option_map, Vec}
+use Rattle.std.specs.Global.{Global}
+use Rattle.omf_format.specs.File.{Segment}
+use Rattle.omf_format.specs.Header.{Fields}
+use Rattle.link_meaning.specs.declared.fault.LinkFault.{LinkFault}
+use Rattle.link_meaning.specs.First.{HasNone, IsFirst}
+use Rattle.link_meaning.specs.Member.{Input, Member, objects}
+use Rattle.link_meaning.specs.LinkedList.{asked}
+use Rattle.link_meaning.specs.Layout.{load_of, offset_of, load_headers}
+use Rattle.link_meaning.specs.LinkFaults.{HasFileFault, AreInputs, IsProgram, HasUseFault, IsFirstResolveFault, IsResolved}
+use Rattle.link_resolve.specs.declared.gather.Gathered as gathered
+use Rattle.link_resolve.specs.declared.definitions.Origin.{Origin}
+use Rattle.link_resolve.specs.Reading.{memory_fault}
+use Rattle.link_resolve.specs.Gathered.{IsGathered}
+
+-- the bytes of files that are held
+abbrev pub all_bytes : List (Vec ℕ Global) → List (List ℕ)
+all_bytes files = map (λ file. file.items) files
+
+-- how many bytes files have together
+abbrev pub total_size : List (List ℕ) → ℕ
+total_size [] = 0
+total_size (file ∷ files) = length file + total_size files
+
+-- the files are few and short, as 255 files of 16,777,216 bytes are
+abbrev pub AreFew : List (List ℕ) → Type 0
+AreFew files = total_size files + length files + 1 < 2 ^ 32
+
+-- each library has no more rows than bytes
+abbrev pub FewRows : List Input → List (List ℕ) → Type 0
+FewRows [] files = Unit {0}
+FewRows (i ∷ inputs) [] = Unit {0}
+FewRows (i ∷ inputs) (bytes ∷ files) = (length i.rows ≤ length bytes) × FewRows inputs files
+
+-- all files were read, and these are the inputs
+abbrev pub HasGathered : List (List ℕ) → gathered.Gathered → Type 0
+HasGathered files kept = (inputs : List Input) × AreInputs files inputs × FewRows inputs files × IsGathered inputs kept
+
+-- the first file at fault has this fault, unless memory ran out
+abbrev pub IsReadingFault : List (List ℕ) → LinkFault → Type 0
+IsReadingFault files fault = (fault ≡ memory_fault) ⊎ IsFirst (λ fronts bytes. HasFileFault (length fronts + 1) bytes) files fault
+
+-- the first use that doesn't resolve has this fault, unless memory ran out
+abbrev pub IsUseFault : List Member → LinkFault → Type 0
+IsUseFault list fault = (fault ≡ memory_fault) ⊎ IsFirst (HasUseFault list) (asked list) fault
+
+-- it is the first fault of the files, unless memory ran out
+abbrev pub IsRefused : List (List ℕ) → LinkFault → Type 0
+IsRefused files fault = (fault ≡ memory_fault) ⊎ IsFirstResolveFault files fault

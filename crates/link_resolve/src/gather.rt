@@ -1,0 +1,182 @@
+//! What is gathered of all inputs: their segments, the segments of the object files as members, and the rows of the libraries.
+
+ghost use Rattle.std.specs.Prelude.{◌≡◌, ◌+◌, ◌<◌, ◌≤◌, ◌^◌, ◌++◌, ◌∷◌, [], List, ℕ, Bool, true, None, length, option_map, IfSome, IfOk, IfErr, OnOk};
+ghost use Rattle.omf_format.specs.Header.{form_of};
+ghost use Rattle.omf_format.specs.File.{IsFile};
+ghost use Rattle.omf_records.specs.Segments.{IsSound, shown};
+ghost use Rattle.lib_dict.specs.Rows.{HasNoRows};
+ghost use Rattle.lib_dict.specs.Library.{HasRows};
+ghost use Rattle.link_meaning.specs.Member.{Input, Member, is_library, members_from};
+ghost use Rattle.link_meaning.specs.LinkFaults.{segments_fault, IsInput, AreInputs};
+ghost use Rattle.link_resolve.specs.Reading.{memory_fault, IsFileRefused};
+ghost use Rattle.link_resolve.specs.Linked.{Holds};
+ghost use Rattle.link_resolve.specs.Offers.{AreOffers};
+ghost use Rattle.link_resolve.specs.Libraries.{AllStand};
+ghost use Rattle.link_resolve.specs.Gathered.{segment_in, IsGathered, AreRows, IsSoundInput, AddsInput};
+
+use crate::definitions::Origin;
+use crate::input::{fault_in, memory_fault, read_segments};
+use crate::library::add_rows;
+use crate::linked::Linked;
+use crate::offers::Offers;
+use lib_dict::{DictFault, Dictionary, read_dictionary, rows_are_laid_out};
+use link_meaning::{LinkCause, LinkFault};
+use omf_records::{SegmentList, SegmentView};
+use std::alloc::{AllocError, Global};
+
+/// The inputs as they were read, in order.
+#[derive(Drop)]
+pub struct Gathered<'a> {
+    pub files: Vec<SegmentList<'a>>,
+    /// The list so far: the segments of the object files.
+    pub linked: Linked<'a>,
+    pub offers: Offers<'a>,
+}
+
+/// A file whose first segment is a dictionary is a library.
+fn is_library(list: &SegmentList) -> bool
+    ensures { result ≡ is_library list.now }
+{
+    match list.get(1) {
+        Some(segment) => segment.header.kind.form() == 0x08,
+        None => false,
+    }
+}
+
+/// The segment of a file: file and segment count from 1.
+pub fn segment_in<'s, 'a>(
+    files: &'s [SegmentList<'a>],
+    file: u32,
+    segment: u32,
+) -> Option<&'s SegmentView<'a>>
+    ensures value { option_map (λ view. shown view.now) result ≡ segment_in files.now file segment }
+    ensures sound { IfSome result (λ view. IsSound view.now) }
+{
+    if file == 0 {
+        return None;
+    }
+    match files.get(file as usize - 1) {
+        Some(list) => list.get(segment),
+        None => None,
+    }
+}
+
+/// LENGTH, which bounds the cells of a sound body.
+pub fn length_of(segment: &SegmentView) -> u32
+    ensures { result ≡ (segment.now).header.length }
+{
+    segment.header.length
+}
+
+/// Adds the segments of the object file with this number.
+fn add_object<'a>(
+    alloc: Global,
+    linked: &mut Linked<'a>,
+    list: &SegmentList<'a>,
+    file: u32,
+) -> Result<(), AllocError>
+    requires few { length linked.old.members.items + length list.now < 2 ^ 32 }
+    requires sound { segments_fault 1 list.now ≡ None }
+    ensures { OnOk result ((before : List Member) → Holds before linked.old → Holds (before ++ members_from file 1 list.now) linked.new) }
+{
+    let mut number = 0;
+    'segments: while number < list.count() {
+        number += 1;
+        let segment = match list.get(number) {
+            Some(segment) => segment,
+            None => unreachable!(),
+        };
+        let origin = Origin {
+            file,
+            segment: number,
+            from: 0,
+        };
+        let _length = length_of(segment);
+        linked.add(alloc, segment, origin)?;
+    }
+    Ok(())
+}
+
+/// The dictionary of the library with this number.
+fn dictionary_of<'a>(
+    alloc: Global,
+    bytes: &'a [u8],
+    list: &SegmentList<'a>,
+    file: u32,
+) -> Result<Dictionary<'a>, LinkFault>
+    requires short { length bytes.now < 2 ^ 32 }
+    requires is_file { IsFile list.now bytes.now }
+    requires sound { segments_fault 1 list.now ≡ None }
+    requires library { is_library list.now ≡ true }
+    ensures rows { IfOk result (λ dictionary. AreRows list.now dictionary) }
+    ensures few { IfOk result (λ dictionary. length dictionary ≤ length bytes.now) }
+    ensures refused { IfErr result (λ fault. IsFileRefused file bytes.now fault) }
+{
+    rows_are_laid_out();
+    match read_dictionary(alloc, bytes) {
+        Ok(dictionary) => Ok(dictionary),
+        Err(DictFault::BadLibrary(at)) => Err(fault_in(file, 1, at, LinkCause::BadLibrary)),
+        Err(DictFault::Memory) => Err(memory_fault()),
+        Err(DictFault::File(_)) => unreachable!(),
+        Err(DictFault::NotLibrary) => unreachable!(),
+    }
+}
+
+impl<'a> Gathered<'a> {
+    /// Of no input.
+    pub fn new(alloc: Global) -> Gathered<'a>
+        ensures { IsGathered [] result }
+    {
+        Gathered {
+            files: Vec::new(alloc),
+            linked: Linked::new(alloc),
+            offers: Offers::new(alloc),
+        }
+    }
+
+    /// Adds what is linked or offered of a file with this number that was read.
+    fn add_segments(
+        &mut self,
+        alloc: Global,
+        bytes: &'a [u8],
+        list: &SegmentList<'a>,
+        file: u32,
+    ) -> Result<(), LinkFault>
+        requires short { length bytes.now < 2 ^ 32 }
+        requires few { length self.old.linked.members.items + length list.now < 2 ^ 32 }
+        requires is_file { IsFile list.now bytes.now }
+        requires sound { segments_fault 1 list.now ≡ None }
+        ensures files { self.new.files ≡ self.old.files }
+        ensures added { OnOk result ((input : Input) × IsInput bytes.now input × (input.segments ≡ list.now) × IsSoundInput input × (length input.rows ≤ length bytes.now) × AddsInput file input self.old self.new) }
+        ensures refused { IfErr result (λ fault. IsFileRefused file bytes.now fault) }
+    {
+        if !is_library(list) {
+            return match add_object(alloc, &mut self.linked, list, file) {
+                Ok(()) => Ok(()),
+                Err(_) => Err(memory_fault()),
+            };
+        }
+        let dictionary = dictionary_of(alloc, bytes, list, file)?;
+        match add_rows(&mut self.offers, list, &dictionary, file) {
+            Ok(()) => Ok(()),
+            Err(_) => Err(memory_fault()),
+        }
+    }
+
+    /// Reads the next file.
+    pub fn add(&mut self, alloc: Global, bytes: &'a [u8]) -> Result<(), LinkFault>
+        requires short { length bytes.now + length self.old.linked.members.items + 1 < 2 ^ 32 }
+        requires few { length self.old.files.items + 1 < 2 ^ 32 }
+        ensures added { OnOk result ((inputs : List Input) → IsGathered inputs self.old
+            → (input : Input) × IsInput bytes.now input × (length input.rows ≤ length bytes.now) × IsGathered (inputs ++ input ∷ []) self.new) }
+        ensures refused { IfErr result (λ fault. IsFileRefused (length self.old.files.items + 1) bytes.now fault) }
+    {
+        let file = self.files.as_slice().len() as u32 + 1;
+        let list = read_segments(alloc, bytes, file)?;
+        self.add_segments(alloc, bytes, &list, file)?;
+        match self.files.push(list) {
+            Ok(()) => Ok(()),
+            Err(_) => Err(memory_fault()),
+        }
+    }
+}

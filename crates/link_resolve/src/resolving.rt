@@ -1,0 +1,176 @@
+//! Resolving: from files to the linked list with its load segments, or the first fault.
+
+ghost use Rattle.std.specs.Prelude.{◌≡◌, ◌+◌, ◌-◌, ◌<◌, ◌≤◌, ◌^◌, ◌++◌, ◌∷◌, [], List, ℕ, None, Some, slice_get, length, IfSome, IfOk, IfErr, OnOk, OnErr};
+ghost use Rattle.std.specs.Bool.{OnTrue};
+ghost use Rattle.omf_format.specs.File.{Segment};
+ghost use Rattle.link_meaning.specs.declared.fault.LinkCause.TheVariants.{Empty};
+ghost use Rattle.link_meaning.specs.First.{HasNone};
+ghost use Rattle.link_meaning.specs.Member.{Member};
+ghost use Rattle.link_meaning.specs.LinkedList.{asked};
+ghost use Rattle.link_meaning.specs.LinkFaults.{nowhere, HasUseFault, IsResolved};
+ghost use Rattle.link_resolve.specs.Linked.{Holds};
+ghost use Rattle.link_resolve.specs.Gathered.{AllAmong};
+ghost use Rattle.link_resolve.specs.Laid.{Laid};
+ghost use Rattle.link_resolve.specs.Resolving.{IsHeld};
+ghost use Rattle.link_resolve.specs.Resolved.{all_bytes, total_size, AreFew, HasGathered, IsReadingFault, IsUseFault, IsRefused};
+
+use crate::gather::{Gathered, segment_in};
+use crate::grow::grow;
+use crate::input::memory_fault;
+use crate::layout::{Layout, headers};
+use crate::linked::Linked;
+use crate::program::{Kept, Program};
+use link_meaning::{LinkCause, LinkFault};
+use omf_base::{Name, Spot};
+use omf_records::SegmentList;
+use std::alloc::{AllocError, Global};
+
+/// The most bytes that files have together, and more files than any link takes.
+const MOST_BYTES: usize = 0xFFFF_0000;
+
+const MOST_FILES: usize = 0xFFFE;
+
+/// The files may be resolved: 255 files of 16,777,216 bytes each may.
+pub fn are_few(inputs: &Vec<Vec<u8>>) -> bool
+    ensures { OnTrue result (AreFew (all_bytes inputs.now.items)) }
+{
+    let mut left = MOST_BYTES;
+    'files: for file in inputs {
+        if file.len() > left {
+            return false;
+        }
+        left -= file.len();
+    }
+    inputs.len() < MOST_FILES
+}
+
+/// Reads all files.
+fn gather<'a>(alloc: Global, inputs: &'a Vec<Vec<u8>>) -> Result<Gathered<'a>, LinkFault>
+    requires { AreFew (all_bytes inputs.now.items) }
+    ensures read { IfOk result (λ gathered. HasGathered (all_bytes inputs.now.items) gathered) }
+    ensures refused { IfErr result (λ fault. IsReadingFault (all_bytes inputs.now.items) fault) }
+{
+    let mut gathered = Gathered::new(alloc);
+    'files: for bytes in inputs {
+        match gathered.add(alloc, bytes.as_slice()) {
+            Ok(()) => {}
+            Err(fault) => return Err(fault),
+        }
+    }
+    Ok(gathered)
+}
+
+/// The object files hold no segment.
+fn empty_fault() -> LinkFault
+    ensures { result ≡ record { cause = Empty; name = None; spot = nowhere } }
+{
+    LinkFault {
+        cause: LinkCause::Empty,
+        name: None,
+        spot: Spot {
+            file: 0,
+            segment: 0,
+            at: 0,
+        },
+    }
+}
+
+/// The first use that doesn't resolve, as a fault; Ok where each does.
+fn check_names(alloc: Global, linked: &Linked) -> Result<(), LinkFault>
+    requires { IsHeld linked.now }
+    ensures fine { OnOk result ((list : List Member) → Holds list linked.now → HasNone (HasUseFault list) (asked list)) }
+    ensures refused { IfErr result (λ fault. (list : List Member) → Holds list linked.now → IsUseFault list fault) }
+{
+    let (cause, number) = match linked.unresolved() {
+        None => return Ok(()),
+        Some(found) => found,
+    };
+    let (origin, name, at) = linked.used(number);
+    let name = match Name::of(alloc, name) {
+        Ok(name) => name,
+        Err(_) => return Err(memory_fault()),
+    };
+    Err(LinkFault {
+        cause,
+        name: Some(name),
+        spot: Spot {
+            file: origin.file,
+            segment: origin.segment,
+            at,
+        },
+    })
+}
+
+/// The load segments of the whole list.
+fn lay_out<'a>(
+    alloc: Global,
+    files: &[SegmentList<'a>],
+    linked: &Linked,
+) -> Result<Layout<'a>, AllocError>
+    requires held { (list : List Member) × Holds list linked.now × AllAmong files.now list }
+    requires few { length linked.now.members.items < 2 ^ 32 }
+    ensures { IfOk result (λ layout. (list : List Member) → Holds list linked.now → AllAmong files.now list → Laid list layout) }
+{
+    let mut layout = Layout::new(alloc);
+    let mut place = 0;
+    'members: while place < linked.count() {
+        place += 1;
+        let origin = match linked.origin(place) {
+            Some(origin) => origin,
+            None => unreachable!(),
+        };
+        let segment = match segment_in(files, origin.file, origin.segment) {
+            Some(segment) => segment,
+            None => unreachable!(),
+        };
+        layout.add(segment, origin)?;
+    }
+    Ok(layout)
+}
+
+/// The program of files whose names and load segments have no fault.
+#[tactic(none)]
+pub fn resolve<'a>(alloc: Global, inputs: &'a Vec<Vec<u8>>) -> Result<Program<'a>, LinkFault>
+    requires { AreFew (all_bytes inputs.now.items) }
+    ensures resolved { IfOk result (λ program. IsResolved (all_bytes inputs.now.items) program) }
+    ensures refused { IfErr result (λ fault. IsRefused (all_bytes inputs.now.items) fault) }
+{
+    let gathered = match gather(alloc, inputs) {
+        Ok(gathered) => gathered,
+        Err(fault) => return Err(fault),
+    };
+    if gathered.linked.count() == 0 {
+        return Err(empty_fault());
+    }
+    let Gathered {
+        files,
+        mut linked,
+        offers,
+    } = gathered;
+    let segments = files.as_slice();
+    match grow(alloc, segments, &offers, &mut linked) {
+        Ok(()) => {}
+        Err(_) => return Err(memory_fault()),
+    }
+    match check_names(alloc, &linked) {
+        Ok(()) => {}
+        Err(fault) => return Err(fault),
+    }
+    let layout = match lay_out(alloc, segments, &linked) {
+        Ok(layout) => layout,
+        Err(_) => return Err(memory_fault()),
+    };
+    match layout.fault() {
+        Some(fault) => return Err(fault),
+        None => {}
+    }
+    match headers(alloc, &layout) {
+        Ok(headers) => Ok(Program::of(Kept {
+            files,
+            linked,
+            places: layout.places,
+            headers,
+        })),
+        Err(_) => Err(memory_fault()),
+    }
+}

@@ -1,0 +1,92 @@
+-- Names one behind another, with commas between them.
+use Rattle.std.proofs.Common.{◌≡◌, ◌≢◌, ℕ, ◌+◌, ◌<◌, ◌≤◌, Bool, true, false, eqb, cond, List, [], ◌∷◌, ◌++◌, length, take, drop, Option, Some, None, refl, sym, ap, subst, ◌∙◌, append-nil, append_assoc, arith}
+use Rattle.std.specs.List.{prefix_len}
+use Rattle.std.proofs.lemmas.List.{length-drop}
+use Rattle.orca_meaning.specs.Characters.{is_name_start, is_name_byte, folded}
+use Rattle.orca_meaning.specs.Token.{Found, name_at}
+use Rattle.asm_meaning.specs.Elements.{AreNames}
+
+-- some names were read, and others are left
+pub record Reads (text : List ℕ) (out : List (List ℕ)) (left : List ℕ) : Type 0 where
+  pub makes : (n : List ℕ) (ns : List (List ℕ)) → AreNames left (n ∷ ns) → AreNames text (out ++ n ∷ ns)
+  pub only : (all : List (List ℕ)) → AreNames text all → (ns : List (List ℕ)) × AreNames left ns
+  pub short : length left ≤ length text
+
+pub reads_nothing : (text : List ℕ) (out : List (List ℕ)) → out ≡ [] → Reads text out text
+reads_nothing text out none = record {
+  makes = λ n ns are. subst (λ (o : List (List ℕ)). AreNames text (o ++ n ∷ ns)) (sym none) are;
+  only = λ all are. (all, are);
+  short = omega arith;
+}
+
+one_found : (o : Found (List ℕ)) (m n r s : List ℕ) → o ≡ Some (m, r) → o ≡ Some (n, s) → r ≡ s
+one_found o m n r s p q = ap (λ (x : List ℕ × List ℕ). x.1) (same (m, r) (n, s) (sym p ∙ q))
+  where
+    same : (x y : List ℕ × List ℕ) → Some x ≡ Some y → x ≡ y
+    same x y e = cc
+
+abbrev found : List ℕ × List ℕ → Found (List ℕ)
+found x = Some x
+
+-- what stands behind a name is shorter
+pub name_shorter : (text name rest : List ℕ) → name_at text ≡ Some (name, rest) → length rest < length text
+unfolding name_at
+name_shorter [] name rest e = absurd cc
+name_shorter (byte ∷ behind) name rest e = by_start (is_name_start byte) e
+  where
+    n : ℕ
+    n = prefix_len is_name_byte behind
+
+    there : List ℕ × List ℕ
+    there = (folded (byte ∷ take n behind), drop n behind)
+
+    same : found there ≡ Some (name, rest) → there ≡ (name, rest)
+    same e = cc
+
+    by_start : (b : Bool) → cond b (found there) None ≡ Some (name, rest) → length rest < length (byte ∷ behind)
+    by_start true e = omega (arith, ap (λ (x : List ℕ × List ℕ). length x.1) (same e), length-drop n behind)
+    by_start false e = absurd cc
+
+pub reads_more : (text : List ℕ) (out new : List (List ℕ)) (left rest behind name : List ℕ) → Reads text out left → name_at left ≡ Some (name, rest) → new ≡ out ++ name ∷ [] → rest ≡ 0x2C ∷ behind → Reads text new behind
+reads_more text out new left rest behind name reads is push comma =
+    let here : name_at left ≡ Some (name, 0x2C ∷ behind) = is ∙ ap (λ (r : List ℕ). found (name, r)) comma in
+    record {
+      makes = λ n ns are. subst (λ (o : List (List ℕ)). AreNames text (o ++ n ∷ ns)) (sym push)
+          (subst (AreNames text) (sym (append_assoc out (name ∷ []) (n ∷ ns))) (reads.makes name (n ∷ ns) (behind, here, are)));
+      only = λ all are. let found' = reads.only all are in behind_first left behind name found'.0 here found'.1;
+      short = omega (arith, name_shorter left name rest is, ap length comma, reads.short);
+    }
+  where
+    same_behind : (r s : List ℕ) → 0x2C ∷ r ≡ 0x2C ∷ s → r ≡ s
+    same_behind r s e = cc
+
+    behind_first : (left behind name : List ℕ) (ns : List (List ℕ)) → name_at left ≡ Some (name, 0x2C ∷ behind) → AreNames left ns → (us : List (List ℕ)) × AreNames behind us
+    behind_first left behind name [] here are = absurd are
+    behind_first left behind name (u ∷ []) here are = let same : 0x2C ∷ behind ≡ [] = one_found (name_at left) name u (0x2C ∷ behind) [] here are in absurd cc
+    behind_first left behind name (u ∷ v ∷ us) here are =
+        let same = same_behind behind are.0 (one_found (name_at left) name u (0x2C ∷ behind) (0x2C ∷ are.0) here are.1) in
+        (v ∷ us, subst (λ (b : List ℕ). AreNames b (v ∷ us)) (sym same) are.2)
+
+pub reads_last : (text : List ℕ) (out new : List (List ℕ)) (left rest name : List ℕ) → Reads text out left → name_at left ≡ Some (name, rest) → new ≡ out ++ name ∷ [] → rest ≡ [] → AreNames text new
+reads_last text out new left rest name reads is push end =
+    subst (AreNames text) (sym push) (reads.makes name [] (is ∙ ap (λ (r : List ℕ). found (name, r)) end))
+
+pub reads_none : (text : List ℕ) (out : List (List ℕ)) (left : List ℕ) → Reads text out left → name_at left ≡ None → (all : List (List ℕ)) → AreNames text all → ⊥
+reads_none text out left reads none all are = let found' = reads.only all are in by_count found'.0 found'.1
+  where
+    clash : (x : List ℕ × List ℕ) → name_at left ≡ Some x → ⊥
+    clash x e = let both : None ≡ found x = sym none ∙ e in absurd cc
+
+    by_count : (ns : List (List ℕ)) → AreNames left ns → ⊥
+    by_count [] are = are
+    by_count (n ∷ []) are = clash (n, []) are
+    by_count (n ∷ u ∷ ns) are = clash (n, 0x2C ∷ are.0) are.1
+
+pub reads_wrong : (text : List ℕ) (out : List (List ℕ)) (left rest name : List ℕ) → Reads text out left → name_at left ≡ Some (name, rest) → rest ≢ [] → ((behind : List ℕ) → rest ≢ 0x2C ∷ behind)
+    → (all : List (List ℕ)) → AreNames text all → ⊥
+reads_wrong text out left rest name reads is some other all are = let found' = reads.only all are in by_count found'.0 found'.1
+  where
+    by_count : (ns : List (List ℕ)) → AreNames left ns → ⊥
+    by_count [] are = are
+    by_count (n ∷ []) are = some (one_found (name_at left) name n rest [] is are)
+    by_count (n ∷ u ∷ ns) are = other are.0 (one_found (name_at left) name n rest (0x2C ∷ are.0) is are.1)
