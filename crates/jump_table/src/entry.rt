@@ -4,10 +4,10 @@ ghost use Rattle.std.specs.Prelude.{◌≡◌, ◌⊎◌, ◌↔◌, ◌+◌, �
 ghost use Rattle.byteorder.specs.Endian.{little_bytes};
 ghost use Rattle.omf_format.specs.Number as numbers;
 ghost use Rattle.load_meaning.specs.declared.table.Entry.{Entry};
-ghost use Rattle.load_meaning.specs.Table.{HasCode, IsEntryAt, code_bytes, written_at};
+ghost use Rattle.load_meaning.specs.Table.{HasCode, IsEntryAt, code_bytes, entry_bytes, written_at};
 
 use byteorder::{ByteOrder, LittleEndian};
-use load_meaning::Entry;
+use load_meaning::{Entry, Target};
 use omf_base::number_at;
 
 /// The code of an entry whose target isn't loaded: a JSL to the loader at $E1F000.
@@ -73,6 +73,21 @@ fn put(bytes: &mut [u8], at: usize, piece: &[u8])
     ensures { bytes.new ≡ written_at at piece.now bytes.old }
 {
     bytes[at..at + piece.len()].copy_from_slice(piece);
+}
+
+/// Writes an entry of a user for a target that isn't loaded, from a displacement on.
+#[tactic(auto, unfolding(load_meaning::specs::Table::entry_bytes))]
+pub fn put_entry(bytes: &mut [u8], at: usize, user: u16, target: Target)
+    requires { at + 14 ≤ length bytes.old }
+    ensures { bytes.new ≡ written_at at (entry_bytes (record { user = user; file = target.file; segment = target.segment; offset = target.offset; loaded = None })) bytes.old }
+{
+    let mut entry = [0; 14];
+    LittleEndian::write_u16(&mut entry, user);
+    LittleEndian::write_u16(&mut entry[2..], target.file);
+    LittleEndian::write_u16(&mut entry[4..], target.segment);
+    LittleEndian::write_u32(&mut entry[6..], target.offset);
+    entry[10..].copy_from_slice(&UNLOADED);
+    put(bytes, at, &entry);
 }
 
 /// Sets the user ID of the entry that begins at a displacement.

@@ -30,7 +30,7 @@ use Rattle.link_meaning.specs.EquateValueLaws.{are_table, tell_values}
 
 -- ---- displacements rise
 
-abbrev Rising : ℕ → List (ℕ × Record) → Type 0
+abbrev pub Rising : ℕ → List (ℕ × Record) → Type 0
 Rising low [] = Unit {0}
 Rising low (found ∷ founds) = (low ≤ found.0) × Rising (found.0 + 1) founds
 
@@ -82,7 +82,7 @@ rising r last (found ∷ founds) fits within run =
     (omega (arith, place), lower (found.0 + 1) (place_of (after_next r)) founds (omega (arith, place, end, left, size, some, within)) more)
 
 -- so they do in a segment that was read
-read_rising : (s : Segment) → IsRead s → Rising 0 s.records
+pub read_rising : (s : Segment) → IsRead s → Rising 0 s.records
 unfolding body_reader
 read_rising s read =
     let r = body_reader s.start s.fields read.file in
@@ -147,7 +147,7 @@ in_records loc (found ∷ founds) d is =
       | inr h ↦ let rest = in_records (loc + size_at loc found.1) founds d h in (rest.0, inr rest.1, rest.2)
     ]
 
-title_none : (s : Segment) (d : Definition) → IsIn (title_of s) d → has_expr d.expr ≡ false
+pub title_none : (s : Segment) (d : Definition) → IsIn (title_of s) d → has_expr d.expr ≡ false
 unfolding title_of
 title_none s d is = by_name s.fields.name is
   where

@@ -1,13 +1,13 @@
 -- The value of one equate, by those of the equates to which it leads.
-use Rattle.std.specs.Prelude.{◌≡◌, ℕ, ◌↔◌, List, [], ◌∷◌, Result}
+use Rattle.std.specs.Prelude.{◌≡◌, ℕ, ◌↔◌, List, [], ◌∷◌, Result, true, Some, slice_get}
 use Rattle.std.specs.List.{AllByRecursion}
 use Rattle.omf_format.specs.HeaderLaws.{IsBytes}
 use Rattle.omf_format.specs.declared.value.Value.{Value}
 use Rattle.omf_format.specs.declared.value.ValueFault.{ValueFault}
 use Rattle.link_meaning.specs.First.{IsIn}
 use Rattle.link_meaning.specs.Member.{Member}
-use Rattle.link_meaning.specs.Search.{Found}
-use Rattle.link_meaning.specs.Rings.{equates, LeadsTo, IsCircular}
+use Rattle.link_meaning.specs.Search.{Found, entries}
+use Rattle.link_meaning.specs.Rings.{is_equate, equates, LeadsTo, IsCircular}
 use Rattle.link_meaning.specs.LinkValues.{Told, told, equate_value, IsTable}
 use Rattle.link_meaning.specs.LinkFaults.{IsResolved}
 
@@ -46,3 +46,9 @@ TableOfValues = (files : List (List ℕ)) (list : List Member) (table : List Tol
 abbrev pub TableWithoutRings : Type 0
 TableWithoutRings = (files : List (List ℕ)) (list : List Member) → AllByRecursion IsBytes files → IsResolved files list
     → ((e : Found) → IsIn (equates list) e → IsCircular list e → ⊥) → (table : List Told) × IsTable list table
+
+-- In resolved files two numbers of definitions that are equates of one member and one displacement are one number.
+abbrev pub OneNumber : Type 0
+OneNumber = (files : List (List ℕ)) (list : List Member) (i j : ℕ) (e f : Found) → AllByRecursion IsBytes files → IsResolved files list
+    → slice_get (entries list) i ≡ Some e → slice_get (entries list) j ≡ Some f → is_equate e ≡ true → is_equate f ≡ true
+    → e.place ≡ f.place → e.definition.at ≡ f.definition.at → i ≡ j

@@ -36,3 +36,4 @@ pub mod EquateValueLaws
 pub mod EquatePlaces
 pub mod LinkedWalk
 pub mod EquateTables
+pub mod EquateOrder

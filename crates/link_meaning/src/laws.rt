@@ -2,7 +2,7 @@
 
 ghost use Rattle.link_meaning.specs.LinkWritten.{LinkedStandsFor};
 ghost use Rattle.link_meaning.specs.EmitFaults.{OneLinkAnswer, OneEmitAnswer, LinkAnswersAsEmit, MadeWhereSound, LinkableStandsFor};
-ghost use Rattle.link_meaning.specs.EquateValues.{OneValue, NoneOnRing, TableOfValues, TableWithoutRings};
+ghost use Rattle.link_meaning.specs.EquateValues.{OneValue, NoneOnRing, TableOfValues, TableWithoutRings, OneNumber};
 
 /// The file that the linker writes is a file of the load segments and the table, and each of them stands for its linked
 /// cells.
@@ -36,4 +36,5 @@ pub fn equates_have_one_value()
     ensures none_on_ring { NoneOnRing }
     ensures table { TableOfValues }
     ensures without_rings { TableWithoutRings }
+    ensures one_number { OneNumber }
 {}

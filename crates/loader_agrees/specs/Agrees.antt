@@ -1,7 +1,7 @@
 -- What a loader holds, and when it agrees with a state of the machine.
 use Rattle.std.specs.Prelude.{◌≡◌, ◌≢◌, ◌⊎◌, ℕ, ◌+◌, ◌≤◌, ◌<◌, ◌^◌, true, false, List, [], length, map, Option, Some, option_map, IsSome, slice_get}
 use Rattle.omf_format.specs.File.{Segment, segment_at}
-use Rattle.omf_io.specs.Counts.{Rose, IsFront}
+use Rattle.omf_io.specs.Counts.{one_more, IsFront}
 use Rattle.omf_io.specs.Files.{FileMap}
 use Rattle.load_meaning.specs.LoadTable.{is_table}
 use Rattle.iigs_meaning.specs.declared.handles.Handle.{Handle}
@@ -13,7 +13,7 @@ use Rattle.iigs_meaning.specs.Memory.{Memory, bytes_at}
 use Rattle.loader_machine.specs.declared.seen.Head.{Head}
 use Rattle.loader_machine.specs.declared.seen.Life.{Life}
 use Rattle.loader_machine.specs.declared.seen.Life.TheVariants.{Running}
-use Rattle.loader_machine.specs.declared.refusal.Refusal.TheVariants as refusal
+use Rattle.loader_machine.specs.declared.faults.LoaderFault.TheVariants as refusal
 use Rattle.loader_machine.specs.Heads.{head_of, at_number, is_static}
 use Rattle.loader_machine.specs.State.{User, Machine, Seen, no_pokes, first_id, max_users, user_of, handles_of, held_at}
 use Rattle.loader_machine.specs.Presences.{handle_at, presence_at, there_at, is_active}
@@ -126,9 +126,9 @@ abbrev pub Met : MakesRoom → FileMap → Machine → Command → Reply → Loa
 Met Makes held state command reply new = (next : Machine) × Steps Makes held state command reply next × Agrees held new next
 
 -- The same of a call that may read and may lack memory: the count of the store's faults stays. Or a path is needed, and the call
--- answers that it couldn't be read, where the count rose; or memory ran out. Then the loader agrees with the old state.
+-- answers that it couldn't be read, where the count is one more; or memory ran out. Then the loader agrees with the old state.
 abbrev pub Meets : MakesRoom → FileMap → Machine → Command → Reply → Loaded → ℕ → ℕ → Type 0
 Meets Makes held state command reply new before now =
     (Met Makes held state command reply new × (now ≡ before))
-    ⊎ (((reply ≡ Refused refusal.CannotRead) × (paths : List (List ℕ)) × Needs held state command paths × (paths ≢ []) × Agrees held new state × Rose before now)
+    ⊎ (((reply ≡ Refused refusal.CannotRead) × (paths : List (List ℕ)) × Needs held state command paths × (paths ≢ []) × Agrees held new state × (now ≡ one_more before))
     ⊎ ((reply ≡ Refused refusal.Memory) × Agrees held new state × (now ≡ before)))

@@ -27,7 +27,7 @@ use Rattle.loader_agrees.specs.Keeping.{AllKept, of_kept, statics_kept}
 -- ---- handles of one placement
 
 -- none is in the slot of a handle that was live before
-rest_apart : (banks : List ℕ) (user : ℕ) (slots last : Slots) (wants : List Want) (hs : List Handle) → PutsAll Purges banks user slots wants hs last → (h : Handle) → IsSome (get slots h)
+pub rest_apart : (banks : List ℕ) (user : ℕ) (slots last : Slots) (wants : List Want) (hs : List Handle) → PutsAll Purges banks user slots wants hs last → (h : Handle) → IsSome (get slots h)
     → (j : ℕ) (k : Handle) → slice_get hs j ≡ Some k → k.slot ≢ h.slot
 rest_apart banks user slots last [] [] all h live j k is = absurd cc
 rest_apart banks user slots last [] (x ∷ hs) all h live j k is = absurd all
@@ -37,13 +37,13 @@ rest_apart banks user slots last (want ∷ wants) (x ∷ hs) all h live zero k i
 rest_apart banks user slots last (want ∷ wants) (x ∷ hs) all h live (suc j) k is =
     rest_apart banks user all.0 last wants hs all.2 h (still_live slots all.0 h (put_stays banks slots all.0 want user true 0 x all.1 h) live) j k is
 
-abbrev AreDistinct : List Handle → Type 0
+abbrev pub AreDistinct : List Handle → Type 0
 AreDistinct hs = (i j : ℕ) (h k : Handle) → slice_get hs i ≡ Some h → slice_get hs j ≡ Some k → h.slot ≡ k.slot → i ≡ j
 
 new_live : (banks : List ℕ) (user : ℕ) (slots next : Slots) (want : Want) (h : Handle) → Puts Purges banks slots want user true 0 h next → IsSome (get next h)
 new_live banks user slots next want h puts = rw (puts_here banks slots next want user true 0 h puts) refl
 
-all_distinct : (banks : List ℕ) (user : ℕ) (slots last : Slots) (wants : List Want) (hs : List Handle) → PutsAll Purges banks user slots wants hs last → AreDistinct hs
+pub all_distinct : (banks : List ℕ) (user : ℕ) (slots last : Slots) (wants : List Want) (hs : List Handle) → PutsAll Purges banks user slots wants hs last → AreDistinct hs
 all_distinct banks user slots last [] [] all i j h k is is' same = absurd cc
 all_distinct banks user slots last [] (x ∷ hs) all i j h k is is' same = absurd all
 all_distinct banks user slots last (want ∷ wants) [] all i j h k is is' same = absurd all
@@ -70,17 +70,17 @@ all_only banks user slots last (want ∷ wants) (x ∷ hs) all n block is = elim
 
 -- ---- handles and segments
 
-abbrev spread_handles : List Head → List Handle → List (Option Handle)
+abbrev pub spread_handles : List Head → List Handle → List (Option Handle)
 spread_handles heads hs = map (λ (held : Held). held.handle) (spread heads hs)
 
 -- a segment's handle is one of them, placed for its want
-abbrev HasWant : List Head → List Handle → Head → Handle → Type 0
+abbrev pub HasWant : List Head → List Handle → Head → Handle → Type 0
 HasWant heads hs head h = (i : ℕ) × (slice_get hs i ≡ Some h) × (slice_get (wants_of heads) i ≡ Some (want_of head))
 
 no_handle : (h : Handle) → ◌≡◌ {A = Option (Option Handle)} (Some None) (Some (Some h)) → ⊥
 no_handle h e = cc
 
-spread_want : (heads : List Head) (hs : List Handle) (k : ℕ) (head : Head) (h : Handle) → slice_get heads k ≡ Some head → slice_get (spread_handles heads hs) k ≡ Some (Some h) → HasWant heads hs head h
+pub spread_want : (heads : List Head) (hs : List Handle) (k : ℕ) (head : Head) (h : Handle) → slice_get heads k ≡ Some head → slice_get (spread_handles heads hs) k ≡ Some (Some h) → HasWant heads hs head h
 spread_want [] hs k head h is has = absurd cc
 spread_want (g ∷ heads) [] zero head h is has = absurd (no_handle h has)
 spread_want (g ∷ heads) [] (suc k) head h is has = let one = spread_want heads [] k head h is has in let none = one.1 in absurd cc
@@ -106,7 +106,7 @@ spread_want (g ∷ heads) (x ∷ hs) (suc k) head h is has = elim (decide (is_st
     passed other one = (one.0, one.1, rw other one.2)
 
 -- the same without the want
-spread_index : (heads : List Head) (hs : List Handle) (k : ℕ) (h : Handle) → slice_get (spread_handles heads hs) k ≡ Some (Some h) → (i : ℕ) × (slice_get hs i ≡ Some h)
+pub spread_index : (heads : List Head) (hs : List Handle) (k : ℕ) (h : Handle) → slice_get (spread_handles heads hs) k ≡ Some (Some h) → (i : ℕ) × (slice_get hs i ≡ Some h)
 spread_index [] hs k h has = absurd cc
 spread_index (g ∷ heads) [] zero h has = absurd (no_handle h has)
 spread_index (g ∷ heads) [] (suc k) h has = spread_index heads [] k h has
@@ -120,7 +120,7 @@ spread_index (g ∷ heads) (x ∷ hs) (suc k) h has = elim (decide (is_static g)
 ]
 
 -- no two segments have one slot
-spread_once : (heads : List Head) (hs : List Handle) → AreDistinct hs → (k l : ℕ) (h j : Handle) → slice_get (spread_handles heads hs) k ≡ Some (Some h)
+pub spread_once : (heads : List Head) (hs : List Handle) → AreDistinct hs → (k l : ℕ) (h j : Handle) → slice_get (spread_handles heads hs) k ≡ Some (Some h)
     → slice_get (spread_handles heads hs) l ≡ Some (Some j) → h.slot ≡ j.slot → k ≡ l
 spread_once [] hs distinct k l h j has has' same = absurd cc
 spread_once (g ∷ heads) [] distinct k l h j has has' same = let one = spread_index (g ∷ heads) [] k h has in let none = one.1 in absurd cc
@@ -174,7 +174,7 @@ spread_has (g ∷ heads) (x ∷ hs) long (suc i) h is = elim (decide (is_static 
     passed other one = (suc one.0, one.1, one.2, rw other one.3)
 
 -- a want has room for LENGTH bytes
-want_size : (head : Head) → head.length ≤ (want_of head).size
+pub want_size : (head : Head) → head.length ≤ (want_of head).size
 unfolding want_of stack_want plain_want
 want_size head = elim (decide (is_stack head)) [ inl stack ↦ rw stack (grind arith) | inr plain ↦ rw plain (grind arith) ]
 

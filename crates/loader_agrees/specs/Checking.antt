@@ -5,8 +5,8 @@ use Rattle.iigs_meaning.specs.declared.handles.Handle.{Handle}
 use Rattle.iigs_meaning.specs.declared.wants.Block.{Block}
 use Rattle.iigs_meaning.specs.Slots.{get}
 use Rattle.iigs_meaning.specs.Fits.{Slots}
-use Rattle.loader_machine.specs.declared.refusal.Refusal.{Refusal}
-use Rattle.loader_machine.specs.declared.refusal.Refusal.TheVariants.{NotActive, OutOfSegment, NoUser, Stale, LoaderOwned, Empty}
+use Rattle.loader_machine.specs.declared.faults.LoaderFault.{LoaderFault}
+use Rattle.loader_machine.specs.declared.faults.LoaderFault.TheVariants.{NotActive, OutOfSegment, NoUser, Stale, LoaderOwned, Empty}
 use Rattle.loader_machine.specs.declared.seen.Head.{Head}
 use Rattle.loader_machine.specs.State.{Seen}
 use Rattle.loader_machine.specs.Presences.{presence, handle_at, is_active}
@@ -43,11 +43,11 @@ module _ (slots : Slots) (number at count : ℕ) where
   unfolding bytes_refusal
   bytes_is user = refl
 
-  pub stops_running : (user : Option Seen) (fault : Refusal) → StopsRunning user fault → bytes_refusal slots user number at count ≡ Some fault
+  pub stops_running : (user : Option Seen) (fault : LoaderFault) → StopsRunning user fault → bytes_refusal slots user number at count ≡ Some fault
   stops_running user fault stops = bytes_is user ∙ stops after_running
 
   module _ (user : Option Seen) (seen : Seen) (runs : PassesRunning user seen) where
-    pub stops_segment : (fault : Refusal) → StopsSegment seen number fault → bytes_refusal slots user number at count ≡ Some fault
+    pub stops_segment : (fault : LoaderFault) → StopsSegment seen number fault → bytes_refusal slots user number at count ≡ Some fault
     stops_segment fault stops = bytes_is user ∙ runs after_running ∙ stops (after_segment seen)
 
     module _ (head : Head) (o : Option Handle) (has : PassesSegment seen number head) (handle : handle_at seen.handles number ≡ o) where
@@ -73,7 +73,7 @@ pub info_no_user : (number : ℕ) → info_refusal None number ≡ Some NoUser
 unfolding info_refusal
 info_no_user number = refl
 
-pub info_stops : (seen : Seen) (number : ℕ) (fault : Refusal) → StopsSegment seen number fault → info_refusal (Some seen) number ≡ Some fault
+pub info_stops : (seen : Seen) (number : ℕ) (fault : LoaderFault) → StopsSegment seen number fault → info_refusal (Some seen) number ≡ Some fault
 unfolding info_refusal
 info_stops seen number fault stops = stops (λ head. None)
 

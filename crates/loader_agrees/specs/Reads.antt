@@ -15,7 +15,7 @@ use Rattle.loader_machine.specs.declared.seen.Head.{Head}
 use Rattle.loader_machine.specs.declared.seen.Life.TheVariants.{Running}
 use Rattle.loader_machine.specs.declared.seen.Presence.{Presence}
 use Rattle.loader_machine.specs.declared.seen.Presence.TheVariants.{Absent, Purged, Idle, Active}
-use Rattle.loader_machine.specs.declared.refusal.Refusal.{Refusal}
+use Rattle.loader_machine.specs.declared.faults.LoaderFault.{LoaderFault}
 use Rattle.loader_machine.specs.Heads.{head_of, at_number}
 use Rattle.loader_machine.specs.State.{User, Machine, handles_of, held_at}
 use Rattle.loader_machine.specs.Presences.{handle_at, presence, presence_at, there_at, is_active}
@@ -137,7 +137,7 @@ module _ (held : FileMap) (loader : Loaded) (state : Machine) (agrees : Agrees h
           agrees,
         )
 
-    pub lent_refused : (id number at count : ℕ) (fault : Refusal) → bytes_refusal loader.memory.slots (seen_by loader id) number at count ≡ Some fault
+    pub lent_refused : (id number at count : ℕ) (fault : LoaderFault) → bytes_refusal loader.memory.slots (seen_by loader id) number at count ≡ Some fault
         → Met Makes held state (Bytes id number at count) (Refused fault) loader
     lent_refused id number at count fault is = (
       state,
@@ -163,7 +163,7 @@ module _ (held : FileMap) (loader : Loaded) (state : Machine) (agrees : Agrees h
           agrees,
         )
 
-    pub told_refused : (id number : ℕ) (fault : Refusal) → info_refusal (seen_by loader id) number ≡ Some fault → Met Makes held state (Info id number) (Refused fault) loader
+    pub told_refused : (id number : ℕ) (fault : LoaderFault) → info_refusal (seen_by loader id) number ≡ Some fault → Met Makes held state (Info id number) (Refused fault) loader
     told_refused id number fault is = (state, refuses held loader state agrees id (λ seen. info_refusal seen number) fault _ is, agrees)
 
     -- where an address lies is where the machine has it

@@ -15,8 +15,8 @@ use Rattle.iigs_meaning.specs.Puts.{Purges, LacksRoom, Puts}
 use Rattle.iigs_meaning.specs.Blocks.{state_of}
 use Rattle.iigs_meaning.specs.Room.{CountsBelow, IsRoom}
 use Rattle.iigs_meaning.specs.Memory.{Memory, KeepsBut, IsPlaced, IsFreed, Changes}
-use Rattle.loader_machine.specs.declared.refusal.Refusal.{Refusal}
-use Rattle.loader_machine.specs.declared.refusal.Refusal.TheVariants.{NoHandle, NoRoom}
+use Rattle.loader_machine.specs.declared.faults.LoaderFault.{LoaderFault}
+use Rattle.loader_machine.specs.declared.faults.LoaderFault.TheVariants.{NoHandle, NoRoom}
 use Rattle.loader_machine.specs.declared.seen.Head.{Head}
 use Rattle.loader_machine.specs.State.{Machine}
 use Rattle.loader_machine.specs.Commands.{Reply, Alloc, Free as FreeIt, StateOf, Room, Okay, Placed, BlockIs, RoomIs, Refused}
@@ -148,7 +148,7 @@ module _ (held : FileMap) (loader : Loaded) (state : Machine) (agrees : Agrees h
   )
 
   -- a call that is refused by what the slots say leaves all as it is
-  pub decides_refused : (refusal : Slots → Refuse) (fault : Refusal) (Done : Type 0) → refusal loader.memory.slots ≡ Some fault → Decides (refusal state.slots) state (Refused fault) state Done
+  pub decides_refused : (refusal : Slots → Refuse) (fault : LoaderFault) (Done : Type 0) → refusal loader.memory.slots ≡ Some fault → Decides (refusal state.slots) state (Refused fault) state Done
   decides_refused refusal fault Done is = rw (ap refusal (sym agrees.slots) ∙ is) (refl, refl)
 
   pub state_met : (h : Handle) (block : Block) → get loader.memory.slots h ≡ Some block → Met Purges held state (StateOf h) (BlockIs (state_of block)) loader

@@ -10,7 +10,7 @@ use Rattle.iigs_meaning.specs.declared.handles.Handle.{Handle}
 use Rattle.iigs_meaning.specs.declared.wants.Block.{Block}
 use Rattle.iigs_meaning.specs.Slots.{get}
 use Rattle.iigs_meaning.specs.Memory.{bytes_at}
-use Rattle.loader_machine.specs.declared.refusal.Refusal.{Refusal}
+use Rattle.loader_machine.specs.declared.faults.LoaderFault.{LoaderFault}
 use Rattle.loader_machine.specs.declared.seen.Head.{Head}
 use Rattle.loader_machine.specs.declared.seen.Presence.TheVariants.{Active}
 use Rattle.iigs_meaning.specs.Fits.{Slots}
@@ -99,7 +99,7 @@ module _ (held : FileMap) (loader : Loaded) (state : Machine) (agrees : Agrees h
           )
 
   -- a call is refused as the step is
-  pub refuses : (refusal : Option Seen → Refuse) (fault : Refusal) (Done : User → Type 0) → refusal (seen_by loader id) ≡ Some fault → Does held state id refusal (Refused fault) state Done
+  pub refuses : (refusal : Option Seen → Refuse) (fault : LoaderFault) (Done : User → Type 0) → refusal (seen_by loader id) ≡ Some fault → Does held state id refusal (Refused fault) state Done
   refuses refusal fault Done is = record { seen = seen_by loader id; is_seen = is_seen; is = rw is (refl, refl) }
 
   pub does : (refusal : Option Seen → Refuse) (reply : Reply) (next : Machine) (Done : User → Type 0) → refusal (seen_by loader id) ≡ None

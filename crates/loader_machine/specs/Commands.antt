@@ -3,7 +3,7 @@ use Rattle.std.specs.Prelude.{ℕ, Bool, List, Option}
 use Rattle.iigs_meaning.specs.declared.handles.Handle.{Handle}
 use Rattle.iigs_meaning.specs.declared.wants.Want.{Want}
 use Rattle.iigs_meaning.specs.declared.wants.BlockState.{BlockState}
-use Rattle.loader_machine.specs.declared.refusal.Refusal.{Refusal}
+use Rattle.loader_machine.specs.declared.faults.LoaderFault.{LoaderFault}
 use Rattle.loader_machine.specs.declared.seen.Presence.{Presence}
 
 pub data Command : Type 0 where
@@ -63,4 +63,4 @@ pub data Reply : Type 0 where
   -- the number of free bytes in no block
   RoomIs : (count : ℕ) → Reply
   -- why the command is refused
-  Refused : (fault : Refusal) → Reply
+  Refused : (fault : LoaderFault) → Reply

@@ -1,11 +1,3 @@
-pub mod Command
-pub mod Script
-pub mod ScriptLaws
-pub mod Machine
-pub mod Step
-pub mod Transcript
-pub mod Replies
-pub mod ScriptCommandLaws
 pub mod Heads
 pub mod State
 pub mod Presences
@@ -19,3 +11,8 @@ pub mod PokeLaws
 pub mod StandsLaws
 pub mod PutLaws
 pub mod OnceLaws
+pub mod Script
+pub mod ScriptLaws
+pub mod ScriptCommandLaws
+pub mod Transcript
+pub mod Replies

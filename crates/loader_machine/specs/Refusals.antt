@@ -6,15 +6,15 @@ use Rattle.iigs_meaning.specs.declared.handles.Handle.{Handle}
 use Rattle.iigs_meaning.specs.declared.wants.Block.{Block}
 use Rattle.iigs_meaning.specs.Slots.{get}
 use Rattle.iigs_meaning.specs.Fits.{Slots}
-use Rattle.loader_machine.specs.declared.refusal.Refusal.{Refusal}
-use Rattle.loader_machine.specs.declared.refusal.Refusal.TheVariants.{NoUser, NotRunning, Running, NoSegment, Static, NotActive, TableByte, OutOfSegment, TooManyUsers, Stale, LoaderOwned, Empty}
+use Rattle.loader_machine.specs.declared.faults.LoaderFault.{LoaderFault}
+use Rattle.loader_machine.specs.declared.faults.LoaderFault.TheVariants.{NoUser, NotRunning, Running, NoSegment, Static, NotActive, TableByte, OutOfSegment, TooManyUsers, Stale, LoaderOwned, Empty}
 use Rattle.loader_machine.specs.Heads.{Head, at_number, is_table}
 use Rattle.loader_machine.specs.State.{Seen, is_running, max_users}
 use Rattle.loader_machine.specs.Presences.{presence_at, is_active}
 
 -- why a call is refused, if it is
 abbrev pub Refuse : Type 0
-Refuse = Option Refusal
+Refuse = Option LoaderFault
 
 -- ---- users and segments
 

@@ -1,10 +1,19 @@
 -- The printed text of replies: one line each.
-use Rattle.std.specs.Prelude.{ℕ, List, [], ◌∷◌, ◌++◌, codes, Option, Some, None}
+use Rattle.std.specs.Prelude.{ℕ, Bool, true, false, List, [], ◌∷◌, ◌++◌, codes, Option, Some, None, if◌then◌else◌}
 use Rattle.std.specs.List.{flat_map}
 use Rattle.omf_base.specs.Digits.{hexadecimal}
+use Rattle.load_meaning.specs.declared.load.LoadCause.{LoadCause}
+use Rattle.load_meaning.specs.declared.load.LoadCause.TheVariants as cause
+use Rattle.load_meaning.specs.declared.load.LoadFault.{LoadFault}
+use Rattle.iigs_meaning.specs.declared.handles.Handle.{Handle}
+use Rattle.iigs_meaning.specs.declared.wants.BlockState.{BlockState}
+use Rattle.loader_machine.specs.declared.seen.Presence.{Presence}
+use Rattle.loader_machine.specs.declared.seen.Presence.TheVariants.{Absent, Purged, Idle, Active}
 use Rattle.loader_machine.specs.declared.faults.LoaderFault.{LoaderFault}
-use Rattle.loader_machine.specs.declared.faults.LoaderFault.TheVariants.{NoUser, NoSegment, OutOfSegment, TooManyUsers, CannotRead, Unbuilt, NoRoom, Memory}
-use Rattle.loader_machine.specs.Step.{Reply, Okay, Started, Shown, Refused}
+use Rattle.loader_machine.specs.declared.faults.LoaderFault.TheVariants as fault
+use Rattle.loader_machine.specs.Commands.{Reply, Okay, Started, MadeActive, Entered, Counted, Shown, Lies, Nothing, SegmentIs, Placed, BlockIs, RoomIs, Refused}
+
+-- ---- values
 
 -- an address in six digits, or `none`
 unfoldable pub entry_text : Option ℕ → List ℕ
@@ -20,21 +29,95 @@ unfoldable pub shown_text : List ℕ → List ℕ
 shown_text [] = []
 shown_text (byte ∷ bytes) = hexadecimal 2 byte ++ flat_map other_text bytes
 
--- the name of a refusal; NoRoom is followed by the segment's number in four digits
+-- a handle in six digits: four of the slot and two of the generation
+unfoldable pub handle_text : Handle → List ℕ
+handle_text h = hexadecimal 4 h.slot ++ hexadecimal 2 h.generation
+
+-- an address
+unfoldable pub at_text : ℕ → List ℕ
+at_text address = codes " at " ++ hexadecimal 6 address
+
+-- whether and where a segment is in memory
+unfoldable pub presence_text : Presence → List ℕ
+presence_text Absent = codes "absent"
+presence_text (Purged h) = codes "purged " ++ handle_text h
+presence_text (Idle h address) = codes "idle " ++ handle_text h ++ at_text address
+presence_text (Active h address) = codes "active " ++ handle_text h ++ at_text address
+
+unfoldable pub lock_text : Bool → List ℕ
+lock_text true = codes " locked"
+lock_text false = codes " unlocked"
+
+-- a block that is there at an address
+unfoldable pub there_text : ℕ → BlockState → List ℕ
+there_text address state = codes "at " ++ hexadecimal 6 address ++ codes " size " ++ hexadecimal 8 state.size
+    ++ codes " level " ++ hexadecimal 1 state.level ++ lock_text state.locked
+
+-- a block, or that it was purged
+unfoldable pub block_text : Option ℕ → BlockState → List ℕ
+block_text None state = codes "empty"
+block_text (Some address) state = there_text address state
+
+-- ---- refusals
+
+unfoldable pub cause_text : LoadCause → List ℕ
+cause_text cause.NotLoadFile = codes "NotLoadFile"
+cause_text cause.Truncated = codes "Truncated"
+cause_text cause.BadHeader = codes "BadHeader"
+cause_text cause.Unsupported = codes "Unsupported"
+cause_text cause.BadRecord = codes "BadRecord"
+cause_text cause.Sequence = codes "Sequence"
+cause_text cause.DataTooLong = codes "DataTooLong"
+cause_text cause.PatchOutside = codes "PatchOutside"
+cause_text cause.NoSuchTarget = codes "NoSuchTarget"
+cause_text cause.DynamicTarget = codes "DynamicTarget"
+cause_text cause.BadTable = codes "BadTable"
+cause_text cause.Memory = codes "Memory"
+
+-- the cause of a load file's fault, the segment's number in four digits, and the place in eight
+unfoldable pub bad_file_text : LoadFault → List ℕ
+bad_file_text bad = codes "refused BadFile " ++ cause_text bad.cause ++ codes " " ++ hexadecimal 4 bad.segment ++ codes " " ++ hexadecimal 8 bad.at
+
+-- the name of a refusal; NoRoom and Changed are followed by the segment's number in four digits
 unfoldable pub refused_text : LoaderFault → List ℕ
-refused_text NoUser = codes "refused NoUser"
-refused_text NoSegment = codes "refused NoSegment"
-refused_text OutOfSegment = codes "refused OutOfSegment"
-refused_text TooManyUsers = codes "refused TooManyUsers"
-refused_text CannotRead = codes "cannot read"
-refused_text Unbuilt = codes "refused Unbuilt"
-refused_text (NoRoom number) = codes "refused NoRoom " ++ hexadecimal 4 number
-refused_text Memory = codes "refused Memory"
+refused_text fault.NoUser = codes "refused NoUser"
+refused_text fault.NotRunning = codes "refused NotRunning"
+refused_text fault.Running = codes "refused Running"
+refused_text fault.NoSegment = codes "refused NoSegment"
+refused_text fault.Static = codes "refused Static"
+refused_text fault.NotActive = codes "refused NotActive"
+refused_text fault.OutOfSegment = codes "refused OutOfSegment"
+refused_text fault.TableByte = codes "refused TableByte"
+refused_text fault.NotJsl = codes "refused NotJsl"
+refused_text fault.NoTarget = codes "refused NoTarget"
+refused_text fault.NotEntry = codes "refused NotEntry"
+refused_text fault.TooManyUsers = codes "refused TooManyUsers"
+refused_text fault.CannotRead = codes "cannot read"
+refused_text (fault.BadFile bad) = bad_file_text bad
+refused_text (fault.Changed kept found) = codes "refused Changed " ++ hexadecimal 4 found.segment
+refused_text fault.NoHandle = codes "refused NoHandle"
+refused_text (fault.NoRoom number) = codes "refused NoRoom " ++ hexadecimal 4 number
+refused_text fault.Stale = codes "refused Stale"
+refused_text fault.LoaderOwned = codes "refused LoaderOwned"
+refused_text fault.Empty = codes "refused Empty"
+refused_text fault.Memory = codes "refused Memory"
+
+-- ---- replies
 
 unfoldable pub reply_text : Reply → List ℕ
 reply_text Okay = codes "ok"
 reply_text (Started user entry) = codes "user " ++ hexadecimal 4 user ++ codes " entry " ++ entry_text entry
+reply_text (MadeActive segment address) = codes "active " ++ hexadecimal 4 segment ++ at_text address
+reply_text (Entered user segment offset address) =
+    codes "entered " ++ hexadecimal 4 user ++ codes " " ++ hexadecimal 4 segment ++ codes " " ++ hexadecimal 8 offset ++ at_text address
+reply_text (Counted count) = codes "purged " ++ hexadecimal 4 count
 reply_text (Shown bytes) = shown_text bytes
+reply_text (Lies user segment offset) = hexadecimal 4 user ++ codes " " ++ hexadecimal 4 segment ++ codes " " ++ hexadecimal 8 offset
+reply_text Nothing = codes "nothing"
+reply_text (SegmentIs presence length' kind) = presence_text presence ++ codes " length " ++ hexadecimal 8 length' ++ codes " kind " ++ hexadecimal 4 kind
+reply_text (Placed h address) = codes "handle " ++ handle_text h ++ at_text address
+reply_text (BlockIs state) = block_text state.at state
+reply_text (RoomIs count) = hexadecimal 8 count
 reply_text (Refused fault) = refused_text fault
 
 -- a reply and a line feed

@@ -1,12 +1,19 @@
 -- Scripts: the lines of a text, the words of a line, and the command that the words give. Scripts are this project's own.
-use Rattle.std.specs.Prelude.{◌≡◌, ℕ, ◌+◌, ◌<◌, ◌≤◌, Bool, true, false, not, ◌&&◌, ◌||◌, ◌==◌, nat_le, List, [], ◌∷◌, ◌++◌, length, map, filter, codes, bytes_eq, Result, Ok, Err, if◌then◌else◌}
+use Rattle.std.specs.Prelude.{◌≡◌, ℕ, ◌+◌, ◌/◌, ◌%◌, ◌<◌, ◌≤◌, Bool, true, false, not, ◌&&◌, ◌||◌, ◌==◌, nat_le, bit_and, List, [], ◌∷◌, ◌++◌, length, map, filter, codes, bytes_eq, Option, Some, None, Result, Ok, Err, if◌then◌else◌}
 use Rattle.std.specs.List.{AllByRecursion, list_all, list_any, slice_split}
 use Rattle.std.specs.Str.Parse.{digits_value}
+use Rattle.omf_format.specs.Header.{has_attribute}
 use Rattle.omf_format.specs.Lines.{lines_of}
+use Rattle.iigs_meaning.specs.declared.handles.Handle.{Handle}
+use Rattle.iigs_meaning.specs.declared.wants.Want.{Want}
+use Rattle.iigs_meaning.specs.Fits.{IsWant}
+use Rattle.loader_machine.specs.declared.script.CommandName.{CommandName}
+use Rattle.loader_machine.specs.declared.script.CommandName.TheVariants as name
 use Rattle.loader_machine.specs.declared.script.ScriptCause.{ScriptCause}
 use Rattle.loader_machine.specs.declared.script.ScriptCause.TheVariants.{TooManyLines, BadWord, UnknownCommand, BanksFirst, WrongCount, BadNumber, BankTwice}
 use Rattle.loader_machine.specs.declared.script.ScriptFault.{ScriptFault}
-use Rattle.loader_machine.specs.Command.{Command, Banks, Load, Bytes}
+use Rattle.loader_machine.specs.Heads.{some_if}
+use Rattle.loader_machine.specs.Commands.{Command, Banks, Load, Bytes, Where, Info, Alloc, Free, Lock, Unlock, Level, StateOf, Room}
 
 -- ---- lines
 
@@ -55,6 +62,23 @@ is_number least most word = nat_le 1 (length word) && nat_le (length word) 8 && 
 
 -- ---- commands
 
+-- the command that a word names
+unfoldable pub named : List ℕ → Option CommandName
+named word =
+    if bytes_eq word (codes "banks") then Some name.Banks
+    else if bytes_eq word (codes "load") then Some name.Load
+    else if bytes_eq word (codes "bytes") then Some name.Bytes
+    else if bytes_eq word (codes "where") then Some name.Where
+    else if bytes_eq word (codes "info") then Some name.Info
+    else if bytes_eq word (codes "alloc") then Some name.Alloc
+    else if bytes_eq word (codes "free") then Some name.Free
+    else if bytes_eq word (codes "lock") then Some name.Lock
+    else if bytes_eq word (codes "unlock") then Some name.Unlock
+    else if bytes_eq word (codes "level") then Some name.Level
+    else if bytes_eq word (codes "handle") then Some name.Handle
+    else if bytes_eq word (codes "room") then Some name.Room
+    else None
+
 -- a number stands in the list and again behind
 unfoldable pub stands_twice : List ℕ → Bool
 stands_twice [] = false
@@ -87,15 +111,99 @@ bytes_of (user ∷ segment ∷ at ∷ size ∷ []) =
     else Err BadNumber
 bytes_of words = Err WrongCount
 
--- The command that the words give by the first of them, or the first cause against them. `banks` is the first
--- command of a script, and no later one.
+-- the bits of ATTR: locked, fixed, level, no cross, no special memory, on a page, at the address, in its bank; no other may be set
+abbrev pub is_attributes : ℕ → Bool
+is_attributes attributes = bit_and attributes 0x3CE0 == 0
+
+-- the purge level in ATTR
+abbrev pub level_in : ℕ → ℕ
+level_in attributes = attributes / 0x100 % 4
+
+-- what ATTR and the address ask of a block's place
+unfoldable pub alloc_want : ℕ → ℕ → ℕ → Want
+alloc_want size attributes address = record {
+  size = size;
+  align = if has_attribute 0x0004 attributes then 0x100 else 1;
+  no_cross = has_attribute 0x0010 attributes;
+  no_special = has_attribute 0x0008 attributes;
+  at = some_if (has_attribute 0x0002 attributes) address;
+  bank = some_if (has_attribute 0x0001 attributes) (address / 0x10000);
+  low = None;
+}
+
+-- the numbers of `alloc`: a size of 1 to $1000000, ATTR, and an address
+abbrev pub are_alloc_numbers : List ℕ → List ℕ → List ℕ → Bool
+are_alloc_numbers size attributes address =
+    is_number 1 0x1000000 size && (is_number 0 0xFFFF attributes && is_attributes (number_of attributes)) && is_number 0 0xFFFFFF address
+
+-- `alloc SIZE ATTR ADDR`
+unfoldable pub alloc_of : List (List ℕ) → Result Command ScriptCause
+alloc_of (size ∷ attributes ∷ address ∷ []) =
+    if are_alloc_numbers size attributes address
+    then Ok (Alloc (alloc_want (number_of size) (number_of attributes) (number_of address)) (has_attribute 0x8000 (number_of attributes)) (level_in (number_of attributes)))
+    else Err BadNumber
+alloc_of words = Err WrongCount
+
+-- the one number of a command, up to a bound
+unfoldable pub one_number : ℕ → List (List ℕ) → Result ℕ ScriptCause
+one_number most (word ∷ []) = if is_number 0 most word then Ok (number_of word) else Err BadNumber
+one_number most words = Err WrongCount
+
+-- the two numbers of a command, up to a bound each
+unfoldable pub two_numbers : ℕ → ℕ → List (List ℕ) → Result (ℕ × ℕ) ScriptCause
+two_numbers most other (word ∷ second ∷ []) =
+    if is_number 0 most word && is_number 0 other second then Ok (number_of word, number_of second) else Err BadNumber
+two_numbers most other words = Err WrongCount
+
+-- the command that numbers give
+abbrev pub given_by : {A : Type 0} → (A → Command) → Result A ScriptCause → Result Command ScriptCause
+given_by command (Ok numbers) = Ok (command numbers)
+given_by command (Err cause) = Err cause
+
+-- a handle as six digits write it: four of the slot and two of the generation
+abbrev pub handle_of : ℕ → Handle
+handle_of n = record { slot = n / 0x100; generation = n % 0x100 }
+
+-- `room`
+unfoldable pub room_of : List (List ℕ) → Result Command ScriptCause
+room_of [] = Ok Room
+room_of (word ∷ words) = Err WrongCount
+
+-- the command that the words behind its name give, or the first cause against them
+unfoldable pub words_command : CommandName → List (List ℕ) → Result Command ScriptCause
+words_command name.Banks words = banks_of words
+words_command name.Load words = load_of words
+words_command name.Bytes words = bytes_of words
+words_command name.Where words = given_by Where (one_number 0xFFFFFF words)
+words_command name.Info words = given_by (λ n. Info n.0 n.1) (two_numbers 0xFFFF 0xFFFF words)
+words_command name.Alloc words = alloc_of words
+words_command name.Free words = given_by (λ n. Free (handle_of n)) (one_number 0xFFFFFF words)
+words_command name.Lock words = given_by (λ n. Lock (handle_of n)) (one_number 0xFFFFFF words)
+words_command name.Unlock words = given_by (λ n. Unlock (handle_of n)) (one_number 0xFFFFFF words)
+words_command name.Level words = given_by (λ n. Level (handle_of n.0) n.1) (two_numbers 0xFFFFFF 3 words)
+words_command name.Handle words = given_by (λ n. StateOf (handle_of n)) (one_number 0xFFFFFF words)
+words_command name.Room words = room_of words
+
+abbrev pub is_banks : CommandName → Bool
+is_banks name.Banks = true
+is_banks _ = false
+
+-- `banks` is the first command of a script, and no later one
+abbrev pub is_in_turn : CommandName → Bool → Bool
+is_in_turn name is_first = if is_banks name then is_first else not is_first
+
+abbrev pub named_command : Bool → Option CommandName → List (List ℕ) → Result Command ScriptCause
+named_command is_first None words = Err UnknownCommand
+named_command is_first (Some name) words = if is_in_turn name is_first then words_command name words else Err BanksFirst
+
+-- the command that the words give by the first of them, or the first cause against them
 unfoldable pub command_of : Bool → List (List ℕ) → Result Command ScriptCause
 command_of is_first [] = Err UnknownCommand
-command_of is_first (name ∷ words) =
-    if bytes_eq name (codes "banks") then (if is_first then banks_of words else Err BanksFirst)
-    else if bytes_eq name (codes "load") then (if is_first then Err BanksFirst else load_of words)
-    else if bytes_eq name (codes "bytes") then (if is_first then Err BanksFirst else bytes_of words)
-    else Err UnknownCommand
+command_of is_first (name ∷ words) = named_command is_first (named name) words
+
+-- a handle that six digits write
+abbrev pub IsHandle : Handle → Type 0
+IsHandle h = (h.slot ≤ 0xFFFF) × (h.generation ≤ 0xFF)
 
 -- what the values of every command keep, as a script's first one or not
 abbrev pub IsCommand : Bool → Command → Type 0
@@ -104,6 +212,16 @@ IsCommand is_first (Banks banks) = (is_first ≡ true) × (1 ≤ length banks) �
 IsCommand is_first (Load path) = (is_first ≡ false) × (1 ≤ length path) × (length path ≤ 255) × (is_word path ≡ true)
 IsCommand is_first (Bytes user segment at size) = (is_first ≡ false) × (user ≤ 0xFFFF) × (segment ≤ 0xFFFF)
     × (at ≤ 0xFFFFFFFF) × (1 ≤ size) × (size ≤ 0x100)
+IsCommand is_first (Where address) = (is_first ≡ false) × (address ≤ 0xFFFFFF)
+IsCommand is_first (Info user segment) = (is_first ≡ false) × (user ≤ 0xFFFF) × (segment ≤ 0xFFFF)
+IsCommand is_first (Alloc want locked level) = (is_first ≡ false) × IsWant want × (level ≤ 3)
+IsCommand is_first (Free h) = (is_first ≡ false) × IsHandle h
+IsCommand is_first (Lock h) = (is_first ≡ false) × IsHandle h
+IsCommand is_first (Unlock h) = (is_first ≡ false) × IsHandle h
+IsCommand is_first (Level h level) = (is_first ≡ false) × IsHandle h × (level ≤ 3)
+IsCommand is_first (StateOf h) = (is_first ≡ false) × IsHandle h
+IsCommand is_first Room = is_first ≡ false
+IsCommand is_first _ = ⊥
 
 -- the same of a list of commands, of which the first is a script's first one or not
 abbrev pub AreCommands : Bool → List Command → Type 0

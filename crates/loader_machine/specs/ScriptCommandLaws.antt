@@ -1,15 +1,19 @@
 -- What the commands of a script keep: the bounds of their values, and that `banks` is the first one and no later one.
-use Rattle.std.proofs.Common.{◌≡◌, ℕ, zero, suc, map, ◌<◌, ◌≤◌, Bool, true, false, cond, List, [], ◌∷◌, length, Result, Ok, Err, refl, subst, arith}
-use Rattle.std.specs.Prelude.{◌≢◌, ◌==◌, bytes_eq, codes, not, slice_index}
+use Rattle.std.proofs.Common.{◌≡◌, ◌⊎◌, inl, inr, ℕ, zero, suc, map, ◌<◌, ◌≤◌, Bool, true, false, cond, List, [], ◌∷◌, length, Option, Some, None, Result, Ok, Err, refl, sym, ap, subst, arith}
+use Rattle.std.specs.Prelude.{◌≢◌, ◌==◌, ◌&&◌, not, slice_index}
 use Rattle.std.specs.List.{AllByRecursion, list_all, list_any}
 use Rattle.std.proofs.lemmas.Bool.{and_parts, or_parts, leb-true, eqb-false}
 use Rattle.std.proofs.lemmas.List.{length-map}
 use Rattle.loader_machine.specs.declared.script.ScriptCause.{ScriptCause}
-use Rattle.loader_machine.specs.declared.script.ScriptCause.TheVariants.{BadWord, UnknownCommand, BanksFirst, WrongCount}
-use Rattle.loader_machine.specs.Command.{Command, Banks, Load, Bytes}
+use Rattle.loader_machine.specs.declared.script.ScriptCause.TheVariants.{BadWord, UnknownCommand, BanksFirst, WrongCount, BadNumber}
+use Rattle.loader_machine.specs.declared.script.CommandName.{CommandName}
+use Rattle.loader_machine.specs.declared.script.CommandName.TheVariants as names
+use Rattle.omf_format.specs.Header.{has_attribute}
+use Rattle.iigs_meaning.specs.Fits.{IsWant}
+use Rattle.loader_machine.specs.Commands.{Command, Banks, Load, Bytes, Where, Info, Alloc, Free, Lock, Unlock, Level, StateOf, Room}
 use Rattle.iigs_meaning.specs.Banks.{AreDistinctTo}
 use Rattle.omf_format.specs.Lines.{lines_of}
-use Rattle.loader_machine.specs.Script.{written, line_command, Give, IsScript, IsCommand, AreCommands, is_number, number_of, is_word, stands_twice, banks_of, load_of, bytes_of, are_bytes_numbers, command_of, words_of, is_well_formed}
+use Rattle.loader_machine.specs.Script.{written, line_command, Give, IsScript, IsHandle, IsCommand, AreCommands, is_number, number_of, is_word, stands_twice, banks_of, load_of, bytes_of, are_bytes_numbers, level_in, alloc_want, are_alloc_numbers, alloc_of, one_number, two_numbers, given_by, handle_of, room_of, words_command, is_banks, is_in_turn, named, named_command, command_of, words_of, is_well_formed}
 
 abbrev failed : ScriptCause → Result Command ScriptCause
 failed cause = Err cause
@@ -87,26 +91,126 @@ bytes_keep (user ∷ segment ∷ at ∷ size ∷ []) command e =
     subst (IsCommand false) (same_ok (Ok found) found command refl tests.1) keep
 bytes_keep (user ∷ segment ∷ at ∷ size ∷ more ∷ words) command e = let clash : failed WrongCount ≡ Ok command = e in absurd cc
 
+-- ---- the other commands
+
+given : {A : Type 0} (of : A → Command) (read : Result A ScriptCause) (command : Command) → given_by of read ≡ Ok command → (x : A) × (read ≡ Ok x) × (command ≡ of x)
+given of (Ok x) command e = (x, refl, sym (same_ok (Ok (of x)) (of x) command refl e))
+given of (Err cause) command e = let clash : failed cause ≡ Ok command = e in absurd cc
+
+abbrev good : {A : Type 0} → A → Result A ScriptCause
+good x = Ok x
+
+abbrev bad : {A : Type 0} → Result A ScriptCause
+bad = Err BadNumber
+
+ok_or : {A : Type 0} (b : Bool) (x y : A) → cond b (good x) bad ≡ good y → (b ≡ true) × (x ≡ y)
+ok_or true x y e = (refl, cc)
+ok_or false x y e = absurd cc
+
+one_within : (most : ℕ) (words : List (List ℕ)) (n : ℕ) → one_number most words ≡ Ok n → n ≤ most
+unfolding one_number
+one_within most [] n e = absurd cc
+one_within most (word ∷ []) n e =
+    let is = ok_or (is_number 0 most word) (number_of word) n e in
+    omega (arith, (number_within 0 most word is.0).1, is.1)
+one_within most (word ∷ more ∷ words) n e = absurd cc
+
+two_within : (most other : ℕ) (words : List (List ℕ)) (n : ℕ × ℕ) → two_numbers most other words ≡ Ok n → (n.0 ≤ most) × (n.1 ≤ other)
+unfolding two_numbers
+two_within most other [] n e = absurd cc
+two_within most other (word ∷ []) n e = absurd cc
+two_within most other (word ∷ second ∷ []) n e =
+    let is = ok_or (is_number 0 most word && is_number 0 other second) (number_of word, number_of second) n e in
+    let both = and_parts _ _ is.0 in
+    let one : number_of word ≡ n.0 = ap (λ (m : ℕ × ℕ). m.0) is.1 in
+    let two : number_of second ≡ n.1 = ap (λ (m : ℕ × ℕ). m.1) is.1 in
+    (omega (arith, (number_within 0 most word both.0).1, one), omega (arith, (number_within 0 other second both.1).1, two))
+two_within most other (word ∷ second ∷ more ∷ words) n e = absurd cc
+
+handle_within : (n : ℕ) → n ≤ 0xFFFFFF → IsHandle (handle_of n)
+handle_within n le = (omega (arith, le), omega arith)
+
+alloc_is_want : (size attributes address : ℕ) → 1 ≤ size → IsWant (alloc_want size attributes address)
+unfolding alloc_want
+alloc_is_want size attributes address some = record { some = some; align = by (has_attribute 0x0004 attributes) }
+  where
+    IsAlign : ℕ → Type 0
+    IsAlign n = (n ≡ 1) ⊎ (n ≡ 0x100) ⊎ (n ≡ 0x10000)
+
+    by : (t : Bool) → IsAlign (cond t 0x100 1)
+    by true = inr (inl refl)
+    by false = inl refl
+
+alloc_keep : (words : List (List ℕ)) (command : Command) → alloc_of words ≡ Ok command → IsCommand false command
+unfolding alloc_of
+alloc_keep [] command e = let clash : failed WrongCount ≡ Ok command = e in absurd cc
+alloc_keep (size ∷ []) command e = let clash : failed WrongCount ≡ Ok command = e in absurd cc
+alloc_keep (size ∷ attributes ∷ []) command e = let clash : failed WrongCount ≡ Ok command = e in absurd cc
+alloc_keep (size ∷ attributes ∷ address ∷ []) command e =
+    let found : Command = Alloc (alloc_want (number_of size) (number_of attributes) (number_of address)) (has_attribute 0x8000 (number_of attributes)) (level_in (number_of attributes)) in
+    let tests = or_err (are_alloc_numbers size attributes address) _ _ command e in
+    let a = and_parts _ _ tests.0 in
+    let b = and_parts _ _ a.0 in
+    let sized = number_within 1 0x1000000 size b.0 in
+    let keep : IsCommand false found = (refl, alloc_is_want (number_of size) (number_of attributes) (number_of address) sized.0, omega arith) in
+    subst (IsCommand false) (same_ok (Ok found) found command refl tests.1) keep
+alloc_keep (size ∷ attributes ∷ address ∷ more ∷ words) command e = let clash : failed WrongCount ≡ Ok command = e in absurd cc
+
+room_keep : (words : List (List ℕ)) (command : Command) → room_of words ≡ Ok command → IsCommand false command
+unfolding room_of
+room_keep [] command e = subst (IsCommand false) (same_ok (Ok Room) Room command refl e) refl
+room_keep (word ∷ words) command e = let clash : failed WrongCount ≡ Ok command = e in absurd cc
+
+words_keep : (name : CommandName) (words : List (List ℕ)) (command : Command) → list_all is_word words ≡ true → words_command name words ≡ Ok command → IsCommand (is_banks name) command
+unfolding words_command
+words_keep names.Banks words command are e = banks_keep words command e
+words_keep names.Load words command are e = load_keep words command are e
+words_keep names.Bytes words command are e = bytes_keep words command e
+words_keep names.Where words command are e =
+    let is = given Where (one_number 0xFFFFFF words) command e in
+    subst (IsCommand false) (sym is.2) (refl, one_within 0xFFFFFF words is.0 is.1)
+words_keep names.Info words command are e =
+    let is = given (λ n. Info n.0 n.1) (two_numbers 0xFFFF 0xFFFF words) command e in
+    let within = two_within 0xFFFF 0xFFFF words is.0 is.1 in
+    subst (IsCommand false) (sym is.2) (refl, within.0, within.1)
+words_keep names.Alloc words command are e = alloc_keep words command e
+words_keep names.Free words command are e =
+    let is = given (λ n. Free (handle_of n)) (one_number 0xFFFFFF words) command e in
+    subst (IsCommand false) (sym is.2) (refl, handle_within is.0 (one_within 0xFFFFFF words is.0 is.1))
+words_keep names.Lock words command are e =
+    let is = given (λ n. Lock (handle_of n)) (one_number 0xFFFFFF words) command e in
+    subst (IsCommand false) (sym is.2) (refl, handle_within is.0 (one_within 0xFFFFFF words is.0 is.1))
+words_keep names.Unlock words command are e =
+    let is = given (λ n. Unlock (handle_of n)) (one_number 0xFFFFFF words) command e in
+    subst (IsCommand false) (sym is.2) (refl, handle_within is.0 (one_within 0xFFFFFF words is.0 is.1))
+words_keep names.Level words command are e =
+    let is = given (λ n. Level (handle_of n.0) n.1) (two_numbers 0xFFFFFF 3 words) command e in
+    let within = two_within 0xFFFFFF 3 words is.0 is.1 in
+    subst (IsCommand false) (sym is.2) (refl, handle_within is.0.0 within.0, within.1)
+words_keep names.Handle words command are e =
+    let is = given (λ n. StateOf (handle_of n)) (one_number 0xFFFFFF words) command e in
+    subst (IsCommand false) (sym is.2) (refl, handle_within is.0 (one_within 0xFFFFFF words is.0 is.1))
+words_keep names.Room words command are e = room_keep words command e
+
+in_turn : (banks is_first : Bool) → cond banks is_first (not is_first) ≡ true → is_first ≡ banks
+in_turn true true e = refl
+in_turn true false e = absurd cc
+in_turn false true e = absurd cc
+in_turn false false e = refl
+
+named_keeps : (is_first : Bool) (name : Option CommandName) (words : List (List ℕ)) (command : Command) → list_all is_word words ≡ true
+    → named_command is_first name words ≡ Ok command → IsCommand is_first command
+named_keeps is_first None words command are e = let clash : failed UnknownCommand ≡ Ok command = e in absurd cc
+named_keeps is_first (Some name) words command are e =
+    let turn = or_err (is_in_turn name is_first) BanksFirst (words_command name words) command e in
+    subst (λ (first : Bool). IsCommand first command) (sym (in_turn (is_banks name) is_first turn.0)) (words_keep name words command are turn.1)
+
 command_keeps : (is_first : Bool) (words : List (List ℕ)) (command : Command) → list_all is_word words ≡ true
     → command_of is_first words ≡ Ok command → IsCommand is_first command
 unfolding command_of
 command_keeps is_first [] command are e = let clash : failed UnknownCommand ≡ Ok command = e in absurd cc
 command_keeps is_first (name ∷ words) command are e =
-    by_name (bytes_eq name (codes "banks")) (bytes_eq name (codes "load")) (bytes_eq name (codes "bytes")) is_first
-    (and_parts (is_word name) (list_all is_word words) are).1 e
-  where
-    by_name : (banks load bytes is_first : Bool) → list_all is_word words ≡ true
-        → cond banks (cond is_first (banks_of words) (Err BanksFirst))
-        (cond load (cond is_first (Err BanksFirst) (load_of words))
-        (cond bytes (cond is_first (Err BanksFirst) (bytes_of words)) (Err UnknownCommand))) ≡ Ok command
-        → IsCommand is_first command
-    by_name true load bytes true are e = banks_keep words command e
-    by_name true load bytes false are e = let clash : failed BanksFirst ≡ Ok command = e in absurd cc
-    by_name false true bytes true are e = let clash : failed BanksFirst ≡ Ok command = e in absurd cc
-    by_name false true bytes false are e = load_keep words command are e
-    by_name false false true true are e = let clash : failed BanksFirst ≡ Ok command = e in absurd cc
-    by_name false false true false are e = bytes_keep words command e
-    by_name false false false is_first are e = let clash : failed UnknownCommand ≡ Ok command = e in absurd cc
+    named_keeps is_first (named name) words command (and_parts (is_word name) (list_all is_word words) are).1 e
 
 line_keeps : (is_first : Bool) (line : List ℕ) (command : Command) → line_command is_first line ≡ Ok command → IsCommand is_first command
 unfolding line_command is_well_formed

@@ -5,7 +5,7 @@ use Rattle.std.proofs.lemmas.List.{length-append, append-nil}
 use Rattle.std.proofs.lemmas.List.Elements.{filter-append}
 use Rattle.std.proofs.lemmas.List.Sums.{length-filter, count_by-le-length}
 use Rattle.loader_machine.specs.declared.script.ScriptCause.{ScriptCause}
-use Rattle.loader_machine.specs.Command.{Command}
+use Rattle.loader_machine.specs.Commands.{Command}
 use Rattle.omf_format.specs.Lines.{lines_of}
 use Rattle.loader_machine.specs.Script.{is_skipped, written, line_command, Give, AreGood, is_start, most_lines, IsBad, OneTooMany, NoCommand, IsFirstBadLine, IsScript}
 

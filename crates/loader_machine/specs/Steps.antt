@@ -20,7 +20,7 @@ use Rattle.iigs_meaning.specs.Placement.{emptied_where}
 use Rattle.iigs_meaning.specs.Puts.{MakesRoom, LacksRoom, Puts, PutsAnew, PutsAll, IsPlaceAllRefusal, without_user}
 use Rattle.iigs_meaning.specs.Blocks.{state_of, can_purge_of}
 use Rattle.iigs_meaning.specs.Room.{CountsBelow, IsRoom}
-use Rattle.loader_machine.specs.declared.refusal.Refusal.TheVariants.{NotJsl, NoTarget, NotEntry, CannotRead, BadFile, NoHandle, NoRoom}
+use Rattle.loader_machine.specs.declared.faults.LoaderFault.TheVariants.{NotJsl, NoTarget, NotEntry, CannotRead, BadFile, NoHandle, NoRoom}
 use Rattle.loader_machine.specs.Heads.{Head, head_of, is_static, is_table, want_of, wants_of, number_of, entry_in}
 use Rattle.loader_machine.specs.State.{Running, Dormant, Held, User, Machine, absent, fresh, Seen, empty_of, first_id, user_of, with_user, handles_of, held_at}
 use Rattle.loader_machine.specs.Presences.{Presence, Absent, Purged, Idle, Active, presence_at, handle_at, is_there}

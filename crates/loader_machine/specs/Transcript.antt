@@ -1,17 +1,19 @@
 -- Whole scripts: the replies to a list of commands.
-use Rattle.std.specs.Prelude.{◌≡◌, ◌⊎◌, ℕ, ◌+◌, List, [], ◌∷◌, IsSome}
+use Rattle.std.specs.Prelude.{◌≡◌, ◌≢◌, ◌⊎◌, ℕ, ◌+◌, List, [], ◌∷◌}
 use Rattle.omf_io.specs.Files.{FileMap}
+use Rattle.iigs_meaning.specs.Puts.{Purges}
 use Rattle.loader_machine.specs.declared.faults.LoaderFault.TheVariants.{CannotRead}
-use Rattle.loader_machine.specs.Command.{Command}
-use Rattle.loader_machine.specs.Machine.{Machine}
-use Rattle.loader_machine.specs.Step.{Reply, Refused, Steps, reads}
+use Rattle.loader_machine.specs.State.{Machine}
+use Rattle.loader_machine.specs.Commands.{Command, Reply, Refused}
+use Rattle.loader_machine.specs.Steps.{Steps}
+use Rattle.loader_machine.specs.Needs.{Needs}
 
--- a command is answered: by its step's reply; or, where it reads a file, also by `cannot read`, which leaves the state. The
+-- a command is answered: by its step's reply; or, where it needs a file, also by `cannot read`, which leaves the state. The
 -- number counts the latter.
 abbrev pub IsAnswered : FileMap → Machine → Command → Reply → ℕ → Machine → Type 0
 IsAnswered held state command reply others next =
-    (Steps held state command reply next × (others ≡ 0))
-    ⊎ ((reply ≡ Refused CannotRead) × IsSome (reads state command) × (next ≡ state) × (others ≡ 1))
+    (Steps Purges held state command reply next × (others ≡ 0))
+    ⊎ ((reply ≡ Refused CannotRead) × (paths : List (List ℕ)) × Needs held state command paths × (paths ≢ []) × (next ≡ state) × (others ≡ 1))
 
 -- the commands are answered in order from a state on, and lead to the last state; so many of them are answered by `cannot read`
 -- in the place of their step's reply

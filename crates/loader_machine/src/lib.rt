@@ -3,11 +3,9 @@
 #![tactic(auto)]
 
 mod faults;
-mod refusal;
 mod script;
 mod seen;
 
 pub use faults::LoaderFault;
-pub use refusal::Refusal;
-pub use script::{ScriptCause, ScriptFault};
+pub use script::{CommandName, ScriptCause, ScriptFault};
 pub use seen::{Facts, Head, Life, Presence};

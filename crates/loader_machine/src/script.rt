@@ -2,6 +2,23 @@
 
 use std::alloc::{AllocError, AllocFailed};
 
+/// The commands of a script, by the words that name them.
+#[derive(Clone, Copy, PartialEq, Eq, Debug)]
+pub enum CommandName {
+    Banks,
+    Load,
+    Bytes,
+    Where,
+    Info,
+    Alloc,
+    Free,
+    Lock,
+    Unlock,
+    Level,
+    Handle,
+    Room,
+}
+
 /// What is wrong with a line of a script: the first cause in this order.
 #[derive(Clone, Copy, PartialEq, Eq, Debug)]
 pub enum ScriptCause {

@@ -1,7 +1,7 @@
 -- How far the reader of a script has come.
 use Rattle.std.proofs.Common.{◌≡◌, ℕ, ◌+◌, List, [], ◌∷◌, ◌++◌, length, append_assoc, sym, ap, subst, ◌∙◌, arith}
 use Rattle.std.proofs.lemmas.List.{length-append, append-nil}
-use Rattle.loader_machine.specs.Command.{Command}
+use Rattle.loader_machine.specs.Commands.{Command}
 use Rattle.omf_format.specs.Lines.{lines_of}
 use Rattle.loader_machine.specs.Script.{AreGood, IsScript}
 use Rattle.omf_format.specs.Lines.{lines_of-nil}

@@ -1,7 +1,7 @@
 -- Commands with another number of words than they take.
 use Rattle.std.proofs.Common.{◌≡◌, ◌≢◌, ℕ, List, [], ◌∷◌, length, Err, refl}
 use Rattle.loader_machine.specs.declared.script.ScriptCause.TheVariants.{WrongCount}
-use Rattle.loader_machine.specs.Script.{load_of, bytes_of}
+use Rattle.loader_machine.specs.Script.{load_of, bytes_of, alloc_of, one_number, two_numbers}
 
 pub load_of_others : (words : List (List ℕ)) → length words ≢ 1 → load_of words ≡ Err WrongCount
 unfolding load_of
@@ -17,3 +17,24 @@ bytes_of_others (user ∷ segment ∷ []) other = refl
 bytes_of_others (user ∷ segment ∷ at ∷ []) other = refl
 bytes_of_others (user ∷ segment ∷ at ∷ size ∷ []) other = absurd (other refl)
 bytes_of_others (user ∷ segment ∷ at ∷ size ∷ more ∷ words) other = refl
+
+pub alloc_of_others : (words : List (List ℕ)) → length words ≢ 3 → alloc_of words ≡ Err WrongCount
+unfolding alloc_of
+alloc_of_others [] other = refl
+alloc_of_others (size ∷ []) other = refl
+alloc_of_others (size ∷ attr ∷ []) other = refl
+alloc_of_others (size ∷ attr ∷ address ∷ []) other = absurd (other refl)
+alloc_of_others (size ∷ attr ∷ address ∷ more ∷ words) other = refl
+
+pub one_number_others : (most : ℕ) (words : List (List ℕ)) → length words ≢ 1 → one_number most words ≡ Err WrongCount
+unfolding one_number
+one_number_others most [] other = refl
+one_number_others most (word ∷ []) other = absurd (other refl)
+one_number_others most (word ∷ more ∷ words) other = refl
+
+pub two_numbers_others : (most bound : ℕ) (words : List (List ℕ)) → length words ≢ 2 → two_numbers most bound words ≡ Err WrongCount
+unfolding two_numbers
+two_numbers_others most bound [] other = refl
+two_numbers_others most bound (word ∷ []) other = refl
+two_numbers_others most bound (word ∷ second ∷ []) other = absurd (other refl)
+two_numbers_others most bound (word ∷ second ∷ more ∷ words) other = refl

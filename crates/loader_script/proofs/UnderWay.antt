@@ -5,14 +5,14 @@ use Rattle.omf_io.specs.Counts.{risen, ToldOr}
 use Rattle.omf_io.specs.Files.{FileMap, StoreSeen}
 use Rattle.omf_io.specs.Sinks.{SinkSeen, FailsToPrint}
 use Rattle.omf_io.specs.Outside.{Outside, outside}
-use Rattle.loader_machine.specs.Command.{Command, Banks, Load, Bytes}
-use Rattle.loader_machine.specs.Machine.{Machine, empty}
+use Rattle.loader_machine.specs.State.{Machine, empty_of}
+use Rattle.loader_machine.specs.Commands as step
+use Rattle.loader_machine.specs.Commands.{Command, Banks, Load, Bytes}
 use Rattle.iigs_meaning.specs.Blocks.{new_slots}
-use Rattle.loader_machine.specs.Step as step
 use Rattle.loader_machine.specs.Transcript.{IsAnswered}
 use Rattle.loader_machine.specs.Replies.{reply_line}
 use Rattle.loader_machine.specs.Script.{IsCommand, AreCommands}
-use Rattle.sys_loader.specs.Loaded.{Loaded, Agrees}
+use Rattle.loader_agrees.specs.Agrees.{Loaded, Agrees}
 use Rattle.loader_script.specs.declared.run.Stop.{Stop}
 use Rattle.loader_script.specs.declared.run.Stop.TheVariants as stop
 use Rattle.loader_script.specs.Replied.{AreReplies, IsUnanswered}
@@ -34,9 +34,9 @@ nothing_yet store sink = record {
 }
   where
     go : (h : Option FileMap) → ToldOr h (store.faults ≡ store.faults) (λ files. (others : ℕ) × (last : Machine)
-        × ((others ≡ 0) × (last ≡ empty [])) × Agrees files no_loader last × (store.faults ≡ risen others store.faults))
+        × ((others ≡ 0) × (last ≡ empty_of [])) × Agrees files no_loader last × (store.faults ≡ risen others store.faults))
     go None = refl
-    go (Some files) = (0, empty [], (refl, refl), record { banks = refl; slots = refl; users = refl; each = λ place kept is. absurd (cc) }, refl)
+    go (Some files) = (0, empty_of [], (refl, refl), record { banks = refl; slots = refl; users = refl; each = λ place kept user is made. absurd (cc) }, refl)
 
 -- the banks of the first command
 first_answer : (store : StoreSeen) (command : Command) (loader : Loaded) → IsFirstLoader command loader → IsAnswer command no_loader step.Okay loader store store
@@ -45,9 +45,8 @@ first_answer store (Banks banks) loader is = record { told = go store.held; stor
     go : (h : Option FileMap) → ToldOr h (store.faults ≡ store.faults) (λ files. (state : Machine) → Agrees files no_loader state
         → (others : ℕ) × (next : Machine) × IsAnswered files state (Banks banks) step.Okay others next × Agrees files loader next × (store.faults ≡ risen others store.faults))
     go None = refl
-    go (Some files) = λ state agrees. (0, empty banks, inl ((refl, refl), refl), is files, refl)
-first_answer store (Load path) loader is = absurd is
-first_answer store (Bytes user number at count) loader is = absurd is
+    go (Some files) = λ state agrees. (0, empty_of banks, inl ((refl, refl), refl), is files, refl)
+first_answer store _ loader is = absurd is
 
 pub first_answered : (store : StoreSeen) (sink new_sink : SinkSeen) (command : Command) (loader : Loaded) (result : Result (Unit {0}) Stop) → IsFirstLoader command loader
     → HasPrinted result (reply_line step.Okay) sink new_sink → HasAnswered result command no_loader loader (outside store store sink new_sink)
@@ -186,3 +185,4 @@ no_memory (c ∷ commands) first store sink is here =
     idle (Banks banks) are = refl
     idle (Load path) are = absurd (cc)
     idle (Bytes user number at count) are = absurd (cc)
+    idle _ are = refl

@@ -2,7 +2,7 @@
 use Rattle.std.specs.Prelude.{◌≡◌, ℕ, true, false, List, [], ◌∷◌, ◌++◌, slice_index, ◌==◌}
 use Rattle.std.specs.List.{AllByRecursion, join_with_byte}
 use Rattle.loader_machine.specs.declared.script.ScriptCause.{ScriptCause}
-use Rattle.loader_machine.specs.Command.{Command}
+use Rattle.loader_machine.specs.Commands.{Command}
 use Rattle.omf_format.specs.Lines.{lines_of}
 use Rattle.loader_machine.specs.Script.{words_of, IsScript, IsFirstBadLine, AreCommands}
 use Rattle.omf_format.specs.Lines.{HasNoEnd}

@@ -2,7 +2,7 @@
 use Rattle.std.specs.Prelude.{◌≡◌, ℕ, ◌<◌, true, false, Bool, List, [], ◌∷◌, ◌++◌, Ok}
 use Rattle.loader_machine.specs.declared.script.ScriptCause.{ScriptCause}
 use Rattle.loader_machine.specs.declared.script.ScriptCause.TheVariants.{TooManyLines, BadWord, UnknownCommand, BanksFirst, WrongCount, BadNumber, BankTwice, Memory}
-use Rattle.loader_machine.specs.Command.{Command}
+use Rattle.loader_machine.specs.Commands.{Command}
 use Rattle.loader_machine.specs.Script.{most_lines, is_skipped, line_command, is_start, IsBad}
 
 -- the line, behind so many others, is skipped, or gives the command at the end

@@ -3,55 +3,37 @@ use Rattle.std.specs.Prelude.{◌≡◌, ◌⊎◌, ℕ, Bool, true, false, ◌+
 use Rattle.omf_io.specs.Counts.{one_more, risen, ToldOr}
 use Rattle.omf_io.specs.Files.{FileMap, StoreSeen}
 use Rattle.loader_machine.specs.declared.faults.LoaderFault.{LoaderFault}
-use Rattle.loader_machine.specs.declared.faults.LoaderFault.TheVariants.{NoUser, NoSegment, OutOfSegment, TooManyUsers, CannotRead, Unbuilt, NoRoom, Memory}
-use Rattle.loader_machine.specs.Command.{Command, Banks, Load, Bytes}
-use Rattle.loader_machine.specs.Machine.{Machine, empty}
-use Rattle.loader_machine.specs.Step.{Reply, Okay, Started, Shown, Refused}
+use Rattle.loader_machine.specs.declared.faults.LoaderFault.TheVariants.{TooManyUsers, CannotRead}
+use Rattle.loader_machine.specs.State.{Machine, empty_of}
+use Rattle.loader_machine.specs.Commands.{Command, Load, Reply, Refused}
 use Rattle.loader_machine.specs.Transcript.{AreAnswered}
 
 abbrev pub is_unread_fault : LoaderFault → Bool
-is_unread_fault NoUser = false
-is_unread_fault NoSegment = false
-is_unread_fault OutOfSegment = false
-is_unread_fault TooManyUsers = false
 is_unread_fault CannotRead = true
-is_unread_fault Unbuilt = false
-is_unread_fault (NoRoom number) = false
-is_unread_fault Memory = false
+is_unread_fault _ = false
 
 -- the reply is `cannot read`
 abbrev pub is_unread : Reply → Bool
-is_unread Okay = false
-is_unread (Started user entry) = false
-is_unread (Shown bytes) = false
 is_unread (Refused fault) = is_unread_fault fault
+is_unread _ = false
 
 -- how many replies are `cannot read`
 abbrev pub unread : List Reply → ℕ
 unread replies = count_by is_unread replies
 
 abbrev pub is_full_fault : LoaderFault → Bool
-is_full_fault NoUser = false
-is_full_fault NoSegment = false
-is_full_fault OutOfSegment = false
 is_full_fault TooManyUsers = true
-is_full_fault CannotRead = false
-is_full_fault Unbuilt = false
-is_full_fault (NoRoom number) = false
-is_full_fault Memory = false
+is_full_fault _ = false
 
 -- the reply is `refused TooManyUsers`
 abbrev pub is_full : Reply → Bool
-is_full Okay = false
-is_full (Started user entry) = false
-is_full (Shown bytes) = false
 is_full (Refused fault) = is_full_fault fault
+is_full _ = false
 
 -- how often a command with this reply read a file: a load once, unless 255 users were made
 abbrev pub asks : Command → Reply → ℕ
-asks (Banks banks) reply = 0
 asks (Load path) reply = if is_full reply then 0 else 1
-asks (Bytes user segment at size) reply = 0
+asks _ reply = 0
 
 -- the same of all commands
 abbrev pub asked_for : List Command → List Reply → ℕ
@@ -66,7 +48,7 @@ asked_for (command ∷ commands) (reply ∷ replies) = asks command reply + aske
 pub record AreReplies (P : FileMap → Machine → Type 0) (commands : List Command) (replies : List Reply) (before now : StoreSeen) : Type 0 where
   pub one_each : length replies ≡ length commands
   pub told : ToldOr before.held (now.faults ≡ risen (unread replies) before.faults) (λ files. (others : ℕ) × (last : Machine)
-      × AreAnswered files (empty []) commands replies others last × P files last × (now.faults ≡ risen others before.faults))
+      × AreAnswered files (empty_of []) commands replies others last × P files last × (now.faults ≡ risen others before.faults))
   pub store : now ≡ record before { faults = now.faults; asked = risen (asked_for commands replies) before.asked }
 
 -- a count is as before or one more
@@ -75,7 +57,6 @@ OnceAtMost before now = (now ≡ before) ⊎ (now ≡ one_more before)
 
 -- a command has no reply, since memory ran out in it: a load may have read its file, once, and no other command reads one
 abbrev pub IsUnanswered : Command → StoreSeen → StoreSeen → Type 0
-IsUnanswered (Banks banks) before now = now ≡ before
 IsUnanswered (Load path) before now =
     OnceAtMost before.faults now.faults × OnceAtMost before.asked now.asked × (now ≡ record before { faults = now.faults; asked = now.asked })
-IsUnanswered (Bytes user segment at size) before now = now ≡ before
+IsUnanswered _ before now = now ≡ before

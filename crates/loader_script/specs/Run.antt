@@ -3,12 +3,11 @@ use Rattle.std.specs.Prelude.{◌≡◌, ◌⊎◌, ◌↔◌, ◌≢◌, List, 
 use Rattle.omf_io.specs.Files.{FileMap, StoreSeen}
 use Rattle.omf_io.specs.Sinks.{with_text, FailsToPrint}
 use Rattle.omf_io.specs.Outside.{Outside}
-use Rattle.loader_machine.specs.Command.{Command}
-use Rattle.loader_machine.specs.Machine.{Machine}
-use Rattle.loader_machine.specs.Step.{Reply}
+use Rattle.loader_machine.specs.Commands.{Command, Reply}
+use Rattle.loader_machine.specs.State.{Machine}
 use Rattle.loader_machine.specs.Replies.{reply_line, replies_text}
 use Rattle.loader_machine.specs.Script.{IsScript, HasScriptFault}
-use Rattle.sys_loader.specs.Loaded.{Loaded, Agrees}
+use Rattle.loader_agrees.specs.Agrees.{Loaded, Agrees}
 use Rattle.loader_script.specs.Replied.{AreReplies, IsUnanswered}
 use Rattle.loader_script.specs.declared.run.ScriptEnd.{ScriptEnd}
 use Rattle.loader_script.specs.declared.run.ScriptEnd.TheVariants.{Done, Refused, CannotPrint, Memory}

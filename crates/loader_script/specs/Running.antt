@@ -1,20 +1,18 @@
 -- A run of a script on its way: what one command does, and what was done so far. No public clause cites this module.
 use Rattle.std.specs.Prelude.{◌≡◌, ◌≢◌, ◌⊎◌, ℕ, List, [], ◌∷◌, Option, Result, Ok, Err}
 use Rattle.omf_io.specs.Counts.{risen, ToldOr}
-use Rattle.omf_io.specs.Files.{StoreSeen}
+use Rattle.omf_io.specs.Files.{FileMap, StoreSeen}
 use Rattle.omf_io.specs.Sinks.{SinkSeen, with_text, FailsToPrint}
 use Rattle.omf_io.specs.Outside.{Outside}
-use Rattle.loader_machine.specs.Command.{Command, Banks, Load, Bytes}
-use Rattle.loader_machine.specs.Machine.{Machine}
+use Rattle.loader_machine.specs.State.{Machine, empty_of}
+use Rattle.loader_machine.specs.Commands as commands
+use Rattle.loader_machine.specs.Commands.{Command, Banks, Reply}
 use Rattle.loader_machine.specs.Script.{HasScriptFault}
-use Rattle.loader_machine.specs.declared.faults.LoaderFault.{LoaderFault}
-use Rattle.loader_machine.specs.declared.faults.LoaderFault.TheVariants as loader_fault
-use Rattle.loader_machine.specs.Step as step
-use Rattle.loader_machine.specs.Step.{Reply}
+use Rattle.omf_base.specs.declared.line.LineFault.{LineFault}
+use Rattle.loader_machine.specs.declared.faults.LoaderFault.TheVariants as fault
 use Rattle.loader_machine.specs.Transcript.{IsAnswered}
 use Rattle.loader_machine.specs.Replies.{reply_line, replies_text}
-use Rattle.sys_loader.specs.Loaded.{Loaded, Agrees}
-use Rattle.sys_loader.specs.Meets.{AgreesEmpty}
+use Rattle.loader_agrees.specs.Agrees.{Loaded, Agrees}
 use Rattle.loader_script.specs.declared.run.ScriptEnd.{ScriptEnd}
 use Rattle.loader_script.specs.declared.run.ScriptEnd.TheVariants as end
 use Rattle.loader_script.specs.declared.run.Stop.{Stop}
@@ -28,12 +26,6 @@ HasPrinted (Ok done) text before now = now ≡ with_text text before
 HasPrinted (Err CannotPrint) text before now = FailsToPrint text before now
 HasPrinted (Err Memory) text before now = now ≡ before
 
--- what became of a refusal: want of memory is no reply, and every other one was printed as one
-abbrev pub HasRefused : LoaderFault → Result (Unit {0}) Stop → SinkSeen → SinkSeen → Type 0
-HasRefused fault result before now =
-    ((fault ≡ loader_fault.Memory) × (result ≡ Err Memory) × (now ≡ before))
-    ⊎ ((fault ≢ loader_fault.Memory) × HasPrinted result (reply_line (step.Refused fault)) before now)
-
 -- the loader answers a command: over files that are told as the machine does, or by `cannot read` where the count is one more
 pub record IsAnswer (command : Command) (old : Loaded) (reply : Reply) (new : Loaded) (before now : StoreSeen) : Type 0 where
   pub told : ToldOr before.held (now.faults ≡ risen (unread (reply ∷ [])) before.faults) (λ files. (state : Machine) → Agrees files old state
@@ -41,11 +33,20 @@ pub record IsAnswer (command : Command) (old : Loaded) (reply : Reply) (new : Lo
   pub store : now ≡ record before { faults = now.faults; asked = risen (asks command reply) before.asked }
   pub unanswered : IsUnanswered command before now
 
--- the loader that the first command of a script asks for agrees with the empty state of the named banks
+-- the line is that of a reply, which isn't want of memory
+abbrev pub IsLineOf : Result (List ℕ) LineFault → Reply → Type 0
+IsLineOf (Ok text) reply = (reply ≢ commands.Refused fault.Memory) × (text ≡ reply_line reply)
+IsLineOf (Err short) reply = Unit {0}
+
+-- the line of a command's reply, or none for want of memory
+abbrev pub HasLine : Result (List ℕ) LineFault → Command → Loaded → Loaded → StoreSeen → StoreSeen → Type 0
+HasLine (Ok text) command old new before now = (reply : Reply) × IsAnswer command old reply new before now × (text ≡ reply_line reply)
+HasLine (Err short) command old new before now = IsUnanswered command before now
+
+-- over any files the loader that the first command of a script asks for agrees with the empty state of the named banks
 abbrev pub IsFirstLoader : Command → Loaded → Type 0
-IsFirstLoader (Banks banks) loader = AgreesEmpty banks loader
-IsFirstLoader (Load path) loader = ⊥
-IsFirstLoader (Bytes user segment at size) loader = ⊥
+IsFirstLoader (Banks banks) loader = (held : FileMap) → Agrees held loader (empty_of banks)
+IsFirstLoader _ loader = ⊥
 
 -- how one command ends: its reply was printed, or not whole; or memory ran out, and nothing was printed
 abbrev pub HasAnswered : Result (Unit {0}) Stop → Command → Loaded → Loaded → Outside → Type 0

@@ -3,16 +3,26 @@ use Rattle.std.specs.Prelude.{◌≡◌, ℕ, List, Result, Ok, Err}
 use Rattle.loader_machine.specs.declared.script.ScriptCause.{ScriptCause}
 use Rattle.loader_machine.specs.declared.script.ScriptCause.TheVariants.{TooManyLines, BadWord, UnknownCommand, BanksFirst, WrongCount, BadNumber, BankTwice, Memory}
 use Rattle.loader_machine.specs.declared.script.ScriptFault.{ScriptFault}
-use Rattle.loader_machine.specs.Command as machine
-use Rattle.loader_machine.specs.Script.{IsFirstBadLine}
+use Rattle.omf_format.specs.Header.{has_attribute}
+use Rattle.loader_machine.specs.Commands as machine
+use Rattle.loader_machine.specs.Script.{alloc_want, level_in, IsFirstBadLine}
 use Rattle.loader_script.specs.declared.command.Command.{Command}
-use Rattle.loader_script.specs.declared.command.Command.TheVariants.{Banks, Load, Bytes}
+use Rattle.loader_script.specs.declared.command.Command.TheVariants as declared
 
--- a command with its list and its path as their bytes
+-- a command with its list and its path as their bytes, and what is asked of a block
 abbrev pub command : Command → machine.Command
-command (Banks list) = machine.Banks list
-command (Load path) = machine.Load path
-command (Bytes user segment at size) = machine.Bytes user segment at size
+command (declared.Banks list) = machine.Banks list
+command (declared.Load path) = machine.Load path
+command (declared.Bytes user segment at size) = machine.Bytes user segment at size
+command (declared.Where address) = machine.Where address
+command (declared.Info user segment) = machine.Info user segment
+command (declared.Alloc size attr address) = machine.Alloc (alloc_want size attr address) (has_attribute 0x8000 attr) (level_in attr)
+command (declared.Free h) = machine.Free h
+command (declared.Lock h) = machine.Lock h
+command (declared.Unlock h) = machine.Unlock h
+command (declared.Level h level) = machine.Level h level
+command (declared.Handle h) = machine.StateOf h
+command declared.Room = machine.Room
 
 -- a cause is this answer, unless memory ran out
 abbrev pub IsCause : {A : Type 0} → ScriptCause → Result A ScriptCause → Type 0

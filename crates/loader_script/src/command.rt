@@ -2,6 +2,7 @@
 
 ghost use Rattle.std.specs.Prelude.{◌≡◌, ◌≤◌, length};
 
+use iigs_meaning::Handle;
 use omf_base::Name;
 use std::marker::Model;
 
@@ -59,4 +60,41 @@ pub enum Command {
         at: u32,
         length: u32,
     },
+    /// An address to be located.
+    Where {
+        address: u32,
+    },
+    /// A user's segment to be told of.
+    Info {
+        user: u16,
+        segment: u16,
+    },
+    /// A block to be placed for the script.
+    Alloc {
+        size: u32,
+        /// What is asked of its place, and how it can be purged.
+        attr: u16,
+        address: u32,
+    },
+    /// A block to be released, and its handle with it.
+    Free {
+        handle: Handle,
+    },
+    Lock {
+        handle: Handle,
+    },
+    Unlock {
+        handle: Handle,
+    },
+    /// A block's purge level to be set.
+    Level {
+        handle: Handle,
+        level: u8,
+    },
+    /// A handle's block to be told of.
+    Handle {
+        handle: Handle,
+    },
+    /// The free bytes to be counted.
+    Room,
 }

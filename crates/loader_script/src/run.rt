@@ -1,24 +1,32 @@
 //! Scripts that are run: each command is given to the loader, and its reply is printed.
 
-ghost use Rattle.std.specs.Prelude.{◌≡◌, ◌≤◌, ◌^◌, ◌<◌, ℕ, List, true, false, IfOk};
+ghost use Rattle.std.specs.Prelude.{◌≡◌, ◌≤◌, ◌^◌, ◌<◌, ℕ, List, true, false, Some, Err, IsSome, IsSomeAnd, IfOk, OnErr};
 ghost use Rattle.omf_io.specs.Files.{StoreSeen};
 ghost use Rattle.omf_io.specs.Outside.{outside};
-ghost use Rattle.loader_machine.specs.Command as machine;
-ghost use Rattle.loader_machine.specs.Script.{is_word, IsCommand, AreCommands};
+ghost use Rattle.loader_machine.specs.Commands as machine;
+ghost use Rattle.iigs_meaning.specs.Slots.{get};
+ghost use Rattle.iigs_meaning.specs.Fits.{IsWant};
+ghost use Rattle.loader_machine.specs.Heads.{some_if};
+ghost use Rattle.loader_machine.specs.Script.{is_word, alloc_want, IsCommand, AreCommands};
+ghost use Rattle.sys_loader.specs.Replies.{done_reply};
 ghost use Rattle.loader_script.specs.View as view;
 ghost use Rattle.loader_script.specs.View.{IsRefused};
 ghost use Rattle.loader_script.specs.Run.{HasRunScript};
-ghost use Rattle.loader_script.specs.Running.{HasPrinted, HasRefused, HasAnswered, HasFinished, IsFirstLoader, IsNotRun};
+ghost use Rattle.loader_script.specs.Running.{HasPrinted, IsLineOf, HasLine, HasAnswered, HasFinished, IsFirstLoader, IsNotRun};
 
 use crate::command::{BankList, Command};
-use crate::replies::{okay_line, refusal_line, shown_line, started_line};
+use crate::replies::{
+    info_line, okay_line, placed_line, refusal_line, room_line, shown_line, started_line,
+    state_line, where_line,
+};
 use crate::script::{Script, read_script};
-use loader_machine::{ScriptCause, ScriptFault};
+use iigs_meaning::{BanksFault, Handle, Want};
+use loader_machine::{LoaderFault, ScriptCause, ScriptFault};
 use omf_base::{Line, LineFault, Name};
 use omf_io::{Files, Sink, SinkFault};
 use std::alloc::{AllocError, Global};
 use std::str;
-use sys_loader::{BanksFault, Loader, LoaderFault};
+use sys_loader::Loader;
 
 /// How the run of a script ends.
 #[derive(Drop)]
@@ -43,7 +51,8 @@ pub enum Stop {
 
 /// Prints a line for which memory may have been missing.
 fn print<S: Sink>(line: Result<Line, LineFault>, out: &mut S) -> Result<(), Stop>
-    ensures { (text : List ℕ) → IfOk line (λ made. made ≡ text) → HasPrinted result text (S.seen out.old) (S.seen out.new) }
+    ensures printed { (text : List ℕ) → IfOk line (λ made. made ≡ text) → HasPrinted result text (S.seen out.old) (S.seen out.new) }
+    ensures short { OnErr line ((result ≡ Err Stop.Memory) × (S.seen out.new ≡ S.seen out.old)) }
 {
     let line = match line {
         Ok(line) => line,
@@ -67,54 +76,210 @@ fn path_of(word: &Name) -> &str
     }
 }
 
-/// Prints why a command is refused. Want of memory is no reply.
-fn refuse<S: Sink>(alloc: Global, fault: LoaderFault, out: &mut S) -> Result<(), Stop>
-    ensures { HasRefused fault result (S.seen out.old) (S.seen out.new) }
+/// The line of a reply that tells nothing, or of a refusal.
+fn done_line(alloc: Global, done: Result<(), LoaderFault>) -> Result<Line, LineFault>
+    ensures { IsLineOf result (done_reply done) }
 {
-    match fault {
-        LoaderFault::Memory => Err(Stop::Memory),
-        _ => print(refusal_line(alloc, fault), out),
+    match done {
+        Ok(()) => okay_line(alloc),
+        Err(fault) => refusal_line(alloc, fault),
     }
 }
 
-/// Loads a file, and prints the reply.
-fn run_load<F: Files, S: Sink>(
+/// Loads a file.
+fn load<F: Files>(
     alloc: Global,
     path: &Name,
     loader: &mut Loader,
     files: &mut F,
-    out: &mut S,
-) -> Result<(), Stop>
+) -> Result<Line, LineFault>
     requires { is_word path.now ≡ true }
-    ensures { HasAnswered result (machine.Load path.now) loader.old loader.new
-        (outside (F.seen files.old) (F.seen files.new) (S.seen out.old) (S.seen out.new)) }
+    ensures { HasLine result (machine.Load path.now) loader.old loader.new (F.seen files.old) (F.seen files.new) }
 {
     match loader.load(files, path_of(path)) {
-        Ok(started) => print(started_line(alloc, started), out),
-        Err(fault) => refuse(alloc, fault, out),
+        Ok(started) => started_line(alloc, started),
+        Err(fault) => refusal_line(alloc, fault),
     }
 }
 
-/// Prints bytes of a user's segment, or why there are none.
-fn run_bytes<S: Sink>(
+/// Shows bytes of a user's segment.
+fn bytes(
     alloc: Global,
     user: u16,
     segment: u16,
     at: u32,
     count: u32,
     loader: &Loader,
-    out: &mut S,
-) -> Result<(), Stop>
-    ensures { (store : StoreSeen) → HasAnswered result (machine.Bytes user segment at count) loader.now loader.now
-        (outside store store (S.seen out.old) (S.seen out.new)) }
+) -> Result<Line, LineFault>
+    ensures { (store : StoreSeen) → HasLine result (machine.Bytes user segment at count) loader.now loader.now store store }
 {
     match loader.bytes(user, segment, at, count) {
-        Ok(bytes) => print(shown_line(alloc, bytes), out),
-        Err(fault) => refuse(alloc, fault, out),
+        Ok(bytes) => shown_line(alloc, bytes),
+        Err(fault) => refusal_line(alloc, fault),
     }
 }
 
-/// Runs a command that isn't the first.
+/// Tells where an address lies.
+fn where_(alloc: Global, address: u32, loader: &Loader) -> Result<Line, LineFault>
+    ensures { (store : StoreSeen) → HasLine result (machine.Where address) loader.now loader.now store store }
+{
+    where_line(alloc, loader.locate(address))
+}
+
+/// Tells of a user's segment.
+fn info(alloc: Global, user: u16, segment: u16, loader: &Loader) -> Result<Line, LineFault>
+    ensures { (store : StoreSeen) → HasLine result (machine.Info user segment) loader.now loader.now store store }
+{
+    match loader.info(user, segment) {
+        Ok(info) => info_line(alloc, info),
+        Err(fault) => refusal_line(alloc, fault),
+    }
+}
+
+/// What is asked of the place of a script's block.
+#[tactic(auto, unfolding(loader_machine::specs::Script::alloc_want))]
+fn alloc_want(size: u32, attr: u16, address: u32) -> Want
+    ensures { result ≡ alloc_want size attr address }
+{
+    Want {
+        size,
+        align: if attr & 0x0004 != 0 { 0x100 } else { 1 },
+        no_cross: attr & 0x0010 != 0,
+        no_special: attr & 0x0008 != 0,
+        at: some_if(attr & 0x0002 != 0, address),
+        bank: some_if(attr & 0x0001 != 0, address / 0x10000),
+        low: None,
+    }
+}
+
+fn some_if(asked: bool, n: u32) -> Option<u32>
+    ensures { result ≡ some_if asked n }
+{
+    if asked { Some(n) } else { None }
+}
+
+/// Where a block lies that was just placed.
+fn address_of(loader: &Loader, handle: Handle) -> u32
+    requires { IsSomeAnd (get loader.now.memory.slots handle) (λ block. IsSome block.at) }
+    ensures { IsSomeAnd (get loader.now.memory.slots handle) (λ block. block.at ≡ Some result) }
+{
+    let state = match loader.handle(handle) {
+        Ok(state) => state,
+        Err(_) => unreachable!(),
+    };
+    match state.at {
+        Some(address) => address,
+        None => unreachable!(),
+    }
+}
+
+/// Places a block for the script.
+fn alloc_block(
+    alloc: Global,
+    want: &Want,
+    locked: bool,
+    level: u8,
+    loader: &mut Loader,
+) -> Result<Line, LineFault>
+    requires { IsWant want.now }
+    ensures { (store : StoreSeen) → HasLine result (machine.Alloc want.now locked level) loader.old loader.new store store }
+{
+    match loader.alloc(want, locked, level) {
+        Ok(handle) => placed_line(alloc, handle, address_of(loader, handle)),
+        Err(fault) => refusal_line(alloc, fault),
+    }
+}
+
+/// Releases a block of the script.
+fn free(alloc: Global, handle: Handle, loader: &mut Loader) -> Result<Line, LineFault>
+    ensures { (store : StoreSeen) → HasLine result (machine.Free handle) loader.old loader.new store store }
+{
+    done_line(alloc, loader.free(handle))
+}
+
+/// Locks a block of the script.
+fn lock(alloc: Global, handle: Handle, loader: &mut Loader) -> Result<Line, LineFault>
+    ensures { (store : StoreSeen) → HasLine result (machine.Lock handle) loader.old loader.new store store }
+{
+    done_line(alloc, loader.lock(handle))
+}
+
+/// Unlocks a block of the script.
+fn unlock(alloc: Global, handle: Handle, loader: &mut Loader) -> Result<Line, LineFault>
+    ensures { (store : StoreSeen) → HasLine result (machine.Unlock handle) loader.old loader.new store store }
+{
+    done_line(alloc, loader.unlock(handle))
+}
+
+/// Sets the purge level of a block of the script.
+fn level(alloc: Global, handle: Handle, n: u8, loader: &mut Loader) -> Result<Line, LineFault>
+    ensures { (store : StoreSeen) → HasLine result (machine.Level handle n) loader.old loader.new store store }
+{
+    done_line(alloc, loader.level(handle, n))
+}
+
+/// Tells of a handle's block.
+fn state(alloc: Global, handle: Handle, loader: &Loader) -> Result<Line, LineFault>
+    ensures { (store : StoreSeen) → HasLine result (machine.StateOf handle) loader.now loader.now store store }
+{
+    match loader.handle(handle) {
+        Ok(state) => state_line(alloc, state),
+        Err(fault) => refusal_line(alloc, fault),
+    }
+}
+
+/// Tells how many bytes are free.
+fn room(alloc: Global, loader: &Loader) -> Result<Line, LineFault>
+    ensures { (store : StoreSeen) → HasLine result machine.Room loader.now loader.now store store }
+{
+    room_line(alloc, loader.room())
+}
+
+/// Gives the loader a command that isn't the first, and makes the line of the reply.
+fn reply<F: Files>(
+    alloc: Global,
+    command: &Command,
+    loader: &mut Loader,
+    files: &mut F,
+) -> Result<Line, LineFault>
+    requires { IsCommand false (view.command command.now) }
+    ensures { HasLine result (view.command command.now) loader.old loader.new (F.seen files.old) (F.seen files.new) }
+{
+    match command {
+        Command::Banks { .. } => unreachable!(),
+        Command::Load { path } => load(alloc, path, loader, files),
+        Command::Bytes {
+            user,
+            segment,
+            at,
+            length,
+        } => bytes(alloc, *user, *segment, *at, *length, loader),
+        Command::Where { address } => where_(alloc, *address, loader),
+        Command::Info { user, segment } => info(alloc, *user, *segment, loader),
+        Command::Alloc {
+            size,
+            attr,
+            address,
+        } => {
+            let want = alloc_want(*size, *attr, *address);
+            alloc_block(
+                alloc,
+                &want,
+                *attr & 0x8000 != 0,
+                (*attr / 0x100 % 4) as u8,
+                loader,
+            )
+        }
+        Command::Free { handle } => free(alloc, *handle, loader),
+        Command::Lock { handle } => lock(alloc, *handle, loader),
+        Command::Unlock { handle } => unlock(alloc, *handle, loader),
+        Command::Level { handle, level: n } => level(alloc, *handle, *n, loader),
+        Command::Handle { handle } => state(alloc, *handle, loader),
+        Command::Room => room(alloc, loader),
+    }
+}
+
+/// Runs a command that isn't the first, and prints its reply.
 fn run_command<F: Files, S: Sink>(
     alloc: Global,
     command: &Command,
@@ -126,16 +291,8 @@ fn run_command<F: Files, S: Sink>(
     ensures { HasAnswered result (view.command command.now) loader.old loader.new
         (outside (F.seen files.old) (F.seen files.new) (S.seen out.old) (S.seen out.new)) }
 {
-    match command {
-        Command::Banks { .. } => unreachable!(),
-        Command::Load { path } => run_load(alloc, path, loader, files, out),
-        Command::Bytes {
-            user,
-            segment,
-            at,
-            length,
-        } => run_bytes(alloc, *user, *segment, *at, *length, loader, out),
-    }
+    let line = reply(alloc, command, loader, files);
+    print(line, out)
 }
 
 /// The loader of the banks that a script names.
@@ -158,8 +315,7 @@ fn first_loader(alloc: Global, first: &Command) -> Result<Loader, AllocError>
 {
     match first {
         Command::Banks { list } => loader_of(alloc, list),
-        Command::Load { .. } => unreachable!(),
-        Command::Bytes { .. } => unreachable!(),
+        _ => unreachable!(),
     }
 }
 

@@ -23,7 +23,7 @@ pub struct Script {
 
 impl Model for Script {
     ghost use Rattle.std.specs.Prelude.{◌≤◌, List, map, length};
-    ghost use Rattle.loader_machine.specs.Command as machine;
+    ghost use Rattle.loader_machine.specs.Commands as machine;
     ghost use Rattle.loader_script.specs.View.{command};
 
     ghost Value = { List machine.Command };

@@ -27,7 +27,8 @@ fn main(rt: HostRuntime) -> ExitCode {
         Ok(words) => {
             let mut files = HostFiles::new(&rt);
             let mut out = HostSink::new(&rt);
-            run_tool(rt.alloc(), &words, &mut files, &mut out)
+            let mut last = None;
+            run_tool(rt.alloc(), &words, &mut files, &mut out, &mut last)
         }
         Err(AllocError) => Status::Memory,
     };

@@ -152,22 +152,6 @@ loads_as first others file fits is plain =
       segment = s;
       loadable = loadable;
       cells_are = cells-bytes s (unpatched s load.constant.each) ∙ ap (map Byte) (bytes_are s (loaded_bytes (first ∷ others)) load.memory load.length');
-      can_load = λ static kept no_stack. record {
-        loadable = loadable;
-        one = refl;
-        plain = (
-          record {
-            static = static;
-            not_skipped = kept;
-            no_table = λ table. absurd (no_table (form_of s.fields.kind) object table);
-            no_stack = no_stack;
-            org = load.org;
-            align = load.align;
-            unpatched = unpatched s load.constant.each;
-          },
-          tt,
-        );
-      };
     }
 
 pub linked_is : (file output : List ℕ) → IsBytes file → (linked : IsLinkedTo file output) → IsLoadOf linked.segments output

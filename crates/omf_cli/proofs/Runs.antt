@@ -1,5 +1,5 @@
 -- How a run ends, from what was done and what was printed.
-use Rattle.std.proofs.Common.{◌≡◌, inl, inr, ℕ, List, Option, Result, Ok, Err, IfOk, Vec, ◌∙◌, refl, sym, subst}
+use Rattle.std.proofs.Common.{◌≡◌, inl, inr, ℕ, List, Option, None, Result, Ok, Err, IfOk, Vec, ◌∙◌, refl, sym, subst}
 use Rattle.std.specs.declared.alloc.Global.{Global}
 use Rattle.omf_base.specs.declared.line.LineFault.{LineFault}
 use Rattle.omf_io.specs.Files.{StoreSeen}
@@ -7,6 +7,7 @@ use Rattle.omf_io.specs.Sinks.{SinkSeen, with_text}
 use Rattle.omf_io.specs.Outside.{Outside}
 use Rattle.loader_machine.specs.declared.script.ScriptFault.{ScriptFault}
 use Rattle.loader_machine.specs.Script.{HasScriptFault}
+use Rattle.loader_agrees.specs.Agrees.{Loaded}
 use Rattle.loader_script.specs.declared.run.ScriptEnd.{ScriptEnd}
 use Rattle.loader_script.specs.Run.{HasRunScript}
 use Rattle.omf_cli.specs.declared.status.Status.{Status}
@@ -59,9 +60,9 @@ makes_run makes output inputs came result o = by_end came
 -- a run of a script that says a text before it begins
 pub script_says : (inputs : List (List ℕ)) (o : Outside) (wanted result : Status) (text : List ℕ) → ScriptSays wanted inputs o text
     → (o.new_sink ≡ with_text text o.sink → Ends (λ wanted text. ScriptSays wanted inputs o text) ⊥ (IsShort inputs o.store o.new_store) wanted o.sink o.new_sink)
-    → IsPut text wanted result o.sink o.new_sink → ScriptRun inputs result o
-script_says inputs o wanted result text is whole put =
-    inl (ends (λ wanted text. ScriptSays wanted inputs o text) ⊥ (IsShort inputs o.store o.new_store) wanted result text o.sink o.new_sink is whole put)
+    → IsPut text wanted result o.sink o.new_sink → (last : Option Loaded) → last ≡ None → ScriptRun inputs result last o
+script_says inputs o wanted result text is whole put last none =
+    inl (ends (λ wanted text. ScriptSays wanted inputs o text) ⊥ (IsShort inputs o.store o.new_store) wanted result text o.sink o.new_sink is whole put, none)
 
 -- a script that was read, and its run
 pub begun : (inputs : List (List ℕ)) (came : ScriptEnd) (all : List (Vec ℕ Global)) (text : List ℕ) (mid : StoreSeen) (o : Outside)

@@ -1,12 +1,11 @@
 -- What the load file of a plain object file is, in the format's own words, and how often a run reads.
-use Rattle.std.specs.Prelude.{◌≡◌, ◌≢◌, ◌≤◌, ℕ, ◌+◌, ◌-◌, ◌^◌, false, List, [], ◌∷◌, length, map, Some}
-use Rattle.omf_format.specs.Header.{form_of, is_dynamic, is_skipped}
+use Rattle.std.specs.Prelude.{◌≡◌, ◌≤◌, ℕ, ◌+◌, ◌-◌, ◌^◌, List, [], ◌∷◌, length, map, Option, Some}
 use Rattle.omf_format.specs.HeaderLaws.{IsBytes}
 use Rattle.omf_format.specs.File.{Segment, IsFile}
 use Rattle.load_meaning.specs.Plain.{IsPlain, written, loaded_bytes, IsLinkedTo, IsLoadFile}
 use Rattle.load_meaning.specs.Cells.{Byte, cells}
 use Rattle.load_meaning.specs.Loadable.{IsLoadable}
-use Rattle.loader_machine.specs.Machine.{CanLoad}
+use Rattle.loader_agrees.specs.Agrees.{Loaded}
 use Rattle.omf_io.specs.Outside.{Outside}
 use Rattle.omf_cli.specs.declared.status.Status.TheVariants.{CannotRead, CannotWrite}
 use Rattle.omf_cli.specs.Form.{Link, Run, Lib}
@@ -18,12 +17,10 @@ WrittenIsLoadFile = (first : Segment) (others : List Segment) (file : List ℕ) 
     → IsLoadFile first (first ∷ others) (written (first ∷ others))
 
 -- The file is a load file of one segment, whose cells are the members' bytes in order, each member's with its zeros behind them.
--- The loader can load it unless KIND says that it is dynamic, skipped, or a direct page and stack.
 pub record IsLoadOf (segments : List Segment) (output : List ℕ) : Type 0 where
   pub segment : Segment
   pub loadable : IsLoadable output (segment ∷ [])
   pub cells_are : cells segment ≡ map Byte (loaded_bytes segments)
-  pub can_load : is_dynamic segment.fields.kind ≡ false → is_skipped segment.fields.kind ≡ false → form_of segment.fields.kind ≢ 0x12 → CanLoad output (segment ∷ [])
 
 -- what a plain object file is linked to is loadable, and stands for the linked bytes
 abbrev pub LinkedIsLoadable : Type 0
@@ -31,8 +28,8 @@ LinkedIsLoadable = (file output : List ℕ) → IsBytes file → (linked : IsLin
 
 -- where an output couldn't be written, the store was asked for each input once, and for nothing else
 abbrev pub OutputsAreAskedForOnce : Type 0
-OutputsAreAskedForOnce = (output : List ℕ) (inputs : List (List ℕ)) (o : Outside) → o.store.asked + length inputs ≤ 2 ^ 64 - 1
-    → HasRun CannotWrite (Some (Link output inputs)) o → o.new_store.asked ≡ o.store.asked + length inputs
+OutputsAreAskedForOnce = (output : List ℕ) (inputs : List (List ℕ)) (last : Option Loaded) (o : Outside) → o.store.asked + length inputs ≤ 2 ^ 64 - 1
+    → HasRun CannotWrite (Some (Link output inputs)) last o → o.new_store.asked ≡ o.store.asked + length inputs
 
 abbrev pub LibrariesAreAskedForOnce : Type 0
 LibrariesAreAskedForOnce = (output : List ℕ) (inputs : List (List ℕ)) (o : Outside) → o.store.asked + length inputs ≤ 2 ^ 64 - 1
@@ -40,5 +37,5 @@ LibrariesAreAskedForOnce = (output : List ℕ) (inputs : List (List ℕ)) (o : O
 
 -- where a script couldn't be read, the store was asked for no more than the script
 abbrev pub ScriptsAreAskedForOnce : Type 0
-ScriptsAreAskedForOnce = (inputs : List (List ℕ)) (o : Outside) → o.store.asked + length inputs ≤ 2 ^ 64 - 1
-    → HasRun CannotRead (Some (Run inputs)) o → o.new_store.asked ≤ o.store.asked + length inputs
+ScriptsAreAskedForOnce = (inputs : List (List ℕ)) (last : Option Loaded) (o : Outside) → o.store.asked + length inputs ≤ 2 ^ 64 - 1
+    → HasRun CannotRead (Some (Run inputs)) last o → o.new_store.asked ≤ o.store.asked + length inputs

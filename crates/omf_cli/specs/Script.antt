@@ -1,11 +1,11 @@
 -- `run`: a script of loader commands is read and run. A reply is printed, a line, for each command.
-use Rattle.std.specs.Prelude.{◌≡◌, ◌⊎◌, ℕ, List, Option, Some}
+use Rattle.std.specs.Prelude.{◌≡◌, ◌⊎◌, ℕ, List, Option, None, Some}
 use Rattle.omf_io.specs.Files.{FileMap}
 use Rattle.omf_io.specs.Outside.{Outside, IsCalm}
 use Rattle.loader_machine.specs.declared.script.ScriptFault.{ScriptFault}
-use Rattle.loader_machine.specs.Command.{Command}
+use Rattle.loader_machine.specs.Commands.{Command}
 use Rattle.loader_machine.specs.Script.{IsScript, HasScriptFault}
-use Rattle.sys_loader.specs.Loaded.{Loaded}
+use Rattle.loader_agrees.specs.Agrees.{Loaded}
 use Rattle.loader_script.specs.Run.{HasRunScript}
 use Rattle.loader_script.specs.declared.run.ScriptEnd.{ScriptEnd}
 use Rattle.loader_script.specs.declared.run.ScriptEnd.TheVariants as script
@@ -36,17 +36,18 @@ ScriptSays Refused inputs o text = (fault : ScriptFault) × IsBadScript inputs f
 ScriptSays CannotRead inputs o text = (path : List ℕ) × StopsReading inputs path o.store o.new_store × (text ≡ cannot_read_line path)
 ScriptSays _ inputs o text = ⊥
 
--- what a run did that began
-abbrev pub Ran : Status → List (List ℕ) → Outside → Type 0
-Ran Done inputs o = (loader : Option Loaded) × HasBegun inputs (script.Done loader) o
-Ran CannotPrint inputs o = HasBegun inputs script.CannotPrint o
-Ran Memory inputs o = HasBegun inputs script.Memory o
-Ran _ inputs o = ⊥
+-- what a run did that began; the loader is handed out where the script was run to its end
+abbrev pub Ran : Status → List (List ℕ) → Option Loaded → Outside → Type 0
+Ran Done inputs last o = HasBegun inputs (script.Done last) o
+Ran CannotPrint inputs last o = HasBegun inputs script.CannotPrint o × (last ≡ None)
+Ran Memory inputs last o = HasBegun inputs script.Memory o × (last ≡ None)
+Ran _ inputs last o = ⊥
 
 -- a run of a script: it says a text and didn't begin, or it began
-abbrev pub ScriptRun : List (List ℕ) → Status → Outside → Type 0
-ScriptRun inputs result o =
-    Ends (λ wanted text. ScriptSays wanted inputs o text) ⊥ (IsShort inputs o.store o.new_store) result o.sink o.new_sink ⊎ Ran result inputs o
+abbrev pub ScriptRun : List (List ℕ) → Status → Option Loaded → Outside → Type 0
+ScriptRun inputs result last o =
+    (Ends (λ wanted text. ScriptSays wanted inputs o text) ⊥ (IsShort inputs o.store o.new_store) result o.sink o.new_sink × (last ≡ None))
+    ⊎ Ran result inputs last o
 
 -- the store tells a script without a bad line
 pub record CanRun (inputs : List (List ℕ)) (o : Outside) : Type 0 where

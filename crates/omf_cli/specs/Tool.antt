@@ -1,6 +1,7 @@
 -- What a run of the tool did, for each status that it ends with.
 use Rattle.std.specs.Prelude.{◌≡◌, Option, None, Some}
 use Rattle.omf_io.specs.Outside.{Outside}
+use Rattle.loader_agrees.specs.Agrees.{Loaded}
 use Rattle.omf_cli.specs.declared.status.Status.{Status}
 use Rattle.omf_cli.specs.declared.status.Status.TheVariants as status
 use Rattle.omf_cli.specs.Form.{Form, Link, Dump, Run, Lib}
@@ -17,13 +18,13 @@ abbrev pub UsageRun : Status → Outside → Type 0
 UsageRun result o =
     Ends (λ wanted text. (wanted ≡ status.Usage) × (text ≡ usage_line) × (o.new_store ≡ o.store)) ⊥ ⊥ result o.sink o.new_sink
 
--- a run over words of this form that ends with the status
-abbrev pub HasRun : Status → Option Form → Outside → Type 0
-HasRun result None o = UsageRun result o
-HasRun result (Some (Link output inputs)) o = MakesRun LinkMakes (Some output) inputs result o
-HasRun result (Some (Dump inputs)) o = MakesRun DumpMakes None inputs result o
-HasRun result (Some (Run inputs)) o = ScriptRun inputs result o
-HasRun result (Some (Lib output inputs)) o = MakesRun (LibMakes inputs) (Some output) inputs result o
+-- a run over words of this form that ends with the status; a loader is handed out by a script alone
+abbrev pub HasRun : Status → Option Form → Option Loaded → Outside → Type 0
+HasRun result None last o = UsageRun result o × (last ≡ None)
+HasRun result (Some (Link output inputs)) last o = MakesRun LinkMakes (Some output) inputs result o × (last ≡ None)
+HasRun result (Some (Dump inputs)) last o = MakesRun DumpMakes None inputs result o × (last ≡ None)
+HasRun result (Some (Run inputs)) last o = ScriptRun inputs result last o
+HasRun result (Some (Lib output inputs)) last o = MakesRun (LibMakes inputs) (Some output) inputs result o × (last ≡ None)
 
 -- the command can be done: the store tells its inputs, they have no fault, and no count rises
 abbrev pub CanSucceed : Option Form → Outside → Type 0

@@ -1,6 +1,6 @@
 //! `run`: a script of loader commands.
 
-ghost use Rattle.std.specs.Prelude.{◌≡◌, ◌⊎◌};
+ghost use Rattle.std.specs.Prelude.{◌≡◌, ◌⊎◌, None};
 ghost use Rattle.omf_io.specs.Outside.{outside};
 ghost use Rattle.omf_cli.specs.Words.{words_of};
 ghost use Rattle.omf_cli.specs.Script.{ScriptRun, CanRun};
@@ -12,15 +12,18 @@ use crate::status::Status;
 use loader_script::{ScriptEnd, run_script};
 use omf_io::{Files, Sink};
 use std::alloc::Global;
+use sys_loader::Loader;
 
-/// Reads a script and runs it, and prints what is to be said.
+/// Reads a script and runs it, and prints what is to be said. The loader that ran all commands is handed out.
 fn read_and_run<F: Files, S: Sink>(
     alloc: Global,
     inputs: &[String],
     files: &mut F,
     out: &mut S,
+    last: &mut Option<Loader>,
 ) -> Status
-    ensures { ScriptRun (words_of inputs.now) result
+    requires { last.old ≡ None }
+    ensures { ScriptRun (words_of inputs.now) result last.new
         (outside (F.seen files.old) (F.seen files.new) (S.seen out.old) (S.seen out.new)) }
 {
     let all = match read_all(alloc, inputs, files) {
@@ -35,7 +38,10 @@ fn read_and_run<F: Files, S: Sink>(
         Reading::Memory => return Status::Memory,
     };
     match run_script(alloc, first_of(&all), files, out) {
-        ScriptEnd::Done(_) => Status::Done,
+        ScriptEnd::Done(loader) => {
+            *last = loader;
+            Status::Done
+        }
         ScriptEnd::Refused(fault) => {
             let line = script_line(alloc, script_cause_name(fault.cause), fault.line);
             print(line, Status::Refused, out)
@@ -45,18 +51,20 @@ fn read_and_run<F: Files, S: Sink>(
     }
 }
 
-/// Runs a script that is read from a file.
+/// Runs a script that is read from a file, and hands out the loader that ran it.
 pub fn run_file<F: Files, S: Sink>(
     alloc: Global,
     inputs: &[String],
     files: &mut F,
     out: &mut S,
+    last: &mut Option<Loader>,
 ) -> Status
-    ensures run { ScriptRun (words_of inputs.now) result
+    requires { last.old ≡ None }
+    ensures run { ScriptRun (words_of inputs.now) result last.new
         (outside (F.seen files.old) (F.seen files.new) (S.seen out.old) (S.seen out.new)) }
     ensures completes { CanRun (words_of inputs.now)
         (outside (F.seen files.old) (F.seen files.new) (S.seen out.old) (S.seen out.new))
         → (result ≡ Status.Done) ⊎ (result ≡ Status.Memory) }
 {
-    read_and_run(alloc, inputs, files, out)
+    read_and_run(alloc, inputs, files, out, last)
 }

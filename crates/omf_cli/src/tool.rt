@@ -1,6 +1,6 @@
 //! All that the program does.
 
-ghost use Rattle.std.specs.Prelude.{◌≡◌, ◌⊎◌};
+ghost use Rattle.std.specs.Prelude.{◌≡◌, ◌⊎◌, None};
 ghost use Rattle.omf_io.specs.Outside.{outside};
 ghost use Rattle.omf_cli.specs.Words.{words_of};
 ghost use Rattle.omf_cli.specs.Form.{form_of};
@@ -16,8 +16,10 @@ use crate::script::run_file;
 use crate::status::Status;
 use omf_io::{Files, Sink};
 use std::alloc::Global;
+use sys_loader::Loader;
 
-/// Does what the words say over a store of files and a sink of text, and answers the status.
+/// Does what the words say over a store of files and a sink of text, and answers the status. `last` is to hold no loader. Where
+/// a script was run to its end it holds the loader that ran the commands, if there were any, and else none.
 ///
 /// `link OUT OBJ` links one plain object file. The input is read before anything is written. `dump FILE` prints a line
 /// for each segment of a file, and one for each of its records. `run SCRIPT` runs a script of loader commands, which is read
@@ -28,9 +30,12 @@ pub fn run_tool<F: Files, S: Sink>(
     words: &Vec<String>,
     files: &mut F,
     out: &mut S,
+    last: &mut Option<Loader>,
 ) -> Status
-    // What was read, what became of the files, which text was printed, and why.
-    ensures run { HasRun result (form_of (words_of words.now.items))
+    requires { last.old ≡ None }
+
+    // What was read, what became of the files, which text was printed, and why; and which loader is handed out.
+    ensures run { HasRun result (form_of (words_of words.now.items)) last.new
         (outside (F.seen files.old) (F.seen files.new) (S.seen out.old) (S.seen out.new)) }
 
     // A command whose inputs are held and have no fault gets done, where the outside doesn't fail and memory is left.
@@ -44,7 +49,7 @@ pub fn run_tool<F: Files, S: Sink>(
             run_maker(alloc, &Link, Some(output), inputs, files, out)
         }
         Some(Form::Dump { inputs }) => run_maker(alloc, &Dump, None, inputs, files, out),
-        Some(Form::Run { inputs }) => run_file(alloc, inputs, files, out),
+        Some(Form::Run { inputs }) => run_file(alloc, inputs, files, out, last),
         Some(Form::Lib { output, inputs }) => {
             run_maker(alloc, &Lib { inputs }, Some(output), inputs, files, out)
         }

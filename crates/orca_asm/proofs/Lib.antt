@@ -1,6 +1,7 @@
 pub mod Maps
 pub mod Amounts
 pub mod Labels
+pub mod Limited
 pub mod Listed
 pub mod NamesListed
 pub mod Quoted

@@ -6,5 +6,6 @@ pub mod AmountView
 pub mod PieceView
 pub mod Chosen
 pub mod OperandView
+pub mod TextView
 pub mod FormulasView
 pub mod ElementView

@@ -4,9 +4,12 @@ ghost use Rattle.std.specs.Prelude.{◌≡◌, ◌≤◌, ◌||◌, ◌&&◌, []
 ghost use Rattle.std.specs.List.{list_all};
 ghost use Rattle.orca_meaning.specs.Characters.{is_name, is_name_byte};
 ghost use Rattle.asm_meaning.specs.Statement.{behind_here, is_some_text, is_labelled, needs_segment, begins_segment, needs_label};
+ghost use Rattle.orca_asm.specs.OperandView.{name_answer, label_name};
 
-use asm_meaning::{Directive, Operation};
-use orca_text::{is_name_start, name_len};
+use asm_meaning::{AsmCause, Directive, Operation};
+use omf_base::Name;
+use orca_text::{folded, is_name_start, name_len};
+use std::alloc::{AllocError, Global};
 
 /// Whether a text is a name.
 #[tactic(auto, unfolding(orca_meaning::specs::Characters::is_name), using(crate::proofs::Labels::all_name_bytes))]
@@ -104,4 +107,27 @@ pub(crate) fn needs_label(operation: Operation) -> bool
         Operation::Direct(_) => false,
         Operation::Instruct(_) => false,
     }
+}
+
+/// A label in upper case, which is empty where there is none.
+pub(crate) fn label_name(
+    alloc: Global,
+    operation: Operation,
+    text: &[u8],
+) -> Result<Result<Name, AsmCause>, AllocError>
+    requires { length text.now ≤ 255 }
+    ensures { IfOk result (λ answer. name_answer answer ≡ label_name operation text.now) }
+{
+    if text.is_empty() {
+        if needs_label(operation) {
+            return Ok(Err(AsmCause::BadLabel));
+        }
+        let name = folded(alloc, text)?;
+        return Ok(Ok(name));
+    }
+    if is_name(text) {
+        let name = folded(alloc, text)?;
+        return Ok(Ok(name));
+    }
+    Ok(Err(AsmCause::BadLabel))
 }

@@ -15,5 +15,6 @@ mod names;
 mod operand;
 mod operation;
 mod piece;
+mod text;
 
 pub use asm_meaning::{AsmCause, AsmFault};

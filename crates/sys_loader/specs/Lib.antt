@@ -1,6 +1,5 @@
-pub mod Loaded
 pub mod View
-pub mod Files
+pub mod Replies
+pub mod Lying
+pub mod Filling
 pub mod Calls
-pub mod Meets
-pub mod Laws

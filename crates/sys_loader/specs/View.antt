@@ -1,11 +1,16 @@
 -- How the loader's Rust values are seen.
-use Rattle.std.specs.Prelude.{List, map, string_bytes}
+use Rattle.std.specs.Prelude.{List, map, option_map, Option, string_bytes}
 use Rattle.iigs_meaning.specs.Memory.{Memory}
+use Rattle.loader_agrees.specs.Agrees.{Kept, Loaded}
 use Rattle.sys_loader.specs.declared.user.User.{User}
-use Rattle.sys_loader.specs.Loaded.{Kept, Loaded}
 
 abbrev pub kept : User → Kept
-kept user = record { path = string_bytes user.path; handle = user.handle; size = user.size }
+kept user = record {
+  path = string_bytes user.path;
+  life = user.life;
+  handles = map (λ s. s.handle) user.segments.items;
+  heads = map (λ s. s.head) user.segments.items;
+}
 
-abbrev pub loaded : Memory → List User → Loaded
-loaded memory users = record { memory = memory; users = map kept users }
+abbrev pub loaded : Memory → List (Option User) → Loaded
+loaded memory users = record { memory = memory; users = map (option_map kept) users }

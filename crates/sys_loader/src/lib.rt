@@ -1,14 +1,20 @@
 //! The System Loader: programs in memory of banks.
 #![tactic(auto)]
 
+mod answers;
+mod blocks;
 mod file;
-mod header;
-mod laws;
+mod fill;
+mod head;
+mod load;
 mod loader;
+mod lying;
 mod memory;
+mod place;
+mod plan;
 mod user;
 
-pub use iigs_meaning::BanksFault;
-pub use laws::commands_have_one_reply;
-pub use loader::{Loader, Started};
-pub use loader_machine::LoaderFault;
+pub use answers::{Entered, Info, Started};
+pub use iigs_meaning::{BanksFault, BlockState, Handle, Want};
+pub use loader::Loader;
+pub use loader_machine::{LoaderFault, Presence};

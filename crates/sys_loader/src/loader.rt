@@ -1,85 +1,68 @@
 //! The loader.
 
-ghost use Rattle.std.specs.Prelude.{◌≡◌, ℕ, ◌+◌, ◌-◌, ◌<◌, ◌≤◌, [], List, length, take, drop, vec_capacity, IfOk, IfErr, OnErr, ◌∷◌, ◌^◌, string_bytes, Some, MatchOption, MatchResult};
-ghost use Rattle.omf_io.specs.Counts.{one_more};
+ghost use Rattle.std.specs.Prelude.{◌≡◌, ◌+◌, ℕ, [], Some, None, option_map, map, IfOk, IfErr, OnErr, ◌≤◌, ◌<◌, length, vec_capacity, MatchOption};
 ghost use Rattle.omf_io.specs.Files.{FileMap};
-ghost use Rattle.loader_machine.specs.Machine.{Machine, max_users, first_id, user_of};
-ghost use Rattle.loader_machine.specs.Step.{StepsBytes, Shown, Refused};
-ghost use Rattle.sys_loader.specs.Meets.{AgreesEmpty, MeetsLoad};
-ghost use Rattle.iigs_meaning.specs.Banks.{IsBanksRefusal};
 ghost use Rattle.iigs_meaning.specs.Memory.{IsNew};
-ghost use Rattle.sys_loader.specs.Loaded.{Loaded, Agrees};
-ghost use Rattle.sys_loader.specs.Calls.{HasBegun, IsNoRoom, HasStartedFrom, IsStartFault, HasLoaded, HasLent, IsLentFault};
-ghost use Rattle.omf_format.specs.File.{Segment};
-ghost use Rattle.omf_cells.specs.Load.{HasPatches};
-ghost use Rattle.std.specs.Option.{option_map};
+ghost use Rattle.iigs_meaning.specs.Banks.{IsBanksRefusal};
+ghost use Rattle.iigs_meaning.specs.Puts.{Purges};
+ghost use Rattle.loader_machine.specs.State.{user_of, Machine, empty_of};
+ghost use Rattle.loader_machine.specs.Refusals.{bytes_refusal, info_refusal};
+ghost use Rattle.loader_machine.specs.Commands as commands;
+ghost use Rattle.loader_machine.specs.Commands.{Bytes, Shown, Refused};
+ghost use Rattle.loader_agrees.specs.Agrees.{Loaded, seen_in, seen_by, IsSound, Agrees, Met};
+ghost use Rattle.loader_agrees.specs.Acts.{CanRead, HasLent, HasTold, LiesIn};
+ghost use Rattle.loader_agrees.specs.Checks.{PassesRunning, StopsRunning};
 ghost use Rattle.sys_loader.specs.View.{kept};
+ghost use Rattle.sys_loader.specs.Replies.{info_reply, where_reply};
 
-use crate::file::{header, plain_load};
-use crate::header::{entry, want};
-use crate::memory::{address, settle};
+use crate::answers::{Entered, Info};
+use crate::lying::search_users;
+use crate::memory::{active, presence, slice};
 use crate::user::User;
-use iigs_meaning::{BanksFault, BlockFault};
+use iigs_meaning::{BanksFault, BlockFault, Handle};
 use iigs_memory::Banks;
-use loader_machine::LoaderFault;
-use omf_cells::LoadFile;
-use omf_io::{Files, ReadFault};
+use loader_machine::{Life, LoaderFault};
 use std::alloc::{AllocError, Global};
 use std::marker::Model;
 
 /// How many users can be made.
-const MAX_USERS: usize = 255;
+pub(crate) const MAX_USERS: usize = 255;
 
 /// The ID of the first user.
-const FIRST_ID: u16 = 0x1001;
-
-/// A program that was loaded.
-#[derive(Clone, Copy, PartialEq, Eq, Debug)]
-pub struct Started {
-    /// The user's ID.
-    pub user: u16,
-    /// The address at which it begins, if it has one.
-    pub entry: Option<u32>,
-}
+pub const FIRST_ID: u16 = 0x1001;
 
 /// Programs in memory of banks.
 #[derive(Drop)]
 pub struct Loader {
-    alloc: Global,
-    banks: Banks,
-    // With room for all users.
-    users: Vec<User>,
+    pub(crate) alloc: Global,
+    pub(crate) banks: Banks,
+    // With room for all users. None is gone.
+    pub(crate) users: Vec<Option<User>>,
 }
 
 impl Model for Loader {
-    ghost use Rattle.std.specs.Prelude.{◌≤◌, map, vec_capacity};
-    ghost use Rattle.sys_loader.specs.Loaded.{Loaded, IsSound};
+    ghost use Rattle.std.specs.Prelude.{◌≤◌, map, option_map, vec_capacity};
+    ghost use Rattle.loader_agrees.specs.Agrees.{Loaded, IsSound};
     ghost use Rattle.sys_loader.specs.View.{kept, loaded};
 
     ghost Value = { Loaded };
 
     ghost view = { λ s. loaded s.banks s.users.items };
 
-    ghost invariant = { λ s. IsSound s.banks (map kept s.users.items) × (255 ≤ vec_capacity s.users) };
+    ghost invariant = { λ s. IsSound s.banks (map (option_map kept) s.users.items) × (255 ≤ vec_capacity s.users) };
 }
 
-fn no_users(alloc: Global, count: usize) -> Result<Vec<User>, AllocError>
+fn no_users(alloc: Global, count: usize) -> Result<Vec<Option<User>>, AllocError>
     ensures { IfOk result (λ users. (users.items ≡ []) × (vec_capacity users ≡ count)) }
 {
     Vec::with_capacity(alloc, count)
 }
 
-fn slice(bytes: &[u8], at: usize, count: usize) -> &[u8]
-    requires { at + count ≤ length bytes.now }
-    ensures { result.now ≡ take count (drop at bytes.now) }
-{
-    &bytes[at..at + count]
-}
-
 impl Loader {
     /// A loader of these banks, without users.
     pub fn new(alloc: Global, banks: &[u8]) -> Result<Loader, BanksFault>
-        ensures agrees { IfOk result (AgreesEmpty banks.now) }
+        // Over any files it agrees with the empty state.
+        ensures agrees { IfOk result (λ loader. (held : FileMap) → Agrees held loader (empty_of banks.now)) }
         ensures empty { IfOk result (λ loader. IsNew banks.now loader.memory × (loader.users ≡ [])) }
         ensures refused { IfErr result (IsBanksRefusal banks.now) }
     {
@@ -97,134 +80,146 @@ impl Loader {
         }
     }
 
-    // The user of an ID.
-    fn user(&self, id: u16) -> Option<&User>
+    // What is true of every loader.
+    pub(crate) fn is_sound(&self)
+        ensures { IsSound self.now.memory self.now.users }
+    {
+        let _users = &self.users;
+    }
+
+    // The user of an ID, who isn't gone.
+    pub(crate) fn user(&self, id: u16) -> Option<&User>
         ensures { option_map (λ user. kept user.now) result ≡ user_of self.now.users id }
     {
         if id < FIRST_ID {
             return None;
         }
-        self.users.get(usize::from(id - FIRST_ID))
-    }
-
-    // The only segment of a file gets its block, and the loader a user more.
-    fn start(&mut self, load: &LoadFile<'_>, path: String) -> Result<Started, LoaderFault>
-        requires few { length self.old.users < max_users }
-        requires one { length load.now ≡ 1 }
-        requires unpatched { ¬ HasPatches load.now 1 }
-        ensures begun { IfOk result (λ started. (s : Segment) → load.now ≡ s ∷ [] → HasBegun self.old (string_bytes path) s started self.new) }
-        ensures refused { IfErr result (λ fault. (s : Segment) → load.now ≡ s ∷ [] → IsNoRoom self.old s fault) }
-        ensures err { OnErr result (self.new ≡ self.old) }
-    {
-        let header = header(load);
-        let size = header.length;
-        let want = want(header);
-        let user = FIRST_ID + self.users.len() as u16;
-        let handle = match settle(&mut self.banks, load, &want, user) {
-            Ok(handle) => handle,
-            Err(fault) => return Err(fault),
-        };
-        let entry = entry(header, address(&self.banks, handle));
-        self.users.push_reserved(User { path, handle, size });
-        Ok(Started { user, entry })
-    }
-
-    // Starts the only segment of a file, if that can be loaded.
-    fn begin(&mut self, file: &[u8], path: &str) -> Result<Started, LoaderFault>
-        requires few { length self.old.users < max_users }
-        requires short { length file.now < 2 ^ 32 }
-        ensures started { IfOk result (λ started. HasStartedFrom file.now self.old path.now started self.new) }
-        ensures refused { IfErr result (IsStartFault file.now self.old) }
-        ensures err { OnErr result (self.new ≡ self.old) }
-    {
-        let load = match plain_load(self.alloc, file) {
-            Ok(load) => load,
-            Err(fault) => return Err(fault),
-        };
-        let path = match String::from_str(self.alloc, path) {
-            Ok(path) => path,
-            Err(AllocError) => return Err(LoaderFault::Memory),
-        };
-        self.start(&load, path)
-    }
-
-    // Reads a file and starts its segment.
-    fn read_and_start<F: Files>(
-        &mut self,
-        files: &mut F,
-        path: &str,
-    ) -> Result<Started, LoaderFault>
-        ensures held { (F.seen files.new).held ≡ (F.seen files.old).held }
-        ensures never_falls { (F.seen files.old).faults ≤ (F.seen files.new).faults }
-        ensures asked { length self.old.users < max_users → (F.seen files.new).asked ≡ one_more (F.seen files.old).asked }
-        ensures unasked { max_users ≤ length self.old.users → (F.seen files.new).asked ≡ (F.seen files.old).asked }
-        ensures loaded { HasLoaded (F.seen files.old).held self.old path.now result self.new (F.seen files.old).faults (F.seen files.new).faults }
-    {
-        if self.users.len() == MAX_USERS {
-            return Err(LoaderFault::TooManyUsers);
+        match self.users.get(usize::from(id - FIRST_ID)) {
+            Some(Some(user)) => Some(user),
+            Some(None) => None,
+            None => None,
         }
-        let bytes = match files.read(self.alloc, path) {
-            Ok(bytes) => bytes,
-            Err(ReadFault::Absent) => return Err(LoaderFault::CannotRead),
-            Err(ReadFault::TooLong) => return Err(LoaderFault::CannotRead),
-            Err(ReadFault::Failed) => return Err(LoaderFault::CannotRead),
-            Err(ReadFault::Memory) => return Err(LoaderFault::Memory),
-        };
-        self.begin(&bytes, path)
     }
 
-    /// Loads a program: a load file of one plain segment.
-    pub fn load<F: Files>(&mut self, files: &mut F, path: &str) -> Result<Started, LoaderFault>
-        ensures held { (F.seen files.new).held ≡ (F.seen files.old).held }
-        ensures never_falls { (F.seen files.old).faults ≤ (F.seen files.new).faults }
-
-        // The file is read unless 255 users were made.
-        ensures asked { length self.old.users < max_users → (F.seen files.new).asked ≡ one_more (F.seen files.old).asked }
-        ensures unasked { max_users ≤ length self.old.users → (F.seen files.new).asked ≡ (F.seen files.old).asked }
-
-        // Over files that are told, and with which the loader agrees, it is the machine's step.
-        ensures meets { (held : FileMap) (state : Machine) → (F.seen files.old).held ≡ Some held → Agrees held self.old state
-            → MeetsLoad held state path.now result self.new (F.seen files.old).faults (F.seen files.new).faults }
-
-        // And so much is true of it over any files.
-        ensures loaded { HasLoaded (F.seen files.old).held self.old path.now result self.new (F.seen files.old).faults (F.seen files.new).faults }
+    // The user of an ID, who runs.
+    pub(crate) fn running(&self, id: u16) -> Result<&User, LoaderFault>
+        ensures ok { IfOk result (λ user. (user_of self.now.users id ≡ Some (kept user.now)) × ((kept user.now).life ≡ Life.Running)
+            × PassesRunning (seen_by self.now id) (seen_in (kept user.now))) }
+        ensures err { IfErr result (λ fault. StopsRunning (seen_by self.now id) fault) }
     {
-        self.read_and_start(files, path)
-    }
-
-    // The bytes of the block of a user's segment, so many from an offset on.
-    fn lent(&self, user: u16, segment: u16, at: u32, count: u32) -> Result<&[u8], LoaderFault>
-        ensures lent { IfOk result (λ bytes. HasLent self.now user segment at count bytes.now) }
-        ensures causes { IfErr result (IsLentFault self.now user segment at count) }
-    {
-        let Some(kept) = self.user(user) else {
+        let Some(user) = self.user(id) else {
             return Err(LoaderFault::NoUser);
         };
-        if segment != 1 {
-            return Err(LoaderFault::NoSegment);
+        match user.life {
+            Life::Running => Ok(user),
+            Life::Dormant => Err(LoaderFault::NotRunning),
         }
-        if u64::from(at) + u64::from(count) > u64::from(kept.size) {
+    }
+
+    // The handle of an active segment of which these bytes may be read.
+    fn readable(&self, id: u16, number: u16, at: u32, count: u32) -> Result<Handle, LoaderFault>
+        ensures can { IfOk result (λ h. CanRead self.now id number at count h) }
+        ensures refused { IfErr result (λ fault. bytes_refusal self.now.memory.slots (seen_by self.now id) number at count ≡ Some fault) }
+    {
+        let user = match self.running(id) {
+            Ok(user) => user,
+            Err(fault) => return Err(fault),
+        };
+        let segment = match user.kept_segment(number) {
+            Ok(segment) => segment,
+            Err(fault) => return Err(fault),
+        };
+        let h = match active(&self.banks, segment.handle) {
+            Ok(h) => h,
+            Err(fault) => return Err(fault),
+        };
+        if u64::from(at) + u64::from(count) > u64::from(segment.head.length) {
             return Err(LoaderFault::OutOfSegment);
         }
-        match self.banks.block(kept.handle) {
+        Ok(h)
+    }
+
+    // The bytes of an active segment, so many from an offset on.
+    fn lent(&self, user: u16, segment: u16, at: u32, count: u32) -> Result<&[u8], LoaderFault>
+        ensures lent { IfOk result (λ bytes. HasLent self.now user segment at count bytes.now) }
+        ensures refused { IfErr result (λ fault. bytes_refusal self.now.memory.slots (seen_by self.now user) segment at count ≡ Some fault) }
+    {
+        self.is_sound();
+        let h = match self.readable(user, segment, at, count) {
+            Ok(h) => h,
+            Err(fault) => return Err(fault),
+        };
+        match self.banks.block(h) {
             Ok(bytes) => Ok(slice(bytes, at as usize, count as usize)),
             Err(BlockFault::Stale) => unreachable!(),
             Err(BlockFault::Empty) => unreachable!(),
         }
     }
 
-    /// The bytes of a user's segment, so many from an offset on.
-    pub fn bytes(&self, user: u16, segment: u16, at: u32, count: u32) -> Result<&[u8], LoaderFault>
+    /// The bytes of an active segment of a user that runs, so many from an offset on.
+    pub fn bytes(&self, user: u16, segment: u16, at: u32, length: u32) -> Result<&[u8], LoaderFault>
         // Over files with which the loader agrees, it is the machine's step.
         ensures shows { IfOk result (λ bytes. (held : FileMap) (state : Machine) → Agrees held self.now state
-            → StepsBytes held state user segment at count (Shown bytes.now)) }
+            → Met Purges held state (Bytes user segment at length) (Shown bytes.now) self.now) }
         ensures refuses { IfErr result (λ fault. (held : FileMap) (state : Machine) → Agrees held self.now state
-            → StepsBytes held state user segment at count (Refused fault)) }
+            → Met Purges held state (Bytes user segment at length) (Refused fault) self.now) }
 
         // And so much is true of it over any files.
-        ensures lent { IfOk result (λ bytes. HasLent self.now user segment at count bytes.now) }
-        ensures causes { IfErr result (IsLentFault self.now user segment at count) }
+        ensures lent { IfOk result (λ bytes. HasLent self.now user segment at length bytes.now) }
+        ensures refused { IfErr result (λ fault. bytes_refusal self.now.memory.slots (seen_by self.now user) segment at length ≡ Some fault) }
     {
-        self.lent(user, segment, at, count)
+        self.lent(user, segment, at, length)
+    }
+
+    // What is known of a segment.
+    fn told(&self, user: u16, segment: u16) -> Result<Info, LoaderFault>
+        ensures told { IfOk result (λ info. HasTold self.now user segment info.presence info.length info.kind) }
+        ensures refused { IfErr result (λ fault. info_refusal (seen_by self.now user) segment ≡ Some fault) }
+    {
+        let Some(kept) = self.user(user) else {
+            return Err(LoaderFault::NoUser);
+        };
+        let found = match kept.kept_segment(segment) {
+            Ok(found) => found,
+            Err(fault) => return Err(fault),
+        };
+        Ok(Info {
+            presence: presence(&self.banks, found.handle),
+            length: found.head.length,
+            kind: found.head.kind,
+        })
+    }
+
+    /// What is known of a user's segment: whether and where it is in memory, LENGTH and KIND.
+    pub fn info(&self, user: u16, segment: u16) -> Result<Info, LoaderFault>
+        // Over files with which the loader agrees, it is the machine's step.
+        ensures meets { (held : FileMap) (state : Machine) → Agrees held self.now state → Met Purges held state (commands.Info user segment) (info_reply result) self.now }
+
+        // And so much is true of it over any files.
+        ensures told { IfOk result (λ info. HasTold self.now user segment info.presence info.length info.kind) }
+        ensures refused { IfErr result (λ fault. info_refusal (seen_by self.now user) segment ≡ Some fault) }
+    {
+        self.told(user, segment)
+    }
+
+    // The place of an address among the users' active segments.
+    fn located(&self, address: u32) -> Option<Entered>
+        ensures { MatchOption result ((id number offset : ℕ) → ¬ LiesIn self.now address id number offset)
+            (λ entered. LiesIn self.now address entered.user entered.segment entered.offset × (entered.address ≡ address)) }
+    {
+        search_users(&self.banks, &self.users, address)
+    }
+
+    /// The active segment of a user that runs in which an address lies, with the offset.
+    pub fn locate(&self, address: u32) -> Option<Entered>
+        // Over files with which the loader agrees, it is the machine's step.
+        ensures meets { (held : FileMap) (state : Machine) → Agrees held self.now state → Met Purges held state (commands.Where address) (where_reply result) self.now }
+
+        // And so much is true of it over any files.
+        ensures lies { MatchOption result ((id number offset : ℕ) → ¬ LiesIn self.now address id number offset)
+            (λ entered. LiesIn self.now address entered.user entered.segment entered.offset × (entered.address ≡ address)) }
+    {
+        self.is_sound();
+        self.located(address)
     }
 }

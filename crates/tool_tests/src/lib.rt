@@ -10,6 +10,8 @@ mod headers;
 #[cfg(test)]
 mod linking;
 #[cfg(test)]
+mod loading;
+#[cfg(test)]
 mod runner;
 #[cfg(test)]
 mod running;

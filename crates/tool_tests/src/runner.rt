@@ -3,6 +3,7 @@ use omf_cli::{Status, run_tool};
 use omf_io::{MemoryFiles, MemorySink};
 use std::alloc::Global;
 use std::test::Fail;
+use sys_loader::Loader;
 
 /// What a run of the tool left.
 #[derive(Drop)]
@@ -10,6 +11,8 @@ pub(crate) struct Outcome {
     pub(crate) status: Status,
     pub(crate) files: MemoryFiles,
     pub(crate) out: MemorySink,
+    /// The loader that was handed out.
+    pub(crate) last: Option<Loader>,
 }
 
 /// Runs the tool on a list of words, over a store that holds these files, each with its path. The calls of the store and of
@@ -26,8 +29,14 @@ pub(crate) fn run_list(
         files.set(path, bytes)?;
     }
     let mut out = MemorySink::new(alloc, text.to_vec(alloc)?);
-    let status = run_tool(alloc, words, &mut files, &mut out);
-    Ok(Outcome { status, files, out })
+    let mut last = None;
+    let status = run_tool(alloc, words, &mut files, &mut out, &mut last);
+    Ok(Outcome {
+        status,
+        files,
+        out,
+        last,
+    })
 }
 
 /// The same of words that stand with spaces between them.

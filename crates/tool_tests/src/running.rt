@@ -7,7 +7,7 @@ use std::test::Fail;
 
 /// Runs a script over a store that holds it at `s` and a file at `prog`. The calls of the store and of the sink that
 /// fail are given by their numbers; the read of the script is the first call.
-fn run_script(
+pub(crate) fn run_script(
     alloc: Global,
     script: &[u8],
     program: &[u8],
@@ -116,21 +116,22 @@ fn a_refusal_is_a_reply(rt: HostRuntime) -> Result<(), Fail> {
             b"banks 02\nload none\nload s\nload prog\nbytes 1000 1 0 1\nbytes 1002 1 0 1\nbytes 1001 0 0 1\nbytes 1001 2 0 1\nbytes 1001 1 8 1\nbytes 1001 1 FFFFFFFF 1\nbytes 1001 1 7 1\n",
             &LOAD_FILE,
             Status::Done,
-            b"ok\ncannot read\nrefused Unbuilt\nuser 1001 entry 020000\nrefused NoUser\nrefused NoUser\nrefused NoSegment\nrefused NoSegment\nrefused OutOfSegment\nrefused OutOfSegment\n00\n"
+            b"ok\ncannot read\nrefused BadFile Unsupported 0001 0000000E\nuser 1001 entry 020000\nrefused NoUser\nrefused NoUser\nrefused NoSegment\nrefused NoSegment\nrefused OutOfSegment\nrefused OutOfSegment\n00\n"
         )?
     );
 
-    // A dynamic, a skipped and a direct-page segment, one with ORG and one with ALIGN.
-    for (at, value) in [(0x15, 0x80), (0x15, 2), (0x14, 0x12), (0x18, 1), (0x1C, 1)] {
+    // A dynamic and a skipped segment stay absent; a direct page goes to bank 0, and ORG 1 is in it; ALIGN 1 is a page.
+    let others: [(usize, u8, &[u8]); 5] = [
+        (0x15, 0x80, b"ok\nuser 1001 entry none\n"),
+        (0x15, 2, b"ok\nuser 1001 entry none\n"),
+        (0x14, 0x12, b"ok\nrefused NoRoom 0001\n"),
+        (0x18, 1, b"ok\nrefused NoRoom 0001\n"),
+        (0x1C, 1, b"ok\nuser 1001 entry 020000\n"),
+    ];
+    for (at, value, text) in others {
         let other = changed(alloc, &LOAD_FILE, &[(at, value)])?;
         assert!(rt;
-            says(
-                alloc,
-                b"banks 02\nload prog",
-                &other,
-                Status::Done,
-                b"ok\nrefused Unbuilt\n"
-            )?,
+            says(alloc, b"banks 02\nload prog", &other, Status::Done, text)?,
             "at {at}"
         );
     }

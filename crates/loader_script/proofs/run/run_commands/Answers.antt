@@ -1,7 +1,7 @@
 use Rattle.std.proofs.Common.{Result, subst, arith}
 use Rattle.omf_io.specs.Outside.{outside}
 use Rattle.loader_machine.specs.Replies.{reply_line}
-use Rattle.loader_machine.specs.Step as step
+use Rattle.loader_machine.specs.Commands as step
 use Rattle.loader_script.specs.View as view
 use Rattle.loader_script.specs.declared.run.Stop.{Stop}
 use Rattle.loader_script.specs.Running.{HasAnswered}
@@ -25,7 +25,7 @@ returns-in-Err-print g c =
     let sink = g.S.Sink.seen c.args.out.now in
     let now = g.S.Sink.seen c.print.new.out in
     let command = view.command c.in-Some.first.now in
-    let first = first_answered store sink now command c.in-Ok.loader c.print.result c.in-Ok.ensures (c.print.ensures (reply_line step.Okay) c.okay_line.ensures) in
+    let first = first_answered store sink now command c.in-Ok.loader c.print.result c.in-Ok.ensures (c.print.ensures.printed (reply_line step.Okay) c.okay_line.ensures) in
     stops_at store store store sink sink now c.args.script.now 0 command no_loader c.in-Ok.loader (nothing_yet store sink) c.in-Some.ensures c.in-Err-print.stop
     (subst (λ (r : Result (Unit {0}) Stop). HasAnswered r command no_loader c.in-Ok.loader (outside store store sink now)) c.in-Err-print.is first)
 
@@ -35,7 +35,7 @@ commands-init g c =
     let sink = g.S.Sink.seen c.args.out.now in
     let now = g.S.Sink.seen c.print.new.out in
     let command = view.command c.in-Some.first.now in
-    let first = first_answered store sink now command c.in-Ok.loader c.print.result c.in-Ok.ensures (c.print.ensures (reply_line step.Okay) c.okay_line.ensures) in
+    let first = first_answered store sink now command c.in-Ok.loader c.print.result c.in-Ok.ensures (c.print.ensures.printed (reply_line step.Okay) c.okay_line.ensures) in
     goes_past store store store sink sink now c.args.script.now 0 command no_loader c.in-Ok.loader (nothing_yet store sink) c.in-Some.ensures
     (subst (λ (r : Result (Unit {0}) Stop). HasAnswered r command no_loader c.in-Ok.loader (outside store store sink now)) c.in-Ok-print.is first)
 

@@ -4,7 +4,7 @@ use Rattle.omf_cli.proofs.Once.{unwritten_reads, unread_reads}
 use Rattle.omf_cli.proofs.laws.inputs_are_asked_for_once.Goals as goal
 
 pub returns-clause-outputs : goal.returns-clause-outputs
-returns-clause-outputs c = unwritten_reads LinkMakes
+returns-clause-outputs c output inputs last o small run = unwritten_reads LinkMakes output inputs o small run.0
 
 pub returns-clause-libraries : goal.returns-clause-libraries
 returns-clause-libraries c = λ output inputs o small run. unwritten_reads (LibMakes inputs) output inputs o small run

@@ -17,19 +17,19 @@ returns-in-Unread g c =
     let o = outside (g.F.Files.seen c.args.files.now) (g.F.Files.seen c.read_all.new.files) (g.S.Sink.seen c.args.out.now) (g.S.Sink.seen c.print.new.out) in
     let text = cannot_read_line c.in-Unread.path.now in
     let says : ScriptSays CannotRead (words_of c.args.inputs.now) o text = (c.in-Unread.path.now, c.in-Unread.ensures, refl) in
-    script_says (words_of c.args.inputs.now) o CannotRead c.print.result text says (λ now. (text, says, now)) (put_line _ text CannotRead _ _ _ c.path_line.ensures c.print.ensures)
+    script_says (words_of c.args.inputs.now) o CannotRead c.print.result text says (λ now. (text, says, now)) (put_line _ text CannotRead _ _ _ c.path_line.ensures c.print.ensures) c.args.last.now c.requires
 
 pub returns-in-Done : goal.returns-in-Done
 returns-in-Done g c =
     let o = outside (g.F.Files.seen c.args.files.now) (g.F.Files.seen c.run_script.new.files) (g.S.Sink.seen c.args.out.now) (g.S.Sink.seen c.run_script.new.out) in
     let text = c.first_of.ensures.value ∙ ap (λ (files : List (Vec ℕ Global)). first_of (all_bytes files)) c.deref.ensures.value in
-    inr (c.in-Done.field-0, begun (words_of c.args.inputs.now) _ _ _ (g.F.Files.seen c.read_all.new.files) o c.in-All.ensures text c.in-Done.ensures)
+    inr (begun (words_of c.args.inputs.now) _ _ _ (g.F.Files.seen c.read_all.new.files) o c.in-All.ensures text c.in-Done.ensures)
 
 pub returns-in-CannotPrint : goal.returns-in-CannotPrint
 returns-in-CannotPrint g c =
     let o = outside (g.F.Files.seen c.args.files.now) (g.F.Files.seen c.run_script.new.files) (g.S.Sink.seen c.args.out.now) (g.S.Sink.seen c.run_script.new.out) in
     let text = c.first_of.ensures.value ∙ ap (λ (files : List (Vec ℕ Global)). first_of (all_bytes files)) c.deref.ensures.value in
-    inr (begun (words_of c.args.inputs.now) _ _ _ (g.F.Files.seen c.read_all.new.files) o c.in-All.ensures text c.in-CannotPrint.ensures)
+    inr (begun (words_of c.args.inputs.now) _ _ _ (g.F.Files.seen c.read_all.new.files) o c.in-All.ensures text c.in-CannotPrint.ensures, c.requires)
 
 pub returns-in-Refused : goal.returns-in-Refused
 returns-in-Refused g c =
@@ -41,4 +41,4 @@ returns-in-Refused g c =
     let says : ScriptSays Refused (words_of c.args.inputs.now) o text = (fault, bad_script (words_of c.args.inputs.now) _ _ fault (g.F.Files.seen c.read_all.new.files) o c.in-All.ensures text_is ended.0 ended.1.0, refl) in
     script_says (words_of c.args.inputs.now) o Refused c.print-in-Refused.result text says (λ now. (text, says, now))
     (subst (λ (s : SinkSeen). IsPut text Refused c.print-in-Refused.result s (g.S.Sink.seen c.print-in-Refused.new.out)) ended.1.1
-    (put_line _ text Refused _ _ _ (rw c.script_cause_name.ensures at c.script_line-line.ensures) c.print-in-Refused.ensures))
+    (put_line _ text Refused _ _ _ (rw c.script_cause_name.ensures at c.script_line-line.ensures) c.print-in-Refused.ensures)) c.args.last.now c.requires

@@ -1,0 +1,181 @@
+-- A program that has begun.
+use Rattle.std.proofs.Common.{◌≡◌, ◌≢◌, ◌⊎◌, inl, inr, ℕ, zero, suc, true, false, ◌+◌, ◌<◌, ◌≤◌, ◌^◌, List, [], ◌∷◌, ◌++◌, length, map, take, drop, replicate, Option, Some, None, IsSome, refl, sym, ap, subst, ◌∙◌, arith}
+use Rattle.std.specs.Prelude.{slice_get, IsSomeAnd, string_bytes}
+use Rattle.std.specs.Option.{option_map, option_and_then}
+use Rattle.std.proofs.lemmas.Option.{same_Some, slice_get_within}
+use Rattle.std.proofs.lemmas.List.{length-map, length-replicate, map-append, take_at}
+use Rattle.omf_format.specs.File.{Segment, segment_at}
+use Rattle.omf_io.specs.Counts.{IsFront}
+use Rattle.load_meaning.specs.Loadable.{IsLoadable}
+use Rattle.iigs_meaning.specs.declared.handles.Handle.{Handle}
+use Rattle.iigs_meaning.specs.declared.wants.Want.{Want}
+use Rattle.iigs_meaning.specs.Slots.{get}
+use Rattle.iigs_meaning.specs.Fits.{Slots}
+use Rattle.iigs_meaning.specs.declared.faults.PlaceFault.TheVariants as place
+use Rattle.iigs_meaning.specs.Puts.{Purges, PutsAll, slots_for, IsPlaceAllRefusal}
+use Rattle.loader_machine.specs.declared.faults.LoaderFault.TheVariants as fault
+use Rattle.iigs_meaning.specs.Memory.{Memory, AreAllPlaced, bytes_at}
+use Rattle.loader_machine.specs.declared.seen.Head.{Head}
+use Rattle.loader_machine.specs.declared.seen.Life.{Life}
+use Rattle.loader_machine.specs.declared.seen.Life.TheVariants.{Running}
+use Rattle.loader_machine.specs.Heads.{head_of, at_number, is_stack, stack_want, plain_want, want_of, wants_of, number_of, entry_in}
+use Rattle.loader_machine.specs.State.{no_pokes, first_id, max_users}
+use Rattle.loader_machine.specs.Presences.{handle_at}
+use Rattle.loader_machine.specs.Stands.{setting, stands, place_in}
+use Rattle.loader_machine.specs.Steps.{entry_of}
+use Rattle.loader_agrees.specs.Agrees.{Kept, Loaded, IsSound}
+use Rattle.loader_agrees.specs.Acts.{HasBegun, started_kept}
+use Rattle.loader_agrees.specs.Begun.{all_placed, all_length, decide}
+use Rattle.loader_agrees.specs.BegunSound.{AreDistinct, rest_apart, all_distinct, spread_want, spread_index, spread_once, want_size, sound_begun}
+use Rattle.sys_loader.specs.declared.user.Segment as users
+use Rattle.sys_loader.specs.declared.user.User.{User}
+use Rattle.sys_loader.specs.View.{kept, loaded}
+use Rattle.sys_loader.specs.Filling.{IsReady, AreReady, AreFilled}
+use Rattle.sys_loader.specs.Calls.{spread_handles, IsSettled, IsBeginRefusal}
+use Rattle.sys_loader.proofs.Written.{heads_of, handles_of}
+use Rattle.sys_loader.proofs.Settling.{addresses, is_setting}
+
+-- ---- new blocks
+
+want_some : (head : Head) → 0 < (want_of head).size
+unfolding want_of stack_want plain_want
+want_some head = elim (decide (is_stack head)) [ inl stack ↦ rw stack (grind arith) | inr plain ↦ rw plain (grind arith) ]
+
+has_handle : (handles : List (Option Handle)) (k : ℕ) (h : Handle) → handle_at handles (suc k) ≡ Some h → slice_get handles k ≡ Some (Some h)
+has_handle handles k h is = go (slice_get handles k) refl is
+  where
+    go : (o : Option (Option Handle)) → slice_get handles k ≡ o → option_and_then (λ (handle : Option Handle). handle) o ≡ Some h → slice_get handles k ≡ Some (Some h)
+    go None e is = absurd cc
+    go (Some x) e is = e ∙ ap (λ (y : Option Handle). Some y) is
+
+module _ (before memory : Memory) (load : List Segment) (hs : List Handle) (user : ℕ) (placed : AreAllPlaced Purges before user false (wants_of (map head_of load)) hs memory) where
+  abbrev heads : List Head
+  heads = map head_of load
+
+  one_ready : (n : ℕ) (head : Head) (h : Handle) → at_number heads n ≡ Some head → handle_at (spread_handles load hs) n ≡ Some h → IsReady memory head h
+  one_ready zero head h is has = absurd cc
+  one_ready (suc k) head h is has =
+      let want = spread_want heads hs k head h is (has_handle (spread_handles load hs) k h has) in
+      let there = all_placed before.banks user before.slots memory.slots (wants_of heads) hs placed.puts want.0 h want.1 in
+      let zeros = placed.zeros want.0 (want_of head) h want.2 want.1 in
+      let size : length (bytes_at memory h.slot) ≡ (want_of head).size = ap length zeros ∙ length-replicate {A = ℕ} (want_of head).size 0 in
+      record {
+        there = rw there.3 refl;
+        some = omega (arith, size, want_some head);
+        fits = omega (arith, size, want_size head);
+      }
+
+  distinct : AreDistinct hs
+  distinct = all_distinct before.banks user before.slots memory.slots (wants_of heads) hs placed.puts
+
+  once : (m n : ℕ) (h k : Handle) → handle_at (spread_handles load hs) m ≡ Some h → handle_at (spread_handles load hs) n ≡ Some k → h.slot ≡ k.slot → m ≡ n
+  once zero n h k is is' same = absurd cc
+  once (suc m) zero h k is is' same = absurd cc
+  once (suc m) (suc n) h k is is' same =
+      ap suc (spread_once heads hs distinct m n h k (has_handle (spread_handles load hs) m h is) (has_handle (spread_handles load hs) n k is') same)
+
+  pub all_ready : (kept : List users.Segment) → heads_of kept ≡ heads → handles_of kept ≡ spread_handles load hs → AreReady memory (heads_of kept) (handles_of kept)
+  all_ready kept same handles =
+      subst (λ (gs : List Head). AreReady memory gs (handles_of kept)) (sym same)
+      (subst (λ (os : List (Option Handle)). AreReady memory heads os) (sym handles) (record { each = one_ready; once = once }))
+
+-- ---- all written
+
+number_within : (load : List Segment) (n : ℕ) (s : Segment) → segment_at load n ≡ Some s → n ≤ length load
+number_within load zero s is = omega arith
+number_within load (suc k) s is = omega (arith, slice_get_within load k s is)
+
+pub same_count : (load : List Segment) (kept : List users.Segment) → heads_of kept ≡ map head_of load → length kept ≡ length load
+same_count load kept same = sym (length-map kept (λ (s : users.Segment). s.head)) ∙ ap length same ∙ length-map load head_of
+
+pub settled : (file : List ℕ) (load : List Segment) (hs : List Handle) (user : ℕ) (kept : List users.Segment) (old new : Memory) → IsLoadable file load → heads_of kept ≡ map head_of load
+    → handles_of kept ≡ spread_handles load hs → AreFilled load (handles_of kept) user (addresses old.slots kept) old new (length kept) → IsSettled load user hs old new
+settled file load hs user kept old new loadable same handles filled = record {
+  banks = filled.banks;
+  slots = filled.slots;
+  begins = λ n s h there has.
+      filled.filled n h (omega (arith, number_within load n s there, same_count load kept same)) (ap (λ (os : List (Option Handle)). handle_at os n) handles ∙ has)
+      (setting user old.slots (spread_handles load hs)) s (is_setting file load loadable hs old.slots user kept handles) there;
+  stay = λ place apart. filled.stay place (λ n h le is at. none place apart n h (ap (λ (os : List (Option Handle)). handle_at os n) (sym handles) ∙ is) at);
+  sizes = filled.sizes;
+}
+  where
+    none : (place : ℕ) → ((i : ℕ) (h : Handle) → slice_get hs i ≡ Some h → h.slot ≢ place) → (n : ℕ) (h : Handle) → handle_at (spread_handles load hs) n ≡ Some h → h.slot ≡ place → ⊥
+    none place apart zero h is at = absurd cc
+    none place apart (suc k) h is at =
+        let one = spread_index (map head_of load) hs k h (has_handle (spread_handles load hs) k h is) in
+        apart one.0 h one.1 at
+
+-- ---- one user more
+
+module _ (memory middle new : Memory) (users' : List (Option User)) (user : User) (load : List Segment) (path : List ℕ) (hs : List Handle) (id : ℕ) (entry : Option ℕ)
+    (few : length users' < max_users) (short : length load < 2 ^ 16) (id_is : id ≡ first_id + length users') (placed : AreAllPlaced Purges memory id false (wants_of (map head_of load)) hs middle)
+    (is_settled : IsSettled load id hs middle new) (same : heads_of user.segments.items ≡ map head_of load) (handles : handles_of user.segments.items ≡ spread_handles load hs)
+    (path_is : string_bytes user.path ≡ path) (runs : user.life ≡ Running) (entry_is : entry ≡ entry_in (heads_of user.segments.items) (place_in new.slots (handles_of user.segments.items)) 1) where
+  kept_is : kept user ≡ started_kept path (map head_of load) hs
+  kept_is =
+      let made : List ℕ → Life → List (Option Handle) → List Head → Kept = λ p l os gs. record { path = p; life = l; handles = os; heads = gs } in
+      ap (λ (p : List ℕ). made p user.life (handles_of user.segments.items) (heads_of user.segments.items)) path_is
+      ∙ ap (λ (l : Life). made path l (handles_of user.segments.items) (heads_of user.segments.items)) runs
+      ∙ ap (λ (os : List (Option Handle)). made path Running os (heads_of user.segments.items)) handles
+      ∙ ap (λ (gs : List Head). made path Running (spread_handles load hs) gs) same
+
+  count : length (map (option_map kept) users') ≡ length users'
+  count = length-map users' (option_map kept)
+
+  pub begun : HasBegun (loaded memory users') path load id entry (loaded new (users' ++ Some user ∷ []))
+  begun = record {
+    few = omega (arith, few, count);
+    short = short;
+    id_is = omega (arith, id_is, count);
+    handles = hs;
+    middle = middle;
+    placed = placed;
+    banks = is_settled.banks ∙ placed.kept.banks;
+    slots = is_settled.slots;
+    users = map-append (option_map kept) users' (Some user ∷ []) ∙ ap (λ (k : Kept). map (option_map kept) users' ++ Some k ∷ []) kept_is;
+    entry_is = entry_is ∙ ap (λ (gs : List Head). entry_in gs (place_in new.slots (handles_of user.segments.items)) 1) same
+        ∙ ap (λ (os : List (Option Handle)). entry_in (map head_of load) (place_in new.slots os) 1) handles;
+    stay = λ k live. is_settled.stay k.slot (λ i h is. rest_apart memory.banks id memory.slots middle.slots (wants_of (map head_of load)) hs placed.puts k live i h is);
+    begins = λ n s h there has. subst (λ (slots : Slots). IsFront (stands (setting id slots (spread_handles load hs)) no_pokes s) (bytes_at new h.slot)) (sym is_settled.slots) (is_settled.begins n s h there has);
+    sizes = is_settled.sizes;
+  }
+
+-- ---- why no program begins
+
+pub begin_full : (memory : Memory) (user : ℕ) (heads : List Head) (wants : List Want) → wants ≡ wants_of heads → IsPlaceAllRefusal Purges memory.banks user (slots_for memory.slots user false) wants place.NoHandle
+    → IsBeginRefusal memory user heads fault.NoHandle
+begin_full memory user gs wants same is = inl (refl, subst (λ (ws : List Want). IsPlaceAllRefusal Purges memory.banks user memory.slots ws place.NoHandle) same is)
+
+pub begin_lacks : (memory : Memory) (user : ℕ) (heads : List Head) (wants : List Want) (i number : ℕ) → wants ≡ wants_of heads → number ≡ number_of 1 heads i
+    → IsPlaceAllRefusal Purges memory.banks user (slots_for memory.slots user false) wants (place.NoRoom i) → IsBeginRefusal memory user heads (fault.NoRoom number)
+begin_lacks memory user gs wants i number same number_is is =
+    inr (i, ap (λ (n : ℕ). fault.NoRoom n) number_is, subst (λ (ws : List Want). IsPlaceAllRefusal Purges memory.banks user memory.slots ws (place.NoRoom i)) same is)
+
+pub lacks_inside : (banks : List ℕ) (user : ℕ) (slots : Slots) (heads : List Head) (wants : List Want) (i : ℕ) → wants ≡ wants_of heads → IsPlaceAllRefusal Purges banks user slots wants (place.NoRoom i) → i < length (wants_of heads)
+lacks_inside banks user slots gs wants i same is =
+    subst (λ (ws : List Want). i < length ws) same (slice_get_within wants i is.1.want is.1.is)
+
+-- the same, as the loader's fields are
+module _ (old : Loaded) (memory middle new : Memory) (users' users'' : List (Option User)) (user : User) (load : List Segment) (path : List ℕ) (wants : List Want) (hs given : List Handle) (id count : ℕ) (entry : Option ℕ)
+    (view : old ≡ loaded memory users') (pushed : users'' ≡ users' ++ Some user ∷ []) (few : length old.users < max_users) (short : length load < 2 ^ 16) (id_is : id ≡ first_id + count) (count_is : count ≡ length users')
+    (placed : AreAllPlaced Purges memory id false wants given middle) (wants_are : wants ≡ wants_of (map head_of load)) (hs_are : hs ≡ given) (is_settled : IsSettled load id hs middle new)
+    (same : heads_of user.segments.items ≡ map head_of load) (handles : handles_of user.segments.items ≡ spread_handles load hs) (path_is : string_bytes user.path ≡ path) (runs : user.life ≡ Running)
+    (entry_is : entry ≡ entry_in (heads_of user.segments.items) (place_in new.slots (handles_of user.segments.items)) 1) where
+  as_begun : HasBegun (loaded memory users') path load id entry (loaded new (users' ++ Some user ∷ []))
+  as_begun =
+      begun memory middle new users' user load path hs id entry (omega (arith, few, ap (λ (l : Loaded). length l.users) view, length-map users' (option_map kept))) short (omega (arith, id_is, count_is))
+      (subst (λ (ws : List Want). AreAllPlaced Purges memory id false ws hs middle) wants_are (subst (λ (given' : List Handle). AreAllPlaced Purges memory id false wants given' middle) (sym hs_are) placed))
+      is_settled same handles path_is runs entry_is
+
+  pub started : HasBegun old path load id entry (loaded new users'')
+  started = subst (λ (l : Loaded). HasBegun l path load id entry (loaded new users'')) (sym view) (subst (λ (us : List (Option User)). HasBegun (loaded memory users') path load id entry (loaded new us)) (sym pushed) as_begun)
+
+  pub started_sound : IsSound memory (map (option_map kept) users') → IsSound new (map (option_map kept) users'')
+  started_sound sound = subst (λ (us : List (Option User)). IsSound new (map (option_map kept) us)) (sym pushed) (sound_begun (loaded memory users') (loaded new (users' ++ Some user ∷ [])) path load id entry sound as_begun)
+
+-- the handles that were given, as the list of them holds them
+pub same_handles : (banks : List ℕ) (user : ℕ) (slots last : Slots) (wants wants' : List Want) (hs given old : List Handle) (len : ℕ) → PutsAll Purges banks user slots wants given last → wants ≡ wants'
+    → length old ≡ length wants' → len ≡ length old → hs ≡ take len (given ++ drop (length given) old) → hs ≡ given
+same_handles banks user slots last wants wants' hs given old len puts same room is_len is =
+    is ∙ take_at given (drop (length given) old) len (omega (arith, all_length banks user slots last wants given puts, ap length same, room, is_len))

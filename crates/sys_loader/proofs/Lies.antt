@@ -1,0 +1,172 @@
+-- An address that lies in none of the segments so far, and then in one or in none.
+use Rattle.std.proofs.Common.{◌≡◌, ◌≢◌, inl, inr, ℕ, zero, suc, Bool, true, false, ◌+◌, ◌-◌, ◌<◌, ◌≤◌, List, length, map, get_or, Option, Some, None, nat_lt, refl, sym, ap, subst, ◌∙◌, arith}
+use Rattle.std.specs.Prelude.{slice_get, option_map, MatchOption, ◌^◌}
+use Rattle.std.proofs.lemmas.List.{length-map}
+use Rattle.std.specs.Option.{option_and_then}
+use Rattle.std.proofs.lemmas.Bool.{cases_lt}
+use Rattle.std.proofs.lemmas.Option.{same_Some, slice_get-get_or, slice_get-map, slice_get_within}
+use Rattle.iigs_meaning.specs.declared.handles.Handle.{Handle}
+use Rattle.iigs_meaning.specs.declared.wants.Block.{Block}
+use Rattle.iigs_meaning.specs.Slots.{get}
+use Rattle.iigs_meaning.specs.Fits.{Slots}
+use Rattle.iigs_meaning.specs.Memory.{Memory}
+use Rattle.loader_machine.specs.declared.seen.Head.{Head}
+use Rattle.loader_machine.specs.declared.seen.Presence.TheVariants.{Active}
+use Rattle.loader_machine.specs.Heads.{at_number}
+use Rattle.loader_machine.specs.State.{first_id, user_of}
+use Rattle.loader_machine.specs.Presences.{handle_at, presence, lies_in, lies_at}
+use Rattle.loader_agrees.specs.Agrees.{Kept, Loaded, IsSound}
+use Rattle.loader_agrees.specs.Acts.{LiesIn}
+use Rattle.loader_agrees.specs.Lists.{number_map}
+use Rattle.loader_agrees.specs.Seeing.{made_at}
+use Rattle.sys_loader.specs.View.{kept, loaded}
+use Rattle.sys_loader.specs.declared.user.User.{User}
+use Rattle.sys_loader.specs.declared.user.Segment.{Segment}
+use Rattle.sys_loader.specs.Lying.{LiesAt, LiesInNone, LiesInOne, IsNowhereOf, IsSomewhereOf, IsNowhere, IsSomewhere}
+use Rattle.sys_loader.specs.declared.answers.Entered.{Entered}
+
+pub none_yet : (slots : Slots) (segments : List Segment) (address : ℕ) → LiesInNone slots segments 0 address
+none_yet slots segments address k s offset less is = absurd (omega (arith, less))
+
+module _ (slots : Slots) (segments xs : List Segment) (place address : ℕ) (d : Segment) (same : xs ≡ segments) (inside : place < length xs) where
+  here : slice_get segments place ≡ Some (get_or xs place d)
+  here = ap (λ (l : List Segment). slice_get l place) (sym same) ∙ slice_get-get_or xs place d inside
+
+  pub none_more : LiesInNone slots segments place address → ((offset : ℕ) → ¬ LiesAt slots (get_or xs place d) address offset) → LiesInNone slots segments (place + 1) address
+  none_more none not k t offset less found = elim (cases_lt k place) [
+    | inl before ↦ none k t offset before found
+    | inr after ↦ λ lies.
+        let at : k ≡ place = omega (arith, after, less) in
+        let it : t ≡ get_or xs place d = same_Some t (get_or xs place d) (sym found ∙ ap (slice_get segments) at ∙ here) in
+        not offset (subst (λ (x : Segment). LiesAt slots x address offset) it lies)
+  ]
+
+pub none_all : (slots : Slots) (segments : List Segment) (place address : ℕ) → LiesInNone slots segments place address → length segments ≤ place → LiesInNone slots segments (length segments) address
+none_all slots segments place address none past k s offset less is = none k s offset (omega (arith, less, past)) is
+
+-- ---- users
+
+active_handle : (slots : Slots) (o : Option Handle) (h : Handle) (first : ℕ) → presence slots o ≡ Active h first → o ≡ Some h
+active_handle slots None h first is = absurd cc
+active_handle slots (Some k) h first is = ap (λ (x : Handle). Some x) (in_slot (get slots k) is)
+  where
+    at_place : (at : Option ℕ) (locked : Bool) → lies_at k at locked ≡ Active h first → k ≡ h
+    at_place None locked e = absurd cc
+    at_place (Some a) true e = cc
+    at_place (Some a) false e = absurd cc
+
+    in_slot : (b : Option Block) → lies_in k b ≡ Active h first → k ≡ h
+    in_slot None e = absurd cc
+    in_slot (Some block) e = at_place block.at block.locked e
+
+handle_is : (segments : List Segment) (number : ℕ) (s : Segment) → at_number segments number ≡ Some s → handle_at (map (λ (x : Segment). x.handle) segments) number ≡ s.handle
+handle_is segments number s is = ap (option_and_then (λ (o : Option Handle). o)) (number_map (λ (x : Segment). x.handle) segments number ∙ ap (option_map (λ (x : Segment). x.handle)) is)
+
+module _ (memory : Memory) (items : List (Option User)) where
+  abbrev loader : Loaded
+  loader = loaded memory items
+
+  user_at : (k : ℕ) (user : User) → slice_get items k ≡ Some (Some user) → user_of (map (option_map kept) items) (first_id + k) ≡ Some (kept user)
+  user_at k user is =
+      let above : nat_lt (first_id + k) first_id ≡ false = grind arith in
+      let place : first_id + k - first_id ≡ k = omega arith in
+      rw (above, place) (ap (option_and_then (λ (u : Option Kept). u)) (slice_get-map (option_map kept) items k ∙ ap (option_map (option_map kept)) is))
+
+  pub lies_there : (k id address number offset : ℕ) (user : Option User) → slice_get items k ≡ Some user → id ≡ first_id + k → IsSomewhereOf memory.slots user address number offset
+      → LiesIn (loaded memory items) address id number offset
+  lies_there k id address number offset None is e somewhere = absurd somewhere
+  lies_there k id address number offset (Some user) is e somewhere =
+      let s = somewhere.1.0 in
+      let at = somewhere.1.2 in
+      let handle = active_handle memory.slots s.handle at.h at.first at.active in
+      record {
+        h = at.h;
+        is = record {
+          kept = kept user;
+          made = ap (user_of (map (option_map kept) items)) e ∙ user_at k user is;
+          runs = somewhere.0;
+          head = s.head;
+          head' = number_map (λ (x : Segment). x.head) user.segments.items number ∙ ap (option_map (λ (x : Segment). x.head)) somewhere.1.1;
+          handle = handle_is user.segments.items number s somewhere.1.1 ∙ handle;
+          address = at.first;
+          active = ap (presence memory.slots) (sym handle) ∙ at.active;
+        };
+        sum = at.sum;
+        inside = at.inside;
+      }
+
+  item_of : (k : ℕ) (one : Kept) → slice_get (map (option_map kept) items) k ≡ Some (Some one) → (user : User) × (slice_get items k ≡ Some (Some user)) × (kept user ≡ one)
+  item_of k one is = go (slice_get items k) refl (sym (slice_get-map (option_map kept) items k) ∙ is)
+    where
+      go : (o : Option (Option User)) → slice_get items k ≡ o → option_map (option_map kept) o ≡ Some (Some one) → (user : User) × (slice_get items k ≡ Some (Some user)) × (kept user ≡ one)
+      go None e f = absurd cc
+      go (Some None) e f = absurd cc
+      go (Some (Some user)) e f = (user, e, same_Some (kept user) one (same_Some (Some (kept user)) (Some one) f))
+
+  numbered : (segments : List Segment) (number : ℕ) (head : Head) → at_number (map (λ (x : Segment). x.head) segments) number ≡ Some head → (s : Segment) × (at_number segments number ≡ Some s) × (s.head ≡ head)
+  numbered segments number head is = go (at_number segments number) refl (sym (number_map (λ (x : Segment). x.head) segments number) ∙ is)
+    where
+      go : (o : Option Segment) → at_number segments number ≡ o → option_map (λ (x : Segment). x.head) o ≡ Some head → (s : Segment) × (at_number segments number ≡ Some s) × (s.head ≡ head)
+      go None e f = absurd cc
+      go (Some s) e f = (s, e, same_Some s.head head f)
+
+  at_place : (segments : List Segment) (number : ℕ) (s : Segment) → at_number segments number ≡ Some s → (k : ℕ) × (slice_get segments k ≡ Some s) × (k < length segments)
+  at_place segments zero s is = absurd cc
+  at_place segments (suc k) s is = (k, is, slice_get_within segments k s is)
+
+  -- where no user has it, the address lies nowhere
+  pub lies_nowhere : (address : ℕ) → IsNowhere memory.slots items (length items) address → (id number offset : ℕ) → ¬ LiesIn (loaded memory items) address id number offset
+  lies_nowhere address nowhere id number offset lies =
+      let is = lies.is in
+      let made = (made_at (map (option_map kept) items) id is.kept is.made).0 in
+      let item = item_of (id - first_id) is.kept made in
+      let user = item.0 in
+      let found = numbered user.segments.items number is.head (ap (λ (x : Kept). at_number x.heads number) item.2 ∙ is.head') in
+      let s = found.0 in
+      let place = at_place user.segments.items number s found.1 in
+      let handle : s.handle ≡ Some lies.h = sym (handle_is user.segments.items number s found.1) ∙ ap (λ (x : Kept). handle_at x.handles number) item.2 ∙ is.handle in
+      let inside : offset < s.head.length = omega (arith, lies.inside, ap (λ (x : Head). x.length) found.2) in
+      nowhere (id - first_id) (Some user) (slice_get_within items (id - first_id) (Some user) item.1) item.1 (ap (λ (x : Kept). x.life) item.2 ∙ is.runs)
+      place.0 s offset place.2 place.1 (record { h = lies.h; first = is.address; active = ap (presence memory.slots) handle ∙ is.active; sum = lies.sum; inside = inside })
+
+  pub located_is : (address : ℕ) (result : Option Entered)
+      → MatchOption result (IsNowhere memory.slots items (length items) address) (λ entered. IsSomewhere memory.slots items address entered.user entered.segment entered.offset × (entered.address ≡ address))
+      → MatchOption result ((id number offset : ℕ) → ¬ LiesIn (loaded memory items) address id number offset)
+      (λ entered. LiesIn (loaded memory items) address entered.user entered.segment entered.offset × (entered.address ≡ address))
+  located_is address None nowhere = lies_nowhere address nowhere
+  located_is address (Some entered) somewhere =
+      (lies_there somewhere.0.place entered.user address entered.segment entered.offset somewhere.0.user somewhere.0.is somewhere.0.id_is somewhere.0.lies, somewhere.1)
+
+  -- what a sound loader's users keep
+  pub few_users : IsSound memory (map (option_map kept) items) → length items ≤ 255
+  few_users sound = omega (arith, sound.few, length-map items (option_map kept))
+
+  pub short_users : IsSound memory (map (option_map kept) items) → (k : ℕ) (one : User) → slice_get items k ≡ Some (Some one) → length one.segments.items < 2 ^ 16
+  short_users sound k one is =
+      let made : slice_get (map (option_map kept) items) k ≡ Some (Some (kept one)) = slice_get-map (option_map kept) items k ∙ ap (option_map (option_map kept)) is in
+      omega (arith, sound.short k (kept one) made, length-map one.segments.items (λ (x : Segment). x.head))
+
+-- ---- users so far
+
+pub nowhere_yet : (slots : Slots) (users : List (Option User)) (address : ℕ) → IsNowhere slots users 0 address
+nowhere_yet slots users address k user less is = absurd (omega (arith, less))
+
+module _ (slots : Slots) (users xs : List (Option User)) (place address : ℕ) (d : Option User) (same : xs ≡ users) (inside : place < length xs) where
+  user_here : slice_get users place ≡ Some (get_or xs place d)
+  user_here = ap (λ (l : List (Option User)). slice_get l place) (sym same) ∙ slice_get-get_or xs place d inside
+
+  pub nowhere_more : IsNowhere slots users place address → IsNowhereOf slots (get_or xs place d) address → IsNowhere slots users (place + 1) address
+  nowhere_more none not k t less found = elim (cases_lt k place) [
+    | inl before ↦ none k t before found
+    | inr after ↦
+        (let at : k ≡ place = omega (arith, after, less) in
+        let it : t ≡ get_or xs place d = same_Some t (get_or xs place d) (sym found ∙ ap (slice_get users) at ∙ user_here) in
+        subst (λ (x : Option User). IsNowhereOf slots x address) (sym it) not)
+  ]
+
+  pub somewhere_here : (id number offset : ℕ) → id ≡ first_id + place → IsSomewhereOf slots (get_or xs place d) address number offset → IsSomewhere slots users address id number offset
+  somewhere_here id number offset e lies = record { place = place; user = get_or xs place d; is = user_here; id_is = e; lies = lies }
+
+pub nowhere_all : (slots : Slots) (users xs : List (Option User)) (place address : ℕ) → xs ≡ users → IsNowhere slots users place address → length xs ≤ place → IsNowhere slots users (length users) address
+nowhere_all slots users xs place address same none past k user less is =
+    none k user (omega (arith, less, past, ap (λ (l : List (Option User)). length l) same)) is

@@ -1,0 +1,33 @@
+use Rattle.std.proofs.Common.{◌≡◌, ℕ, List, length, map, Option, sym, ap, subst, ◌∙◌}
+use Rattle.iigs_meaning.specs.declared.handles.Handle.{Handle}
+use Rattle.loader_machine.specs.declared.seen.Head.{Head}
+use Rattle.loader_machine.specs.Heads.{head_of, wants_of}
+use Rattle.loader_machine.specs.State.{Held}
+use Rattle.loader_machine.specs.Steps.{spread}
+use Rattle.loader_agrees.specs.Begun.{all_length}
+use Rattle.sys_loader.specs.Filling.{AreFilled}
+use Rattle.sys_loader.proofs.Written.{handles_of}
+use Rattle.sys_loader.proofs.Settling.{are_sound}
+use Rattle.sys_loader.proofs.Beginning.{all_ready, settled}
+use Rattle.sys_loader.proofs.load.settle.Goals as goal
+
+pub deal-requires : goal.deal-requires
+deal-requires c =
+    let before = c.requires.placed.0 in
+    all_length before.banks c.args.user before.slots c.args.banks.now.slots (wants_of (map head_of c.args.load.now)) c.args.handles.now c.requires.placed.1.puts
+    ∙ ap (λ (gs : List Head). length (wants_of gs)) (sym c.requires.heads)
+
+pub fill_all-requires-clause-sound : goal.fill_all-requires-clause-sound
+fill_all-requires-clause-sound c = are_sound c.requires.loadable.0 c.args.load.now c.requires.loadable.1
+
+pub fill_all-requires-clause-ready : goal.fill_all-requires-clause-ready
+fill_all-requires-clause-ready c =
+    all_ready c.requires.placed.0 c.args.banks.now c.args.load.now c.args.handles.now c.args.user c.requires.placed.1 c.deal.new.segments.items (c.deal.ensures.heads ∙ c.requires.heads)
+    (c.deal.ensures.handles ∙ ap (λ (gs : List Head). map (λ (held : Held). held.handle) (spread gs c.args.handles.now)) c.requires.heads)
+
+pub returns-clause-settled : goal.returns-clause-settled
+returns-clause-settled c =
+    let kept = c.deal.new.segments.items in
+    settled c.requires.loadable.0 c.args.load.now c.args.handles.now c.args.user kept c.args.banks.now c.fill_all.new.banks c.requires.loadable.1 (c.deal.ensures.heads ∙ c.requires.heads)
+    (c.deal.ensures.handles ∙ ap (λ (gs : List Head). map (λ (held : Held). held.handle) (spread gs c.args.handles.now)) c.requires.heads)
+    (subst (λ (places : List (Option ℕ)). AreFilled c.args.load.now (handles_of kept) c.args.user places c.args.banks.now c.fill_all.new.banks (length kept)) c.set_places.ensures c.fill_all.ensures)

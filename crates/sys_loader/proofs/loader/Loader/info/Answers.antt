@@ -1,0 +1,34 @@
+use Rattle.std.proofs.Common.{◌≡◌, ◌≢◌, ◌≤◌, inl, inr, ℕ, true, false, ◌+◌, List, Option, Some, None, map, refl, sym, ap, subst, ◌∙◌, arith}
+use Rattle.std.specs.Prelude.{option_map, IfErr}
+use Rattle.iigs_meaning.specs.declared.handles.Handle.{Handle}
+use Rattle.iigs_meaning.specs.declared.wants.BlockState.{BlockState}
+use Rattle.iigs_meaning.specs.Slots.{get}
+use Rattle.iigs_meaning.specs.Fits.{Slots}
+use Rattle.iigs_meaning.specs.Puts.{Purges}
+use Rattle.iigs_meaning.specs.Blocks.{state_of}
+use Rattle.iigs_meaning.specs.Memory.{Memory}
+use Rattle.loader_machine.specs.Refusals.{free_refusal, change_refusal, state_refusal, info_refusal}
+use Rattle.loader_machine.specs.Presences.{presence}
+use Rattle.loader_agrees.specs.Agrees.{Kept, Loaded, Agrees, IsSound, seen_in, seen_by}
+use Rattle.sys_loader.specs.View.{kept, loaded}
+use Rattle.sys_loader.specs.Replies.{IsAllocRefusal}
+use Rattle.std.specs.Prelude.{Result, Ok, Err, IfOk}
+use Rattle.omf_io.specs.Files.{FileMap}
+use Rattle.loader_machine.specs.declared.faults.LoaderFault.{LoaderFault}
+use Rattle.loader_machine.specs.State.{Machine}
+use Rattle.loader_machine.specs.Commands as commands
+use Rattle.loader_agrees.specs.Agrees.{Met}
+use Rattle.loader_agrees.specs.Acts.{HasTold}
+use Rattle.loader_agrees.specs.Reads.{told_met, told_refused}
+use Rattle.sys_loader.specs.declared.answers.Info.{Info}
+use Rattle.sys_loader.specs.Replies.{info_reply}
+use Rattle.sys_loader.proofs.loader.Loader.info.Goals as goal
+
+meets : (loader : Loaded) (id number : ℕ) (result : Result Info LoaderFault) → IfOk result (λ info. HasTold loader id number info.presence info.length info.kind)
+    → IfErr result (λ fault. info_refusal (seen_by loader id) number ≡ Some fault) → (held : FileMap) (state : Machine) → Agrees held loader state
+    → Met Purges held state (commands.Info id number) (info_reply result) loader
+meets loader id number (Ok info) told refused held state agrees = told_met held loader state agrees Purges id number info.presence info.length info.kind told
+meets loader id number (Err fault) told refused held state agrees = told_refused held loader state agrees Purges id number fault refused
+
+pub returns-clause-meets : goal.returns-clause-meets
+returns-clause-meets c = meets c.args.self.now c.args.user c.args.segment c.told.result c.told.ensures.told c.told.ensures.refused

@@ -1,0 +1,38 @@
+use Rattle.std.proofs.Common.{◌≡◌, ◌≢◌, ◌≤◌, inl, inr, ℕ, true, false, ◌+◌, List, Option, Some, None, map, refl, sym, ap, subst, ◌∙◌, arith}
+use Rattle.std.specs.Prelude.{option_map, IfErr}
+use Rattle.iigs_meaning.specs.declared.handles.Handle.{Handle}
+use Rattle.iigs_meaning.specs.declared.wants.BlockState.{BlockState}
+use Rattle.iigs_meaning.specs.Slots.{get}
+use Rattle.iigs_meaning.specs.Fits.{Slots}
+use Rattle.iigs_meaning.specs.Puts.{Purges}
+use Rattle.iigs_meaning.specs.Blocks.{state_of}
+use Rattle.iigs_meaning.specs.Memory.{Memory}
+use Rattle.loader_machine.specs.Refusals.{free_refusal, change_refusal, state_refusal, info_refusal}
+use Rattle.loader_machine.specs.Presences.{presence}
+use Rattle.loader_agrees.specs.Agrees.{Kept, Loaded, Agrees, IsSound, seen_in, seen_by}
+use Rattle.sys_loader.specs.View.{kept, loaded}
+use Rattle.sys_loader.specs.Replies.{IsAllocRefusal}
+use Rattle.loader_agrees.specs.Acts.{HasTold}
+use Rattle.loader_agrees.specs.Checking.{info_no_user, info_stops, info_passes}
+use Rattle.sys_loader.proofs.loader.Loader.told.Goals as goal
+
+pub returns-in_default-clause-refused : goal.returns-in_default-clause-refused
+returns-in_default-clause-refused c = ap (λ (o : Option Kept). info_refusal (option_map seen_in o) c.args.segment) (sym c.in_default.ensures) ∙ info_no_user c.args.segment
+
+pub returns-in-Err-clause-refused : goal.returns-in-Err-clause-refused
+returns-in-Err-clause-refused c = ap (λ (o : Option Kept). info_refusal (option_map seen_in o) c.args.segment) (sym c.in-Some.ensures)
+    ∙ info_stops (seen_in (kept c.in-Some.kept.now)) c.args.segment c.in-Err.fault c.in-Err.ensures.err
+
+pub returns-clause-told : goal.returns-clause-told
+returns-clause-told c = record {
+  passes = ap (λ (o : Option Kept). info_refusal (option_map seen_in o) c.args.segment) (sym c.in-Some.ensures)
+      ∙ info_passes (seen_in (kept c.in-Some.kept.now)) c.args.segment c.in-Ok.found.head c.in-Ok.ensures.ok.2;
+  kept = kept c.in-Some.kept.now;
+  made = sym c.in-Some.ensures;
+  head = c.in-Ok.found.head;
+  head' = c.in-Ok.ensures.ok.0;
+  presence_is = c.presence.ensures ∙ ap (λ (l : Loaded). presence l.memory.slots c.in-Ok.found.handle) c.self.view_is
+      ∙ ap (presence c.args.self.now.memory.slots) (sym c.in-Ok.ensures.ok.1);
+  length_is = refl;
+  kind_is = refl;
+}

@@ -1,0 +1,10 @@
+use Rattle.std.proofs.Common.{◌≡◌, ℕ, ◌+◌, ◌<◌, ◌≤◌, List, length, get_or, refl, sym, ap, ◌∙◌, arith}
+use Rattle.sys_loader.proofs.Lies.{none_more}
+use Rattle.sys_loader.proofs.lying.search.Goals as goal
+
+pub segments-preserved : goal.segments-preserved
+segments-preserved c = record {
+  none = none_more c.args.banks.now.slots c.args.segments.now.items c.deref-segment-items.result.now c.segments.segment-index c.args.address _ c.deref-segment-items.ensures.value c.segments-test.true
+      c.segments.invariant.none c.in-None.ensures;
+  count = omega (arith, c.segments.invariant.count);
+}

@@ -1,0 +1,49 @@
+-- Where an address lies among a user's segments. No public clause cites this module.
+use Rattle.std.specs.Prelude.{◌≡◌, ℕ, ◌+◌, ◌<◌, List, length, Option, Some, None, slice_get}
+use Rattle.iigs_meaning.specs.declared.handles.Handle.{Handle}
+use Rattle.iigs_meaning.specs.Fits.{Slots}
+use Rattle.loader_machine.specs.declared.seen.Life.TheVariants.{Running}
+use Rattle.loader_machine.specs.declared.seen.Presence.TheVariants.{Active}
+use Rattle.loader_machine.specs.Heads.{at_number}
+use Rattle.loader_machine.specs.State.{first_id}
+use Rattle.loader_machine.specs.Presences.{presence}
+use Rattle.sys_loader.specs.declared.user.Segment.{Segment}
+use Rattle.sys_loader.specs.declared.user.User.{User}
+
+-- the segment is active, and the address lies among its LENGTH bytes, at an offset
+pub record LiesAt (slots : Slots) (s : Segment) (address offset : ℕ) : Type 0 where
+  pub h : Handle
+  pub first : ℕ
+  pub active : presence slots s.handle ≡ Active h first
+  pub sum : first + offset ≡ address
+  pub inside : offset < s.head.length
+
+-- the address lies in none of so many first segments
+abbrev pub LiesInNone : Slots → List Segment → ℕ → ℕ → Type 0
+LiesInNone slots segments count address = (k : ℕ) (s : Segment) (offset : ℕ) → k < count → slice_get segments k ≡ Some s → ¬ LiesAt slots s address offset
+
+-- it lies in the segment with a number, at an offset
+abbrev pub LiesInOne : Slots → List Segment → ℕ → ℕ → ℕ → Type 0
+LiesInOne slots segments address number offset = (s : Segment) × (at_number segments number ≡ Some s) × LiesAt slots s address offset
+
+-- a user runs, and the address lies in none of its segments
+abbrev pub IsNowhereOf : Slots → Option User → ℕ → Type 0
+IsNowhereOf slots None address = Unit {0}
+IsNowhereOf slots (Some user) address = user.life ≡ Running → LiesInNone slots user.segments.items (length user.segments.items) address
+
+-- a user runs, and the address lies in its segment with a number, at an offset
+abbrev pub IsSomewhereOf : Slots → Option User → ℕ → ℕ → ℕ → Type 0
+IsSomewhereOf slots None address number offset = ⊥
+IsSomewhereOf slots (Some user) address number offset = (user.life ≡ Running) × LiesInOne slots user.segments.items address number offset
+
+-- the address lies in no segment of so many first users
+abbrev pub IsNowhere : Slots → List (Option User) → ℕ → ℕ → Type 0
+IsNowhere slots users count address = (k : ℕ) (user : Option User) → k < count → slice_get users k ≡ Some user → IsNowhereOf slots user address
+
+-- the address lies in a segment of the user at a place, at an offset
+pub record IsSomewhere (slots : Slots) (users : List (Option User)) (address id number offset : ℕ) : Type 0 where
+  pub place : ℕ
+  pub user : Option User
+  pub is : slice_get users place ≡ Some user
+  pub id_is : id ≡ first_id + place
+  pub lies : IsSomewhereOf slots user address number offset

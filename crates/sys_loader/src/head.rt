@@ -1,0 +1,154 @@
+//! What a segment's header asks of the loader.
+
+ghost use Rattle.std.specs.Prelude.{◌≡◌, ◌==◌};
+ghost use Rattle.omf_format.specs.Header as format;
+ghost use Rattle.iigs_meaning.specs.Fits.{IsWant};
+ghost use Rattle.loader_machine.specs.Heads as heads;
+
+use iigs_meaning::Want;
+use loader_machine::Head;
+use omf_header::Kind;
+
+/// The type of a jump table.
+const TABLE: u8 = 0x02;
+
+/// The type of a direct page and stack.
+const STACK: u8 = 0x12;
+
+/// The type of code.
+const CODE: u8 = 0x00;
+
+/// The size of a page, which is the least alignment of a stack.
+const PAGE: u32 = 0x100;
+
+/// The size of a bank.
+const BANK: u32 = 0x10000;
+
+fn kind(head: &Head) -> Kind
+    ensures { result.bits ≡ head.now.kind }
+{
+    Kind { bits: head.kind }
+}
+
+/// The segment is never loaded.
+pub fn is_skipped(head: &Head) -> bool
+    ensures { result ≡ format.is_skipped head.now.kind }
+{
+    kind(head).is_skip()
+}
+
+/// The segment is loaded with its file.
+pub fn is_static(head: &Head) -> bool
+    ensures { result ≡ heads.is_static head.now }
+{
+    let kind = kind(head);
+    !kind.is_dynamic() && !kind.is_skip()
+}
+
+/// The segment is a jump table.
+pub fn is_table(head: &Head) -> bool
+    ensures { result ≡ heads.is_table head.now }
+{
+    kind(head).form() == TABLE
+}
+
+/// The segment is code.
+pub fn is_code(head: &Head) -> bool
+    ensures { result ≡ (format.form_of head.now.kind == 0x00) }
+{
+    kind(head).form() == CODE
+}
+
+fn is_stack(head: &Head) -> bool
+    ensures { result ≡ heads.is_stack head.now }
+{
+    kind(head).form() == STACK
+}
+
+/// Of what the segment's address is a multiple.
+fn alignment(head: &Head) -> u32
+    ensures { result ≡ format.alignment_of head.now.align }
+{
+    match head.align {
+        0 => 1,
+        1..=0x100 => PAGE,
+        _ => BANK,
+    }
+}
+
+fn stays_in_bank(head: &Head) -> bool
+    ensures { result ≡ format.stays_in_bank head.now.bank_size }
+{
+    head.bank_size != 0
+}
+
+fn fixes_bank(head: &Head) -> bool
+    ensures { result ≡ heads.fixes_bank head.now }
+{
+    let kind = kind(head);
+    head.org != 0 && (kind.is_absolute_bank() && !kind.is_bank_relative())
+}
+
+fn fixes_low(head: &Head) -> bool
+    ensures { result ≡ heads.fixes_low head.now }
+{
+    let kind = kind(head);
+    head.org != 0 && (kind.is_bank_relative() && !kind.is_absolute_bank())
+}
+
+fn fixes_address(head: &Head) -> bool
+    ensures { result ≡ heads.fixes_address head.now }
+{
+    head.org != 0 && (!fixes_bank(head) && !fixes_low(head))
+}
+
+fn some_if(asked: bool, n: u32) -> Option<u32>
+    ensures { result ≡ heads.some_if asked n }
+{
+    if asked { Some(n) } else { None }
+}
+
+#[tactic(auto, unfolding(loader_machine::specs::Heads::stack_want))]
+fn stack_want(head: &Head) -> Want
+    ensures is { result ≡ heads.stack_want head.now }
+    ensures want { IsWant result }
+{
+    Want {
+        size: head.length.max(1),
+        align: alignment(head).max(PAGE),
+        no_cross: stays_in_bank(head),
+        no_special: false,
+        at: None,
+        bank: Some(0),
+        low: None,
+    }
+}
+
+#[tactic(auto, unfolding(loader_machine::specs::Heads::plain_want))]
+fn plain_want(head: &Head) -> Want
+    ensures is { result ≡ heads.plain_want head.now }
+    ensures want { IsWant result }
+{
+    Want {
+        size: head.length.max(1),
+        align: alignment(head),
+        no_cross: stays_in_bank(head),
+        no_special: kind(head).avoids_special(),
+        at: some_if(fixes_address(head), head.org),
+        bank: some_if(fixes_bank(head), head.org / BANK),
+        low: some_if(fixes_low(head), head.org % BANK),
+    }
+}
+
+/// What is asked of the segment's place.
+#[tactic(auto, unfolding(loader_machine::specs::Heads::want_of))]
+pub fn want_of(head: &Head) -> Want
+    ensures is { result ≡ heads.want_of head.now }
+    ensures want { IsWant result }
+{
+    if is_stack(head) {
+        stack_want(head)
+    } else {
+        plain_want(head)
+    }
+}

@@ -1,0 +1,445 @@
+// Scripts over load files of several segments, and the script's own blocks. Expected lines are written by hand from the
+// rules of the loader and of the format.
+use crate::runner::Outcome;
+use crate::running::{run_script, says};
+use omf_cli::Status;
+use std::alloc::Global;
+use std::test::Fail;
+
+/// What a handmade load segment has beside its body.
+#[derive(Clone, Copy)]
+struct Front {
+    number: u8,
+    /// KIND, its low byte first.
+    kind: [u8; 2],
+    length: [u8; 4],
+    res_spc: u8,
+    bank_size: [u8; 4],
+    org: [u8; 4],
+    entry: u8,
+}
+
+/// A code segment of so many bytes, which stays in a bank.
+fn code(number: u8, length: u8) -> Front {
+    Front {
+        number,
+        kind: [0, 0],
+        length: [length, 0, 0, 0],
+        res_spc: 0,
+        bank_size: [0, 0, 1, 0],
+        org: [0; 4],
+        entry: 0,
+    }
+}
+
+/// Appends a load segment with this body, whose name is empty. It is shorter than 256 bytes.
+fn put_segment(out: &mut Vec<u8>, front: Front, body: &[u8]) -> Result<(), Fail> {
+    if body.len() > 200 {
+        return Err(Fail::new("the body is too long"));
+    }
+    let size = (0x37 + body.len()) as u8;
+    out.extend_from_slice(&[size, 0, 0, 0, front.res_spc, 0, 0, 0])?;
+    out.extend_from_slice(&front.length)?;
+    out.extend_from_slice(&[0, 0, 4, 2])?;
+    out.extend_from_slice(&front.bank_size)?;
+    out.extend_from_slice(&front.kind)?;
+    out.extend_from_slice(&[0, 0])?;
+    out.extend_from_slice(&front.org)?;
+    out.extend_from_slice(&[0, 0, 0, 0, 0, 0, front.number, 0, front.entry, 0, 0, 0])?;
+    out.extend_from_slice(&[0x2C, 0, 0x37, 0])?;
+    out.extend_from_slice(b"          \0")?;
+    out.extend_from_slice(body)?;
+    Ok(())
+}
+
+/// A file of one segment.
+fn one(alloc: Global, front: Front, body: &[u8]) -> Result<Vec<u8>, Fail> {
+    let mut file = Vec::new(alloc);
+    put_segment(&mut file, front, body)?;
+    Ok(file)
+}
+
+/// Whether a script over a file at `prog` is run to its end with these replies.
+fn replies(alloc: Global, script: &[u8], program: &[u8], text: &[u8]) -> Result<bool, Fail> {
+    says(alloc, script, program, Status::Done, text)
+}
+
+/// A program of six segments: code with patches to the others, data, a dynamic one, a jump table of one entry, a skipped
+/// one, and a direct page and stack.
+fn program(alloc: Global) -> Result<Vec<u8>, Fail> {
+    let mut file = Vec::new(alloc);
+    put_segment(
+        &mut file,
+        code(1, 12),
+        &[
+            0xF2, 12, 0, 0, 0, 0xAF, 0, 0, 0, 0x22, 0, 0, 0, 0x4C, 0, 0, 0x60, // the data
+            0xE3, 3, 0, 1, 0, 0, 0, 1, 0, 2, 0, 1, 0, 0, 0, // the place of segment 2 plus 1
+            0xE3, 3, 0, 5, 0, 0, 0, 1, 0, 4, 0, 18, 0, 0, 0, // that of the table's entry
+            0xE2, 2, 0, 9, 0, 0, 0, 11, 0, 0, 0, // the own place plus 11
+            0,
+        ],
+    )?;
+    put_segment(
+        &mut file,
+        Front {
+            kind: [1, 0],
+            res_spc: 2,
+            ..code(2, 4)
+        },
+        &[0xF2, 2, 0, 0, 0, 0x11, 0x22, 0],
+    )?;
+    put_segment(
+        &mut file,
+        Front {
+            kind: [0, 0x80],
+            ..code(3, 2)
+        },
+        &[0xF2, 2, 0, 0, 0, 0xEA, 0x6B, 0],
+    )?;
+    put_segment(
+        &mut file,
+        Front {
+            kind: [2, 0],
+            ..code(4, 26)
+        },
+        &[
+            0xF2, 26, 0, 0, 0, 0, 0, 0, 0, 0, 0, 0, 0, // zeros
+            0, 0, 1, 0, 3, 0, 1, 0, 0, 0, 0x22, 0, 0xF0, 0xE1, 0, 0, 0, 0, // the entry
+            0,
+        ],
+    )?;
+    put_segment(
+        &mut file,
+        Front {
+            kind: [1, 2],
+            ..code(5, 1)
+        },
+        &[0xF2, 1, 0, 0, 0, 0x55, 0],
+    )?;
+    put_segment(
+        &mut file,
+        Front {
+            kind: [0x12, 0],
+            res_spc: 0x80,
+            ..code(6, 0x80)
+        },
+        &[0],
+    )?;
+    Ok(file)
+}
+
+#[test]
+fn a_program_of_six_segments_is_loaded(rt: HostRuntime) -> Result<(), Fail> {
+    let alloc = rt.alloc();
+    let program = program(alloc)?;
+    assert!(rt;
+        replies(
+            alloc,
+            b"banks 02 00\nload prog\nbytes 1001 1 0 C\nbytes 1001 2 0 4\nbytes 1001 4 0 1A\nbytes 1001 6 7F 1\n",
+            &program,
+            b"ok\nuser 1001 entry 000800\nAF 0D 08 00 22 22 08 00 4C 0B 08 60\n11 22 00 00\n00 00 00 00 00 00 00 00 01 10 01 00 03 00 01 00 00 00 22 00 F0 E1 00 00 00 00\n00\n"
+        )?
+    );
+    assert!(rt;
+        replies(
+            alloc,
+            b"banks 02 00\nload prog\ninfo 1001 1\ninfo 1001 2\ninfo 1001 3\ninfo 1001 4\ninfo 1001 5\ninfo 1001 6\ninfo 1001 7\ninfo 1002 1\nroom\n",
+            &program,
+            b"ok\nuser 1001 entry 000800\nactive 000000 at 000800 length 0000000C kind 0000\nactive 000100 at 00080C length 00000004 kind 0001\nabsent length 00000002 kind 8000\nactive 000200 at 000810 length 0000001A kind 0002\nrefused NoSegment\nactive 000300 at 000900 length 00000080 kind 0012\nrefused NoSegment\nrefused NoUser\n0001B756\n"
+        )?
+    );
+    assert!(rt;
+        replies(
+            alloc,
+            b"banks 02 00\nload prog\nwhere 7FF\nwhere 800\nwhere 80B\nwhere 80C\nwhere 829\nwhere 82A\nwhere 97F\nwhere 980\nbytes 1001 3 0 1\nbytes 1001 5 0 1\nbytes 1001 1 B 2\n",
+            &program,
+            b"ok\nuser 1001 entry 000800\nnothing\n1001 0001 00000000\n1001 0001 0000000B\n1001 0002 00000000\n1001 0004 00000019\nnothing\n1001 0006 0000007F\nnothing\nrefused NotActive\nrefused NoSegment\nrefused OutOfSegment\n"
+        )?
+    );
+    Ok(())
+}
+
+// The second segment is entered at ENTRY of the first, and its place is in the first's JSL.
+#[test]
+fn a_segment_calls_another(rt: HostRuntime) -> Result<(), Fail> {
+    let alloc = rt.alloc();
+    let mut program = Vec::new(alloc);
+    put_segment(
+        &mut program,
+        code(1, 4),
+        &[
+            0xF2, 4, 0, 0, 0, 0x22, 0, 0, 0, 0xE3, 3, 0, 1, 0, 0, 0, 1, 0, 2, 0, 0, 0, 0, 0, 0,
+        ],
+    )?;
+    put_segment(
+        &mut program,
+        Front {
+            entry: 9,
+            ..code(2, 1)
+        },
+        &[0xF2, 1, 0, 0, 0, 0x6B, 0],
+    )?;
+    assert!(rt;
+        replies(
+            alloc,
+            b"banks 02\nload prog\nbytes 1001 1 0 4\nwhere 20004\ninfo 1001 2\n",
+            &program,
+            b"ok\nuser 1001 entry 020000\n22 04 00 02\n1001 0002 00000000\nactive 000100 at 020004 length 00000001 kind 0000\n"
+        )?
+    );
+    Ok(())
+}
+
+#[test]
+fn places_are_asked_for(rt: HostRuntime) -> Result<(), Fail> {
+    let alloc = rt.alloc();
+
+    // LENGTH alone, and no byte but zeros.
+    let zeros = one(
+        alloc,
+        Front {
+            res_spc: 2,
+            ..code(1, 2)
+        },
+        &[0],
+    )?;
+    assert!(rt;
+        replies(
+            alloc,
+            b"banks 02\nload prog\nbytes 1001 1 0 2\n",
+            &zeros,
+            b"ok\nuser 1001 entry 020000\n00 00\n"
+        )?
+    );
+
+    // 65,537 bytes of data that may cross banks, and LENGTH 0 has a byte of its own.
+    let big = one(
+        alloc,
+        Front {
+            kind: [1, 0],
+            length: [1, 0, 1, 0],
+            bank_size: [0; 4],
+            ..code(1, 0)
+        },
+        &[0xF1, 1, 0, 1, 0, 0],
+    )?;
+    assert!(rt;
+        replies(
+            alloc,
+            b"banks 02 03\nload prog\ninfo 1001 1\n",
+            &big,
+            b"ok\nuser 1001 entry none\nactive 000000 at 020000 length 00010001 kind 0001\n"
+        )?
+    );
+    let none = one(alloc, code(1, 0), &[0])?;
+    assert!(rt;
+        replies(
+            alloc,
+            b"banks 02\nload prog\nload prog\nwhere 20000\n",
+            &none,
+            b"ok\nuser 1001 entry 020000\nuser 1002 entry 020001\nnothing\n"
+        )?
+    );
+
+    // ORG is an address; with $0800 it names a bank, with $0100 a place in one.
+    let places: [([u8; 2], &[u8]); 3] = [
+        ([0, 0], b"ok\nuser 1001 entry 031234\nrefused NoRoom 0001\n"),
+        (
+            [0, 8],
+            b"ok\nuser 1001 entry 030000\nuser 1002 entry 030004\n",
+        ),
+        (
+            [0, 1],
+            b"ok\nuser 1001 entry 021234\nuser 1002 entry 031234\n",
+        ),
+    ];
+    for (kind, text) in places {
+        let program = one(
+            alloc,
+            Front {
+                kind,
+                org: [0x34, 0x12, 3, 0],
+                ..code(1, 4)
+            },
+            &[0xF1, 4, 0, 0, 0, 0],
+        )?;
+        assert!(rt;
+            replies(
+                alloc,
+                b"banks 02 03\nload prog\nload prog\n",
+                &program,
+                text
+            )?
+        );
+    }
+    Ok(())
+}
+
+// A location whose two bytes would pass LENGTH, and the one before it.
+#[test]
+fn a_patch_outside_is_a_bad_file(rt: HostRuntime) -> Result<(), Fail> {
+    let alloc = rt.alloc();
+    let front = Front {
+        length: [0, 3, 0, 0],
+        ..code(1, 0)
+    };
+    let outside = one(
+        alloc,
+        front,
+        &[
+            0xF1, 0, 3, 0, 0, 0xF7, 5, 0, 0, 0, 0, 0x82, 1, 0xFE, 0xFF, 0,
+        ],
+    )?;
+    assert!(rt;
+        replies(
+            alloc,
+            b"banks 02\nload prog\nroom\n",
+            &outside,
+            b"ok\nrefused BadFile PatchOutside 0001 0000003C\n00010000\n"
+        )?
+    );
+    let inside = one(
+        alloc,
+        front,
+        &[
+            0xF1, 0, 3, 0, 0, 0xF7, 5, 0, 0, 0, 0, 0x82, 1, 0xFD, 0xFE, 0,
+        ],
+    )?;
+    assert!(rt;
+        replies(
+            alloc,
+            b"banks 02\nload prog\nroom\n",
+            &inside,
+            b"ok\nuser 1001 entry 020000\n0000FD00\n"
+        )?
+    );
+    Ok(())
+}
+
+// The second segment has no room, so the first isn't placed either.
+#[test]
+fn all_segments_are_placed_or_none(rt: HostRuntime) -> Result<(), Fail> {
+    let alloc = rt.alloc();
+    let mut program = Vec::new(alloc);
+    put_segment(&mut program, code(1, 1), &[0xF1, 1, 0, 0, 0, 0])?;
+    put_segment(
+        &mut program,
+        Front {
+            kind: [0x12, 0],
+            ..code(2, 1)
+        },
+        &[0xF1, 1, 0, 0, 0, 0],
+    )?;
+    assert!(rt;
+        replies(
+            alloc,
+            b"banks 02\nload prog\nroom\nalloc 1 0 0\nload prog\n",
+            &program,
+            b"ok\nrefused NoRoom 0002\n00010000\nhandle 000000 at 020000\nrefused NoRoom 0002\n"
+        )?
+    );
+    Ok(())
+}
+
+#[test]
+fn the_script_has_blocks(rt: HostRuntime) -> Result<(), Fail> {
+    let alloc = rt.alloc();
+    assert!(rt;
+        replies(
+            alloc,
+            b"banks 02\nalloc 10001 0 0\nroom\nalloc 10000 0 0\nroom\nalloc 1 0 0\n",
+            b"",
+            b"ok\nrefused NoRoom 0000\n00010000\nhandle 000000 at 020000\n00000000\nrefused NoRoom 0000\n"
+        )?
+    );
+    assert!(rt;
+        replies(
+            alloc,
+            b"banks 02\nalloc 10 0 0\nfree 000000\nalloc 10 0 0\nhandle 000000\nhandle 000001\n",
+            b"",
+            b"ok\nhandle 000000 at 020000\nok\nhandle 000001 at 020000\nrefused Stale\nat 020000 size 00000010 level 0 unlocked\n"
+        )?
+    );
+
+    // The block of the highest level goes first.
+    assert!(rt;
+        replies(
+            alloc,
+            b"banks 02\nalloc 8000 300 0\nalloc 8000 100 0\nalloc 8000 0 0\nhandle 000000\nhandle 000100\n",
+            b"",
+            b"ok\nhandle 000000 at 020000\nhandle 000100 at 028000\nhandle 000200 at 020000\nempty\nat 028000 size 00008000 level 1 unlocked\n"
+        )?
+    );
+
+    // The attributes: locked with level 2, a page, the address, its bank, and no special memory.
+    assert!(rt;
+        replies(
+            alloc,
+            b"banks 01 02\nalloc 1 8200 0\nalloc 1 4 0\nalloc 1 2 1ABCD\nalloc 1 1 2FFFF\nalloc 1 8 0\nhandle 000000\n",
+            b"",
+            b"ok\nhandle 000000 at 010800\nhandle 000100 at 010900\nhandle 000200 at 01ABCD\nhandle 000300 at 020000\nhandle 000400 at 020001\nat 010800 size 00000001 level 2 locked\n"
+        )?
+    );
+    Ok(())
+}
+
+#[test]
+fn blocks_are_refused(rt: HostRuntime) -> Result<(), Fail> {
+    let alloc = rt.alloc();
+    let program = one(alloc, code(1, 1), &[0xF1, 1, 0, 0, 0, 0])?;
+    assert!(rt;
+        replies(
+            alloc,
+            b"banks 02\nload prog\nfree 000000\nlock 000000\nunlock 000000\nlevel 000000 3\nfree 000001\nlock 000100\nhandle 000000\n",
+            &program,
+            b"ok\nuser 1001 entry 020000\nrefused LoaderOwned\nrefused LoaderOwned\nrefused LoaderOwned\nrefused LoaderOwned\nrefused Stale\nrefused Stale\nat 020000 size 00000001 level 0 locked\n"
+        )?
+    );
+    assert!(rt;
+        replies(
+            alloc,
+            b"banks 02\nalloc 8000 300 0\nlock 000000\nalloc 10000 0 0\nunlock 000000\nlevel 000000 1\nalloc 10000 0 0\nlock 000000\nunlock 000000\nlevel 000000 0\nhandle 000000\nfree 000000\nhandle 000000\n",
+            b"",
+            b"ok\nhandle 000000 at 020000\nok\nrefused NoRoom 0000\nok\nok\nhandle 000100 at 020000\nrefused Empty\nrefused Empty\nrefused Empty\nempty\nok\nrefused Stale\n"
+        )?
+    );
+
+    // 4,096 slots, and none left for the program either.
+    let mut script = b"banks 02\n".to_vec(alloc)?;
+    for _ in 0..4096 {
+        script.extend_from_slice(b"alloc 1 0 0\n")?;
+    }
+    let run = run_script(alloc, &script, b"", &[], &[])?;
+    assert!(rt; run.out.bytes().ends_with(b"handle 0FFF00 at 020FFF\n"));
+    script.extend_from_slice(b"alloc 1 0 0\nload prog\n")?;
+    let full = run_script(alloc, &script, &program, &[], &[])?;
+    assert!(rt;
+        full.out
+            .bytes()
+            .ends_with(b"refused NoHandle\nrefused NoHandle\n")
+    );
+    Ok(())
+}
+
+/// Whether a run handed out a loader that shows this byte first in segment 1 of the first user.
+fn hands_out(run: &Outcome, byte: u8) -> bool {
+    match &run.last {
+        Some(loader) => loader.bytes(0x1001, 1, 0, 1) == Ok([byte].as_slice()),
+        None => false,
+    }
+}
+
+#[test]
+fn the_loader_is_handed_out(rt: HostRuntime) -> Result<(), Fail> {
+    let alloc = rt.alloc();
+    let program = program(alloc)?;
+    let ran = run_script(alloc, b"banks 00\nload prog\n", &program, &[], &[])?;
+    assert!(rt; hands_out(&ran, 0xAF));
+    let empty = run_script(alloc, b"; nothing\n", &program, &[], &[])?;
+    assert!(rt; empty.status == Status::Done && empty.last.is_none());
+    let refused = run_script(alloc, b"banks 00\nlod prog\n", &program, &[], &[])?;
+    assert!(rt; refused.last.is_none());
+    let stopped = run_script(alloc, b"banks 00\nload prog\n", &program, &[], &[2])?;
+    assert!(rt; stopped.last.is_none());
+    Ok(())
+}
