@@ -30,6 +30,9 @@ bench: build
 	bench/text
 	bench/body
 	bench/load
+	bench/library build/omf
+	bench/loader build/omf
+	bench/link
 	bench/macro
 
 refuse: build

@@ -35,6 +35,22 @@ const DICTIONARY: [u8; 196] = [
     0x49, 0x4E, 1, 0x47, 1, 0x51, 1, 0x47, 4, 0x4D, 0x41, 0x49, 0x4E, 1, 0x47, 1, 0x51, 0,
 ];
 
+/// An object file of one segment A, of three bytes and five zeros.
+const PLAIN: [u8; 66] = [
+    0x42, 0, 0, 0, 0, 0, 0, 0, 8, 0, 0, 0, 0, 0, 4, 2, 0, 0, 1, 0, 0, 0, 0, 0, 0, 0, 0, 0, 0, 0, 0,
+    0, 0, 0, 1, 0, 0, 0, 0, 0, 0x2C, 0, 0x38, 0, 0x20, 0x20, 0x20, 0x20, 0x20, 0x20, 0x20, 0x20,
+    0x20, 0x20, 1, 0x41, 3, 0xA9, 1, 0x60, 0xF1, 5, 0, 0, 0, 0,
+];
+
+/// The dictionary of the file `a`, which is that: its only row stands at $51, and says that A starts at $65.
+const ONE_ROW: [u8; 101] = [
+    0x65, 0, 0, 0, 0, 0, 0, 0, 0x14, 0, 0, 0, 0, 0, 4, 2, 0, 0, 0, 0, 8, 0, 0, 0, 0, 0, 0, 0, 0, 0,
+    0, 0, 0, 0, 1, 0, 0, 0, 0, 0, 0x2C, 0, 0x41, 0, 0x20, 0x20, 0x20, 0x20, 0x20, 0x20, 0x20, 0x20,
+    0x20, 0x20, 0x0A, 0x44, 0x49, 0x43, 0x54, 0x49, 0x4F, 0x4E, 0x41, 0x52, 0x59, 0xF2, 6, 0, 0, 0,
+    1, 0, 1, 0x61, 0, 0, 0xF2, 0x0C, 0, 0, 0, 0, 0, 0, 0, 1, 0, 0, 0, 0x65, 0, 0, 0, 0xF2, 2, 0, 0,
+    0, 1, 0x41, 0,
+];
+
 /// The library of those two files.
 fn library() -> [u8; 465] {
     let mut bytes = [0; 465];
@@ -252,4 +268,39 @@ fn a_library_is_made(rt: HostRuntime) {
         Ok(answer) => assert_eq!(rt; answer.err(), Some(cut)),
         Err(fault) => panic!(rt; "{fault:?}"),
     }
+}
+
+/// The library of one file.
+fn made_of(alloc: Global, first: Member) -> Result<Result<Vec<u8>, LibFault>, AllocError>
+    requires { length first.bytes.items < 2 ^ 32 }
+{
+    let mut members = Vec::new(alloc);
+    members.push(first)?;
+    Ok(make_library(alloc, &members))
+}
+
+/// The library of the file `a` alone, or the fault.
+fn alone(alloc: Global, a: &[u8]) -> Result<Result<Vec<u8>, LibFault>, NameFault>
+    requires { length a.now < 2 ^ 32 }
+{
+    let first = member(alloc, b"a", a)?;
+    Ok(made_of(alloc, first)?)
+}
+
+#[test]
+fn a_row_that_is_one_byte_off(rt: HostRuntime) {
+    let alloc = rt.alloc();
+    let mut bytes = [0; 167];
+    bytes[..101].copy_from_slice(&ONE_ROW);
+    bytes[101..].copy_from_slice(&PLAIN);
+    match alone(alloc, &PLAIN) {
+        Ok(Ok(made)) => assert!(rt; made.as_slice() == bytes.as_slice()),
+        Ok(Err(fault)) => panic!(rt; "{fault:?}"),
+        Err(fault) => panic!(rt; "{fault:?}"),
+    }
+    put(&mut bytes, &[(0x59, 0x66)]);
+    assert_eq!(rt;
+        read_dictionary(alloc, &bytes).err(),
+        Some(DictFault::BadLibrary(0x51))
+    );
 }

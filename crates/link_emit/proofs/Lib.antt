@@ -5,3 +5,4 @@ pub mod PutLaws
 pub mod FileLaws
 pub mod LoadLaws
 pub mod RecordLaws
+pub mod SlotLaws

@@ -4,3 +4,4 @@ pub mod Images
 pub mod Puts
 pub mod Plain
 pub mod Records
+pub mod Slots

@@ -1,13 +1,17 @@
 //! The load file: its load segments, and the jump table behind them.
 
-ghost use Rattle.std.specs.Prelude.{◌≡◌, ◌≤◌, ◌+◌, ◌<◌, ◌^◌, ◌++◌, IfOk, IfErr, OnOk, IsErrOf, length, map};
+ghost use Rattle.std.specs.Prelude.{◌≡◌, ◌≤◌, ◌+◌, ◌<◌, ◌^◌, ◌++◌, IfOk, IfErr, OnOk, IsErrOf, length, map, List};
 ghost use Rattle.omf_header.specs.View.{fields};
 ghost use Rattle.load_meaning.specs.Cells.{Byte};
 ghost use Rattle.load_meaning.specs.Table.{file_entry, table_bytes};
 ghost use Rattle.load_meaning.specs.WrittenFile.{file_text, table_fields};
-ghost use Rattle.link_meaning.specs.LinkWritten.{table_images};
+ghost use Rattle.link_meaning.specs.Member.{Member};
+ghost use Rattle.link_meaning.specs.LinkValues.{Told};
+ghost use Rattle.link_meaning.specs.LinkedCells.{targets};
+ghost use Rattle.link_meaning.specs.LinkWritten.{table_images, written_file};
+ghost use Rattle.link_meaning.specs.EmitFaults.{most_bytes};
 ghost use Rattle.link_emit.specs.Contents.{HoldsCells};
-ghost use Rattle.link_emit.specs.Images.{images_in, AreReady};
+ghost use Rattle.link_emit.specs.Images.{images_in, AreReady, AreLoads};
 
 use crate::content::Content;
 use crate::image::{ImageFault, put_image, put_images};
@@ -93,6 +97,27 @@ pub fn file_of(
     }
     match put_table(alloc, &mut file, headers.len() as u16 + 1, table) {
         Ok(()) => Ok(file),
+        Err(fault) => Err(fault),
+    }
+}
+
+/// The load file of a linked list whose load segments have these headers and contents, and whose table has these targets. It is
+/// too long where the file that the linker writes exceeds 16,777,216 bytes.
+pub fn write_linked(
+    alloc: Global,
+    headers: &[Header],
+    contents: &[Content],
+    table: &Table,
+) -> Result<Vec<u8>, ImageFault>
+    requires ready { AreReady headers.now contents.now }
+    requires few { length headers.now + 1 < 2 ^ 16 }
+    ensures ok { IfOk result (λ file. (list : List Member) (told : List Told) → AreLoads list told headers.now contents.now → table.now ≡ targets list told
+        → file.items ≡ written_file list told) }
+    ensures too_long { IsErrOf result ImageFault.TooLong → (list : List Member) (told : List Told) → AreLoads list told headers.now contents.now
+        → table.now ≡ targets list told → most_bytes < length (written_file list told) }
+{
+    match file_of(alloc, headers, contents, table) {
+        Ok(file) => Ok(file),
         Err(fault) => Err(fault),
     }
 }

@@ -9,14 +9,16 @@ mod image;
 mod plain;
 mod put;
 mod record;
+mod slots;
 
 pub use content::Content;
-pub use file::file_of;
+pub use file::{file_of, write_linked};
 pub use fit::{Fit, Formula, Frame, Load, fitted};
 pub use image::{ImageFault, put_image, put_images};
 pub use plain::put_plain;
 pub use put::put_formula;
 pub use record::{Site, put_record};
+pub use slots::{Slot, label_of};
 
 #[cfg(test)]
 mod tests;

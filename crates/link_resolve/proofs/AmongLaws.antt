@@ -170,7 +170,7 @@ offers-length file segments (r ∷ rows) = settle (offer_of file segments r) (of
     settle None less = omega arith
     settle (Some p) less = omega arith
 
-pub few_more : (inputs : List Input) (files : List (List ℕ)) (i : Input) (bytes : List ℕ) → AreInputs files inputs → FewRows inputs files → length i.rows ≤ length bytes → FewRows (inputs ++ i ∷ []) (files ++ bytes ∷ [])
+pub few_more : (inputs : List Input) (files : List (List ℕ)) (i : Input) (bytes : List ℕ) → AreInputs files inputs → FewRows inputs files → 12 * length i.rows ≤ length bytes → FewRows (inputs ++ i ∷ []) (files ++ bytes ∷ [])
 few_more [] [] i bytes are few less = (less, tt)
 few_more [] (f ∷ files) i bytes are few less = absurd are
 few_more (x ∷ inputs) [] i bytes are few less = absurd are
@@ -182,7 +182,7 @@ fine rows = Ok rows
 ok_same : (x y : List Row) → fine x ≡ fine y → x ≡ y
 ok_same x y e = cc
 
-pub all_few : (file : ℕ) (files : List (List ℕ)) (inputs : List Input) → AreInputs files inputs → FewRows inputs files → length (objects_from file inputs) + length (offers_from file inputs) ≤ total_size files
+pub all_few : (file : ℕ) (files : List (List ℕ)) (inputs : List Input) → AreInputs files inputs → FewRows inputs files → 10 * (length (objects_from file inputs) + length (offers_from file inputs)) ≤ total_size files
 all_few file [] [] are few = omega arith
 all_few file [] (i ∷ inputs) are few = absurd are
 all_few file (f ∷ files) [] are few = absurd are
@@ -191,7 +191,7 @@ all_few file (f ∷ files) (i ∷ inputs) are few =
     let own = settle (is_library i.segments) refl in
     omega (arith, rest, own, length-append (if is_library i.segments then [] else members_from file 1 i.segments) (objects_from (file + 1) inputs), length-append (filter_map (offer_of file i.segments) i.rows) (offers_from (file + 1) inputs))
   where
-    settle : (b : Bool) → is_library i.segments ≡ b → length (if is_library i.segments then [] else members_from file 1 i.segments) + length (filter_map (offer_of file i.segments) i.rows) ≤ length f
+    settle : (b : Bool) → is_library i.segments ≡ b → 10 * (length (if is_library i.segments then [] else members_from file 1 i.segments) + length (filter_map (offer_of file i.segments) i.rows)) ≤ length f
     settle true e =
         let none : length (if is_library i.segments then [] else members_from file 1 i.segments) ≡ 0 = ap (λ (b : Bool). length (if b then [] else members_from file 1 i.segments)) e in
         omega (arith, none, offers-length file i.segments i.rows, few.0)
@@ -201,6 +201,6 @@ all_few file (f ∷ files) (i ∷ inputs) are few =
         let none : length (filter_map (offer_of file i.segments) i.rows) ≡ 0 = ap (λ (r : List Row). length (filter_map (offer_of file i.segments) r)) rows in
         omega (arith, all, none, segments_fit i.segments 0 f (length f) are.0.is_file)
 
-pub all_fit : (files : List (List ℕ)) (inputs : List Input) → AreInputs files inputs → FewRows inputs files → length (objects inputs) + length (offers inputs) ≤ total_size files
+pub all_fit : (files : List (List ℕ)) (inputs : List Input) → AreInputs files inputs → FewRows inputs files → 10 * (length (objects inputs) + length (offers inputs)) ≤ total_size files
 unfolding objects offers
 all_fit files inputs are few = all_few 1 files inputs are few

@@ -1,5 +1,5 @@
 -- The steps of resolving, put together.
-use Rattle.std.proofs.Common.{◌≡◌, ◌⊎◌, inl, inr, ℕ, suc, ◌+◌, ◌≤◌, ◌<◌, ◌^◌, List, [], ◌∷◌, ◌++◌, length, get_or, map, take, drop, Option, Some, None, refl, sym, ap, subst, ◌∙◌, arith}
+use Rattle.std.proofs.Common.{◌≡◌, ◌⊎◌, inl, inr, ℕ, suc, ◌+◌, ◌*◌, ◌≤◌, ◌<◌, ◌^◌, List, [], ◌∷◌, ◌++◌, length, get_or, map, take, drop, Option, Some, None, refl, sym, ap, subst, ◌∙◌, arith}
 use Rattle.std.specs.Prelude.{slice_get, option_map, Vec}
 use Rattle.std.specs.Global.{Global}
 use Rattle.std.proofs.lemmas.List.{length-map, length-append, length-take-le, take-append-drop}
@@ -21,7 +21,7 @@ use Rattle.link_resolve.specs.Gathered.{IsGathered, AllAmong}
 use Rattle.link_resolve.specs.Programs.{IsKept}
 use Rattle.link_resolve.specs.Grown.{MayGrow, HasGrown}
 use Rattle.link_resolve.specs.Laid.{layout_checks, Laid, AllShort, AreHeaders}
-use Rattle.link_resolve.specs.Resolved.{all_bytes, total_size, FewRows, HasGathered, IsReadingFault, IsUseFault, IsRefused}
+use Rattle.link_resolve.specs.Resolved.{all_bytes, total_size, AreFew, FewRows, HasGathered, IsReadingFault, IsUseFault, IsRefused}
 use Rattle.link_resolve.proofs.Lists.{drop_at, empty}
 use Rattle.link_resolve.proofs.LinkedLaws.{count_is}
 use Rattle.link_resolve.proofs.LibraryLaws.{take_more, take_all}
@@ -32,7 +32,7 @@ use Rattle.link_resolve.proofs.PhaseLaws.{HasFault, none_read, inputs_more, at_r
 
 -- ---- reading
 
-total-take : (files : List (List ℕ)) (k : ℕ) (file : List ℕ) → slice_get files k ≡ Some file → total_size (take k files) + length file ≤ total_size files
+pub total-take : (files : List (List ℕ)) (k : ℕ) (file : List ℕ) → slice_get files k ≡ Some file → total_size (take k files) + length file ≤ total_size files
 total-take files k file at = omega (arith, total-append (take k files) (drop k files), ap total_size (take-append-drop k files), ap total_size (drop_at files k file at))
   where
     total-append : (xs ys : List (List ℕ)) → total_size (xs ++ ys) ≡ total_size xs + total_size ys
@@ -46,15 +46,15 @@ inputs_count (f ∷ files) [] are = absurd are
 inputs_count (f ∷ files) (i ∷ inputs) are = ap suc (inputs_count files inputs are.1)
 
 -- there is room for the next file
-pub room_for : (files : List (List ℕ)) (k : ℕ) (file : List ℕ) (kept : gathered.Gathered) → HasGathered (take k files) kept → slice_get files k ≡ Some file → total_size files + length files + 1 < 2 ^ 32
-    → (length file + length kept.linked.members.items + 1 < 2 ^ 32) × (length kept.files.items + 1 < 2 ^ 32)
+pub room_for : (files : List (List ℕ)) (k : ℕ) (file : List ℕ) (kept : gathered.Gathered) → HasGathered (take k files) kept → slice_get files k ≡ Some file → AreFew files
+    → (length file + length kept.linked.members.items < 2 ^ 32) × (length kept.files.items + 1 < 2 ^ 32)
 room_for files k file kept h at few =
     let fit = all_fit (take k files) h.0 h.1 h.2 in
     let count = count_is (objects h.0) kept.linked h.3.objects' in
     let within = slice_get_within files k file at in
     let inputs = inputs_count (take k files) h.0 h.1 in
     let size = length-take-le k files (omega (arith, within)) in
-    (omega (arith, fit, count, total-take files k file at, few), omega (arith, ap length h.3.files, length-map h.0 (λ (i : Input). i.segments), inputs, size, within, few))
+    (omega (arith, fit, count, total-take files k file at, few.1), omega (arith, ap length h.3.files, length-map h.0 (λ (i : Input). i.segments), inputs, size, within, few.0))
 
 pub file_number : (files : List (List ℕ)) (k : ℕ) (file : List ℕ) (kept : gathered.Gathered) → HasGathered (take k files) kept → slice_get files k ≡ Some file → length kept.files.items ≡ length (take k files)
 file_number files k file kept h at = ap length h.3.files ∙ length-map h.0 (λ (i : Input). i.segments) ∙ inputs_count (take k files) h.0 h.1
@@ -63,7 +63,7 @@ pub gathered_none : (kept : gathered.Gathered) → IsGathered [] kept → HasGat
 gathered_none kept g = ([], tt, tt, g)
 
 pub gathered_next : (files : List (List ℕ)) (k : ℕ) (file : List ℕ) (old new : gathered.Gathered) (h : HasGathered (take k files) old) → slice_get files k ≡ Some file
-    → ((input : Input) × IsInput file input × (length input.rows ≤ length file) × IsGathered (h.0 ++ input ∷ []) new) → HasGathered (take (k + 1) files) new
+    → ((input : Input) × IsInput file input × (12 * length input.rows ≤ length file) × IsGathered (h.0 ++ input ∷ []) new) → HasGathered (take (k + 1) files) new
 gathered_next files k file old new h at more =
     subst (λ (l : List (List ℕ)). HasGathered l new) (sym (take_more files k file at))
     (h.0 ++ more.0 ∷ [], inputs_more (take k files) h.0 file more.0 h.1 more.1, few_more h.0 (take k files) more.0 file h.1 h.2 more.2, more.3)
@@ -82,21 +82,21 @@ refused_file files k file kept fault h at (inr has) = inr (record {
 
 -- ---- the list
 
-pub may_grow : (files : List (List ℕ)) (kept : gathered.Gathered) (h : HasGathered files kept) → total_size files + length files + 1 < 2 ^ 32 → MayGrow h.0 kept.files.items kept.offers kept.linked
+pub may_grow : (files : List (List ℕ)) (kept : gathered.Gathered) (h : HasGathered files kept) → AreFew files → MayGrow h.0 kept.files.items kept.offers kept.linked
 may_grow files kept h few =
     let g = h.3 in
     record {
       objects' = g.objects';
       offers' = g.offers';
-      few = omega (arith, all_fit files h.0 h.1 h.2, few);
+      few = omega (arith, all_fit files h.0 h.1 h.2, few.1);
       defined = offers_sound kept.files.items h.0 g.files g.sound;
       among = offers_among kept.files.items h.0 g.files g.sound;
       there = objects_among kept.files.items h.0 g.files;
       sound = files_sound kept.files.items h.0 g.files g.sound;
     }
 
-pub few_members : (files : List (List ℕ)) (kept : gathered.Gathered) (h : HasGathered files kept) → total_size files + length files + 1 < 2 ^ 32 → length kept.linked.members.items < 2 ^ 32
-few_members files kept h few = omega (arith, count_is (objects h.0) kept.linked h.3.objects', all_fit files h.0 h.1 h.2, few)
+pub few_members : (files : List (List ℕ)) (kept : gathered.Gathered) (h : HasGathered files kept) → AreFew files → length kept.linked.members.items < 2 ^ 32
+few_members files kept h few = omega (arith, count_is (objects h.0) kept.linked h.3.objects', all_fit files h.0 h.1 h.2, few.1)
 
 no_objects : (files : List (List ℕ)) (kept : gathered.Gathered) (h : HasGathered files kept) → length kept.linked.members.items ≡ 0 → objects h.0 ≡ []
 no_objects files kept h none = empty (objects h.0) (omega (arith, count_is (objects h.0) kept.linked h.3.objects', none))

@@ -1,5 +1,5 @@
 -- What resolving answers.
-use Rattle.std.specs.Prelude.{◌≡◌, ◌⊎◌, ◌<◌, ◌≤◌, ◌^◌, ℕ, zero, suc, ◌+◌, List, [], ◌∷◌, length, map, Option, Some, None, slice_get, option_map, Vec}
+use Rattle.std.specs.Prelude.{◌≡◌, ◌⊎◌, ◌<◌, ◌≤◌, ◌^◌, ℕ, zero, suc, ◌+◌, ◌*◌, List, [], ◌∷◌, length, map, Option, Some, None, slice_get, option_map, Vec}
 use Rattle.std.specs.Global.{Global}
 use Rattle.omf_format.specs.File.{Segment}
 use Rattle.omf_format.specs.Header.{Fields}
@@ -23,15 +23,15 @@ abbrev pub total_size : List (List ℕ) → ℕ
 total_size [] = 0
 total_size (file ∷ files) = length file + total_size files
 
--- the files are few and short, as 255 files of 16,777,216 bytes are
+-- there are fewer than 2^32 files, and they have fewer than 2^32 bytes together
 abbrev pub AreFew : List (List ℕ) → Type 0
-AreFew files = total_size files + length files + 1 < 2 ^ 32
+AreFew files = (length files < 2 ^ 32) × (total_size files < 2 ^ 32)
 
--- each library has no more rows than bytes
+-- each library has fewer rows than bytes: each row takes twelve
 abbrev pub FewRows : List Input → List (List ℕ) → Type 0
 FewRows [] files = Unit {0}
 FewRows (i ∷ inputs) [] = Unit {0}
-FewRows (i ∷ inputs) (bytes ∷ files) = (length i.rows ≤ length bytes) × FewRows inputs files
+FewRows (i ∷ inputs) (bytes ∷ files) = (12 * length i.rows ≤ length bytes) × FewRows inputs files
 
 -- all files were read, and these are the inputs
 abbrev pub HasGathered : List (List ℕ) → gathered.Gathered → Type 0

@@ -1,6 +1,6 @@
 //! What is gathered of all inputs: their segments, the segments of the object files as members, and the rows of the libraries.
 
-ghost use Rattle.std.specs.Prelude.{◌≡◌, ◌+◌, ◌<◌, ◌≤◌, ◌^◌, ◌++◌, ◌∷◌, [], List, ℕ, Bool, true, None, length, option_map, IfSome, IfOk, IfErr, OnOk};
+ghost use Rattle.std.specs.Prelude.{◌≡◌, ◌+◌, ◌*◌, ◌<◌, ◌≤◌, ◌^◌, ◌++◌, ◌∷◌, [], List, ℕ, Bool, true, None, length, option_map, IfSome, IfOk, IfErr, OnOk};
 ghost use Rattle.omf_format.specs.Header.{form_of};
 ghost use Rattle.omf_format.specs.File.{IsFile};
 ghost use Rattle.omf_records.specs.Segments.{IsSound, shown};
@@ -109,7 +109,7 @@ fn dictionary_of<'a>(
     requires sound { segments_fault 1 list.now ≡ None }
     requires library { is_library list.now ≡ true }
     ensures rows { IfOk result (λ dictionary. AreRows list.now dictionary) }
-    ensures few { IfOk result (λ dictionary. length dictionary ≤ length bytes.now) }
+    ensures few { IfOk result (λ dictionary. 12 * length dictionary ≤ length bytes.now) }
     ensures refused { IfErr result (λ fault. IsFileRefused file bytes.now fault) }
 {
     rows_are_laid_out();
@@ -147,7 +147,7 @@ impl<'a> Gathered<'a> {
         requires is_file { IsFile list.now bytes.now }
         requires sound { segments_fault 1 list.now ≡ None }
         ensures files { self.new.files ≡ self.old.files }
-        ensures added { OnOk result ((input : Input) × IsInput bytes.now input × (input.segments ≡ list.now) × IsSoundInput input × (length input.rows ≤ length bytes.now) × AddsInput file input self.old self.new) }
+        ensures added { OnOk result ((input : Input) × IsInput bytes.now input × (input.segments ≡ list.now) × IsSoundInput input × (12 * length input.rows ≤ length bytes.now) × AddsInput file input self.old self.new) }
         ensures refused { IfErr result (λ fault. IsFileRefused file bytes.now fault) }
     {
         if !is_library(list) {
@@ -165,10 +165,10 @@ impl<'a> Gathered<'a> {
 
     /// Reads the next file.
     pub fn add(&mut self, alloc: Global, bytes: &'a [u8]) -> Result<(), LinkFault>
-        requires short { length bytes.now + length self.old.linked.members.items + 1 < 2 ^ 32 }
+        requires short { length bytes.now + length self.old.linked.members.items < 2 ^ 32 }
         requires few { length self.old.files.items + 1 < 2 ^ 32 }
         ensures added { OnOk result ((inputs : List Input) → IsGathered inputs self.old
-            → (input : Input) × IsInput bytes.now input × (length input.rows ≤ length bytes.now) × IsGathered (inputs ++ input ∷ []) self.new) }
+            → (input : Input) × IsInput bytes.now input × (12 * length input.rows ≤ length bytes.now) × IsGathered (inputs ++ input ∷ []) self.new) }
         ensures refused { IfErr result (λ fault. IsFileRefused (length self.old.files.items + 1) bytes.now fault) }
     {
         let file = self.files.as_slice().len() as u32 + 1;

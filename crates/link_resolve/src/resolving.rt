@@ -1,6 +1,6 @@
 //! Resolving: from files to the linked list with its load segments, or the first fault.
 
-ghost use Rattle.std.specs.Prelude.{◌≡◌, ◌+◌, ◌-◌, ◌<◌, ◌≤◌, ◌^◌, ◌++◌, ◌∷◌, [], List, ℕ, None, Some, slice_get, length, IfSome, IfOk, IfErr, OnOk, OnErr};
+ghost use Rattle.std.specs.Prelude.{◌≡◌, false, ◌+◌, ◌-◌, ◌<◌, ◌≤◌, ◌^◌, ◌++◌, ◌∷◌, [], List, ℕ, None, Some, slice_get, length, IfSome, IfOk, IfErr, OnOk, OnErr};
 ghost use Rattle.std.specs.Bool.{OnTrue};
 ghost use Rattle.omf_format.specs.File.{Segment};
 ghost use Rattle.link_meaning.specs.declared.fault.LinkCause.TheVariants.{Empty};
@@ -25,23 +25,22 @@ use omf_base::{Name, Spot};
 use omf_records::SegmentList;
 use std::alloc::{AllocError, Global};
 
-/// The most bytes that files have together, and more files than any link takes.
-const MOST_BYTES: usize = 0xFFFF_0000;
+/// The most files, and the most bytes that they have together.
+const MOST: usize = 0xFFFF_FFFF;
 
-const MOST_FILES: usize = 0xFFFE;
-
-/// The files may be resolved: 255 files of 16,777,216 bytes each may.
+/// There are fewer than 2^32 files, and they have fewer than 2^32 bytes together, as 255 files of 16,777,216 bytes have.
 pub fn are_few(inputs: &Vec<Vec<u8>>) -> bool
-    ensures { OnTrue result (AreFew (all_bytes inputs.now.items)) }
+    ensures few { OnTrue result (AreFew (all_bytes inputs.now.items)) }
+    ensures many { result ≡ false → ¬ AreFew (all_bytes inputs.now.items) }
 {
-    let mut left = MOST_BYTES;
+    let mut left = MOST;
     'files: for file in inputs {
         if file.len() > left {
             return false;
         }
         left -= file.len();
     }
-    inputs.len() < MOST_FILES
+    inputs.len() <= MOST
 }
 
 /// Reads all files.

@@ -31,9 +31,10 @@ abbrev pub OutputsAreAskedForOnce : Type 0
 OutputsAreAskedForOnce = (output : List ℕ) (inputs : List (List ℕ)) (last : Option Loaded) (o : Outside) → o.store.asked + length inputs ≤ 2 ^ 64 - 1
     → HasRun CannotWrite (Some (Link output inputs)) last o → o.new_store.asked ≡ o.store.asked + length inputs
 
+-- the same for a library
 abbrev pub LibrariesAreAskedForOnce : Type 0
-LibrariesAreAskedForOnce = (output : List ℕ) (inputs : List (List ℕ)) (o : Outside) → o.store.asked + length inputs ≤ 2 ^ 64 - 1
-    → HasRun CannotWrite (Some (Lib output inputs)) o → o.new_store.asked ≡ o.store.asked + length inputs
+LibrariesAreAskedForOnce = (output : List ℕ) (inputs : List (List ℕ)) (last : Option Loaded) (o : Outside) → o.store.asked + length inputs ≤ 2 ^ 64 - 1
+    → HasRun CannotWrite (Some (Lib output inputs)) last o → o.new_store.asked ≡ o.store.asked + length inputs
 
 -- where a script couldn't be read, the store was asked for no more than the script
 abbrev pub ScriptsAreAskedForOnce : Type 0

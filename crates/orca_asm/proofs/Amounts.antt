@@ -1,11 +1,9 @@
 -- What is written of formulas.
-use Rattle.std.proofs.Common.{◌≡◌, ℕ, ◌+◌, ◌^◌, ◌<◌, ◌≤◌, Bool, true, false, cond, eqb, List, [], ◌∷◌, ◌++◌, map, length, Option, Some, None, Result, Ok, Err, refl, sym, ap, subst, ◌∙◌, append_assoc, append-nil, arith}
+use Rattle.std.proofs.Common.{◌≡◌, ℕ, List, [], ◌∷◌, ◌++◌, refl, sym, ap, ◌∙◌, append_assoc, append-nil}
 use Rattle.omf_format.specs.Expression.{Term, Operator, Location, Constant, term_text, terms_text}
-use Rattle.std.specs.Prelude.{◌&&◌}
-use Rattle.std.specs.List.{flat_map, list_all}
 use Rattle.std.proofs.lemmas.List.Concat.{flat_map-cons}
 use Rattle.asm_meaning.specs.Constant.{Constants}
-use Rattle.orca_asm.specs.AmountView.{less_location, written_term, written_terms, all_written, is_number_term, are_numbers}
+use Rattle.orca_asm.specs.AmountView.{less_location, written_term, written_terms, all_written}
 
 -- three terms one behind another
 pub location_put : (old one two three : List ℕ) (back : ℕ) → one ≡ old ++ term_text 0 Location → two ≡ one ++ term_text 0 (Constant back) → three ≡ two ++ term_text 0 (Operator 0x02)

@@ -1,8 +1,7 @@
 -- What the formulas of an operand give.
-use Rattle.std.proofs.Common.{◌≡◌, ◌≢◌, ℕ, ◌≤◌, Bool, true, false, eqb, List, [], ◌∷◌, ◌++◌, map, length, Option, Some, None, Result, Ok, Err, refl, sym, ap, subst, ◌∙◌, arith}
-use Rattle.std.specs.Prelude.{filter, find}
-use Rattle.std.specs.List.{AllByRecursion}
-use Rattle.std.proofs.lemmas.Bool.{eqb-true, eqb-false}
+use Rattle.std.proofs.Common.{◌≡◌, ◌≢◌, ℕ, ◌≤◌, true, eqb, List, [], ◌∷◌, ◌++◌, length, Option, Some, None, Ok, Err, refl, sym, ap, ◌∙◌, arith}
+use Rattle.std.specs.Prelude.{find}
+use Rattle.std.proofs.lemmas.Bool.{eqb-true}
 use Rattle.std.proofs.lemmas.List.{length-append}
 use Rattle.omf_format.specs.Field.{◌>>=◌}
 use Rattle.omf_format.specs.Expression.{Term, Tree, Leaf, Unary, Binary, IsTree, terms_of, depth}
@@ -17,7 +16,7 @@ use Rattle.asm_meaning.specs.declared.faults.AsmCause.TheVariants.{BadMode}
 use Rattle.asm_meaning.specs.Answer.{Answer}
 use Rattle.asm_meaning.specs.Constant as meaning
 use Rattle.asm_meaning.specs.Constant.{Constants, amount}
-use Rattle.asm_meaning.specs.Instruction.{Widths, operand_bytes, with_number, with_amount, without_amount, given_by, in_modes, moved, offered, instruction}
+use Rattle.asm_meaning.specs.Instruction.{Widths, operand_bytes, with_number, with_amount, without_amount, in_modes, moved, offered, instruction}
 use Rattle.asm_meaning.specs.Pieces.{Piece}
 use Rattle.orca_text.specs.declared.operand.Operand.{Operand}
 use Rattle.orca_text.specs.OperandView.{IsWritten, first_terms, second_terms}

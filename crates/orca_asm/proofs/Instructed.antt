@@ -1,8 +1,8 @@
 -- What instructions give.
-use Rattle.std.proofs.Common.{◌≡◌, ℕ, Bool, true, cond, List, [], ◌∷◌, Result, Ok, Err, refl, sym, ap, ◌∙◌}
-use Rattle.omf_format.specs.Expression.{Leaf, Constant, terms_of, terms_text}
+use Rattle.std.proofs.Common.{◌≡◌, ℕ, Bool, true, cond, List, [], ◌∷◌, Ok, Err, sym, ap, ◌∙◌}
+use Rattle.omf_format.specs.Expression.{Leaf, Constant}
 use Rattle.asm_meaning.specs.Constant as meaning
-use Rattle.orca_asm.specs.AmountView.{Kept, Number, Text, kept_of, placed_by}
+use Rattle.orca_asm.specs.AmountView.{Kept, Number, Text, kept_of}
 use Rattle.omf_format.specs.Field.{◌>>=◌}
 use Rattle.asm_meaning.specs.declared.faults.AsmCause.{AsmCause}
 use Rattle.asm_meaning.specs.Answer.{Answer, both, earlier}
@@ -10,7 +10,7 @@ use Rattle.orca_asm.specs.AmountView.{kept_answer}
 use Rattle.orca_meaning.specs.declared.forms.Prefix.{Prefix}
 use Rattle.orca_meaning.specs.declared.mnemonics.Mnemonic.{Mnemonic}
 use Rattle.orca_meaning.specs.declared.modes.Mode.{Mode}
-use Rattle.asm_meaning.specs.Instruction.{Widths, operand_bytes, kind_of, is_distance, with_known, with_tree, with_number, bank_record, banks_written, bank}
+use Rattle.asm_meaning.specs.Instruction.{Widths, operand_bytes, kind_of, is_distance, with_known, with_tree, with_number, bank_record, banks_written}
 use Rattle.asm_meaning.specs.Pieces.{Piece, Bytes, Whole}
 
 -- a branch with a constant

@@ -1,6 +1,6 @@
 -- Formulas one behind another, with commas between them.
-use Rattle.std.proofs.Common.{◌≡◌, ◌≢◌, ℕ, ◌+◌, ◌<◌, ◌≤◌, Bool, true, false, eqb, List, [], ◌∷◌, ◌++◌, length, refl, sym, ap, subst, ◌∙◌, append-nil, append_assoc, arith}
-use Rattle.omf_format.specs.Expression.{Term, Tree, terms_of}
+use Rattle.std.proofs.Common.{◌≡◌, ◌≢◌, ℕ, ◌<◌, ◌≤◌, false, eqb, List, [], ◌∷◌, ◌++◌, length, sym, subst, append_assoc, arith}
+use Rattle.omf_format.specs.Expression.{Tree, terms_of}
 use Rattle.orca_meaning.specs.declared.operators.Operands.TheVariants.{Labels}
 use Rattle.orca_meaning.specs.Formula.{MeansAt, has_large}
 use Rattle.orca_meaning.specs.FormulaLaws.{one_tree}

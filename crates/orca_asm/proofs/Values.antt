@@ -1,21 +1,19 @@
 -- The value of a formula whose names are known.
-use Rattle.std.proofs.Common.{◌≡◌, ℕ, ◌+◌, ◌^◌, ◌<◌, ◌≤◌, Bool, true, false, cond, eqb, List, [], ◌∷◌, ◌++◌, map, length, Option, Some, None, Result, Ok, Err, refl, sym, ap, subst, ◌∙◌, append_assoc, append-nil, arith}
+use Rattle.std.proofs.Common.{◌≡◌, ℕ, ◌+◌, Bool, true, false, cond, eqb, List, [], ◌∷◌, ◌++◌, Option, Some, None, Result, Ok, Err, refl, sym, ap, subst, ◌∙◌, append-nil}
 use Rattle.std.specs.Prelude.{◌&&◌}
-use Rattle.std.specs.List.{list_all, flat_map}
 use Rattle.std.proofs.lemmas.Bool.{and_parts}
 use Rattle.std.proofs.lemmas.List.Folds.{list_all-append}
 use Rattle.std.proofs.lemmas.List.Concat.{flat_map-cons, flat_map-append}
 use Rattle.omf_format.specs.declared.expression.ExprFault.{ExprFault}
 use Rattle.omf_format.specs.declared.value.Value.{Value}
-use Rattle.omf_format.specs.declared.value.Value.TheVariants.{Fixed, At}
+use Rattle.omf_format.specs.declared.value.Value.TheVariants.{Fixed}
 use Rattle.omf_format.specs.declared.value.ValueFault.{ValueFault}
-use Rattle.omf_format.specs.declared.value.ValueFault.TheVariants.{DivideByZero, NotRelocatable, Unknown}
-use Rattle.omf_format.specs.Expression.{Term, Operator, Location, Constant, Named, Offset, Tree, Leaf, Unary, Binary, IsTree, terms_of, terms_text, Spells, Expression, BeginsWith}
+use Rattle.omf_format.specs.declared.value.ValueFault.TheVariants.{DivideByZero}
+use Rattle.omf_format.specs.Expression.{Term, Operator, Location, Constant, Named, Offset, Tree, Leaf, Unary, Binary, IsTree, terms_of, Spells, Expression, BeginsWith}
 use Rattle.omf_format.specs.Field.{◌>>=◌}
-use Rattle.omf_format.specs.Value.{Environment, value, size_of, operand_value, apply_one, apply_two, number_of_one, number_of_two, divides}
-use Rattle.orca_meaning.specs.Formula.{placed}
-use Rattle.asm_meaning.specs.Constant.{Constants, Worth, Number, Open, Divided, number_or_open, number_or, term_with_values, with_values, worth, worth_of_one, worth_of_two}
-use Rattle.orca_asm.specs.AmountView.{written_term, written_terms, less_location, all_written, is_number_term, are_numbers, worth_of_value, nowhere, placed_by}
+use Rattle.omf_format.specs.Value.{value, size_of, operand_value, apply_one, apply_two, number_of_one, number_of_two, divides}
+use Rattle.asm_meaning.specs.Constant.{Constants, Worth, Number, Open, Divided, number_or_open, number_or, with_values, worth, worth_of_one, worth_of_two}
+use Rattle.orca_asm.specs.AmountView.{written_term, written_terms, all_written, is_number_term, are_numbers, worth_of_value, nowhere}
 
 -- ---- through bytes
 

@@ -1,24 +1,17 @@
 -- What is written for a formula is its expression.
-use Rattle.std.proofs.Common.{◌≡◌, ℕ, ◌+◌, ◌^◌, ◌<◌, ◌≤◌, Bool, true, false, cond, eqb, List, [], ◌∷◌, ◌++◌, map, length, Option, Some, None, Result, Ok, Err, refl, sym, ap, subst, ◌∙◌, append_assoc, append-nil, arith}
-use Rattle.std.specs.Prelude.{◌&&◌}
-use Rattle.std.specs.List.{list_all, flat_map}
+use Rattle.std.proofs.Common.{◌≡◌, ℕ, ◌≤◌, Bool, true, false, cond, eqb, List, [], ◌∷◌, ◌++◌, Option, Some, None, Ok, Err, refl, sym, ap, subst, ◌∙◌}
 use Rattle.std.proofs.lemmas.Bool.{and_parts}
 use Rattle.std.proofs.lemmas.List.{map-append}
-use Rattle.std.proofs.lemmas.List.Folds.{list_all-append}
-use Rattle.std.specs.Global.{Vec}
 use Rattle.omf_format.specs.Expression.{Term, Operator, Location, Constant, Named, Offset, Tree, Leaf, Unary, Binary, IsTree, IsTerm, AreTerms, terms_of, terms_text, depth, Spells}
 use Rattle.omf_format.specs.Value.{value}
-use Rattle.orca_meaning.specs.Formula.{placed, pending}
+use Rattle.orca_meaning.specs.Formula.{placed}
 use Rattle.orca_meaning.specs.FormulaLaws.{pending-one}
-use Rattle.asm_meaning.specs.declared.faults.AsmCause.{AsmCause}
 use Rattle.asm_meaning.specs.declared.faults.AsmCause.TheVariants.{DivideByZero}
 use Rattle.asm_meaning.specs.Answer.{Answer}
 use Rattle.asm_meaning.specs.AmountLaws.{pending-with_values}
 use Rattle.asm_meaning.specs.Constant as meaning
 use Rattle.asm_meaning.specs.Constant.{Constants, number_or, with_values, worth, amount, amount_by}
-use Rattle.orca_asm.specs.declared.amount.Amount.{Amount}
-use Rattle.orca_asm.specs.declared.amount.Amount.TheVariants as amounts
-use Rattle.orca_asm.specs.AmountView.{written_term, written_terms, with_terms, less_location, all_written, is_number_term, are_numbers, worth_of_value, nowhere, placed_by, IsFormulaOf, Kept, Number, Text, kept_of, kept_answer, kept_view, amount_view}
+use Rattle.orca_asm.specs.AmountView.{written_term, written_terms, with_terms, all_written, is_number_term, are_numbers, worth_of_value, nowhere, placed_by, IsFormulaOf, Kept, Number, Text, kept_answer}
 use Rattle.orca_asm.proofs.Values.{numbers_append, written_append, one_written, worth_is_value, worth_is_open}
 
 -- ---- the terms

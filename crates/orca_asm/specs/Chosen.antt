@@ -1,5 +1,5 @@
 -- What an instruction with one formula gives, where the modes that it is offered are known with the first of them.
-use Rattle.std.specs.Prelude.{ℕ, ◌<◌, ◌≤◌, List, [], ◌∷◌, find, Result, Ok, Err}
+use Rattle.std.specs.Prelude.{◌<◌, ◌≤◌, List, [], ◌∷◌, find, Ok}
 use Rattle.std.specs.List.{AllByRecursion}
 use Rattle.omf_format.specs.Expression.{Tree, IsTree, depth}
 use Rattle.omf_format.specs.Field.{◌>>=◌}

@@ -1,5 +1,5 @@
 -- How names and constants are seen.
-use Rattle.std.specs.Prelude.{ℕ, List, Option, Some, None, option_copied}
+use Rattle.std.specs.Prelude.{Option, Some, None, option_copied}
 use Rattle.std.specs.Option.{option_or}
 use Rattle.asm_meaning.specs.Constant as meaning
 use Rattle.asm_meaning.specs.State as state

@@ -4,7 +4,6 @@ use Rattle.orca_meaning.specs.Characters.{is_name, folded}
 use Rattle.asm_meaning.specs.declared.directives.Operation.{Operation}
 use Rattle.asm_meaning.specs.declared.faults.AsmCause.TheVariants.{BadLabel}
 use Rattle.asm_meaning.specs.Statement.{needs_label}
-use Rattle.omf_base.specs.declared.name.Name.{Name}
 use Rattle.asm_meaning.specs.declared.faults.AsmCause.{AsmCause}
 use Rattle.asm_meaning.specs.Answer.{Answer}
 

@@ -1,5 +1,5 @@
 -- A part of the table of directives.
-use Rattle.std.specs.Prelude.{ℕ, List, [], ◌∷◌, ◌++◌, codes, map}
+use Rattle.std.specs.Prelude.{ℕ, List, ◌∷◌, codes, map}
 use Rattle.asm_meaning.specs.declared.directives.Switch.TheVariants.{LongA, LongI, Msb}
 use Rattle.asm_meaning.specs.declared.directives.Directive.{Directive}
 use Rattle.asm_meaning.specs.declared.directives.Directive.TheVariants.{Constants, Space, Align, Org, Kind, Turn, Nothing}

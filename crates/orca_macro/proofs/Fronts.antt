@@ -1,5 +1,7 @@
 -- What stands before a text that may be none.
 use Rattle.std.proofs.Common.{◌≡◌, ℕ, zero, suc, ◌+◌, List, [], ◌∷◌, ◌++◌, Option, Some, None, refl, sym, ap, ◌∙◌, length, arith, append_assoc, append-nil}
+use Rattle.std.specs.Char.{to_ascii_uppercase}
+use Rattle.orca_meaning.specs.Characters.{folded}
 use Rattle.macro_meaning.specs.Substitution.{Naming, with_front, in_place, substituted}
 
 pub front_more : (a b : List ℕ) (rest : Option (List ℕ)) → with_front (a ++ b) rest ≡ with_front a (with_front b rest)
@@ -41,3 +43,12 @@ unfolding substituted
 put_none text_of naming at byte behind old whole ampersand none so =
     let front : substituted text_of naming at 0 (0x26 ∷ behind) ≡ None = rw none refl in
     sym so ∙ ap (λ (b : ℕ). with_front old (substituted text_of naming at 0 (b ∷ behind))) ampersand ∙ ap (with_front old) front
+
+-- one more byte of a name in upper case
+pub folded_next : (byte : ℕ) (behind left name : List ℕ) → left ≡ byte ∷ behind → to_ascii_uppercase byte ≡ byte → (folded left ≡ left → folded name ≡ name) → folded behind ≡ behind → folded name ≡ name
+folded_next byte behind left name is upper so more =
+    so (ap folded is ∙ ap (λ (b : ℕ). b ∷ folded behind) upper ∙ ap (λ (l : List ℕ). byte ∷ l) more ∙ sym is)
+
+pub folded_end : (left name : List ℕ) → length left ≡ 0 → (folded left ≡ left → folded name ≡ name) → folded name ≡ name
+folded_end [] name none so = so refl
+folded_end (byte ∷ left) name none so = absurd (omega (arith, none))

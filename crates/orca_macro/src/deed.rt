@@ -1,9 +1,10 @@
 //! What a visited line does (ORCA/M reference manual, "Conditional assembly directives").
 
-ghost use Rattle.std.specs.Prelude.{◌≡◌, ◌≤◌, ◌<◌, [], List, ℕ, ℤ, length, take, drop, pos, int_le, codes, slice_get, Some, None, Ok, Err, IfOk, IfErr, IfSome, OnOk, MatchOption};
+ghost use Rattle.std.specs.Prelude.{◌≡◌, ◌==◌, ◌≤◌, ◌<◌, [], List, ℕ, ℤ, length, take, drop, pos, int_le, codes, slice_get, Some, None, Ok, Err, IfOk, IfErr, IfSome, OnOk, MatchOption};
 ghost use Rattle.omf_format.specs.Value.{signed};
 ghost use Rattle.macro_meaning.specs.Deed.{earlier, both, or_bad, first_time, declaring, settable, setting, printed, printed_answer, middle_from, middle_of, go_if, going, going_to, counting, noted, noting, IsBranchIf, IsMiddle, IsNote, IsSetting, IsDone, resting, calling, calling_at, begins_definition, IsDeed, IsStatement, IsDoneBy, cut};
 ghost use Rattle.macro_meaning.specs.Statements.{symbol_name, target_name};
+ghost use Rattle.macro_meaning.specs.Substitution.{first_passes};
 ghost use Rattle.macro_meaning.specs.Pieces.{pieces, quoted, joined};
 ghost use Rattle.orca_macro.specs.View.{values, symbols_of, texts_of};
 ghost use Rattle.orca_macro.specs.DeedView.{deed, where_};
@@ -555,13 +556,26 @@ fn statement(alloc: Global, at: Standing<'_>, text: &[u8]) -> Result<Deed, Alloc
     }
 }
 
+/// Whether a dot stands at the front.
+fn begins_dot(text: &[u8]) -> bool
+    ensures { result ≡ first_passes (λ byte. byte == 0x2E) text.now }
+{
+    match text.split_first() {
+        Some((byte, _)) => *byte == b'.',
+        None => false,
+    }
+}
+
 /// The line behind a sequence symbol in column 1.
-#[tactic(auto, unfolding(macro_meaning::specs::Deed::cut))]
+#[tactic(auto, unfolding(macro_meaning::specs::Deed::cut), using(crate::proofs::Both::cut_none))]
 fn cut(alloc: Global, text: &[u8]) -> Result<&[u8], AllocError>
     requires { length text.now ≤ 255 }
     ensures value { IfOk result (λ rest. rest.now ≡ cut text.now) }
     ensures bound { IfOk result (λ rest. length rest.now ≤ length text.now) }
 {
+    if !begins_dot(text) {
+        return Ok(text);
+    }
     let label = part(text, three_fields(text).label);
     match sequence_name(alloc, label)? {
         Some(_) => {

@@ -1,9 +1,10 @@
 //! Symbols in a line, and the texts that come in their place (ORCA/M reference manual, "Symbolic parameters").
 
-ghost use Rattle.std.specs.Prelude.{◌≡◌, ◌≤◌, ◌+◌, ◌<◌, ◌-◌, List, ℕ, length, take, drop, Some, None, IfOk, OnOk, MatchOption};
+ghost use Rattle.std.specs.Prelude.{◌≡◌, ◌≤◌, ◌+◌, ◌<◌, ◌-◌, List, ℕ, length, take, drop, Some, None, IfOk, OnOk, MatchOption, IsTrue};
 ghost use Rattle.std.specs.Char.{to_ascii_uppercase};
 ghost use Rattle.orca_meaning.specs.Characters.{is_letter, is_name_start};
-ghost use Rattle.orca_meaning.specs.Line.{LiesIn, HaveFields};
+ghost use Rattle.orca_meaning.specs.Line.{LiesIn, HaveFields, part};
+ghost use Rattle.macro_meaning.specs.Statements.{statement_of};
 ghost use Rattle.orca_meaning.specs.Quotes.{is_closed, quote_after};
 ghost use Rattle.macro_meaning.specs.Substitution.{lies_in, asks_before, is_asked, may_ask, sets_label, declares, naming_by, naming_at, name_length, taken_length, first_passes, in_place, substituted, with_front};
 ghost use Rattle.macro_meaning.specs.Symbol.{text_of};
@@ -182,6 +183,21 @@ fn taken_length(behind: &[u8]) -> usize
     length
 }
 
+/// Whether a name is in upper case, as symbols are kept.
+#[tactic(auto, using(crate::proofs::Fronts::folded_next))]
+fn is_folded(name: &[u8]) -> bool
+    ensures { IsTrue result → Rattle.orca_meaning.specs.Characters.folded name.now ≡ name.now }
+{
+    let mut left = name;
+    'bytes: while let Some((byte, behind)) = left.split_first() {
+        if byte.to_ascii_uppercase() != *byte {
+            return false;
+        }
+        left = behind;
+    }
+    true
+}
+
 /// The text of the symbol whose name stands at the front.
 fn named_text<'a>(
     alloc: Global,
@@ -193,6 +209,9 @@ fn named_text<'a>(
         (λ t. text_of (values of.entry) (Rattle.orca_meaning.specs.Characters.folded (take (name_length behind.now) behind.now)) ≡ Some t.now)) }
 {
     let (bytes, _) = behind.split_at(name_len(behind));
+    if is_folded(bytes) {
+        return Ok(text_of(of, bytes));
+    }
     let name = folded(alloc, bytes)?;
     Ok(text_of(of, name.bytes()))
 }
@@ -231,13 +250,14 @@ pub(crate) fn in_place<'a>(
     }
 }
 
-/// What `&NAME` is at a place of a line.
+/// What `&NAME` is at a place of a line, whose statement is this.
 #[tactic(auto, unfolding(macro_meaning::specs::Substitution::naming_at))]
-pub(crate) fn naming_at(of: &SourceLine, at: u32) -> Naming
-    requires { HaveFields of.now.text (line of.now).fields }
+pub(crate) fn naming_at(of: &SourceLine, statement: Option<Statement>, at: u32) -> Naming
+    requires fields { HaveFields of.now.text (line of.now).fields }
+    requires known { statement ≡ statement_of (part of.now.text (line of.now).fields.operation) }
     ensures { naming result ≡ naming_at of.now.text (line of.now).fields at }
 {
-    naming_by(statement_of(of.part(of.operation)), of, at)
+    naming_by(statement, of, at)
 }
 
 /// The text of a line with the symbols' texts in place; none where a symbol isn't declared.
@@ -252,6 +272,7 @@ pub(crate) fn shown(
         (substituted (text_of (values of.entry)) (naming_at source.now.text (line source.now).fields) 0 0 source.now.text ≡ None)
         (λ v. substituted (text_of (values of.entry)) (naming_at source.now.text (line source.now).fields) 0 0 source.now.text ≡ Some v.items)) }
 {
+    let statement = statement_of(source.part(source.operation));
     let mut out = Vec::with_capacity(alloc, source.text.bytes().len())?;
     let mut at: u32 = 0;
     let mut taken: usize = 0;
@@ -260,7 +281,7 @@ pub(crate) fn shown(
         if taken > 0 {
             taken -= 1;
         } else if *byte == b'&' {
-            match in_place(alloc, of, naming_at(source, at), behind)? {
+            match in_place(alloc, of, naming_at(source, statement, at), behind)? {
                 Some((text, more)) => {
                     out.extend_from_slice(text)?;
                     taken = more;

@@ -59,6 +59,14 @@ fn fault_of(
     }
 }
 
+/// The fault of a source with macro files, if it has one.
+fn fault_with(alloc: Global, macros: &Vec<Vec<u8>>, source: &str) -> Option<MacroFault> {
+    match expand(alloc, source.as_bytes(), macros) {
+        Ok(_) => None,
+        Err(fault) => Some(fault),
+    }
+}
+
 fn fault(cause: MacroCause, file: u32, line: u32) -> Option<MacroFault> {
     Some(MacroFault { cause, file, line })
 }
@@ -367,7 +375,9 @@ fn faults_come_in_order(rt: HostRuntime) -> Result<(), Fail> {
     let open = " MACRO\n";
     let long_source = fault_of(alloc, &[open], long.as_str())?;
     assert_eq!(rt; long_source, fault(MacroCause::LineTooLong, 0, 1));
-    let long_macros = fault_of(alloc, &[open, long.as_str()], long.as_str())?;
+    let mut macros = files(alloc, &[open])?;
+    macros.push(Vec::from_slice(alloc, long.as_bytes())?)?;
+    let long_macros = fault_with(alloc, &macros, long.as_str());
     assert_eq!(rt; long_macros, fault(MacroCause::LineTooLong, 2, 1));
     let opened = fault_of(alloc, &["", open], " AGO .X\n MACRO\n")?;
     assert_eq!(rt; opened, fault(MacroCause::Unclosed, 2, 1));

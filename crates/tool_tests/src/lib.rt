@@ -8,6 +8,8 @@ mod every_record;
 #[cfg(test)]
 mod headers;
 #[cfg(test)]
+mod libraries;
+#[cfg(test)]
 mod linking;
 #[cfg(test)]
 mod loading;

@@ -162,6 +162,10 @@ fn other_words_print_the_usage(rt: HostRuntime) -> Result<(), Fail> {
         "run s s",
         "Run s",
         "link  obj",
+        "lib",
+        "lib out",
+        "Lib out obj",
+        "lib out  obj",
         "--help",
     ];
     for form in forms {

@@ -403,20 +403,22 @@ fn blocks_are_refused(rt: HostRuntime) -> Result<(), Fail> {
             b"ok\nhandle 000000 at 020000\nok\nrefused NoRoom 0000\nok\nok\nhandle 000100 at 020000\nrefused Empty\nrefused Empty\nrefused Empty\nempty\nok\nrefused Stale\n"
         )?
     );
+    Ok(())
+}
 
-    // 4,096 slots, and none left for the program either.
+// 4,096 slots, and none left for the program either.
+#[test]
+fn slots_run_out(rt: HostRuntime) -> Result<(), Fail> {
+    let alloc = rt.alloc();
+    let program = one(alloc, code(1, 1), &[0xF1, 1, 0, 0, 0, 0])?;
     let mut script = b"banks 02\n".to_vec(alloc)?;
     for _ in 0..4096 {
         script.extend_from_slice(b"alloc 1 0 0\n")?;
     }
-    let run = run_script(alloc, &script, b"", &[], &[])?;
-    assert!(rt; run.out.bytes().ends_with(b"handle 0FFF00 at 020FFF\n"));
     script.extend_from_slice(b"alloc 1 0 0\nload prog\n")?;
-    let full = run_script(alloc, &script, &program, &[], &[])?;
+    let run = run_script(alloc, &script, &program, &[], &[])?;
     assert!(rt;
-        full.out
-            .bytes()
-            .ends_with(b"refused NoHandle\nrefused NoHandle\n")
+        run.out.bytes().ends_with(b"handle 0FFF00 at 020FFF\nrefused NoHandle\nrefused NoHandle\n")
     );
     Ok(())
 }

@@ -119,6 +119,14 @@ fn an_entry_is_listed_and_loaded(rt: HostRuntime) -> Result<(), Fail> {
         )?
     );
     let past = with_entry(alloc, 8)?;
-    assert!(rt; says(alloc, script, &past, Status::Done, b"ok\nrefused Unbuilt\n")?);
+    assert!(rt;
+        says(
+            alloc,
+            script,
+            &past,
+            Status::Done,
+            b"ok\nrefused BadFile NoSuchTarget 0001 00000041\n"
+        )?
+    );
     Ok(())
 }

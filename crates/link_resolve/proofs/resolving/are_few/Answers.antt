@@ -1,6 +1,6 @@
 use Rattle.std.proofs.Common.{◌≡◌, ◌+◌, take, length, refl, arith}
 use Rattle.link_resolve.specs.Resolved.{all_bytes, total_size}
-use Rattle.link_resolve.proofs.ResolveLaws.{file_there, size_more}
+use Rattle.link_resolve.proofs.ResolveLaws.{file_there, size_more, total-take}
 use Rattle.link_resolve.proofs.resolving.are_few.Goals as goal
 
 pub files-preserved : goal.files-preserved
@@ -9,3 +9,10 @@ files-preserved c =
     let at = file_there c.deref-file-items.result.now items c.files.file-index c.file-item.result c.file-item.result.items c.deref-file-items.ensures.value c.files-test.true c.file-item.is refl in
     let more = size_more items c.files.file-index c.file-item.result.items at in
     omega (arith, more, c.files.invariant, c.len-left.ensures, c.len.ensures, c.if-len-left.false)
+
+pub returns-then-len-left-clause-many : goal.returns-then-len-left-clause-many
+returns-then-len-left-clause-many c = λ is few.
+    let items = c.args.inputs.now.items in
+    let at = file_there c.deref-file-items.result.now items c.files.file-index c.file-item.result c.file-item.result.items c.deref-file-items.ensures.value c.files-test.true c.file-item.is refl in
+    let taken = total-take (all_bytes items) c.files.file-index c.file-item.result.items at in
+    omega (arith, taken, c.files.invariant, c.len.ensures, c.if-len-left.true, few.1)

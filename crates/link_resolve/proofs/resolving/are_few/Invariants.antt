@@ -4,4 +4,4 @@ use Rattle.link_resolve.proofs.resolving.are_few.Given as goal
 
 -- what is left, and the files so far
 abbrev pub invariant-files : goal.invariant-files
-invariant-files l = l.left + total_size (take l.file-index (all_bytes l.inputs.items)) ≡ 0xFFFF0000
+invariant-files l = l.left + total_size (take l.file-index (all_bytes l.inputs.items)) ≡ 0xFFFFFFFF

@@ -7,7 +7,7 @@ pub returns-clause-outputs : goal.returns-clause-outputs
 returns-clause-outputs c output inputs last o small run = unwritten_reads LinkMakes output inputs o small run.0
 
 pub returns-clause-libraries : goal.returns-clause-libraries
-returns-clause-libraries c = λ output inputs o small run. unwritten_reads (LibMakes inputs) output inputs o small run
+returns-clause-libraries c = λ output inputs last o small run. unwritten_reads (LibMakes inputs) output inputs o small run.0
 
 pub returns-clause-scripts : goal.returns-clause-scripts
 returns-clause-scripts c = unread_reads

@@ -1,4 +1,4 @@
-use Rattle.std.proofs.Common.{◌≡◌, ℕ, List, ◌∷◌, length, sym, ap, ◌∙◌, arith}
+use Rattle.std.proofs.Common.{◌≡◌, ◌∷◌, length, sym, ap, ◌∙◌, arith}
 use Rattle.orca_asm.proofs.ByFormulas.{empty_list}
 use Rattle.orca_asm.proofs.Listed.{reads_more, reads_last, reads_none, reads_wrong, some_list}
 use Rattle.orca_asm.proofs.formulas.formulas_in.Goals as goal

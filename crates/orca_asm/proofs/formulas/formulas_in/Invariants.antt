@@ -1,4 +1,4 @@
-use Rattle.std.proofs.Common.{◌≡◌, length}
+use Rattle.std.proofs.Common.{length}
 use Rattle.orca_asm.proofs.Listed.{Reads}
 use Rattle.orca_asm.proofs.formulas.formulas_in.Given as goal
 

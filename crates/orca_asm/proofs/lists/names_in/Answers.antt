@@ -1,4 +1,4 @@
-use Rattle.std.proofs.Common.{◌≡◌, ℕ, List, ◌∷◌, length, Some, sym, ap, ◌∙◌, arith}
+use Rattle.std.proofs.Common.{◌≡◌, ◌∷◌, length, Some, sym, ap, ◌∙◌, arith}
 use Rattle.orca_meaning.specs.Token.{name_at}
 use Rattle.orca_asm.proofs.Listed.{some_list}
 use Rattle.orca_asm.proofs.NamesListed.{name_shorter, reads_more, reads_none, reads_wrong}

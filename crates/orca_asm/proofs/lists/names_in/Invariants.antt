@@ -1,4 +1,4 @@
-use Rattle.std.proofs.Common.{◌≡◌, length}
+use Rattle.std.proofs.Common.{length}
 use Rattle.orca_asm.proofs.NamesListed.{Reads}
 use Rattle.orca_asm.proofs.lists.names_in.Given as goal
 

@@ -1,6 +1,6 @@
 use Rattle.std.proofs.Common.{◌≡◌, true, length}
 use Rattle.std.specs.Prelude.{filter, find}
-use Rattle.orca_asm.specs.ModeView.{widths, offered_test, number_test, two_test}
+use Rattle.orca_asm.specs.ModeView.{offered_test}
 use Rattle.orca_asm.proofs.mode.first_offered.Given as goal
 
 abbrev pub invariant-modes : goal.invariant-modes

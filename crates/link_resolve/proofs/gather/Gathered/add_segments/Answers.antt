@@ -1,4 +1,4 @@
-use Rattle.std.proofs.Common.{◌≡◌, ◌≤◌, [], Bool, true, false, List, length, refl, sym, ap, ◌∙◌, arith}
+use Rattle.std.proofs.Common.{◌≡◌, ◌*◌, ◌≤◌, [], Bool, true, false, List, length, refl, sym, ap, ◌∙◌, arith}
 use Rattle.std.proofs.lemmas.List.{length-map}
 use Rattle.lib_dict.specs.Library.{told_row}
 use Rattle.link_meaning.specs.Member.{Input, is_library}
@@ -23,7 +23,7 @@ returns-in-Ok-add_rows-clause-added c =
     let library : is_library list ≡ true = sym c.is_library.ensures ∙ c.if-not-is_library.false in
     let d = c.in_ok-dictionary.ensures.rows in
     let input : Input = record { segments = list; rows = d.rows } in
-    let few : length d.rows ≤ length c.args.bytes.now = omega (arith, c.in_ok-dictionary.ensures.few, ap length d.told', length-map d.rows (told_row list)) in (
+    let few : 12 * length d.rows ≤ length c.args.bytes.now = omega (arith, c.in_ok-dictionary.ensures.few, ap length d.told', length-map d.rows (told_row list)) in (
       input,
       library_input list c.args.bytes.now d.rows c.requires.is_file c.requires.sound library d.read,
       refl,
