@@ -17,3 +17,4 @@ pub mod Free
 pub mod Runs
 pub mod Whole
 pub mod Texts
+pub mod Letters

@@ -9,3 +9,5 @@ pub mod Stacks
 pub mod Changes
 pub mod StateView
 pub mod Files
+pub mod Plain
+pub mod Letters

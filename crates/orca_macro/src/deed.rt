@@ -1,13 +1,14 @@
 //! What a visited line does (ORCA/M reference manual, "Conditional assembly directives").
 
-ghost use Rattle.std.specs.Prelude.{◌≡◌, ◌==◌, ◌≤◌, ◌<◌, [], List, ℕ, ℤ, length, take, drop, pos, int_le, codes, slice_get, Some, None, Ok, Err, IfOk, IfErr, IfSome, OnOk, MatchOption};
+ghost use Rattle.std.specs.Prelude.{◌≡◌, ◌==◌, ◌≤◌, ◌<◌, nat_lt, [], List, ℕ, ℤ, length, take, drop, pos, int_le, codes, slice_get, Some, None, Ok, Err, IfOk, IfErr, IfSome, OnOk, MatchOption};
 ghost use Rattle.omf_format.specs.Value.{signed};
-ghost use Rattle.macro_meaning.specs.Deed.{earlier, both, or_bad, first_time, declaring, settable, setting, printed, printed_answer, middle_from, middle_of, go_if, going, going_to, counting, noted, noting, IsBranchIf, IsMiddle, IsNote, IsSetting, IsDone, resting, calling, calling_at, begins_definition, IsDeed, IsStatement, IsDoneBy, cut};
+ghost use Rattle.macro_meaning.specs.Deed.{earlier, both, or_bad, first_time, declaring, settable, setting, printed, printed_answer, middle_from, middle_of, go_if, going, going_to, counting, noted, noting, IsBranchIf, IsMiddle, IsNote, IsSetting, IsDone, resting, calling, calling_at, begins_definition, IsDeed, IsStatement, IsDoneBy, IsShort, cut};
 ghost use Rattle.macro_meaning.specs.Statements.{symbol_name, target_name};
 ghost use Rattle.macro_meaning.specs.Substitution.{first_passes};
 ghost use Rattle.macro_meaning.specs.Pieces.{pieces, quoted, joined};
 ghost use Rattle.orca_macro.specs.View.{values, symbols_of, texts_of};
 ghost use Rattle.orca_macro.specs.DeedView.{deed, where_};
+ghost use Rattle.orca_macro.specs.Parts.{definition};
 ghost use Rattle.orca_meaning.specs.Line.{HaveFields, three_fields};
 ghost use Rattle.orca_meaning.specs.Characters.{folded};
 ghost use Rattle.macro_meaning.specs.Definition.{first_named};
@@ -16,10 +17,11 @@ ghost use Rattle.orca_text.specs.View.{line};
 
 use crate::call::{bound, names_count};
 use crate::condition::{condition, number};
+use crate::definitions::Definition;
 use crate::names::{is_operation, sequence_name, statement_of, symbol_name, target_name};
 use crate::pieces::{Piece, joined, pieces, quoted};
 use crate::program::Program;
-use crate::substitution::shown;
+use crate::substitution::{is_folded, is_plain, shown};
 use crate::symbols::{
     Symbols, Texts, Values, declaration_of, is_count, is_declaration, is_kind, kind_of, name,
     signed_decimal,
@@ -506,6 +508,23 @@ fn done(
     }
 }
 
+/// The first macro that an operation names, with its place.
+fn named<'a>(
+    alloc: Global,
+    program: &'a Program,
+    operation: &[u8],
+) -> Result<Option<(usize, &'a Definition)>, AllocError>
+    requires { length operation.now ≤ 255 }
+    ensures { IfOk result (λ found. MatchOption found (first_named (folded operation.now) program.now.definitions ≡ None)
+        (λ x. (first_named (folded operation.now) program.now.definitions ≡ Some x.0) × (slice_get program.now.definitions x.0 ≡ Some (definition x.1.now)))) }
+{
+    if is_folded(operation) {
+        return Ok(program.named(operation));
+    }
+    let asked = folded(alloc, operation)?;
+    Ok(program.named(asked.bytes()))
+}
+
 /// A call of a macro, or a line that is given.
 fn calling(
     alloc: Global,
@@ -522,8 +541,7 @@ fn calling(
     ensures { IfOk result (λ d. deed d ≡ calling_at (where_ at.entry).definitions (where_ at.entry).root text.now
         (first_named (folded operation.now) (where_ at.entry).definitions) label.now operand.now) }
 {
-    let asked = folded(alloc, operation)?;
-    let Some((place, found)) = at.program.named(asked.bytes()) else {
+    let Some((place, found)) = named(alloc, at.program, operation)? else {
         return Ok(Deed::Gives(name(alloc, text)?));
     };
     if found.behind >= at.root {
@@ -594,26 +612,43 @@ fn begins_definition(at: Standing<'_>, of: &SourceLine) -> bool
     at.in_source && is_operation(of.part(of.operation), b"MACRO")
 }
 
-/// What a visited line does.
-pub(crate) fn deed_of(alloc: Global, at: Standing<'_>, of: &SourceLine) -> Result<Deed, AllocError>
+/// What a line does, with the texts in place.
+fn written(
+    alloc: Global,
+    at: Standing<'_>,
+    of: &SourceLine,
+    text: &[u8],
+) -> Result<Deed, AllocError>
     requires { HaveFields of.now.text (line of.now).fields }
-    ensures { IfOk result (λ d. IsDeed (where_ at.entry) (line of.now) (deed d)) }
+    ensures { IfOk result (λ d. IsShort (where_ at.entry) (line of.now) (nat_lt 255 (length text.now)) text.now (deed d)) }
 {
-    if is_comment(of.text.bytes()) {
-        return Ok(Deed::Rests);
-    }
-    let Some(text) = shown(alloc, at.values, of)? else {
-        return Ok(Deed::Fails(MacroCause::NoSuchSymbol));
-    };
     if text.len() > 255 {
         return Ok(Deed::Fails(MacroCause::LineTooLong));
     }
     if begins_definition(at, of) {
         return Ok(Deed::Rests);
     }
-    let rest = cut(alloc, text.as_slice())?;
+    let rest = cut(alloc, text)?;
     if is_comment(rest) {
         return Ok(Deed::Rests);
     }
     statement(alloc, at, rest)
+}
+
+/// What a visited line does.
+pub(crate) fn deed_of(alloc: Global, at: Standing<'_>, of: &SourceLine) -> Result<Deed, AllocError>
+    requires { HaveFields of.now.text (line of.now).fields }
+    ensures { IfOk result (λ d. IsDeed (where_ at.entry) (line of.now) (deed d)) }
+{
+    let text = of.text.bytes();
+    if is_comment(text) {
+        return Ok(Deed::Rests);
+    }
+    if is_plain(text) {
+        return written(alloc, at, of, text);
+    }
+    match shown(alloc, at.values, of)? {
+        Some(text) => written(alloc, at, of, text.as_slice()),
+        None => Ok(Deed::Fails(MacroCause::NoSuchSymbol)),
+    }
 }
