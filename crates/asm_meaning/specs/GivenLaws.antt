@@ -18,7 +18,7 @@ use Rattle.orca_meaning.specs.declared.mnemonics.Mnemonic.{Mnemonic}
 use Rattle.orca_meaning.specs.declared.operators.Operands.TheVariants.{Labels}
 use Rattle.orca_meaning.specs.Characters.{is_name_start, is_name_byte, folded}
 use Rattle.orca_meaning.specs.Formula.{MeansAt, pending, has_large}
-use Rattle.orca_meaning.specs.FormulaLaws.{pending-one}
+use Rattle.orca_meaning.specs.FormulaLaws.{formed, pending-one}
 use Rattle.orca_meaning.specs.Operand.{Meaning, opening, body, prefix, behind_opening, behind_prefix, form_behind, IsOperand, IsMissing, IsInAccumulator, IsOne, IsTwo, IsGoodOperand, AreShallow}
 use Rattle.orca_meaning.specs.Token.{digits_at, Token, Stand, expects_behind, name_at, Found}
 use Rattle.orca_meaning.specs.TokenLaws.{token-shorter}
@@ -26,7 +26,6 @@ use Rattle.asm_meaning.specs.declared.faults.AsmCause.TheVariants.{BadOperand, B
 use Rattle.asm_meaning.specs.Answer.{Answer, both, all_of, with_first}
 use Rattle.asm_meaning.specs.Constant.{Constants, Amount, Known, Written, amount}
 use Rattle.asm_meaning.specs.Elements.{with_byte, text_at, IsList, Repeat, Value, Element, Kind, Number, Hexadecimal, Binary, Characters, References, WeakReferences, closed_at, kind_at, width_at, AreNames, IsValueAt, IsRepeatBy, behind_parenthesis, IsElementAt, AreElements, count_of, number_piece, numbered, weak_piece, strong_piece, value_pieces, element_pieces, list_pieces, joined}
-use Rattle.asm_meaning.specs.Formed.{formed}
 use Rattle.asm_meaning.specs.Formulas.{AreFormulas, judged, expression_text}
 use Rattle.asm_meaning.specs.Instruction.{Widths, offered, instruction}
 use Rattle.asm_meaning.specs.Pieces.{Piece}

@@ -10,7 +10,6 @@ pub mod Statement
 pub mod Object
 pub mod StatementLaws
 pub mod ObjectLaws
-pub mod Formed
 pub mod AmountLaws
 pub mod PieceLaws
 pub mod InstructionLaws

@@ -266,15 +266,15 @@ super_patches s form (p ∷ l) rise again =
     ∙ again_all s form (p ∷ l) again
 
 -- those of so many types
-abbrev by_forms : ℕ → List Patch → ℕ → ℕ → List Patch
+abbrev pub by_forms : ℕ → List Patch → ℕ → ℕ → List Patch
 by_forms own patches form zero = []
 by_forms own patches form (suc n) = of_form own patches form ++ by_forms own patches (form + 1) n
 
 -- what is known of the segment: its number, and that its data hold what the patches want
-record Stands (own : ℕ) (patches : List Patch) (s : Segment) : Type 0 where
-  number : s.fields.seg_num ≡ own
-  written : AreWritten s.fields.length 0 patches
-  data' : (p : Patch) → Has patches p → Holds own p (segment_bytes s)
+pub record Stands (own : ℕ) (patches : List Patch) (s : Segment) : Type 0 where
+  pub number : s.fields.seg_num ≡ own
+  pub written : AreWritten s.fields.length 0 patches
+  pub data' : (p : Patch) → Has patches p → Holds own p (segment_bytes s)
 
 supers_patches : (own : ℕ) (patches : List Patch) (s : Segment) (form n : ℕ) → Stands own patches s → flat_map (patches_in s) (supers_from own patches form n) ≡ by_forms own patches form n
 supers_patches own patches s form zero st = refl
@@ -327,14 +327,14 @@ from_forms own patches p form (suc n) h = elim (has-parts (of_form own patches f
   | inr more ↦ from_forms own patches p (form + 1) n more
 ]
 
-to_records : (own : ℕ) (patches : List Patch) (p : Patch) → Has patches p → Has (lone own patches ++ by_forms own patches 0 38) p
+pub to_records : (own : ℕ) (patches : List Patch) (p : Patch) → Has patches p → Has (lone own patches ++ by_forms own patches 0 38) p
 to_records own patches p h = by_option (super_form own p) refl
   where
     by_option : (o : Option ℕ) → super_form own p ≡ o → Has (lone own patches ++ by_forms own patches 0 38) p
     by_option None e = has-append (lone own patches) (by_forms own patches 0 38) p (inl (has-filter (λ q. has_none (super_form own q)) patches p h (ap has_none e)))
     by_option (Some form) e = has-append (lone own patches) (by_forms own patches 0 38) p (inr (in_forms own patches p form 0 38 h e (omega arith) (omega (arith, form_below own p form (form_is own p form e)))))
 
-from_records : (own : ℕ) (patches : List Patch) (p : Patch) → Has (lone own patches ++ by_forms own patches 0 38) p → Has patches p
+pub from_records : (own : ℕ) (patches : List Patch) (p : Patch) → Has (lone own patches ++ by_forms own patches 0 38) p → Has patches p
 from_records own patches p h = elim (has-parts (lone own patches) (by_forms own patches 0 38) p h) [
   | inl here ↦ (has-unfilter (λ q. has_none (super_form own q)) patches p here).0
   | inr more ↦ from_forms own patches p 0 38 more
@@ -343,10 +343,10 @@ from_records own patches p h = elim (has-parts (lone own patches) (by_forms own 
 -- ---- the law
 
 -- a segment that hands out these records and END
-abbrev HasRecords : ℕ → List ℕ → List Patch → Segment → Type 0
+abbrev pub HasRecords : ℕ → List ℕ → List Patch → Segment → Type 0
 HasRecords own content patches s = (end : ℕ) × (s.records ≡ placed end (body_records own content patches))
 
-segment_has : (own : ℕ) (content : List ℕ) (patches : List Patch) (s : Segment) → s.fields.length ≡ length content → AreWritten (length content) 0 patches → HasRecords own content patches s
+pub segment_has : (own : ℕ) (content : List ℕ) (patches : List Patch) (s : Segment) → s.fields.length ≡ length content → AreWritten (length content) 0 patches → HasRecords own content patches s
     → segment_bytes s ≡ with_stored own content patches
 unfolding segment_bytes body_bytes
 segment_has own content patches s len are has =
@@ -371,23 +371,28 @@ without_places s (found ∷ founds) =
     back [] = refl
     back (p ∷ l) = ap (λ (m : List Patch). p ∷ m) (back l)
 
-patches_are : (own : ℕ) (content : List ℕ) (patches : List Patch) (s : Segment) → HasRecords own content patches s → Stands own patches s
+-- its patches are those that it is written for, in the order of its records
+pub patches_are : (own : ℕ) (content : List ℕ) (patches : List Patch) (s : Segment) → HasRecords own content patches s → Stands own patches s
     → map (λ p. p.1) (patches_of s) ≡ lone own patches ++ by_forms own patches 0 38
 unfolding patches_of
 patches_are own content patches s has st =
     without_places s s.records
     ∙ ap (flat_map (λ (found : ℕ × Record). patches_in s found.1)) has.1 ∙ flat-placed (patches_in s) has.0 (body_records own content patches) refl ∙ records_patches own content patches s st
 
+pub stands : (own : ℕ) (content : List ℕ) (patches : List Patch) (s : Segment) → s.fields.seg_num ≡ own → s.fields.length ≡ length content → AreWritten (length content) 0 patches → HasRecords own content patches s
+    → Stands own patches s
+stands own content patches s number len are has = record {
+  number = number;
+  written = subst (λ (n : ℕ). AreWritten n 0 patches) (sym len) are;
+  data' = λ p h. subst (Holds own p) (sym (segment_has own content patches s len are has)) (holds own patches content p are h);
+}
+
 pub cells_are : (own : ℕ) (content : List ℕ) (patches : List Patch) (s : Segment) → s.fields.seg_num ≡ own → s.fields.length ≡ length content → AreWritten (length content) 0 patches → HasRecords own content patches s
     → cells s ≡ written_cells content patches
 unfolding cells written_cells
 cells_are own content patches s number len are has =
     let bytes = segment_has own content patches s len are has in
-    let st : Stands own patches s = record {
-      number = number;
-      written = subst (λ (n : ℕ). AreWritten n 0 patches) (sym len) are;
-      data' = λ p h. subst (Holds own p) (sym bytes) (holds own patches content p are h);
-    } in
+    let st = stands own content patches s number len are has in
     let qs = lone own patches ++ by_forms own patches 0 38 in
     let all = with_stored own content patches in
     let sizes : length (map Byte content) ≡ length (map Byte all) = length-map content (λ (n : ℕ). Byte n) ∙ sym (length-data own patches content are) ∙ sym (length-map all (λ (n : ℕ). Byte n)) in
@@ -405,7 +410,7 @@ reader_is : (own size : ℕ) (bytes : List ℕ) (s : Segment) (file : List ℕ) 
 unfolding body_reader length_width_of
 reader_is own size bytes s file has = rw (has.version, has.lab_len, has.body) refl
 
-has_records : (own : ℕ) (content : List ℕ) (patches : List Patch) (s : Segment) (file : List ℕ) → length content ≤ 0xFFFFFF → AreWritten (length content) 0 patches
+pub has_records : (own : ℕ) (content : List ℕ) (patches : List Patch) (s : Segment) (file : List ℕ) → length content ≤ 0xFFFFFF → AreWritten (length content) 0 patches
     → HasBody own (length content) (body_text own content patches ++ spelling written_layout End) s file → HasRecords own content patches s
 unfolding body_text
 has_records own content patches s file small are has =

@@ -5,7 +5,6 @@ pub mod Signed
 pub mod Terms
 pub mod Models
 pub mod Targets
-pub mod Formed
 pub mod Numbers
 pub mod Binds
 pub mod Both

@@ -13,7 +13,7 @@ use Rattle.omf_format.specs.TreeLaws.{tree_has_terms}
 use Rattle.omf_format.specs.Value.{Environment, value}
 use Rattle.orca_meaning.specs.declared.operators.Operands.TheVariants.{Symbols}
 use Rattle.orca_meaning.specs.Formula.{MeansAt, has_large, pending}
-use Rattle.orca_meaning.specs.FormulaLaws.{one_tree, pending-one}
+use Rattle.orca_meaning.specs.FormulaLaws.{formed, one_tree, pending-one}
 use Rattle.macro_meaning.specs.declared.faults.MacroCause.TheVariants.{NoSuchSymbol, BadSetting}
 use Rattle.macro_meaning.specs.Condition.{Answer, environment, is_declared, number_of, answer_of, IsNumber, Formula, NoFormula}
 use Rattle.macro_meaning.specs.Symbol.{Values}
@@ -21,7 +21,6 @@ use Rattle.orca_text.specs.FormulaAt.{IsFormulaAt, HasNoFormula}
 use Rattle.orca_text.specs.Kept.{kept_term, kept_terms}
 use Rattle.orca_text.specs.Peak.{peak}
 use Rattle.orca_text.proofs.OperandIs.{peak_is, terms_are}
-use Rattle.orca_macro.proofs.Formed.{formed}
 
 pub no_formula : (values : Values) (text : List ℕ) → HasNoFormula Symbols text → IsNumber values text (Err BadSetting)
 no_formula values text none = NoFormula (λ tree means. none tree [] means) refl

@@ -169,13 +169,17 @@ tree_formed (Joined operator left right) fine small =
     let other = or_false (list_any is_large second) _ (sym (list_any-append is_large second last) ∙ both.1) in
     (operator_formed operator, operator_has_two operator, tree_formed left names.0 both.0, tree_formed right names.1 other.0)
 
--- the terms of a formula in a line, with numbers that fit and at most 64 pending values, spell an expression
+-- the tree of a formula in a line, with numbers that fit, is one that can be written
+pub formed : (o : Operands) (text : List ℕ) (tree : Tree) (rest : List ℕ) → length text ≤ 255 → MeansAt o text tree rest → has_large tree ≡ false → IsTree 0 tree
+formed o text tree rest short is small =
+    let names = fine_names o true 255 text (tokens_of is.formula) rest short is.stands.spelled in
+    subst (IsTree 0) is.means (tree_formed is.formula names (ap has_large is.means ∙ small))
+
+-- with at most 64 pending values its terms spell an expression
 pub spells : (o : Operands) (text : List ℕ) (tree : Tree) (rest : List ℕ) → length text ≤ 255 → MeansAt o text tree rest → has_large tree ≡ false → depth tree ≤ 64
     → IsExpression 0 (terms_text 0 (terms_of tree) ++ 0x00 ∷ [])
 spells o text tree rest short is small shallow =
-    let names = fine_names o true 255 text (tokens_of is.formula) rest short is.stands.spelled in
-    let formed = tree_formed is.formula names (ap has_large is.means ∙ small) in
-    record { tree = tree; spells = record { formed = subst (IsTree 0) is.means formed; shallow = shallow; spelled = refl } }
+    record { tree = tree; spells = record { formed = formed o text tree rest short is small; shallow = shallow; spelled = refl } }
 
 -- ---- pending values
 
