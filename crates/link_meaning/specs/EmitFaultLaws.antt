@@ -179,15 +179,17 @@ made_where_sound list table = (are_made list table, made_sound list table)
 
 -- ---- the file of files without a fault
 
+-- each record gives its cells
+pub linkable_made : (list : List Member) (table : List Told) → IsEmitted list table → AreMade list table start (items list)
+linkable_made list table is = no_first_made list table (λ fault first. is.sound (Rings ∷ []) Values (Size ∷ []) fault refl (table, is.valued, first))
+
+-- and the file isn't too long
+pub linkable_short : (list : List Member) (table : List Told) → IsEmitted list table → length (written_file list table) ≤ most_bytes
+linkable_short list table is = elim (cases_lt most_bytes (length (written_file list table))) [
+  | inl lt ↦ absurd (is.sound (Rings ∷ Values ∷ []) Size [] _ refl (table, is.valued, record { long = lt; told = refl }))
+  | inr le ↦ le
+]
+
 pub linkable_stands_for : LinkableStandsFor
 linkable_stands_for files list table bytes is =
-    linked_stands_for files list table bytes is.resolved is.emitted.valued (no_first_made list table no_first) short
-  where
-    no_first : NoFirst list table
-    no_first fault first = is.emitted.sound (Rings ∷ []) Values (Size ∷ []) fault refl (table, is.emitted.valued, first)
-
-    short : length (written_file list table) ≤ most_bytes
-    short = elim (cases_lt most_bytes (length (written_file list table))) [
-      | inl lt ↦ absurd (is.emitted.sound (Rings ∷ Values ∷ []) Size [] _ refl (table, is.emitted.valued, record { long = lt; told = refl }))
-      | inr le ↦ le
-    ]
+    linked_stands_for files list table bytes is.resolved is.emitted.valued (linkable_made list table is.emitted) (linkable_short list table is.emitted)

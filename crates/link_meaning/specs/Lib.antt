@@ -28,6 +28,7 @@ pub mod LinkedRuns
 pub mod ReadMembers
 pub mod LinkWrittenLaws
 pub mod PlaceFits
+pub mod PlaceValues
 pub mod ValueFits
 pub mod EmitFaults
 pub mod EmitFaultLaws
@@ -37,3 +38,8 @@ pub mod EquatePlaces
 pub mod LinkedWalk
 pub mod EquateTables
 pub mod EquateOrder
+pub mod LinkLoadable
+pub mod Reached
+pub mod LinkLoadableLaws
+pub mod TablePasses
+pub mod WrittenSegments

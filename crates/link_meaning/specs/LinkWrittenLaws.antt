@@ -113,13 +113,13 @@ unfolding load_names
 of_member list x is = in_map (λ (m : Member). m.segment.fields.load_name) list x (in_distinct (map (λ (m : Member). m.segment.fields.load_name) list) x is)
 
 -- which are there
-some_members : (list : List Member) (x : List ℕ) → IsIn (load_names list) x → (m : Member) × IsIn (load_members x list) m
+pub some_members : (list : List Member) (x : List ℕ) → IsIn (load_names list) x → (m : Member) × IsIn (load_members x list) m
 unfolding load_members
 some_members list x is =
     let m = of_member list x is in
     (m.0, filter_in (in_load x) list m.0 m.1 ((bytes_eq-Decides m.0.segment.fields.load_name x).1 m.2))
 
-first_has : (P : ℕ → Type 0) (field : Fields → ℕ) (members : List Member) (m : Member) → IsIn members m → ((o : Member) → IsIn members o → P (field o.segment.fields)) → P (of_first field members)
+pub first_has : (P : ℕ → Type 0) (field : Fields → ℕ) (members : List Member) (m : Member) → IsIn members m → ((o : Member) → IsIn members o → P (field o.segment.fields)) → P (of_first field members)
 first_has P field [] m is each = absurd is
 first_has P field (o ∷ members) m is each = each o (inl refl)
 
@@ -143,7 +143,7 @@ align_lt (m ∷ members) each = omega (arith, (each m (inl refl)).align, align_l
 cleared-le : (kind : ℕ) → cleared kind ≤ kind
 cleared-le kind = omega arith
 
-cleared-form : (kind : ℕ) → form_of (cleared kind) ≡ form_of kind
+pub cleared-form : (kind : ℕ) → form_of (cleared kind) ≡ form_of kind
 cleared-form kind = omega arith
 
 pub load_header_fits : (list : List Member) (number : ℕ) (x : List ℕ) → ((m : Member) → IsIn list m → HasHeader m.segment.fields) → IsIn (load_names list) x → HasHeader (load_fields list number x)
@@ -265,11 +265,11 @@ few_targets : (list : List Member) (table : List Told) → table_number list < 2
 unfolding targets state_behind
 few_targets list table small are sound = few_on list table start (items list) small (omega arith) are sound
 
-pub stands_for : (files : List (List ℕ)) (list : List Member) (table : List Told) → AllByRecursion IsBytes files → IsResolved files list → AreSoundItems list table (items list)
-    → AreMade list table start (items list) → length (written_file list table) ≤ 0x1000000
-    → (segments : List Segment) × IsFile segments (written_file list table) × AreReadAs (images list table) segments × HaveCells (linked_cells list table) segments
-unfolding written_file images linked_cells load_headers
-stands_for files list table bytes resolved sound are short =
+-- each of them can be written
+pub are_images : (files : List (List ℕ)) (list : List Member) (table : List Told) → AllByRecursion IsBytes files → IsResolved files list → AreSoundItems list table (items list)
+    → AreMade list table start (items list) → length (written_file list table) ≤ 0x1000000 → MembersHave list table × AllByRecursion IsImage (images list table)
+unfolding written_file images load_headers
+are_images files list table bytes resolved sound are short =
     let read : (m : Member) → IsIn list m → IsRead m.segment = λ m is. members_read files list m bytes resolved.program is in
     let each : (m : Member) → IsIn list m → HasHeader m.segment.fields = λ m is. read_header m.segment (read m is) in
     let loads = few_loads files list resolved in
@@ -280,10 +280,22 @@ stands_for files list table bytes resolved sound are short =
     let first = load_images list table 1 (load_names list) in
     let last = table_images (table_number list) (targets list table) in
     let parts = text_both first last in
-    let all = all-append first last (load_all list table 1 (load_names list) each have (λ x is. is) (omega (arith, loads)) (short_loads files list resolved) (omega (arith, parts, short))) (table_all (table_number list) (targets list table) small few) in
-    let made = file_stands_for (first ++ last) all in (
+    (have, all-append first last (load_all list table 1 (load_names list) each have (λ x is. is) (omega (arith, loads)) (short_loads files list resolved) (omega (arith, parts, short))) (table_all (table_number list) (targets list table) small few))
+
+pub stands_for : (files : List (List ℕ)) (list : List Member) (table : List Told) → AllByRecursion IsBytes files → IsResolved files list → AreSoundItems list table (items list)
+    → AreMade list table start (items list) → length (written_file list table) ≤ 0x1000000
+    → (segments : List Segment) × IsFile segments (written_file list table) × AreReadAs (images list table) segments × HaveCells (linked_cells list table) segments
+unfolding written_file images linked_cells
+stands_for files list table bytes resolved sound are short =
+    let loads = few_loads files list resolved in
+    let small : table_number list < 2 ^ 16 = omega (arith, loads) in
+    let few : length (targets list table) ≤ 4680 = few_targets list table small are sound in
+    let both = are_images files list table bytes resolved sound are short in
+    let first = load_images list table 1 (load_names list) in
+    let last = table_images (table_number list) (targets list table) in
+    let made = file_stands_for (first ++ last) both.1 in (
       made.0,
       made.1,
       made.2,
-      loads_read list table 1 (load_names list) last (table_cells (targets list table)) made.0 have (λ rest r. table_read (table_number list) (targets list table) rest small few r) made.2,
+      loads_read list table 1 (load_names list) last (table_cells (targets list table)) made.0 both.0 (λ rest r. table_read (table_number list) (targets list table) rest small few r) made.2,
     )

@@ -95,10 +95,10 @@ length-fit table count targets (Number n) = length-bytes (little_bytes count n) 
 length-fit table count targets (Place segment offset shift) = length-parts count segment offset shift
 length-fit table count targets (fitting.Entry segment offset) = length-parts count table (entry_place (entry_of targets (target_of segment offset))) (pos 0)
 
-abbrev okay : Made → Result Made LinkCause
+abbrev pub okay : Made → Result Made LinkCause
 okay x = Ok x
 
-one_made : (a b : Made) → okay a ≡ okay b → a ≡ b
+pub one_made : (a b : Made) → okay a ≡ okay b → a ≡ b
 one_made a b e = cc
 
 size_is : (a x : Made) (n : ℕ) → okay a ≡ okay x → length a.0 ≡ n → length x.0 ≡ n
@@ -130,10 +130,14 @@ length-made list table state i (Entry segment offset name) x e = size_is _ x _ e
 
 -- ---- what fits
 
+-- a place has a shift and an offset that fit a patch record, and its segment's number is one of these
+abbrev pub FitsPlace : (ℕ → Type 0) → Value → Type 0
+FitsPlace P (Fixed n) = Unit {0}
+FitsPlace P (At file segment offset shift) = IsTrue (is_shift shift) × P segment × (offset < 2 ^ 32)
+
 -- a place fits a patch record
 abbrev pub FitsPatch : Value → Type 0
-FitsPatch (Fixed n) = Unit {0}
-FitsPatch (At file segment offset shift) = IsTrue (is_shift shift) × (segment < 2 ^ 16) × (offset < 2 ^ 32)
+FitsPatch v = FitsPlace (λ (segment : ℕ). segment < 2 ^ 16) v
 
 abbrev FitsFit : List Target → Fit → Type 0
 FitsFit targets (Number n) = Unit {0}
@@ -260,7 +264,7 @@ is_made a x e is = subst IsMade (one_made a x e) is
 abbrev no_value : Value → Result Value LinkCause
 no_value v = Ok v
 
-value_ok : (r : Result Value ValueFault) (v : Value) → valued r ≡ Ok v → r ≡ Ok v
+pub value_ok : (r : Result Value ValueFault) (v : Value) → valued r ≡ Ok v → r ≡ Ok v
 value_ok (Ok w) v e = ap okay_value (same w v e)
   where
     okay_value : Value → Result Value ValueFault

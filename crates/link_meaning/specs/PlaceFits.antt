@@ -62,7 +62,7 @@ map_in [] m is = is
 map_in (o ∷ list) m (inl e) = inl (ap (λ (x : Member). x.segment.fields.load_name) e)
 map_in (o ∷ list) m (inr more) = inr (map_in list m more)
 
-name_there : (list : List Member) (m : Member) → IsIn list m → IsIn (load_names list) m.segment.fields.load_name
+pub name_there : (list : List Member) (m : Member) → IsIn list m → IsIn (load_names list) m.segment.fields.load_name
 unfolding load_names
 name_there list m is = in_names (map (λ (o : Member). o.segment.fields.load_name) list) m.segment.fields.load_name (map_in list m is)
 

@@ -2,6 +2,7 @@
 
 ghost use Rattle.link_meaning.specs.LinkWritten.{LinkedStandsFor};
 ghost use Rattle.link_meaning.specs.EmitFaults.{OneLinkAnswer, OneEmitAnswer, LinkAnswersAsEmit, MadeWhereSound, LinkableStandsFor};
+ghost use Rattle.link_meaning.specs.LinkLoadable.{StandsForLinkedCells, OnlyCallsReachDynamic, IsLoadedWhereNoneSkipped, HasNoLoadFault, IsReadWhole};
 ghost use Rattle.link_meaning.specs.EquateValues.{OneValue, NoneOnRing, TableOfValues, TableWithoutRings, OneNumber};
 
 /// The file that the linker writes is a file of the load segments and the table, and each of them stands for its linked
@@ -37,4 +38,20 @@ pub fn equates_have_one_value()
     ensures table { TableOfValues }
     ensures without_rings { TableWithoutRings }
     ensures one_number { OneNumber }
+{}
+
+/// The load file that the linker writes stands for the linked cells: its segments are the load segments in order of number and
+/// the table behind them, each with the header of the layout and its linked cells. Their cells name the segment itself, static
+/// ones and the table alone, and the table's entries lead into dynamic ones.
+pub fn linked_files_have_their_headers_and_cells()
+    ensures stand_for { StandsForLinkedCells }
+    ensures reach { OnlyCallsReachDynamic }
+{}
+
+/// The load file that the linker writes is loaded where no part of a place and no entry of the table names a load segment that
+/// is skipped: it has no fault at load then, and is never too long to be read.
+pub fn linked_files_are_loaded()
+    ensures loadable { IsLoadedWhereNoneSkipped }
+    ensures no_fault { HasNoLoadFault }
+    ensures short { IsReadWhole }
 {}

@@ -10,6 +10,7 @@ mod search;
 pub use fault::{LinkCause, LinkFault};
 pub use laws::{
     equates_have_one_value, files_have_one_answer, linkable_files_stand_for_their_cells,
+    linked_files_are_loaded, linked_files_have_their_headers_and_cells,
     linked_files_stand_for_their_cells, records_without_a_fault_give_cells,
 };
 pub use search::{Step, Want};

@@ -1,0 +1,103 @@
+-- The load file as it is read: its headers and cells, which segments they name, and where a loader takes it (GS/OS Reference,
+-- appendix F; the jump table's frame and the order of faults are this project's own).
+use Rattle.std.specs.Prelude.{◌≡◌, ◌≤◌, ◌<◌, ◌⊎◌, ℕ, ◌+◌, false, true, Bool, List, [], ◌∷◌, ◌++◌, length, map, Some, None, slice_get}
+use Rattle.std.specs.List.{AllByRecursion}
+use Rattle.omf_format.specs.Header.{Fields, is_skipped}
+use Rattle.omf_format.specs.HeaderLaws.{IsBytes}
+use Rattle.omf_format.specs.File.{Segment, IsFile}
+use Rattle.load_meaning.specs.Cells.{Cell, Byte, Part, cells}
+use Rattle.load_meaning.specs.declared.load.LoadFault.{LoadFault}
+use Rattle.load_meaning.specs.declared.table.Target.{Target}
+use Rattle.load_meaning.specs.Table.{file_entry, table_bytes}
+use Rattle.load_meaning.specs.Loadable.{IsLoadable, IsFirstLoadFault}
+use Rattle.load_meaning.specs.WrittenFile.{table_fields}
+use Rattle.link_meaning.specs.Member.{Member}
+use Rattle.link_meaning.specs.Layout.{load_names, load_headers}
+use Rattle.link_meaning.specs.LinkValues.{Told}
+use Rattle.link_meaning.specs.Fitting.{load_header, is_dynamic_load, length_of}
+use Rattle.link_meaning.specs.LinkedCells.{table_number, targets, linked}
+use Rattle.link_meaning.specs.LinkWritten.{linked_cells}
+use Rattle.link_meaning.specs.EmitFaults.{most_bytes, IsLinkable, IsLinkedTo}
+
+-- ---- headers and cells
+
+-- the fields of a header; those that tell how it is written are 0
+abbrev pub plain_fields : Fields → Fields
+plain_fields f = record f { byte_count = 0; res_spc = 0; lab_len = 0; disp_name = 0; disp_data = 0 }
+
+-- the header of the table, where there is an entry
+abbrev pub table_headers : ℕ → List Target → List Fields
+table_headers number [] = []
+table_headers number (target ∷ targets) = table_fields number (length (table_bytes (map file_entry (target ∷ targets)))) ∷ []
+
+-- the headers of the load segments in order of number, and the table's behind them
+unfoldable pub linked_headers : List Member → List Told → List Fields
+linked_headers list table = load_headers list ++ table_headers (table_number list) (targets list table)
+
+-- the segments are the load segments in order of number, and the table behind them: each has the header of the layout, and
+-- stands for its linked cells
+pub record StandFor (list : List Member) (table : List Told) (segments : List Segment) : Type 0 where
+  pub headers : map (λ s. plain_fields s.fields) segments ≡ linked_headers list table
+  pub cells' : map cells segments ≡ linked_cells list table
+
+-- ---- what is named
+
+-- so many load segments have this number among theirs
+abbrev pub IsLoad : ℕ → ℕ → Type 0
+IsLoad loads number = (1 ≤ number) × (number ≤ loads)
+
+-- a segment that the cells of a load segment may name: the load segment itself or a static one, or the table, where there is
+-- an entry
+pub data Reaches (list : List Member) (targets : List Target) (own number : ℕ) : Type 0 where
+  OfLoad : IsLoad (length (load_names list)) number → (number ≡ own) ⊎ (is_dynamic_load (load_headers list) number ≡ false) → Reaches list targets own number
+  OfTable : number ≡ table_number list → (targets ≡ [] → ⊥) → Reaches list targets own number
+
+-- the cell is a byte, or part of a place in a segment for which this holds
+abbrev pub Names : (ℕ → Type 0) → Cell → Type 0
+Names P (Byte b) = Unit {0}
+Names P (Part file segment offset shift index) = P segment
+
+-- a place to which an entry may lead: an offset in a dynamic load segment
+pub record IsCalled (list : List Member) (t : Target) : Type 0 where
+  pub file' : t.file ≡ 1
+  pub load : IsLoad (length (load_names list)) t.segment
+  pub dynamic : is_dynamic_load (load_headers list) t.segment ≡ true
+  pub inside : t.offset < length_of (load_headers list) t.segment
+
+-- the load segment with this number is never loaded
+abbrev pub is_skipped_load : List Fields → ℕ → Bool
+is_skipped_load headers number = elim (load_header headers number) [ None ↦ false | Some f ↦ is_skipped f.kind ]
+
+-- no part of a place and no entry names a skipped load segment
+pub record NamesNoSkipped (list : List Member) (table : List Told) : Type 0 where
+  pub parts : AllByRecursion (λ cs. AllByRecursion (λ c. Names (λ n. is_skipped_load (load_headers list) n ≡ false) c) cs) (linked_cells list table)
+  pub entries : AllByRecursion (λ t. is_skipped_load (load_headers list) t.segment ≡ false) (targets list table)
+
+-- ---- laws
+
+-- What the linker writes for files stands for the linked cells, and has the headers of the layout.
+abbrev pub StandsForLinkedCells : Type 0
+StandsForLinkedCells = (files : List (List ℕ)) (output : List ℕ) → AllByRecursion IsBytes files → (is : IsLinkedTo files output)
+    → (segments : List Segment) × IsFile segments output × StandFor is.list is.table segments
+
+-- Only calls reach another dynamic load segment: what the cells of a load segment name is the load segment itself, a static
+-- one, or the table, and the table's entries lead into dynamic ones.
+abbrev pub OnlyCallsReachDynamic : Type 0
+OnlyCallsReachDynamic = (files : List (List ℕ)) (list : List Member) (table : List Told) → AllByRecursion IsBytes files → IsLinkable files list table
+    → ((k : ℕ) (load_name : List ℕ) → slice_get (load_names list) k ≡ Some load_name
+    → AllByRecursion (λ c. Names (Reaches list (targets list table) (k + 1)) c) (linked list table load_name))
+    × AllByRecursion (IsCalled list) (targets list table)
+
+-- It is a load file where no part and no entry names a skipped load segment.
+abbrev pub IsLoadedWhereNoneSkipped : Type 0
+IsLoadedWhereNoneSkipped = (files : List (List ℕ)) (output : List ℕ) → AllByRecursion IsBytes files → (is : IsLinkedTo files output) → NamesNoSkipped is.list is.table
+    → (segments : List Segment) × IsLoadable output segments × StandFor is.list is.table segments
+
+-- So it has no fault at load then.
+abbrev pub HasNoLoadFault : Type 0
+HasNoLoadFault = (files : List (List ℕ)) (output : List ℕ) → AllByRecursion IsBytes files → (is : IsLinkedTo files output) → NamesNoSkipped is.list is.table
+    → (fault : LoadFault) → IsFirstLoadFault output fault → ⊥
+
+-- It is no longer than the longest file that is read.
+abbrev pub IsReadWhole : Type 0
+IsReadWhole = (files : List (List ℕ)) (output : List ℕ) → IsLinkedTo files output → length output ≤ most_bytes
