@@ -26,4 +26,4 @@ pub use fault::{DictFault, LibCause, LibFault};
 pub use laws::{made_is_read, rows_are_laid_out};
 pub use making::make_library;
 pub use member::Member;
-pub use reading::read_dictionary;
+pub use reading::{dictionary_of_list, read_dictionary};

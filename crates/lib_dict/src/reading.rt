@@ -1,11 +1,11 @@
 //! Reading the dictionary of a library.
 
-ghost use Rattle.std.specs.Prelude.{◌≡◌, ◌<◌, ◌≤◌, ◌+◌, ◌*◌, ◌^◌, length, drop, IfOk, IfErr};
+ghost use Rattle.std.specs.Prelude.{◌≡◌, ◌<◌, ◌≤◌, ◌+◌, ◌*◌, ◌^◌, ℕ, List, length, drop, IfOk, IfErr};
 ghost use Rattle.omf_format.specs.File.{IsFile};
 ghost use Rattle.omf_records.specs.Segments.{IsRefused};
 ghost use Rattle.link_meaning.specs.Dictionary.{rows_in};
 ghost use Rattle.lib_dict.specs.Library.{HasRows};
-ghost use Rattle.lib_dict.specs.Rows.{HasNoRows};
+ghost use Rattle.lib_dict.specs.Rows.{AreReadFrom, HasNoRows};
 ghost use Rattle.lib_dict.specs.Parts.{seen_parts, HasPlace};
 ghost use Rattle.lib_dict.specs.Tables.{IsInFile, AreRowsIn, IsRowFault, FaultOf};
 
@@ -72,6 +72,33 @@ fn rows_in<'a>(
     rows_of(alloc, &tables, parts.second, parts.at + 5)
 }
 
+/// The dictionary of a library whose segments were read. `NotLibrary` and `BadLibrary` come as of `read_dictionary`.
+pub fn dictionary_of_list<'a>(
+    alloc: Global,
+    list: &SegmentList<'a>,
+) -> Result<Dictionary<'a>, DictFault>
+    requires { (file : List ℕ) × AreReadFrom list.now file }
+    ensures rows { IfOk result (λ dictionary. (file : List ℕ) → AreReadFrom list.now file → HasRows file dictionary) }
+    ensures few { IfOk result (λ dictionary. (file : List ℕ) → AreReadFrom list.now file → 12 * length dictionary ≤ length file) }
+    ensures refused { IfErr result (λ fault. (file : List ℕ) → AreReadFrom list.now file → HasNoRows fault file) }
+{
+    let first = match list.get(1) {
+        Some(view) => view,
+        None => return Err(DictFault::NotLibrary),
+    };
+    if first.header.kind.form() != DICTIONARY {
+        return Err(DictFault::NotLibrary);
+    }
+    let parts = match parts_of(first.records()) {
+        Some(parts) => parts,
+        None => return Err(DictFault::BadLibrary(first.start)),
+    };
+    match rows_in(alloc, list, first.start, parts) {
+        Ok(rows) => Ok(Dictionary { rows }),
+        Err(fault) => Err(fault),
+    }
+}
+
 /// The dictionary of a library. `File` is the file's first fault; `NotLibrary` comes where the file is sound and doesn't begin
 /// with a segment of type $08; `BadLibrary` comes where its dictionary isn't laid out as one, or has a row that the library
 /// doesn't bear out. LENGTH of the dictionary isn't looked at.
@@ -85,20 +112,8 @@ pub fn read_dictionary<'a>(alloc: Global, file: &'a [u8]) -> Result<Dictionary<'
         Ok(list) => list,
         Err(fault) => return Err(file_fault(fault)),
     };
-    let first = match list.get(1) {
-        Some(view) => view,
-        None => return Err(DictFault::NotLibrary),
-    };
-    if first.header.kind.form() != DICTIONARY {
-        return Err(DictFault::NotLibrary);
-    }
-    let parts = match parts_of(first.records()) {
-        Some(parts) => parts,
-        None => return Err(DictFault::BadLibrary(first.start)),
-    };
-    let start = first.start;
-    match rows_in(alloc, &list, start, parts) {
-        Ok(rows) => Ok(Dictionary { rows }),
+    match dictionary_of_list(alloc, &list) {
+        Ok(dictionary) => Ok(dictionary),
         Err(fault) => Err(fault),
     }
 }

@@ -1,22 +1,20 @@
 -- The members and offers of inputs come from their files, and there are few of them.
-use Rattle.std.proofs.Common.{◌≡◌, ◌⊎◌, inl, inr, ℕ, zero, suc, ◌+◌, ◌-◌, ◌*◌, ◌≤◌, ◌<◌, ◌^◌, Bool, true, false, List, [], ◌∷◌, ◌++◌, length, map, Option, Some, None, Result, Ok, Err, refl, sym, ap, subst, ◌∙◌, arith}
-use Rattle.std.specs.Prelude.{slice_get, option_map, option_and_then, if◌then◌else◌}
+use Rattle.std.proofs.Common.{◌≡◌, ◌⊎◌, inl, inr, ℕ, suc, ◌+◌, ◌*◌, ◌≤◌, Bool, true, false, List, [], ◌∷◌, ◌++◌, length, map, Option, Some, None, Result, Ok, refl, sym, ap, subst, ◌∙◌, arith}
+use Rattle.std.specs.Prelude.{slice_get, option_and_then, if◌then◌else◌}
 use Rattle.std.specs.List.{filter_map, cons_option}
-use Rattle.std.proofs.lemmas.List.{length-append, length-map}
-use Rattle.omf_format.specs.File.{Segment, segment_at, IsFile}
+use Rattle.std.proofs.lemmas.List.{length-append}
+use Rattle.omf_format.specs.File.{Segment, segment_at}
 use Rattle.omf_format.specs.FileLaws.{segments_fit}
 use Rattle.link_meaning.specs.First.{IsIn}
 use Rattle.link_meaning.specs.Member.{Row, Input, Member, Offer, is_library, members_from, objects_from, objects, offer_of, offers_from, offers}
-use Rattle.link_meaning.specs.Defines.{Definition, defined_in, outer_scope}
 use Rattle.link_meaning.specs.Dictionary.{rows_of}
-use Rattle.link_meaning.specs.LinkFaults.{segments_fault, rows_in_file, IsInput, AreInputs}
+use Rattle.link_meaning.specs.LinkFaults.{segments_fault, AreInputs}
 use Rattle.link_meaning.specs.ProgressLaws.{AreSound}
 use Rattle.lib_dict.specs.DictionaryLayout.{DefinesSo}
 use Rattle.lib_dict.specs.Library.{told_row}
-use Rattle.link_resolve.specs.Libraries.{StandsIn, AllStand}
 use Rattle.link_resolve.specs.Gathered.{segment_in, IsAmong, AllAmong, IsSoundInput}
 use Rattle.link_resolve.specs.Resolved.{total_size, FewRows}
-use Rattle.link_resolve.proofs.LibraryLaws.{HasPlace, row_place, offer_is}
+use Rattle.link_resolve.proofs.LibraryLaws.{row_place, offer_is}
 use Rattle.link_resolve.proofs.OpeningLaws.{in_either}
 
 -- the files from a number on are the inputs' segments

@@ -1,37 +1,33 @@
 -- What inputs add to the list and to the offers.
-use Rattle.std.proofs.Common.{◌≡◌, ◌⊎◌, inl, inr, ℕ, zero, suc, ◌+◌, ◌-◌, ◌≤◌, ◌<◌, ◌^◌, Bool, true, false, List, [], ◌∷◌, ◌++◌, length, map, take, Option, Some, None, Result, Ok, Err, refl, sym, ap, subst, ◌∙◌, append_assoc, append-nil, arith}
+use Rattle.std.proofs.Common.{◌≡◌, ◌⊎◌, inl, inr, ℕ, zero, suc, ◌+◌, ◌≤◌, Bool, true, false, List, [], ◌∷◌, ◌++◌, length, map, take, Option, Some, None, Ok, Err, refl, sym, ap, subst, ◌∙◌, append_assoc, append-nil, arith}
 use Rattle.std.specs.Prelude.{slice_get, option_map, if◌then◌else◌, ◌==◌}
 use Rattle.std.specs.List.{filter_map}
 use Rattle.std.specs.Option.{option_or}
-use Rattle.std.proofs.lemmas.List.{map-append, length-append, length-map}
-use Rattle.std.proofs.lemmas.Bool.{eq-eqb, ne_eqb, eqb-true}
+use Rattle.std.proofs.lemmas.List.{map-append, length-map}
+use Rattle.std.proofs.lemmas.Bool.{eqb-true}
 use Rattle.omf_format.specs.declared.fault.FileFault.{FileFault}
-use Rattle.omf_format.specs.File.{Segment, segment_at, AreSegments, IsFile, IsFirstFault}
-use Rattle.omf_format.specs.FileLaws.{file_same, no_file, segments_fit}
+use Rattle.omf_format.specs.File.{Segment, IsFile, IsFirstFault}
+use Rattle.omf_format.specs.FileLaws.{file_same, no_file}
 use Rattle.link_meaning.specs.declared.fault.LinkCause.{LinkCause}
 use Rattle.link_meaning.specs.declared.fault.LinkCause.TheVariants.{BadLength, BadLibrary}
 use Rattle.link_meaning.specs.First.{IsIn}
 use Rattle.link_meaning.specs.Sizes.{body_size}
 use Rattle.link_meaning.specs.Member.{Row, Input, Member, Offer, is_library, members_from, objects_from, objects, offer_of, offers_from, offers}
-use Rattle.link_meaning.specs.Defines.{Definition, defined_in, outer_scope}
 use Rattle.link_meaning.specs.Dictionary.{rows_of}
-use Rattle.link_meaning.specs.LinkFaults.{segment_fault, segments_fault, length_fault, records_fault, type_fault, with_place, rows_in_file, HasFileFault, OfDictionary, IsInput, AreInputs}
+use Rattle.link_meaning.specs.LinkFaults.{segment_fault, segments_fault, length_fault, records_fault, type_fault, with_place, OfDictionary, IsInput}
 use Rattle.omf_format.specs.Header.{alignment_of}
 use Rattle.link_meaning.specs.declared.fault.LinkFault.{LinkFault}
-use Rattle.link_meaning.specs.ProgressLaws.{AreSound}
-use Rattle.lib_dict.specs.DictionaryLayout.{DefinesSo, IsRow, AreRows, IsDictionary, RowsAreLaidOut}
+use Rattle.lib_dict.specs.DictionaryLayout.{AreRows, RowsAreLaidOut}
 use Rattle.lib_dict.specs.Library.{LibraryRow, told_row, HasRows, IsNoLibrary, IsFalseAt}
-use Rattle.link_resolve.specs.declared.linked.Linked.{Linked}
-use Rattle.link_resolve.specs.declared.offers.Offers as kept
 use Rattle.link_resolve.specs.declared.gather.Gathered as gathered
 use Rattle.link_resolve.specs.Linked.{Holds}
 use Rattle.link_resolve.specs.Offers.{AreOffers}
-use Rattle.link_resolve.specs.Libraries.{StartsAscend, StandsIn, AllStand}
+use Rattle.link_resolve.specs.Libraries.{StandsIn, AllStand}
 use Rattle.link_resolve.specs.Reading.{IsFileRefused}
 use Rattle.link_resolve.specs.Gathered as shown
 use Rattle.link_resolve.specs.Gathered.{segment_in, IsAmong, AllAmong, IsSoundInput, IsGathered, AddsInput}
 use Rattle.link_resolve.proofs.LibraryLaws.{ascend}
-use Rattle.link_resolve.proofs.OpeningLaws.{in_front, in_back, in_either}
+use Rattle.link_resolve.proofs.OpeningLaws.{in_either}
 
 -- ---- an object file's segments
 

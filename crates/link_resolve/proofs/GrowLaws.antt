@@ -2,16 +2,15 @@
 use Rattle.std.proofs.Common.{◌≡◌, ◌⊎◌, inl, inr, ℕ, zero, suc, ◌+◌, ◌≤◌, ◌<◌, ◌^◌, Bool, true, false, List, [], ◌∷◌, ◌++◌, length, get_or, replicate, Option, Some, None, refl, sym, ap, subst, ◌∙◌, append_assoc, append-nil, arith}
 use Rattle.std.specs.Prelude.{slice_get, option_and_then, if◌then◌else◌}
 use Rattle.std.proofs.Math.ListN.{set}
-use Rattle.std.proofs.lemmas.List.{get_or-set_same, get_or-set_other, get_or-replicate, length-append, length-set, length-replicate, length-map}
+use Rattle.std.proofs.lemmas.List.{get_or-set_other, length-append, length-set, length-replicate, length-map}
 use Rattle.omf_format.specs.File.{Segment, segment_at}
 use Rattle.link_meaning.specs.First.{IsIn}
 use Rattle.link_meaning.specs.FirstLaws.{first_some-first}
 use Rattle.link_meaning.specs.Member.{Member, Offer, Input, objects, offers}
 use Rattle.link_meaning.specs.declared.search.Want.{Want}
 use Rattle.link_meaning.specs.declared.search.Want.TheVariants.{Data, One, Any}
-use Rattle.link_meaning.specs.Uses.{Use}
 use Rattle.link_meaning.specs.Search.{Found, finds, finds_data}
-use Rattle.link_meaning.specs.LinkedList.{asked, row_for, found_for, unless_found, wanted, Follow, IsLinked}
+use Rattle.link_meaning.specs.LinkedList.{asked, row_for, found_for, unless_found, wanted, Follow}
 use Rattle.link_meaning.specs.Sizes.{body_size}
 use Rattle.link_meaning.specs.LinkFaults.{segments_fault}
 use Rattle.link_resolve.proofs.GatherLaws.{body_short}
@@ -21,7 +20,7 @@ use Rattle.link_resolve.specs.declared.linked.Linked.{Linked}
 use Rattle.link_resolve.specs.declared.offers.Offers as kept
 use Rattle.link_resolve.specs.Definitions.{IsOf}
 use Rattle.link_resolve.specs.Linked.{Holds}
-use Rattle.link_resolve.specs.Offers.{AreOffers, told_origin}
+use Rattle.link_resolve.specs.Offers.{told_origin}
 use Rattle.link_resolve.specs.Opening.{OpensNothing}
 use Rattle.link_resolve.specs.Wanted.{wanted_at, WantsNothing, IsWanted}
 use Rattle.link_resolve.specs.Gathered.{segment_in, IsAmong, AllAmong}

@@ -6,20 +6,19 @@ use Rattle.std.specs.Str.{bytes_eq}
 use Rattle.std.proofs.Math.ListN.{set}
 use Rattle.std.proofs.Math.Seq.{take-append_seam}
 use Rattle.std.proofs.lemmas.Bool.{eq-eqb, ne_eqb, eqb-true}
-use Rattle.std.proofs.lemmas.List.{map-append, length-map, length-append, length-set, take-append-le}
+use Rattle.std.proofs.lemmas.List.{map-append, length-map, length-append, take-append-le}
 use Rattle.std.proofs.lemmas.Option.{slice_get-map, slice_get_within}
 use Rattle.std.proofs.lemmas.List.Elements.{filter-append}
 use Rattle.omf_base.specs.declared.spot.Spot.{Spot}
 use Rattle.omf_format.specs.Header.{Fields, alignment_of}
 use Rattle.omf_format.specs.File.{Segment}
 use Rattle.load_meaning.specs.Plain.{lesser_bank, cleared}
-use Rattle.link_meaning.specs.First.{HasNone, IsFirst}
+use Rattle.link_meaning.specs.First.{IsFirst}
 use Rattle.link_meaning.specs.FirstLaws.{none_more, none_yet}
 use Rattle.link_meaning.specs.Member.{Member}
 use Rattle.link_meaning.specs.Layout.{in_load, aligned_from, end_from, load_length, load_names, load_members, least_bank, greatest_align, of_first, number_in, load_of, offset_of}
 use Rattle.link_meaning.specs.LayoutLaws.{aligned_from-least, alignment-some}
 use Rattle.link_meaning.specs.LinkFaults.{HasOrgFault, spot_in, first_spot}
-use Rattle.link_meaning.specs.declared.fault.LinkFault.{LinkFault}
 use Rattle.link_resolve.specs.declared.layout.Load.{Load}
 use Rattle.link_resolve.specs.declared.layout.Place.{Place}
 use Rattle.link_resolve.specs.declared.layout.Layout as kept
@@ -31,8 +30,7 @@ use Rattle.link_resolve.specs.Offers.{number_of}
 use Rattle.link_resolve.specs.Names.{Row, Indexes, outcome}
 use Rattle.link_resolve.specs.Laid.{IsFresh, IsJoined, IsLoadOf, IsLoad, load_rows, IsPlace, org_fault, conflict_with, IsConflict, Laid, has}
 use Rattle.link_resolve.proofs.NameTables.{bytes_same}
-use Rattle.link_resolve.proofs.LibraryLaws.{at_within}
-use Rattle.link_resolve.proofs.LoadNames.{bytes_refl, bytes_sym, has_names, has_at, names_new, names_same, load_number, number_stays, name_key, load_rows-snoc, IsNumber, looked}
+use Rattle.link_resolve.proofs.LoadNames.{bytes_refl, has_names, has_at, names_new, names_same, load_number, number_stays, name_key, load_rows-snoc, IsNumber, looked}
 
 abbrev name_of : Member → List ℕ
 name_of m = m.segment.fields.load_name

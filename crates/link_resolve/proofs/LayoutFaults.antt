@@ -1,24 +1,24 @@
 -- What is wrong with load segments, and their headers.
-use Rattle.std.proofs.Common.{◌≡◌, ◌⊎◌, inl, inr, ℕ, zero, suc, ◌+◌, ◌-◌, ◌≤◌, ◌<◌, ◌^◌, min, max, Bool, true, false, not, List, [], ◌∷◌, ◌++◌, length, map, take, drop, Option, Some, None, refl, sym, ap, subst, ◌∙◌, append_assoc, arith}
-use Rattle.std.specs.Prelude.{slice_get, option_map, ◌&&◌, ◌||◌, nat_lt, ◌==◌, if◌then◌else◌}
-use Rattle.std.proofs.lemmas.Bool.{eq-eqb, ne_eqb, eqb-true}
+use Rattle.std.proofs.Common.{◌≡◌, ◌⊎◌, inl, inr, ℕ, zero, suc, ◌+◌, ◌≤◌, ◌<◌, min, Bool, true, false, not, List, [], ◌∷◌, ◌++◌, length, map, take, drop, Option, Some, None, refl, sym, ap, subst, ◌∙◌, arith}
+use Rattle.std.specs.Prelude.{slice_get, option_map, ◌&&◌, ◌||◌, nat_lt, ◌==◌}
+use Rattle.std.proofs.lemmas.Bool.{eq-eqb, ne_eqb}
 use Rattle.std.proofs.lemmas.Bool.Decides.{nat_tests}
-use Rattle.std.proofs.lemmas.List.{length-map, length-append, take-append-drop, length-take-le}
+use Rattle.std.proofs.lemmas.List.{length-map, take-append-drop, length-take-le}
 use Rattle.std.proofs.lemmas.Option.{slice_get-map, slice_get_within}
 use Rattle.omf_base.specs.declared.spot.Spot.{Spot}
 use Rattle.omf_format.specs.Name.{without_trailing}
-use Rattle.omf_format.specs.Header.{Fields, alignment_of}
+use Rattle.omf_format.specs.Header.{Fields}
 use Rattle.load_meaning.specs.Plain.{cleared}
-use Rattle.link_meaning.specs.declared.fault.LinkCause.TheVariants.{OrgConflict, TooManySegments, SegmentTooLong}
+use Rattle.link_meaning.specs.declared.fault.LinkCause.TheVariants.{TooManySegments, SegmentTooLong}
 use Rattle.link_meaning.specs.declared.fault.LinkFault.{LinkFault}
 use Rattle.link_meaning.specs.First.{HasNone, IsFirst}
 use Rattle.link_meaning.specs.FirstLaws.{none_more, none_yet}
 use Rattle.link_meaning.specs.Member.{Member}
 use Rattle.link_meaning.specs.Layout.{load_names, load_length, load_members, least_bank, greatest_align, of_first, load_fields, headers_from, load_headers}
-use Rattle.link_meaning.specs.LinkFaults.{HasOrgFault, HasCountFault, HasLengthFault, HasLayoutFault, is_too_long, first_spot, LayoutCheck, Orgs, Count, Lengths}
+use Rattle.link_meaning.specs.LinkFaults.{HasOrgFault, HasLengthFault, HasLayoutFault, is_too_long, LayoutCheck, Orgs, Count, Lengths}
 use Rattle.link_resolve.specs.declared.layout.Load.{Load}
 use Rattle.link_resolve.specs.declared.layout.Layout as kept
-use Rattle.link_resolve.specs.Laid.{IsLoadOf, IsLoad, IsConflict, org_fault, Laid, layout_checks, is_long, AllShort, IsFirstLong, ShowsLoad, AreHeaders}
+use Rattle.link_resolve.specs.Laid.{IsLoad, IsConflict, org_fault, Laid, layout_checks, is_long, AllShort, IsFirstLong, ShowsLoad, AreHeaders}
 use Rattle.link_resolve.proofs.Lists.{drop_at}
 use Rattle.link_resolve.proofs.LibraryLaws.{take_more}
 

@@ -1,6 +1,7 @@
 pub mod Lists
 pub mod OnOks
 pub mod Spelled
+pub mod ShortNames
 pub mod NameTables
 pub mod ComingLaws
 pub mod Grown

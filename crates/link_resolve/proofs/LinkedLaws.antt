@@ -19,7 +19,7 @@ use Rattle.link_resolve.specs.declared.linked.LinkedMember.{LinkedMember}
 use Rattle.link_resolve.specs.declared.linked.Linked.{Linked}
 use Rattle.link_resolve.specs.Names.{Indexes}
 use Rattle.link_resolve.specs.Definitions.{AreDefinitions, IsOf, founds_in}
-use Rattle.link_resolve.specs.Uses.{use_of, told_use, at_place}
+use Rattle.link_resolve.specs.Uses.{use_of, told_use, at_place, HaveShortNames}
 use Rattle.link_resolve.specs.Linked.{names_of, ToldMember, kept_member, told_member, place_rows, Holds, GainsTitle, OriginOf, member_at}
 
 -- ---- lists
@@ -95,10 +95,10 @@ pub held_more : (list : List Member) (m : Member) (old new : Linked) (s : Segmen
     → kept_member k ≡ record { file = origin.file; number = origin.segment; from = origin.from; usings = names_of usings } → new.members.items ≡ old.members.items ++ k ∷ []
     → ((fs : List Found) (n : Member) → IsOf n origin → AreDefinitions fs old.definitions → AreDefinitions (fs ++ founds_in place n (defined_in s)) new.definitions)
     → GainsTitle old.titles new.titles origin place (data_title_of s)
-    → map use_of new.uses.items ≡ map use_of old.uses.items ++ at_place place (uses_of s)
+    → map use_of new.uses.items ≡ map use_of old.uses.items ++ at_place place (uses_of s) → (HaveShortNames old.uses.items → HaveShortNames new.uses.items)
     → names_of usings ≡ usings_of s → Holds (list ++ m ∷ []) new
 unfolding entries data_titles asked
-held_more list m old new s origin usings k place of same holds place_is kept_is members defines titles uses names =
+held_more list m old new s origin usings k place of same holds place_is kept_is members defines titles uses short names =
     let at : place ≡ 1 + length list = omega (arith, place_is, count_is list old holds) in
     let same_told : kept_member k ≡ told_member m =
     kept_is ∙ ap (λ (l : List (List ℕ)). told origin.file origin.segment origin.from l) (names ∙ ap usings_of (sym same))
@@ -127,11 +127,12 @@ held_more list m old new s origin usings k place of same holds place_is kept_is 
           ∙ ap (λ (l : List (ℕ × Use)). map told_use (asked_from 1 list) ++ l) (sym (told-uses_at (1 + length list) m (uses_of m.segment)))
           ∙ sym (map-append told_use (asked_from 1 list) (uses_at (1 + length list) m (uses_of m.segment)))
           ∙ ap (map told_use) (sym (asked_from-snoc 1 list m));
+      short = short holds.short;
     }
 
 pub held_none : (new : Linked) → new.members.items ≡ [] → AreDefinitions [] new.definitions → Indexes [] new.titles → new.uses.items ≡ [] → Holds [] new
 unfolding entries data_titles asked
-held_none new members definitions titles uses = record { members = ap (map kept_member) members; definitions = definitions; titles = titles; uses = ap (map use_of) uses }
+held_none new members definitions titles uses = record { members = ap (map kept_member) members; definitions = definitions; titles = titles; uses = ap (map use_of) uses; short = subst HaveShortNames (sym uses) tt }
 
 some_same : (a b : ToldMember) → Some a ≡ Some b → a ≡ b
 some_same a b e = cc

@@ -1,5 +1,5 @@
--- One more member opens no use again, unless it is a data segment whose name another one has that its unit sees.
-use Rattle.std.proofs.Common.{◌≡◌, ◌⊎◌, inl, inr, ℕ, zero, suc, ◌+◌, ◌≤◌, Bool, true, false, List, [], ◌∷◌, ◌++◌, length, map, take, Option, Some, None, refl, sym, ap, subst, ◌∙◌, append-nil, arith}
+-- One more member opens no use again, unless it is a data segment whose name one other has beside it, or hidden by it.
+use Rattle.std.proofs.Common.{◌≡◌, ◌⊎◌, inl, inr, ℕ, ◌+◌, ◌≤◌, Bool, true, false, List, [], ◌∷◌, ◌++◌, length, map, take, Option, Some, None, refl, sym, ap, subst, ◌∙◌, append-nil, arith}
 use Rattle.std.specs.Prelude.{filter, if◌then◌else◌, ◌==◌}
 use Rattle.std.specs.List.{flat_map}
 use Rattle.std.specs.Option.{option_or}
@@ -10,15 +10,18 @@ use Rattle.std.proofs.lemmas.List.Elements.{filter-append}
 use Rattle.std.proofs.lemmas.List.Concat.{flat_map-cons}
 use Rattle.link_meaning.specs.First.{first_some, IsIn}
 use Rattle.link_meaning.specs.Member.{Member, Offer}
-use Rattle.link_meaning.specs.Defines.{Definition, Scope, ForSegment, ForUnit, ForAll, data_title_of, defined_in}
+use Rattle.link_meaning.specs.Defines.{Definition, Scope, ForSegment, ForUnit, ForAll, outer_scope, data_title_of, defined_in}
 use Rattle.link_meaning.specs.declared.search.Step.{Step}
 use Rattle.link_meaning.specs.declared.search.Step.TheVariants.{Within, OfUnit, Everyone}
 use Rattle.link_meaning.specs.declared.search.Want.{Want}
-use Rattle.link_meaning.specs.declared.search.Want.TheVariants.{Data, One, Any}
+use Rattle.link_meaning.specs.declared.search.Want.TheVariants as wants
 use Rattle.link_meaning.specs.Uses.{Use, uses_of, usings_of}
-use Rattle.link_meaning.specs.Search.{Found, step_for, step_of, is_step, sees, or_else, decided, outer_steps, steps_of, used_data, entries_from, entries, data_titles, named, finds, finds_data, only_place}
-use Rattle.link_meaning.specs.LinkedList.{Asked, asked_from, asked, row_for, found_for, unless_found, wanted_by}
+use Rattle.link_meaning.specs.Search.{Found, step_for, is_step, sees, or_else, decided, outer_steps, steps_of, used_data, entries, data_titles, named, finds, finds_data, only_place}
+use Rattle.link_meaning.specs.LinkedList.{Asked, asked_from, asked, row_for, found_for, unless_found}
 use Rattle.link_meaning.specs.ProgressLaws.{AllNone, none_decided}
+use Rattle.link_resolve.specs.declared.names.Outcome.{Outcome}
+use Rattle.link_resolve.specs.declared.names.Outcome.TheVariants.{One}
+use Rattle.link_resolve.specs.Linked.{SeesPlace}
 use Rattle.link_resolve.specs.Opening.{OpensNothing}
 use Rattle.link_resolve.specs.Wanted.{wanted_at, WantsNothing}
 use Rattle.link_resolve.specs.Definitions.{founds_in}
@@ -75,57 +78,104 @@ unit_step u m p ForUnit e =
     (eqb-true u.file m.file parts.0, eqb-true u.from m.from parts.1)
 unit_step u m p ForAll e = absurd cc
 
-stays_by : (a a' b b' : List Found) (n : ℕ) → b ≡ [] → ((a ≡ [] → ⊥) → a' ≡ a) → IsIn (only_place (or_else a (or_else b []))) n → IsIn (only_place (or_else a' (or_else b' []))) n
-stays_by [] a' b b' n none same is = absurd (subst (λ (x : List Found). IsIn (only_place (or_else x [])) n) none is)
-stays_by (f ∷ a) a' b b' n none same is = subst (λ (x : List Found). IsIn (only_place (or_else x (or_else b' []))) n) (sym (same (λ e. cc))) is
+or_nothing : (b : List Found) → or_else b [] ≡ b
+or_nothing [] = refl
+or_nothing (f ∷ b) = refl
 
--- one more title of that name, where its unit saw none
-title_stays : (u m : Member) (f : Found) (xs : List Found) (n : ℕ) → f.member ≡ m → decided (outer_steps m) xs ≡ [] → IsIn (only_place (decided (outer_steps u) xs)) n → IsIn (only_place (decided (outer_steps u) (xs ++ f ∷ []))) n
-title_stays u m f xs n of none is =
-    let both = none_decided (outer_steps m) xs none in
+never_one : (found : List Found) (n : ℕ) → only_place found ≡ [] → IsIn (only_place found) n → ⊥
+never_one found n none is = subst (λ (l : List ℕ). IsIn l n) none is
+
+-- what the unit has stays, and what all see wasn't one
+public_stays : (a a' b b' : List Found) (n : ℕ) → a' ≡ a → only_place b ≡ [] → IsIn (only_place (or_else a (or_else b []))) n → IsIn (only_place (or_else a' (or_else b' []))) n
+public_stays [] a' b b' n same none is = absurd (never_one b n none (subst (λ (l : List Found). IsIn (only_place l) n) (or_nothing b) is))
+public_stays (f ∷ a) a' b b' n same none is = subst (λ (l : List Found). IsIn (only_place (or_else l (or_else b' []))) n) (sym same) is
+
+-- one more that a step doesn't see
+unseen : (s : Step) (f : Found) (xs : List Found) → sees s f ≡ false → filter (sees s) (xs ++ f ∷ []) ≡ filter (sees s) xs
+unseen s f xs hidden =
+    filter-append (sees s) xs (f ∷ []) ∙ ap (λ (t : Bool). filter (sees s) xs ++ (if t then f ∷ [] else [])) hidden ∙ append-nil (filter (sees s) xs)
+
+-- one more public title of a name, of which all saw none or several
+all_stays : (u : Member) (f : Found) (xs : List Found) (n : ℕ) → f.definition.scope ≡ ForAll → only_place (filter (sees Everyone) xs) ≡ []
+    → IsIn (only_place (decided (outer_steps u) xs)) n → IsIn (only_place (decided (outer_steps u) (xs ++ f ∷ []))) n
+all_stays u f xs n scope none is =
     let unit = OfUnit u.file u.from in
-    stays_by (filter (sees unit) xs) (filter (sees unit) (xs ++ f ∷ [])) (filter (sees Everyone) xs) (filter (sees Everyone) (xs ++ f ∷ [])) n both.1.0
-    (λ some. filter-append (sees unit) xs (f ∷ []) ∙ ap (λ (l : List Found). filter (sees unit) xs ++ l) (unseen (sees unit f) refl (λ e. some (own e))) ∙ append-nil (filter (sees unit) xs)) is
-  where
-    own : sees (OfUnit u.file u.from) f ≡ true → filter (sees (OfUnit u.file u.from)) xs ≡ []
-    own e =
-        let both = none_decided (outer_steps m) xs none in
-        let same = unit_step u f.member f.place f.definition.scope e in
-        ap (λ (x : ℕ). filter (sees (OfUnit x u.from)) xs) (same.0 ∙ ap (λ (y : Member). y.file) of)
-        ∙ ap (λ (x : ℕ). filter (sees (OfUnit m.file x)) xs) (same.1 ∙ ap (λ (y : Member). y.from) of)
-        ∙ both.0
+    let hidden : sees unit f ≡ false = ap (λ (c : Scope). is_step unit (step_for f.place f.member.file f.member.from c)) scope in
+    public_stays (filter (sees unit) xs) (filter (sees unit) (xs ++ f ∷ [])) (filter (sees Everyone) xs) (filter (sees Everyone) (xs ++ f ∷ [])) n (unseen unit f xs hidden) none is
 
-    unseen : (t : Bool) → sees (OfUnit u.file u.from) f ≡ t → (t ≡ true → ⊥) → filter (sees (OfUnit u.file u.from)) (f ∷ []) ≡ []
-    unseen true e other = absurd (other refl)
-    unseen false e other = ap (λ (t : Bool). if t then f ∷ [] else []) e
+-- one more private title of a name, of which its unit found none or several
+unit_stays : (u m : Member) (f : Found) (xs : List Found) (n : ℕ) → f.member ≡ m → f.definition.scope ≡ ForUnit → only_place (decided (outer_steps m) xs) ≡ []
+    → IsIn (only_place (decided (outer_steps u) xs)) n → IsIn (only_place (decided (outer_steps u) (xs ++ f ∷ []))) n
+unit_stays u m f xs n of scope none is = settle (sees (OfUnit u.file u.from) f) refl
+  where
+    settle : (t : Bool) → sees (OfUnit u.file u.from) f ≡ t → IsIn (only_place (decided (outer_steps u) (xs ++ f ∷ []))) n
+    settle true e =
+        let same = unit_step u f.member f.place f.definition.scope e in
+        let file : u.file ≡ m.file = same.0 ∙ ap (λ (y : Member). y.file) of in
+        let from : u.from ≡ m.from = same.1 ∙ ap (λ (y : Member). y.from) of in
+        let steps : outer_steps u ≡ outer_steps m =
+        ap (λ (x : ℕ). OfUnit x u.from ∷ Everyone ∷ []) file ∙ ap (λ (x : ℕ). OfUnit m.file x ∷ Everyone ∷ []) from in
+        absurd (never_one (decided (outer_steps m) xs) n none (subst (λ (l : List Step). IsIn (only_place (decided l xs)) n) steps is))
+    settle false e =
+        let every : sees Everyone f ≡ false = ap (λ (c : Scope). is_step Everyone (step_for f.place f.member.file f.member.from c)) scope in
+        let same : decided (outer_steps u) (xs ++ f ∷ []) ≡ decided (outer_steps u) xs =
+        ap (λ (l : List Found). or_else l (or_else (filter (sees Everyone) (xs ++ f ∷ [])) [])) (unseen (OfUnit u.file u.from) f xs e)
+        ∙ ap (λ (l : List Found). or_else (filter (sees (OfUnit u.file u.from)) xs) (or_else l [])) (unseen Everyone f xs every) in
+        subst (λ (l : List Found). IsIn (only_place l) n) (sym same) is
 
 one_named : (name : List ℕ) (f : Found) (t : Bool) → bytes_eq name f.definition.name ≡ t → named name (f ∷ []) ≡ (if t then f ∷ [] else [])
 unfolding named
 one_named name f t e = ap (λ (b : Bool). if b then f ∷ [] else []) e
 
--- a name of USING that finds one data segment finds it still
-place_stays : (list : List Member) (m u : Member) (name : List ℕ) (n : ℕ) → OpensNothing list m → IsIn (only_place (finds_data list u name)) n → IsIn (only_place (finds_data (list ++ m ∷ []) u name)) n
+-- a member without a title
+pub none_titled_opens : (list : List Member) (m : Member) → data_title_of m.segment ≡ [] → OpensNothing list m
 unfolding finds_data
-place_stays list m u name n (inl none) is =
+none_titled_opens list m none u name n is =
     let same : data_titles (list ++ m ∷ []) ≡ data_titles list =
     titles_more list m ∙ ap (λ (ds : List Definition). data_titles list ++ founds_in (1 + length list) m ds) none ∙ append-nil (data_titles list) in
     subst (λ (l : List Found). IsIn (only_place (decided (outer_steps u) (named name l))) n) (sym same) is
-place_stays list m u name n (inr title) is = by_name (bytes_eq name title.0.name) refl
+
+-- what the search for a title's name finds with the title behind the others
+abbrev Stays : List Member → Member → Definition → Type 0
+Stays list m d = (u : Member) (n : ℕ) → IsIn (only_place (decided (outer_steps u) (named d.name (data_titles list)))) n
+    → IsIn (only_place (decided (outer_steps u) (named d.name (data_titles list) ++ record { place = 1 + length list; member = m; definition = d } ∷ []))) n
+
+title_stays : (list : List Member) (m : Member) (d : Definition) → data_title_of m.segment ≡ d ∷ [] → Stays list m d → OpensNothing list m
+unfolding finds_data
+title_stays list m d title stays u name n is = by_name (bytes_eq name d.name) refl
   where
     f : Found
-    f = record { place = 1 + length list; member = m; definition = title.0 }
+    f = record { place = 1 + length list; member = m; definition = d }
 
     whole : named name (data_titles (list ++ m ∷ [])) ≡ named name (data_titles list) ++ named name (f ∷ [])
-    whole = ap (named name) (titles_more list m ∙ ap (λ (ds : List Definition). data_titles list ++ founds_in (1 + length list) m ds) title.1) ∙ named-append name (data_titles list) (f ∷ [])
+    whole = ap (named name) (titles_more list m ∙ ap (λ (ds : List Definition). data_titles list ++ founds_in (1 + length list) m ds) title) ∙ named-append name (data_titles list) (f ∷ [])
 
-    by_name : (t : Bool) → bytes_eq name title.0.name ≡ t → IsIn (only_place (decided (outer_steps u) (named name (data_titles (list ++ m ∷ []))))) n
+    by_name : (t : Bool) → bytes_eq name d.name ≡ t → IsIn (only_place (decided (outer_steps u) (named name (data_titles (list ++ m ∷ []))))) n
     by_name true e =
-        let same : title.0.name ≡ name = sym (bytes_same name title.0.name e) in
-        let none : decided (outer_steps m) (named name (data_titles list)) ≡ [] = subst (λ (x : List ℕ). decided (outer_steps m) (named x (data_titles list)) ≡ []) same title.2 in
-        subst (λ (l : List Found). IsIn (only_place (decided (outer_steps u) l)) n) (sym (whole ∙ ap (λ (l : List Found). named name (data_titles list) ++ l) (one_named name f true e)))
-        (title_stays u m f (named name (data_titles list)) n refl none is)
+        let same : d.name ≡ name = sym (bytes_same name d.name e) in
+        let more : IsIn (only_place (decided (outer_steps u) (named name (data_titles list) ++ f ∷ []))) n =
+        subst (λ (x : List ℕ). IsIn (only_place (decided (outer_steps u) (named x (data_titles list) ++ f ∷ []))) n) same
+        (stays u n (subst (λ (x : List ℕ). IsIn (only_place (decided (outer_steps u) (named x (data_titles list)))) n) (sym same) is)) in
+        subst (λ (l : List Found). IsIn (only_place (decided (outer_steps u) l)) n) (sym (whole ∙ ap (λ (l : List Found). named name (data_titles list) ++ l) (one_named name f true e))) more
     by_name false e =
         subst (λ (l : List Found). IsIn (only_place (decided (outer_steps u) l)) n) (sym (whole ∙ ap (λ (l : List Found). named name (data_titles list) ++ l) (one_named name f false e) ∙ append-nil (named name (data_titles list)))) is
+
+not_one : (found : List Found) (o : Outcome) → SeesPlace found o → ((n : ℕ) → o ≡ One n → ⊥) → only_place found ≡ []
+not_one [] o seen other = refl
+not_one (f ∷ []) o seen other = absurd (other seen.0 seen.1)
+not_one (f ∷ g ∷ more) o seen other = refl
+
+-- a member whose title is beside none or several, or hides none or several
+pub titled_opens : (list : List Member) (m : Member) (d : Definition) (private : Bool) (o : Outcome) → data_title_of m.segment ≡ d ∷ [] → d.scope ≡ outer_scope private
+    → (private ≡ true → SeesPlace (finds_data list m d.name) o) → (private ≡ false → SeesPlace (filter (sees Everyone) (named d.name (data_titles list))) o)
+    → ((n : ℕ) → o ≡ One n → ⊥) → OpensNothing list m
+unfolding finds_data
+titled_opens list m d true o title scope own every other =
+    title_stays list m d title (λ u n is. unit_stays u m (record { place = 1 + length list; member = m; definition = d }) (named d.name (data_titles list)) n refl scope
+    (not_one (decided (outer_steps m) (named d.name (data_titles list))) o (own refl) other) is)
+titled_opens list m d false o title scope own every other =
+    title_stays list m d title (λ u n is. all_stays u (record { place = 1 + length list; member = m; definition = d }) (named d.name (data_titles list)) n scope
+    (not_one (filter (sees Everyone) (named d.name (data_titles list))) o (every refl) other) is)
 
 -- ---- names
 
@@ -162,7 +212,7 @@ places_stay f g (x ∷ names) n each is =
 used_stays : (list : List Member) (m u : Member) (n : ℕ) → OpensNothing list m → IsIn (used_data list u) n → IsIn (used_data (list ++ m ∷ []) u) n
 unfolding used_data
 used_stays list m u n opens is =
-    places_stay (λ name. only_place (finds_data list u name)) (λ name. only_place (finds_data (list ++ m ∷ []) u name)) (usings_of u.segment) n (λ name. place_stays list m u name n opens) is
+    places_stay (λ name. only_place (finds_data list u name)) (λ name. only_place (finds_data (list ++ m ∷ []) u name)) (usings_of u.segment) n (λ name. opens u name n) is
 
 within_stays : (xs ys : List ℕ) (s : Step) → ((n : ℕ) → IsIn xs n → IsIn ys n) → IsIn (map Within xs) s → IsIn (map Within ys) s
 within_stays [] ys s each is = absurd is
@@ -195,9 +245,9 @@ abbrev use_as : Want → List ℕ → ℕ → Use
 use_as want name at = record { want = want; name = name; at = at }
 
 found_before : (list : List Member) (m u : Member) (place : ℕ) (want : Want) (name : List ℕ) (at : ℕ) → OpensNothing list m → found_for (list ++ m ∷ []) place u (use_as want name at) ≡ [] → found_for list place u (use_as want name at) ≡ []
-found_before list m u place Data name at opens e = data_before list m u name e
-found_before list m u place One name at opens e = finds_before list m u place name opens e
-found_before list m u place Any name at opens e = finds_before list m u place name opens e
+found_before list m u place wants.Data name at opens e = data_before list m u name e
+found_before list m u place wants.One name at opens e = finds_before list m u place name opens e
+found_before list m u place wants.Any name at opens e = finds_before list m u place name opens e
 
 unless_stays : (found found' : List Found) (row : Option Member) → (found' ≡ [] → found ≡ []) → unless_found found row ≡ None → unless_found found' row ≡ None
 unless_stays found [] row before e = sym (ap (λ (f : List Found). unless_found f row) (before refl)) ∙ e

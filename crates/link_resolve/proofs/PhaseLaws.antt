@@ -1,10 +1,8 @@
 -- The first fault of the phases.
-use Rattle.std.proofs.Common.{◌≡◌, ◌⊎◌, inl, inr, ℕ, zero, suc, ◌+◌, ◌≤◌, ◌<◌, List, [], ◌∷◌, ◌++◌, length, map, take, drop, Option, Some, None, Result, Ok, Err, refl, sym, ap, subst, ◌∙◌, append_assoc, arith}
+use Rattle.std.proofs.Common.{◌≡◌, ℕ, ◌+◌, List, [], ◌∷◌, ◌++◌, length, Option, Some, None, Result, Ok, Err, refl, sym, ap, subst, ◌∙◌}
 use Rattle.std.specs.Prelude.{slice_get}
-use Rattle.std.proofs.lemmas.List.{take-append-drop, length-append, length-take-le}
-use Rattle.omf_format.specs.declared.fault.FileFault.{FileFault}
 use Rattle.omf_base.specs.declared.spot.Spot.{Spot}
-use Rattle.omf_format.specs.File.{Segment, IsFile}
+use Rattle.omf_format.specs.File.{Segment}
 use Rattle.omf_format.specs.FileLaws.{file_same, no_file}
 use Rattle.link_meaning.specs.declared.fault.LinkCause.{LinkCause}
 use Rattle.link_meaning.specs.declared.fault.LinkFault.{LinkFault}
@@ -12,8 +10,8 @@ use Rattle.link_meaning.specs.declared.fault.LinkCause.TheVariants.{Empty}
 use Rattle.link_meaning.specs.First.{HasNone, IsFirst}
 use Rattle.link_meaning.specs.FirstLaws.{none_more, none_yet}
 use Rattle.link_meaning.specs.Member.{Row, Input, Member, objects}
-use Rattle.link_meaning.specs.LinkedList.{Asked, asked, found_for}
-use Rattle.link_meaning.specs.LinkFaults.{nowhere, spot_in, segments_fault, rows_in_file, HasFileFault, OfFile, OfSegment, OfDictionary, IsInput, AreInputs, IsProgram, use_cause, HasUseFault, HasLayoutFault, Phase, Reading, Objects, Names, Layout, phases, HasPhaseFault, IsFirstResolveFault, IsResolved}
+use Rattle.link_meaning.specs.LinkedList.{Asked, asked}
+use Rattle.link_meaning.specs.LinkFaults.{nowhere, segments_fault, rows_in_file, HasFileFault, OfFile, OfSegment, OfDictionary, IsInput, AreInputs, IsProgram, HasUseFault, HasLayoutFault, Phase, Reading, Objects, Names, Layout, HasPhaseFault, IsFirstResolveFault, IsResolved}
 use Rattle.link_meaning.specs.LinkFaultLaws.{one_program}
 use Rattle.link_resolve.specs.declared.definitions.Origin.{Origin}
 use Rattle.link_resolve.specs.Definitions.{IsOf}

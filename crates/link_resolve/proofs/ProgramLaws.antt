@@ -1,5 +1,5 @@
 -- What is kept of a program, once its load segments have no fault.
-use Rattle.std.proofs.Common.{◌≡◌, inl, inr, ℕ, zero, suc, ◌+◌, ◌-◌, ◌≤◌, ◌<◌, ◌^◌, min, Bool, true, false, List, [], ◌∷◌, ◌++◌, length, map, take, drop, Option, Some, None, refl, sym, ap, subst, ◌∙◌, arith}
+use Rattle.std.proofs.Common.{◌≡◌, inl, inr, ℕ, zero, suc, ◌+◌, ◌-◌, ◌≤◌, ◌<◌, ◌^◌, Bool, true, false, List, [], ◌∷◌, ◌++◌, length, map, take, drop, Option, Some, None, refl, sym, ap, subst, ◌∙◌, arith}
 use Rattle.std.specs.Prelude.{slice_get, option_map, ◌||◌, if◌then◌else◌}
 use Rattle.std.specs.List.{filter_map, cons_option}
 use Rattle.std.specs.Str.{bytes_eq}
@@ -8,19 +8,16 @@ use Rattle.std.proofs.lemmas.Option.{slice_get-map, slice_get_within}
 use Rattle.omf_format.specs.File.{Segment}
 use Rattle.omf_format.specs.Header.{Fields, alignment_of}
 use Rattle.omf_header.specs.View.{fields}
-use Rattle.link_meaning.specs.First.{IsIn}
 use Rattle.link_meaning.specs.Member.{Member}
-use Rattle.link_meaning.specs.Layout.{in_load, aligned_from, end_from, load_length, load_names, load_of, offset_of, headers_from, load_headers, number_in}
+use Rattle.link_meaning.specs.Layout.{in_load, aligned_from, end_from, load_length, load_names, load_of, offset_of, headers_from, load_headers}
 use Rattle.link_meaning.specs.LayoutLaws.{aligned_from-least, alignment-some}
 use Rattle.link_resolve.specs.declared.linked.LinkedMember.{LinkedMember}
-use Rattle.link_resolve.specs.declared.linked.Linked.{Linked}
-use Rattle.link_resolve.specs.declared.layout.Load.{Load}
 use Rattle.link_resolve.specs.declared.layout.Place.{Place}
 use Rattle.link_resolve.specs.declared.layout.Layout as laid
 use Rattle.link_resolve.specs.declared.program.Kept.{Kept}
 use Rattle.link_resolve.specs.Linked.{kept_member, told_member, ToldMember, Holds, OriginOf, member_at}
 use Rattle.link_resolve.specs.Gathered.{segment_in, IsAmong, AllAmong}
-use Rattle.link_resolve.specs.Laid.{has, IsLoad, IsPlace, AllShort, Laid}
+use Rattle.link_resolve.specs.Laid.{has, AllShort, Laid}
 use Rattle.link_resolve.specs.Programs.{member_in, list_of, StandsAt, IsKept, linked_at, header_at}
 use Rattle.link_resolve.specs.Definitions.{IsOf}
 use Rattle.link_resolve.specs.declared.definitions.Origin.{Origin}
@@ -31,7 +28,7 @@ use Rattle.link_resolve.proofs.Lists.{drop_at}
 use Rattle.link_resolve.proofs.NameTables.{bytes_same}
 use Rattle.link_resolve.proofs.LoadNames.{load_number, bytes_refl}
 use Rattle.link_resolve.proofs.LaidLaws.{name_there}
-use Rattle.link_resolve.proofs.LayoutFaults.{HasLoad, load_there, length_short}
+use Rattle.link_resolve.proofs.LayoutFaults.{load_there, length_short}
 
 -- ---- the list
 

@@ -1,19 +1,19 @@
 -- The steps of resolving, put together.
-use Rattle.std.proofs.Common.{◌≡◌, ◌⊎◌, inl, inr, ℕ, suc, ◌+◌, ◌*◌, ◌≤◌, ◌<◌, ◌^◌, List, [], ◌∷◌, ◌++◌, length, get_or, map, take, drop, Option, Some, None, refl, sym, ap, subst, ◌∙◌, arith}
+use Rattle.std.proofs.Common.{◌≡◌, inl, inr, ℕ, suc, ◌+◌, ◌*◌, ◌≤◌, ◌<◌, ◌^◌, List, [], ◌∷◌, ◌++◌, length, get_or, map, take, drop, Option, Some, None, refl, sym, ap, subst, ◌∙◌, arith}
 use Rattle.std.specs.Prelude.{slice_get, option_map, Vec}
 use Rattle.std.specs.Global.{Global}
-use Rattle.std.proofs.lemmas.List.{length-map, length-append, length-take-le, take-append-drop}
+use Rattle.std.proofs.lemmas.List.{length-map, length-take-le, take-append-drop}
 use Rattle.std.proofs.lemmas.Option.{slice_get_within, slice_get-map, slice_get_read}
 use Rattle.omf_format.specs.File.{Segment}
 use Rattle.link_meaning.specs.declared.fault.LinkCause.TheVariants.{Empty}
 use Rattle.link_meaning.specs.declared.fault.LinkFault.{LinkFault}
 use Rattle.link_meaning.specs.First.{HasNone, IsFirst}
-use Rattle.link_meaning.specs.Member.{Input, Member, objects, offers}
+use Rattle.link_meaning.specs.Member.{Input, objects}
 use Rattle.link_meaning.specs.LinkedList.{asked}
 use Rattle.link_meaning.specs.LinkFaults.{nowhere, IsInput, AreInputs, IsProgram, HasFileFault, HasUseFault, HasLayoutFault, IsResolved}
 use Rattle.link_resolve.specs.declared.gather.Gathered as gathered
 use Rattle.link_resolve.specs.declared.linked.Linked.{Linked}
-use Rattle.link_resolve.specs.Reading.{memory_fault, IsFileRefused}
+use Rattle.link_resolve.specs.Reading.{IsFileRefused}
 use Rattle.omf_header.specs.View.{fields}
 use Rattle.link_resolve.specs.declared.layout.Layout as laid
 use Rattle.link_resolve.specs.declared.program.Kept.{Kept}
@@ -21,14 +21,14 @@ use Rattle.link_resolve.specs.Gathered.{IsGathered, AllAmong}
 use Rattle.link_resolve.specs.Programs.{IsKept}
 use Rattle.link_resolve.specs.Grown.{MayGrow, HasGrown}
 use Rattle.link_resolve.specs.Laid.{layout_checks, Laid, AllShort, AreHeaders}
-use Rattle.link_resolve.specs.Resolved.{all_bytes, total_size, AreFew, FewRows, HasGathered, IsReadingFault, IsUseFault, IsRefused}
+use Rattle.link_resolve.specs.Resolved.{all_bytes, total_size, AreFew, HasGathered, IsReadingFault, IsUseFault, IsRefused}
 use Rattle.link_resolve.proofs.Lists.{drop_at, empty}
 use Rattle.link_resolve.proofs.LinkedLaws.{count_is}
 use Rattle.link_resolve.proofs.LibraryLaws.{take_more, take_all}
 use Rattle.link_resolve.proofs.AmongLaws.{objects_among, offers_among, offers_sound, files_sound, few_more, all_fit}
 use Rattle.link_resolve.proofs.LayoutFaults.{loads_are, all_headers}
 use Rattle.link_resolve.proofs.ProgramLaws.{kept_is}
-use Rattle.link_resolve.proofs.PhaseLaws.{HasFault, none_read, inputs_more, at_reading, at_objects, at_names, at_layout, all_sound}
+use Rattle.link_resolve.proofs.PhaseLaws.{none_read, inputs_more, at_reading, at_objects, at_names, at_layout, all_sound}
 
 -- ---- reading
 

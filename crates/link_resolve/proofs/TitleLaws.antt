@@ -1,6 +1,6 @@
 -- Tables of titles, and one more title.
-use Rattle.std.proofs.Common.{◌≡◌, inl, inr, ℕ, Bool, List, [], ◌∷◌, ◌++◌, None, refl, sym, ap, subst, ◌∙◌, append-nil}
-use Rattle.std.specs.Prelude.{if◌then◌else◌}
+use Rattle.std.proofs.Common.{◌≡◌, ℕ, Bool, true, false, List, [], ◌∷◌, ◌++◌, None, refl, sym, ap, subst, ◌∙◌, append-nil}
+use Rattle.std.specs.Prelude.{filter, if◌then◌else◌}
 use Rattle.std.proofs.lemmas.Bool.{eq-eqb, ne_eqb}
 use Rattle.std.proofs.lemmas.List.{map-append}
 use Rattle.omf_format.specs.Header.{form_of, is_private}
@@ -8,15 +8,17 @@ use Rattle.omf_format.specs.File.{Segment}
 use Rattle.link_meaning.specs.declared.search.Step.{Step}
 use Rattle.link_meaning.specs.Defines.{Definition, outer_scope, title_of, data_title_of}
 use Rattle.link_meaning.specs.Member.{Member}
-use Rattle.link_meaning.specs.Search.{Found, step_for, finds_data}
+use Rattle.link_meaning.specs.declared.search.Step.TheVariants.{Everyone}
+use Rattle.link_meaning.specs.Search.{Found, step_for, sees, named, data_titles, finds_data}
 use Rattle.link_resolve.specs.declared.names.Outcome.{Outcome}
-use Rattle.link_resolve.specs.declared.names.Outcome.TheVariants.{Nothing, One, Several}
+use Rattle.link_resolve.specs.declared.names.Outcome.TheVariants.{One}
 use Rattle.link_resolve.specs.Opening.{OpensNothing}
 use Rattle.link_resolve.specs.declared.names.Names.{Names}
 use Rattle.link_resolve.specs.declared.definitions.Origin.{Origin}
 use Rattle.link_resolve.specs.Names.{Named, Row, Indexes}
 use Rattle.link_resolve.specs.Definitions.{key_of_found, founds_in}
 use Rattle.link_resolve.specs.Linked.{place_rows, GainsTitle, SeesPlace}
+use Rattle.link_resolve.proofs.OpeningLaws.{none_titled_opens, titled_opens}
 
 none_gained : (titles : Names) (origin : Origin) (place : ℕ) (ds : List Definition) → ds ≡ [] → GainsTitle titles titles origin place ds
 none_gained titles origin place ds none fs m of ix =
@@ -74,16 +76,16 @@ gained old new origin place s form name private step is data' named some hidden 
 
 -- ---- whether a member may open a use again
 
-title_is : (s : Segment) (form : ℕ) (name : List ℕ) → form ≡ form_of s.fields.kind → form ≡ 0x01 → name ≡ s.fields.name → (name ≡ [] → ⊥) → (d : Definition) × (data_title_of s ≡ d ∷ []) × (d.name ≡ name)
+title_is : (s : Segment) (form : ℕ) (name : List ℕ) → form ≡ form_of s.fields.kind → form ≡ 0x01 → name ≡ s.fields.name → (name ≡ [] → ⊥) → (d : Definition) × (data_title_of s ≡ d ∷ []) × (d.name ≡ name) × (d.scope ≡ outer_scope (is_private s.fields.kind))
 unfolding title_of
 title_is s form name is data' named some = by_name s.fields.name (sym named) (of_data s form is data')
   where
     by_name : (n : List ℕ) → n ≡ name → data_title_of s ≡ (elim n as (λ n. List Definition) [
       | [] ↦ []
       | b ∷ bs ↦ record { name = b ∷ bs; scope = outer_scope (is_private s.fields.kind); place = 0; at = s.start; expr = None; size = 0; form = 0x4E } ∷ []
-    ]) → (d : Definition) × (data_title_of s ≡ d ∷ []) × (d.name ≡ name)
+    ]) → (d : Definition) × (data_title_of s ≡ d ∷ []) × (d.name ≡ name) × (d.scope ≡ outer_scope (is_private s.fields.kind))
     by_name [] e titles = absurd (some (sym e))
-    by_name (b ∷ bs) e titles = (record { name = b ∷ bs; scope = outer_scope (is_private s.fields.kind); place = 0; at = s.start; expr = None; size = 0; form = 0x4E }, titles, e)
+    by_name (b ∷ bs) e titles = (record { name = b ∷ bs; scope = outer_scope (is_private s.fields.kind); place = 0; at = s.start; expr = None; size = 0; form = 0x4E }, titles, e, refl)
 
 none_titled : (s : Segment) (form : ℕ) (name : List ℕ) → form ≡ form_of s.fields.kind → form ≡ 0x01 → name ≡ s.fields.name → name ≡ [] → data_title_of s ≡ []
 unfolding title_of
@@ -99,23 +101,16 @@ none_titled s form name is data' named none = of_data s form is data' ∙ by_nam
 pub code_opens_nothing : (list : List Member) (m : Member) (s : Segment) (form : ℕ) → m.segment ≡ s → form ≡ form_of s.fields.kind → (form ≡ 0x01 → ⊥) → OpensNothing list m
 unfolding data_title_of
 code_opens_nothing list m s form same is other =
-    inl (ap data_title_of same ∙ ap (λ (b : Bool). if b then title_of s else []) (ne_eqb (form_of s.fields.kind) 0x01 (λ e. other (is ∙ e))))
+    none_titled_opens list m (ap data_title_of same ∙ ap (λ (b : Bool). if b then title_of s else []) (ne_eqb (form_of s.fields.kind) 0x01 (λ e. other (is ∙ e))))
 
 pub unnamed_opens_nothing : (list : List Member) (m : Member) (s : Segment) (form : ℕ) (name : List ℕ) → m.segment ≡ s → form ≡ form_of s.fields.kind → form ≡ 0x01 → name ≡ s.fields.name → name ≡ [] → OpensNothing list m
-unnamed_opens_nothing list m s form name same is data' named none = inl (ap data_title_of same ∙ none_titled s form name is data' named none)
+unnamed_opens_nothing list m s form name same is data' named none = none_titled_opens list m (ap data_title_of same ∙ none_titled s form name is data' named none)
 
-seen_nothing : (found : List Found) → SeesPlace found Nothing → found ≡ []
-seen_nothing [] seen = refl
-seen_nothing (f ∷ []) seen = let clash : Nothing ≡ One seen.0 = seen.1 in absurd cc
-seen_nothing (f ∷ g ∷ more) seen = let clash : Nothing ≡ Several seen.0 = seen.1 in absurd cc
-
-pub new_opens_nothing : (list : List Member) (m : Member) (s : Segment) (form : ℕ) (name : List ℕ) (answer : Outcome) → m.segment ≡ s → form ≡ form_of s.fields.kind → form ≡ 0x01 → name ≡ s.fields.name → (name ≡ [] → ⊥)
-    → SeesPlace (finds_data list m name) answer → answer ≡ Nothing → OpensNothing list m
-new_opens_nothing list m s form name answer same is data' named some seen nothing =
-    let d = title_is s form name is data' named some in
-    inr (
-      d.0,
-      ap data_title_of same ∙ d.1,
-      seen_nothing (finds_data list m d.0.name)
-          (subst (λ (o : Outcome). SeesPlace (finds_data list m d.0.name) o) nothing (subst (λ (n : List ℕ). SeesPlace (finds_data list m n) answer) (sym d.2) seen)),
-    )
+pub title_opens_nothing : (list : List Member) (m : Member) (s : Segment) (form : ℕ) (name : List ℕ) (private : Bool) (answer : Outcome) → m.segment ≡ s → form ≡ form_of s.fields.kind → form ≡ 0x01 → name ≡ s.fields.name
+    → (name ≡ [] → ⊥) → private ≡ is_private s.fields.kind → (private ≡ true → SeesPlace (finds_data list m name) answer)
+    → (private ≡ false → SeesPlace (filter (sees Everyone) (named name (data_titles list))) answer) → ((n : ℕ) → answer ≡ One n → ⊥) → OpensNothing list m
+title_opens_nothing list m s form name private answer same is data' named_so some hidden own every other =
+    let d = title_is s form name is data' named_so some in
+    titled_opens list m d.0 private answer (ap data_title_of same ∙ d.1) (d.3 ∙ ap outer_scope (sym hidden))
+    (λ e. subst (λ (n : List ℕ). SeesPlace (finds_data list m n) answer) (sym d.2) (own e))
+    (λ e. subst (λ (n : List ℕ). SeesPlace (filter (sees Everyone) (named n (data_titles list))) answer) (sym d.2) (every e)) other

@@ -1,5 +1,5 @@
 -- What is gathered of inputs.
-use Rattle.std.specs.Prelude.{◌≡◌, ℕ, zero, suc, ◌+◌, ◌++◌, List, [], ◌∷◌, Option, Some, None, Ok, option_and_then, map, slice_get, if◌then◌else◌}
+use Rattle.std.specs.Prelude.{◌≡◌, ℕ, zero, suc, ◌++◌, List, [], Option, Some, None, Ok, option_and_then, map, slice_get, if◌then◌else◌}
 use Rattle.std.specs.List.{filter_map}
 use Rattle.omf_format.specs.File.{Segment, segment_at}
 use Rattle.lib_dict.specs.Library.{LibraryRow, told_row}

@@ -1,5 +1,5 @@
 -- What is kept of load segments.
-use Rattle.std.specs.Prelude.{◌≡◌, ◌≤◌, ◌<◌, ◌+◌, ◌^◌, ℕ, Bool, not, ◌&&◌, ◌||◌, true, false, nat_lt, min, max, List, [], ◌∷◌, map, take, length, Some, None, Option, slice_get, ◌==◌, if◌then◌else◌}
+use Rattle.std.specs.Prelude.{◌≡◌, ◌≤◌, ◌+◌, ℕ, Bool, not, ◌&&◌, ◌||◌, true, false, nat_lt, min, max, List, [], ◌∷◌, map, take, length, Some, None, Option, slice_get, ◌==◌, if◌then◌else◌}
 use Rattle.omf_base.specs.declared.spot.Spot.{Spot}
 use Rattle.std.specs.List.{list_any}
 use Rattle.std.specs.Str.{bytes_eq}

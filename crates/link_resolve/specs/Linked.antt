@@ -14,7 +14,7 @@ use Rattle.link_resolve.specs.declared.linked.LinkedMember.{LinkedMember}
 use Rattle.link_resolve.specs.declared.linked.Linked.{Linked}
 use Rattle.link_resolve.specs.Names.{Row, Indexes}
 use Rattle.link_resolve.specs.Definitions.{Seen, AreDefinitions, IsOf, key_of_found, founds_in}
-use Rattle.link_resolve.specs.Uses.{use_of, told_use}
+use Rattle.link_resolve.specs.Uses.{use_of, told_use, HaveShortNames}
 
 -- names without where they lie
 abbrev pub names_of : List (Bor (List ℕ)) → List (List ℕ)
@@ -55,6 +55,7 @@ pub record Holds (list : List Member) (kept : Linked) : Type 0 where
   pub definitions : AreDefinitions (entries list) kept.definitions
   pub titles : Indexes (place_rows (data_titles list)) kept.titles
   pub uses : map use_of kept.uses.items ≡ map told_use (asked list)
+  pub short : HaveShortNames kept.uses.items
 
 -- what a table of titles gains
 abbrev pub GainsTitle : Names → Names → Origin → ℕ → List Definition → Type 0

@@ -1,9 +1,9 @@
 -- Whether one more member can open a use again that finds something.
-use Rattle.std.specs.Prelude.{◌≡◌, ◌⊎◌, List, [], ◌∷◌}
+use Rattle.std.specs.Prelude.{ℕ, List, [], ◌∷◌, ◌++◌}
+use Rattle.link_meaning.specs.First.{IsIn}
 use Rattle.link_meaning.specs.Member.{Member}
-use Rattle.link_meaning.specs.Defines.{Definition, data_title_of}
-use Rattle.link_meaning.specs.Search.{finds_data}
+use Rattle.link_meaning.specs.Search.{only_place, finds_data}
 
--- the member has no name for USING, or its own search finds no data segment of that name
+-- with the member behind the list, each name of USING that found one data segment finds it still
 abbrev pub OpensNothing : List Member → Member → Type 0
-OpensNothing list m = (data_title_of m.segment ≡ []) ⊎ ((d : Definition) × (data_title_of m.segment ≡ d ∷ []) × (finds_data list m d.name ≡ []))
+OpensNothing list m = (u : Member) (name : List ℕ) (n : ℕ) → IsIn (only_place (finds_data list u name)) n → IsIn (only_place (finds_data (list ++ m ∷ []) u name)) n

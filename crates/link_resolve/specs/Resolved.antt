@@ -1,16 +1,12 @@
 -- What resolving answers.
-use Rattle.std.specs.Prelude.{◌≡◌, ◌⊎◌, ◌<◌, ◌≤◌, ◌^◌, ℕ, zero, suc, ◌+◌, ◌*◌, List, [], ◌∷◌, length, map, Option, Some, None, slice_get, option_map, Vec}
+use Rattle.std.specs.Prelude.{◌≡◌, ◌⊎◌, ◌<◌, ◌≤◌, ◌^◌, ℕ, ◌+◌, ◌*◌, List, [], ◌∷◌, length, map, Vec}
 use Rattle.std.specs.Global.{Global}
-use Rattle.omf_format.specs.File.{Segment}
-use Rattle.omf_format.specs.Header.{Fields}
 use Rattle.link_meaning.specs.declared.fault.LinkFault.{LinkFault}
-use Rattle.link_meaning.specs.First.{HasNone, IsFirst}
-use Rattle.link_meaning.specs.Member.{Input, Member, objects}
+use Rattle.link_meaning.specs.First.{IsFirst}
+use Rattle.link_meaning.specs.Member.{Input, Member}
 use Rattle.link_meaning.specs.LinkedList.{asked}
-use Rattle.link_meaning.specs.Layout.{load_of, offset_of, load_headers}
-use Rattle.link_meaning.specs.LinkFaults.{HasFileFault, AreInputs, IsProgram, HasUseFault, IsFirstResolveFault, IsResolved}
+use Rattle.link_meaning.specs.LinkFaults.{HasFileFault, AreInputs, HasUseFault, IsFirstResolveFault}
 use Rattle.link_resolve.specs.declared.gather.Gathered as gathered
-use Rattle.link_resolve.specs.declared.definitions.Origin.{Origin}
 use Rattle.link_resolve.specs.Reading.{memory_fault}
 use Rattle.link_resolve.specs.Gathered.{IsGathered}
 

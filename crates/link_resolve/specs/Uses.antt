@@ -1,5 +1,7 @@
 -- What is kept of the uses of the linked list.
-use Rattle.std.specs.Prelude.{◌≡◌, ℕ, List, map}
+use Rattle.std.specs.Prelude.{◌≡◌, ◌≤◌, ℕ, List, length, map}
+use Rattle.std.specs.List.{AllByRecursion}
+use Rattle.omf_format.specs.Expression.{Term, Operator, Location, Constant, Named, Offset}
 use Rattle.omf_format.specs.Field.{Layout}
 use Rattle.omf_format.specs.Record.{Record, IsRecord}
 use Rattle.link_meaning.specs.Uses.{Use}
@@ -16,6 +18,18 @@ told_use a = (a.place, a.use')
 -- the uses of the member at this place
 abbrev pub at_place : ℕ → List Use → List (ℕ × Use)
 at_place place uses = map (λ u. (place, u)) uses
+
+-- each name is one that a length byte can tell
+abbrev pub HaveShortNames : List kept.Use → Type 0
+HaveShortNames uses = AllByRecursion (λ u. length u.name.now ≤ 255) uses
+
+-- the same for the name of a term
+abbrev pub IsShortTerm : Term → Type 0
+IsShortTerm (Operator code) = Unit {0}
+IsShortTerm Location = Unit {0}
+IsShortTerm (Constant n) = Unit {0}
+IsShortTerm (Named code name) = length name ≤ 255
+IsShortTerm (Offset n) = Unit {0}
 
 -- the record is one of the format, where names have this LABLEN
 abbrev pub HasSpelling : ℕ → Record → Type 0

@@ -4,7 +4,7 @@ ghost use Rattle.std.specs.Prelude.{◌≡◌, ◌+◌, ◌*◌, ◌<◌, ◌≤
 ghost use Rattle.omf_format.specs.Header.{form_of};
 ghost use Rattle.omf_format.specs.File.{IsFile};
 ghost use Rattle.omf_records.specs.Segments.{IsSound, shown};
-ghost use Rattle.lib_dict.specs.Rows.{HasNoRows};
+ghost use Rattle.lib_dict.specs.Rows.{AreReadFrom};
 ghost use Rattle.lib_dict.specs.Library.{HasRows};
 ghost use Rattle.link_meaning.specs.Member.{Input, Member, is_library, members_from};
 ghost use Rattle.link_meaning.specs.LinkFaults.{segments_fault, IsInput, AreInputs};
@@ -19,7 +19,7 @@ use crate::input::{fault_in, memory_fault, read_segments};
 use crate::library::add_rows;
 use crate::linked::Linked;
 use crate::offers::Offers;
-use lib_dict::{DictFault, Dictionary, read_dictionary, rows_are_laid_out};
+use lib_dict::{DictFault, Dictionary, dictionary_of_list, rows_are_laid_out};
 use link_meaning::{LinkCause, LinkFault};
 use omf_records::{SegmentList, SegmentView};
 use std::alloc::{AllocError, Global};
@@ -100,20 +100,18 @@ fn add_object<'a>(
 /// The dictionary of the library with this number.
 fn dictionary_of<'a>(
     alloc: Global,
-    bytes: &'a [u8],
     list: &SegmentList<'a>,
     file: u32,
 ) -> Result<Dictionary<'a>, LinkFault>
-    requires short { length bytes.now < 2 ^ 32 }
-    requires is_file { IsFile list.now bytes.now }
+    requires read { (bytes : List ℕ) × AreReadFrom list.now bytes }
     requires sound { segments_fault 1 list.now ≡ None }
     requires library { is_library list.now ≡ true }
     ensures rows { IfOk result (λ dictionary. AreRows list.now dictionary) }
-    ensures few { IfOk result (λ dictionary. 12 * length dictionary ≤ length bytes.now) }
-    ensures refused { IfErr result (λ fault. IsFileRefused file bytes.now fault) }
+    ensures few { IfOk result (λ dictionary. (bytes : List ℕ) → AreReadFrom list.now bytes → 12 * length dictionary ≤ length bytes) }
+    ensures refused { IfErr result (λ fault. (bytes : List ℕ) → AreReadFrom list.now bytes → IsFileRefused file bytes fault) }
 {
     rows_are_laid_out();
-    match read_dictionary(alloc, bytes) {
+    match dictionary_of_list(alloc, list) {
         Ok(dictionary) => Ok(dictionary),
         Err(DictFault::BadLibrary(at)) => Err(fault_in(file, 1, at, LinkCause::BadLibrary)),
         Err(DictFault::Memory) => Err(memory_fault()),
@@ -138,17 +136,16 @@ impl<'a> Gathered<'a> {
     fn add_segments(
         &mut self,
         alloc: Global,
-        bytes: &'a [u8],
         list: &SegmentList<'a>,
         file: u32,
     ) -> Result<(), LinkFault>
-        requires short { length bytes.now < 2 ^ 32 }
         requires few { length self.old.linked.members.items + length list.now < 2 ^ 32 }
-        requires is_file { IsFile list.now bytes.now }
+        requires read { (bytes : List ℕ) × AreReadFrom list.now bytes }
         requires sound { segments_fault 1 list.now ≡ None }
         ensures files { self.new.files ≡ self.old.files }
-        ensures added { OnOk result ((input : Input) × IsInput bytes.now input × (input.segments ≡ list.now) × IsSoundInput input × (12 * length input.rows ≤ length bytes.now) × AddsInput file input self.old self.new) }
-        ensures refused { IfErr result (λ fault. IsFileRefused file bytes.now fault) }
+        ensures added { OnOk result ((bytes : List ℕ) → AreReadFrom list.now bytes
+            → (input : Input) × IsInput bytes input × (input.segments ≡ list.now) × IsSoundInput input × (12 * length input.rows ≤ length bytes) × AddsInput file input self.old self.new) }
+        ensures refused { IfErr result (λ fault. (bytes : List ℕ) → AreReadFrom list.now bytes → IsFileRefused file bytes fault) }
     {
         if !is_library(list) {
             return match add_object(alloc, &mut self.linked, list, file) {
@@ -156,7 +153,7 @@ impl<'a> Gathered<'a> {
                 Err(_) => Err(memory_fault()),
             };
         }
-        let dictionary = dictionary_of(alloc, bytes, list, file)?;
+        let dictionary = dictionary_of(alloc, list, file)?;
         match add_rows(&mut self.offers, list, &dictionary, file) {
             Ok(()) => Ok(()),
             Err(_) => Err(memory_fault()),
@@ -173,7 +170,10 @@ impl<'a> Gathered<'a> {
     {
         let file = self.files.as_slice().len() as u32 + 1;
         let list = read_segments(alloc, bytes, file)?;
-        self.add_segments(alloc, bytes, &list, file)?;
+        match self.add_segments(alloc, &list, file) {
+            Ok(()) => {}
+            Err(fault) => return Err(fault),
+        }
         match self.files.push(list) {
             Ok(()) => Ok(()),
             Err(_) => Err(memory_fault()),

@@ -30,8 +30,8 @@ fn next_cursor(opens: bool, number: usize) -> usize
 
 /// Adds the segment of the row that the first use wants, until no use wants any. Each row is taken once at most.
 ///
-/// The uses before the cursor want nothing. It is set back only where an added data segment has the name of another one that
-/// its unit sees: a name of USING may then find two, and what was found in the first one isn't found any more.
+/// The uses before the cursor want nothing. It is set back only where an added data segment has the name of one other that is
+/// found by it: a name of USING may then find two, and what was found in the first one isn't found any more.
 pub fn grow<'a>(
     alloc: Global,
     files: &[SegmentList<'a>],

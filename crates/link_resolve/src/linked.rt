@@ -7,7 +7,7 @@ ghost use Rattle.link_meaning.specs.Sizes.{body_size};
 ghost use Rattle.link_meaning.specs.Member.{Member, Offer};
 ghost use Rattle.link_meaning.specs.Defines.{data_title_of};
 ghost use Rattle.link_meaning.specs.Uses.{data_name};
-ghost use Rattle.link_meaning.specs.Search.{Found, entries, data_titles, decided, outer_steps, named, finds, finds_data};
+ghost use Rattle.link_meaning.specs.Search.{Found, entries, data_titles, decided, outer_steps, named, sees, finds, finds_data};
 ghost use Rattle.link_meaning.specs.First.{HasNone};
 ghost use Rattle.link_meaning.specs.LinkedList.{asked, found_for, wanted_by};
 ghost use Rattle.link_resolve.specs.Names.{Row, Indexes, key_of};
@@ -17,8 +17,8 @@ ghost use Rattle.link_resolve.specs.Uses.{use_of};
 ghost use Rattle.link_resolve.specs.Offers.{AreOffers, IsRow};
 ghost use Rattle.link_resolve.specs.Wanted.{WantsNothing, IsWanted};
 ghost use Rattle.link_resolve.specs.Linked.{Holds, GainsTitle, SeesPlace, names_of, used_places};
-ghost use Rattle.link_meaning.specs.declared.search.Step.TheVariants.{Within};
-ghost use Rattle.std.specs.Prelude.{false};
+ghost use Rattle.link_meaning.specs.declared.search.Step.TheVariants.{Within, Everyone};
+ghost use Rattle.std.specs.Prelude.{false, true};
 ghost use Rattle.link_meaning.specs.LinkedList.{Asked};
 ghost use Rattle.link_resolve.specs.Linked.{OriginOf, member_at};
 ghost use Rattle.link_resolve.specs.Opening.{OpensNothing};
@@ -129,8 +129,9 @@ impl<'a> Linked<'a> {
     pub fn used(&self, number: usize) -> (Origin, &'a [u8], u32)
         requires held { IsHeld self.now }
         requires within { number < length self.now.uses.items }
-        ensures { (list : List Member) (a : Asked) → Holds list self.now → slice_get (asked list) number ≡ Some a
+        ensures told { (list : List Member) (a : Asked) → Holds list self.now → slice_get (asked list) number ≡ Some a
             → IsOf a.member result.0 × (result.1.now ≡ a.use'.name) × (result.2 ≡ a.use'.at) }
+        ensures short { length result.1.now ≤ 255 }
     {
         let found = &self.uses[number];
         let member = &self.members[found.place as usize - 1];
@@ -138,7 +139,7 @@ impl<'a> Linked<'a> {
     }
 
     /// Whether a segment that is to be the next member may open a use again that finds something: it is a data segment with
-    /// the name of another one that its unit sees.
+    /// the name of one other, which it stands beside or hides. Where several have the name already, none is found by it.
     pub fn opens(&self, segment: &SegmentView, origin: Origin) -> bool
         ensures { result ≡ false → (list : List Member) (m : Member) → Holds list self.now → IsOf m origin → m.segment ≡ shown segment.now
             → OpensNothing list m }
@@ -150,11 +151,26 @@ impl<'a> Linked<'a> {
         if name.is_empty() {
             return false;
         }
-        match self.find_data(origin, name) {
+        match self.find_rivals(segment.header.kind.is_private(), origin, name) {
             Outcome::Nothing => false,
             Outcome::One(_) => true,
-            Outcome::Several(_) => true,
+            Outcome::Several(_) => false,
         }
+    }
+
+    /// The data segments, by their places in the list, beside which one more of that name would stand, or which it would hide:
+    /// where it is private those that its unit finds, else those that all see.
+    fn find_rivals(&self, private: bool, origin: Origin, name: &[u8]) -> Outcome
+        ensures own { private ≡ true → (list : List Member) (m : Member) → Holds list self.now → IsOf m origin → SeesPlace (finds_data list m name.now) result }
+        ensures every { private ≡ false → (list : List Member) → Holds list self.now → SeesPlace (filter (sees Everyone) (named name.now (data_titles list))) result }
+    {
+        if private {
+            return self.find_data(origin, name);
+        }
+        self.titles.look(Key {
+            step: Step::Everyone,
+            name,
+        })
     }
 
     /// One more member, behind the others.

@@ -21,7 +21,7 @@ use crate::layout::{Layout, headers};
 use crate::linked::Linked;
 use crate::program::{Kept, Program};
 use link_meaning::{LinkCause, LinkFault};
-use omf_base::{Name, Spot};
+use omf_base::{Name, NameFault, Spot};
 use omf_records::SegmentList;
 use std::alloc::{AllocError, Global};
 
@@ -87,7 +87,8 @@ fn check_names(alloc: Global, linked: &Linked) -> Result<(), LinkFault>
     let (origin, name, at) = linked.used(number);
     let name = match Name::of(alloc, name) {
         Ok(name) => name,
-        Err(_) => return Err(memory_fault()),
+        Err(NameFault::TooLong) => unreachable!(),
+        Err(NameFault::Memory) => return Err(memory_fault()),
     };
     Err(LinkFault {
         cause,

@@ -1,7 +1,7 @@
 // What no clause says: that the definitions are those of the field, and that memory is enough.
 use crate::samples::{
-    ASKING, BEHIND, DATA, EQUATE_A, EQUATE_B, LIBRARY_B, LIBRARY_C, LIBRARY_D, LIBRARY_Y, PLACED,
-    USER, WEAK,
+    ASKING, BARE, BEHIND, DATA, EQUATE_A, EQUATE_B, LIBRARY_B, LIBRARY_C, LIBRARY_D, LIBRARY_P,
+    LIBRARY_Y, PLACED, USER, WEAK,
 };
 use crate::{LinkMember, Program, are_few, read_segments, resolve};
 use link_meaning::{LinkCause, LinkFault};
@@ -33,13 +33,18 @@ fn fault_of_one(alloc: Global, changes: &[(usize, u8)]) -> Option<LinkFault> {
     read_segments(alloc, &bytes, 1).err()
 }
 
-/// The fault of a file of two such segments with bytes changed at displacements.
-fn fault_of_two(alloc: Global, changes: &[(usize, u8)]) -> Option<LinkFault> {
+/// A file of two such segments with bytes changed at displacements.
+fn two(changes: &[(usize, u8)]) -> [u8; 132] {
     let mut bytes = [0; 132];
     bytes[..SECOND].copy_from_slice(&ONE);
     bytes[SECOND..].copy_from_slice(&ONE);
     put(&mut bytes, changes);
-    read_segments(alloc, &bytes, 7).err()
+    bytes
+}
+
+/// The fault of such a file.
+fn fault_of_two(alloc: Global, changes: &[(usize, u8)]) -> Option<LinkFault> {
+    read_segments(alloc, &two(changes), 7).err()
 }
 
 fn fault(cause: LinkCause, file: u32, segment: u32, at: u32) -> Option<LinkFault> {
@@ -231,5 +236,146 @@ fn phases_have_an_order(rt: HostRuntime) {
     assert_eq!(rt;
         told(alloc, &[&DATA, &LIBRARY_D]),
         refused(LinkCause::Duplicate, 1, 1, 0x38)
+    );
+}
+
+/// Two members of $8000 cells each in one load segment: LENGTH, and the count of DS.
+const HALVES: [(usize, u8); 8] = [
+    (8, 0),
+    (9, 0x80),
+    (0x3D, 0xFD),
+    (0x3E, 0x7F),
+    (SECOND + 8, 0),
+    (SECOND + 9, 0x80),
+    (SECOND + 0x3D, 0xFD),
+    (SECOND + 0x3E, 0x7F),
+];
+
+/// What becomes of these two members with further changes.
+fn told_of_halves(alloc: Global, changes: &[(usize, u8)]) -> Result<Option<u8>, (LinkCause, Spot)> {
+    let mut bytes = two(&HALVES);
+    put(&mut bytes, changes);
+    told(alloc, &[&bytes])
+}
+
+/// LENGTH and ALIGN of their load segment.
+fn size_of_halves(alloc: Global) -> Option<(u32, u32)> {
+    let bytes = two(&HALVES);
+    size(alloc, &[&bytes], 1)
+}
+
+/// An object file of so many empty members, each in a load segment of its own.
+fn many_loads(alloc: Global, count: u8) -> Result<Vec<u8>, AllocError> {
+    let mut bytes = Vec::new(alloc);
+    for number in 0..count {
+        let mut segment = BARE;
+        segment[0x2C] = number;
+        bytes.extend_from_slice(&segment)?;
+    }
+    Ok(bytes)
+}
+
+/// What becomes of them.
+fn told_of_many(alloc: Global, count: u8) -> Result<Option<u8>, (LinkCause, Spot)> {
+    let Ok(bytes) = many_loads(alloc, count) else {
+        return Ok(Some(0));
+    };
+    told(alloc, &[bytes.as_slice()])
+}
+
+/// LENGTH and ALIGN of the load segment with a number.
+fn size_of_many(alloc: Global, count: u8, number: u32) -> Option<(u32, u32)> {
+    let bytes = many_loads(alloc, count).ok()?;
+    size(alloc, &[bytes.as_slice()], number)
+}
+
+#[test]
+fn load_segments_have_limits(rt: HostRuntime) {
+    let alloc = rt.alloc();
+
+    // $10000 bytes in a bank are enough, $10001 too many; an address of the second member comes before.
+    assert_eq!(rt; size_of_halves(alloc), Some((0x10000, 0)));
+    assert_eq!(rt;
+        told_of_halves(alloc, &[(SECOND + 8, 1), (SECOND + 0x3D, 0xFE)]),
+        refused(LinkCause::SegmentTooLong, 1, 1, 0)
+    );
+    assert_eq!(rt;
+        told_of_halves(
+            alloc,
+            &[(SECOND + 8, 1), (SECOND + 0x3D, 0xFE), (SECOND + 0x18, 2)]
+        ),
+        refused(LinkCause::OrgConflict, 1, 2, 66)
+    );
+
+    // 254 load segments are enough, and the 255th is one too many.
+    assert_eq!(rt; size_of_many(alloc, 254, 254), Some((0, 0)));
+    assert_eq!(rt;
+        told_of_many(alloc, 255),
+        refused(LinkCause::TooManySegments, 1, 255, 254 * 56)
+    );
+}
+
+/// What X is in a file that uses it, where the library of XB has bytes changed at displacements.
+fn told_of_library(
+    alloc: Global,
+    changes: &[(usize, u8)],
+) -> Result<Option<u8>, (LinkCause, Spot)> {
+    let mut library = LIBRARY_B;
+    put(&mut library, changes);
+    told(alloc, &[&USER, &library])
+}
+
+#[test]
+fn rows_serve_their_own(rt: HostRuntime) {
+    let alloc = rt.alloc();
+
+    // The first row's segment starts elsewhere; the second row's file isn't one of the library's.
+    assert_eq!(rt;
+        told_of_library(alloc, &[(0x4F, 0x6B)]),
+        refused(LinkCause::BadLibrary, 2, 1, 0x47)
+    );
+    assert_eq!(rt;
+        told_of_library(alloc, &[(0x58, 1)]),
+        refused(LinkCause::BadLibrary, 2, 1, 0x53)
+    );
+
+    // X is private to a file of the library; Z to another file of it.
+    assert_eq!(rt;
+        told_of_library(alloc, &[(0x59, 1), (0xA9, 1)]),
+        refused(LinkCause::Unresolved, 1, 1, 0x38)
+    );
+    assert_eq!(rt; told(alloc, &[&BEHIND, &LIBRARY_Y]), Ok(None));
+    assert_eq!(rt;
+        told(alloc, &[&BEHIND, &LIBRARY_P]),
+        refused(LinkCause::Unresolved, 2, 2, 0xCB)
+    );
+}
+
+#[test]
+fn first_of_two_faults(rt: HostRuntime) {
+    let alloc = rt.alloc();
+    assert_eq!(rt;
+        told(alloc, &[&USER, &BEHIND]),
+        refused(LinkCause::Unresolved, 1, 1, 0x38)
+    );
+    assert_eq!(rt;
+        told(alloc, &[&BEHIND, &USER]),
+        refused(LinkCause::Unresolved, 1, 2, 0x77)
+    );
+    assert_eq!(rt;
+        told(alloc, &[&BEHIND, &WEAK, &EQUATE_A, &EQUATE_B]),
+        refused(LinkCause::Unresolved, 1, 2, 0x77)
+    );
+    assert_eq!(rt;
+        told(alloc, &[&WEAK, &EQUATE_A, &BEHIND, &EQUATE_B]),
+        refused(LinkCause::Duplicate, 1, 1, 0x38)
+    );
+    assert_eq!(rt;
+        told(alloc, &[&ONE[..43], &ONE[..65]]),
+        refused(LinkCause::Truncated, 1, 1, 0x2B)
+    );
+    assert_eq!(rt;
+        told(alloc, &[&ONE[..65], &ONE[..43]]),
+        refused(LinkCause::Truncated, 1, 1, 0x41)
     );
 }

@@ -6,7 +6,7 @@ ghost use Rattle.omf_expr.specs.View as terms;
 ghost use Rattle.omf_records.specs.Segments.{IsSound, shown};
 ghost use Rattle.omf_records.specs.View.{view};
 ghost use Rattle.link_meaning.specs.Uses.{used_by_term, used_in_text, used_by, uses_of};
-ghost use Rattle.link_resolve.specs.Uses.{use_of, at_place, HasSpelling};
+ghost use Rattle.link_resolve.specs.Uses.{use_of, at_place, HasSpelling, HaveShortNames, IsShortTerm};
 
 use crate::reading::next_record;
 use link_meaning::Want;
@@ -32,7 +32,9 @@ fn add_term<'a>(
     at: u32,
     place: u32,
 ) -> Result<(), AllocError>
-    ensures { OnOk result (map use_of uses.new.items ≡ map use_of uses.old.items ++ at_place place (used_by_term at (terms.view term.entry))) }
+    requires { IsShortTerm (terms.view term) }
+    ensures gave { OnOk result (map use_of uses.new.items ≡ map use_of uses.old.items ++ at_place place (used_by_term at (terms.view term.entry))) }
+    ensures short { OnOk result (HaveShortNames uses.old.items → HaveShortNames uses.new.items) }
 {
     match term {
         Term::Named(code, name) => {
@@ -72,7 +74,8 @@ fn add_terms<'a>(
     place: u32,
 ) -> Result<(), AllocError>
     requires { IsExpression lab_len expr.now }
-    ensures { OnOk result (map use_of uses.new.items ≡ map use_of uses.old.items ++ at_place place (used_in_text lab_len at expr.now)) }
+    ensures gave { OnOk result (map use_of uses.new.items ≡ map use_of uses.old.items ++ at_place place (used_in_text lab_len at expr.now)) }
+    ensures short { OnOk result (HaveShortNames uses.old.items → HaveShortNames uses.new.items) }
 {
     let mut terms = terms_of(expr, lab_len);
     'terms: loop {
@@ -92,7 +95,8 @@ fn add_record<'a>(
     place: u32,
 ) -> Result<(), AllocError>
     requires { HasSpelling lab_len (view rec.now) }
-    ensures { OnOk result (map use_of uses.new.items ≡ map use_of uses.old.items ++ at_place place (used_by lab_len at (view rec.now))) }
+    ensures gave { OnOk result (map use_of uses.new.items ≡ map use_of uses.old.items ++ at_place place (used_by lab_len at (view rec.now))) }
+    ensures short { OnOk result (HaveShortNames uses.old.items → HaveShortNames uses.new.items) }
 {
     let (want, name) = match rec {
         Rec::Using { name } => (Want::Data, *name),
@@ -131,7 +135,8 @@ pub fn add_uses<'a>(
     place: u32,
 ) -> Result<(), AllocError>
     requires { IsSound segment.now }
-    ensures { OnOk result (map use_of uses.new.items ≡ map use_of uses.old.items ++ at_place place (uses_of (shown segment.now))) }
+    ensures gave { OnOk result (map use_of uses.new.items ≡ map use_of uses.old.items ++ at_place place (uses_of (shown segment.now))) }
+    ensures short { OnOk result (HaveShortNames uses.old.items → HaveShortNames uses.new.items) }
 {
     let lab_len = segment.header.lab_len;
     let mut records = segment.records();

@@ -1,12 +1,12 @@
-use Rattle.std.proofs.Common.{◌≡◌, ◌+◌, ◌<◌, ◌++◌, List, true, false, length, refl, sym, ap, subst, ◌∙◌, arith}
+use Rattle.std.proofs.Common.{◌<◌, ◌++◌, true, length, refl, sym, ap, arith}
 use Rattle.std.proofs.Math.ListN.{set}
 use Rattle.std.proofs.lemmas.List.{length-map}
 use Rattle.omf_records.specs.Segments.{shown}
-use Rattle.link_meaning.specs.Member.{Member, Input, objects, offers}
+use Rattle.link_meaning.specs.Member.{objects, offers}
 use Rattle.link_resolve.specs.Offers.{told_origin}
 use Rattle.link_resolve.specs.Opening.{OpensNothing}
 use Rattle.link_resolve.proofs.LibraryLaws.{in_at, within_length}
-use Rattle.link_resolve.proofs.GrowLaws.{Growing, unset, set_less, flag_free, cursor_goes, origin_of, among_origin, origin_among, no_segment, short_body, growing_start, growing_end, growing_more}
+use Rattle.link_resolve.proofs.GrowLaws.{unset, set_less, flag_free, cursor_goes, origin_of, origin_among, no_segment, short_body, growing_start, growing_end, growing_more}
 use Rattle.link_resolve.proofs.grow.grow.Goals as goal
 
 pub members-init : goal.members-init

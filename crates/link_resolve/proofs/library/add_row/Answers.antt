@@ -1,7 +1,4 @@
-use Rattle.std.proofs.Common.{◌≡◌, ◌+◌, Some, sym, ap, ◌∙◌, arith}
-use Rattle.std.specs.Prelude.{Option}
-use Rattle.omf_records.specs.Segments.{shown}
-use Rattle.omf_records.specs.SegmentLaws.{shown_at}
+use Rattle.std.proofs.Common.{sym, ◌∙◌}
 use Rattle.lib_dict.specs.Rows.{seen_row}
 use Rattle.link_resolve.proofs.OnOks.{on_ok}
 use Rattle.link_resolve.proofs.LibraryLaws.{row_place, offered_row}

@@ -1,10 +1,5 @@
-use Rattle.std.proofs.Common.{◌≡◌, ◌+◌, ◌≤◌, ◌<◌, ◌++◌, List, length, take, map, Some, sym, ap, subst, ◌∙◌, arith}
-use Rattle.std.specs.Prelude.{slice_get}
-use Rattle.std.specs.List.{filter_map}
-use Rattle.lib_dict.specs.Library.{LibraryRow, told_row}
+use Rattle.std.proofs.Common.{arith}
 use Rattle.lib_dict.specs.Rows.{seen_row}
-use Rattle.link_meaning.specs.Member.{Row, Offer, offer_of}
-use Rattle.link_resolve.specs.Offers.{AreOffers}
 use Rattle.link_resolve.proofs.LibraryLaws.{row_at, rows_next, rows_all}
 use Rattle.link_resolve.proofs.library.add_rows.Goals as goal
 

@@ -1,4 +1,4 @@
-use Rattle.std.proofs.Common.{length, arith}
+use Rattle.std.proofs.Common.{arith}
 use Rattle.omf_records.specs.SegmentLaws.{none_past}
 use Rattle.link_resolve.proofs.library.start_at.Goals as goal
 

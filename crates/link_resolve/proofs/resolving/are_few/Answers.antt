@@ -1,5 +1,5 @@
-use Rattle.std.proofs.Common.{◌≡◌, ◌+◌, take, length, refl, arith}
-use Rattle.link_resolve.specs.Resolved.{all_bytes, total_size}
+use Rattle.std.proofs.Common.{refl, arith}
+use Rattle.link_resolve.specs.Resolved.{all_bytes}
 use Rattle.link_resolve.proofs.ResolveLaws.{file_there, size_more, total-take}
 use Rattle.link_resolve.proofs.resolving.are_few.Goals as goal
 

@@ -1,4 +1,4 @@
-use Rattle.std.proofs.Common.{◌≡◌, ℕ, ◌+◌, ◌≤◌, ◌<◌, List, Vec, Global, Some, length, sym, ap, subst, ◌∙◌, arith}
+use Rattle.std.proofs.Common.{ℕ, ◌≤◌, List, Vec, Global, length, ap, arith}
 use Rattle.link_resolve.specs.Resolved.{all_bytes}
 use Rattle.link_resolve.proofs.ResolveLaws.{file_there, room_for, refused_file, gathered_next, gathered_none, all_taken}
 use Rattle.link_resolve.proofs.resolving.gather.Goals as goal

@@ -1,4 +1,4 @@
-use Rattle.std.proofs.Common.{◌≡◌, ◌+◌, ◌≤◌, List, length, take, sym, ap, subst, ◌∙◌, arith}
+use Rattle.std.proofs.Common.{◌+◌, ◌≤◌, List, length, subst, arith}
 use Rattle.link_meaning.specs.Member.{Member}
 use Rattle.link_resolve.specs.Laid.{Laid}
 use Rattle.link_resolve.proofs.LinkedLaws.{count_is}

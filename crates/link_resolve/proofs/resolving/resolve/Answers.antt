@@ -1,6 +1,5 @@
-use Rattle.std.proofs.Common.{◌≡◌, ◌≤◌, ◌<◌, inl, inr, List, Vec, Global, length, refl, sym, ap, subst, ◌∙◌, arith}
+use Rattle.std.proofs.Common.{inl, List, refl, sym, subst, ◌∙◌, arith}
 use Rattle.omf_format.specs.File.{Segment}
-use Rattle.link_meaning.specs.Member.{Member}
 use Rattle.link_meaning.specs.LinkFaults.{IsResolved}
 use Rattle.link_resolve.specs.declared.program.Kept.{Kept}
 use Rattle.link_resolve.specs.Gathered.{AllAmong}

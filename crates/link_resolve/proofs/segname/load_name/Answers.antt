@@ -1,4 +1,4 @@
-use Rattle.std.proofs.Common.{◌+◌, take, drop, ap, ◌∙◌, arith}
+use Rattle.std.proofs.Common.{◌∙◌, arith}
 use Rattle.omf_header.specs.View.{fields}
 use Rattle.omf_format.specs.FileLaws.{header_lies}
 use Rattle.link_resolve.proofs.SegmentName.{load_name_lies}

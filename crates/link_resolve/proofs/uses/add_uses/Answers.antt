@@ -10,27 +10,32 @@ use Rattle.link_resolve.proofs.UseLaws.{gave_more, gave_all, body_lab_len}
 use Rattle.link_resolve.proofs.uses.add_uses.Goals as goal
 
 pub walk-init : goal.walk-init
-walk-init c = record {
-  back = (shown c.args.segment.now).records;
-  coming = coming_view c.args.segment.now c.records-records.result c.requires c.records-records.ensures;
-  parts = refl;
-  layout = body_lab_len c.args.segment.now c.records-records.result c.records-records.ensures;
-}
+walk-init c = (
+  record {
+    back = (shown c.args.segment.now).records;
+    coming = coming_view c.args.segment.now c.records-records.result c.requires c.records-records.ensures;
+    parts = refl;
+    layout = body_lab_len c.args.segment.now c.records-records.result c.records-records.ensures;
+  },
+  λ short. short,
+)
 
-pub returns-in-None : goal.returns-in-None
+pub returns-in-None-clause-gave : goal.returns-in-None-clause-gave
 unfolding uses_of
-returns-in-None c =
-    let i = c.walk.invariant in
+returns-in-None-clause-gave c =
+    let i = c.walk.invariant.0 in
     let none = found_end c.walk.records c.next_record.new.records i.back c.next_record.result i.coming c.next_record.ensures.walk c.in-None.is in
     gave_all (λ (found : ℕ × Record). used_by c.args.segment.now.header.lab_len found.0 found.1) c.args.place _ (map use_of c.walk.uses.items) i.back i.parts none
 
 pub walk-preserved : goal.walk-preserved
 walk-preserved c =
-    let i = c.walk.invariant in
-    let w = found_next c.walk.records c.next_record.new.records i.back c.next_record.result (c.in-Some.at, c.in-Some.rec) i.coming c.next_record.ensures.walk c.in-Some.is in
-    record {
-      back = w.0;
-      coming = w.2;
-      parts = gave_more (λ (found : ℕ × Record). used_by c.args.segment.now.header.lab_len found.0 found.1) c.args.place _ (map use_of c.walk.uses.items) (map use_of c.add_record.new.uses.items) (c.in-Some.at, view c.in-Some.rec) w.0 i.back i.parts w.1 c.in_ok-add_record-in-Some.ensures;
-      layout = ap (λ (l : Layout). l.lab_len) c.next_record.ensures.layout ∙ i.layout;
-    }
+    let i = c.walk.invariant.0 in
+    let w = found_next c.walk.records c.next_record.new.records i.back c.next_record.result (c.in-Some.at, c.in-Some.rec) i.coming c.next_record.ensures.walk c.in-Some.is in (
+      record {
+        back = w.0;
+        coming = w.2;
+        parts = gave_more (λ (found : ℕ × Record). used_by c.args.segment.now.header.lab_len found.0 found.1) c.args.place _ (map use_of c.walk.uses.items) (map use_of c.add_record.new.uses.items) (c.in-Some.at, view c.in-Some.rec) w.0 i.back i.parts w.1 c.in_ok-add_record-in-Some.ensures.gave;
+        layout = ap (λ (l : Layout). l.lab_len) c.next_record.ensures.layout ∙ i.layout;
+      },
+      λ short. c.in_ok-add_record-in-Some.ensures.short (c.walk.invariant.1 short),
+    )

@@ -1,4 +1,4 @@
-use Rattle.std.proofs.Common.{◌≡◌, inl, inr, ◌<◌, List, Some, length, sym, ap, subst, ◌∙◌, arith}
+use Rattle.std.proofs.Common.{◌≡◌, inl, inr, sym, ap, ◌∙◌}
 use Rattle.omf_format.specs.File.{Segment}
 use Rattle.omf_records.specs.Segments.{shown}
 use Rattle.link_resolve.proofs.OnOks.{on_ok}

@@ -1,8 +1,7 @@
-use Rattle.std.proofs.Common.{◌≡◌, length, Some, refl, sym, ap, subst, ◌∙◌, arith}
+use Rattle.std.proofs.Common.{◌≡◌, length, refl, sym, ap, subst, ◌∙◌}
 use Rattle.std.specs.Vec.{with_item}
 use Rattle.std.proofs.lemmas.Option.{slice_get_read}
 use Rattle.omf_format.specs.Header.{Fields, alignment_of}
-use Rattle.omf_header.specs.View.{fields}
 use Rattle.link_meaning.specs.Layout.{aligned_from}
 use Rattle.link_resolve.specs.declared.layout.Place.{Place}
 use Rattle.link_resolve.specs.declared.layout.Layout.{Layout}

@@ -1,13 +1,10 @@
-use Rattle.std.proofs.Common.{◌≡◌, ◌∷◌, ◌++◌, [], false, List, ℕ, length, refl, sym, ap, subst, ◌∙◌}
-use Rattle.omf_base.specs.declared.spot.Spot.{Spot}
+use Rattle.std.proofs.Common.{◌≡◌, ◌∷◌, ◌++◌, [], false, List, ℕ, length, refl, sym, ap, subst}
 use Rattle.omf_format.specs.File.{Segment}
-use Rattle.omf_format.specs.Header.{Fields}
-use Rattle.omf_records.specs.Segments.{shown}
 use Rattle.link_meaning.specs.Layout.{load_names}
 use Rattle.link_resolve.specs.declared.layout.Load.{Load}
 use Rattle.link_resolve.specs.declared.layout.Place.{Place}
 use Rattle.link_resolve.specs.declared.layout.Layout.{Layout}
-use Rattle.link_resolve.specs.Names.{Row, Indexes}
+use Rattle.link_resolve.specs.Names.{Indexes}
 use Rattle.link_resolve.specs.Laid.{IsFresh, load_rows, has}
 use Rattle.link_resolve.proofs.LoadNames.{name_key}
 use Rattle.link_resolve.proofs.LaidLaws.{laid_new}

@@ -6,6 +6,7 @@ use Rattle.link_meaning.specs.Uses.{Use}
 use Rattle.link_resolve.specs.Uses.{use_of, told_use}
 use Rattle.link_resolve.proofs.LinkedLaws.{member_is, member_of}
 use Rattle.link_resolve.proofs.ResolvingLaws.{use_is, place_within, stands}
+use Rattle.link_resolve.proofs.ShortNames.{short_at}
 use Rattle.link_resolve.proofs.linked.Linked.used.Goals as goal
 
 asked_same : (a b : Asked) → Some a ≡ Some b → a ≡ b
@@ -26,8 +27,15 @@ index-member-requires c =
     let place = place_within c.requires.held.0 kept c.args.number u c.requires.held.1 (use_is c.requires.held.0 kept c.args.number u c.requires.held.1 there) in
     omega (arith, place.0, place.1, kept.members.ok.0)
 
-pub returns : goal.returns
-returns c = λ list a holds at.
+pub returns-clause-short : goal.returns-clause-short
+returns-clause-short c =
+    let kept = c.args.self.now in
+    let u = c.index-found.result.now in
+    let there = slice_get_read kept.uses.items (length kept.uses.items) c.args.number u refl c.requires.within c.index-found.ensures in
+    short_at kept.uses.items c.args.number u c.requires.held.1.short there
+
+pub returns-clause-told : goal.returns-clause-told
+returns-clause-told c = λ list a holds at.
     let kept = c.args.self.now in
     let u = c.index-found.result.now in
     let items = kept.members.items in

@@ -1,11 +1,10 @@
-use Rattle.std.proofs.Common.{◌≡◌, ℕ, ◌-◌, ◌+◌, ◌<◌, List, Some, length, get_or, refl, sym, ap, subst, ◌∙◌, arith}
+use Rattle.std.proofs.Common.{◌≡◌, ℕ, ◌-◌, ◌<◌, length, get_or, refl, sym, ap, ◌∙◌, arith}
 use Rattle.std.specs.Prelude.{slice_get}
 use Rattle.std.proofs.lemmas.Option.{slice_get_read, slice_get_within}
-use Rattle.link_meaning.specs.Member.{Member}
 use Rattle.link_resolve.specs.declared.definitions.Origin.{Origin}
 use Rattle.link_resolve.specs.declared.layout.Place.{Place}
 use Rattle.link_resolve.specs.declared.program.Kept.{Kept}
-use Rattle.link_resolve.specs.Programs.{list_of, StandsAt, IsKept, linked_at}
+use Rattle.link_resolve.specs.Programs.{list_of, StandsAt, IsKept}
 use Rattle.link_resolve.proofs.ProgramLaws.{IsTold, told_at, linked_told}
 use Rattle.link_resolve.proofs.program.Program.member.Goals as goal
 

@@ -1,0 +1,61 @@
+use Rattle.std.proofs.Common.{◌≡◌, ℕ, List, sym, ap, subst, ◌∙◌}
+use Rattle.omf_format.specs.Header.{form_of}
+use Rattle.omf_format.specs.Record.{Record}
+use Rattle.omf_format.specs.Reading.{records_of}
+use Rattle.omf_records.specs.Segments.{shown}
+use Rattle.lib_dict.specs.Parts.{Texts, seen_parts, HasParts}
+use Rattle.lib_dict.proofs.ReadLaws.{none_first, other_first, false_first, told_rows, false_rows, parts_fit}
+use Rattle.lib_dict.proofs.RowCounts.{few_rows}
+use Rattle.lib_dict.proofs.reading.dictionary_of_list.Goals as goal
+
+pub returns-in-None-clause-refused : goal.returns-in-None-clause-refused
+returns-in-None-clause-refused c = λ file is. none_first c.args.list.now file is.is_file c.in-None.ensures.value
+
+pub returns-then-form-ne-DICTIONARY-clause-refused : goal.returns-then-form-ne-DICTIONARY-clause-refused
+returns-then-form-ne-DICTIONARY-clause-refused c = λ file is.
+    other_first c.args.list.now file (shown c.in-Some.view.now) is.is_file c.in-Some.ensures.value (λ e. c.if-form-ne-DICTIONARY.true (c.form.ensures ∙ e))
+
+pub returns-in-None-parts_of-clause-refused : goal.returns-in-None-parts_of-clause-refused
+returns-in-None-parts_of-clause-refused c = λ file is.
+    let s = shown c.in-Some.view.now in
+    let form : form_of s.fields.kind ≡ 0x08 = sym c.form.ensures ∙ c.if-form-ne-DICTIONARY.false in
+    let body : records_of c.records.result ≡ s.records = ap records_of c.records.ensures in
+    let none = subst (λ (l : List (ℕ × Record)). (parts : Texts) → HasParts parts l → ⊥) body c.in-None-parts_of.ensures in
+    false_first c.args.list.now file s is.is_file c.in-Some.ensures.value form none
+
+pub rows_in-requires-clause-place : goal.rows_in-requires-clause-place
+rows_in-requires-clause-place c =
+    let s = shown c.in-Some.view.now in
+    let parts = seen_parts c.in-Some-parts_of.parts in
+    let body : records_of c.records.result ≡ s.records = ap records_of c.records.ensures in
+    let has : HasParts parts s.records = subst (HasParts parts) body c.in-Some-parts_of.ensures in
+    parts_fit c.args.list.now c.requires.0 s parts c.requires.1.bytes c.requires.1.short c.requires.1.is_file c.in-Some.ensures.value has
+
+pub returns-in-Ok-clause-rows : goal.returns-in-Ok-clause-rows
+returns-in-Ok-clause-rows c = λ file is.
+    let s = shown c.in-Some.view.now in
+    let parts = seen_parts c.in-Some-parts_of.parts in
+    let form : form_of s.fields.kind ≡ 0x08 = sym c.form.ensures ∙ c.if-form-ne-DICTIONARY.false in
+    let body : records_of c.records.result ≡ s.records = ap records_of c.records.ensures in
+    let has : HasParts parts s.records = subst (HasParts parts) body c.in-Some-parts_of.ensures in
+    told_rows c.args.list.now file s parts c.in-Ok.rows.items is.is_file c.in-Some.ensures.value form has c.in-Ok.ensures.ok
+
+pub returns-in-Err-clause-refused : goal.returns-in-Err-clause-refused
+returns-in-Err-clause-refused c = λ file is.
+    let s = shown c.in-Some.view.now in
+    let parts = seen_parts c.in-Some-parts_of.parts in
+    let form : form_of s.fields.kind ≡ 0x08 = sym c.form.ensures ∙ c.if-form-ne-DICTIONARY.false in
+    let body : records_of c.records.result ≡ s.records = ap records_of c.records.ensures in
+    let has : HasParts parts s.records = subst (HasParts parts) body c.in-Some-parts_of.ensures in
+    false_rows c.args.list.now file s parts c.in-Err.fault is.is_file c.in-Some.ensures.value form has c.in-Err.ensures.err
+
+pub returns-in-Ok-clause-few : goal.returns-in-Ok-clause-few
+returns-in-Ok-clause-few c = λ file is.
+    let s = shown c.in-Some.view.now in
+    let parts = seen_parts c.in-Some-parts_of.parts in
+    let body : records_of c.records.result ≡ s.records = ap records_of c.records.ensures in
+    let has : HasParts parts s.records = subst (HasParts parts) body c.in-Some-parts_of.ensures in
+    few_rows c.args.list.now file s parts c.in-Ok.rows.items is.bytes is.is_file c.in-Some.ensures.value has c.in-Ok.ensures.ok
+
+pub rows_in-requires-clause-file : goal.rows_in-requires-clause-file
+rows_in-requires-clause-file c = record { file = c.requires.0; is_file = c.requires.1.is_file; short = c.requires.1.short }
