@@ -41,10 +41,13 @@ module _ (banks buffer : List ℕ) (old now : List (Slot Block)) (spots turns ma
   pub all_inside : FitIn banks (length buffer) wants puts
   all_inside = all_fit banks user now all.bounded all.sound wants puts buffer store.room all.blocks
 
+  pub all_count : length now ≡ 4096
+  all_count = all.len ∙ start_length old user fresh ∙ store.count
+
   pub all_store : (spots' turns' made' : ℕ) → 4096 ≤ spots' → 4096 ≤ turns' → 4096 ≤ made' → IsStore banks now (cleared banks wants puts buffer) spots' turns' made'
   all_store spots' turns' made' s t m = record {
     small = store.small;
-    count = all.len ∙ start_length old user fresh ∙ store.count;
+    count = all_count;
     bounded = all.bounded;
     sound = all.sound;
     room = rw (length-cleared banks user now all.bounded all.sound wants puts buffer store.room all.blocks) store.room;

@@ -175,3 +175,11 @@ module _ (banks buffer : List ℕ) (slots : List (Slot Block)) (bounded : All Is
             part-overlay (offset_of banks f.0) f.1 (offset_of banks e.0) ws buffer (in_buffer other f there) (omega arith)
             ∙ written_beside (offset_of banks f.0) (part (offset_of banks f.0) f.1 buffer) (offset_of banks e.0) ws
             (elim (apart_in_buffer other place f e ne there is) [ inl before ↦ inr (rw len before) | inr after ↦ inl (rw size after) ])
+
+-- a block's bytes have addresses of 24 bits
+pub holds_below : (slots : List (Slot Block)) → All IsBoundedSlot slots → (place address : ℕ) → HoldsByte address (slot_at slots place) → address < 2 ^ 24
+holds_below slots bounded place address holds = go (extent (slot_at slots place)) (bounded_extent (slot_at slots place) (each_slot IsBoundedSlot slots tt bounded place)) (holds_to address (slot_at slots place) holds)
+  where
+    go : (o : Option (ℕ × ℕ)) → IfSome o (λ e. (0 < e.1) × (e.0 + e.1 ≤ 2 ^ 24)) → IsSomeAnd o (Spans address) → address < 2 ^ 24
+    go None limit spans = absurd spans
+    go (Some e) limit spans = omega (arith, limit.1, spans.1)

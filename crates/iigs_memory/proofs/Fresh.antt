@@ -1,5 +1,5 @@
 -- A store without blocks.
-use Rattle.std.proofs.Common.{◌≡◌, ℕ, zero, suc, ◌<◌, ◌≤◌, List, replicate, All, length, refl}
+use Rattle.std.proofs.Common.{◌≡◌, ℕ, zero, suc, ◌<◌, ◌≤◌, List, [], replicate, All, length, refl, Some, None, sym, ap, ◌∙◌, arith}
 use Rattle.std.proofs.lemmas.List.{length-replicate}
 use Rattle.iigs_meaning.specs.declared.wants.Block.{Block}
 use Rattle.iigs_meaning.specs.Slots.{slot_at, new_slot}
@@ -7,7 +7,8 @@ use Rattle.iigs_meaning.specs.Fits.{HoldsByte}
 use Rattle.iigs_meaning.specs.Blocks.{AreApart, new_slots}
 use Rattle.iigs_memory.specs.Offsets.{bytes_below}
 use Rattle.iigs_memory.specs.Spots.{IsBoundedSlot}
-use Rattle.iigs_memory.specs.Store.{IsStore}
+use Rattle.iigs_memory.specs.Store.{IsStore, extent}
+use Rattle.iigs_memory.specs.Marks.{IsMarked}
 use Rattle.iigs_memory.proofs.Extents.{all_slots}
 
 all_new : (n place : ℕ) → slot_at (replicate n (new_slot {T = Block})) place ≡ new_slot
@@ -51,3 +52,18 @@ new_store banks buffer spots turns made small room s t m = record {
   turns_room = t;
   made_room = m;
 }
+
+none_marked : (n : ℕ) → IsMarked (replicate n new_slot) []
+none_marked n = record {
+  order = λ i j d le lt. absurd (omega (arith, lt));
+  small = λ m has. absurd (omega (arith, has.1));
+  each = λ place e is. absurd (none place e is);
+  apart = λ place e m is has not. absurd (none place e is);
+}
+  where
+    none : (place : ℕ) (e : ℕ × ℕ) → extent (slot_at (replicate n new_slot) place) ≡ Some e → ⊥
+    none place e is = let no : None ≡ Some e = ap extent (sym (all_new n place)) ∙ is in absurd cc
+
+pub new_marks : IsMarked new_slots []
+unfolding new_slots
+new_marks = none_marked 4096

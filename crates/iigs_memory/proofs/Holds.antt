@@ -83,6 +83,9 @@ put_all slots h block same = go (get slots h) refl same
     go None is same = absurd same
     go (Some old) is same = (old, is, same.0, same.1)
 
+pub blocks_stay : (slots : List (Slot Block)) (h : Handle) (block : Block) → IsSomeAnd (get slots h) (λ old. (block.at ≡ old.at) × (block.want ≡ old.want)) → (place : ℕ) → Stays slots (with_value slots h block) place
+blocks_stay slots h block same = let all = put_all slots h block same in put_stays slots h block all.0 all.1 all.2 all.3
+
 pub store_put : (banks buffer : List ℕ) (slots : List (Slot Block)) (spots turns made : ℕ) (h : Handle) (block : Block) → IsStore banks slots buffer spots turns made
     → block.level < 256 → IsSomeAnd (get slots h) (λ old. (block.at ≡ old.at) × (block.want ≡ old.want))
     → IsStore banks (with_value slots h block) buffer spots turns made

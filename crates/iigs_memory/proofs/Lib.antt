@@ -15,6 +15,7 @@ pub mod Takes
 pub mod Stores
 pub mod Changed
 pub mod Holds
+pub mod Marked
 pub mod Puts
 pub mod Fresh
 pub mod Alls

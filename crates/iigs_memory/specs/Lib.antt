@@ -6,3 +6,5 @@ pub mod Store
 pub mod Overlay
 pub mod Table
 pub mod Alls
+pub mod Marks
+pub mod Holder

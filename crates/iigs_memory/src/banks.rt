@@ -4,8 +4,10 @@ ghost use Rattle.std.specs.Prelude.{◌≡◌, ◌++◌, ◌+◌, All, vec_len, 
 ghost use Rattle.std.specs.Option.{option_map};
 ghost use Rattle.std.specs.Result.{result_ok};
 ghost use Rattle.std.specs.Borrow.{sem};
-ghost use Rattle.iigs_meaning.specs.Slots.{get, with_value};
-ghost use Rattle.iigs_meaning.specs.Fits.{IsWant};
+ghost use Rattle.std.specs.Prelude.{MatchOption};
+ghost use Rattle.iigs_meaning.specs.declared.handles.Handle as declared;
+ghost use Rattle.iigs_meaning.specs.Slots.{get, slot_at, with_value};
+ghost use Rattle.iigs_meaning.specs.Fits.{IsWant, HoldsByte};
 ghost use Rattle.iigs_meaning.specs.Puts.{Purges, IsPlaceRefusal, IsReplaceRefusal, IsPlaceAllRefusal, slots_for};
 ghost use Rattle.iigs_meaning.specs.Blocks.{IsBlockRefusal, IsStale, AreApart, new_slots, state_of};
 ghost use Rattle.iigs_meaning.specs.Banks.{IsBanksRefusal};
@@ -13,6 +15,7 @@ ghost use Rattle.iigs_meaning.specs.Memory.{bytes_at, IsLent, KeepsBut, Changes,
 ghost use Rattle.iigs_meaning.specs.Room.{CountsBelow, IsRoom};
 
 use crate::bank_map::BankMap;
+use crate::marks::{Mark, last_mark, mark_all};
 use crate::part::Part;
 use crate::spots::Spot;
 use crate::table::{
@@ -20,7 +23,9 @@ use crate::table::{
     used_bytes,
 };
 use iigs_handles::{Handles, HandlesFault, SLOTS};
-use iigs_meaning::{BanksFault, Block, BlockFault, BlockState, Handle, PlaceFault, Stale, Want};
+use iigs_meaning::{
+    BanksFault, Block, BlockFault, BlockState, Content, Handle, PlaceFault, Stale, Want,
+};
 use std::alloc::{AllocError, Global};
 use std::marker::Model;
 
@@ -36,6 +41,8 @@ pub struct Banks {
     spots: Vec<Spot>,
     turns: Vec<u32>,
     made: Vec<Put>,
+    // Made at each placement. Blocks that went since may have their marks still.
+    marks: Vec<Mark>,
 }
 
 impl Model for Banks {
@@ -44,11 +51,14 @@ impl Model for Banks {
 
     ghost Value = { Memory };
 
+    ghost use Rattle.std.specs.Prelude.{◌≤◌};
     ghost use Rattle.iigs_memory.specs.Store.{memory_of, IsStore};
+    ghost use Rattle.iigs_memory.specs.Marks.{IsMarked};
 
     ghost view = { λ s. memory_of s.map s.table s.bytes.items };
 
-    ghost invariant = { λ s. IsStore s.map s.table s.bytes.items (vec_capacity s.spots) (vec_capacity s.turns) (vec_capacity s.made) };
+    ghost invariant = { λ s. IsStore s.map s.table s.bytes.items (vec_capacity s.spots) (vec_capacity s.turns) (vec_capacity s.made)
+        × IsMarked s.table s.marks.items × (4096 ≤ vec_capacity s.marks) };
 }
 
 fn slice(bytes: &[u8], start: usize, end: usize) -> &[u8]
@@ -67,6 +77,12 @@ fn zeros(alloc: Global, size: usize) -> Result<Vec<u8>, AllocError>
 
 fn scratch<T>(alloc: Global, count: usize) -> Result<Vec<T>, AllocError>
     ensures { IfOk result (λ items. count ≤ vec_capacity items) }
+{
+    Vec::with_capacity(alloc, count)
+}
+
+fn no_marks(alloc: Global, count: usize) -> Result<Vec<Mark>, AllocError>
+    ensures { IfOk result (λ marks. (marks.items ≡ []) × (count ≤ vec_capacity marks)) }
 {
     Vec::with_capacity(alloc, count)
 }
@@ -95,12 +111,14 @@ fn parts(alloc: Global, map: BankMap) -> Result<Banks, AllocError>
         spots: scratch(alloc, SLOTS)?,
         turns: scratch(alloc, SLOTS)?,
         made: scratch(alloc, SLOTS)?,
+        marks: no_marks(alloc, SLOTS)?,
     })
 }
 
 impl Banks {
     ghost use Rattle.iigs_memory.specs.Overlay.{overlaid, lends_block};
     ghost use Rattle.iigs_memory.specs.Store.{IsPart};
+    ghost use Rattle.iigs_memory.specs.Holder.{Has, IsHolder};
 
     /// Memory of these banks, without blocks. It takes all the memory that it ever takes.
     pub fn new(alloc: Global, banks: &[u8]) -> Result<Banks, BanksFault>
@@ -122,6 +140,34 @@ impl Banks {
         ensures { AreApart self.now.banks self.now.slots }
     {
         let _map = &self.map;
+    }
+
+    /// Each byte of a block has an address of 24 bits.
+    pub fn blocks_have_addresses(&self)
+        ensures { (place address : ℕ) → HoldsByte address (slot_at self.now.slots place) → address < 2 ^ 24 }
+    {
+        let _map = &self.map;
+    }
+
+    // The handle of a slot whose block has the byte at an address.
+    fn held_at(&self, place: u16, address: u32) -> Option<Handle>
+        requires { place < 4096 }
+        ensures { MatchOption result (¬ HoldsByte address (slot_at self.now.slots place)) (λ h. (h.slot ≡ place) × Has self.now.slots address h) }
+    {
+        let slot = &self.table.slots()[usize::from(place)];
+        let Content::Used(block) = &slot.content else {
+            return None;
+        };
+        let Some(at) = block.at else {
+            return None;
+        };
+        if at <= address && address - at < block.want.size {
+            return Some(Handle {
+                slot: place,
+                generation: slot.generation,
+            });
+        }
+        None
     }
 
     // The part of the buffer that a block has which is there.
@@ -149,6 +195,16 @@ impl Banks {
     {
         let part = self.part_of(h)?;
         Ok(slice(&self.bytes, part.start, part.end))
+    }
+
+    /// The handle of the block that has the byte at an address.
+    pub fn holder(&self, address: u32) -> Option<Handle>
+        ensures { MatchOption result ((h : declared.Handle) → ¬ Has self.now.slots address h) (IsHolder self.now.slots address) }
+    {
+        match last_mark(&self.marks, address) {
+            Some(mark) => self.held_at(mark.slot, address),
+            None => None,
+        }
     }
 
     /// The bytes of a block, to be written. Of the write itself `lend` says more.
@@ -308,6 +364,7 @@ impl Banks {
             Ok(put) => put,
             Err(fault) => return Err(fault),
         };
+        mark_all(self.table.slots(), &mut self.marks);
         clear(&mut self.bytes, self.map.offset(put.at), want.size as usize);
         Ok(put.handle)
     }
@@ -330,6 +387,7 @@ impl Banks {
             Ok(at) => at,
             Err(fault) => return Err(fault),
         };
+        mark_all(self.table.slots(), &mut self.marks);
         clear(&mut self.bytes, self.map.offset(at), want.size as usize);
         Ok(())
     }
@@ -367,6 +425,7 @@ impl Banks {
             Err(fault) => return Err(fault),
         }
         self.table.copy_from(&self.plan);
+        mark_all(self.table.slots(), &mut self.marks);
         clear_all(&self.map, &mut self.bytes, wants, &self.made);
         give(&self.made, handles);
         Ok(())

@@ -6,6 +6,7 @@
 mod bank_map;
 mod banks;
 mod law;
+mod marks;
 mod open;
 mod part;
 mod search;

@@ -53,8 +53,8 @@ fn spot_of(slot: &Slot<Block>) -> Option<Spot>
     })
 }
 
-// Adds an item, if there is one, to a list that has room for it.
-fn push_some<T: Drop>(items: &mut Vec<T>, item: Option<T>)
+/// Adds an item, if there is one, to a list that has room for it.
+pub fn push_some<T: Drop>(items: &mut Vec<T>, item: Option<T>)
     requires { vec_len items.old < vec_capacity items.old }
     ensures items { items.new.items ≡ items.old.items ++ option_to_list item }
     ensures len { vec_len items.new ≤ vec_len items.old + 1 }

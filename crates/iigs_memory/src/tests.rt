@@ -426,3 +426,35 @@ fn many_blocks(rt: HostRuntime) -> Result<(), Fail> {
     purges(&rt, &mut banks, 0, 3967);
     Ok(())
 }
+
+// Which block has the byte at an address.
+fn found_at(rt: &impl Abort, banks: &Banks, address: u32, is: Option<Handle>) {
+    assert_eq!(rt; banks.holder(address), is);
+}
+
+// Blocks that went have no byte, though another placement hasn't come since; what stands in their place has.
+#[test]
+fn the_block_of_a_byte_is_found(rt: HostRuntime) -> Result<(), Fail> {
+    let mut banks = banks_of(&rt, &[2])?;
+    found_at(&rt, &banks, 0x2_0000, None);
+    puts(&rt, &mut banks, 0x10, (1, 0), Ok(handle(0, 0)));
+    puts(&rt, &mut banks, 0x20, (2, 3), Ok(handle(1, 0)));
+    puts(&rt, &mut banks, 1, (1, 0), Ok(handle(2, 0)));
+    found_at(&rt, &banks, 0x1_FFFF, None);
+    found_at(&rt, &banks, 0x2_0000, Some(handle(0, 0)));
+    found_at(&rt, &banks, 0x2_000F, Some(handle(0, 0)));
+    found_at(&rt, &banks, 0x2_0010, Some(handle(1, 0)));
+    found_at(&rt, &banks, 0x2_002F, Some(handle(1, 0)));
+    found_at(&rt, &banks, 0x2_0030, Some(handle(2, 0)));
+    found_at(&rt, &banks, 0x2_0031, None);
+    found_at(&rt, &banks, 0xFFFF_FFFF, None);
+    purges(&rt, &mut banks, 2, 1);
+    found_at(&rt, &banks, 0x2_0010, None);
+    frees(&rt, &mut banks, handle(0, 0), Ok(()));
+    found_at(&rt, &banks, 0x2_0000, None);
+    found_at(&rt, &banks, 0x2_0030, Some(handle(2, 0)));
+    puts(&rt, &mut banks, 0x30, (3, 0), Ok(handle(0, 1)));
+    found_at(&rt, &banks, 0x2_0010, Some(handle(0, 1)));
+    found_at(&rt, &banks, 0x2_002F, Some(handle(0, 1)));
+    Ok(())
+}

@@ -23,7 +23,7 @@ use Rattle.loader_agrees.specs.Stay.{in_slot, get_is, slot_map, emptied_block, i
 none_in : (place : ℕ) → ¬ Contains {X = ℕ} [] place
 none_in place found = omega (arith, found.1)
 
-purge_keeps : (old new : Memory) (user count : ℕ) (h : Handle) → IsPurged old user count new → IsSome (get old.slots h) → Keeps old new h
+pub purge_keeps : (old new : Memory) (user count : ℕ) (h : Handle) → IsPurged old user count new → IsSome (get old.slots h) → Keeps old new h
 purge_keeps old new user count h is some = go (get old.slots h) refl some
   where
     test : Block → Bool

@@ -172,7 +172,7 @@ module _ (held : FileMap) (loader : Loaded) (state : Machine) (agrees : Agrees h
         (state, (In id number offset, at_there id number lies.h lies.is address offset lies.sum lies.inside, refl, refl), agrees)
 
     module _ (sound : IsSound loader.memory loader.users) where
-      lies_back : (address id number offset : ℕ) → IsAt held state address id number offset → LiesIn loader address id number offset
+      pub lies_back : (address id number offset : ℕ) → IsAt held state address id number offset → LiesIn loader address id number offset
       lies_back address id number offset is =
           let kept = back held loader state agrees sound id is.sees.user is.sees.made in
           let in_state = kept_is held loader state agrees id kept.0 kept.1 in

@@ -13,7 +13,7 @@ use Rattle.loader_machine.specs.declared.script.ScriptCause.{ScriptCause}
 use Rattle.loader_machine.specs.declared.script.ScriptCause.TheVariants.{TooManyLines, BadWord, UnknownCommand, BanksFirst, WrongCount, BadNumber, BankTwice}
 use Rattle.loader_machine.specs.declared.script.ScriptFault.{ScriptFault}
 use Rattle.loader_machine.specs.Heads.{some_if}
-use Rattle.loader_machine.specs.Commands.{Command, Banks, Load, Bytes, Where, Info, Alloc, Free, Lock, Unlock, Level, StateOf, Room}
+use Rattle.loader_machine.specs.Commands.{Command, Banks, Load, UnloadSegment, ShutDown, Purge, Poke, Bytes, Where, Info, Alloc, Free, Lock, Unlock, Level, StateOf, Room}
 
 -- ---- lines
 
@@ -67,6 +67,10 @@ unfoldable pub named : List ℕ → Option CommandName
 named word =
     if bytes_eq word (codes "banks") then Some name.Banks
     else if bytes_eq word (codes "load") then Some name.Load
+    else if bytes_eq word (codes "unloadseg") then Some name.UnloadSegment
+    else if bytes_eq word (codes "shutdown") then Some name.ShutDown
+    else if bytes_eq word (codes "purge") then Some name.Purge
+    else if bytes_eq word (codes "poke") then Some name.Poke
     else if bytes_eq word (codes "bytes") then Some name.Bytes
     else if bytes_eq word (codes "where") then Some name.Where
     else if bytes_eq word (codes "info") then Some name.Info
@@ -97,6 +101,31 @@ unfoldable pub load_of : List (List ℕ) → Result Command ScriptCause
 load_of [] = Err WrongCount
 load_of (path ∷ []) = Ok (Load path)
 load_of (path ∷ more ∷ words) = Err WrongCount
+
+-- how a program is shut down: kept or dropped
+abbrev pub is_manner : List ℕ → Bool
+is_manner word = bytes_eq word (codes "keep") || bytes_eq word (codes "drop")
+
+-- `shutdown U keep` and `shutdown U drop`
+unfoldable pub shut_down_of : List (List ℕ) → Result Command ScriptCause
+shut_down_of (user ∷ manner ∷ []) =
+    if is_number 0 0xFFFF user && is_manner manner
+    then Ok (ShutDown (number_of user) (bytes_eq manner (codes "keep")))
+    else Err BadNumber
+shut_down_of words = Err WrongCount
+
+-- the numbers of `poke`: a user, a segment, an offset, and a byte
+abbrev pub are_poke_numbers : List ℕ → List ℕ → List ℕ → List ℕ → Bool
+are_poke_numbers user segment at byte =
+    is_number 0 0xFFFF user && is_number 0 0xFFFF segment && is_number 0 0xFFFFFFFF at && is_number 0 0xFF byte
+
+-- `poke U S OFF BYTE`
+unfoldable pub poke_of : List (List ℕ) → Result Command ScriptCause
+poke_of (user ∷ segment ∷ at ∷ byte ∷ []) =
+    if are_poke_numbers user segment at byte
+    then Ok (Poke (number_of user) (number_of segment) (number_of at) (number_of byte))
+    else Err BadNumber
+poke_of words = Err WrongCount
 
 -- the numbers of `bytes`: a user, a segment, an offset, and a length of 1 to $100
 abbrev pub are_bytes_numbers : List ℕ → List ℕ → List ℕ → List ℕ → Bool
@@ -173,6 +202,10 @@ room_of (word ∷ words) = Err WrongCount
 unfoldable pub words_command : CommandName → List (List ℕ) → Result Command ScriptCause
 words_command name.Banks words = banks_of words
 words_command name.Load words = load_of words
+words_command name.UnloadSegment words = given_by (λ n. UnloadSegment n.0 n.1) (two_numbers 0xFFFF 0xFFFF words)
+words_command name.ShutDown words = shut_down_of words
+words_command name.Purge words = given_by Purge (one_number 0xFFFF words)
+words_command name.Poke words = poke_of words
 words_command name.Bytes words = bytes_of words
 words_command name.Where words = given_by Where (one_number 0xFFFFFF words)
 words_command name.Info words = given_by (λ n. Info n.0 n.1) (two_numbers 0xFFFF 0xFFFF words)
@@ -210,6 +243,11 @@ abbrev pub IsCommand : Bool → Command → Type 0
 IsCommand is_first (Banks banks) = (is_first ≡ true) × (1 ≤ length banks) × (length banks ≤ 256)
     × AllByRecursion (λ bank. bank ≤ 0xFF) banks × (stands_twice banks ≡ false)
 IsCommand is_first (Load path) = (is_first ≡ false) × (1 ≤ length path) × (length path ≤ 255) × (is_word path ≡ true)
+IsCommand is_first (UnloadSegment user segment) = (is_first ≡ false) × (user ≤ 0xFFFF) × (segment ≤ 0xFFFF)
+IsCommand is_first (ShutDown user keep) = (is_first ≡ false) × (user ≤ 0xFFFF)
+IsCommand is_first (Purge user) = (is_first ≡ false) × (user ≤ 0xFFFF)
+IsCommand is_first (Poke user segment at byte) = (is_first ≡ false) × (user ≤ 0xFFFF) × (segment ≤ 0xFFFF)
+    × (at ≤ 0xFFFFFFFF) × (byte ≤ 0xFF)
 IsCommand is_first (Bytes user segment at size) = (is_first ≡ false) × (user ≤ 0xFFFF) × (segment ≤ 0xFFFF)
     × (at ≤ 0xFFFFFFFF) × (1 ≤ size) × (size ≤ 0x100)
 IsCommand is_first (Where address) = (is_first ≡ false) × (address ≤ 0xFFFFFF)

@@ -1,6 +1,6 @@
 -- What the commands of a script keep: the bounds of their values, and that `banks` is the first one and no later one.
 use Rattle.std.proofs.Common.{◌≡◌, ◌⊎◌, inl, inr, ℕ, zero, suc, map, ◌<◌, ◌≤◌, Bool, true, false, cond, List, [], ◌∷◌, length, Option, Some, None, Result, Ok, Err, refl, sym, ap, subst, arith}
-use Rattle.std.specs.Prelude.{◌≢◌, ◌==◌, ◌&&◌, not, slice_index}
+use Rattle.std.specs.Prelude.{◌≢◌, ◌==◌, ◌&&◌, not, bytes_eq, codes, slice_index}
 use Rattle.std.specs.List.{AllByRecursion, list_all, list_any}
 use Rattle.std.proofs.lemmas.Bool.{and_parts, or_parts, leb-true, eqb-false}
 use Rattle.std.proofs.lemmas.List.{length-map}
@@ -10,10 +10,10 @@ use Rattle.loader_machine.specs.declared.script.CommandName.{CommandName}
 use Rattle.loader_machine.specs.declared.script.CommandName.TheVariants as names
 use Rattle.omf_format.specs.Header.{has_attribute}
 use Rattle.iigs_meaning.specs.Fits.{IsWant}
-use Rattle.loader_machine.specs.Commands.{Command, Banks, Load, Bytes, Where, Info, Alloc, Free, Lock, Unlock, Level, StateOf, Room}
+use Rattle.loader_machine.specs.Commands.{Command, Banks, Load, UnloadSegment, ShutDown, Purge, Poke, Bytes, Where, Info, Alloc, Free, Lock, Unlock, Level, StateOf, Room}
 use Rattle.iigs_meaning.specs.Banks.{AreDistinctTo}
 use Rattle.omf_format.specs.Lines.{lines_of}
-use Rattle.loader_machine.specs.Script.{written, line_command, Give, IsScript, IsHandle, IsCommand, AreCommands, is_number, number_of, is_word, stands_twice, banks_of, load_of, bytes_of, are_bytes_numbers, level_in, alloc_want, are_alloc_numbers, alloc_of, one_number, two_numbers, given_by, handle_of, room_of, words_command, is_banks, is_in_turn, named, named_command, command_of, words_of, is_well_formed}
+use Rattle.loader_machine.specs.Script.{written, line_command, Give, IsScript, IsHandle, IsCommand, AreCommands, is_number, number_of, is_word, stands_twice, banks_of, load_of, is_manner, shut_down_of, are_poke_numbers, poke_of, bytes_of, are_bytes_numbers, level_in, alloc_want, are_alloc_numbers, alloc_of, one_number, two_numbers, given_by, handle_of, room_of, words_command, is_banks, is_in_turn, named, named_command, command_of, words_of, is_well_formed}
 
 abbrev failed : ScriptCause → Result Command ScriptCause
 failed cause = Err cause
@@ -91,6 +91,34 @@ bytes_keep (user ∷ segment ∷ at ∷ size ∷ []) command e =
     subst (IsCommand false) (same_ok (Ok found) found command refl tests.1) keep
 bytes_keep (user ∷ segment ∷ at ∷ size ∷ more ∷ words) command e = let clash : failed WrongCount ≡ Ok command = e in absurd cc
 
+poke_keep : (words : List (List ℕ)) (command : Command) → poke_of words ≡ Ok command → IsCommand false command
+unfolding poke_of
+poke_keep [] command e = let clash : failed WrongCount ≡ Ok command = e in absurd cc
+poke_keep (user ∷ []) command e = let clash : failed WrongCount ≡ Ok command = e in absurd cc
+poke_keep (user ∷ segment ∷ []) command e = let clash : failed WrongCount ≡ Ok command = e in absurd cc
+poke_keep (user ∷ segment ∷ at ∷ []) command e = let clash : failed WrongCount ≡ Ok command = e in absurd cc
+poke_keep (user ∷ segment ∷ at ∷ byte ∷ []) command e =
+    let found : Command = Poke (number_of user) (number_of segment) (number_of at) (number_of byte) in
+    let tests = or_err (are_poke_numbers user segment at byte) _ _ command e in
+    let a = and_parts _ _ tests.0 in
+    let b = and_parts _ _ a.0 in
+    let c = and_parts _ _ b.0 in
+    let keep : IsCommand false found =
+    (refl, (number_within 0 0xFFFF user c.0).1, (number_within 0 0xFFFF segment c.1).1, (number_within 0 0xFFFFFFFF at b.1).1, (number_within 0 0xFF byte a.1).1) in
+    subst (IsCommand false) (same_ok (Ok found) found command refl tests.1) keep
+poke_keep (user ∷ segment ∷ at ∷ byte ∷ more ∷ words) command e = let clash : failed WrongCount ≡ Ok command = e in absurd cc
+
+shut_down_keep : (words : List (List ℕ)) (command : Command) → shut_down_of words ≡ Ok command → IsCommand false command
+unfolding shut_down_of
+shut_down_keep [] command e = let clash : failed WrongCount ≡ Ok command = e in absurd cc
+shut_down_keep (user ∷ []) command e = let clash : failed WrongCount ≡ Ok command = e in absurd cc
+shut_down_keep (user ∷ manner ∷ []) command e =
+    let found : Command = ShutDown (number_of user) (bytes_eq manner (codes "keep")) in
+    let tests = or_err (is_number 0 0xFFFF user && is_manner manner) _ _ command e in
+    let keep : IsCommand false found = (refl, (number_within 0 0xFFFF user (and_parts _ _ tests.0).0).1) in
+    subst (IsCommand false) (same_ok (Ok found) found command refl tests.1) keep
+shut_down_keep (user ∷ manner ∷ more ∷ words) command e = let clash : failed WrongCount ≡ Ok command = e in absurd cc
+
 -- ---- the other commands
 
 given : {A : Type 0} (of : A → Command) (read : Result A ScriptCause) (command : Command) → given_by of read ≡ Ok command → (x : A) × (read ≡ Ok x) × (command ≡ of x)
@@ -165,6 +193,15 @@ words_keep : (name : CommandName) (words : List (List ℕ)) (command : Command) 
 unfolding words_command
 words_keep names.Banks words command are e = banks_keep words command e
 words_keep names.Load words command are e = load_keep words command are e
+words_keep names.UnloadSegment words command are e =
+    let is = given (λ n. UnloadSegment n.0 n.1) (two_numbers 0xFFFF 0xFFFF words) command e in
+    let within = two_within 0xFFFF 0xFFFF words is.0 is.1 in
+    subst (IsCommand false) (sym is.2) (refl, within.0, within.1)
+words_keep names.ShutDown words command are e = shut_down_keep words command e
+words_keep names.Purge words command are e =
+    let is = given Purge (one_number 0xFFFF words) command e in
+    subst (IsCommand false) (sym is.2) (refl, one_within 0xFFFF words is.0 is.1)
+words_keep names.Poke words command are e = poke_keep words command e
 words_keep names.Bytes words command are e = bytes_keep words command e
 words_keep names.Where words command are e =
     let is = given Where (one_number 0xFFFFFF words) command e in

@@ -7,6 +7,10 @@ use std::alloc::{AllocError, AllocFailed};
 pub enum CommandName {
     Banks,
     Load,
+    UnloadSegment,
+    ShutDown,
+    Purge,
+    Poke,
     Bytes,
     Where,
     Info,

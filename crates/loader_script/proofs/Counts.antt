@@ -1,7 +1,7 @@
 -- Commands with another number of words than they take.
 use Rattle.std.proofs.Common.{◌≡◌, ◌≢◌, ℕ, List, [], ◌∷◌, length, Err, refl}
 use Rattle.loader_machine.specs.declared.script.ScriptCause.TheVariants.{WrongCount}
-use Rattle.loader_machine.specs.Script.{load_of, bytes_of, alloc_of, one_number, two_numbers}
+use Rattle.loader_machine.specs.Script.{load_of, shut_down_of, poke_of, bytes_of, alloc_of, one_number, two_numbers}
 
 pub load_of_others : (words : List (List ℕ)) → length words ≢ 1 → load_of words ≡ Err WrongCount
 unfolding load_of
@@ -38,3 +38,19 @@ two_numbers_others most bound [] other = refl
 two_numbers_others most bound (word ∷ []) other = refl
 two_numbers_others most bound (word ∷ second ∷ []) other = absurd (other refl)
 two_numbers_others most bound (word ∷ second ∷ more ∷ words) other = refl
+
+pub poke_of_others : (words : List (List ℕ)) → length words ≢ 4 → poke_of words ≡ Err WrongCount
+unfolding poke_of
+poke_of_others [] other = refl
+poke_of_others (user ∷ []) other = refl
+poke_of_others (user ∷ segment ∷ []) other = refl
+poke_of_others (user ∷ segment ∷ at ∷ []) other = refl
+poke_of_others (user ∷ segment ∷ at ∷ byte ∷ []) other = absurd (other refl)
+poke_of_others (user ∷ segment ∷ at ∷ byte ∷ more ∷ words) other = refl
+
+pub shut_down_of_others : (words : List (List ℕ)) → length words ≢ 2 → shut_down_of words ≡ Err WrongCount
+unfolding shut_down_of
+shut_down_of_others [] other = refl
+shut_down_of_others (user ∷ []) other = refl
+shut_down_of_others (user ∷ manner ∷ []) other = absurd (other refl)
+shut_down_of_others (user ∷ manner ∷ more ∷ words) other = refl

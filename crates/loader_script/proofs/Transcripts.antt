@@ -11,7 +11,7 @@ use Rattle.omf_io.specs.Files.{FileMap, StoreSeen, IsUnread}
 use Rattle.omf_io.specs.Sinks.{SinkSeen, with_text}
 use Rattle.omf_io.specs.Outside.{Outside}
 use Rattle.omf_base.specs.declared.line.LineFault.{LineFault}
-use Rattle.omf_format.specs.Header.{is_skipped}
+use Rattle.omf_format.specs.Header.{is_dynamic, is_skipped}
 use Rattle.iigs_meaning.specs.declared.handles.Handle.{Handle}
 use Rattle.iigs_meaning.specs.declared.wants.Want.{Want}
 use Rattle.iigs_meaning.specs.declared.wants.Block.{Block}
@@ -22,12 +22,12 @@ use Rattle.iigs_meaning.specs.Memory.{Memory, IsPlaced}
 use Rattle.loader_machine.specs.declared.seen.Head.{Head}
 use Rattle.loader_machine.specs.declared.faults.LoaderFault.{LoaderFault}
 use Rattle.loader_machine.specs.declared.faults.LoaderFault.TheVariants as faults
-use Rattle.loader_machine.specs.Heads.{head_of, at_number}
+use Rattle.loader_machine.specs.Heads.{head_of, at_number, is_table}
 use Rattle.loader_machine.specs.State.{Machine, Seen, empty_of, first_id, max_users, is_running}
 use Rattle.loader_machine.specs.Presences.{presence_at, is_active}
 use Rattle.loader_machine.specs.Commands as commands
 use Rattle.loader_machine.specs.Commands.{Command, Load, Reply}
-use Rattle.loader_machine.specs.Refusals.{Refuse, of_user, of_head, of_live, of_there, bytes_refusal, info_refusal, free_refusal, change_refusal, state_refusal}
+use Rattle.loader_machine.specs.Refusals.{Refuse, of_user, of_running, of_head, of_live, of_there, bytes_refusal, info_refusal, poke_refusal, unload_refusal, shut_down_refusal, purge_refusal, free_refusal, change_refusal, state_refusal}
 use Rattle.loader_machine.specs.Transcript.{IsAnswered, AreAnswered}
 use Rattle.loader_machine.specs.Replies.{reply_line, replies_text}
 use Rattle.sys_loader.specs.declared.answers.Started.{Started}
@@ -35,7 +35,8 @@ use Rattle.sys_loader.specs.Calls.{IsBeginRefusal, IsStartRefusal, IsLoadRefusal
 use Rattle.sys_loader.specs.declared.answers.Entered.{Entered}
 use Rattle.sys_loader.specs.Replies.{load_reply, done_reply, where_reply, IsAllocRefusal}
 use Rattle.loader_agrees.specs.Begun.{puts_here}
-use Rattle.loader_agrees.specs.Agrees.{Loaded, Agrees, Met, Meets}
+use Rattle.sys_loader.specs.Lives.{DidPoke, DidUnload, DidShutDown}
+use Rattle.loader_agrees.specs.Agrees.{Loaded, seen_by, Agrees, Met, Meets}
 use Rattle.loader_script.specs.declared.run.Stop.{Stop}
 use Rattle.loader_script.specs.declared.run.Stop.TheVariants as stop
 use Rattle.loader_script.specs.Replied.{is_unread, is_unread_fault, is_full_fault, unread, asks, asked_for, AreReplies, OnceAtMost, IsUnanswered}
@@ -215,6 +216,48 @@ bytes_safe slots user number at count = safe_user user _ (λ seen.
 pub info_safe : (user : Option Seen) (number : ℕ) → Safe (info_refusal user number)
 unfolding info_refusal
 info_safe user number = safe_user user _ (λ seen. safe_head (at_number seen.heads number) _ (λ head. safe_none))
+
+pub poke_safe : (slots : Slots) (user : Option Seen) (number at : ℕ) → Safe (poke_refusal slots user number at)
+unfolding poke_refusal
+poke_safe slots user number at = safe_user user _ (λ seen.
+    safe_if (is_running seen.life) _ (Some faults.NotRunning) (safe_head (at_number seen.heads number) _ (λ head.
+    safe_if (is_active (presence_at slots seen.handles number)) _ (Some faults.NotActive)
+    (safe_if (is_table head) (Some faults.TableByte) _ (safe_some faults.TableByte refl)
+    (safe_if (nat_le (at + 1) head.length) None (Some faults.OutOfSegment) safe_none (safe_some faults.OutOfSegment refl))) (safe_some faults.NotActive refl)))
+    (safe_some faults.NotRunning refl))
+
+pub unload_safe : (slots : Slots) (user : Option Seen) (number : ℕ) → Safe (unload_refusal slots user number)
+unfolding unload_refusal
+unload_safe slots user number = safe_user user _ (λ seen.
+    safe_if (is_running seen.life) _ (Some faults.NotRunning) (safe_head (at_number seen.heads number) _ (λ head.
+    safe_if (is_dynamic head.kind) _ (Some faults.Static)
+    (safe_if (is_active (presence_at slots seen.handles number)) None (Some faults.NotActive) safe_none (safe_some faults.NotActive refl)) (safe_some faults.Static refl)))
+    (safe_some faults.NotRunning refl))
+
+pub shut_down_safe : (user : Option Seen) (keep : Bool) → Safe (shut_down_refusal user keep)
+unfolding shut_down_refusal
+shut_down_safe user keep = safe_user user _ (λ seen.
+    safe_if keep (of_running seen None) None (safe_if (is_running seen.life) None (Some faults.NotRunning) safe_none (safe_some faults.NotRunning refl)) safe_none)
+
+pub purge_safe : (user : Option Seen) (id : ℕ) → Safe (purge_refusal user id)
+unfolding purge_refusal
+purge_safe user id = safe_if (id == 0) None _ safe_none (safe_user user _ (λ seen. safe_none))
+
+-- why a call refuses, where that is told with what it did
+pub poke_why : (old new : Loaded) (id number at byte : ℕ) (done : Result (Unit {0}) LoaderFault) → DidPoke old id number at byte done new
+    → IfErr done (λ why. poke_refusal old.memory.slots (seen_by old id) number at ≡ Some why)
+poke_why old new id number at byte (Ok done) did = tt
+poke_why old new id number at byte (Err why) did = did.0
+
+pub unload_why : (old new : Loaded) (id number : ℕ) (done : Result (Unit {0}) LoaderFault) → DidUnload old id number done new
+    → IfErr done (λ why. unload_refusal old.memory.slots (seen_by old id) number ≡ Some why)
+unload_why old new id number (Ok done) did = tt
+unload_why old new id number (Err why) did = did.0
+
+pub shut_down_why : (old new : Loaded) (id : ℕ) (keep : Bool) (done : Result (Unit {0}) LoaderFault) → DidShutDown old id keep done new → IfErr done (λ why. shut_down_refusal (seen_by old id) keep ≡ Some why)
+shut_down_why old new id keep (Ok done) did = tt
+shut_down_why old new id true (Err why) did = did.0
+shut_down_why old new id false (Err why) did = did.0
 
 pub free_safe : (slots : Slots) (h : Handle) → Safe (free_refusal slots h)
 unfolding free_refusal

@@ -13,6 +13,10 @@ use Rattle.loader_script.specs.declared.command.Command.TheVariants as declared
 abbrev pub command : Command → machine.Command
 command (declared.Banks list) = machine.Banks list
 command (declared.Load path) = machine.Load path
+command (declared.UnloadSegment user segment) = machine.UnloadSegment user segment
+command (declared.ShutDown user keep) = machine.ShutDown user keep
+command (declared.Purge user) = machine.Purge user
+command (declared.Poke user segment at byte) = machine.Poke user segment at byte
 command (declared.Bytes user segment at size) = machine.Bytes user segment at size
 command (declared.Where address) = machine.Where address
 command (declared.Info user segment) = machine.Info user segment

@@ -53,6 +53,27 @@ pub enum Command {
     Load {
         path: Name,
     },
+    /// A dynamic segment to be let go.
+    UnloadSegment {
+        user: u16,
+        segment: u16,
+    },
+    /// A program to be shut down: kept dormant, or dropped.
+    ShutDown {
+        user: u16,
+        keep: bool,
+    },
+    /// A user's purgeable blocks to be emptied.
+    Purge {
+        user: u16,
+    },
+    /// A byte to be written into a user's segment, at the offset `at`.
+    Poke {
+        user: u16,
+        segment: u16,
+        at: u32,
+        byte: u8,
+    },
     /// Bytes of a user's segment to be shown, from the offset `at` on.
     Bytes {
         user: u16,

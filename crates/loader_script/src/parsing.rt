@@ -3,7 +3,7 @@
 ghost use Rattle.std.specs.Prelude.{◌≡◌, ◌≢◌, ◌==◌, ◌&&◌, ◌<◌, false, ◌≤◌, ◌∷◌, [], true, length, IfOk, IfErr, IfSome, MatchOption, bytes_eq, codes};
 ghost use Rattle.std.specs.List.{list_all, list_any};
 ghost use Rattle.loader_machine.specs.Commands as machine;
-ghost use Rattle.loader_machine.specs.Script.{words_of, is_word, stands_twice, banks_of, load_of, bytes_of, are_bytes_numbers, is_attributes, are_alloc_numbers, alloc_of, room_of, one_number, two_numbers, given_by, handle_of, words_command, named, is_in_turn, is_number, number_of, command_of, line_command};
+ghost use Rattle.loader_machine.specs.Script.{words_of, is_word, stands_twice, banks_of, load_of, is_manner, shut_down_of, are_poke_numbers, poke_of, bytes_of, are_bytes_numbers, is_attributes, are_alloc_numbers, alloc_of, room_of, one_number, two_numbers, given_by, handle_of, words_command, named, is_in_turn, is_number, number_of, command_of, line_command};
 ghost use Rattle.loader_script.specs.Words.{bank_numbers, IsHandleIn};
 ghost use Rattle.loader_script.specs.View.{command, IsRead};
 
@@ -154,6 +154,38 @@ fn bytes(words: &mut Words) -> Result<Command, ScriptCause>
     }
 }
 
+/// The command `poke` of these words.
+fn poke_command(user: &[u8], segment: &[u8], at: &[u8], byte: &[u8]) -> Option<Command>
+    ensures { MatchOption result (are_poke_numbers user.now segment.now at.now byte.now ≡ false) (λ found.
+        (are_poke_numbers user.now segment.now at.now byte.now ≡ true)
+        × (found ≡ Command.Poke (number_of user.now) (number_of segment.now) (number_of at.now) (number_of byte.now))) }
+{
+    let user = number(user, 0, 0xFFFF)? as u16;
+    let segment = number(segment, 0, 0xFFFF)? as u16;
+    let at = number(at, 0, 0xFFFF_FFFF)?;
+    let byte = number(byte, 0, 0xFF)? as u8;
+    Some(Command::Poke {
+        user,
+        segment,
+        at,
+        byte,
+    })
+}
+
+/// `poke U S OFF BYTE`
+#[tactic(auto, unfolding(loader_machine::specs::Script::poke_of), using(crate::proofs::Counts::poke_of_others))]
+fn poke(words: &mut Words) -> Result<Command, ScriptCause>
+    ensures { IsRead command result (poke_of words.old) }
+{
+    let Some((user, segment, at, byte)) = four_words(words) else {
+        return Err(ScriptCause::WrongCount);
+    };
+    match poke_command(user, segment, at, byte) {
+        Some(found) => Ok(found),
+        None => Err(ScriptCause::BadNumber),
+    }
+}
+
 /// The two words that there are, or none where there are more or fewer.
 fn two_words<'a>(words: &mut Words<'a>) -> Option<(&'a [u8], &'a [u8])>
     ensures { MatchOption result (length words.old ≢ 2) (λ two. words.old ≡ two.0.now ∷ two.1.now ∷ []) }
@@ -293,6 +325,67 @@ fn info(words: &mut Words) -> Result<Command, ScriptCause>
     }
 }
 
+/// `unloadseg U S`
+fn unload_segment(words: &mut Words) -> Result<Command, ScriptCause>
+    ensures { IsRead command result (given_by (λ n. machine.UnloadSegment n.0 n.1) (two_numbers 0xFFFF 0xFFFF words.old)) }
+{
+    match two_numbers(words, 0xFFFF, 0xFFFF) {
+        Ok((user, segment)) => Ok(Command::UnloadSegment {
+            user: user as u16,
+            segment: segment as u16,
+        }),
+        Err(cause) => Err(cause),
+    }
+}
+
+/// `purge U`
+fn purge(words: &mut Words) -> Result<Command, ScriptCause>
+    ensures { IsRead command result (given_by machine.Purge (one_number 0xFFFF words.old)) }
+{
+    match one_number(words, 0xFFFF) {
+        Ok(user) => Ok(Command::Purge { user: user as u16 }),
+        Err(cause) => Err(cause),
+    }
+}
+
+/// Whether a word keeps a program, or drops it.
+fn manner(word: &[u8]) -> Option<bool>
+    ensures { MatchOption result (is_manner word.now ≡ false) (λ keep. (is_manner word.now ≡ true) × (keep ≡ bytes_eq word.now (codes "keep"))) }
+{
+    if is_name(word, "keep") {
+        return Some(true);
+    }
+    if is_name(word, "drop") {
+        return Some(false);
+    }
+    None
+}
+
+/// The command `shutdown` of these words.
+fn shut_down_command(user: &[u8], word: &[u8]) -> Option<Command>
+    ensures { MatchOption result ((is_number 0 0xFFFF user.now && is_manner word.now) ≡ false) (λ found.
+        ((is_number 0 0xFFFF user.now && is_manner word.now) ≡ true)
+        × (found ≡ Command.ShutDown (number_of user.now) (bytes_eq word.now (codes "keep")))) }
+{
+    let user = number(user, 0, 0xFFFF)? as u16;
+    let keep = manner(word)?;
+    Some(Command::ShutDown { user, keep })
+}
+
+/// `shutdown U keep` and `shutdown U drop`
+#[tactic(auto, unfolding(loader_machine::specs::Script::shut_down_of), using(crate::proofs::Counts::shut_down_of_others))]
+fn shut_down(words: &mut Words) -> Result<Command, ScriptCause>
+    ensures { IsRead command result (shut_down_of words.old) }
+{
+    let Some((user, word)) = two_words(words) else {
+        return Err(ScriptCause::WrongCount);
+    };
+    match shut_down_command(user, word) {
+        Some(found) => Ok(found),
+        None => Err(ScriptCause::BadNumber),
+    }
+}
+
 /// The handle that six digits write.
 fn handle_of(n: u32) -> Handle
     requires { n ≤ 0xFFFFFF }
@@ -391,6 +484,10 @@ fn words_command(
     match name {
         CommandName::Banks => banks(alloc, words),
         CommandName::Load => load(alloc, words),
+        CommandName::UnloadSegment => unload_segment(words),
+        CommandName::ShutDown => shut_down(words),
+        CommandName::Purge => purge(words),
+        CommandName::Poke => poke(words),
         CommandName::Bytes => bytes(words),
         CommandName::Where => where_(words),
         CommandName::Info => info(words),
@@ -421,6 +518,18 @@ fn named(word: &[u8]) -> Option<CommandName>
     }
     if is_name(word, "load") {
         return Some(CommandName::Load);
+    }
+    if is_name(word, "unloadseg") {
+        return Some(CommandName::UnloadSegment);
+    }
+    if is_name(word, "shutdown") {
+        return Some(CommandName::ShutDown);
+    }
+    if is_name(word, "purge") {
+        return Some(CommandName::Purge);
+    }
+    if is_name(word, "poke") {
+        return Some(CommandName::Poke);
     }
     if is_name(word, "bytes") {
         return Some(CommandName::Bytes);

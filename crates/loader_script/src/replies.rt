@@ -50,6 +50,18 @@ pub fn started_line(alloc: Global, started: Started) -> Result<Line, LineFault>
     Ok(line)
 }
 
+/// The reply to a purge.
+#[tactic(auto, unfolding(loader_machine::specs::Replies::reply_line, loader_machine::specs::Replies::reply_text))]
+pub fn counted_line(alloc: Global, count: u32) -> Result<Line, LineFault>
+    ensures { IfOk result (λ text. text ≡ reply_line (machine.Counted count)) }
+{
+    let mut line = Line::new(alloc);
+    line.text("purged ")?;
+    line.hex(count, 4)?;
+    line.text("\n")?;
+    Ok(line)
+}
+
 /// Appends bytes, each behind a space.
 #[tactic(auto, unfolding(loader_machine::specs::Replies::other_text))]
 fn put_others(line: &mut Line, bytes: &[u8]) -> Result<(), LineFault>

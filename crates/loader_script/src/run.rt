@@ -16,8 +16,8 @@ ghost use Rattle.loader_script.specs.Running.{HasPrinted, IsLineOf, HasLine, Has
 
 use crate::command::{BankList, Command};
 use crate::replies::{
-    info_line, okay_line, placed_line, refusal_line, room_line, shown_line, started_line,
-    state_line, where_line,
+    counted_line, info_line, okay_line, placed_line, refusal_line, room_line, shown_line,
+    started_line, state_line, where_line,
 };
 use crate::script::{Script, read_script};
 use iigs_meaning::{BanksFault, Handle, Want};
@@ -100,6 +100,49 @@ fn load<F: Files>(
         Ok(started) => started_line(alloc, started),
         Err(fault) => refusal_line(alloc, fault),
     }
+}
+
+/// Lets a user's dynamic segment go.
+fn unload_segment(
+    alloc: Global,
+    user: u16,
+    segment: u16,
+    loader: &mut Loader,
+) -> Result<Line, LineFault>
+    ensures { (store : StoreSeen) → HasLine result (machine.UnloadSegment user segment) loader.old loader.new store store }
+{
+    done_line(alloc, loader.unload_segment(user, segment))
+}
+
+/// Shuts a program down.
+fn shut_down(alloc: Global, user: u16, keep: bool, loader: &mut Loader) -> Result<Line, LineFault>
+    ensures { (store : StoreSeen) → HasLine result (machine.ShutDown user keep) loader.old loader.new store store }
+{
+    done_line(alloc, loader.shut_down(user, keep))
+}
+
+/// Empties a user's purgeable blocks.
+fn purge(alloc: Global, user: u16, loader: &mut Loader) -> Result<Line, LineFault>
+    ensures { (store : StoreSeen) → HasLine result (machine.Purge user) loader.old loader.new store store }
+{
+    match loader.purge(user) {
+        Ok(count) => counted_line(alloc, count),
+        Err(fault) => refusal_line(alloc, fault),
+    }
+}
+
+/// Writes a byte into a user's segment.
+fn poke(
+    alloc: Global,
+    user: u16,
+    segment: u16,
+    at: u32,
+    byte: u8,
+    loader: &mut Loader,
+) -> Result<Line, LineFault>
+    ensures { (store : StoreSeen) → HasLine result (machine.Poke user segment at byte) loader.old loader.new store store }
+{
+    done_line(alloc, loader.poke(user, segment, at, byte))
 }
 
 /// Shows bytes of a user's segment.
@@ -248,6 +291,17 @@ fn reply<F: Files>(
     match command {
         Command::Banks { .. } => unreachable!(),
         Command::Load { path } => load(alloc, path, loader, files),
+        Command::UnloadSegment { user, segment } => {
+            unload_segment(alloc, *user, *segment, loader)
+        }
+        Command::ShutDown { user, keep } => shut_down(alloc, *user, *keep, loader),
+        Command::Purge { user } => purge(alloc, *user, loader),
+        Command::Poke {
+            user,
+            segment,
+            at,
+            byte,
+        } => poke(alloc, *user, *segment, *at, *byte, loader),
         Command::Bytes {
             user,
             segment,

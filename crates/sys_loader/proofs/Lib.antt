@@ -1,6 +1,7 @@
 pub mod Script
 pub mod Wants
 pub mod Lies
+pub mod Naming
 pub mod Dealing
 pub mod Written
 pub mod Tables
@@ -8,3 +9,17 @@ pub mod Settling
 pub mod Beginning
 pub mod Loads
 pub mod Heading
+pub mod Purging
+pub mod Poking
+pub mod Renewed
+pub mod Turned
+pub mod Shifting
+pub mod Renewing
+pub mod Turning
+pub mod Unloading
+pub mod Dropping
+pub mod ChangedAll
+pub mod Resting
+pub mod Idling
+pub mod Stopping
+pub mod UserItems

@@ -1,6 +1,6 @@
 -- An address that lies in none of the segments so far, and then in one or in none.
-use Rattle.std.proofs.Common.{◌≡◌, ◌≢◌, inl, inr, ℕ, zero, suc, Bool, true, false, ◌+◌, ◌-◌, ◌<◌, ◌≤◌, List, length, map, get_or, Option, Some, None, nat_lt, refl, sym, ap, subst, ◌∙◌, arith}
-use Rattle.std.specs.Prelude.{slice_get, option_map, MatchOption, ◌^◌}
+use Rattle.std.proofs.Common.{◌≡◌, inl, inr, ℕ, zero, suc, Bool, true, false, ◌+◌, ◌-◌, ◌<◌, ◌≤◌, List, length, map, get_or, Option, Some, None, IsSomeAnd, nat_lt, refl, sym, ap, subst, ◌∙◌, arith}
+use Rattle.std.specs.Prelude.{slice_get, option_map, ◌^◌}
 use Rattle.std.proofs.lemmas.List.{length-map}
 use Rattle.std.specs.Option.{option_and_then}
 use Rattle.std.proofs.lemmas.Bool.{cases_lt}
@@ -18,12 +18,12 @@ use Rattle.loader_machine.specs.Presences.{handle_at, presence, lies_in, lies_at
 use Rattle.loader_agrees.specs.Agrees.{Kept, Loaded, IsSound}
 use Rattle.loader_agrees.specs.Acts.{LiesIn}
 use Rattle.loader_agrees.specs.Lists.{number_map}
-use Rattle.loader_agrees.specs.Seeing.{made_at}
+use Rattle.loader_agrees.specs.Seeing.{made_at, its_block}
+use Rattle.iigs_memory.specs.Holder.{Has, IsHolder}
 use Rattle.sys_loader.specs.View.{kept, loaded}
 use Rattle.sys_loader.specs.declared.user.User.{User}
 use Rattle.sys_loader.specs.declared.user.Segment.{Segment}
-use Rattle.sys_loader.specs.Lying.{LiesAt, LiesInNone, LiesInOne, IsNowhereOf, IsSomewhereOf, IsNowhere, IsSomewhere}
-use Rattle.sys_loader.specs.declared.answers.Entered.{Entered}
+use Rattle.sys_loader.specs.Lying.{LiesAt, LiesInNone, IsSomewhereOf, IsNowhereFor, IsSomewhere}
 
 pub none_yet : (slots : Slots) (segments : List Segment) (address : ℕ) → LiesInNone slots segments 0 address
 none_yet slots segments address k s offset less is = absurd (omega (arith, less))
@@ -58,6 +58,27 @@ active_handle slots (Some k) h first is = ap (λ (x : Handle). Some x) (in_slot 
     in_slot : (b : Option Block) → lies_in k b ≡ Active h first → k ≡ h
     in_slot None e = absurd cc
     in_slot (Some block) e = at_place block.at block.locked e
+
+-- an active segment's block begins at its address
+at_first : (slots : Slots) (h : Handle) (block : Block) (first : ℕ) → get slots h ≡ Some block → presence slots (Some h) ≡ Active h first → block.at ≡ Some first
+at_first slots h block first is active = go block.at block.locked (ap (lies_in h) (sym is) ∙ active)
+  where
+    go : (at : Option ℕ) (locked : Bool) → lies_at h at locked ≡ Active h first → at ≡ Some first
+    go None locked e = absurd cc
+    go (Some a) true e = cc
+    go (Some a) false e = absurd cc
+
+-- the block of the segment in which an address lies has the byte, and is the user's
+pub lies_block : (loader : Loaded) → IsSound loader.memory loader.users → (address id number offset : ℕ) → (lies : LiesIn loader address id number offset)
+    → Has loader.memory.slots address lies.h × IsSomeAnd (get loader.memory.slots lies.h) (λ block. block.user ≡ id)
+lies_block loader sound address id number offset lies =
+    let is = lies.is in
+    let own = its_block loader sound id number lies.h is in
+    let at = at_first loader.memory.slots lies.h own.block is.address own.live is.active in
+    let id_is = (made_at loader.users id is.kept is.made).1 in (
+      rw (own.live, at) (omega (arith, lies.sum), omega (arith, lies.sum, lies.inside, own.want)),
+      rw own.live (own.user ∙ id_is),
+    )
 
 handle_is : (segments : List Segment) (number : ℕ) (s : Segment) → at_number segments number ≡ Some s → handle_at (map (λ (x : Segment). x.handle) segments) number ≡ s.handle
 handle_is segments number s is = ap (option_and_then (λ (o : Option Handle). o)) (number_map (λ (x : Segment). x.handle) segments number ∙ ap (option_map (λ (x : Segment). x.handle)) is)
@@ -114,59 +135,42 @@ module _ (memory : Memory) (items : List (Option User)) where
   at_place segments zero s is = absurd cc
   at_place segments (suc k) s is = (k, is, slice_get_within segments k s is)
 
-  -- where no user has it, the address lies nowhere
-  pub lies_nowhere : (address : ℕ) → IsNowhere memory.slots items (length items) address → (id number offset : ℕ) → ¬ LiesIn (loaded memory items) address id number offset
-  lies_nowhere address nowhere id number offset lies =
+  -- where it lies in no segment of the user of an ID, it lies nowhere with that ID
+  pub lies_nowhere : (address id : ℕ) → IsNowhereFor memory.slots items address id → (number offset : ℕ) → ¬ LiesIn (loaded memory items) address id number offset
+  lies_nowhere address id nowhere number offset lies =
       let is = lies.is in
-      let made = (made_at (map (option_map kept) items) id is.kept is.made).0 in
-      let item = item_of (id - first_id) is.kept made in
+      let both = made_at (map (option_map kept) items) id is.kept is.made in
+      let item = item_of (id - first_id) is.kept both.0 in
       let user = item.0 in
       let found = numbered user.segments.items number is.head (ap (λ (x : Kept). at_number x.heads number) item.2 ∙ is.head') in
       let s = found.0 in
       let place = at_place user.segments.items number s found.1 in
       let handle : s.handle ≡ Some lies.h = sym (handle_is user.segments.items number s found.1) ∙ ap (λ (x : Kept). handle_at x.handles number) item.2 ∙ is.handle in
       let inside : offset < s.head.length = omega (arith, lies.inside, ap (λ (x : Head). x.length) found.2) in
-      nowhere (id - first_id) (Some user) (slice_get_within items (id - first_id) (Some user) item.1) item.1 (ap (λ (x : Kept). x.life) item.2 ∙ is.runs)
+      nowhere (Some user) (omega (arith, both.1)) item.1 (ap (λ (x : Kept). x.life) item.2 ∙ is.runs)
       place.0 s offset place.2 place.1 (record { h = lies.h; first = is.address; active = ap (presence memory.slots) handle ∙ is.active; sum = lies.sum; inside = inside })
 
-  pub located_is : (address : ℕ) (result : Option Entered)
-      → MatchOption result (IsNowhere memory.slots items (length items) address) (λ entered. IsSomewhere memory.slots items address entered.user entered.segment entered.offset × (entered.address ≡ address))
-      → MatchOption result ((id number offset : ℕ) → ¬ LiesIn (loaded memory items) address id number offset)
-      (λ entered. LiesIn (loaded memory items) address entered.user entered.segment entered.offset × (entered.address ≡ address))
-  located_is address None nowhere = lies_nowhere address nowhere
-  located_is address (Some entered) somewhere =
-      (lies_there somewhere.0.place entered.user address entered.segment entered.offset somewhere.0.user somewhere.0.is somewhere.0.id_is somewhere.0.lies, somewhere.1)
+  module _ (sound : IsSound memory (map (option_map kept) items)) (address : ℕ) where
+    pub none_held : ((h : Handle) → ¬ Has memory.slots address h) → (id number offset : ℕ) → ¬ LiesIn (loaded memory items) address id number offset
+    none_held none id number offset lies = none lies.h (lies_block (loaded memory items) sound address id number offset lies).0
+
+    same_user : (o : Option Block) (user id : ℕ) → IsSomeAnd o (λ block. block.user ≡ user) → IsSomeAnd o (λ block. block.user ≡ id) → user ≡ id
+    same_user None user id one two = absurd one
+    same_user (Some block) user id one two = sym one ∙ two
+
+    pub none_owned : (h : Handle) → IsHolder memory.slots address h → (user : ℕ) → IsSomeAnd (get memory.slots h) (λ block. block.user ≡ user) → IsNowhereFor memory.slots items address user
+        → (id number offset : ℕ) → ¬ LiesIn (loaded memory items) address id number offset
+    none_owned h holder user owner nowhere id number offset lies =
+        let block = lies_block (loaded memory items) sound address id number offset lies in
+        let one : IsSomeAnd (get memory.slots h) (λ block. block.user ≡ id) = subst (λ k. IsSomeAnd (get memory.slots k) (λ block. block.user ≡ id)) (holder.only lies.h block.0) block.1 in
+        let same : user ≡ id = same_user (get memory.slots h) user id owner one in
+        lies_nowhere address id (subst (λ n. IsNowhereFor memory.slots items address n) same nowhere) number offset lies
+
+    pub lies_owned : (user number offset : ℕ) → IsSomewhere memory.slots items address user number offset → LiesIn (loaded memory items) address user number offset
+    lies_owned user number offset there = lies_there there.place user address number offset there.user there.is there.id_is there.lies
 
   -- what a sound loader's users keep
-  pub few_users : IsSound memory (map (option_map kept) items) → length items ≤ 255
-  few_users sound = omega (arith, sound.few, length-map items (option_map kept))
-
   pub short_users : IsSound memory (map (option_map kept) items) → (k : ℕ) (one : User) → slice_get items k ≡ Some (Some one) → length one.segments.items < 2 ^ 16
   short_users sound k one is =
       let made : slice_get (map (option_map kept) items) k ≡ Some (Some (kept one)) = slice_get-map (option_map kept) items k ∙ ap (option_map (option_map kept)) is in
       omega (arith, sound.short k (kept one) made, length-map one.segments.items (λ (x : Segment). x.head))
-
--- ---- users so far
-
-pub nowhere_yet : (slots : Slots) (users : List (Option User)) (address : ℕ) → IsNowhere slots users 0 address
-nowhere_yet slots users address k user less is = absurd (omega (arith, less))
-
-module _ (slots : Slots) (users xs : List (Option User)) (place address : ℕ) (d : Option User) (same : xs ≡ users) (inside : place < length xs) where
-  user_here : slice_get users place ≡ Some (get_or xs place d)
-  user_here = ap (λ (l : List (Option User)). slice_get l place) (sym same) ∙ slice_get-get_or xs place d inside
-
-  pub nowhere_more : IsNowhere slots users place address → IsNowhereOf slots (get_or xs place d) address → IsNowhere slots users (place + 1) address
-  nowhere_more none not k t less found = elim (cases_lt k place) [
-    | inl before ↦ none k t before found
-    | inr after ↦
-        (let at : k ≡ place = omega (arith, after, less) in
-        let it : t ≡ get_or xs place d = same_Some t (get_or xs place d) (sym found ∙ ap (slice_get users) at ∙ user_here) in
-        subst (λ (x : Option User). IsNowhereOf slots x address) (sym it) not)
-  ]
-
-  pub somewhere_here : (id number offset : ℕ) → id ≡ first_id + place → IsSomewhereOf slots (get_or xs place d) address number offset → IsSomewhere slots users address id number offset
-  somewhere_here id number offset e lies = record { place = place; user = get_or xs place d; is = user_here; id_is = e; lies = lies }
-
-pub nowhere_all : (slots : Slots) (users xs : List (Option User)) (place address : ℕ) → xs ≡ users → IsNowhere slots users place address → length xs ≤ place → IsNowhere slots users (length users) address
-nowhere_all slots users xs place address same none past k user less is =
-    none k user (omega (arith, less, past, ap (λ (l : List (Option User)). length l) same)) is

@@ -1,5 +1,5 @@
 -- Where an address lies among a user's segments. No public clause cites this module.
-use Rattle.std.specs.Prelude.{◌≡◌, ℕ, ◌+◌, ◌<◌, List, length, Option, Some, None, slice_get}
+use Rattle.std.specs.Prelude.{◌≡◌, ℕ, ◌+◌, ◌-◌, ◌<◌, ◌≤◌, List, length, Option, Some, None, slice_get}
 use Rattle.iigs_meaning.specs.declared.handles.Handle.{Handle}
 use Rattle.iigs_meaning.specs.Fits.{Slots}
 use Rattle.loader_machine.specs.declared.seen.Life.TheVariants.{Running}
@@ -36,9 +36,9 @@ abbrev pub IsSomewhereOf : Slots → Option User → ℕ → ℕ → ℕ → Typ
 IsSomewhereOf slots None address number offset = ⊥
 IsSomewhereOf slots (Some user) address number offset = (user.life ≡ Running) × LiesInOne slots user.segments.items address number offset
 
--- the address lies in no segment of so many first users
-abbrev pub IsNowhere : Slots → List (Option User) → ℕ → ℕ → Type 0
-IsNowhere slots users count address = (k : ℕ) (user : Option User) → k < count → slice_get users k ≡ Some user → IsNowhereOf slots user address
+-- the address lies in no segment of the user of an ID
+abbrev pub IsNowhereFor : Slots → List (Option User) → ℕ → ℕ → Type 0
+IsNowhereFor slots users address id = (user : Option User) → first_id ≤ id → slice_get users (id - first_id) ≡ Some user → IsNowhereOf slots user address
 
 -- the address lies in a segment of the user at a place, at an offset
 pub record IsSomewhere (slots : Slots) (users : List (Option User)) (address id number offset : ℕ) : Type 0 where

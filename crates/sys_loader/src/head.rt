@@ -37,6 +37,13 @@ pub fn is_skipped(head: &Head) -> bool
     kind(head).is_skip()
 }
 
+/// The segment is loaded when it is called.
+pub fn is_dynamic(head: &Head) -> bool
+    ensures { result ≡ format.is_dynamic head.now.kind }
+{
+    kind(head).is_dynamic()
+}
+
 /// The segment is loaded with its file.
 pub fn is_static(head: &Head) -> bool
     ensures { result ≡ heads.is_static head.now }

@@ -12,7 +12,14 @@ mod lying;
 mod memory;
 mod place;
 mod plan;
+mod poke;
+mod purge;
+mod renew;
+mod shutdown;
+mod turn;
+mod unload;
 mod user;
+mod users;
 
 pub use answers::{Entered, Info, Started};
 pub use iigs_meaning::{BanksFault, BlockState, Handle, Want};

@@ -1,10 +1,13 @@
 //! The loader.
 
-ghost use Rattle.std.specs.Prelude.{◌≡◌, ◌+◌, ℕ, [], Some, None, option_map, map, IfOk, IfErr, OnErr, ◌≤◌, ◌<◌, length, vec_capacity, MatchOption};
+ghost use Rattle.std.specs.Prelude.{◌≡◌, ◌+◌, ℕ, [], Some, None, option_map, map, IfOk, IfErr, OnErr, ◌≤◌, ◌<◌, ◌^◌, length, vec_capacity, MatchOption};
 ghost use Rattle.omf_io.specs.Files.{FileMap};
 ghost use Rattle.iigs_meaning.specs.Memory.{IsNew};
 ghost use Rattle.iigs_meaning.specs.Banks.{IsBanksRefusal};
 ghost use Rattle.iigs_meaning.specs.Puts.{Purges};
+ghost use Rattle.iigs_meaning.specs.Slots.{slot_at};
+ghost use Rattle.iigs_meaning.specs.Fits.{HoldsByte};
+ghost use Rattle.iigs_meaning.specs.Blocks.{AreApart};
 ghost use Rattle.loader_machine.specs.State.{user_of, Machine, empty_of};
 ghost use Rattle.loader_machine.specs.Refusals.{bytes_refusal, info_refusal};
 ghost use Rattle.loader_machine.specs.Commands as commands;
@@ -14,9 +17,10 @@ ghost use Rattle.loader_agrees.specs.Acts.{CanRead, HasLent, HasTold, LiesIn};
 ghost use Rattle.loader_agrees.specs.Checks.{PassesRunning, StopsRunning};
 ghost use Rattle.sys_loader.specs.View.{kept};
 ghost use Rattle.sys_loader.specs.Replies.{info_reply, where_reply};
+ghost use Rattle.sys_loader.specs.Naming.{NamesPlace};
 
 use crate::answers::{Entered, Info};
-use crate::lying::search_users;
+use crate::lying::{owner_of, search_owner};
 use crate::memory::{active, presence, slice};
 use crate::user::User;
 use iigs_meaning::{BanksFault, BlockFault, Handle};
@@ -85,6 +89,15 @@ impl Loader {
         ensures { IsSound self.now.memory self.now.users }
     {
         let _users = &self.users;
+    }
+
+    // What is true of every loader's blocks.
+    fn is_apart(&self)
+        ensures apart { AreApart self.now.memory.banks self.now.memory.slots }
+        ensures below { (place address : ℕ) → HoldsByte address (slot_at self.now.memory.slots place) → address < 2 ^ 24 }
+    {
+        self.banks.blocks_lie_apart();
+        self.banks.blocks_have_addresses();
     }
 
     // The user of an ID, who isn't gone.
@@ -207,7 +220,20 @@ impl Loader {
         ensures { MatchOption result ((id number offset : ℕ) → ¬ LiesIn self.now address id number offset)
             (λ entered. LiesIn self.now address entered.user entered.segment entered.offset × (entered.address ≡ address)) }
     {
-        search_users(&self.banks, &self.users, address)
+        let h = match self.banks.holder(address) {
+            Some(h) => h,
+            None => return None,
+        };
+        let user = owner_of(&self.banks, h);
+        match search_owner(&self.banks, &self.users, user, address) {
+            Some((segment, offset)) => Some(Entered {
+                user,
+                segment,
+                offset,
+                address,
+            }),
+            None => None,
+        }
     }
 
     /// The active segment of a user that runs in which an address lies, with the offset.
@@ -218,8 +244,12 @@ impl Loader {
         // And so much is true of it over any files.
         ensures lies { MatchOption result ((id number offset : ℕ) → ¬ LiesIn self.now address id number offset)
             (λ entered. LiesIn self.now address entered.user entered.segment entered.offset × (entered.address ≡ address)) }
+
+        // Three bytes that were patched with a place are an address there.
+        ensures names { (held : FileMap) (state : Machine) → Agrees held self.now state → NamesPlace held state address result }
     {
         self.is_sound();
+        self.is_apart();
         self.located(address)
     }
 }

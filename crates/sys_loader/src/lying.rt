@@ -1,14 +1,15 @@
 //! Where an address lies among a user's segments.
 
 ghost use Rattle.std.specs.Prelude.{◌≡◌, ◌<◌, ◌^◌, ℕ, length, MatchOption};
-ghost use Rattle.sys_loader.specs.Lying.{LiesAt, LiesInNone, LiesInOne, IsNowhereOf, IsSomewhereOf, IsNowhere, IsSomewhere};
-ghost use Rattle.std.specs.Prelude.{Some, ◌≤◌, slice_get};
+ghost use Rattle.sys_loader.specs.Lying.{LiesAt, LiesInNone, LiesInOne, IsNowhereOf, IsSomewhereOf, IsNowhereFor, IsSomewhere};
+ghost use Rattle.iigs_meaning.specs.Slots.{get};
+ghost use Rattle.std.specs.Prelude.{Some, slice_get, IsSome, IsSomeAnd};
 ghost use Rattle.sys_loader.specs.declared.user.User as declared;
 
-use crate::answers::Entered;
 use crate::loader::FIRST_ID;
 use crate::memory::presence;
 use crate::user::{Segment, User};
+use iigs_meaning::{BlockFault, Handle};
 use iigs_memory::Banks;
 use loader_machine::{Life, Presence};
 
@@ -61,27 +62,34 @@ pub fn search_user(banks: &Banks, user: &Option<User>, address: u32) -> Option<(
     }
 }
 
-/// The place of an address among the active segments of users that run.
-pub fn search_users(banks: &Banks, users: &Vec<Option<User>>, address: u32) -> Option<Entered>
-    requires few { length users.now.items ≤ 255 }
-    requires short { (k : ℕ) (one : declared.User) → slice_get users.now.items k ≡ Some (Some one) → length one.segments.items < 2 ^ 16 }
-    ensures { MatchOption result (IsNowhere banks.now.slots users.now.items (length users.now.items) address)
-        (λ entered. IsSomewhere banks.now.slots users.now.items address entered.user entered.segment entered.offset × (entered.address ≡ address)) }
+/// The user whose block a handle's is.
+pub fn owner_of(banks: &Banks, h: Handle) -> u16
+    requires { IsSome (get banks.now.slots h) }
+    ensures { IsSomeAnd (get banks.now.slots h) (λ block. block.user ≡ result) }
 {
-    let mut user = FIRST_ID;
-    'users: for one in users {
-        match search_user(banks, one, address) {
-            Some((segment, offset)) => {
-                return Some(Entered {
-                    user,
-                    segment,
-                    offset,
-                    address,
-                });
-            }
-            None => {}
-        }
-        user += 1;
+    match banks.state(h) {
+        Ok(state) => state.user,
+        Err(BlockFault::Stale) => unreachable!(),
+        Err(BlockFault::Empty) => unreachable!(),
     }
-    None
+}
+
+/// The number of the active segment of the user of an ID in which an address lies, with the offset.
+pub fn search_owner(
+    banks: &Banks,
+    users: &Vec<Option<User>>,
+    id: u16,
+    address: u32,
+) -> Option<(u16, u32)>
+    requires short { (k : ℕ) (one : declared.User) → slice_get users.now.items k ≡ Some (Some one) → length one.segments.items < 2 ^ 16 }
+    ensures { MatchOption result (IsNowhereFor banks.now.slots users.now.items address id)
+        (λ found. IsSomewhere banks.now.slots users.now.items address id found.0 found.1) }
+{
+    if id < FIRST_ID {
+        return None;
+    }
+    match users.get(usize::from(id - FIRST_ID)) {
+        Some(user) => search_user(banks, user, address),
+        None => None,
+    }
 }

@@ -12,6 +12,8 @@ mod libraries;
 #[cfg(test)]
 mod linking;
 #[cfg(test)]
+mod lives;
+#[cfg(test)]
 mod loading;
 #[cfg(test)]
 mod runner;

@@ -8,19 +8,19 @@ use std::test::Fail;
 
 /// What a handmade load segment has beside its body.
 #[derive(Clone, Copy)]
-struct Front {
-    number: u8,
+pub(crate) struct Front {
+    pub(crate) number: u8,
     /// KIND, its low byte first.
-    kind: [u8; 2],
-    length: [u8; 4],
-    res_spc: u8,
-    bank_size: [u8; 4],
-    org: [u8; 4],
-    entry: u8,
+    pub(crate) kind: [u8; 2],
+    pub(crate) length: [u8; 4],
+    pub(crate) res_spc: u8,
+    pub(crate) bank_size: [u8; 4],
+    pub(crate) org: [u8; 4],
+    pub(crate) entry: u8,
 }
 
 /// A code segment of so many bytes, which stays in a bank.
-fn code(number: u8, length: u8) -> Front {
+pub(crate) fn code(number: u8, length: u8) -> Front {
     Front {
         number,
         kind: [0, 0],
@@ -53,20 +53,25 @@ fn put_segment(out: &mut Vec<u8>, front: Front, body: &[u8]) -> Result<(), Fail>
 }
 
 /// A file of one segment.
-fn one(alloc: Global, front: Front, body: &[u8]) -> Result<Vec<u8>, Fail> {
+pub(crate) fn one(alloc: Global, front: Front, body: &[u8]) -> Result<Vec<u8>, Fail> {
     let mut file = Vec::new(alloc);
     put_segment(&mut file, front, body)?;
     Ok(file)
 }
 
 /// Whether a script over a file at `prog` is run to its end with these replies.
-fn replies(alloc: Global, script: &[u8], program: &[u8], text: &[u8]) -> Result<bool, Fail> {
+pub(crate) fn replies(
+    alloc: Global,
+    script: &[u8],
+    program: &[u8],
+    text: &[u8],
+) -> Result<bool, Fail> {
     says(alloc, script, program, Status::Done, text)
 }
 
 /// A program of six segments: code with patches to the others, data, a dynamic one, a jump table of one entry, a skipped
 /// one, and a direct page and stack.
-fn program(alloc: Global) -> Result<Vec<u8>, Fail> {
+pub(crate) fn program(alloc: Global) -> Result<Vec<u8>, Fail> {
     let mut file = Vec::new(alloc);
     put_segment(
         &mut file,
@@ -390,9 +395,9 @@ fn blocks_are_refused(rt: HostRuntime) -> Result<(), Fail> {
     assert!(rt;
         replies(
             alloc,
-            b"banks 02\nload prog\nfree 000000\nlock 000000\nunlock 000000\nlevel 000000 3\nfree 000001\nlock 000100\nhandle 000000\n",
+            b"banks 02\nload prog\nfree 000000\nlock 000000\nunlock 000000\nlevel 000000 3\nfree 000001\nlock 000100\nunlock FFFF00\nlevel 000001 1\nhandle 100000\nhandle 000000\n",
             &program,
-            b"ok\nuser 1001 entry 020000\nrefused LoaderOwned\nrefused LoaderOwned\nrefused LoaderOwned\nrefused LoaderOwned\nrefused Stale\nrefused Stale\nat 020000 size 00000001 level 0 locked\n"
+            b"ok\nuser 1001 entry 020000\nrefused LoaderOwned\nrefused LoaderOwned\nrefused LoaderOwned\nrefused LoaderOwned\nrefused Stale\nrefused Stale\nrefused Stale\nrefused Stale\nrefused Stale\nat 020000 size 00000001 level 0 locked\n"
         )?
     );
     assert!(rt;
@@ -419,6 +424,30 @@ fn slots_run_out(rt: HostRuntime) -> Result<(), Fail> {
     let run = run_script(alloc, &script, &program, &[], &[])?;
     assert!(rt;
         run.out.bytes().ends_with(b"handle 0FFF00 at 020FFF\nrefused NoHandle\nrefused NoHandle\n")
+    );
+    Ok(())
+}
+
+// Two users of one file: each one's patches are addresses in its own segments. The reads of files that aren't load files leave all.
+#[test]
+fn a_script_of_every_command(rt: HostRuntime) -> Result<(), Fail> {
+    let alloc = rt.alloc();
+    let program = program(alloc)?;
+    assert!(rt;
+        replies(
+            alloc,
+            b"banks 02 00\nload prog\nload prog\nbytes 1002 1 0 C\nwhere 837\nwhere 84C\nwhere 835\nwhere 854\ninfo 1002 4\nload s\nload none\n",
+            &program,
+            b"ok\nuser 1001 entry 000800\nuser 1002 entry 00082A\nAF 37 08 00 22 4C 08 00 4C 35 08 60\n1002 0002 00000001\n1002 0004 00000012\n1002 0001 0000000B\nnothing\nactive 000600 at 00083A length 0000001A kind 0002\nrefused BadFile Unsupported 0001 0000000E\ncannot read\n"
+        )?
+    );
+    assert!(rt;
+        replies(
+            alloc,
+            b"banks 02 00\nload prog\nload prog\nalloc 100 304 0\nwhere B00\nlock 000800\nhandle 000800\nunlock 000800\nlevel 000800 1\nhandle 000800\nfree 000800\nhandle 000800\nroom\n",
+            &program,
+            b"ok\nuser 1001 entry 000800\nuser 1002 entry 00082A\nhandle 000800 at 000B00\nnothing\nok\nat 000B00 size 00000100 level 3 locked\nok\nok\nat 000B00 size 00000100 level 1 unlocked\nok\nrefused Stale\n0001B6AC\n"
+        )?
     );
     Ok(())
 }

@@ -12,7 +12,7 @@ left : (c : goal.After-used_bytes-used) → (room : ℕ) × (room + c.used_bytes
     × CountsBelow (IsRoom c.args.self.now.banks c.args.self.now.slots) (2 ^ 24) room
 left c =
     let is : memory_of c.self.inside.map c.self.inside.table c.self.inside.bytes.items ≡ c.args.self.now = c.self.view_is in
-    let counts = room_counts (memory_of c.self.inside.map c.self.inside.table c.self.inside.bytes.items) c.self.invariant.bounded c.self.invariant.sound in
+    let counts = room_counts (memory_of c.self.inside.map c.self.inside.table c.self.inside.bytes.items) c.self.invariant.0.bounded c.self.invariant.0.sound in
     let used : c.used_bytes-used.result ≡ sum_by size_in c.self.inside.table = c.used_bytes-used.ensures ∙ ap (sum_by size_in) c.slots.ensures.value in
     (counts.0, rw (used, c.free_bytes-free.ensures) counts.1, subst (λ (memory : Memory). CountsBelow (IsRoom memory.banks memory.slots) (2 ^ 24) counts.0) is counts.2)
 

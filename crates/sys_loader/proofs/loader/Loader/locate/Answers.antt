@@ -1,4 +1,4 @@
-use Rattle.std.proofs.Common.{◌≡◌, ℕ, Option, Some, None, ◌+◌}
+use Rattle.std.proofs.Common.{◌≡◌, ℕ, Option, Some, None}
 use Rattle.std.specs.Prelude.{MatchOption}
 use Rattle.omf_io.specs.Files.{FileMap}
 use Rattle.iigs_meaning.specs.Puts.{Purges}
@@ -9,6 +9,7 @@ use Rattle.loader_agrees.specs.Acts.{LiesIn}
 use Rattle.loader_agrees.specs.Reads.{lies_met, nowhere_met}
 use Rattle.sys_loader.specs.declared.answers.Entered.{Entered}
 use Rattle.sys_loader.specs.Replies.{where_reply}
+use Rattle.sys_loader.proofs.Naming.{names_place}
 use Rattle.sys_loader.proofs.loader.Loader.locate.Goals as goal
 
 meets : (loader : Loaded) (address : ℕ) (result : Option Entered) → IsSound loader.memory loader.users
@@ -20,3 +21,15 @@ meets loader address (Some entered) sound some held state agrees = lies_met held
 
 pub returns-clause-meets : goal.returns-clause-meets
 returns-clause-meets c = meets c.args.self.now c.args.address c.located.result c.is_sound.ensures c.located.ensures
+
+told : (result : Option Entered) → (loader : Loaded) → (address : ℕ) → MatchOption result ((id number offset : ℕ) → ¬ LiesIn loader address id number offset)
+    (λ (entered : Entered). LiesIn loader address entered.user entered.segment entered.offset × (entered.address ≡ address))
+    → MatchOption result (Unit {0}) (λ (entered : Entered). entered.address ≡ address)
+told None loader address none = tt
+told (Some entered) loader address some = some.1
+
+pub returns-clause-names : goal.returns-clause-names
+returns-clause-names c = λ held state agrees id number at target offset has read.
+    names_place held c.args.self.now state agrees c.is_sound.ensures c.is_apart.ensures.below id number at target offset has c.is_apart.ensures.apart c.args.address c.located.result
+    (told c.located.result c.args.self.now c.args.address c.located.ensures)
+    (meets c.args.self.now c.args.address c.located.result c.is_sound.ensures c.located.ensures held state agrees) read

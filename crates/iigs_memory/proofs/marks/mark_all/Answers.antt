@@ -1,0 +1,10 @@
+use Rattle.std.proofs.Common.{rules}
+use Rattle.std.proofs.lemmas.List.Sorted.{IsNonDecreasingBy-from_sort_by_key}
+use Rattle.iigs_memory.specs.declared.marks.Mark.{Mark}
+use Rattle.iigs_memory.proofs.Marked.{sorted_marks}
+use Rattle.iigs_memory.proofs.marks.mark_all.Goals as goal
+
+pub returns-clause-marked : goal.returns-clause-marked
+returns-clause-marked c = sorted_marks c.args.slots.now c.gather_marks.new.marks.items c.sort_unstable_by_key.new.self.items c.gather_marks.ensures.gathered
+    c.sort_unstable_by_key.ensures.permutation
+    (IsNonDecreasingBy-from_sort_by_key (λ (m : Mark). m.at) _ c.sort_unstable_by_key.ensures.sorted (λ a r q k. search rules))

@@ -1,0 +1,115 @@
+-- What calls on the segments of users do, whatever files there are.
+use Rattle.std.specs.Prelude.{◌≡◌, ℕ, ◌+◌, ◌≤◌, Bool, true, false, List, [], length, Option, Some, None, slice_set, Result, Ok, Err}
+use Rattle.omf_format.specs.Header.{is_dynamic}
+use Rattle.iigs_meaning.specs.declared.handles.Handle.{Handle}
+use Rattle.iigs_meaning.specs.declared.wants.Block.{Block}
+use Rattle.iigs_meaning.specs.Puts.{without_user}
+use Rattle.iigs_meaning.specs.Memory.{Memory, KeepsBut, IsPurged, Changes, bytes_at}
+use Rattle.loader_machine.specs.declared.faults.LoaderFault.{LoaderFault}
+use Rattle.loader_machine.specs.Heads.{is_table}
+use Rattle.loader_machine.specs.Refusals.{purge_refusal, poke_refusal, unload_refusal, shut_down_refusal}
+use Rattle.loader_machine.specs.Commands.{Reply, Counted, Refused}
+use Rattle.loader_machine.specs.declared.seen.Life.TheVariants.{Running, Dormant}
+use Rattle.loader_machine.specs.State.{user_of, with_user}
+use Rattle.loader_machine.specs.Steps.{idle_block, let_go, changed_all}
+use Rattle.loader_agrees.specs.Agrees.{Kept, Loaded, seen_by}
+use Rattle.loader_agrees.specs.Acts.{IsActive}
+use Rattle.sys_loader.specs.Renewing.{AreRenewed}
+
+-- ---- purge
+
+abbrev pub purge_reply : Result ℕ LoaderFault → Reply
+purge_reply (Ok count) = Counted count
+purge_reply (Err fault) = Refused fault
+
+-- what a purge did: the user's purgeable blocks are emptied and counted, or the ID has no user and all stays
+abbrev pub DidPurge : Loaded → ℕ → Result ℕ LoaderFault → Loaded → Type 0
+DidPurge old id (Ok count) new = (purge_refusal (seen_by old id) id ≡ None) × IsPurged old.memory id count new.memory × (new.users ≡ old.users)
+DidPurge old id (Err fault) new = (purge_refusal (seen_by old id) id ≡ Some fault) × (new ≡ old)
+
+-- ---- poke
+
+-- a byte of an active segment can be poked
+pub record CanPoke (loader : Loaded) (id number at : ℕ) (h : Handle) : Type 0 where
+  pub passes : poke_refusal loader.memory.slots (seen_by loader id) number at ≡ None
+  pub is : IsActive loader id number h
+  pub plain : is_table is.head ≡ false
+  pub inside : at + 1 ≤ is.head.length
+
+-- memory with other bytes of one block
+abbrev pub with_bytes : Memory → ℕ → List ℕ → Memory
+with_bytes memory slot w = record { banks = memory.banks; slots = memory.slots; bytes = slice_set memory.bytes slot w }
+
+-- the loader with this byte at a place in a handle's block
+abbrev pub with_byte : Loaded → Handle → ℕ → ℕ → Loaded
+with_byte loader h at byte = record { memory = with_bytes loader.memory h.slot (slice_set (bytes_at loader.memory h.slot) at byte); users = loader.users }
+
+-- a byte is poked, and nothing else changes
+pub record HasPoked (old : Loaded) (id number at byte : ℕ) (new : Loaded) : Type 0 where
+  pub h : Handle
+  pub can : CanPoke old id number at h
+  pub new_is : new ≡ with_byte old h at byte
+
+-- what a poke did: the byte is written, or the call is refused and all stays
+abbrev pub DidPoke : Loaded → ℕ → ℕ → ℕ → ℕ → Result (Unit {0}) LoaderFault → Loaded → Type 0
+DidPoke old id number at byte (Ok done) new = HasPoked old id number at byte new
+DidPoke old id number at byte (Err fault) new = (poke_refusal old.memory.slots (seen_by old id) number at ≡ Some fault) × (new ≡ old)
+
+-- ---- a segment that wakes or idles
+
+-- The block of a segment changes, but for its place, and the entries of the user's tables for it follow; nothing else is written.
+pub record HasShifted (old : Loaded) (kept : Kept) (number : ℕ) (h : Handle) (change : Block → Block) (address : Option ℕ) (new : Loaded) : Type 0 where
+  pub middle : Memory
+  pub renewed : AreRenewed kept.heads kept.handles (Some number) address old.memory middle (length kept.heads)
+  pub changes : Changes middle h change new.memory
+  pub users : new.users ≡ old.users
+
+-- ---- unload
+
+-- an active dynamic segment can be let go
+pub record CanUnload (loader : Loaded) (id number : ℕ) (h : Handle) : Type 0 where
+  pub passes : unload_refusal loader.memory.slots (seen_by loader id) number ≡ None
+  pub is : IsActive loader id number h
+  pub dynamic : is_dynamic is.head.kind ≡ true
+
+-- the segment is idle, and the entries for it call the loader
+pub record HasUnloaded (old : Loaded) (id number : ℕ) (new : Loaded) : Type 0 where
+  pub h : Handle
+  pub can : CanUnload old id number h
+  pub shifted : HasShifted old can.is.kept number h idle_block None new
+
+-- what an unload did: the segment is let go, or the call is refused and all stays
+abbrev pub DidUnload : Loaded → ℕ → ℕ → Result (Unit {0}) LoaderFault → Loaded → Type 0
+DidUnload old id number (Ok done) new = HasUnloaded old id number new
+DidUnload old id number (Err fault) new = (unload_refusal old.memory.slots (seen_by old id) number ≡ Some fault) × (new ≡ old)
+
+-- ---- shutdown
+
+-- the user's handles are released, and it is gone
+pub record HasDropped (old : Loaded) (id : ℕ) (new : Loaded) : Type 0 where
+  pub kept : Kept
+  pub made : user_of old.users id ≡ Some kept
+  pub slots : new.memory.slots ≡ without_user old.memory.slots id
+  pub bytes : KeepsBut old.memory new.memory []
+  pub users : new.users ≡ with_user old.users id None
+
+-- the active ones of these segments are idle, and nothing is written
+pub record AreIdled (handles : List (Option Handle)) (old new : Memory) : Type 0 where
+  pub slots : new.slots ≡ changed_all let_go old.slots handles
+  pub bytes : KeepsBut old new []
+
+-- the user's tables call the loader, its active segments are idle, and it is dormant
+pub record HasKept (old : Loaded) (id : ℕ) (new : Loaded) : Type 0 where
+  pub kept : Kept
+  pub made : user_of old.users id ≡ Some kept
+  pub runs : kept.life ≡ Running
+  pub middle : Memory
+  pub renewed : AreRenewed kept.heads kept.handles None None old.memory middle (length kept.heads)
+  pub idled : AreIdled kept.handles middle new.memory
+  pub users : new.users ≡ with_user old.users id (Some (record kept { life = Dormant }))
+
+-- what a shutdown did: the user is kept or dropped, or the call is refused and all stays
+abbrev pub DidShutDown : Loaded → ℕ → Bool → Result (Unit {0}) LoaderFault → Loaded → Type 0
+DidShutDown old id true (Ok done) new = HasKept old id new × (shut_down_refusal (seen_by old id) true ≡ None)
+DidShutDown old id false (Ok done) new = HasDropped old id new
+DidShutDown old id keep (Err fault) new = (shut_down_refusal (seen_by old id) keep ≡ Some fault) × (new ≡ old)

@@ -1,0 +1,84 @@
+//! Bytes that are poked.
+
+ghost use Rattle.std.specs.Prelude.{◌≡◌, ◌<◌, ℕ, length, slice_set, IsSome, IsSomeAnd, Some, IfOk, IfErr};
+ghost use Rattle.omf_io.specs.Files.{FileMap};
+ghost use Rattle.iigs_meaning.specs.Slots.{get};
+ghost use Rattle.iigs_meaning.specs.Puts.{Purges};
+ghost use Rattle.iigs_meaning.specs.Memory.{bytes_at};
+ghost use Rattle.loader_machine.specs.State.{Machine};
+ghost use Rattle.loader_machine.specs.Commands.{Poke};
+ghost use Rattle.loader_machine.specs.Refusals.{poke_refusal};
+ghost use Rattle.loader_agrees.specs.Agrees.{Agrees, Met, seen_by};
+ghost use Rattle.sys_loader.specs.Replies.{done_reply};
+ghost use Rattle.sys_loader.specs.Lives.{with_bytes, CanPoke, DidPoke};
+
+use crate::head::is_table;
+use crate::loader::Loader;
+use crate::memory::active;
+use iigs_meaning::Handle;
+use iigs_memory::Banks;
+use loader_machine::LoaderFault;
+
+/// Writes a byte of a block that is there.
+fn put(banks: &mut Banks, h: Handle, at: u32, byte: u8)
+    requires there { IsSomeAnd (get banks.old.slots h) (λ block. IsSome block.at) }
+    requires within { at < length (bytes_at banks.old h.slot) }
+    ensures { banks.new ≡ with_bytes banks.old h.slot (slice_set (bytes_at banks.old h.slot) at byte) }
+{
+    let bytes = banks.lend(h);
+    bytes[at as usize] = byte;
+}
+
+impl Loader {
+    // The handle of an active segment of which a byte may be written.
+    fn pokable(&self, id: u16, number: u16, at: u32) -> Result<Handle, LoaderFault>
+        ensures can { IfOk result (λ h. CanPoke self.now id number at h) }
+        ensures refused { IfErr result (λ fault. poke_refusal self.now.memory.slots (seen_by self.now id) number at ≡ Some fault) }
+    {
+        let user = match self.running(id) {
+            Ok(user) => user,
+            Err(fault) => return Err(fault),
+        };
+        let segment = match user.kept_segment(number) {
+            Ok(segment) => segment,
+            Err(fault) => return Err(fault),
+        };
+        let h = match active(&self.banks, segment.handle) {
+            Ok(h) => h,
+            Err(fault) => return Err(fault),
+        };
+        if is_table(&segment.head) {
+            return Err(LoaderFault::TableByte);
+        }
+        if at >= segment.head.length {
+            return Err(LoaderFault::OutOfSegment);
+        }
+        Ok(h)
+    }
+
+    // Writes a byte of an active segment.
+    fn write_byte(&mut self, user: u16, segment: u16, at: u32, byte: u8) -> Result<(), LoaderFault>
+        ensures did { DidPoke self.old user segment at byte result self.new }
+    {
+        let h = match self.pokable(user, segment, at) {
+            Ok(h) => h,
+            Err(fault) => return Err(fault),
+        };
+        put(&mut self.banks, h, at, byte);
+        Ok(())
+    }
+
+    /// Writes a byte into an active segment of a user that runs; a jump table's bytes can't be written. The byte stays until
+    /// the segment is read again.
+    pub fn poke(&mut self, user: u16, segment: u16, at: u32, byte: u8) -> Result<(), LoaderFault>
+        // Over files with which the loader agrees, it is the machine's step.
+        ensures meets { (held : FileMap) (state : Machine) → Agrees held self.old state
+            → Met Purges held state (Poke user segment at byte) (done_reply result) self.new }
+
+        // And so much is true of it over any files.
+        ensures did { DidPoke self.old user segment at byte result self.new }
+    {
+        self.is_sound();
+        self.write_byte(user, segment, at, byte)
+    }
+}

@@ -1,0 +1,73 @@
+//! Dynamic segments that are let go.
+
+ghost use Rattle.std.specs.Prelude.{◌≡◌, Some, IfOk, IfErr};
+ghost use Rattle.omf_io.specs.Files.{FileMap};
+ghost use Rattle.iigs_meaning.specs.Puts.{Purges};
+ghost use Rattle.loader_machine.specs.State.{Machine};
+ghost use Rattle.loader_machine.specs.Commands.{UnloadSegment};
+ghost use Rattle.loader_machine.specs.Refusals.{unload_refusal};
+ghost use Rattle.loader_agrees.specs.Agrees.{Agrees, Met, seen_by};
+ghost use Rattle.sys_loader.specs.Replies.{done_reply};
+ghost use Rattle.sys_loader.specs.Lives.{CanUnload, DidUnload};
+
+use crate::head::is_dynamic;
+use crate::loader::Loader;
+use crate::memory::active;
+use crate::renew::renew_tables;
+use crate::turn::idle;
+use crate::users::user_in;
+use iigs_meaning::Handle;
+use loader_machine::LoaderFault;
+
+impl Loader {
+    // The handle of an active segment that can be let go.
+    fn unloadable(&self, id: u16, number: u16) -> Result<Handle, LoaderFault>
+        ensures can { IfOk result (λ h. CanUnload self.now id number h) }
+        ensures refused { IfErr result (λ fault. unload_refusal self.now.memory.slots (seen_by self.now id) number ≡ Some fault) }
+    {
+        let user = match self.running(id) {
+            Ok(user) => user,
+            Err(fault) => return Err(fault),
+        };
+        let segment = match user.kept_segment(number) {
+            Ok(segment) => segment,
+            Err(fault) => return Err(fault),
+        };
+        if !is_dynamic(&segment.head) {
+            return Err(LoaderFault::Static);
+        }
+        match active(&self.banks, segment.handle) {
+            Ok(h) => Ok(h),
+            Err(fault) => Err(fault),
+        }
+    }
+
+    // Lets a segment go, and its entries call the loader.
+    fn let_go(&mut self, user: u16, segment: u16) -> Result<(), LoaderFault>
+        ensures did { DidUnload self.old user segment result self.new }
+    {
+        self.is_sound();
+        let h = match self.unloadable(user, segment) {
+            Ok(h) => h,
+            Err(fault) => return Err(fault),
+        };
+        let found = user_in(&self.users, user);
+        renew_tables(&mut self.banks, &found.segments, Some(segment), None);
+        idle(&mut self.banks, h);
+        Ok(())
+    }
+
+    /// Lets an active dynamic segment of a user that runs go: it is idle then, and can be purged. The entries of the user's jump
+    /// table for it call the loader again. It takes no memory.
+    pub fn unload_segment(&mut self, user: u16, segment: u16) -> Result<(), LoaderFault>
+        // Over files with which the loader agrees, it is the machine's step.
+        ensures meets { (held : FileMap) (state : Machine) → Agrees held self.old state
+            → Met Purges held state (UnloadSegment user segment) (done_reply result) self.new }
+
+        // And so much is true of it over any files.
+        ensures did { DidUnload self.old user segment result self.new }
+    {
+        self.is_sound();
+        self.let_go(user, segment)
+    }
+}
