@@ -1,9 +1,10 @@
 -- Operands that are bound one behind another.
 use Rattle.std.proofs.Common.{◌≡◌, ◌≤◌, ◌+◌, ℕ, Bool, true, false, cond, List, [], ◌∷◌, length, length-drop, take, drop, Option, Some, None, refl, sym, ap, ◌∙◌, arith}
-use Rattle.std.specs.Prelude.{slice_get}
+use Rattle.std.specs.Prelude.{slice_get, bytes_eq}
+use Rattle.std.specs.Cmp.Lexicographic.{bytes_decides}
 use Rattle.macro_meaning.specs.declared.statements.Kind.TheVariants.{Text}
 use Rattle.macro_meaning.specs.Symbol.{Symbol, Own, Symbols, with_name}
-use Rattle.macro_meaning.specs.Call.{Binding, binding, bound, bound_once, bound_all, with_missing, complete, all_names, arguments, label_bound}
+use Rattle.macro_meaning.specs.Call.{is_among, Binding, binding, bound, bound_once, bound_all, with_missing, complete, all_names, arguments, label_bound}
 use Rattle.std.specs.List.{prefix_len}
 use Rattle.orca_meaning.specs.Characters.{is_name_start, is_name_byte, folded}
 use Rattle.orca_meaning.specs.Token.{name_at}
@@ -125,3 +126,20 @@ name_rest (byte ∷ behind) name rest is = by_test (is_name_start byte) is
     by_test : (b : Bool) → cond {A = Option (List ℕ × List ℕ)} b (Some (folded (byte ∷ take n behind), drop n behind)) None ≡ Some (name, rest) → length rest ≤ length (byte ∷ behind)
     by_test true e = let same : drop n behind ≡ rest = second (folded (byte ∷ take n behind), drop n behind) (name, rest) e in omega (arith, length-drop n behind, ap length same)
     by_test false e = absurd cc
+
+-- ---- a name among others
+
+pub is_first : (names left others : List (List ℕ)) (first name : List ℕ) → left ≡ first ∷ others → bytes_eq name first ≡ true → is_among left name ≡ is_among names name
+    → (is_among names name ≡ true) × (first ≡ name)
+is_first names left others first name is same so =
+    let here : is_among left name ≡ true = rw (is, same) refl in
+    (sym so ∙ here, sym ((bytes_decides name first).0 same))
+
+pub is_later : (names left others : List (List ℕ)) (first name : List ℕ) → left ≡ first ∷ others → bytes_eq name first ≡ false → is_among left name ≡ is_among names name → is_among others name ≡ is_among names name
+is_later names left others first name is other so =
+    let more : is_among left name ≡ is_among others name = rw (is, other) refl in
+    sym more ∙ so
+
+pub is_nowhere : (names left : List (List ℕ)) (name : List ℕ) → length left ≡ 0 → is_among left name ≡ is_among names name → is_among names name ≡ false
+is_nowhere names [] name none so = sym so
+is_nowhere names (x ∷ left) name none so = absurd (omega (arith, none))

@@ -1,16 +1,24 @@
 -- Faults that stand together.
 use Rattle.std.proofs.Common.{◌≡◌, ℕ, zero, suc, ◌-◌, Bool, false, true, cond, take, drop, eqb, List, [], ◌∷◌, length, Option, Some, None, refl, sym, ap, subst, ◌∙◌}
-use Rattle.std.specs.Prelude.{Result, Ok, Err, IfOk}
-use Rattle.orca_meaning.specs.Line.{Fields, part, three_fields}
+use Rattle.std.specs.Prelude.{Result, Ok, Err, IfOk, nat_lt, is_some}
+use Rattle.std.proofs.lemmas.Bool.{eqb-true}
+use Rattle.orca_meaning.specs.Line.{Fields, Line, part, three_fields, is_comment}
+use Rattle.macro_meaning.specs.Symbol.{text_of, Values}
+use Rattle.macro_meaning.specs.Condition.{Answer, IsCondition}
+use Rattle.macro_meaning.specs.Pieces.{pieces}
+use Rattle.orca_macro.specs.Piece.{AreNotTwo}
+use Rattle.orca_macro.specs.Plain.{plain_len}
+use Rattle.orca_macro.proofs.Fronts.{plain_text}
 use Rattle.macro_meaning.specs.declared.statements.Statement.{Statement}
-use Rattle.macro_meaning.specs.Statements.{statement_of, sequence_name, behind_dot, whole}
-use Rattle.macro_meaning.specs.Substitution.{first_passes}
+use Rattle.macro_meaning.specs.Statements.{statement_of, sequence_name, target_name, behind_dot, whole}
+use Rattle.macro_meaning.specs.Substitution.{first_passes, naming_at}
 use Rattle.orca_meaning.specs.Token.{Found, name_at}
 use Rattle.orca_macro.specs.declared.deed.Deed.{Deed}
 use Rattle.orca_macro.specs.DeedView.{deed}
 use Rattle.macro_meaning.specs.declared.faults.MacroCause.{MacroCause}
+use Rattle.macro_meaning.specs.declared.faults.MacroCause.TheVariants.{BadSetting}
 use Rattle.macro_meaning.specs.Deed as meaning
-use Rattle.macro_meaning.specs.Deed.{Setting, both, or_bad, operation_or_anop, behind_sequence, cut, IsDone, IsDoneBy, IsStatement}
+use Rattle.macro_meaning.specs.Deed.{Setting, both, or_bad, going, IsBranchIf, operation_or_anop, behind_sequence, cut, IsDone, IsDoneBy, IsStatement, IsShort, IsWithTexts, IsWritten, IsDeed}
 
 -- the second one, where the first can only be BadSetting
 pub second_fault : {A B : Type 0} (found : Option A) (cause : MacroCause) → both {A = A} {B = B} (or_bad found) (Err cause) ≡ Err cause
@@ -48,3 +56,39 @@ no_dot (suc n) (byte ∷ behind) other = ap (λ (b : Bool). cond b (name_at (tak
 pub cut_none : (text : List ℕ) → first_passes (λ (byte : ℕ). eqb byte 0x2E) text ≡ false → text ≡ cut text
 unfolding cut three_fields
 cut_none text other = rw (no_dot ((three_fields text).label.to - 0) text other) refl
+
+-- a line without `&`
+plain_is : (s : Setting) (l : Line) (text : List ℕ) (d : meaning.Deed) → text ≡ l.text → is_comment text ≡ false → eqb (plain_len text) (length text) ≡ true
+    → IsShort s l (nat_lt 255 (length text)) text d → IsDeed s l d
+plain_is s l text d same other plain short =
+    let whole : plain_len l.text ≡ length l.text = subst (λ (t : List ℕ). plain_len t ≡ length t) same (eqb-true (plain_len text) (length text) plain) in
+    let shown_is : meaning.shown s.values l ≡ Some text = plain_text (text_of s.values) (naming_at l.text l.fields) l.text whole ∙ ap (λ (t : List ℕ). Some t) (sym same) in
+    let not_comment : is_comment l.text ≡ false = ap is_comment (sym same) ∙ other in
+    subst (λ (b : Bool). IsWritten s l b d) (sym not_comment) (subst (λ (o : Option (List ℕ)). IsWithTexts s l o d) (sym shown_is) short)
+
+pub plain_ok : {E : Type 0} (s : Setting) (l : Line) (text : List ℕ) (r : Result Deed E) → text ≡ l.text → is_comment text ≡ false → eqb (plain_len text) (length text) ≡ true
+    → IfOk r (λ (d : Deed). IsShort s l (nat_lt 255 (length text)) text (deed d)) → IfOk r (λ (d : Deed). IsDeed s l (deed d))
+plain_ok s l text (Ok d) same other plain short = plain_is s l text (deed d) same other plain short
+plain_ok s l text (Err e) same other plain short = short
+
+-- AIF with two operands, or with another number of them
+pub two_branch : (values : Values) (operand asked target : List ℕ) (answer : Answer) (named : Option (List ℕ)) (d : meaning.Deed) → pieces 0x2C operand ≡ asked ∷ target ∷ [] → IsCondition values asked answer
+    → named ≡ target_name target → d ≡ going (both answer (or_bad named)) → IsBranchIf values (pieces 0x2C operand) d
+two_branch values operand asked target answer named d are condition named_is is =
+    subst (λ (ps : List (List ℕ)). IsBranchIf values ps d) (sym are) (answer, condition, is ∙ ap (λ (n : Option (List ℕ)). going (both answer (or_bad n))) named_is)
+
+pub not_two : (values : Values) (ps : List (List ℕ)) → AreNotTwo ps → IsBranchIf values ps (meaning.Fails BadSetting)
+not_two values [] other = refl
+not_two values (a ∷ []) other = refl
+not_two values (a ∷ b ∷ []) other = absurd other
+not_two values (a ∷ b ∷ c ∷ more) other = refl
+
+-- the condition doesn't hold, and a branch could go to the target
+pub no_branch : (values : Values) (operand asked target : List ℕ) (answer : Answer) → pieces 0x2C operand ≡ asked ∷ target ∷ [] → IsCondition values asked answer → answer ≡ Ok 0 → is_some (target_name target) ≡ true
+    → IsBranchIf values (pieces 0x2C operand) meaning.Rests
+no_branch values operand asked target answer are condition zero_is some =
+    subst (λ (ps : List (List ℕ)). IsBranchIf values ps meaning.Rests) (sym are) (answer, condition, by_target (target_name target) some)
+  where
+    by_target : (named : Option (List ℕ)) → is_some named ≡ true → meaning.Rests ≡ going (both answer (or_bad named))
+    by_target None none = absurd cc
+    by_target (Some name) some = rw zero_is refl

@@ -16,3 +16,6 @@ pub mod Free
 pub mod Runs
 pub mod Whole
 pub mod Texts
+pub mod Letters
+pub mod Shorts
+pub mod WholeName

@@ -1,12 +1,12 @@
 -- Pieces from the front on, and quotes that close.
-use Rattle.std.proofs.Common.{◌≡◌, ◌≢◌, ℕ, zero, suc, ◌+◌, ◌<◌, ◌≤◌, Bool, true, false, cond, eqb, ltb, List, [], ◌∷◌, ◌++◌, length, take, drop, map, Option, Some, None, refl, sym, ap, ◌∙◌, append_assoc, append-nil, arith}
+use Rattle.std.proofs.Common.{◌≡◌, ◌≢◌, ℕ, zero, suc, ◌+◌, ◌<◌, ◌≤◌, Bool, true, false, cond, eqb, ltb, List, [], ◌∷◌, ◌++◌, length, take, drop, map, Option, Some, None, refl, sym, ap, subst, ◌∙◌, append_assoc, append-nil, length-drop, arith}
 use Rattle.std.specs.Prelude.{position, slice_get}
 use Rattle.std.specs.List.{position_or_len}
 use Rattle.std.proofs.lemmas.Bool.{ltb-false, ltb-true}
 use Rattle.std.proofs.lemmas.List.Sums.{prefix_len-le-length}
 use Rattle.orca_meaning.specs.Quotes.{quote_behind}
 use Rattle.macro_meaning.specs.Pieces.{parts, open_behind, with_byte, pieces_from, pieces, closed_at, quoted, appended, joined}
-use Rattle.orca_macro.specs.Piece.{piece_len}
+use Rattle.orca_macro.specs.Piece.{piece_len, AreNotTwo}
 
 -- ---- elements from a place on
 
@@ -130,3 +130,52 @@ pub get_inside : {A : Type 0} (l : List A) (i : ℕ) (x : A) → slice_get l i �
 get_inside [] i x is = absurd cc
 get_inside (y ∷ l) zero x is = omega arith
 get_inside (y ∷ l) (suc i) x is = omega (arith, get_inside l i x is)
+
+-- ---- two pieces
+
+take_all : (l : List ℕ) (i : ℕ) → length l ≤ i → take i l ≡ l
+take_all [] zero end = refl
+take_all [] (suc i) end = refl
+take_all (y ∷ l) zero end = absurd (omega (arith, end))
+take_all (y ∷ l) (suc i) end = ap (λ (r : List ℕ). y ∷ r) (take_all l i (omega (arith, end)))
+
+first_piece : (separator k : ℕ) (text : List ℕ) → k ≡ piece_len separator None 0 text → pieces separator text ≡ take k text ∷ after_first separator (drop k text)
+first_piece separator k text k_is = front separator None 0 text ∙ ap (λ (j : ℕ). take j text ∷ after_first separator (drop j text)) (sym k_is)
+
+and_more : (separator : ℕ) (text first second : List ℕ) (byte k : ℕ) → k ≡ piece_len separator None 0 text → first ≡ take k text → drop k text ≡ byte ∷ second
+    → pieces separator text ≡ first ∷ pieces separator second
+unfolding after_first
+and_more separator text first second byte k k_is first_is rest =
+    first_piece separator k text k_is ∙ ap (λ (l : List ℕ). take k text ∷ after_first separator l) rest ∙ ap (λ (l : List ℕ). l ∷ pieces separator second) (sym first_is)
+
+pub two_are : (separator : ℕ) (text first second : List ℕ) (byte k j : ℕ) → k ≡ piece_len separator None 0 text → first ≡ take k text → drop k text ≡ byte ∷ second
+    → j ≡ piece_len separator None 0 second → length second ≤ j → pieces separator text ≡ first ∷ second ∷ []
+unfolding after_first
+two_are separator text first second byte k j k_is first_is rest j_is all =
+    let single : pieces separator second ≡ second ∷ [] =
+    first_piece separator j second j_is ∙ ap (λ (l : List ℕ). take j second ∷ after_first separator l) (drop_all second j all) ∙ ap (λ (l : List ℕ). l ∷ []) (take_all second j all) in
+    and_more separator text first second byte k k_is first_is rest ∙ ap (λ (l : List (List ℕ)). first ∷ l) single
+
+pub one_alone : (separator : ℕ) (text : List ℕ) (k : ℕ) → k ≡ piece_len separator None 0 text → length (drop k text) ≡ 0 → AreNotTwo (pieces separator text)
+unfolding after_first
+one_alone separator text k k_is none =
+    let single : pieces separator text ≡ take k text ∷ [] = first_piece separator k text k_is ∙ ap (λ (l : List ℕ). take k text ∷ after_first separator l) (nothing (drop k text) none) in
+    subst AreNotTwo (sym single) tt
+  where
+    nothing : (l : List ℕ) → length l ≡ 0 → l ≡ []
+    nothing [] e = refl
+    nothing (x ∷ l) e = absurd (omega (arith, e))
+
+pub three_are : (separator : ℕ) (text first second : List ℕ) (byte k j : ℕ) → k ≡ piece_len separator None 0 text → first ≡ take k text → drop k text ≡ byte ∷ second
+    → j ≡ piece_len separator None 0 second → j < length second → AreNotTwo (pieces separator text)
+unfolding after_first
+three_are separator text first second byte k j k_is first_is rest j_is less = by_rest (drop j second) refl
+  where
+    by_rest : (l : List ℕ) → drop j second ≡ l → AreNotTwo (pieces separator text)
+    by_rest [] e = absurd (omega (arith, less, length-drop j second, ap length e))
+    by_rest (b ∷ others) e =
+        let whole : pieces separator text ≡ first ∷ take j second ∷ take (piece_len separator None 0 others) others ∷ after_first separator (drop (piece_len separator None 0 others) others) =
+        and_more separator text first second byte k k_is first_is rest
+        ∙ ap (λ (l : List (List ℕ)). first ∷ l) (first_piece separator j second j_is ∙ ap (λ (l : List ℕ). take j second ∷ after_first separator l) e)
+        ∙ ap (λ (l : List (List ℕ)). first ∷ take j second ∷ l) (front separator None 0 others) in
+        subst AreNotTwo (sym whole) tt

@@ -5,7 +5,7 @@ use Rattle.macro_meaning.specs.Symbol.{Symbols}
 use Rattle.orca_macro.specs.declared.call.Bind.{Bind}
 
 abbrev pub bind : Bind → meaning.Binding
-bind b = record { name = b.name; text = b.text.now; next = b.next }
+bind b = record { name = b.name.now; text = b.text.now; next = b.next }
 
 -- a parameter that wasn't bound got this text
 abbrev pub IsOnce : Bool → List ℕ → List ℕ → Symbols → Symbols → Type 0

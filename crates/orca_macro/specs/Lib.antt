@@ -9,3 +9,6 @@ pub mod Stacks
 pub mod Changes
 pub mod StateView
 pub mod Files
+pub mod Plain
+pub mod Letters
+pub mod Short

@@ -1,6 +1,6 @@
 //! Calls of macros: how operands are bound to parameters (ORCA/M reference manual, "Macro calls").
 
-ghost use Rattle.std.specs.Prelude.{◌≡◌, ◌≤◌, ◌<◌, ◌+◌, ◌^◌, ◌∷◌, [], List, ℕ, length, slice_get, bytes_eq, Some, None, IfOk, IfSome, OnOk, MatchOption, if◌then◌else◌, is_some};
+ghost use Rattle.std.specs.Prelude.{◌≡◌, ◌≤◌, ◌<◌, ◌+◌, ◌^◌, ◌∷◌, [], List, ℕ, length, slice_get, bytes_eq, Some, None, IfOk, IfSome, OnOk, MatchOption, if◌then◌else◌, is_some, true, false};
 ghost use Rattle.macro_meaning.specs.Definition.{listed};
 ghost use Rattle.std.specs.List.{list_any};
 ghost use Rattle.orca_meaning.specs.Token.{name_at};
@@ -19,25 +19,33 @@ use orca_text::{behind_byte, name_at};
 use std::alloc::{AllocError, Global};
 
 /// A parameter, the text that it gets, and the place of the parameter that the next operand without keyword gets.
-#[derive(Drop)]
+#[derive(Clone, Copy)]
 struct Bind<'a> {
-    name: Name,
+    name: &'a [u8],
     text: &'a [u8],
     next: usize,
 }
 
-/// Whether a name is among others.
-fn is_among(names: &[Name], name: &[u8]) -> bool
-    ensures { result ≡ is_among names.now name.now }
+/// The name among others that is the same.
+#[tactic(auto, using(crate::proofs::Binds::is_first, crate::proofs::Binds::is_later, crate::proofs::Binds::is_nowhere))]
+fn same_among<'a>(names: &'a [Name], name: &[u8]) -> Option<&'a [u8]>
+    ensures { MatchOption result (is_among names.now name.now ≡ false) (λ found. (is_among names.now name.now ≡ true) × (found.now ≡ name.now)) }
 {
-    names.iter().any(|other| other.bytes() == name)
+    let mut left = names;
+    'names: while let Some((first, others)) = left.split_first() {
+        if name == first.bytes() {
+            return Some(first.bytes());
+        }
+        left = others;
+    }
+    None
 }
 
 /// `NAME=text` with the name of a parameter.
 #[tactic(auto, using(crate::proofs::Binds::name_rest))]
 fn keyword<'a>(
     alloc: Global,
-    parameters: &[Name],
+    parameters: &'a [Name],
     place: usize,
     piece: &'a [u8],
 ) -> Result<Option<Bind<'a>>, AllocError>
@@ -52,11 +60,11 @@ fn keyword<'a>(
     let Some(text) = behind_byte(rest, b'=') else {
         return Ok(None);
     };
-    if !is_among(parameters, name.bytes()) {
+    let Some(parameter) = same_among(parameters, name.bytes()) else {
         return Ok(None);
-    }
+    };
     Ok(Some(Bind {
-        name,
+        name: parameter,
         text,
         next: place,
     }))
@@ -66,7 +74,7 @@ fn keyword<'a>(
 #[tactic(auto, unfolding(macro_meaning::specs::Call::binding))]
 fn binding<'a>(
     alloc: Global,
-    parameters: &[Name],
+    parameters: &'a [Name],
     place: usize,
     piece: &'a [u8],
 ) -> Result<Option<Bind<'a>>, AllocError>
@@ -80,7 +88,7 @@ fn binding<'a>(
     }
     match parameters.get(place) {
         Some(parameter) => Ok(Some(Bind {
-            name: name(alloc, parameter.bytes())?,
+            name: parameter.bytes(),
             text: piece,
             next: place + 1,
         })),
@@ -103,7 +111,7 @@ fn bind_once(
         return Ok(false);
     }
     let text = name(alloc, text)?;
-    symbols.set(alloc, parameter, Symbol::Own(Kind::Text, text))?;
+    symbols.add(alloc, parameter, Symbol::Own(Kind::Text, text))?;
     Ok(true)
 }
 
@@ -126,7 +134,7 @@ fn bind_all(
         let Some(found) = binding(alloc, parameters, place, piece.bytes())? else {
             return Ok(false);
         };
-        if !bind_once(alloc, symbols, found.name.bytes(), found.text)? {
+        if !bind_once(alloc, symbols, found.name, found.text)? {
             return Ok(false);
         }
         place = found.next;
@@ -143,7 +151,7 @@ fn bind_missing(alloc: Global, parameter: &Name, symbols: &mut Symbols) -> Resul
         return Ok(());
     }
     let text = name(alloc, b"")?;
-    symbols.set(alloc, parameter.bytes(), Symbol::Own(Kind::Text, text))
+    symbols.add(alloc, parameter.bytes(), Symbol::Own(Kind::Text, text))
 }
 
 /// The same for all parameters.
@@ -187,7 +195,7 @@ fn label_bound(alloc: Global, parameter: &Option<Name>, label: &[u8]) -> Result<
         return Ok(symbols);
     }
     let text = name(alloc, label)?;
-    symbols.set(alloc, parameter.bytes(), Symbol::Own(Kind::Text, text))?;
+    symbols.add(alloc, parameter.bytes(), Symbol::Own(Kind::Text, text))?;
     Ok(symbols)
 }
 

@@ -3,11 +3,13 @@
 ghost use Rattle.std.specs.Prelude.{◌≡◌, ◌≤◌, ◌++◌, ◌∷◌, [], ◌==◌, not, List, ℕ, length, Some, None, Ok, Err, is_some, IfOk, IfErr, IfSome, IfNone, OnOk, MatchOption};
 ghost use Rattle.std.specs.List.{list_all};
 ghost use Rattle.omf_format.specs.Expression.{AreTerms, terms_text, Tree, Spells};
-ghost use Rattle.omf_format.specs.Value.{value, truth};
-ghost use Rattle.orca_meaning.specs.Formula.{MeansAt};
+ghost use Rattle.omf_format.specs.Value.{value, truth, apply_two};
+ghost use Rattle.omf_format.specs.declared.value.Value.TheVariants as Value;
+ghost use Rattle.orca_meaning.specs.Formula.{operator_code};
 ghost use Rattle.macro_meaning.specs.Condition.{attribute, attribute_of, environment, is_declared, number_of, IsNumber, IsCondition, comparison_at, same_as, compared_with, comparison};
 ghost use Rattle.macro_meaning.specs.Symbol.{text_of};
 ghost use Rattle.omf_expr.specs.View.{view};
+ghost use Rattle.orca_macro.specs.Short.{HasNumber};
 ghost use Rattle.orca_macro.specs.View.{values};
 ghost use Rattle.orca_text.specs.View.{term};
 
@@ -15,7 +17,10 @@ use crate::pieces::{quoted, quoted_at};
 use crate::symbols::{Values, text_of};
 use macro_meaning::MacroCause;
 use omf_expr::{Env, Expr, Term, Value, ValueFault, evaluate, put_term};
-use orca_text::{Formula, FormulaTerm, Operands, formula_at, is_too_deep};
+use orca_meaning::Operator;
+use orca_text::{
+    Formula, FormulaTerm, Operands, ShortFormula, formula_at, is_too_deep, short_formula,
+};
 use std::alloc::{AllocError, Global};
 
 /// 1 for what is true, and 0 for what isn't.
@@ -143,8 +148,54 @@ fn value_of(
     }
 }
 
+/// What an operator makes of two numbers. None says nothing.
+#[tactic(auto, unfolding(omf_format::specs::Value::apply_two, omf_format::specs::Value::number_of_two, omf_format::specs::Value::arithmetic, omf_format::specs::Value::comparison))]
+fn joined_numbers(operator: Operator, a: u32, b: u32) -> Option<u32>
+    ensures { IfSome result (λ n. apply_two (operator_code operator) (Value.Fixed a) (Value.Fixed b) ≡ Ok (Value.Fixed n)) }
+{
+    match operator {
+        Operator::Add => Some(a.wrapping_add(b)),
+        Operator::Subtract => Some(a.wrapping_sub(b)),
+        Operator::Multiply => Some(a.wrapping_mul(b)),
+        Operator::Less => Some(truth(a.cast_signed() < b.cast_signed())),
+        Operator::Greater => Some(truth(a.cast_signed() > b.cast_signed())),
+        Operator::LessOrEqual => Some(truth(a.cast_signed() <= b.cast_signed())),
+        Operator::GreaterOrEqual => Some(truth(a.cast_signed() >= b.cast_signed())),
+        Operator::Equal => Some(truth(a == b)),
+        Operator::NotEqual => Some(truth(a != b)),
+        Operator::Divide | Operator::Shift | Operator::And | Operator::Or | Operator::Eor => None,
+    }
+}
+
+/// The value of a text that is a number, or two with an operator between them. None says nothing.
+#[tactic(auto, using(crate::proofs::Shorts::one_number, crate::proofs::Shorts::two_numbers))]
+fn short_value(text: &[u8]) -> Option<u32>
+    ensures { IfSome result (λ n. HasNumber text.now n) }
+{
+    match short_formula(text) {
+        Some(ShortFormula::One(n)) => Some(n),
+        Some(ShortFormula::Two(operator, a, b)) => joined_numbers(operator, a, b),
+        None => None,
+    }
+}
+
 /// The value of the formula that a text of at most 255 bytes is, or what is wrong with it.
 pub(crate) fn number(
+    alloc: Global,
+    of: Values<'_>,
+    text: &[u8],
+) -> Result<Result<u32, MacroCause>, AllocError>
+    requires { length text.now ≤ 255 }
+    ensures { IfOk result (λ answer. IsNumber (values of.entry) text.now answer) }
+{
+    match short_value(text) {
+        Some(n) => Ok(Ok(n)),
+        None => long_number(alloc, of, text),
+    }
+}
+
+/// The same, of any formula.
+fn long_number(
     alloc: Global,
     of: Values<'_>,
     text: &[u8],

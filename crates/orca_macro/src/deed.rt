@@ -1,13 +1,14 @@
 //! What a visited line does (ORCA/M reference manual, "Conditional assembly directives").
 
-ghost use Rattle.std.specs.Prelude.{◌≡◌, ◌==◌, ◌≤◌, ◌<◌, [], List, ℕ, ℤ, length, take, drop, pos, int_le, codes, slice_get, Some, None, Ok, Err, IfOk, IfErr, IfSome, OnOk, MatchOption};
+ghost use Rattle.std.specs.Prelude.{◌≡◌, ◌==◌, ◌≤◌, ◌<◌, nat_lt, [], List, ℕ, ℤ, length, take, drop, pos, int_le, codes, slice_get, Some, None, Ok, Err, IfOk, IfErr, IfSome, OnOk, MatchOption, IsTrue};
 ghost use Rattle.omf_format.specs.Value.{signed};
-ghost use Rattle.macro_meaning.specs.Deed.{earlier, both, or_bad, first_time, declaring, settable, setting, printed, printed_answer, middle_from, middle_of, go_if, going, going_to, counting, noted, noting, IsBranchIf, IsMiddle, IsNote, IsSetting, IsDone, resting, calling, calling_at, begins_definition, IsDeed, IsStatement, IsDoneBy, cut};
+ghost use Rattle.macro_meaning.specs.Deed.{earlier, both, or_bad, first_time, declaring, settable, setting, printed, printed_answer, middle_from, middle_of, go_if, going, going_to, counting, noted, noting, IsBranchIf, IsMiddle, IsNote, IsSetting, IsDone, resting, calling, calling_at, begins_definition, IsDeed, IsStatement, IsDoneBy, IsShort, cut};
 ghost use Rattle.macro_meaning.specs.Statements.{symbol_name, target_name};
 ghost use Rattle.macro_meaning.specs.Substitution.{first_passes};
 ghost use Rattle.macro_meaning.specs.Pieces.{pieces, quoted, joined};
 ghost use Rattle.orca_macro.specs.View.{values, symbols_of, texts_of};
 ghost use Rattle.orca_macro.specs.DeedView.{deed, where_};
+ghost use Rattle.orca_macro.specs.Parts.{definition};
 ghost use Rattle.orca_meaning.specs.Line.{HaveFields, three_fields};
 ghost use Rattle.orca_meaning.specs.Characters.{folded};
 ghost use Rattle.macro_meaning.specs.Definition.{first_named};
@@ -16,17 +17,18 @@ ghost use Rattle.orca_text.specs.View.{line};
 
 use crate::call::{bound, names_count};
 use crate::condition::{condition, number};
-use crate::names::{is_operation, sequence_name, statement_of, symbol_name, target_name};
-use crate::pieces::{Piece, joined, pieces, quoted};
+use crate::definitions::Definition;
+use crate::names::{is_operation, is_sequence, is_target, statement_of, symbol_name, target_name};
+use crate::pieces::{Piece, joined, pieces, quoted, two_pieces};
 use crate::program::Program;
-use crate::substitution::shown;
+use crate::substitution::{is_folded, is_plain, shown};
 use crate::symbols::{
     Symbols, Texts, Values, declaration_of, is_count, is_declaration, is_kind, kind_of, name,
     signed_decimal,
 };
 use macro_meaning::{Declaration, Kind, MacroCause, Statement};
 use omf_base::Name;
-use orca_text::{SourceLine, folded, is_comment, part, three_fields};
+use orca_text::{SourceLine, folded, is_comment, label_in, part, three_fields};
 use std::alloc::{AllocError, Global};
 
 /// What a visited line does.
@@ -363,18 +365,33 @@ fn middle(
     }
 }
 
-/// AIF.
-fn branch_if(alloc: Global, of: Values<'_>, operands: &[Piece<'_>]) -> Result<Deed, AllocError>
-    ensures { IfOk result (λ d. IsBranchIf (values of.entry) operands.now (deed d)) }
+/// Whether a condition was found not to hold.
+fn is_zero(answer: Result<u32, MacroCause>) -> bool
+    ensures { IsTrue result → answer ≡ Ok 0 }
 {
-    match operands {
-        [asked, target] => {
-            let answer = condition(alloc, of, asked.bytes())?;
-            let target = target_name(alloc, target.bytes())?;
-            Ok(going(both(answer, or_bad(target))))
-        }
-        _ => Ok(Deed::Fails(MacroCause::BadSetting)),
+    match answer {
+        Ok(n) => n == 0,
+        Err(_) => false,
     }
+}
+
+/// AIF.
+#[tactic(auto, using(crate::proofs::Both::two_branch, crate::proofs::Both::no_branch, crate::proofs::Both::not_two))]
+fn branch_if(alloc: Global, of: Values<'_>, operand: &[u8]) -> Result<Deed, AllocError>
+    requires { length operand.now ≤ 255 }
+    ensures { IfOk result (λ d. IsBranchIf (values of.entry) (pieces 0x2C operand.now) (deed d)) }
+{
+    let Some((asked, target)) = two_pieces(b',', operand) else {
+        return Ok(Deed::Fails(MacroCause::BadSetting));
+    };
+    let answer = condition(alloc, of, asked)?;
+    if is_zero(answer) {
+        if is_target(target) {
+            return Ok(Deed::Rests);
+        }
+    }
+    let target = target_name(alloc, target)?;
+    Ok(going(both(answer, or_bad(target))))
 }
 
 /// A branch where the value isn't 0.
@@ -484,10 +501,7 @@ fn done(
             let operands = pieces(alloc, b',', operand)?;
             middle(alloc, of, label, operands.as_slice())
         }
-        Statement::BranchIf => {
-            let operands = pieces(alloc, b',', operand)?;
-            branch_if(alloc, of, operands.as_slice())
-        }
+        Statement::BranchIf => branch_if(alloc, of, operand),
         Statement::Branch => {
             let target = target_name(alloc, operand)?;
             Ok(going_to(target))
@@ -506,6 +520,23 @@ fn done(
     }
 }
 
+/// The first macro that an operation names, with its place.
+fn named<'a>(
+    alloc: Global,
+    program: &'a Program,
+    operation: &[u8],
+) -> Result<Option<(usize, &'a Definition)>, AllocError>
+    requires { length operation.now ≤ 255 }
+    ensures { IfOk result (λ found. MatchOption found (first_named (folded operation.now) program.now.definitions ≡ None)
+        (λ x. (first_named (folded operation.now) program.now.definitions ≡ Some x.0) × (slice_get program.now.definitions x.0 ≡ Some (definition x.1.now)))) }
+{
+    if is_folded(operation) {
+        return Ok(program.named(operation));
+    }
+    let asked = folded(alloc, operation)?;
+    Ok(program.named(asked.bytes()))
+}
+
 /// A call of a macro, or a line that is given.
 fn calling(
     alloc: Global,
@@ -522,8 +553,7 @@ fn calling(
     ensures { IfOk result (λ d. deed d ≡ calling_at (where_ at.entry).definitions (where_ at.entry).root text.now
         (first_named (folded operation.now) (where_ at.entry).definitions) label.now operand.now) }
 {
-    let asked = folded(alloc, operation)?;
-    let Some((place, found)) = at.program.named(asked.bytes()) else {
+    let Some((place, found)) = named(alloc, at.program, operation)? else {
         return Ok(Deed::Gives(name(alloc, text)?));
     };
     if found.behind >= at.root {
@@ -568,22 +598,20 @@ fn begins_dot(text: &[u8]) -> bool
 
 /// The line behind a sequence symbol in column 1.
 #[tactic(auto, unfolding(macro_meaning::specs::Deed::cut), using(crate::proofs::Both::cut_none))]
-fn cut(alloc: Global, text: &[u8]) -> Result<&[u8], AllocError>
+fn cut(text: &[u8]) -> &[u8]
     requires { length text.now ≤ 255 }
-    ensures value { IfOk result (λ rest. rest.now ≡ cut text.now) }
-    ensures bound { IfOk result (λ rest. length rest.now ≤ length text.now) }
+    ensures value { result.now ≡ cut text.now }
+    ensures bound { length result.now ≤ length text.now }
 {
     if !begins_dot(text) {
-        return Ok(text);
+        return text;
     }
-    let label = part(text, three_fields(text).label);
-    match sequence_name(alloc, label)? {
-        Some(_) => {
-            let (_, behind) = text.split_at(label.len());
-            Ok(behind)
-        }
-        None => Ok(text),
+    let label = label_in(text);
+    if is_sequence(label) {
+        let (_, behind) = text.split_at(label.len());
+        return behind;
     }
+    text
 }
 
 /// Whether the MACRO line of a definition in the source stands there.
@@ -594,26 +622,53 @@ fn begins_definition(at: Standing<'_>, of: &SourceLine) -> bool
     at.in_source && is_operation(of.part(of.operation), b"MACRO")
 }
 
-/// What a visited line does.
-pub(crate) fn deed_of(alloc: Global, at: Standing<'_>, of: &SourceLine) -> Result<Deed, AllocError>
+/// What a line does, with the texts in place.
+fn written(
+    alloc: Global,
+    at: Standing<'_>,
+    of: &SourceLine,
+    text: &[u8],
+) -> Result<Deed, AllocError>
     requires { HaveFields of.now.text (line of.now).fields }
-    ensures { IfOk result (λ d. IsDeed (where_ at.entry) (line of.now) (deed d)) }
+    ensures { IfOk result (λ d. IsShort (where_ at.entry) (line of.now) (nat_lt 255 (length text.now)) text.now (deed d)) }
 {
-    if is_comment(of.text.bytes()) {
-        return Ok(Deed::Rests);
-    }
-    let Some(text) = shown(alloc, at.values, of)? else {
-        return Ok(Deed::Fails(MacroCause::NoSuchSymbol));
-    };
     if text.len() > 255 {
         return Ok(Deed::Fails(MacroCause::LineTooLong));
     }
     if begins_definition(at, of) {
         return Ok(Deed::Rests);
     }
-    let rest = cut(alloc, text.as_slice())?;
+    let rest = cut(text);
     if is_comment(rest) {
         return Ok(Deed::Rests);
     }
     statement(alloc, at, rest)
+}
+
+/// What a visited line does. The buffer takes its text, so that not each line takes memory anew.
+pub(crate) fn deed_of(
+    alloc: Global,
+    at: Standing<'_>,
+    of: &SourceLine,
+    buffer: &mut Vec<u8>,
+) -> Result<Deed, AllocError>
+    requires { HaveFields of.now.text (line of.now).fields }
+    ensures { IfOk result (λ d. IsDeed (where_ at.entry) (line of.now) (deed d)) }
+{
+    let text = of.text.bytes();
+    if is_comment(text) {
+        return Ok(Deed::Rests);
+    }
+    if is_plain(text) {
+        return written(alloc, at, of, text);
+    }
+    let taken = std::mem::replace(buffer, Vec::new(alloc));
+    match shown(alloc, at.values, of, taken)? {
+        Some(text) => {
+            let found = written(alloc, at, of, text.as_slice())?;
+            *buffer = text;
+            Ok(found)
+        }
+        None => Ok(Deed::Fails(MacroCause::NoSuchSymbol)),
+    }
 }

@@ -172,6 +172,7 @@ fn deed_at(
     state: &State,
     root: u32,
     of: &SourceLine,
+    buffer: &mut Vec<u8>,
 ) -> Result<Deed, AllocError>
     requires { HaveFields of.now.text (line of.now).fields }
     ensures { IfOk result (λ d. (before : List Visit) (v : Visit) → StandsIn before v state.now → root ≡ root_by v.caller v.root (line of.now).number
@@ -187,7 +188,7 @@ fn deed_at(
             calls: &state.calls,
         },
     };
-    deed_of(alloc, at, of)
+    deed_of(alloc, at, of, buffer)
 }
 
 /// The line that a deed gives, behind others.
@@ -215,6 +216,7 @@ fn visit(
     program: &Program,
     state: &mut State,
     of: &SourceLine,
+    buffer: &mut Vec<u8>,
     out: &mut Lines,
 ) -> Result<Outcome, AllocError>
     requires fields { HaveFields of.now.text (line of.now).fields }
@@ -227,7 +229,7 @@ fn visit(
     ensures few { IfOk result (λ outcome. length out.new ≤ length out.old + 1) }
 {
     let root = root_of(state, of.line);
-    let found = deed_at(alloc, program, state, root, of)?;
+    let found = deed_at(alloc, program, state, root, of, buffer)?;
     give(alloc, out, of, &found)?;
     let outcome = step(alloc, program, state, root, found)?;
     Ok(outcome)
@@ -239,6 +241,7 @@ fn visit_all(alloc: Global, program: &Program) -> Result<Result<Lines, MacroFaul
     ensures { IfOk result (λ found. HasVisited program.now found) }
 {
     let mut out = Lines::new(alloc);
+    let mut buffer = Vec::new(alloc);
     let mut state = State::new(alloc)?;
     let mut count: u32 = 0;
     'visits: loop {
@@ -248,7 +251,7 @@ fn visit_all(alloc: Global, program: &Program) -> Result<Result<Lines, MacroFaul
         if count == MOST_VISITS {
             return Ok(Err(fault_at(line, MacroCause::TooManyLines)));
         }
-        let outcome = visit(alloc, program, &mut state, line, &mut out)?;
+        let outcome = visit(alloc, program, &mut state, line, &mut buffer, &mut out)?;
         match outcome {
             Outcome::Goes => {}
             Outcome::Ends => return Ok(Ok(out)),

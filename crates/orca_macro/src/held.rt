@@ -6,9 +6,24 @@ ghost use Rattle.orca_macro.specs.Held.{held};
 use indexmap::IndexMap;
 use std::alloc::{AllocError, Global};
 
-/// Gives a name a value.
+/// Gives a name that has a value another one. Where it has none, the value is handed back.
+fn renew<V: Drop>(map: &mut IndexMap<Vec<u8>, V>, name: &[u8], value: V) -> Option<V>
+    ensures { MatchOption result
+        ((q : List ℕ) → held map.new q ≡ (if bytes_eq name.now q then Some value else held map.old q))
+        (λ back. (back ≡ value) × (map.new ≡ map.old)) }
+{
+    match map.get_mut(name) {
+        Some(slot) => {
+            *slot = value;
+            None
+        }
+        None => Some(value),
+    }
+}
+
+/// Gives a name a value, whether it has one or not.
 #[tactic(auto, using(crate::proofs::Maps::updated))]
-pub(crate) fn put<V: Drop>(
+pub(crate) fn insert<V: Drop>(
     alloc: Global,
     map: &mut IndexMap<Vec<u8>, V>,
     name: &[u8],
@@ -20,6 +35,21 @@ pub(crate) fn put<V: Drop>(
     match map.insert(key, value) {
         Ok(_) => Ok(()),
         Err(_) => Err(AllocError),
+    }
+}
+
+/// Gives a name a value. A name that has one isn't copied.
+pub(crate) fn put<V: Drop>(
+    alloc: Global,
+    map: &mut IndexMap<Vec<u8>, V>,
+    name: &[u8],
+    value: V,
+) -> Result<(), AllocError>
+    ensures ok { OnOk result ((q : List ℕ) → held map.new q ≡ (if bytes_eq name.now q then Some value else held map.old q)) }
+{
+    match renew(map, name, value) {
+        None => Ok(()),
+        Some(back) => insert(alloc, map, name, back),
     }
 }
 

@@ -1,8 +1,8 @@
 //! Texts parted by commas or plus signs, and texts in quotes.
 
-ghost use Rattle.std.specs.Prelude.{◌≡◌, ◌≤◌, ◌<◌, ◌+◌, ◌^◌, List, ℕ, map, length, take, drop, position, nat_eq, slice_get, Some, None, IfOk, IfSome, MatchOption};
+ghost use Rattle.std.specs.Prelude.{◌≡◌, ◌≤◌, ◌<◌, ◌+◌, ◌^◌, ◌∷◌, [], List, ℕ, map, length, take, drop, position, nat_eq, slice_get, Some, None, IfOk, IfSome, MatchOption};
 ghost use Rattle.macro_meaning.specs.Pieces.{open_behind, parts, pieces, closed_at, quoted_at, quoted, joined, appended};
-ghost use Rattle.orca_macro.specs.Piece.{piece_len};
+ghost use Rattle.orca_macro.specs.Piece.{piece_len, AreNotTwo};
 
 use orca_text::quote_behind;
 use std::alloc::{AllocError, Global};
@@ -107,6 +107,23 @@ pub(crate) fn pieces<'a>(
         };
         left = others;
     }
+}
+
+/// The two pieces of a text with just one separator outside quotes and parentheses.
+#[tactic(auto, using(crate::proofs::Parted::two_are, crate::proofs::Parted::one_alone, crate::proofs::Parted::three_are))]
+pub(crate) fn two_pieces(separator: u8, text: &[u8]) -> Option<(&[u8], &[u8])>
+    requires { length text.now ≤ 255 }
+    ensures bound { IfSome result (λ x. (length x.0.now ≤ 255) × (length x.1.now ≤ 255)) }
+    ensures pieces { MatchOption result (AreNotTwo (pieces separator text.now)) (λ x. pieces separator text.now ≡ x.0.now ∷ x.1.now ∷ []) }
+{
+    let (first, behind) = text.split_at(piece_len(separator, text));
+    let Some((_, second)) = behind.split_first() else {
+        return None;
+    };
+    if piece_len(separator, second) < second.len() {
+        return None;
+    }
+    Some((first, second))
 }
 
 /// Where the first quote of this kind stands.

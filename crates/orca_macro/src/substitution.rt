@@ -1,6 +1,6 @@
 //! Symbols in a line, and the texts that come in their place (ORCA/M reference manual, "Symbolic parameters").
 
-ghost use Rattle.std.specs.Prelude.{◌≡◌, ◌≤◌, ◌+◌, ◌<◌, ◌-◌, List, ℕ, length, take, drop, Some, None, IfOk, OnOk, MatchOption, IsTrue};
+ghost use Rattle.std.specs.Prelude.{◌≡◌, ◌≤◌, ◌+◌, ◌<◌, ◌-◌, List, ℕ, length, take, drop, Some, None, IfOk, OnOk, MatchOption, IsTrue, IfSome, ◌++◌, ◌==◌};
 ghost use Rattle.std.specs.Char.{to_ascii_uppercase};
 ghost use Rattle.orca_meaning.specs.Characters.{is_letter, is_name_start};
 ghost use Rattle.orca_meaning.specs.Line.{LiesIn, HaveFields, part};
@@ -8,6 +8,7 @@ ghost use Rattle.macro_meaning.specs.Statements.{statement_of};
 ghost use Rattle.orca_meaning.specs.Quotes.{is_closed, quote_after};
 ghost use Rattle.macro_meaning.specs.Substitution.{lies_in, asks_before, is_asked, may_ask, sets_label, declares, naming_by, naming_at, name_length, taken_length, first_passes, in_place, substituted, with_front};
 ghost use Rattle.macro_meaning.specs.Symbol.{text_of};
+ghost use Rattle.orca_macro.specs.Plain.{plain_len};
 ghost use Rattle.orca_macro.specs.View.{naming, values};
 ghost use Rattle.orca_text.specs.View.{line};
 
@@ -174,7 +175,8 @@ fn begins_name(behind: &[u8]) -> bool
 /// How many bytes go with the name at the front: its own, and a dot directly behind it.
 #[tactic(auto, unfolding(macro_meaning::specs::Substitution::taken_length))]
 fn taken_length(behind: &[u8]) -> usize
-    ensures { result ≡ taken_length behind.now }
+    ensures value { result ≡ taken_length behind.now }
+    ensures bound { result ≤ length behind.now }
 {
     let length = name_len(behind);
     if length < behind.len() && behind[length] == b'.' {
@@ -185,7 +187,7 @@ fn taken_length(behind: &[u8]) -> usize
 
 /// Whether a name is in upper case, as symbols are kept.
 #[tactic(auto, using(crate::proofs::Fronts::folded_next))]
-fn is_folded(name: &[u8]) -> bool
+pub(crate) fn is_folded(name: &[u8]) -> bool
     ensures { IsTrue result → Rattle.orca_meaning.specs.Characters.folded name.now ≡ name.now }
 {
     let mut left = name;
@@ -224,8 +226,9 @@ pub(crate) fn in_place<'a>(
     behind: &[u8],
 ) -> Result<Option<(&'a [u8], usize)>, AllocError>
     requires { length behind.now ≤ 255 }
-    ensures { IfOk result (λ found. MatchOption found (in_place (text_of (values of.entry)) (naming at) behind.now ≡ None)
+    ensures place { IfOk result (λ found. MatchOption found (in_place (text_of (values of.entry)) (naming at) behind.now ≡ None)
         (λ x. in_place (text_of (values of.entry)) (naming at) behind.now ≡ Some (x.0.now, x.1))) }
+    ensures bound { IfOk result (λ found. IfSome found (λ x. x.1 ≤ length behind.now)) }
 {
     match at {
         Naming::Replaced => {
@@ -260,39 +263,73 @@ pub(crate) fn naming_at(of: &SourceLine, statement: Option<Statement>, at: u32) 
     naming_by(statement, of, at)
 }
 
-/// The text of a line with the symbols' texts in place; none where a symbol isn't declared.
-#[tactic(auto, unfolding(macro_meaning::specs::Substitution::substituted), using(crate::proofs::Fronts::front_more, crate::proofs::Fronts::put_more, crate::proofs::Fronts::put_none, crate::proofs::Fronts::front_whole, crate::proofs::Fronts::front_start))]
+/// How many bytes stand before the first `&`.
+#[tactic(auto, unfolding(crate::specs::Plain::plain_len))]
+fn plain_len(text: &[u8]) -> usize
+    ensures value { result ≡ plain_len text.now }
+    ensures bound { result ≤ length text.now }
+{
+    let mut count: usize = 0;
+    let mut left = text;
+    'bytes: while let Some((byte, behind)) = left.split_first() {
+        if *byte == b'&' {
+            return count;
+        }
+        count += 1;
+        left = behind;
+    }
+    count
+}
+
+/// Whether no `&` stands in a text.
+pub(crate) fn is_plain(text: &[u8]) -> bool
+    ensures { result ≡ (plain_len text.now == length text.now) }
+{
+    plain_len(text) == text.len()
+}
+
+/// Copies what stands before the first `&`, and gives what stands from there on.
+fn copy_plain<'a>(out: &mut Vec<u8>, text: &'a [u8]) -> Result<&'a [u8], AllocError>
+    ensures rest { IfOk result (λ rest. rest.now ≡ drop (plain_len text.now) text.now) }
+    ensures copied { OnOk result (out.new.items ≡ out.old.items ++ take (plain_len text.now) text.now) }
+{
+    let (plain, rest) = text.split_at(plain_len(text));
+    out.extend_from_slice(plain)?;
+    Ok(rest)
+}
+
+/// The text of a line with the symbols' texts in place; none where a symbol isn't declared. It stands in the buffer, whose
+/// own bytes are gone.
+#[tactic(auto, using(crate::proofs::Fronts::run_starts))]
 pub(crate) fn shown(
     alloc: Global,
     of: Values<'_>,
     source: &SourceLine,
+    buffer: Vec<u8>,
 ) -> Result<Option<Vec<u8>>, AllocError>
     requires { HaveFields source.now.text (line source.now).fields }
     ensures { IfOk result (λ found. MatchOption found
         (substituted (text_of (values of.entry)) (naming_at source.now.text (line source.now).fields) 0 0 source.now.text ≡ None)
         (λ v. substituted (text_of (values of.entry)) (naming_at source.now.text (line source.now).fields) 0 0 source.now.text ≡ Some v.items)) }
 {
+    let text = source.text.bytes();
     let statement = statement_of(source.part(source.operation));
-    let mut out = Vec::with_capacity(alloc, source.text.bytes().len())?;
-    let mut at: u32 = 0;
-    let mut taken: usize = 0;
-    let mut left = source.text.bytes();
-    'bytes: while let Some((byte, behind)) = left.split_first() {
-        if taken > 0 {
-            taken -= 1;
-        } else if *byte == b'&' {
-            match in_place(alloc, of, naming_at(source, statement, at), behind)? {
-                Some((text, more)) => {
-                    out.extend_from_slice(text)?;
-                    taken = more;
-                }
-                None => return Ok(None),
+    let mut out = buffer;
+    out.clear();
+    let mut left = text;
+    'runs: loop {
+        let rest = copy_plain(&mut out, left)?;
+        let Some((_, behind)) = rest.split_first() else {
+            return Ok(Some(out));
+        };
+        let at = (text.len() - rest.len()) as u32;
+        match in_place(alloc, of, naming_at(source, statement, at), behind)? {
+            Some((put, more)) => {
+                out.extend_from_slice(put)?;
+                let (_, others) = behind.split_at(more);
+                left = others;
             }
-        } else {
-            out.push(*byte)?;
+            None => return Ok(None),
         }
-        at += 1;
-        left = behind;
     }
-    Ok(Some(out))
 }

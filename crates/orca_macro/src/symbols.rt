@@ -7,7 +7,7 @@ ghost use Rattle.macro_meaning.specs.Visit.{no_texts};
 ghost use Rattle.orca_macro.specs.Held.{held};
 ghost use Rattle.orca_macro.specs.View.{symbol, shared_text, symbols_of, texts_of, values};
 
-use crate::held::{look, put};
+use crate::held::{insert, look, put};
 use indexmap::IndexMap;
 use macro_meaning::{Declaration, Kind};
 use omf_base::{Line, Name, NameFault};
@@ -79,7 +79,7 @@ fn decimal(alloc: Global, n: u32) -> Result<Name, AllocError>
 {
     let mut line = Line::new(alloc);
     match line.dec(n) {
-        Ok(()) => name(alloc, line.bytes()),
+        Ok(()) => Ok(Name::from_vec(line.into_bytes())),
         Err(_) => Err(AllocError),
     }
 }
@@ -98,7 +98,7 @@ pub(crate) fn signed_decimal(alloc: Global, z: i32) -> Result<Name, AllocError>
         Err(_) => return Err(AllocError),
     }
     match line.dec(z.unsigned_abs()) {
-        Ok(()) => name(alloc, line.bytes()),
+        Ok(()) => Ok(Name::from_vec(line.into_bytes())),
         Err(_) => Err(AllocError),
     }
 }
@@ -168,7 +168,22 @@ impl Symbols {
         look(&self.map, name)
     }
 
-    /// Gives a name a symbol.
+    /// Gives a name that mostly has no symbol yet one.
+    pub(crate) fn add(
+        &mut self,
+        alloc: Global,
+        name: &[u8],
+        value: Symbol,
+    ) -> Result<(), AllocError>
+        ensures { OnOk result (symbols_of self.new ≡ with_name name.now (symbol value) (symbols_of self.old)) }
+    {
+        match insert(alloc, &mut self.map, name, value) {
+            Ok(()) => Ok(()),
+            Err(_) => Err(AllocError),
+        }
+    }
+
+    /// Gives a name that mostly has a symbol another one.
     pub(crate) fn set(
         &mut self,
         alloc: Global,

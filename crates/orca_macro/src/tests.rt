@@ -183,8 +183,52 @@ fn statements_do_what_they_say(rt: HostRuntime) -> Result<(), Fail> {
         (" MNOTE 'x',7\n MNOTE 'x',0-1\n NOP\n", " NOP\n"),
         (" DC &SYSCNT\n", " DC 0\n"),
         (" FOO\n MACRO\n FOO\n NOP\n MEND\n FOO\n", " FOO\n NOP\n"),
+        (
+            " MACRO\n TIMES &N\n LCLA &I\n.A ANOP\n&I SETA &I+1\n DC I1'&I'\n AIF &I<&N,.A\n MEND\nM START\n TIMES 3\n END\n",
+            "M START\n DC I1'1'\n DC I1'2'\n DC I1'3'\n END\n",
+        ),
     ] {
         assert!(rt; gives(alloc, &[], source, want)?, "{source}");
+    }
+    Ok(())
+}
+
+#[test]
+fn formulas_have_their_values(rt: HostRuntime) -> Result<(), Fail> {
+    let alloc = rt.alloc();
+    for (formula, value) in [
+        ("7", "7"),
+        ("2147483648", "-2147483648"),
+        ("1+2", "3"),
+        ("4294967295+2", "1"),
+        ("7-9", "-2"),
+        ("3*4", "12"),
+        ("65536*65536", "0"),
+        ("7/2", "3"),
+        ("1|4", "16"),
+        ("1<2", "1"),
+        ("2<2", "0"),
+        ("4294967295<1", "1"),
+        ("1>4294967295", "1"),
+        ("4294967295<=0", "1"),
+        ("0>=1", "0"),
+        ("3<>3", "0"),
+        ("3=3", "1"),
+        ("1.AND.2", "1"),
+        ("0.OR.0", "0"),
+        ("1.EOR.1", "0"),
+        ("2+3*4", "14"),
+        ("(2+3)*4", "20"),
+        ("-5", "-5"),
+        ("$1F+%11", "34"),
+        ("'A'+1", "66"),
+    ] {
+        let source = between(alloc, " LCLA &A\n&A SETA ", formula, "\n DC &A\n")?;
+        let want = between(alloc, " DC ", value, "\n")?;
+        assert!(rt;
+            gives(alloc, &[], source.as_str(), want.as_str())?,
+            "{formula}"
+        );
     }
     Ok(())
 }

@@ -60,10 +60,10 @@ fn declare(
     match declaration {
         Declaration::Local(kind) => {
             let text = first_text(alloc, kind)?;
-            symbols.set(alloc, name, Symbol::Own(kind, text))
+            symbols.add(alloc, name, Symbol::Own(kind, text))
         }
         Declaration::Shared(kind) => {
-            symbols.set(alloc, name, Symbol::Common(kind))?;
+            symbols.add(alloc, name, Symbol::Common(kind))?;
             share(alloc, texts, name, kind)
         }
     }

@@ -7,3 +7,4 @@ pub mod Places
 pub mod Reading
 pub mod OperandIs
 pub mod Steps
+pub mod Shorts

@@ -10,3 +10,4 @@ pub mod Peak
 pub mod OperandView
 pub mod Next
 pub mod TokenView
+pub mod Short

@@ -152,6 +152,16 @@ pub fn three_fields(text: &[u8]) -> Fields
     }
 }
 
+/// What begins in column 1 of a line, up to the first blank.
+#[tactic(auto, using(crate::proofs::Places::label_is))]
+pub fn label_in(text: &[u8]) -> &[u8]
+    ensures value { result.now ≡ part text.now (three_fields text.now).label }
+    ensures bound { length result.now ≤ length text.now }
+{
+    let (label, _) = text.split_at(blank_in(text));
+    label
+}
+
 /// Whether all bytes are blank.
 fn is_empty(text: &[u8]) -> bool
     ensures { result ≡ list_all is_blank text.now }

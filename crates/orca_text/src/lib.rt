@@ -11,10 +11,11 @@ mod operand;
 mod operand_tokens;
 mod operation;
 mod operator_tokens;
+mod short;
 mod tokens;
 mod waiting;
 
-pub use fields::{Fields, is_comment, part, quote_behind, three_fields};
+pub use fields::{Fields, is_comment, label_in, part, quote_behind, three_fields};
 pub use formula::{FormulaAt, formula_at};
 pub use formula_term::{Formula, FormulaTerm};
 pub use line::SourceLine;
@@ -23,6 +24,8 @@ pub use operand::{Operand, is_too_deep, read_operand};
 pub use operand_tokens::{behind_byte, folded, is_name_start, name_at, name_len, symbol_at};
 pub use operation::{is_spelled, mnemonic_of};
 pub use orca_meaning::{Form, Mnemonic, OperandUse, Operands, Prefix, Span, TextCause, TextFault};
+pub use short::{ShortFormula, short_formula};
+pub use tokens::{digit, digits_at};
 
 #[cfg(test)]
 mod tests;

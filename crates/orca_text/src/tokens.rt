@@ -22,8 +22,8 @@ fn digit_value(byte: u8) -> u32
     }
 }
 
-/// The value of a digit of a base.
-fn digit(byte: u8, base: u32) -> Option<u32>
+/// The value of a digit of a base, which is at most 36.
+pub fn digit(byte: u8, base: u32) -> Option<u32>
     requires { base ≤ 36 }
     ensures { MatchOption result (is_digit byte base ≡ false) (λ d. (is_digit byte base ≡ true) × (d ≡ digit_value byte) × (d < 36)) }
 {
@@ -49,9 +49,10 @@ fn behind_digits(base: u32, text: &[u8]) -> &[u8]
     left
 }
 
-/// The number that the digits at the front write, `None` where it is above 4,294,967,295, and what stands behind them.
+/// The number that the digits of a base at the front write, `None` where it is above 4,294,967,295, and what stands behind
+/// them. The base is 1 to 36.
 #[tactic(auto, unfolding(orca_meaning::specs::Token::digits_at))]
-fn digits_at(base: u32, text: &[u8]) -> Option<(Option<u32>, &[u8])>
+pub fn digits_at(base: u32, text: &[u8]) -> Option<(Option<u32>, &[u8])>
     requires some { 1 ≤ base }
     requires small { base ≤ 36 }
     ensures { MatchOption result (digits_at base text.now ≡ None) (λ x. seen_as fitting (digits_at base text.now) ≡ Some (x.0, x.1.now)) }

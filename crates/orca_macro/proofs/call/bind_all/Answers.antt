@@ -1,4 +1,4 @@
-use Rattle.std.proofs.Common.{◌≤◌, ◌+◌, length, arith}
+use Rattle.std.proofs.Common.{◌≤◌, ◌+◌, length, refl, arith}
 use Rattle.orca_macro.specs.Calling.{bind}
 use Rattle.orca_macro.specs.View.{symbols_of}
 use Rattle.orca_macro.proofs.Binds.{next_bound, twice_bound}
@@ -12,14 +12,14 @@ operands-smaller c =
 
 pub returns-then-not-branch : goal.returns-then-not-branch
 returns-then-not-branch c =
-    twice_bound c.args.parameters.now c.args.operands.now c.operands.place c.operands.at c.in-Some.piece.now c.bytes.result.now (bind c.in-Some-2.found) c.bytes-in-operands.result.now
-    (symbols_of c.operands.symbols) _ c.in-Some.ensures c.bytes.ensures.value (rw c.in-Some-2.is at c.in_ok-found.ensures.found) c.bytes-in-operands.ensures.value
+    twice_bound c.args.parameters.now c.args.operands.now c.operands.place c.operands.at c.in-Some.piece.now c.bytes.result.now (bind c.in-Some-2.found) c.in-Some-2.found.name.now
+    (symbols_of c.operands.symbols) _ c.in-Some.ensures c.bytes.ensures.value (rw c.in-Some-2.is at c.in_ok-found.ensures.found) refl
     (rw c.if-not-branch.true at c.in_ok-bind_once.ensures) c.operands.invariant.0
 
 pub operands-preserved : goal.operands-preserved
 operands-preserved c = (
-  next_bound c.args.parameters.now c.args.operands.now c.operands.place c.operands.at c.in-Some.piece.now c.bytes.result.now (bind c.in-Some-2.found) c.bytes-in-operands.result.now
-      (symbols_of c.operands.symbols) (symbols_of c.bind_once.new.symbols) _ c.in-Some.ensures c.bytes.ensures.value (rw c.in-Some-2.is at c.in_ok-found.ensures.found) c.bytes-in-operands.ensures.value
+  next_bound c.args.parameters.now c.args.operands.now c.operands.place c.operands.at c.in-Some.piece.now c.bytes.result.now (bind c.in-Some-2.found) c.in-Some-2.found.name.now
+      (symbols_of c.operands.symbols) (symbols_of c.bind_once.new.symbols) _ c.in-Some.ensures c.bytes.ensures.value (rw c.in-Some-2.is at c.in_ok-found.ensures.found) refl
       (rw c.if-not-branch.false at c.in_ok-bind_once.ensures) c.operands.invariant.0,
   get_inside c.args.operands.now c.operands.at c.in-Some.piece.now c.in-Some.ensures,
 )

@@ -2,7 +2,7 @@ use Rattle.std.proofs.Common.{◌≡◌, ℕ, List, cond, Some, subst}
 use Rattle.std.specs.Prelude.{bytes_eq}
 use Rattle.orca_macro.specs.Held.{held}
 use Rattle.orca_macro.proofs.Maps.{updated}
-use Rattle.orca_macro.proofs.held.put.Goals as goal
+use Rattle.orca_macro.proofs.held.insert.Goals as goal
 
 pub returns-in-Ok : goal.returns-in-Ok
 returns-in-Ok g c = record {

@@ -1,0 +1,22 @@
+-- The value of formulas of one or two numbers.
+use Rattle.std.proofs.Common.{◌≡◌, ℕ, ◌<◌, Bool, true, false, leb, List, [], ◌^◌, refl}
+use Rattle.std.specs.Prelude.{Result, Ok}
+use Rattle.std.proofs.lemmas.Bool.{lt-leb}
+use Rattle.omf_format.specs.declared.value.Value.TheVariants.{Fixed}
+use Rattle.omf_format.specs.Expression.{Leaf, Binary, Constant}
+use Rattle.omf_format.specs.Value.{operand_value, apply_two}
+use Rattle.orca_meaning.specs.declared.operators.Operands.TheVariants.{Symbols}
+use Rattle.orca_meaning.specs.declared.operators.Operator.{Operator}
+use Rattle.orca_meaning.specs.Formula.{MeansAt, operator_code}
+use Rattle.macro_meaning.specs.Condition.{IsNumber, Formula, answer_of}
+use Rattle.orca_macro.specs.Short.{HasNumber}
+
+pub one_number : (text : List ℕ) (n : ℕ) → n < 2 ^ 32 → MeansAt Symbols text (Leaf (Constant n)) [] → HasNumber text n
+unfolding answer_of operand_value
+one_number text n small means = record { is = λ values. Formula (Leaf (Constant n)) means (rw (lt-leb (2 ^ 32) n small) refl) }
+
+pub two_numbers : (text : List ℕ) (operator : Operator) (a b n : ℕ) → a < 2 ^ 32 → b < 2 ^ 32 → MeansAt Symbols text (Binary (operator_code operator) (Leaf (Constant a)) (Leaf (Constant b))) []
+    → apply_two (operator_code operator) (Fixed a) (Fixed b) ≡ Ok (Fixed n) → HasNumber text n
+unfolding answer_of operand_value
+two_numbers text operator a b n small_a small_b means value =
+    record { is = λ values. Formula (Binary (operator_code operator) (Leaf (Constant a)) (Leaf (Constant b))) means (rw (lt-leb (2 ^ 32) a small_a, lt-leb (2 ^ 32) b small_b, value) refl) }

@@ -1,0 +1,74 @@
+//! Formulas of one or two numbers, as most conditions and settings have them once the texts are in place.
+
+ghost use Rattle.std.specs.Prelude.{◌≡◌, ◌<◌, ◌^◌, [], Some, IfSome};
+ghost use Rattle.orca_meaning.specs.Formula.{MeansAt};
+ghost use Rattle.orca_meaning.specs.Token.{Value, Number, Between, operand_token_at, operator_token_at};
+ghost use Rattle.orca_text.specs.Short.{tree_of};
+
+use crate::operand_tokens::{OperatorToken, behind_byte, operator_token};
+use crate::operator_tokens::sign_at;
+use crate::tokens::number_at;
+use orca_meaning::{Operands, Operator};
+
+/// A formula of one number, or of two.
+#[derive(Clone, Copy, Debug)]
+pub enum ShortFormula {
+    /// A number.
+    One(u32),
+    /// An operator between two numbers.
+    Two(Operator, u32, u32),
+}
+
+/// The number at the front where an operand is expected, and what stands behind it. None where another token stands there,
+/// and of a number above 4,294,967,295.
+#[tactic(auto, using(crate::proofs::Shorts::number_token))]
+fn number_token(text: &[u8]) -> Option<(u32, &[u8])>
+    ensures { IfSome result (λ x. operand_token_at Operands.Symbols text.now ≡ Some (Value (Number x.0), x.1.now)) }
+{
+    if let Some(_) = behind_byte(text, b'(') {
+        return None;
+    }
+    if let Some(_) = sign_at(text) {
+        return None;
+    }
+    match number_at(text) {
+        Some((Some(n), rest)) => Some((n, rest)),
+        Some((None, _)) => None,
+        None => None,
+    }
+}
+
+/// The operator at the front behind an operand, and what stands behind it.
+fn operator_behind(text: &[u8]) -> Option<(Operator, &[u8])>
+    ensures { IfSome result (λ x. operator_token_at text.now ≡ Some (Between x.0, x.1.now)) }
+{
+    match operator_token(text) {
+        Some((OperatorToken::Between(operator), behind)) => Some((operator, behind)),
+        Some((OperatorToken::Closes, _)) => None,
+        None => None,
+    }
+}
+
+/// The formula that the whole text is, where it is one number, or two with an operator between them. None says nothing: the
+/// text may still be a formula.
+#[tactic(auto, using(crate::proofs::Shorts::one_means, crate::proofs::Shorts::two_mean))]
+pub fn short_formula(text: &[u8]) -> Option<ShortFormula>
+    ensures { IfSome result (λ f. MeansAt Operands.Symbols text.now (tree_of f) []) }
+{
+    let Some((a, rest)) = number_token(text) else {
+        return None;
+    };
+    if rest.is_empty() {
+        return Some(ShortFormula::One(a));
+    }
+    let Some((operator, behind)) = operator_behind(rest) else {
+        return None;
+    };
+    let Some((b, last)) = number_token(behind) else {
+        return None;
+    };
+    if last.is_empty() {
+        return Some(ShortFormula::Two(operator, a, b));
+    }
+    None
+}
