@@ -81,11 +81,11 @@ of_form (Some found) form has e = subst HasFormula (same found e) has
     same found e = cc
 
 -- its formulas, and the modes for one
-record IsFineOperand (widths : Widths) (m : Mnemonic) (operand : Meaning) : Type 0 where
-  trees : AreFineTrees operand.trees
-  modes : (t : Tree) → operand.trees ≡ t ∷ [] → AllByRecursion (HasBytes widths m) (offered m operand.form operand.prefix)
+pub record IsFineOperand (widths : Widths) (m : Mnemonic) (operand : Meaning) : Type 0 where
+  pub trees : AreFineTrees operand.trees
+  pub modes : (t : Tree) → operand.trees ≡ t ∷ [] → AllByRecursion (HasBytes widths m) (offered m operand.form operand.prefix)
 
-fine_operand : (widths : Widths) (m : Mnemonic) (text : List ℕ) (operand : Meaning) → length text ≤ 255 → IsGoodOperand (Some m) text operand → IsFineOperand widths m operand
+pub fine_operand : (widths : Widths) (m : Mnemonic) (text : List ℕ) (operand : Meaning) → length text ≤ 255 → IsGoodOperand (Some m) text operand → IsFineOperand widths m operand
 fine_operand widths m text operand short good = by_form good.is good.shallow good.small
   where
     Fine : Meaning → Type 0
@@ -189,7 +189,7 @@ found_name x = Some x
 abbrev found_number : ℕ × List ℕ → Found ℕ
 found_number x = Some x
 
-name_length : (text name rest : List ℕ) → length text ≤ 255 → name_at text ≡ Some (name, rest) → IsNameLength name × (length rest ≤ length text)
+pub name_length : (text name rest : List ℕ) → length text ≤ 255 → name_at text ≡ Some (name, rest) → IsNameLength name × (length rest ≤ length text)
 unfolding name_at
 name_length [] name rest short e = absurd cc
 name_length (byte ∷ behind) name rest short e = by_start (is_name_start byte) e
@@ -211,7 +211,7 @@ name_length (byte ∷ behind) name rest short e = by_start (is_name_start byte) 
         ((omega (arith, size, length-map (byte ∷ take n behind) to_ascii_uppercase), omega (arith, size, short, length-map (byte ∷ take n behind) to_ascii_uppercase, length-take n behind)), omega (arith, last, length-drop n behind))
     by_start false e = absurd cc
 
-names_length : (text : List ℕ) (names : List (List ℕ)) → length text ≤ 255 → AreNames text names → AllByRecursion IsNameLength names
+pub names_length : (text : List ℕ) (names : List (List ℕ)) → length text ≤ 255 → AreNames text names → AllByRecursion IsNameLength names
 names_length text [] short are = absurd are
 names_length text (name ∷ []) short are = ((name_length text name [] short are).0, tt)
 names_length text (name ∷ next ∷ names) short are =
@@ -257,7 +257,7 @@ weak_plain [] are = tt
 weak_plain (name ∷ names) are = (expr_plain 2 (expression_text (Leaf (Named 0x82 name))) refl (is_written (Leaf (Named 0x82 name)) (refl, are.0) (omega arith)), weak_plain names are.1)
 
 -- the width of a type of numbers
-abbrev IsWidth : Kind → Type 0
+abbrev pub IsWidth : Kind → Type 0
 IsWidth (Number width) = IsTrue (is_count width)
 IsWidth Hexadecimal = Unit {0}
 IsWidth Binary = Unit {0}
@@ -313,7 +313,7 @@ kind_found (letter ∷ behind) =
     if_kind n (eqb capital 0x52) (Some (References, behind)) _ (tt, omega arith) (
     if_kind n (eqb capital 0x53) (Some (WeakReferences, behind)) None (tt, omega arith) tt)))))
 
-kind_is : (text : List ℕ) (kind : Kind) (rest : List ℕ) → kind_at text ≡ Some (kind, rest) → IsWidth kind × (length rest ≤ length text)
+pub kind_is : (text : List ℕ) (kind : Kind) (rest : List ℕ) → kind_at text ≡ Some (kind, rest) → IsWidth kind × (length rest ≤ length text)
 kind_is text kind rest e = subst (IsFoundKind (length text)) e (kind_found text)
 
 digits-le : (text : List ℕ) (n : ℕ) (rest : List ℕ) → digits_at 10 text ≡ Some (n, rest) → length rest ≤ length text
@@ -333,7 +333,7 @@ digits-le text n rest e = by_none (eqb k 0) e
     by_none true e = absurd cc
     by_none false e = omega (arith, ap (λ (x : ℕ × List ℕ). length x.1) (same e), length-drop k text)
 
-closed-le : (text inner rest : List ℕ) → closed_at text ≡ Some (inner, rest) → length inner ≤ length text
+pub closed-le : (text inner rest : List ℕ) → closed_at text ≡ Some (inner, rest) → length inner ≤ length text
 unfolding closed_at
 closed-le text inner rest e = by_end (ltb n (length text)) e
   where
@@ -364,7 +364,7 @@ behind-le (byte ∷ rest) behind e = by_byte (eqb byte 0x28) e
     by_byte true e = omega (arith, ap length (same e))
     by_byte false e = absurd cc
 
-repeat-le : (o : Option (List ℕ)) (digits : Found ℕ) (text : List ℕ) (repeat : Repeat) (rest : List ℕ) → behind_parenthesis text ≡ o → digits_at 10 text ≡ digits → IsRepeatBy o digits text repeat rest
+pub repeat-le : (o : Option (List ℕ)) (digits : Found ℕ) (text : List ℕ) (repeat : Repeat) (rest : List ℕ) → behind_parenthesis text ≡ o → digits_at 10 text ≡ digits → IsRepeatBy o digits text repeat rest
     → length rest ≤ length text
 repeat-le (Some behind) digits text repeat rest o d is = omega (arith, behind-le text behind o, rest-le behind is.0 (0x29 ∷ rest) is.1)
 repeat-le None (Some found) text repeat rest o d is = omega (arith, ap length is.1, digits-le text found.0 found.1 d)
@@ -412,7 +412,7 @@ element_plain constants msb small element pieces of e =
 
 -- ---- lists of elements
 
-closed_rest-le : (text inner rest : List ℕ) → closed_at text ≡ Some (inner, rest) → length rest ≤ length text
+pub closed_rest-le : (text inner rest : List ℕ) → closed_at text ≡ Some (inner, rest) → length rest ≤ length text
 unfolding closed_at
 closed_rest-le text inner rest e = by_end (ltb n (length text)) e
   where
@@ -458,7 +458,7 @@ text_behind (byte ∷ next ∷ behind) =
     (behind_if n (eqb next 0x27) (with_byte 0x27 (text_at behind)) (Some ([], next ∷ behind)) (behind_more (length behind + 1) n (with_byte 0x27 (text_at behind)) (omega arith) first) (omega arith))
     (behind_more (length (next ∷ behind) + 1) n (with_byte byte (text_at (next ∷ behind))) (omega arith) other)
 
-value-le : (kind : Kind) (text : List ℕ) (value : Value) (rest : List ℕ) → IsValueAt kind text value rest → length rest ≤ length text
+pub value-le : (kind : Kind) (text : List ℕ) (value : Value) (rest : List ℕ) → IsValueAt kind text value rest → length rest ≤ length text
 value-le (Number width) text value rest is = closed_rest-le text is.0 rest is.2
 value-le Hexadecimal text value rest is = closed_rest-le text is.0 rest is.2
 value-le Binary text value rest is = closed_rest-le text is.0 rest is.2
@@ -466,7 +466,7 @@ value-le Characters text value rest is = subst (IsBehind (length text)) is.1 (te
 value-le References text value rest is = closed_rest-le text is.0 rest is.2
 value-le WeakReferences text value rest is = closed_rest-le text is.0 rest is.2
 
-element-le : (text : List ℕ) (element : Element) (rest : List ℕ) → IsElementAt text element rest → length rest ≤ length text
+pub element-le : (text : List ℕ) (element : Element) (rest : List ℕ) → IsElementAt text element rest → length rest ≤ length text
 element-le text element rest is =
     let behind = repeat-le (behind_parenthesis text) (digits_at 10 text) text element.repeat is.behind_repeat refl refl is.repeat in
     let kind = kind_is is.behind_repeat is.kind (0x27 ∷ is.behind_quote) is.of_kind in

@@ -25,15 +25,15 @@ use Rattle.asm_meaning.specs.Statement.{behind_here, IsOperandOf, Good, Bad, Lar
 
 -- ---- found at a front
 
-same_some : {A : Type 0} (o : Option A) (a b : A) → o ≡ Some a → o ≡ Some b → a ≡ b
+pub same_some : {A : Type 0} (o : Option A) (a b : A) → o ≡ Some a → o ≡ Some b → a ≡ b
 same_some o a b p q = let both : Some a ≡ Some b = sym p ∙ q in cc
 
-same_found : {A : Type 0} (o : Found A) (a b : A) (r s : List ℕ) → o ≡ Some (a, r) → o ≡ Some (b, s) → (a ≡ b) × (r ≡ s)
+pub same_found : {A : Type 0} (o : Found A) (a b : A) (r s : List ℕ) → o ≡ Some (a, r) → o ≡ Some (b, s) → (a ≡ b) × (r ≡ s)
 same_found {A = A} o a b r s p q =
     let both = same_some o (a, r) (b, s) p q in
     (ap (λ (x : A × List ℕ). x.0) both, ap (λ (x : A × List ℕ). x.1) both)
 
-same_behind : (byte : ℕ) (r s : List ℕ) → byte ∷ r ≡ byte ∷ s → r ≡ s
+pub same_behind : (byte : ℕ) (r s : List ℕ) → byte ∷ r ≡ byte ∷ s → r ≡ s
 same_behind byte r s e = cc
 
 not_comma : (r : List ℕ) → [] ≡ 0x2C ∷ r → ⊥
@@ -100,10 +100,10 @@ names_once text (x ∷ z ∷ xs) (y ∷ w ∷ ys) p q =
     ap (λ (n : List ℕ). n ∷ (z ∷ xs)) first.0 ∙ ap (λ (ns : List (List ℕ)). y ∷ ns) rest
 
 -- a value of one type, and what stands behind it
-abbrev SameValue : Value → Value → List ℕ → List ℕ → Type 0
+abbrev pub SameValue : Value → Value → List ℕ → List ℕ → Type 0
 SameValue v w r s = (v ≡ w) × (r ≡ s)
 
-value_once : (kind : Kind) (text : List ℕ) (v w : Value) (r s : List ℕ) → IsValueAt kind text v r → IsValueAt kind text w s → SameValue v w r s
+pub value_once : (kind : Kind) (text : List ℕ) (v w : Value) (r s : List ℕ) → IsValueAt kind text v r → IsValueAt kind text w s → SameValue v w r s
 value_once (Number width) text v w r s p q =
     let inner = same_found (closed_at text) p.0 q.0 r s p.2 q.2 in
     let trees = formulas_once p.0 p.1 q.1 p.3 (subst (λ (t : List ℕ). AreFormulas t q.1) (sym inner.0) q.3) in
@@ -128,10 +128,10 @@ value_once WeakReferences text v w r s p q =
     let names = names_once p.0 p.1 q.1 p.3 (subst (λ (t : List ℕ). AreNames t q.1) (sym inner.0) q.3) in
     (p.4 ∙ ap (λ (n : List (List ℕ)). Weak n) names ∙ sym q.4, inner.1)
 
-abbrev SameRepeat : Repeat → Repeat → List ℕ → List ℕ → Type 0
+abbrev pub SameRepeat : Repeat → Repeat → List ℕ → List ℕ → Type 0
 SameRepeat v w r s = (v ≡ w) × (r ≡ s)
 
-repeat_once : (o : Option (List ℕ)) (digits : Found ℕ) (text : List ℕ) (v w : Repeat) (r s : List ℕ) → IsRepeatBy o digits text v r → IsRepeatBy o digits text w s → SameRepeat v w r s
+pub repeat_once : (o : Option (List ℕ)) (digits : Found ℕ) (text : List ℕ) (v w : Repeat) (r s : List ℕ) → IsRepeatBy o digits text v r → IsRepeatBy o digits text w s → SameRepeat v w r s
 repeat_once (Some behind) digits text v w r s p q =
     let same = one_tree Labels behind p.0 q.0 (0x29 ∷ r) (0x29 ∷ s) p.1 q.1 in
     (p.2 ∙ ap (λ (t : Tree). Computed t) same.0 ∙ sym q.2, same_behind 0x29 r s same.1)
@@ -141,7 +141,7 @@ repeat_once None None text v w r s p q = (p.0 ∙ sym q.0, p.1 ∙ sym q.1)
 made : Repeat → Value → Element
 made repeat value = record { repeat = repeat; value = value }
 
-element_once : (text : List ℕ) (a b : Element) (r s : List ℕ) → IsElementAt text a r → IsElementAt text b s → (a ≡ b) × (r ≡ s)
+pub element_once : (text : List ℕ) (a b : Element) (r s : List ℕ) → IsElementAt text a r → IsElementAt text b s → (a ≡ b) × (r ≡ s)
 unfolding made
 element_once text a b r s p q =
     let repeat = repeat_once (behind_parenthesis text) (digits_at 10 text) text a.repeat b.repeat p.behind_repeat q.behind_repeat p.repeat q.repeat in

@@ -18,7 +18,7 @@ is_limited text few = by_size (leb (length text) most_bytes) (le-leb (length tex
     by_size true e = refl
     by_size false e = absurd cc
 
-is_too_long : (text : List ℕ) → most_bytes < length text → limited text ≡ None
+pub is_too_long : (text : List ℕ) → most_bytes < length text → limited text ≡ None
 is_too_long text many = by_size (leb (length text) most_bytes) refl
   where
     by_size : (b : Bool) → leb (length text) most_bytes ≡ b → cond b (Some text) None ≡ None
@@ -26,14 +26,14 @@ is_too_long text many = by_size (leb (length text) most_bytes) refl
     by_size false e = refl
 
 -- what was limited was too long, or the text itself
-long_text : (text : List ℕ) → None ≡ limited text → most_bytes < length text
+pub long_text : (text : List ℕ) → None ≡ limited text → most_bytes < length text
 long_text text e = by_size (leb (length text) most_bytes) refl e
   where
     by_size : (b : Bool) → leb (length text) most_bytes ≡ b → None ≡ cond b (Some text) None → most_bytes < length text
     by_size true is e = absurd cc
     by_size false is e = leb-false (length text) most_bytes is
 
-same_text : (text bytes : List ℕ) → Some bytes ≡ limited text → text ≡ bytes
+pub same_text : (text bytes : List ℕ) → Some bytes ≡ limited text → text ≡ bytes
 same_text text bytes e = by_size (leb (length text) most_bytes) e
   where
     by_size : (b : Bool) → Some bytes ≡ cond b (Some text) None → text ≡ bytes

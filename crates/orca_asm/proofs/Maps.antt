@@ -1,10 +1,10 @@
 -- What a map has for a name once it was changed.
-use Rattle.std.proofs.Common.{◌≡◌, ℕ, Bool, true, false, cond, List, Option, Some, None, refl, sym, ap, subst, ◌∙◌}
-use Rattle.std.specs.Prelude.{bytes_eq}
+use Rattle.std.proofs.Common.{◌≡◌, ℕ, ◌<◌, ◌^◌, arith, Bool, true, false, cond, List, Option, Some, None, refl, sym, ap, subst, ◌∙◌}
+use Rattle.std.specs.Prelude.{bytes_eq, Result, Ok, Err, OnOk, OnErr}
 use Rattle.std.specs.Global.{Vec}
 use Rattle.std.specs.Cmp.Lexicographic.{bytes_decides, nat_list_eq_equiv}
 use Rattle.std.specs.Map.{IsKeyTest, AreApart, KeepsOthers, lookup}
-use Rattle.indexmap.specs.IndexMap.{IndexMap, UpdatesBy, IsEmpty}
+use Rattle.indexmap.specs.IndexMap.{IndexMap, UpdatesBy, IsEmpty, IsUnchanged}
 use Rattle.std.specs.Option.{option_map}
 use Rattle.std.proofs.Math.Path.{fun_ext}
 use Rattle.macro_meaning.specs.Symbol.{with_name}
@@ -47,3 +47,51 @@ no_names_held m none = fun_ext (λ q. empty_held m.map none q)
 
 pub no_constants_held : (m : Outside) → IsEmpty m.map → outside_of m ≡ no_constants
 no_constants_held m none = fun_ext (λ q. empty_held m.map none q)
+
+-- a map that stays as it is
+pub unchanged : {V S : Type 0} (m n : IndexMap (Vec ℕ) V S) → IsUnchanged m n → (q : List ℕ) → held n q ≡ held m q
+unchanged m n same q = ap (λ es. lookup (λ k. bytes_eq q k.items) es) same
+
+-- ---- values of 32 bits
+
+abbrev none : Option ℕ
+none = None
+
+small_put : {S E U : Type 0} (name : List ℕ) (value : Option ℕ) (m n : IndexMap (Vec ℕ) (Option ℕ) S) (r : Result U E) → ((k : ℕ) → value ≡ Some k → k < 2 ^ 32)
+    → ((q : List ℕ) (k : ℕ) → held m q ≡ Some (Some k) → k < 2 ^ 32) → OnOk r ((q : List ℕ) → held n q ≡ cond (bytes_eq name q) (Some value) (held m q)) → OnErr r ((q : List ℕ) → held n q ≡ held m q)
+    → (q : List ℕ) (k : ℕ) → held n q ≡ Some (Some k) → k < 2 ^ 32
+small_put name value m n (Ok u) fits small ok err q k e = by_test (bytes_eq name q) (sym (ok q) ∙ e)
+  where
+    same : (x y : Option ℕ) → Some x ≡ Some y → x ≡ y
+    same x y e = cc
+
+    by_test : (b : Bool) → cond b (Some value) (held m q) ≡ Some (Some k) → k < 2 ^ 32
+    by_test true e = fits k (same value (Some k) e)
+    by_test false e = small q k e
+small_put name value m n (Err x) fits small ok err q k e = small q k (sym (err q) ∙ e)
+
+pub small_some : {S E U : Type 0} (name : List ℕ) (value : ℕ) (m n : IndexMap (Vec ℕ) (Option ℕ) S) (r : Result U E) → value < 2 ^ 32
+    → ((q : List ℕ) (k : ℕ) → held m q ≡ Some (Some k) → k < 2 ^ 32) → OnOk r ((q : List ℕ) → held n q ≡ cond (bytes_eq name q) (Some (Some value)) (held m q)) → OnErr r ((q : List ℕ) → held n q ≡ held m q)
+    → (q : List ℕ) (k : ℕ) → held n q ≡ Some (Some k) → k < 2 ^ 32
+small_some name value m n r fits = small_put name (Some value) m n r (λ k e. omega (arith, same value k e))
+  where
+    same : (x y : ℕ) → Some x ≡ Some y → x ≡ y
+    same x y e = cc
+
+pub small_none : {S E U : Type 0} (name : List ℕ) (m n : IndexMap (Vec ℕ) (Option ℕ) S) (r : Result U E)
+    → ((q : List ℕ) (k : ℕ) → held m q ≡ Some (Some k) → k < 2 ^ 32) → OnOk r ((q : List ℕ) → held n q ≡ cond (bytes_eq name q) (Some none) (held m q)) → OnErr r ((q : List ℕ) → held n q ≡ held m q)
+    → (q : List ℕ) (k : ℕ) → held n q ≡ Some (Some k) → k < 2 ^ 32
+small_none name m n r = small_put name none m n r (λ k e. absurd cc)
+
+pub small_number : {S E U : Type 0} (name : List ℕ) (value : ℕ) (m n : IndexMap (Vec ℕ) ℕ S) (r : Result U E) → value < 2 ^ 32
+    → ((q : List ℕ) (k : ℕ) → held m q ≡ Some k → k < 2 ^ 32) → OnOk r ((q : List ℕ) → held n q ≡ cond (bytes_eq name q) (Some value) (held m q)) → OnErr r ((q : List ℕ) → held n q ≡ held m q)
+    → (q : List ℕ) (k : ℕ) → held n q ≡ Some k → k < 2 ^ 32
+small_number name value m n (Ok u) fits small ok err q k e = by_test (bytes_eq name q) (sym (ok q) ∙ e)
+  where
+    same : (x y : ℕ) → Some x ≡ Some y → x ≡ y
+    same x y e = cc
+
+    by_test : (b : Bool) → cond b (Some value) (held m q) ≡ Some k → k < 2 ^ 32
+    by_test true e = omega (arith, same value k e)
+    by_test false e = small q k e
+small_number name value m n (Err x) fits small ok err q k e = small q k (sym (err q) ∙ e)

@@ -38,14 +38,14 @@ with_push : (out : List ℕ) (byte : ℕ) (f : Found (List ℕ)) → with_bytes 
 with_push [] byte f = refl
 with_push (b ∷ out) byte f = ap (with_byte b) (with_push out byte f)
 
-neq-eqb : (a b : ℕ) → a ≢ b → eqb a b ≡ false
+pub neq-eqb : (a b : ℕ) → a ≢ b → eqb a b ≡ false
 neq-eqb a b other = by_test (eqb a b) refl
   where
     by_test : (t : Bool) → eqb a b ≡ t → t ≡ false
     by_test true is = absurd (other (eqb-true a b is))
     by_test false is = refl
 
-nothing : (l : List ℕ) → length l ≡ 0 → l ≡ []
+pub nothing : (l : List ℕ) → length l ≡ 0 → l ≡ []
 nothing [] e = refl
 nothing (x ∷ l) e = absurd (omega (arith, e))
 

@@ -1,5 +1,5 @@
 -- How the parts of DC's elements are seen.
-use Rattle.std.specs.Prelude.{ℕ, List, [], ◌∷◌}
+use Rattle.std.specs.Prelude.{◌≤◌, ℕ, List, [], ◌∷◌}
 use Rattle.orca_meaning.specs.Token.{Found}
 use Rattle.asm_meaning.specs.Elements as meaning
 use Rattle.orca_asm.specs.declared.element.ElementKind.{ElementKind}
@@ -17,3 +17,12 @@ element_kind WeakReferences = meaning.WeakReferences
 abbrev pub with_bytes : List ℕ → Found (List ℕ) → Found (List ℕ)
 with_bytes [] found = found
 with_bytes (byte ∷ bytes) found = meaning.with_byte byte (with_bytes bytes found)
+
+-- the numbers of I and A have at most four bytes
+abbrev pub HasWidth : ElementKind → Type 0
+HasWidth (Number width) = width ≤ 4
+HasWidth Hexadecimal = Unit {0}
+HasWidth Binary = Unit {0}
+HasWidth Characters = Unit {0}
+HasWidth References = Unit {0}
+HasWidth WeakReferences = Unit {0}

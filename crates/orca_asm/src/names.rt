@@ -1,10 +1,7 @@
 //! The names that a segment defines, and the constants from outside segments.
 
-ghost use Rattle.std.specs.Prelude.{◌≡◌, [], List, ℕ, length, bytes_eq, Some, None, IfOk, OnOk, MatchOption, is_some, option_copied, if◌then◌else◌};
-ghost use Rattle.macro_meaning.specs.Symbol.{with_name};
-ghost use Rattle.asm_meaning.specs.State.{no_names, no_constants};
+ghost use Rattle.std.specs.Prelude.{◌≡◌, ◌<◌, ◌^◌, List, ℕ, Some};
 ghost use Rattle.orca_asm.specs.Held.{held};
-ghost use Rattle.orca_asm.specs.NamesView.{names_of, outside_of, constants, value_in_names};
 
 use crate::held::{look, put};
 use indexmap::IndexMap;
@@ -14,12 +11,14 @@ use std::alloc::{AllocError, Global};
 #[derive(Drop)]
 pub(crate) struct Names {
     pub(crate) map: IndexMap<Vec<u8>, Option<u32>>,
+    ghost small: { (name : List ℕ) (n : ℕ) → held map name ≡ Some (Some n) → n < 2 ^ 32 },
 }
 
 /// The constants from outside segments.
 #[derive(Drop)]
 pub(crate) struct Outside {
     pub(crate) map: IndexMap<Vec<u8>, u32>,
+    ghost small: { (name : List ℕ) (n : ℕ) → held map name ≡ Some n → n < 2 ^ 32 },
 }
 
 /// The constants that are known at a line.
@@ -31,6 +30,12 @@ pub(crate) struct Known<'a> {
 }
 
 impl Names {
+    ghost use Rattle.std.specs.Prelude.{◌≡◌, [], length, bytes_eq, None, IfOk, OnOk, MatchOption, is_some, option_copied};
+    ghost use Rattle.macro_meaning.specs.Symbol.{with_name};
+    ghost use Rattle.asm_meaning.specs.State.{no_names, no_constants};
+    ghost use Rattle.asm_meaning.specs.AmountLaws.{AreSmall};
+    ghost use Rattle.orca_asm.specs.NamesView.{names_of, outside_of, constants, value_in_names};
+
     /// None.
     #[tactic(auto, using(crate::proofs::Maps::no_names_held))]
     pub(crate) fn new(alloc: Global) -> Names
@@ -51,6 +56,20 @@ impl Names {
         }
     }
 
+    /// One more name, with a value.
+    fn set_number(&mut self, alloc: Global, name: &[u8], n: u32) -> Result<(), AllocError>
+        ensures { OnOk result (names_of self.new ≡ with_name name.now (Some n) (names_of self.old)) }
+    {
+        put(alloc, &mut self.map, name, Some(n))
+    }
+
+    /// One more name, without a value.
+    fn set_open(&mut self, alloc: Global, name: &[u8]) -> Result<(), AllocError>
+        ensures { OnOk result (names_of self.new ≡ with_name name.now None (names_of self.old)) }
+    {
+        put(alloc, &mut self.map, name, None)
+    }
+
     /// One more name.
     pub(crate) fn set(
         &mut self,
@@ -60,11 +79,20 @@ impl Names {
     ) -> Result<(), AllocError>
         ensures { OnOk result (names_of self.new ≡ with_name name.now value (names_of self.old)) }
     {
-        put(alloc, &mut self.map, name, value)
+        match value {
+            Some(n) => self.set_number(alloc, name, n),
+            None => self.set_open(alloc, name),
+        }
     }
 }
 
 impl Outside {
+    ghost use Rattle.std.specs.Prelude.{◌≡◌, [], length, bytes_eq, None, IfOk, OnOk, MatchOption, is_some, option_copied};
+    ghost use Rattle.macro_meaning.specs.Symbol.{with_name};
+    ghost use Rattle.asm_meaning.specs.State.{no_names, no_constants};
+    ghost use Rattle.asm_meaning.specs.AmountLaws.{AreSmall};
+    ghost use Rattle.orca_asm.specs.NamesView.{names_of, outside_of, constants, value_in_names};
+
     /// None.
     #[tactic(auto, using(crate::proofs::Maps::no_constants_held))]
     pub(crate) fn new(alloc: Global) -> Outside
@@ -93,25 +121,37 @@ impl Outside {
     }
 }
 
-/// The value of a name in the open segment.
-fn value_in(names: Option<&Names>, name: &[u8]) -> Option<u32>
-    ensures { result ≡ value_in_names (option_copied names.entry) name.now }
-{
-    match names {
-        Some(found) => match found.get(name) {
-            Some(value) => value,
-            None => None,
-        },
-        None => None,
-    }
-}
-
 impl<'a> Known<'a> {
+    ghost use Rattle.std.specs.Prelude.{◌≡◌, [], length, bytes_eq, None, IfOk, OnOk, MatchOption, is_some, option_copied};
+    ghost use Rattle.macro_meaning.specs.Symbol.{with_name};
+    ghost use Rattle.asm_meaning.specs.State.{no_names, no_constants};
+    ghost use Rattle.asm_meaning.specs.AmountLaws.{AreSmall};
+    ghost use Rattle.orca_asm.specs.NamesView.{names_of, outside_of, constants, value_in_names};
+
+    /// The value of a name in the open segment.
+    fn inside(self, name: &[u8]) -> Option<u32>
+        ensures { result ≡ value_in_names (option_copied self.entry.names) name.now }
+    {
+        match self.names {
+            Some(found) => match found.get(name) {
+                Some(value) => value,
+                None => None,
+            },
+            None => None,
+        }
+    }
+
+    /// Their values have 32 bits.
+    #[tactic(auto, using(crate::proofs::Small::known_small))]
+    pub(crate) fn know_small(self)
+        ensures { AreSmall (constants self.entry) }
+    {}
+
     /// The value of a name: in the segment, and else outside.
     pub(crate) fn value(self, name: &[u8]) -> Option<u32>
         ensures { result ≡ constants self.entry name.now }
     {
-        match value_in(self.names, name) {
+        match self.inside(name) {
             Some(value) => Some(value),
             None => self.outside.get(name),
         }

@@ -95,3 +95,13 @@ pub(crate) fn bytes_of(alloc: Global, opcode: u8, width: u8, n: u32) -> Result<V
     put_number(&mut out, width, n)?;
     Ok(out)
 }
+
+/// The lowest bytes of a number, so many.
+pub(crate) fn number_bytes(alloc: Global, width: u8, n: u32) -> Result<Vec<u8>, AllocError>
+    requires { width ≤ 4 }
+    ensures { IfOk result (λ v. v.items ≡ little_bytes width n) }
+{
+    let mut out = Vec::with_capacity(alloc, 4)?;
+    put_number(&mut out, width, n)?;
+    Ok(out)
+}

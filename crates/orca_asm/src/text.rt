@@ -10,7 +10,7 @@ use omf_records::{Rec, put_record};
 use std::alloc::{AllocError, Global};
 
 /// The most bytes that a file has.
-const MAX_FILE: usize = 16_777_216;
+pub(crate) const MAX_FILE: usize = 16_777_216;
 
 /// Bytes, which are kept as long as they are no more than a file may have.
 #[derive(Debug, Drop)]
@@ -51,5 +51,13 @@ impl Text {
             return Ok(());
         }
         Ok(())
+    }
+
+    /// Keeps nothing any more: there are more bytes than a file may have.
+    pub(crate) fn give_up(&mut self)
+        ensures { kept_text self.new ≡ None }
+    {
+        self.bytes.clear();
+        self.long = true;
     }
 }

@@ -4,8 +4,7 @@ use Rattle.orca_asm.specs.Held.{held}
 use Rattle.orca_asm.proofs.Maps.{updated}
 use Rattle.orca_asm.proofs.held.put.Goals as goal
 
-pub returns-in-Ok : goal.returns-in-Ok
-returns-in-Ok g c = record {
-  ok = λ q. subst (λ (b : List ℕ). held c.insert.new.self q ≡ cond (bytes_eq b q) (Some c.args.value) (held c.args.map.now q)) c.in_ok-key.ensures.items
-      (updated c.in_ok-key.key.items c.args.map.now c.insert.new.self (Some c.args.value) c.in-Ok.ensures.updates q);
-}
+pub returns-in-Ok-clause-ok : goal.returns-in-Ok-clause-ok
+returns-in-Ok-clause-ok g c =
+    λ q. subst (λ (b : List ℕ). held c.insert.new.self q ≡ cond (bytes_eq b q) (Some c.args.value) (held c.args.map.now q)) c.in_ok-key.ensures.items
+    (updated c.in_ok-key.key.items c.args.map.now c.insert.new.self (Some c.args.value) c.in-Ok.ensures.updates q)

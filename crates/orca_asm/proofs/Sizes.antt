@@ -1,0 +1,134 @@
+-- How many cells statements give.
+use Rattle.std.proofs.Common.{◌≡◌, ℕ, zero, suc, ◌+◌, ◌*◌, ◌^◌, ◌<◌, ◌≤◌, min, Bool, true, false, cond, leb, List, [], ◌∷◌, ◌++◌, length, map, refl, sym, ap, ◌∙◌, arith}
+use Rattle.std.proofs.Math.Nat.{mul-le-mul_left}
+use Rattle.std.proofs.lemmas.Bool.{leb-true, leb-false}
+use Rattle.std.proofs.lemmas.List.{map-append, length-append}
+use Rattle.std.proofs.lemmas.List.Concat.{flat_map-cons}
+use Rattle.omf_format.specs.Record as record_
+use Rattle.omf_format.specs.Record.{Record, Const, LongConst}
+use Rattle.asm_meaning.specs.PieceLaws.{place_behind-append}
+use Rattle.asm_meaning.specs.Pieces as meaning
+use Rattle.asm_meaning.specs.Pieces.{constant_records, records_behind, copies, place_behind, length_at}
+use Rattle.orca_asm.specs.declared.given.Given.{Given}
+use Rattle.orca_asm.specs.declared.given.Part.{Part}
+use Rattle.orca_asm.specs.declared.piece.Piece.{Piece}
+use Rattle.orca_asm.specs.declared.piece.Piece.TheVariants.{Bytes, Formula, Strong}
+use Rattle.orca_asm.specs.GivenView.{part_pieces, all_pieces, given_records}
+use Rattle.orca_asm.specs.PieceView.{piece}
+use Rattle.orca_asm.specs.PutView.{pieces_size, parts_size}
+
+place_constant : (at : ℕ) (bytes : List ℕ) → place_behind at (constant_records bytes) ≡ at + length bytes
+unfolding place_behind
+place_constant at [] = omega arith
+place_constant at (byte ∷ bytes) = by_size (leb (length (byte ∷ bytes)) 223)
+  where
+    by_size : (b : Bool) → place_behind at (cond b (Const (byte ∷ bytes)) (LongConst (byte ∷ bytes)) ∷ []) ≡ at + length (byte ∷ bytes)
+    by_size true = refl
+    by_size false = refl
+
+place_pieces : (at : ℕ) (bytes : List ℕ) (l : List Piece) → place_behind at (records_behind bytes (map piece l)) ≡ at + length bytes + pieces_size l
+unfolding place_behind records_behind
+place_pieces at bytes [] = omega (arith, place_constant at bytes)
+place_pieces at bytes (Bytes more ∷ l) = omega (arith, place_pieces at (bytes ++ more.items) l, length-append bytes more.items)
+place_pieces at bytes (Formula code count n expr ∷ l) =
+    let front = place_constant at bytes in
+    let rest = place_pieces (place_behind at (constant_records bytes) + count) [] l in
+    let both = place_behind-append at (constant_records bytes) (record_.Formula code count n expr.items ∷ records_behind [] (map piece l)) in
+    omega (arith, front, rest, both)
+place_pieces at bytes (Strong name ∷ l) =
+    let front = place_constant at bytes in
+    let rest = place_pieces (place_behind at (constant_records bytes) + 0) [] l in
+    let both = place_behind-append at (constant_records bytes) (record_.Strong name ∷ records_behind [] (map piece l)) in
+    omega (arith, front, rest, both)
+
+-- the same over the pieces as they are kept
+kept_copies : ℕ → List Piece → List Piece
+kept_copies zero l = []
+kept_copies (suc n) l = l ++ kept_copies n l
+
+kept_pieces : List Part → List Piece
+kept_pieces [] = []
+kept_pieces (p ∷ parts) = kept_copies p.count p.pieces.items ++ kept_pieces parts
+
+copies_are : (n : ℕ) (l : List Piece) → copies n (map piece l) ≡ map piece (kept_copies n l)
+unfolding kept_copies
+copies_are zero l = refl
+copies_are (suc n) l = ap (λ (x : List meaning.Piece). map piece l ++ x) (copies_are n l) ∙ sym (map-append piece l (kept_copies n l))
+
+pieces_are : (parts : List Part) → all_pieces parts ≡ map piece (kept_pieces parts)
+unfolding kept_pieces
+pieces_are [] = refl
+pieces_are (p ∷ parts) =
+    flat_map-cons part_pieces p parts ∙ ap (λ (x : List meaning.Piece). x ++ all_pieces parts) (copies_are p.count p.pieces.items)
+    ∙ ap (λ (x : List meaning.Piece). map piece (kept_copies p.count p.pieces.items) ++ x) (pieces_are parts) ∙ sym (map-append piece (kept_copies p.count p.pieces.items) (kept_pieces parts))
+
+size_append : (a b : List Piece) → pieces_size (a ++ b) ≡ pieces_size a + pieces_size b
+size_append [] b = omega arith
+size_append (p ∷ a) b = omega (arith, size_append a b)
+
+next_product : (n s : ℕ) → suc n * s ≡ s + n * s
+next_product n s = omega arith
+
+size_copies : (n : ℕ) (l : List Piece) → pieces_size (kept_copies n l) ≡ n * pieces_size l
+unfolding kept_copies
+size_copies zero l = omega arith
+size_copies (suc n) l = size_append l (kept_copies n l) ∙ ap (λ (k : ℕ). pieces_size l + k) (size_copies n l) ∙ sym (next_product n (pieces_size l))
+
+size_parts : (parts : List Part) → pieces_size (kept_pieces parts) ≡ parts_size parts
+unfolding kept_pieces
+size_parts [] = refl
+size_parts (p ∷ parts) = omega (arith, size_append (kept_copies p.count p.pieces.items) (kept_pieces parts), size_copies p.count p.pieces.items, size_parts parts)
+
+length_is : (at : ℕ) (parts : List Part) → length_at at (records_behind [] (all_pieces parts)) ≡ parts_size parts
+unfolding length_at
+length_is at parts =
+    let place : place_behind at (records_behind [] (all_pieces parts)) ≡ at + 0 + pieces_size (kept_pieces parts) =
+    ap (λ (l : List meaning.Piece). place_behind at (records_behind [] l)) (pieces_are parts) ∙ place_pieces at [] (kept_pieces parts) in
+    omega (arith, place, size_parts parts)
+
+pub cells_are : (at n : ℕ) (g : Given) (parts : List Part) → n ≡ min (parts_size parts) 0x1000000 → parts ≡ g.parts.items → n ≡ min (length_at at (given_records g)) 0x1000000
+cells_are at n g parts is same = is ∙ ap (λ (l : List Part). min (parts_size l) 0x1000000) same ∙ ap (λ (k : ℕ). min k 0x1000000) (sym (length_is at g.parts.items))
+
+-- ---- counting up to a limit
+
+pub product_fits : (n each : ℕ) → n < 2 ^ 32 → each ≤ 0x1000000 → n * each < 2 ^ 64
+product_fits n each small few = let most : n * each ≤ n * 0x1000000 = mul-le-mul_left n few in omega (arith, most, small)
+
+pub product_small : (n each size all : ℕ) → each ≡ min size 0x1000000 → all ≡ n * each → all < 0x1000000 → all ≡ min (n * size) 0x1000000
+product_small zero each size all e is less = omega (arith, e, is, less)
+product_small (suc n) each size all e is less = by_order (leb size 0x1000000) refl
+  where
+    by_order : (b : Bool) → leb size 0x1000000 ≡ b → all ≡ min (suc n * size) 0x1000000
+    by_order true few =
+        let same : each ≡ size = omega (arith, e, leb-true size 0x1000000 few) in
+        let product : all ≡ suc n * size = is ∙ ap (λ (k : ℕ). suc n * k) same in
+        omega (arith, product, less)
+    by_order false many =
+        let most : each ≡ 0x1000000 = omega (arith, e, leb-false size 0x1000000 many) in
+        let product : all ≡ suc n * 0x1000000 = is ∙ ap (λ (k : ℕ). suc n * k) most in
+        absurd (omega (arith, product, less))
+
+pub product_large : (n each size all : ℕ) → each ≡ min size 0x1000000 → all ≡ n * each → 0x1000000 ≤ all → 0x1000000 ≡ min (n * size) 0x1000000
+product_large n each size all e is more =
+    let less : each ≤ size = omega (arith, e) in
+    let most : n * each ≤ n * size = mul-le-mul_left n less in
+    omega (arith, most, is, more)
+
+-- so many cells were counted, and so many are left
+pub record SumLeft (total left all : ℕ) : Type 0 where
+  pub sum : min (total + left) 0x1000000 ≡ min all 0x1000000
+  pub few : total ≤ 0x1000000
+
+pub sum_starts : (n : ℕ) → SumLeft 0 n n
+sum_starts n = record { sum = omega arith; few = omega arith }
+
+pub sum_more : (total size rest left all one now : ℕ) → SumLeft total left all → left ≡ size + rest → one ≡ min size 0x1000000 → now ≡ min (total + one) 0x1000000 → SumLeft now rest all
+sum_more total size rest left all one now s parts one_is is = record { sum = omega (arith, s.sum, parts, one_is, is); few = omega (arith, is) }
+
+pub pieces_end : (total all : ℕ) (left : List Piece) → SumLeft total (pieces_size left) all → length left ≡ 0 → total ≡ min all 0x1000000
+pieces_end total all [] s none = omega (arith, s.sum, s.few)
+pieces_end total all (p ∷ left) s none = absurd (omega (arith, none))
+
+pub parts_end : (total all : ℕ) (left : List Part) → SumLeft total (parts_size left) all → length left ≡ 0 → total ≡ min all 0x1000000
+parts_end total all [] s none = omega (arith, s.sum, s.few)
+parts_end total all (p ∷ left) s none = absurd (omega (arith, none))

@@ -1,0 +1,167 @@
+//! Statements of instructions and DC, with their labels (GS/OS Reference, appendix F).
+
+ghost use Rattle.std.specs.Prelude.{◌≡◌, ◌≤◌, [], List, ℕ, length, Some, IfOk, OnOk};
+ghost use Rattle.orca_meaning.specs.Line.{Line, LiesIn};
+ghost use Rattle.orca_text.specs.OperandView.{line_mnemonic, line_operand};
+ghost use Rattle.asm_meaning.specs.declared.directives.Operation.TheVariants.{Instruct, Direct};
+ghost use Rattle.asm_meaning.specs.declared.directives.Directive.TheVariants.{Constants};
+ghost use Rattle.asm_meaning.specs.Sound.{IsLabelText};
+ghost use Rattle.asm_meaning.specs.State.{State};
+ghost use Rattle.orca_asm.specs.GivenView.{given_pieces};
+ghost use Rattle.orca_asm.specs.MarkView.{giving, IsPlainAnswer};
+ghost use Rattle.orca_asm.specs.StateView.{ShowsState, IsShortOption, IsLeft, Leaves};
+
+use crate::given::{Given, labelled, put_marked};
+use crate::kept::Kept;
+use crate::segment::Open;
+use crate::statement::{constants_given, instruction_given};
+use asm_meaning::AsmCause;
+use omf_base::Name;
+use orca_text::{Mnemonic, SourceLine};
+use std::alloc::{AllocError, Global};
+
+/// The cells that no segment may have.
+const TOO_MANY: u32 = 0x100_0000;
+
+impl Open {
+    ghost use Rattle.std.specs.Prelude.{◌<◌, ◌^◌, min};
+    ghost use Rattle.asm_meaning.specs.Pieces.{length_at};
+    ghost use Rattle.asm_meaning.specs.PieceLaws.{ArePlainPieces};
+    ghost use Rattle.asm_meaning.specs.State.{Segment, marked};
+    ghost use Rattle.orca_asm.specs.GivenView.{given_records};
+    ghost use Rattle.orca_asm.specs.StateView.{ShowsSegment};
+
+    /// The records of a statement with its label, which give so many cells.
+    fn mark_given(
+        &mut self,
+        alloc: Global,
+        pending: &mut Vec<u8>,
+        label: &Name,
+        form: u8,
+        given: &Given,
+        size: u32,
+    ) -> Result<(), AllocError>
+        requires label { IsLabelText label.now }
+        requires plain { ArePlainPieces (given_pieces given.now) }
+        requires size { (at : ℕ) → size ≡ length_at at (given_records given.now) }
+        requires few { size < 0x1000000 }
+        requires short { self.old.body.cells ≤ 0xFFFFFF }
+        requires none { pending.old.items ≡ [] }
+        ensures segment { OnOk result ((s : Segment) → ShowsSegment s self.old → ShowsSegment (marked label.now form (given_records given.now) s) self.new) }
+        ensures none { OnOk result (pending.new.items ≡ []) }
+    {
+        self.define(alloc, label.bytes(), None)?;
+        put_marked(&mut self.body.text, pending, label, form, given)?;
+        self.body.cells += u64::from(size);
+        Ok(())
+    }
+}
+
+impl Kept {
+    ghost use Rattle.asm_meaning.specs.PieceLaws.{ArePlainPieces};
+    ghost use Rattle.asm_meaning.specs.State.{in_segment, marked};
+    ghost use Rattle.orca_asm.specs.GivenView.{given_records};
+    ghost use Rattle.std.specs.Prelude.{Ok};
+
+    /// A statement with its label. A segment that would have 16,777,216 cells or more is too long.
+    fn mark_given(
+        &mut self,
+        alloc: Global,
+        pending: &mut Vec<u8>,
+        label: &Name,
+        form: u8,
+        given: &Given,
+    ) -> Result<Result<(), AsmCause>, AllocError>
+        requires label { IsLabelText label.now }
+        requires plain { ArePlainPieces (given_pieces given.now) }
+        requires short { IsShortOption self.old.segment }
+        requires none { pending.old.items ≡ [] }
+        ensures left { IfOk result (λ done. (state : State) → ShowsState state self.old → Leaves done self.new (Ok (in_segment (marked label.now form (given_records given.now)) state))) }
+        ensures none { OnOk result (pending.new.items ≡ []) }
+    {
+        let size = given.cells();
+        if let Some(open) = &mut self.segment {
+            if size >= TOO_MANY {
+                return Ok(Err(AsmCause::SegmentTooLong));
+            }
+            open.mark_given(alloc, pending, label, form, given, size)?;
+            return Ok(Ok(()));
+        }
+        Ok(Ok(()))
+    }
+}
+
+/// A label fits a record.
+fn know_label(label: &Name)
+    ensures { IsLabelText label.now }
+{
+    let _bytes = label.bytes();
+}
+
+/// A statement that gives pieces, with its label.
+fn give_statement(
+    alloc: Global,
+    kept: &mut Kept,
+    pending: &mut Vec<u8>,
+    form: u8,
+    label: Result<Name, AsmCause>,
+    given: Result<Given, AsmCause>,
+) -> Result<Result<(), AsmCause>, AllocError>
+    requires plain { IsPlainAnswer given }
+    requires short { IsShortOption kept.old.segment }
+    requires none { pending.old.items ≡ [] }
+    ensures left { IfOk result (λ done. (state : State) → ShowsState state kept.old → Leaves done kept.new (giving state form label given)) }
+    ensures none { OnOk result (pending.new.items ≡ []) }
+{
+    match labelled(label, given) {
+        Ok((name, given)) => {
+            know_label(&name);
+            kept.mark_given(alloc, pending, &name, form, &given)
+        }
+        Err(cause) => Ok(Err(cause)),
+    }
+}
+
+/// An instruction.
+pub(crate) fn do_instruct(
+    alloc: Global,
+    kept: &mut Kept,
+    pending: &mut Vec<u8>,
+    mnemonic: Mnemonic,
+    label: Result<Name, AsmCause>,
+    line: &SourceLine,
+) -> Result<Result<(), AsmCause>, AllocError>
+    requires operation { LiesIn line.now.text line.now.operation }
+    requires operand { LiesIn line.now.text line.now.operand }
+    requires mnemonic { line_mnemonic line.now ≡ Some mnemonic }
+    requires text { length (line_operand line.now) ≤ 255 }
+    requires short { IsShortOption kept.old.segment }
+    requires none { pending.old.items ≡ [] }
+    ensures left { IfOk result (λ done. (state : State) (l : Line) → ShowsState state kept.old → IsLeft state l (Instruct mnemonic) label (line_operand line.now) done kept.new) }
+    ensures none { OnOk result (pending.new.items ≡ []) }
+{
+    let known = kept.known();
+    known.know_small();
+    let given = instruction_given(alloc, known, kept.widths, mnemonic, line)?;
+    give_statement(alloc, kept, pending, 0x4D, label, given)
+}
+
+/// DC.
+pub(crate) fn do_constants(
+    alloc: Global,
+    kept: &mut Kept,
+    pending: &mut Vec<u8>,
+    label: Result<Name, AsmCause>,
+    text: &[u8],
+) -> Result<Result<(), AsmCause>, AllocError>
+    requires text { length text.now ≤ 255 }
+    requires short { IsShortOption kept.old.segment }
+    requires none { pending.old.items ≡ [] }
+    ensures left { IfOk result (λ done. (state : State) (l : Line) → ShowsState state kept.old → IsLeft state l (Direct Constants) label text.now done kept.new) }
+    ensures none { OnOk result (pending.new.items ≡ []) }
+{
+    let known = kept.known();
+    known.know_small();
+    let given = constants_given(alloc, known, kept.msb, text)?;
+    give_statement(alloc, kept, pending, 0x4E, label, given)
+}

@@ -1,0 +1,187 @@
+//! The segment that is open (ORCA/M reference manual, "Assembler directives"; GS/OS Reference, appendix F).
+
+ghost use Rattle.std.specs.Prelude.{◌≡◌, true};
+ghost use Rattle.omf_format.specs.Header.{is_listed, form_of};
+
+use crate::body::Body;
+use crate::gap::padding;
+use crate::names::Names;
+use asm_meaning::Class;
+use omf_base::Name;
+use omf_records::Rec;
+use std::alloc::{AllocError, Global};
+
+/// A segment that hasn't ended.
+#[derive(Drop)]
+pub(crate) struct Open {
+    /// The file of the line that begins it, and that line's number.
+    pub(crate) file: u32,
+    pub(crate) line: u32,
+    pub(crate) class: Class,
+    /// KIND, whose type is one that is listed.
+    pub(crate) kind: u16,
+    pub(crate) org: u32,
+    pub(crate) align: u32,
+    /// SEGNUM.
+    pub(crate) number: u16,
+    pub(crate) load_name: [u8; 10],
+    pub(crate) name: Name,
+    /// The names that it defines.
+    pub(crate) names: Names,
+    pub(crate) body: Body,
+    ghost listed: { is_listed (form_of kind) ≡ true },
+}
+
+/// What a directive gives besides the LOCAL of its label.
+#[derive(Clone, Copy)]
+pub(crate) enum Content<'a> {
+    /// Nothing.
+    Nothing,
+    /// END.
+    End,
+    /// USING.
+    Using(&'a [u8]),
+    /// DS.
+    Space(u32),
+    /// ALIGN.
+    Align(u32),
+    /// ORG.
+    Org(u32),
+}
+
+impl Open {
+    ghost use Rattle.std.specs.Prelude.{◌≡◌, ◌+◌, ◌-◌, ◌≤◌, ◌<◌, ◌^◌, ◌++◌, ◌∷◌, [], List, ℕ, length, OnOk};
+    ghost use Rattle.omf_format.specs.Field.{written_layout};
+    ghost use Rattle.omf_format.specs.Record.{Record, IsRecord};
+    ghost use Rattle.omf_records.specs.View.{view};
+    ghost use Rattle.link_meaning.specs.Sizes.{size_at};
+    ghost use Rattle.asm_meaning.specs.State.{Segment, local_of, grown, marked};
+    ghost use Rattle.orca_asm.specs.StateView.{ShowsSegment, named, with_records, labelled};
+    ghost use Rattle.orca_asm.specs.ContentView.{content_records, IsContent};
+
+    /// One more name, where the statement has a label.
+    pub(crate) fn define(
+        &mut self,
+        alloc: Global,
+        label: &[u8],
+        value: Option<u32>,
+    ) -> Result<(), AllocError>
+        ensures segment { OnOk result ((s : Segment) → ShowsSegment s self.old → ShowsSegment (named label.now value s) self.new) }
+        ensures cells { self.new.body.cells ≡ self.old.body.cells }
+    {
+        if label.is_empty() {
+            return Ok(());
+        }
+        self.names.set(alloc, label, value)
+    }
+
+    /// One more record, which gives so many cells.
+    pub(crate) fn put(&mut self, rec: &Rec, size: u64) -> Result<(), AllocError>
+        requires record { IsRecord written_layout (view rec.now) }
+        requires size { size ≡ size_at self.old.body.cells (view rec.now) }
+        requires room { self.old.body.cells + size < 2 ^ 64 }
+        ensures segment { OnOk result ((s : Segment) → ShowsSegment s self.old → ShowsSegment (with_records (view rec.now ∷ []) s) self.new) }
+        ensures cells { OnOk result (self.new.body.cells ≡ self.old.body.cells + size) }
+    {
+        self.body.put(rec, size)
+    }
+
+    /// A name with a record that gives no cells.
+    pub(crate) fn name_record(
+        &mut self,
+        alloc: Global,
+        label: &[u8],
+        value: Option<u32>,
+        rec: &Rec,
+    ) -> Result<(), AllocError>
+        requires record { IsRecord written_layout (view rec.now) }
+        requires none { size_at self.old.body.cells (view rec.now) ≡ 0 }
+        requires short { self.old.body.cells ≤ 0xFFFFFF }
+        ensures segment { OnOk result ((s : Segment) → ShowsSegment s self.old → ShowsSegment (with_records (view rec.now ∷ []) (named label.now value s)) self.new) }
+    {
+        self.define(alloc, label, value)?;
+        self.put(rec, 0)
+    }
+
+    /// LOCAL of a label, where the statement has one: its length, as far as two bytes hold it, and its type.
+    pub(crate) fn put_local(&mut self, label: &[u8], form: u8, size: u64) -> Result<(), AllocError>
+        requires label { length label.now ≤ 255 }
+        requires short { self.old.body.cells ≤ 0xFFFFFF }
+        ensures segment { OnOk result ((s : Segment) → ShowsSegment s self.old → ShowsSegment (with_records (local_of label.now form size) s) self.new) }
+        ensures cells { OnOk result (self.new.body.cells ≡ self.old.body.cells) }
+    {
+        if label.is_empty() {
+            return Ok(());
+        }
+        let local = Rec::Label {
+            global: false,
+            name: label,
+            length: size.min(0xFFFF) as u16,
+            form,
+            private: 0,
+        };
+        self.put(&local, 0)
+    }
+
+    /// A label, with its LOCAL.
+    pub(crate) fn mark(
+        &mut self,
+        alloc: Global,
+        label: &[u8],
+        form: u8,
+        size: u64,
+    ) -> Result<(), AllocError>
+        requires label { length label.now ≤ 255 }
+        requires short { self.old.body.cells ≤ 0xFFFFFF }
+        ensures segment { OnOk result ((s : Segment) → ShowsSegment s self.old → ShowsSegment (labelled label.now form size s) self.new) }
+        ensures cells { OnOk result (self.new.body.cells ≡ self.old.body.cells) }
+    {
+        self.define(alloc, label, None)?;
+        self.put_local(label, form, size)
+    }
+
+    /// A directive with its label.
+    pub(crate) fn give(
+        &mut self,
+        alloc: Global,
+        label: &[u8],
+        content: Content<'_>,
+    ) -> Result<(), AllocError>
+        requires label { length label.now ≤ 255 }
+        requires content { IsContent content }
+        requires short { self.old.body.cells ≤ 0xFFFFFF }
+        ensures segment { OnOk result ((s : Segment) → ShowsSegment s self.old → ShowsSegment (marked label.now 0x4E (content_records content.entry) s) self.new) }
+    {
+        match content {
+            Content::Nothing => self.mark(alloc, label, 0x4E, 0),
+            Content::End => self.give_record(alloc, label, &Rec::End, 0),
+            Content::Using(name) => self.give_record(alloc, label, &Rec::Using { name }, 0),
+            Content::Space(n) => self.give_record(alloc, label, &Rec::Space { n }, u64::from(n)),
+            Content::Align(n) => {
+                let size = padding(n, self.body.cells);
+                self.give_record(alloc, label, &Rec::Align { n }, size)
+            }
+            Content::Org(n) => self.give_record(alloc, label, &Rec::Org { n }, u64::from(n)),
+        }
+    }
+
+    /// A record with the label of its statement.
+    pub(crate) fn give_record(
+        &mut self,
+        alloc: Global,
+        label: &[u8],
+        rec: &Rec,
+        size: u64,
+    ) -> Result<(), AllocError>
+        requires label { length label.now ≤ 255 }
+        requires short { self.old.body.cells ≤ 0xFFFFFF }
+        requires record { IsRecord written_layout (view rec.now) }
+        requires size { size ≡ size_at self.old.body.cells (view rec.now) }
+        requires room { self.old.body.cells + size < 2 ^ 64 }
+        ensures segment { OnOk result ((s : Segment) → ShowsSegment s self.old → ShowsSegment (marked label.now 0x4E (view rec.now ∷ []) s) self.new) }
+        ensures cells { OnOk result (self.new.body.cells ≡ self.old.body.cells + size) }
+    {
+        self.mark(alloc, label, 0x4E, size)?;
+        self.put(rec, size)
+    }
+}

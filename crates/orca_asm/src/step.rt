@@ -1,0 +1,202 @@
+//! What a line leaves for the lines behind it (ORCA/M reference manual, "The assembly language statement").
+
+ghost use Rattle.std.specs.Prelude.{◌≡◌, ◌≤◌, [], List, ℕ, length, true, false, Some, IfOk, OnOk};
+ghost use Rattle.orca_meaning.specs.Line.{Line, LiesIn, HaveFields, part};
+ghost use Rattle.orca_text.specs.OperandView.{line_operand};
+ghost use Rattle.orca_text.specs.View.{line};
+ghost use Rattle.asm_meaning.specs.declared.directives.Operation.TheVariants.{Direct};
+ghost use Rattle.asm_meaning.specs.declared.directives.Directive.TheVariants as directives;
+ghost use Rattle.asm_meaning.specs.Operations.{operation_of};
+ghost use Rattle.asm_meaning.specs.State.{State};
+ghost use Rattle.asm_meaning.specs.Statement.{needs_label, is_misplaced};
+ghost use Rattle.orca_asm.specs.DoneView.{IsSome};
+ghost use Rattle.orca_asm.specs.StateView.{ShowsState, IsShortOption, IsLeft};
+ghost use Rattle.orca_asm.specs.StepView.{Steps, IsPlacedAs};
+
+use crate::defined::label_of;
+use crate::directive::{entering, rest, turning};
+use crate::doing::{
+    do_align, do_begin, do_constant, do_end, do_equate, do_kind, do_org, do_space, do_using,
+};
+use crate::kept::Kept;
+use crate::label::{begins_segment, needs_segment};
+use crate::marked::{do_constants, do_instruct};
+use crate::operation::operation_of;
+use asm_meaning::{AsmCause, Directive, Operation};
+use omf_base::Name;
+use orca_text::SourceLine;
+use std::alloc::{AllocError, Global};
+
+/// EQU.
+fn do_equ(
+    alloc: Global,
+    kept: &mut Kept,
+    label: Result<Name, AsmCause>,
+    text: &[u8],
+) -> Result<Result<(), AsmCause>, AllocError>
+    requires text { length text.now ≤ 255 }
+    requires some { IsSome label }
+    requires short { IsShortOption kept.old.segment }
+    ensures { IfOk result (λ done. (state : State) (l : Line) → ShowsState state kept.old → IsLeft state l (Direct directives.Equ) label text.now done kept.new) }
+{
+    do_equate(alloc, kept, false, label, text)
+}
+
+/// ENTRY.
+fn do_entry(
+    alloc: Global,
+    kept: &mut Kept,
+    label: Result<Name, AsmCause>,
+) -> Result<Result<(), AsmCause>, AllocError>
+    requires some { IsSome label }
+    requires short { IsShortOption kept.old.segment }
+    ensures { IfOk result (λ done. (state : State) (l : Line) (text : List ℕ) → ShowsState state kept.old → IsLeft state l (Direct directives.Entry) label text done kept.new) }
+{
+    entering(alloc, kept, label)
+}
+
+/// GEQU.
+fn do_gequ(
+    alloc: Global,
+    kept: &mut Kept,
+    label: Result<Name, AsmCause>,
+    text: &[u8],
+) -> Result<Result<(), AsmCause>, AllocError>
+    requires text { length text.now ≤ 255 }
+    requires some { IsSome label }
+    requires short { IsShortOption kept.old.segment }
+    ensures { IfOk result (λ done. (state : State) (l : Line) → ShowsState state kept.old → IsLeft state l (Direct directives.Gequ) label text.now done kept.new) }
+{
+    if kept.is_open() {
+        return do_equate(alloc, kept, true, label, text);
+    }
+    do_constant(alloc, kept, label, text)
+}
+
+/// A directive that needs no label.
+fn do_unlabelled(
+    alloc: Global,
+    kept: &mut Kept,
+    pending: &mut Vec<u8>,
+    directive: Directive,
+    label: Result<Name, AsmCause>,
+    text: &[u8],
+) -> Result<Result<(), AsmCause>, AllocError>
+    requires unlabelled { needs_label (Direct directive) ≡ false }
+    requires text { length text.now ≤ 255 }
+    requires short { IsShortOption kept.old.segment }
+    requires none { pending.old.items ≡ [] }
+    ensures left { IfOk result (λ done. (state : State) (l : Line) → ShowsState state kept.old → IsLeft state l (Direct directive) label text.now done kept.new) }
+    ensures none { OnOk result (pending.new.items ≡ []) }
+{
+    match directive {
+        Directive::End => do_end(alloc, kept, label),
+        Directive::Using => do_using(alloc, kept, label, text),
+        Directive::Constants => do_constants(alloc, kept, pending, label, text),
+        Directive::Space => do_space(alloc, kept, label, text),
+        Directive::Align => do_align(alloc, kept, label, text),
+        Directive::Org => do_org(alloc, kept, label, text),
+        Directive::Kind => do_kind(alloc, kept, label, text),
+        Directive::Turn(switch) => turning(alloc, kept, switch, label, text),
+        Directive::Nothing => rest(alloc, kept, label),
+        Directive::Ignored => rest(alloc, kept, label),
+        Directive::Begin(_) | Directive::Entry | Directive::Equ | Directive::Gequ => unreachable!(),
+    }
+}
+
+/// What an operation leaves, before the segment's length is judged.
+fn do_operation(
+    alloc: Global,
+    kept: &mut Kept,
+    pending: &mut Vec<u8>,
+    operation: Operation,
+    label: Result<Name, AsmCause>,
+    of: &SourceLine,
+) -> Result<Result<(), AsmCause>, AllocError>
+    requires operation { LiesIn of.now.text of.now.operation }
+    requires operand { LiesIn of.now.text of.now.operand }
+    requires is { operation_of (part of.now.text of.now.operation) ≡ Some operation }
+    requires some { needs_label operation ≡ true → IsSome label }
+    requires short { IsShortOption kept.old.segment }
+    requires none { pending.old.items ≡ [] }
+    ensures left { IfOk result (λ done. (state : State) → ShowsState state kept.old → IsLeft state (line of.now) operation label (line_operand of.now) done kept.new) }
+    ensures none { OnOk result (pending.new.items ≡ []) }
+{
+    let text = of.part(of.operand);
+    match operation {
+        Operation::Instruct(mnemonic) => do_instruct(alloc, kept, pending, mnemonic, label, of),
+        Operation::Direct(Directive::Begin(class)) => {
+            do_begin(alloc, kept, of.file, of.line, class, label, text)
+        }
+        Operation::Direct(Directive::Entry) => do_entry(alloc, kept, label),
+        Operation::Direct(Directive::Equ) => do_equ(alloc, kept, label, text),
+        Operation::Direct(Directive::Gequ) => do_gequ(alloc, kept, label, text),
+        Operation::Direct(other) => do_unlabelled(alloc, kept, pending, other, label, text),
+    }
+}
+
+/// Whether a statement stands on the wrong side.
+fn is_misplaced(kept: &Kept, operation: Operation, label: &[u8], operand: &[u8]) -> bool
+    ensures { (state : State) → ShowsState state kept.now → result ≡ is_misplaced state.segment operation label.now operand.now }
+{
+    match &kept.segment {
+        Some(_) => begins_segment(operation),
+        None => needs_segment(operation, label, operand),
+    }
+}
+
+/// What an operation leaves, unless the segment is too long then.
+fn finish(
+    alloc: Global,
+    kept: &mut Kept,
+    pending: &mut Vec<u8>,
+    operation: Operation,
+    label: Result<Name, AsmCause>,
+    of: &SourceLine,
+) -> Result<Result<(), AsmCause>, AllocError>
+    requires operation { LiesIn of.now.text of.now.operation }
+    requires operand { LiesIn of.now.text of.now.operand }
+    requires is { operation_of (part of.now.text of.now.operation) ≡ Some operation }
+    requires some { needs_label operation ≡ true → IsSome label }
+    requires short { IsShortOption kept.old.segment }
+    requires none { pending.old.items ≡ [] }
+    ensures placed { IfOk result (λ done. (state : State) → ShowsState state kept.old → IsPlacedAs state (line of.now) operation label (line_operand of.now) done kept.new) }
+    ensures short { IfOk result (λ done. OnOk done (IsShortOption kept.new.segment)) }
+    ensures none { OnOk result (pending.new.items ≡ []) }
+{
+    let done = do_operation(alloc, kept, pending, operation, label, of)?;
+    match done {
+        Ok(()) => {
+            if kept.is_too_long() {
+                return Ok(Err(AsmCause::SegmentTooLong));
+            }
+            Ok(Ok(()))
+        }
+        Err(cause) => Ok(Err(cause)),
+    }
+}
+
+/// What a line leaves, or its first fault.
+pub(crate) fn step(
+    alloc: Global,
+    kept: &mut Kept,
+    pending: &mut Vec<u8>,
+    of: &SourceLine,
+) -> Result<Result<(), AsmCause>, AllocError>
+    requires fields { HaveFields of.now.text (line of.now).fields }
+    requires short { IsShortOption kept.old.segment }
+    requires none { pending.old.items ≡ [] }
+    ensures step { IfOk result (λ done. (state : State) → ShowsState state kept.old → Steps state (line of.now) done kept.new) }
+    ensures short { IfOk result (λ done. OnOk done (IsShortOption kept.new.segment)) }
+    ensures none { OnOk result (pending.new.items ≡ []) }
+{
+    let Some(operation) = operation_of(of.part(of.operation)) else {
+        return Ok(Err(AsmCause::UnknownOperation));
+    };
+    let text = of.part(of.label);
+    if is_misplaced(kept, operation, text, of.part(of.operand)) {
+        return Ok(Err(AsmCause::OutsideSegment));
+    }
+    let label = label_of(alloc, kept, operation, text)?;
+    finish(alloc, kept, pending, operation, label, of)
+}
