@@ -21,11 +21,11 @@ with_output least most (output ∷ inputs) = if is_path output && are_paths leas
 abbrev pub inputs_only : ℕ → ℕ → List (List ℕ) → Option (List (List ℕ))
 inputs_only least most inputs = if are_paths least most inputs then Some inputs else None
 
--- `link OUT OBJ`, `dump FILE`, `run SCRIPT`, `lib OUT OBJ..`; other words have no form
+-- `link OUT FILE..`, `dump FILE`, `run SCRIPT`, `lib OUT OBJ..`; other words have no form
 abbrev pub form_of : List (List ℕ) → Option Form
 form_of [] = None
 form_of (name ∷ words) =
-    if bytes_eq name (codes "link") then option_map (λ w. Link w.0 w.1) (with_output 1 1 words)
+    if bytes_eq name (codes "link") then option_map (λ w. Link w.0 w.1) (with_output 1 255 words)
     else (if bytes_eq name (codes "dump") then option_map Dump (inputs_only 1 1 words)
     else (if bytes_eq name (codes "run") then option_map Run (inputs_only 1 1 words)
     else (if bytes_eq name (codes "lib") then option_map (λ w. Lib w.0 w.1) (with_output 1 255 words) else None)))

@@ -1,7 +1,3 @@
-pub mod Content
-pub mod Members
-pub mod LoadFile
-pub mod Plain
 pub mod Words
 pub mod Form
 pub mod Lines
@@ -10,6 +6,7 @@ pub mod ScriptCauses
 pub mod Printing
 pub mod Made
 pub mod Making
+pub mod LinkCauses
 pub mod Link
 pub mod Dump
 pub mod LibCauses

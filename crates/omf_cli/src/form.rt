@@ -68,7 +68,7 @@ pub fn read_form(words: &[String]) -> Option<Form<'_>>
     let (name, words) = words.split_first()?;
     match name.as_str() {
         "link" => {
-            let (output, inputs) = with_output(1, 1, words)?;
+            let (output, inputs) = with_output(1, 255, words)?;
             Some(Form::Link { output, inputs })
         }
         "dump" => {

@@ -21,7 +21,8 @@ use sys_loader::Loader;
 /// Does what the words say over a store of files and a sink of text, and answers the status. `last` is to hold no loader. Where
 /// a script was run to its end it holds the loader that ran the commands, if there were any, and else none.
 ///
-/// `link OUT OBJ` links one plain object file. The input is read before anything is written. `dump FILE` prints a line
+/// `link OUT FILE..` links 1 to 255 files, objects and libraries, in this order. All are read, in order, before anything is
+/// written; a refusal tells the first fault with its cause, its name if it has one, and its place. `dump FILE` prints a line
 /// for each segment of a file, and one for each of its records. `run SCRIPT` runs a script of loader commands, which is read
 /// whole before, and prints a line for each. `lib OUT OBJ..` makes a library of 1 to 255 object files, whose paths are their
 /// names in it; all are read in order before anything is written. Other words print the usage line.
