@@ -6,3 +6,4 @@ pub mod Calls
 pub mod Lives
 pub mod Renewing
 pub mod Naming
+pub mod Activating

@@ -3,6 +3,8 @@
 
 mod answers;
 mod blocks;
+mod compare;
+mod dynamic;
 mod file;
 mod fill;
 mod head;
