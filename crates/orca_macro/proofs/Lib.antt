@@ -19,3 +19,4 @@ pub mod Texts
 pub mod Letters
 pub mod Shorts
 pub mod WholeName
+pub mod Plans

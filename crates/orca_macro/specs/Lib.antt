@@ -1,6 +1,7 @@
 pub mod Held
 pub mod View
 pub mod Piece
+pub mod Plan
 pub mod DefinitionView
 pub mod Calling
 pub mod Parts

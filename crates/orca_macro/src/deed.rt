@@ -9,6 +9,7 @@ ghost use Rattle.macro_meaning.specs.Pieces.{pieces, quoted, joined};
 ghost use Rattle.orca_macro.specs.View.{values, symbols_of, texts_of};
 ghost use Rattle.orca_macro.specs.DeedView.{deed, where_};
 ghost use Rattle.orca_macro.specs.Parts.{definition};
+ghost use Rattle.orca_macro.specs.Plan.{Fits, planned};
 ghost use Rattle.orca_meaning.specs.Line.{HaveFields, three_fields};
 ghost use Rattle.orca_meaning.specs.Characters.{folded};
 ghost use Rattle.macro_meaning.specs.Definition.{first_named};
@@ -19,6 +20,7 @@ use crate::call::{bound, names_count};
 use crate::condition::{condition, number};
 use crate::definitions::Definition;
 use crate::names::{is_operation, is_sequence, is_target, statement_of, symbol_name, target_name};
+use crate::plan::Plan;
 use crate::pieces::{Piece, joined, pieces, quoted, two_pieces};
 use crate::program::Program;
 use crate::substitution::{is_folded, is_plain, shown};
@@ -598,7 +600,7 @@ fn begins_dot(text: &[u8]) -> bool
 
 /// The line behind a sequence symbol in column 1.
 #[tactic(auto, unfolding(macro_meaning::specs::Deed::cut), using(crate::proofs::Both::cut_none))]
-fn cut(text: &[u8]) -> &[u8]
+pub(crate) fn cut(text: &[u8]) -> &[u8]
     requires { length text.now ≤ 255 }
     ensures value { result.now ≡ cut text.now }
     ensures bound { length result.now ≤ length text.now }
@@ -645,8 +647,44 @@ fn written(
     statement(alloc, at, rest)
 }
 
+/// What a line does by its plan, if that says it.
+fn planned(alloc: Global, plan: &Plan) -> Result<Option<Deed>, AllocError>
+    ensures { IfOk result (λ found. IfSome found (λ d. planned plan.now ≡ Some (deed d))) }
+{
+    match plan {
+        Plan::Rests => Ok(Some(Deed::Rests)),
+        Plan::Leaves => Ok(Some(Deed::Leaves)),
+        Plan::Goes(target) => {
+            let target = name(alloc, target.bytes())?;
+            Ok(Some(Deed::Goes(target)))
+        }
+        Plan::Open => Ok(None),
+    }
+}
+
 /// What a visited line does. The buffer takes its text, so that not each line takes memory anew.
+#[tactic(auto, using(crate::proofs::Plans::always))]
 pub(crate) fn deed_of(
+    alloc: Global,
+    at: Standing<'_>,
+    of: &SourceLine,
+    plan: Option<&Plan>,
+    buffer: &mut Vec<u8>,
+) -> Result<Deed, AllocError>
+    requires fields { HaveFields of.now.text (line of.now).fields }
+    requires plan { IfSome plan (λ p. Fits (line of.now) (planned p.now)) }
+    ensures { IfOk result (λ d. IsDeed (where_ at.entry) (line of.now) (deed d)) }
+{
+    if let Some(plan) = plan {
+        if let Some(found) = planned(alloc, plan)? {
+            return Ok(found);
+        }
+    }
+    read(alloc, at, of, buffer)
+}
+
+/// The same by its text.
+fn read(
     alloc: Global,
     at: Standing<'_>,
     of: &SourceLine,

@@ -12,6 +12,7 @@ mod held;
 mod model_line;
 mod names;
 mod pieces;
+mod plan;
 mod program;
 mod substitution;
 mod symbols;
