@@ -1,6 +1,7 @@
 // Whole files through readers and writers.
-ghost use Rattle.std.specs.Prelude.{◌≡◌, ◌⊎◌, ◌<◌, ◌≤◌, length, IfOk, IfErr, OnOk, IfSome};
-ghost use Rattle.std.specs.Io.KnownBytes.{Appends};
+ghost use Rattle.std.specs.Prelude.{◌≡◌, ◌⊎◌, ◌<◌, ◌≤◌, length, IfOk, IfErr, OnOk, IfSome, take};
+ghost use Rattle.std.specs.Io.{ReadsAtMost};
+ghost use Rattle.std.specs.Io.KnownBytes.{Appends, Consumes};
 ghost use Rattle.omf_io.specs.Files.{max_file};
 
 use crate::{MAX_FILE, ReadFault};
@@ -37,16 +38,42 @@ pub fn read_whole<R: Read + Drop>(alloc: Global, reader: R, told: u64) -> Result
 {
     // One byte more than there are leaves room to find the end.
     let room = told.min(MAX_FILE as u64) as usize + 1;
-    let mut bytes = Vec::with_capacity(alloc, room)?;
+    let mut bytes = vec![in alloc; 0; room]?;
     let mut front = reader.take(MAX_FILE as u64 + 1);
-    match front.read_to_end(&mut bytes) {
-        Ok(_) => {}
-        Err(error) => return Err(stream_fault(error)),
-    }
+    let filled = fill(&mut front, &mut bytes).map_err(stream_fault)?;
+    bytes.truncate(filled);
+    front.read_to_end(&mut bytes).map_err(stream_fault)?;
     if bytes.len() > MAX_FILE {
         return Err(ReadFault::TooLong);
     }
     Ok(bytes)
+}
+
+/// Reads into a buffer until it is full or a read gives nothing. Returns how many bytes it holds.
+fn fill<R: Read>(reader: &mut R, buffer: &mut [u8]) -> io::Result<usize>
+    ensures within { IfOk result (λ count. count ≤ length buffer.new) }
+    ensures bytes { IfOk result (λ count. Consumes (R.remaining reader.old) (R.remaining reader.new) (take count buffer.new)) }
+{
+    let mut filled = 0;
+    while filled < buffer.len() {
+        let count = read_piece(reader, &mut buffer[filled..])?;
+        if count == 0 {
+            break;
+        }
+        filled += count;
+    }
+    Ok(filled)
+}
+
+/// One read, which gives nothing where a signal interrupts it.
+fn read_piece<R: Read>(reader: &mut R, buffer: &mut [u8]) -> io::Result<usize>
+    ensures bound { ReadsAtMost result buffer.new }
+    ensures bytes { IfOk result (λ count. Consumes (R.remaining reader.old) (R.remaining reader.new) (take count buffer.new)) }
+{
+    match reader.read(buffer) {
+        Err(error) if error.kind() == ErrorKind::Interrupted => Ok(0),
+        read => read,
+    }
 }
 
 /// Writes all bytes: it is Ok only where the writer took each of them, in order.
