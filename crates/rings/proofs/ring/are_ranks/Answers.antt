@@ -1,0 +1,14 @@
+use Rattle.std.proofs.Common.{◌≡◌, ◌⊎◌, inl, inr, ◌<◌, ◌≤◌, length, ℕ, [], arith}
+use Rattle.std.proofs.lemmas.Bool.{cases_lt}
+use Rattle.rings.specs.Graphs.{row_at}
+use Rattle.rings.specs.Ranks.{Falls}
+use Rattle.rings.proofs.Lists.{at_none}
+use Rattle.rings.proofs.RingLaws.{none_outside}
+use Rattle.rings.proofs.ring.are_ranks.Goals as goal
+
+pub returns : goal.returns
+returns c = λ from. by_place from (cases_lt from c.vertices.vertex)
+  where
+    by_place : (from : ℕ) → (from < c.vertices.vertex) ⊎ (c.vertices.vertex ≤ from) → Falls c.args.edges.now c.args.ranks.now from
+    by_place from (inl lt) = c.vertices.invariant from lt
+    by_place from (inr le) = none_outside c.args.edges.now c.args.ranks.now from (at_none [] c.args.edges.now from (omega (arith, le, c.vertices-test.false, c.count.ensures)))
