@@ -1,3 +1,4 @@
+pub mod Coming
 pub mod FitLaws
 pub mod ContentLaws
 pub mod ImageLaws
@@ -6,3 +7,13 @@ pub mod FileLaws
 pub mod LoadLaws
 pub mod RecordLaws
 pub mod SlotLaws
+pub mod SeatLaws
+pub mod ValueLaws
+pub mod FileFacts
+pub mod EquateLaws
+pub mod LeadLaws
+pub mod LocatedLaws
+pub mod WalkLaws
+pub mod WalkedLaws
+pub mod CircularLaws
+pub mod EmitLaws

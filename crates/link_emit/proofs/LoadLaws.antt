@@ -60,6 +60,10 @@ length-headers_from : (list : List Member) (number : ℕ) (xs : List (List ℕ))
 length-headers_from list number [] = refl
 length-headers_from list number (x ∷ xs) = omega (arith, length-headers_from list (number + 1) xs)
 
+pub loads_size : (list : List Member) → length (load_headers list) ≡ length (load_names list)
+unfolding load_headers
+loads_size list = length-headers_from list 1 (load_names list)
+
 -- how many headers there are
 pub headers_size : (list : List Member) (headers : List Header) → map fields headers ≡ load_headers list → length headers ≡ length (load_names list)
 unfolding load_headers

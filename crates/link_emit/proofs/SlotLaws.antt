@@ -11,9 +11,10 @@ use Rattle.link_meaning.specs.Rings.{has_expr, is_equate}
 use Rattle.link_meaning.specs.LinkValues.{Told, told, place_value, found_value, if_ok, label_value}
 use Rattle.link_emit.specs.declared.slots.Slot.{Slot}
 use Rattle.link_emit.specs.declared.slots.Slot.TheVariants.{Open, Done, Failed}
-use Rattle.link_emit.specs.Slots.{answer_of, value_of, row_of, rows_of, AreSlots, AreOnce, IsFirstOf}
+use Rattle.link_emit.specs.Slots.{answer_of, value_of, row_of, rows_of, AreSlots, AreOnce}
+use Rattle.link_resolve.specs.Finding.{IsFirstOf}
 
-abbrev or_open : Option (Result Value ValueFault) → Result Value ValueFault
+abbrev pub or_open : Option (Result Value ValueFault) → Result Value ValueFault
 or_open None = Err NotRelocatable
 or_open (Some answer) = answer
 
@@ -60,7 +61,7 @@ keys e place at is =
 once_rest : (g : Found) (fs : List Found) → AreOnce (g ∷ fs) → AreOnce fs
 once_rest g fs once i j e f here there p q place at = omega (arith, once (suc i) (suc j) e f here there p q place at)
 
-told_rows : (fs : List Found) (slots : List Slot) (n : ℕ) (f : Found) (s : Slot) → AreOnce fs → slice_get fs n ≡ Some f → slice_get slots n ≡ Some s → is_equate f ≡ true
+pub told_rows : (fs : List Found) (slots : List Slot) (n : ℕ) (f : Found) (s : Slot) → AreOnce fs → slice_get fs n ≡ Some f → slice_get slots n ≡ Some s → is_equate f ≡ true
     → told (rows_of fs slots) f.place f.definition.at ≡ or_open (answer_of s)
 told_rows [] slots n f s once here there is = absurd cc
 told_rows (g ∷ fs) [] n f s once here there is = absurd cc
@@ -80,7 +81,7 @@ told_rows (g ∷ fs) (t ∷ slots) (suc k) f s once here there is =
     ∙ told_rows fs slots k f s (once_rest g fs once) here there is
 
 -- a label's slot has its place
-label_slot : (list : List Member) (fs : List Found) (slots : List Slot) (n : ℕ) (f : Found) (s : Slot) → AreSlots list fs slots → slice_get fs n ≡ Some f → slice_get slots n ≡ Some s → is_equate f ≡ false
+pub label_slot : (list : List Member) (fs : List Found) (slots : List Slot) (n : ℕ) (f : Found) (s : Slot) → AreSlots list fs slots → slice_get fs n ≡ Some f → slice_get slots n ≡ Some s → is_equate f ≡ false
     → s ≡ Done (place_value list f.place f.member f.definition.place)
 label_slot list [] slots n f s are here there is = absurd cc
 label_slot list (g ∷ fs) [] n f s are here there is = absurd are

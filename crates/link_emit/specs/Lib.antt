@@ -5,3 +5,9 @@ pub mod Puts
 pub mod Plain
 pub mod Records
 pub mod Slots
+pub mod Answers
+pub mod Seats
+pub mod Told
+pub mod Equates
+pub mod Circulars
+pub mod Walks

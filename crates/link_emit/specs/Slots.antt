@@ -43,10 +43,3 @@ AreSlots list (f ∷ fs) (slot ∷ slots) =
 abbrev pub AreOnce : List Found → Type 0
 AreOnce fs = (i j : ℕ) (e f : Found) → slice_get fs i ≡ Some e → slice_get fs j ≡ Some f → is_equate e ≡ true → is_equate f ≡ true
     → e.place ≡ f.place → e.definition.at ≡ f.definition.at → i ≡ j
-
--- the number, among all, of the first that was found
-abbrev pub IsFirstOf : List Found → List Found → Option ℕ → Type 0
-IsFirstOf all [] None = Unit {0}
-IsFirstOf all [] (Some n) = ⊥
-IsFirstOf all (f ∷ found) None = ⊥
-IsFirstOf all (f ∷ found) (Some n) = slice_get all n ≡ Some f

@@ -66,6 +66,7 @@ fn table_header(alloc: Global, number: u16, size: u32) -> Result<Header, ImageFa
 /// Appends the jump table, where it has an entry.
 fn put_table(alloc: Global, out: &mut Vec<u8>, number: u16, table: &Table) -> Result<(), ImageFault>
     ensures ok { OnOk result (out.new.items ≡ out.old.items ++ file_text (table_images number table.now)) }
+    ensures short { OnOk result (length out.old.items ≤ 0x1000000 → length out.new.items ≤ 0x1000000) }
     ensures too_long { IsErrOf result ImageFault.TooLong → 0x1000000 < length out.old.items + length (file_text (table_images number table.now)) }
 {
     if table.count() == 0 {
@@ -87,6 +88,7 @@ pub fn file_of(
     requires ready { AreReady headers.now contents.now }
     requires few { length headers.now + 1 < 2 ^ 16 }
     ensures ok { IfOk result (λ file. file.items ≡ file_text (images_in headers.now contents.now ++ table_images (length headers.now + 1) table.now)) }
+    ensures short { IfOk result (λ file. length file.items ≤ 0x1000000) }
     ensures too_long { IsErrOf result ImageFault.TooLong
         → 0x1000000 < length (file_text (images_in headers.now contents.now ++ table_images (length headers.now + 1) table.now)) }
 {
@@ -113,6 +115,7 @@ pub fn write_linked(
     requires few { length headers.now + 1 < 2 ^ 16 }
     ensures ok { IfOk result (λ file. (list : List Member) (told : List Told) → AreLoads list told headers.now contents.now → table.now ≡ targets list told
         → file.items ≡ written_file list told) }
+    ensures short { IfOk result (λ file. length file.items ≤ 0x1000000) }
     ensures too_long { IsErrOf result ImageFault.TooLong → (list : List Member) (told : List Told) → AreLoads list told headers.now contents.now
         → table.now ≡ targets list told → most_bytes < length (written_file list told) }
 {

@@ -106,6 +106,7 @@ fn front_of(alloc: Global, header: &Header, body: &Body) -> Result<Vec<u8>, Imag
 /// Appends a header, a body and END.
 fn put_text(out: &mut Vec<u8>, front: &[u8], body: &[u8]) -> Result<(), ImageFault>
     ensures ok { OnOk result (out.new.items ≡ out.old.items ++ (front.now ++ (body.now ++ 0 ∷ []))) }
+    ensures short { OnOk result (length out.new.items ≤ 0x1000000) }
     ensures too_long { IsErrOf result ImageFault.TooLong → 0x1000000 < length out.old.items + (length front.now + (length body.now + 1)) }
 {
     let left = MOST_BYTES.saturating_sub(out.as_slice().len());
@@ -133,6 +134,7 @@ pub fn put_image(
 ) -> Result<(), ImageFault>
     requires { IsReady (fields header.now) content.now }
     ensures ok { OnOk result (out.new.items ≡ out.old.items ++ image_text (image_in (fields header.now) content.now)) }
+    ensures short { OnOk result (length out.new.items ≤ 0x1000000) }
     ensures too_long { IsErrOf result ImageFault.TooLong → 0x1000000 < length out.old.items + length (image_text (image_in (fields header.now) content.now)) }
 {
     know_size(header.load_name);
@@ -153,6 +155,7 @@ pub fn put_images(
 ) -> Result<(), ImageFault>
     requires { AreReady headers.now contents.now }
     ensures ok { OnOk result (out.new.items ≡ out.old.items ++ file_text (images_in headers.now contents.now)) }
+    ensures short { OnOk result (length out.old.items ≤ 0x1000000 → length out.new.items ≤ 0x1000000) }
     ensures too_long { IsErrOf result ImageFault.TooLong → 0x1000000 < length out.old.items + length (file_text (images_in headers.now contents.now)) }
 {
     let mut headers_left = headers;

@@ -29,7 +29,7 @@ failed_same a b e = cc
 abbrev fine : Made → Result Made LinkCause
 fine x = Ok x
 
-fine_failed : (x : Made) (cause : LinkCause) → fine x ≡ failed cause → ⊥
+pub fine_failed : (x : Made) (cause : LinkCause) → fine x ≡ failed cause → ⊥
 fine_failed x cause e = cc
 
 abbrev fault_of : LinkCause → Option (List ℕ) → Spot → LinkFault
@@ -128,7 +128,7 @@ none_made list table before (i ∷ rest) parts none no_first =
         (x, is, subst (λ (s : State). AreMade list table s rest) (state_from-append list table start before (i ∷ [])) (go none'))
     by_made (Err cause) is go = absurd (no_first (fault_of cause None (spot_in i.member i.here.at)) (record { before = before; item = i; after = rest; parts = parts; none = none; here = record { cause = is; name = refl; spot = refl } }))
 
-made_none : (list : List Member) (table : List Told) (before rest : List Item) → AreMade list table (state_from list table start before) rest
+pub made_none : (list : List Member) (table : List Told) (before rest : List Item) → AreMade list table (state_from list table start before) rest
     → (front : List Item) (i : Item) (back : List Item) → rest ≡ front ++ i ∷ back → (x : Made) × (made list table (state_from list table start (before ++ front)) i ≡ Ok x)
 made_none list table before [] are front i back parts = absurd (no_parts front parts)
   where

@@ -136,7 +136,7 @@ is_only at place (Equate global name size form private expr) d (inr more) = absu
 is_only at place (Formula code count n expr) d is = absurd is
 is_only at place (Entry segment offset name) d is = absurd is
 
-in_records : (loc : ℕ) (founds : List (ℕ × Record)) (d : Definition) → IsIn (flat_map of_located (located_from loc founds)) d
+pub in_records : (loc : ℕ) (founds : List (ℕ × Record)) (d : Definition) → IsIn (flat_map of_located (located_from loc founds)) d
     → (r : Located) × IsIn (located_from loc founds) r × IsIn (of_located r) d
 in_records loc [] d is = absurd is
 in_records loc (found ∷ founds) d is =
@@ -162,7 +162,7 @@ title_none s d is = by_name s.fields.name is
 true_false : true ≡ false → ⊥
 true_false e = cc
 
-of_record : (s : Segment) (d : Definition) → IsIn (defined_in s) d → has_expr d.expr ≡ true → IsIn (flat_map of_located (located_from 0 s.records)) d
+pub of_record : (s : Segment) (d : Definition) → IsIn (defined_in s) d → has_expr d.expr ≡ true → IsIn (flat_map of_located (located_from 0 s.records)) d
 unfolding defined_in located
 of_record s d is equate = elim (in-append (title_of s) (flat_map of_located (located_from 0 s.records)) d is) [
   | inl h ↦ absurd (true_false (sym equate ∙ title_none s d h))
@@ -190,7 +190,7 @@ defined_there place (m ∷ ms) f is = elim (in-append (map (λ (d : Definition).
   | inr h ↦ defined_there (place + 1) ms f h
 ]
 
-in_entries_is : (list : List Member) (f : Found) → IsIn (entries list) f → IsIn (defined_in f.member.segment) f.definition
+pub in_entries_is : (list : List Member) (f : Found) → IsIn (entries list) f → IsIn (defined_in f.member.segment) f.definition
 unfolding entries
 in_entries_is list f is = defined_there 1 list f is
 

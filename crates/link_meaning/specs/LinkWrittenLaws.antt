@@ -15,7 +15,6 @@ use Rattle.omf_format.specs.WrittenHeader.{length-header}
 use Rattle.omf_format.specs.FieldLaws.{length-trim}
 use Rattle.omf_format.specs.File.{Segment, IsFile}
 use Rattle.load_meaning.specs.declared.table.Target.{Target}
-use Rattle.load_meaning.specs.Plain.{lesser_bank, cleared}
 use Rattle.load_meaning.specs.Cells.{Cell, cells}
 use Rattle.load_meaning.specs.Table.{file_entry}
 use Rattle.load_meaning.specs.WrittenBody.{written_cells, zeros_behind}
@@ -28,7 +27,7 @@ use Rattle.link_meaning.specs.First.{IsIn, HasNone, IsFirst}
 use Rattle.link_meaning.specs.FirstLaws.{none_yet, none_more}
 use Rattle.link_meaning.specs.MemberLists.{in_filter, filter_in}
 use Rattle.link_meaning.specs.Member.{Member}
-use Rattle.link_meaning.specs.Layout.{in_load, load_length, distinct, load_names, load_members, least_bank, greatest_align, of_first, load_fields, headers_from, load_headers}
+use Rattle.link_meaning.specs.Layout.{in_load, load_length, distinct, load_names, load_members, lesser_bank, cleared, least_bank, greatest_align, of_first, load_fields, headers_from, load_headers}
 use Rattle.link_meaning.specs.LinkFaults.{HasCountFault, is_too_long, HasLengthFault, Orgs, Count, Lengths, HasLayoutFault, Reading, Objects, Names, Layout, IsResolved}
 use Rattle.link_meaning.specs.LinkValues.{Told}
 use Rattle.link_meaning.specs.LinkedCells.{table_number, items, state_behind, targets, linked}

@@ -75,7 +75,7 @@ length-load : (list : List Member) (n : ℕ) (x : List ℕ) → (load_fields lis
 unfolding load_fields
 length-load list n x = refl
 
-short_load : (files : List (List ℕ)) (list : List Member) (x : List ℕ) → IsResolved files list → IsIn (load_names list) x → load_length x list ≤ 0xFFFFFF
+pub short_load : (files : List (List ℕ)) (list : List Member) (x : List ℕ) → IsResolved files list → IsIn (load_names list) x → load_length x list ≤ 0xFFFFFF
 unfolding load_headers
 short_load files list x resolved is =
     let there = header_there list 1 (load_names list) x is (short_loads files list resolved) in
@@ -98,7 +98,7 @@ end-append end x (m ∷ ms) ns = end-append (cond (in_load x m) (aligned_from (a
 own_name : (m : Member) → in_load m.segment.fields.load_name m ≡ true
 own_name m = (bytes_eq-Decides m.segment.fields.load_name m.segment.fields.load_name).1 refl
 
-offset-le : (list front : List Member) (m : Member) (back : List Member) → list ≡ front ++ m ∷ back
+pub offset-le : (list front : List Member) (m : Member) (back : List Member) → list ≡ front ++ m ∷ back
     → offset_of list (length front + 1) m + m.segment.fields.length ≤ load_length m.segment.fields.load_name list
 unfolding offset_of load_length
 offset-le list front m back parts =
@@ -110,7 +110,7 @@ offset-le list front m back parts =
     ap (end_from 0 x) parts ∙ end-append 0 x front (m ∷ back) ∙ ap (λ (b : Bool). end_from (cond b here (end_from 0 x front)) x back) (own_name m) in
     omega (arith, offset, whole, end-le here x back)
 
-in_parts : (list front : List Member) (m : Member) (back : List Member) → list ≡ front ++ m ∷ back → IsIn list m
+pub in_parts : (list front : List Member) (m : Member) (back : List Member) → list ≡ front ++ m ∷ back → IsIn list m
 in_parts list front m back parts = subst (λ (l : List Member). IsIn l m) (sym parts) (there front)
   where
     there : (front : List Member) → IsIn (front ++ m ∷ back) m

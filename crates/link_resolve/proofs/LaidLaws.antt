@@ -12,11 +12,10 @@ use Rattle.std.proofs.lemmas.List.Elements.{filter-append}
 use Rattle.omf_base.specs.declared.spot.Spot.{Spot}
 use Rattle.omf_format.specs.Header.{Fields, alignment_of}
 use Rattle.omf_format.specs.File.{Segment}
-use Rattle.load_meaning.specs.Plain.{lesser_bank, cleared}
 use Rattle.link_meaning.specs.First.{IsFirst}
 use Rattle.link_meaning.specs.FirstLaws.{none_more, none_yet}
 use Rattle.link_meaning.specs.Member.{Member}
-use Rattle.link_meaning.specs.Layout.{in_load, aligned_from, end_from, load_length, load_names, load_members, least_bank, greatest_align, of_first, number_in, load_of, offset_of}
+use Rattle.link_meaning.specs.Layout.{in_load, aligned_from, end_from, load_length, load_names, load_members, lesser_bank, cleared, least_bank, greatest_align, of_first, number_in, load_of, offset_of}
 use Rattle.link_meaning.specs.LayoutLaws.{aligned_from-least, alignment-some}
 use Rattle.link_meaning.specs.LinkFaults.{HasOrgFault, spot_in, first_spot}
 use Rattle.link_resolve.specs.declared.layout.Load.{Load}

@@ -18,6 +18,7 @@ use Rattle.link_resolve.specs.declared.program.Kept.{Kept}
 use Rattle.link_resolve.specs.Linked.{kept_member, told_member, ToldMember, Holds, OriginOf, member_at}
 use Rattle.link_resolve.specs.Gathered.{segment_in, IsAmong, AllAmong}
 use Rattle.link_resolve.specs.Laid.{has, AllShort, Laid}
+use Rattle.link_resolve.specs.OfFiles.{IsOfFiles}
 use Rattle.link_resolve.specs.Programs.{member_in, list_of, StandsAt, IsKept, linked_at, header_at}
 use Rattle.link_resolve.specs.Definitions.{IsOf}
 use Rattle.link_resolve.specs.declared.definitions.Origin.{Origin}
@@ -149,8 +150,8 @@ unfolding load_headers
 headers-length list = headers-from-length list 1 (load_names list)
 
 pub kept_is : (list : List Member) (files : List (List Segment)) (kept : Kept) (layout : laid.Layout) → Holds list kept.linked → AllAmong kept.files.items list → length list < 2 ^ 32 → Laid list layout → AllShort layout.loads.items
-    → length (load_names list) ≤ 254 → kept.places.items ≡ layout.places.items → map fields kept.headers.items ≡ load_headers list → IsKept list kept
-kept_is list files kept layout holds among short laid lengths few places headers = record {
+    → length (load_names list) ≤ 254 → kept.places.items ≡ layout.places.items → map fields kept.headers.items ≡ load_headers list → IsOfFiles list → IsKept list kept
+kept_is list files kept layout holds among short laid lengths few places headers of_files = record {
   holds = holds;
   among = among;
   few = short;
@@ -158,6 +159,7 @@ kept_is list files kept layout holds among short laid lengths few places headers
   count = ap length places ∙ laid.count;
   places = λ k m place at there. stands_at list layout k m place laid lengths few at (ap (λ (l : List Place). slice_get l k) (sym places) ∙ there);
   headers = headers;
+  of_files = of_files;
 }
 
 -- ---- look-ups

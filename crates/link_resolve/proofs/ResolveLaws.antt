@@ -18,6 +18,7 @@ use Rattle.omf_header.specs.View.{fields}
 use Rattle.link_resolve.specs.declared.layout.Layout as laid
 use Rattle.link_resolve.specs.declared.program.Kept.{Kept}
 use Rattle.link_resolve.specs.Gathered.{IsGathered, AllAmong}
+use Rattle.link_resolve.specs.OfFiles.{IsOfFiles}
 use Rattle.link_resolve.specs.Programs.{IsKept}
 use Rattle.link_resolve.specs.Grown.{MayGrow, HasGrown}
 use Rattle.link_resolve.specs.Laid.{layout_checks, Laid, AllShort, AreHeaders}
@@ -152,7 +153,7 @@ size_more items k bytes at = ap total_size (take_more (all_bytes items) k bytes 
 
 -- what is kept, where the load segments have no fault
 pub is_kept : (inputs : List Input) (files : List (List Segment)) (kept : Kept) (layout : laid.Layout) (grown : HasGrown inputs files kept.linked) → kept.files.items ≡ files → Laid grown.list layout → (length layout.loads.items ≤ 254) × AllShort layout.loads.items
-    → kept.places.items ≡ layout.places.items → AreHeaders 1 layout.loads.items (map fields kept.headers.items) → IsKept grown.list kept
-is_kept inputs files kept layout grown same laid fine places headers =
+    → kept.places.items ≡ layout.places.items → AreHeaders 1 layout.loads.items (map fields kept.headers.items) → IsOfFiles grown.list → IsKept grown.list kept
+is_kept inputs files kept layout grown same laid fine places headers of_files =
     kept_is grown.list files kept layout grown.holds (subst (λ (l : List (List Segment)). AllAmong l grown.list) (sym same) grown.among) (omega (arith, grown.few)) laid fine.1 (omega (arith, fine.0, loads_are grown.list layout laid)) places
-    (all_headers grown.list layout (map fields kept.headers.items) laid fine.1 headers)
+    (all_headers grown.list layout (map fields kept.headers.items) laid fine.1 headers) of_files

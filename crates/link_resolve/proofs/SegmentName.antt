@@ -8,7 +8,7 @@ use Rattle.omf_format.specs.Name.{without_trailing, name_at, name_size}
 use Rattle.omf_format.specs.Header.{Fields, fields_of, names_end}
 use Rattle.omf_format.specs.HeaderLaws.{sound_from_none}
 use Rattle.omf_format.specs.File.{IsHeader}
-use Rattle.load_meaning.specs.PlainLaws.{trailing-restores}
+use Rattle.omf_format.specs.FieldLaws.{padded-trim}
 use Rattle.link_resolve.proofs.Lists.{drop_twice}
 
 front_of : (ys n rest : List ℕ) → ys ≡ n ++ rest → take (length n) ys ≡ n
@@ -30,7 +30,7 @@ lies_by false l at bytes =
     let xs = take l ys in
     let w = without_trailing 32 xs in
     let pad = replicate (length xs - length w) 32 in
-    front_of ys w (pad ++ drop l ys) (sym (take-append-drop l ys) ∙ ap (λ (z : List ℕ). z ++ drop l ys) (trailing-restores 32 xs) ∙ append_assoc w pad (drop l ys))
+    front_of ys w (pad ++ drop l ys) (sym (take-append-drop l ys) ∙ ap (λ (z : List ℕ). z ++ drop l ys) (sym (padded-trim 32 xs)) ∙ append_assoc w pad (drop l ys))
 
 -- where it stands, and that it ends in the file
 pub record Lies (start : ℕ) (f : Fields) (file : List ℕ) : Type 0 where

@@ -6,13 +6,12 @@ use Rattle.std.specs.Str.{bytes_eq}
 use Rattle.omf_format.specs.File.{Segment}
 use Rattle.omf_format.specs.Name.{without_trailing}
 use Rattle.omf_format.specs.Header.{Fields}
-use Rattle.load_meaning.specs.Plain.{lesser_bank, cleared}
 use Rattle.link_meaning.specs.declared.search.Step.TheVariants.{Everyone}
 use Rattle.link_meaning.specs.declared.fault.LinkCause.TheVariants.{OrgConflict}
 use Rattle.link_meaning.specs.declared.fault.LinkFault.{LinkFault}
 use Rattle.link_meaning.specs.First.{HasNone, IsFirst}
 use Rattle.link_meaning.specs.Member.{Member}
-use Rattle.link_meaning.specs.Layout.{load_names, load_length, load_members, least_bank, greatest_align, of_first, load_of, offset_of, end_from}
+use Rattle.link_meaning.specs.Layout.{load_names, load_length, load_members, least_bank, greatest_align, of_first, load_of, offset_of, end_from, lesser_bank, cleared}
 use Rattle.link_meaning.specs.LinkFaults.{HasOrgFault, first_spot, spot_in, LayoutCheck, Orgs, Count, Lengths}
 use Rattle.link_resolve.specs.declared.layout.Load.{Load}
 use Rattle.link_resolve.specs.declared.layout.Place.{Place}

@@ -12,6 +12,7 @@ use Rattle.link_resolve.specs.declared.program.Kept.{Kept}
 use Rattle.link_resolve.specs.declared.layout.Place.{Place}
 use Rattle.link_resolve.specs.Linked.{Holds, member_at}
 use Rattle.link_resolve.specs.Gathered.{segment_in, AllAmong}
+use Rattle.link_resolve.specs.OfFiles.{IsOfFiles}
 
 abbrev pub member_in : List (List Segment) → LinkedMember → Option Member
 member_in files kept =
@@ -28,7 +29,7 @@ pub record StandsAt (list : List Member) (k : ℕ) (m : Member) (place : Place) 
   pub offset : place.offset ≡ offset_of list (k + 1) m
   pub small : place.offset < 2 ^ 32
 
--- this is kept of the list
+-- this is kept of the list, which is that of resolved files
 pub record IsKept (list : List Member) (kept : Kept) : Type 0 where
   pub holds : Holds list kept.linked
   pub among : AllAmong kept.files.items list
@@ -37,6 +38,7 @@ pub record IsKept (list : List Member) (kept : Kept) : Type 0 where
   pub count : length kept.places.items ≡ length list
   pub places : (k : ℕ) (m : Member) (place : Place) → slice_get list k ≡ Some m → slice_get kept.places.items k ≡ Some place → StandsAt list k m place
   pub headers : map fields kept.headers.items ≡ load_headers list
+  pub of_files : IsOfFiles list
 
 -- the member at a place, from 1, with its load segment and offset
 abbrev pub linked_at : List Member → ℕ → Option LinkMember

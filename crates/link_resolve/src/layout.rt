@@ -3,10 +3,9 @@
 ghost use Rattle.std.specs.Prelude.{◌≡◌, ◌+◌, ◌<◌, ◌≤◌, ◌^◌, ◌/◌, ◌*◌, ◌%◌, ◌++◌, ◌∷◌, [], List, ℕ, Some, None, map, false, slice_get, min, length, MatchOption, OnOk, IfOk};
 ghost use Rattle.omf_records.specs.Segments.{IsSound, IsPlaced, placed, shown};
 ghost use Rattle.omf_header.specs.View.{fields};
-ghost use Rattle.load_meaning.specs.Plain.{lesser_bank, cleared};
 ghost use Rattle.link_meaning.specs.First.{HasNone, IsFirst};
 ghost use Rattle.link_meaning.specs.Member.{Member};
-ghost use Rattle.link_meaning.specs.Layout.{aligned_from, load_headers, load_names};
+ghost use Rattle.link_meaning.specs.Layout.{aligned_from, lesser_bank, cleared, load_headers, load_names};
 ghost use Rattle.link_meaning.specs.LinkFaults.{HasLayoutFault};
 ghost use Rattle.link_resolve.specs.Definitions.{IsOf};
 ghost use Rattle.link_resolve.specs.Laid.{Laid, IsFresh, IsJoined, IsAt, IsSpotOf, conflict_with, has, is_long, AllShort, IsFirstLong, layout_checks, ShowsLoad, AreHeaders};

@@ -2,8 +2,11 @@
 //! linked list find (GS/OS Reference, appendix F; the order of search is this project's own).
 #![tactic(auto)]
 
+mod bytes;
 mod checks;
 mod definitions;
+mod expression;
+mod finding;
 mod gather;
 mod grow;
 mod input;
@@ -25,10 +28,12 @@ mod uses;
 
 pub use checks::segments_fault;
 pub use definitions::{Definition, Origin};
+pub use expression::expression_of;
 pub use input::{memory_fault, read_segments};
 pub use linked::Linked;
 pub use names::Outcome;
 pub use offers::Offers;
 pub use program::{LinkMember, Program};
+pub use reading::next_record;
 pub use resolving::{are_few, resolve};
 pub use sizes::{body_size, size_at};

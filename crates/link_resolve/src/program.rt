@@ -41,7 +41,7 @@ pub struct Kept<'a> {
 /// The files of a program, resolved. Contracts see the linked list.
 #[derive(Drop)]
 pub struct Program<'a> {
-    kept: Kept<'a>,
+    pub(crate) kept: Kept<'a>,
 }
 
 impl<'a> Model for Program<'a> {

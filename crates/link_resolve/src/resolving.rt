@@ -14,6 +14,7 @@ ghost use Rattle.link_resolve.specs.Laid.{Laid};
 ghost use Rattle.link_resolve.specs.Resolving.{IsHeld};
 ghost use Rattle.link_resolve.specs.Resolved.{all_bytes, total_size, AreFew, HasGathered, IsReadingFault, IsUseFault, IsRefused};
 
+use crate::bytes::know_bytes;
 use crate::gather::{Gathered, segment_in};
 use crate::grow::grow;
 use crate::input::memory_fault;
@@ -135,6 +136,7 @@ pub fn resolve<'a>(alloc: Global, inputs: &'a Vec<Vec<u8>>) -> Result<Program<'a
     ensures resolved { IfOk result (λ program. IsResolved (all_bytes inputs.now.items) program) }
     ensures refused { IfErr result (λ fault. IsRefused (all_bytes inputs.now.items) fault) }
 {
+    know_bytes(inputs);
     let gathered = match gather(alloc, inputs) {
         Ok(gathered) => gathered,
         Err(fault) => return Err(fault),

@@ -1,4 +1,3 @@
-pub mod Plain
 pub mod Cells
 pub mod Table
 pub mod LoadTable
@@ -6,7 +5,6 @@ pub mod Loadable
 pub mod WrittenPages
 pub mod WrittenBody
 pub mod WrittenFile
-pub mod PlainLaws
 pub mod LayingLaws
 pub mod LoadableLaws
 pub mod TableLaws

@@ -16,6 +16,7 @@ pub loads-preserved : goal.loads-preserved
 loads-preserved c = record {
   whole = one_image c.loads.out.items c.put_image.new.out.items (c.args.out.now.items ++ file_text (images_in c.args.headers.now c.args.contents.now)) c.loads.headers_left.now c.in-Some.more_headers.now
       c.loads.contents_left.now c.in-Some-split_first.more_contents.now c.in-Some.header.now c.in-Some-split_first.content.now c.in-Some.ensures.cases.0 c.in-Some-split_first.ensures.cases.0 c.in-Ok.ensures.ok c.loads.invariant.whole;
+  short = λ _. c.in-Ok.ensures.short;
   left = (more_ready c.loads.headers_left.now c.in-Some.more_headers.now c.loads.contents_left.now c.in-Some-split_first.more_contents.now c.in-Some.header.now c.in-Some-split_first.content.now
       c.in-Some.ensures.cases.0 c.in-Some-split_first.ensures.cases.0 c.loads.invariant.left).1;
 }

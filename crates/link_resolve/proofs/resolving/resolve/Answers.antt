@@ -3,6 +3,7 @@ use Rattle.omf_format.specs.File.{Segment}
 use Rattle.link_meaning.specs.LinkFaults.{IsResolved}
 use Rattle.link_resolve.specs.declared.program.Kept.{Kept}
 use Rattle.link_resolve.specs.Gathered.{AllAmong}
+use Rattle.link_resolve.specs.OfFiles.{IsOfFiles}
 use Rattle.link_resolve.specs.Grown.{MayGrow, HasGrown}
 use Rattle.link_resolve.specs.Resolved.{all_bytes}
 use Rattle.link_resolve.proofs.LinkedLaws.{count_is}
@@ -82,12 +83,16 @@ pub of-requires : goal.of-requires
 of-requires c =
     let g = c.in-Ok.gathered in
     let h = c.in-Ok.ensures.read in
-    let may = subst (λ (files : List (List Segment)). MayGrow h.0 files g.offers g.linked) (sym c.as_slice-segments.ensures.value) (may_grow (all_bytes c.args.inputs.now.items) g h c.requires) in
-    let first = c.in-Ok-grow.ensures h.0 may in
+    let all = all_bytes c.args.inputs.now.items in
+    let may = subst (λ (files : List (List Segment)). MayGrow h.0 files g.offers g.linked) (sym c.as_slice-segments.ensures.value) (may_grow all g h c.requires) in
+    let grown = subst (λ (files : List (List Segment)). HasGrown h.0 files c.grow.new.linked) c.as_slice-segments.ensures.value (c.in-Ok-grow.ensures h.0 may) in
     let layout = c.in-Ok-lay_out.layout in
-    let laid = c.in-Ok-lay_out.ensures first.list first.holds first.among in
+    let laid = c.in-Ok-lay_out.ensures grown.list grown.holds (subst (λ (files : List (List Segment)). AllAmong files grown.list) (sym c.as_slice-segments.ensures.value) grown.among) in
     let kept : Kept = record { files = g.files; linked = c.grow.new.linked; places = layout.places; headers = c.in-Ok-headers.headers } in
-    (first.list, is_kept h.0 c.as_slice-segments.result.now kept layout first (sym c.as_slice-segments.ensures.value) laid (c.in-None.ensures.fine refl) refl c.in-Ok-headers.ensures)
+    let sound = resolved all g c.grow.new.linked h (λ e. c.if-count-eq0.false (c.count.ensures ∙ e)) grown (c.in-Ok-check_names.ensures.fine grown.list grown.holds) (c.in-None.ensures.told grown.list laid) in
+    let of_files : IsOfFiles grown.list = record { files = all; bytes = c.know_bytes.ensures; resolved = sound } in
+    let is = is_kept h.0 g.files.items kept layout grown refl laid (c.in-None.ensures.fine refl) refl c.in-Ok-headers.ensures of_files in
+    (grown.list, is)
 
 pub returns-in-Ok-headers-clause-resolved : goal.returns-in-Ok-headers-clause-resolved
 returns-in-Ok-headers-clause-resolved c =
@@ -99,8 +104,9 @@ returns-in-Ok-headers-clause-resolved c =
     let layout = c.in-Ok-lay_out.layout in
     let laid = c.in-Ok-lay_out.ensures grown.list grown.holds (subst (λ (files : List (List Segment)). AllAmong files grown.list) (sym c.as_slice-segments.ensures.value) grown.among) in
     let kept : Kept = record { files = g.files; linked = c.grow.new.linked; places = layout.places; headers = c.in-Ok-headers.headers } in
-    let is = is_kept h.0 g.files.items kept layout grown refl laid (c.in-None.ensures.fine refl) refl c.in-Ok-headers.ensures in
     let sound = resolved all g c.grow.new.linked h (λ e. c.if-count-eq0.false (c.count.ensures ∙ e)) grown (c.in-Ok-check_names.ensures.fine grown.list grown.holds) (c.in-None.ensures.told grown.list laid) in
+    let of_files : IsOfFiles grown.list = record { files = all; bytes = c.know_bytes.ensures; resolved = sound } in
+    let is = is_kept h.0 g.files.items kept layout grown refl laid (c.in-None.ensures.fine refl) refl c.in-Ok-headers.ensures of_files in
     subst (IsResolved all) (sym (c.of.ensures grown.list is)) sound
 
 pub returns-clause-refused : goal.returns-clause-refused

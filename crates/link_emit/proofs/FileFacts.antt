@@ -1,0 +1,352 @@
+-- What is known of the linked list of resolved files.
+use Rattle.std.proofs.Common.{◌≡◌, ◌⊎◌, inl, inr, ℕ, zero, suc, ◌+◌, ◌-◌, ◌^◌, ◌<◌, ◌≤◌, Bool, true, false, eqb, List, [], ◌∷◌, ◌++◌, length, map, Option, Some, None, refl, sym, ap, subst, ◌∙◌, arith}
+use Rattle.std.specs.Prelude.{slice_get, cond, nat_le}
+use Rattle.std.specs.List.{flat_map, AllByRecursion}
+use Rattle.std.specs.Option.{option_or}
+use Rattle.std.proofs.lemmas.Bool.{ne_eqb, leb-true}
+use Rattle.std.proofs.lemmas.List.Concat.{flat_map-cons}
+use Rattle.omf_format.specs.Field.{layout_of}
+use Rattle.omf_format.specs.Expression.{Term, Operator, Location, Constant, Named, Offset, IsExpression, terms_in}
+use Rattle.omf_format.specs.Record.{Record, IsRecord, End, Const, LongConst, Align, Org, Space, Reloc, InterSeg, ShortReloc, ShortInterSeg, Super, Using, Strong, Label, Equate, Formula, Entry}
+use Rattle.omf_format.specs.File.{Segment}
+use Rattle.link_meaning.specs.declared.fault.LinkCause.{LinkCause}
+use Rattle.link_meaning.specs.declared.fault.LinkFault.{LinkFault}
+use Rattle.link_meaning.specs.declared.search.Want.{Want}
+use Rattle.link_meaning.specs.declared.search.Want.TheVariants.{Data, One, Any}
+use Rattle.link_meaning.specs.First.{IsIn, IsFirst, HasNone, first_some}
+use Rattle.link_meaning.specs.FirstLaws.{first_some-first}
+use Rattle.link_meaning.specs.Sizes.{Located, size_at, located_from, body_size}
+use Rattle.link_meaning.specs.Member.{Member}
+use Rattle.link_meaning.specs.Defines.{Definition, defined_by, defined_in}
+use Rattle.link_meaning.specs.Terms.{asks_value}
+use Rattle.link_meaning.specs.Uses.{Use, used_by_term, used_in_text, used_by, uses_of}
+use Rattle.link_meaning.specs.Search.{Found, entries, finds}
+use Rattle.link_meaning.specs.LinkedList.{Asked, asked_from, asked, found_for}
+use Rattle.link_meaning.specs.Layout.{load_names, load_length, load_of, offset_of}
+use Rattle.link_meaning.specs.Rings.{has_expr, is_equate}
+use Rattle.link_meaning.specs.LinkValues.{place_value}
+use Rattle.link_meaning.specs.LinkFaults.{use_cause, HasUseFault, spot_in, phases, Names, Reading, Objects, Layout, IsResolved}
+use Rattle.link_meaning.specs.MadeLaws.{FitsPatch}
+use Rattle.link_meaning.specs.PlaceFits.{IsPlaceIn, place_fits, entry_there, offset-le, short_load, name_there, in_parts, in-append, of_located}
+use Rattle.link_meaning.specs.LinkWrittenLaws.{few_loads}
+use Rattle.link_meaning.specs.ReadMembers.{IsRead, members_read, read_size, read_records}
+use Rattle.link_meaning.specs.EquatePlaces.{in_records, of_record, in_entries_is}
+use Rattle.link_meaning.specs.EquateOrder.{one_number}
+use Rattle.link_resolve.specs.Linked.{member_at}
+use Rattle.link_resolve.specs.OfFiles.{IsOfFiles}
+use Rattle.link_emit.specs.Slots.{AreOnce}
+use Rattle.link_emit.specs.Equates.{FindOne}
+
+-- ---- members
+
+pub read_of : (list : List Member) → IsOfFiles list → (m : Member) → IsIn list m → IsRead m.segment
+read_of list of m is = members_read of.files list m of.bytes of.resolved.program is
+
+pub body_within : (list : List Member) → IsOfFiles list → (m : Member) → IsIn list m → body_size m.segment ≤ m.segment.fields.length
+body_within list of m is = omega (arith, read_size m.segment (read_of list of m is))
+
+pub few_of : (list : List Member) → IsOfFiles list → length (load_names list) ≤ 254
+few_of list of = few_loads of.files list of.resolved
+
+-- a place in a member fits 32 bits
+pub near_of : (list : List Member) → IsOfFiles list → (place : ℕ) (m : Member) (at : ℕ) → IsPlaceIn list place m at → offset_of list place m + at < 2 ^ 32
+unfolding place_value
+near_of list of place m at is = (place_fits of.files list place m at of.resolved (body_within list of) is).2
+
+-- a member ends within its load segment
+pub end_of : (list : List Member) → IsOfFiles list → (front : List Member) (m : Member) (back : List Member) → list ≡ front ++ m ∷ back → offset_of list (length front + 1) m + m.segment.fields.length ≤ 0xFFFFFF
+end_of list of front m back parts =
+    let le = offset-le list front m back parts in
+    omega (arith, le, short_load of.files list m.segment.fields.load_name of.resolved (name_there list m (in_parts list front m back parts)))
+
+get_parts : (front : List Member) (m : Member) (back : List Member) → slice_get (front ++ m ∷ back) (length front) ≡ Some m
+get_parts [] m back = refl
+get_parts (o ∷ front) m back = get_parts front m back
+
+pub parts_there : (list front : List Member) (m : Member) (back : List Member) → list ≡ front ++ m ∷ back → member_at list (length front + 1) ≡ Some m
+parts_there list front m back parts =
+    let next : length front + 1 ≡ suc (length front) = omega arith in
+    ap (member_at list) next ∙ ap (λ (l : List Member). slice_get l (length front)) parts ∙ get_parts front m back
+
+pub place_there : (list : List Member) (place : ℕ) (m : Member) (at : ℕ) → IsPlaceIn list place m at → member_at list place ≡ Some m
+place_there list place m at is = ap (member_at list) is.number ∙ parts_there list is.front m is.back is.parts
+
+-- a member that is there stands between others
+split_at : (list : List Member) (k : ℕ) (m : Member) → slice_get list k ≡ Some m → (front : List Member) × (back : List Member) × (list ≡ front ++ m ∷ back) × (k ≡ length front)
+split_at [] k m e = absurd cc
+split_at (o ∷ list) zero m e = let same : o ≡ m = cc in ([], list, ap (λ (x : Member). x ∷ list) same, refl)
+split_at (o ∷ list) (suc k) m e =
+    let rest = split_at list k m e in
+    (o ∷ rest.0, rest.1, ap (λ (l : List Member). o ∷ l) rest.2, ap suc rest.3)
+
+pub there_parts : (list : List Member) (place : ℕ) (m : Member) → member_at list place ≡ Some m → (front : List Member) × (back : List Member) × (list ≡ front ++ m ∷ back) × (place ≡ length front + 1)
+there_parts list zero m e = absurd cc
+there_parts list (suc k) m e = let s = split_at list k m e in (s.0, s.1, s.2, omega (arith, s.3))
+
+-- ---- definitions
+
+pub entry_in : (fs : List Found) (k : ℕ) (f : Found) → slice_get fs k ≡ Some f → IsIn fs f
+entry_in [] k f e = absurd cc
+entry_in (g ∷ fs) zero f e = inl (same g f e)
+  where
+    same : (x y : Found) → Some x ≡ Some y → x ≡ y
+    same x y e = cc
+entry_in (g ∷ fs) (suc k) f e = inr (entry_in fs k f e)
+
+pub entry_at : (fs : List Found) (f : Found) → IsIn fs f → (k : ℕ) × (slice_get fs k ≡ Some f)
+entry_at [] f is = absurd is
+entry_at (g ∷ fs) f (inl e) = (zero, ap (λ (x : Found). Some x) e)
+entry_at (g ∷ fs) f (inr more) = let rest = entry_at fs f more in (suc rest.0, rest.1)
+
+pub definition_place : (list : List Member) (k : ℕ) (f : Found) → slice_get (entries list) k ≡ Some f → IsPlaceIn list f.place f.member f.definition.place
+definition_place list k f at = entry_there list f (entry_in (entries list) k f at)
+
+pub once_of : (list : List Member) → IsOfFiles list → AreOnce (entries list)
+once_of list of i j e f here there p q place at = one_number of.files list i j e f of.bytes of.resolved here there p q place at
+
+-- ---- the record of an equate
+
+all_in : {A : Type 0} (P : A → Type 0) (xs : List A) (x : A) → AllByRecursion P xs → IsIn xs x → P x
+all_in P [] x all is = absurd is
+all_in P (y ∷ xs) x all (inl e) = subst P e all.0
+all_in P (y ∷ xs) x all (inr more) = all_in P xs x all.1 more
+
+-- the record that is located among others
+from_located : (loc : ℕ) (founds : List (ℕ × Record)) (r : Located) → IsIn (located_from loc founds) r → IsIn founds (r.at, r.content)
+from_located loc [] r is = is
+from_located loc (found ∷ founds) r (inl e) = inl (ap (λ (x : Located). (x.at, x.content)) e)
+from_located loc (found ∷ founds) r (inr more) = inr (from_located (loc + size_at loc found.1) founds r more)
+
+record OfEquate (s : Segment) (text : List ℕ) : Type 0 where
+  at : ℕ
+  global : Bool
+  name : List ℕ
+  size : ℕ
+  form : ℕ
+  private : ℕ
+  among : IsIn s.records (at, Equate global name size form private text)
+
+same_text : (x y : List ℕ) → Some x ≡ Some y → x ≡ y
+same_text x y e = cc
+
+equate_record : (s : Segment) (at place : ℕ) (r : Record) (d : Definition) (text : List ℕ) → IsIn s.records (at, r) → IsIn (defined_by at place r) d → d.expr ≡ Some text → OfEquate s text
+equate_record s at place End d text among is e = absurd is
+equate_record s at place (Const bytes) d text among is e = absurd is
+equate_record s at place (LongConst bytes) d text among is e = absurd is
+equate_record s at place (Align n) d text among is e = absurd is
+equate_record s at place (Org n) d text among is e = absurd is
+equate_record s at place (Space n) d text among is e = absurd is
+equate_record s at place (Reloc count shift location offset) d text among is e = absurd is
+equate_record s at place (InterSeg count shift location file segment offset) d text among is e = absurd is
+equate_record s at place (ShortReloc count shift location offset) d text among is e = absurd is
+equate_record s at place (ShortInterSeg count shift location segment offset) d text among is e = absurd is
+equate_record s at place (Super form bytes) d text among is e = absurd is
+equate_record s at place (Using name) d text among is e = absurd is
+equate_record s at place (Strong name) d text among is e = absurd is
+equate_record s at place (Label global name size form private) d text among (inl same) e = absurd (none_some (ap (λ (x : Definition). x.expr) same ∙ e))
+  where
+    none_some : None ≡ Some text → ⊥
+    none_some e = cc
+equate_record s at place (Label global name size form private) d text among (inr more) e = absurd more
+equate_record s at place (Equate global name size form private expr) d text among (inl same) e =
+    let is : expr ≡ text = same_text expr text (ap (λ (x : Definition). x.expr) same ∙ e) in
+    record { at = at; global = global; name = name; size = size; form = form; private = private; among = subst (λ (t : List ℕ). IsIn s.records (at, Equate global name size form private t)) is among }
+equate_record s at place (Equate global name size form private expr) d text among (inr more) e = absurd more
+equate_record s at place (Formula code count n expr) d text among is e = absurd is
+equate_record s at place (Entry segment offset name) d text among is e = absurd is
+
+of_equate : (list : List Member) (k : ℕ) (f : Found) (text : List ℕ) → slice_get (entries list) k ≡ Some f → f.definition.expr ≡ Some text → OfEquate f.member.segment text
+of_equate list k f text at e =
+    let s = f.member.segment in
+    let there = in_records 0 s.records f.definition (of_record s f.definition (in_entries_is list f (entry_in (entries list) k f at)) (ap has_expr e)) in
+    equate_record s there.0.at there.0.location there.0.content f.definition text (from_located 0 s.records there.0 there.1) there.2 e
+
+-- its expression is one
+pub spelled_of : (list : List Member) → IsOfFiles list → (k : ℕ) (f : Found) (text : List ℕ) → slice_get (entries list) k ≡ Some f → f.definition.expr ≡ Some text → IsExpression f.member.segment.fields.lab_len text
+spelled_of list of k f text at e =
+    let s = f.member.segment in
+    let r = of_equate list k f text at e in
+    let is = definition_place list k f at in
+    let read = read_of list of f.member (in_parts list is.front f.member is.back is.parts) in
+    (all_in (λ (found : ℕ × Record). IsRecord (layout_of s.fields.version s.fields.lab_len) found.1) s.records _ (read_records s read) r.among).2
+
+-- ---- names that are asked
+
+abbrev nothing : Option LinkCause
+nothing = None
+
+abbrev why : LinkCause → Option LinkCause
+why cause = Some cause
+
+abbrev told_fault : Asked → LinkCause → LinkFault
+told_fault a cause = record { cause = cause; name = Some a.use'.name; spot = spot_in a.member a.use'.at }
+
+abbrev fault_by : Asked → Option LinkCause → Option LinkFault
+fault_by a None = None
+fault_by a (Some cause) = Some (told_fault a cause)
+
+abbrev fails : List Member → Asked → Option LinkFault
+fails list a = fault_by a (use_cause a.use'.want (found_for list a.place a.member a.use'))
+
+same_fault : (x y : LinkFault) → Some x ≡ Some y → x ≡ y
+same_fault x y e = cc
+
+has_fault : (list : List Member) (before : List Asked) (a : Asked) (fault : LinkFault) → fails list a ≡ Some fault → HasUseFault list before a fault
+has_fault list before a fault e = by_cause (use_cause a.use'.want (found_for list a.place a.member a.use')) refl e
+  where
+    by_cause : (o : Option LinkCause) → use_cause a.use'.want (found_for list a.place a.member a.use') ≡ o → fault_by a o ≡ Some fault → HasUseFault list before a fault
+    by_cause None is e = absurd cc
+    by_cause (Some cause) is e =
+        let same = same_fault (told_fault a cause) fault e in
+        record { cause = is ∙ ap (λ (f : LinkFault). why f.cause) same; name = ap (λ (f : LinkFault). f.name) (sym same); spot = ap (λ (f : LinkFault). f.spot) (sym same) }
+
+fault_has : (list : List Member) (before : List Asked) (a : Asked) (fault : LinkFault) → HasUseFault list before a fault → fails list a ≡ Some (told_fault a fault.cause)
+fault_has list before a fault has = ap (fault_by a) has.cause
+
+none_here : (list : List Member) (xs : List Asked) → first_some (fails list) xs ≡ None → (a : Asked) → IsIn xs a → fails list a ≡ None
+none_here list [] e a is = absurd is
+none_here list (x ∷ xs) e a is = by_first (fails list x) refl e is (λ e' there. none_here list xs e' a there)
+  where
+    by_first : (o : Option LinkFault) → fails list x ≡ o → option_or o (first_some (fails list) xs) ≡ None → (x ≡ a) ⊎ IsIn xs a → (first_some (fails list) xs ≡ None → IsIn xs a → fails list a ≡ None) → fails list a ≡ None
+    by_first (Some fault) is e there go = absurd cc
+    by_first None is e (inl same) go = ap (fails list) (sym same) ∙ is
+    by_first None is e (inr more) go = go e more
+
+first_as : (list : List Member) (fault : LinkFault) → first_some (fails list) (asked list) ≡ Some fault → IsFirst (HasUseFault list) (asked list) fault
+first_as list fault e =
+    let first = first_some-first (fails list) (asked list) fault e in
+    record {
+      before = first.before;
+      item = first.item;
+      after = first.after;
+      parts = first.parts;
+      none = λ front other rest its parts has. first.none front other rest (told_fault other its.cause) parts (fault_has list front other its has);
+      here = has_fault list first.before first.item fault first.here;
+    }
+
+-- each use resolves
+all_resolve : (list : List Member) → IsOfFiles list → (a : Asked) → IsIn (asked list) a → fails list a ≡ None
+all_resolve list of a is = by_first (first_some (fails list) (asked list)) refl
+  where
+    by_first : (o : Option LinkFault) → first_some (fails list) (asked list) ≡ o → fails list a ≡ None
+    by_first None e = none_here list (asked list) e a is
+    by_first (Some fault) e = absurd (of.resolved.sound (Reading ∷ Objects ∷ []) Names (Layout ∷ []) fault refl (list, of.resolved.program, first_as list fault e))
+
+no_cause : (a : Asked) (o : Option LinkCause) → fault_by a o ≡ None → o ≡ None
+no_cause a None e = refl
+no_cause a (Some cause) e = absurd cc
+
+-- a use of an expression
+record NameUse (us : List Use) (name : List ℕ) : Type 0 where
+  use' : Use
+  among : IsIn us use'
+  is : use'.name ≡ name
+  wants : (use'.want ≡ Any) ⊎ (use'.want ≡ One)
+
+in_left : {A : Type 0} (xs ys : List A) (x : A) → IsIn xs x → IsIn (xs ++ ys) x
+in_left [] ys x is = absurd is
+in_left (y ∷ xs) ys x (inl e) = inl e
+in_left (y ∷ xs) ys x (inr more) = inr (in_left xs ys x more)
+
+in_right : {A : Type 0} (xs ys : List A) (x : A) → IsIn ys x → IsIn (xs ++ ys) x
+in_right [] ys x is = is
+in_right (y ∷ xs) ys x is = inr (in_right xs ys x is)
+
+term_use : (at : ℕ) (term : Term) (name : List ℕ) → IsIn (asks_value term) name → NameUse (used_by_term at term) name
+term_use at (Operator code) name is = absurd is
+term_use at Location name is = absurd is
+term_use at (Constant n) name is = absurd is
+term_use at (Offset n) name is = absurd is
+term_use at (Named code of) name is = by_test (nat_le code 0x83) refl is
+  where
+    use_by : Bool → Use
+    use_by b = record { want = cond b Any One; name = of; at = at }
+
+    wants_by : (b : Bool) → ((use_by b).want ≡ Any) ⊎ ((use_by b).want ≡ One)
+    wants_by true = inl refl
+    wants_by false = inr refl
+
+    one : (e : of ≡ name) (c : Bool) → c ≡ false → NameUse (cond c [] (use_by (eqb code 0x82) ∷ [])) name
+    one e c is = subst (λ (b : Bool). NameUse (cond b [] (use_by (eqb code 0x82) ∷ [])) name) (sym is) (record { use' = use_by (eqb code 0x82); among = inl refl; is = e; wants = wants_by (eqb code 0x82) })
+
+    by_test : (b : Bool) → nat_le code 0x83 ≡ b → IsIn (cond b (of ∷ []) []) name → NameUse (used_by_term at (Named code of)) name
+    by_test true le (inl e) = one e (eqb code 0x86) (ne_eqb code 0x86 (λ same. absurd (omega (arith, leb-true code 0x83 le, same))))
+    by_test true le (inr more) = absurd more
+    by_test false le is = absurd is
+
+text_use : (at : ℕ) (terms : List (ℕ × Term)) (name : List ℕ) → IsIn (flat_map (λ placed. asks_value placed.1) terms) name → NameUse (flat_map (λ placed. used_by_term at placed.1) terms) name
+text_use at [] name is = absurd is
+text_use at (t ∷ terms) name is = by_part (in-append (asks_value t.1) (flat_map (λ (placed : ℕ × Term). asks_value placed.1) terms) name (subst (λ (l : List (List ℕ)). IsIn l name) (flat_map-cons (λ (placed : ℕ × Term). asks_value placed.1) t terms) is)) (λ more. text_use at terms name more)
+  where
+    whole : flat_map (λ (placed : ℕ × Term). used_by_term at placed.1) (t ∷ terms) ≡ used_by_term at t.1 ++ flat_map (λ (placed : ℕ × Term). used_by_term at placed.1) terms
+    whole = flat_map-cons (λ (placed : ℕ × Term). used_by_term at placed.1) t terms
+
+    moved : (u : NameUse (used_by_term at t.1 ++ flat_map (λ (placed : ℕ × Term). used_by_term at placed.1) terms) name) → NameUse (flat_map (λ (placed : ℕ × Term). used_by_term at placed.1) (t ∷ terms)) name
+    moved u = subst (λ (l : List Use). NameUse l name) (sym whole) u
+
+    by_part : IsIn (asks_value t.1) name ⊎ IsIn (flat_map (λ (placed : ℕ × Term). asks_value placed.1) terms) name → (IsIn (flat_map (λ (placed : ℕ × Term). asks_value placed.1) terms) name → NameUse (flat_map (λ (placed : ℕ × Term). used_by_term at placed.1) terms) name)
+        → NameUse (flat_map (λ (placed : ℕ × Term). used_by_term at placed.1) (t ∷ terms)) name
+    by_part (inl h) go =
+        let u = term_use at t.1 name h in
+        moved (record { use' = u.use'; among = in_left (used_by_term at t.1) (flat_map (λ (placed : ℕ × Term). used_by_term at placed.1) terms) u.use' u.among; is = u.is; wants = u.wants })
+    by_part (inr h) go =
+        let u = go h in
+        moved (record { use' = u.use'; among = in_right (used_by_term at t.1) (flat_map (λ (placed : ℕ × Term). used_by_term at placed.1) terms) u.use' u.among; is = u.is; wants = u.wants })
+
+in_flat : {A B : Type 0} (f : A → List B) (xs : List A) (x : A) (y : B) → IsIn xs x → IsIn (f x) y → IsIn (flat_map f xs) y
+in_flat f [] x y is there = absurd is
+in_flat {A} {B} f (z ∷ xs) x y (inl e) there = subst (λ (l : List B). IsIn l y) (sym (flat_map-cons f z xs)) (in_left (f z) (flat_map f xs) y (subst (λ (w : A). IsIn (f w) y) (sym e) there))
+in_flat {A} {B} f (z ∷ xs) x y (inr more) there = subst (λ (l : List B). IsIn l y) (sym (flat_map-cons f z xs)) (in_right (f z) (flat_map f xs) y (in_flat f xs x y more there))
+
+abbrev asked_of : ℕ → Member → Use → Asked
+asked_of place m u = record { place = place; member = m; use' = u }
+
+in_mapped : {A B : Type 0} (f : A → B) (xs : List A) (x : A) → IsIn xs x → IsIn (map f xs) (f x)
+in_mapped f [] x is = absurd is
+in_mapped f (y ∷ xs) x (inl e) = inl (ap f e)
+in_mapped f (y ∷ xs) x (inr more) = inr (in_mapped f xs x more)
+
+asked_there : (place : ℕ) (front : List Member) (m : Member) (back : List Member) (u : Use) → IsIn (uses_of m.segment) u → IsIn (asked_from place (front ++ m ∷ back)) (asked_of (place + length front) m u)
+asked_there place [] m back u is =
+    let next : place ≡ place + length {A = Member} [] = omega arith in
+    in_left (map (asked_of place m) (uses_of m.segment)) (asked_from (place + 1) back) (asked_of (place + 0) m u)
+    (subst (λ (n : ℕ). IsIn (map (asked_of place m) (uses_of m.segment)) (asked_of n m u)) next (in_mapped (asked_of place m) (uses_of m.segment) u is))
+asked_there place (o ∷ front) m back u is =
+    let next : place + 1 + length front ≡ place + length (o ∷ front) = omega arith in
+    in_right (map (asked_of place o) (uses_of o.segment)) (asked_from (place + 1) (front ++ m ∷ back)) (asked_of (place + length (o ∷ front)) m u)
+    (subst (λ (n : ℕ). IsIn (asked_from (place + 1) (front ++ m ∷ back)) (asked_of n m u)) next (asked_there (place + 1) front m back u is))
+
+one_of : (want : Want) (found : List Found) (f g : Found) → (want ≡ Any) ⊎ (want ≡ One) → use_cause want found ≡ None → IsIn found f → IsIn found g → f ≡ g
+one_of want [] f g wants e is there = absurd is
+one_of want (x ∷ []) f g wants e (inl a) (inl b) = sym a ∙ b
+one_of want (x ∷ []) f g wants e (inl a) (inr b) = absurd b
+one_of want (x ∷ []) f g wants e (inr a) there = absurd a
+one_of want (x ∷ y ∷ more) f g (inl any) e is there = absurd (several (ap (λ (w : Want). use_cause w (x ∷ y ∷ more)) (sym any) ∙ e))
+  where
+    several : use_cause Any (x ∷ y ∷ more) ≡ None → ⊥
+    several e = cc
+one_of want (x ∷ y ∷ more) f g (inr one) e is there = absurd (several (ap (λ (w : Want). use_cause w (x ∷ y ∷ more)) (sym one) ∙ e))
+  where
+    several : use_cause One (x ∷ y ∷ more) ≡ None → ⊥
+    several e = cc
+
+found_any : (list : List Member) (place : ℕ) (m : Member) (u : Use) → (u.want ≡ Any) ⊎ (u.want ≡ One) → found_for list place m u ≡ finds list place m u.name
+found_any list place m u (inl any) = ap (λ (w : Want). found_for list place m (record { want = w; name = u.name; at = u.at })) any
+found_any list place m u (inr one) = ap (λ (w : Want). found_for list place m (record { want = w; name = u.name; at = u.at })) one
+
+-- a name of an equate's expression finds one thing at most
+pub find_one_of : (list : List Member) → IsOfFiles list → (k : ℕ) (e : Found) (text : List ℕ) → slice_get (entries list) k ≡ Some e → e.definition.expr ≡ Some text
+    → FindOne list e.place e.member (flat_map (λ placed. asks_value placed.1) (terms_in e.member.segment.fields.lab_len 0 text))
+unfolding asked uses_of
+find_one_of list of k e text at has name f g asks is there =
+    let s = e.member.segment in
+    let r = of_equate list k e text at has in
+    let u = text_use r.at (terms_in s.fields.lab_len 0 text) name asks in
+    let p = definition_place list k e at in
+    let used : IsIn (uses_of s) u.use' = in_flat (λ (found : ℕ × Record). used_by s.fields.lab_len found.0 found.1) s.records (r.at, Equate r.global r.name r.size r.form r.private text) u.use' r.among u.among in
+    let place : 1 + length p.front ≡ e.place = omega (arith, p.number) in
+    let in_list : IsIn (asked_from 1 list) (asked_of e.place e.member u.use') =
+    subst (λ (n : ℕ). IsIn (asked_from 1 list) (asked_of n e.member u.use')) place (subst (λ (l : List Member). IsIn (asked_from 1 l) (asked_of (1 + length p.front) e.member u.use')) (sym p.parts) (asked_there 1 p.front e.member p.back u.use' used)) in
+    let cause = no_cause (asked_of e.place e.member u.use') (use_cause u.use'.want (found_for list e.place e.member u.use')) (all_resolve list of (asked_of e.place e.member u.use') in_list) in
+    let found : found_for list e.place e.member u.use' ≡ finds list e.place e.member name = found_any list e.place e.member u.use' u.wants ∙ ap (finds list e.place e.member) u.is in
+    one_of u.use'.want (finds list e.place e.member name) f g u.wants (ap (use_cause u.use'.want) (sym found) ∙ cause) is there

@@ -1,0 +1,14 @@
+-- What linking answers, want of memory aside.
+use Rattle.std.specs.Prelude.{◌≡◌, ◌⊎◌, ℕ, List}
+use Rattle.link_meaning.specs.declared.fault.LinkFault.{LinkFault}
+use Rattle.link_meaning.specs.Member.{Member}
+use Rattle.link_meaning.specs.EmitFaults.{IsFirstEmitFault, IsFirstLinkFault}
+use Rattle.link_resolve.specs.Reading.{memory_fault}
+
+-- it is the first fault of the list in the phases behind layout, unless memory ran out
+abbrev pub IsEmitRefused : List Member → LinkFault → Type 0
+IsEmitRefused list fault = (fault ≡ memory_fault) ⊎ IsFirstEmitFault list fault
+
+-- it is the first fault of the files, unless memory ran out
+abbrev pub IsLinkRefused : List (List ℕ) → LinkFault → Type 0
+IsLinkRefused files fault = (fault ≡ memory_fault) ⊎ IsFirstLinkFault files fault

@@ -1,0 +1,277 @@
+//! The walk over the records of all members, which fills the load segments and the jump table.
+
+ghost use Rattle.std.specs.Prelude.{◌≡◌, ◌⊎◌, ◌+◌, ◌-◌, ◌<◌, ◌≤◌, ◌^◌, ◌++◌, ◌∷◌, ℕ, List, IfErr, IfOk, OnOk, length, map};
+ghost use Rattle.omf_records.specs.Segments.{IsSound, shown};
+ghost use Rattle.omf_records.specs.View.{view};
+ghost use Rattle.load_meaning.specs.Cells.{Cell};
+ghost use Rattle.link_meaning.specs.declared.fault.LinkCause.TheVariants as causes;
+ghost use Rattle.link_meaning.specs.Member.{Member};
+ghost use Rattle.link_meaning.specs.Search.{entries};
+ghost use Rattle.link_meaning.specs.LinkedCells.{Item, bank_of};
+ghost use Rattle.link_resolve.specs.Uses.{HasSpelling};
+ghost use Rattle.link_emit.specs.Slots.{rows_of};
+ghost use Rattle.link_emit.specs.Seats.{IsSeat};
+ghost use Rattle.link_emit.specs.Records.{IsWorth};
+ghost use Rattle.link_emit.specs.Walks.{IsWhole, Begins, HasBegun, Puts, StandsBehind, HasStood, PutsMember, Unmade, IsToldAt, IsWalkedTo, IsValueRefused};
+
+use crate::content::Content;
+use crate::fit::Load;
+use crate::record::{Site, put_record};
+use crate::seat::{Seat, seat_of};
+use crate::slots::Slot;
+use crate::value::value_in;
+use jump_table::Table;
+use link_meaning::{LinkCause, LinkFault};
+use link_resolve::{Program, memory_fault, next_record, size_at};
+use omf_base::Spot;
+use omf_format::{Value, ValueFault};
+use omf_records::{Rec, SegmentView};
+use std::alloc::{AllocError, Global};
+
+/// What the records of all members meet.
+#[derive(Drop)]
+pub struct Whole<'e, 'a> {
+    pub program: &'e Program<'a>,
+    /// The values of all definitions.
+    pub slots: &'e [Slot],
+    /// What is kept of the load segments' headers.
+    pub loads: &'e [Load],
+    /// The number of the load segment that is the jump table, behind all others.
+    pub table: u16,
+}
+
+/// What a record's expression stands for; a number, where the record has none.
+fn value_of(whole: &Whole, seat: Seat, location: u32, rec: &Rec) -> Result<Value, ValueFault>
+    requires whole { IsWhole whole.now.program.now whole.now.slots.now whole.now.loads.now whole.now.table }
+    requires spelled { HasSpelling seat.lab_len (view rec.now) }
+    requires near { seat.offset + location < 2 ^ 32 }
+    ensures { (i : Item) → IsSeat whole.now.program.now i.member seat → seat.place ≡ i.place → i.here.location ≡ location
+        → IsWorth whole.now.program.now (rows_of (entries whole.now.program.now) whole.now.slots.now) i (view rec.now) result }
+{
+    match rec {
+        Rec::Formula { expr, .. } => value_in(whole.program, whole.slots, seat, location, expr),
+        Rec::Equate { expr, .. } => value_in(whole.program, whole.slots, seat, location, expr),
+        Rec::End
+        | Rec::Const { .. }
+        | Rec::LongConst { .. }
+        | Rec::Align { .. }
+        | Rec::Org { .. }
+        | Rec::Space { .. }
+        | Rec::Reloc { .. }
+        | Rec::InterSeg { .. }
+        | Rec::ShortReloc { .. }
+        | Rec::ShortInterSeg { .. }
+        | Rec::Super { .. }
+        | Rec::Using { .. }
+        | Rec::Strong { .. }
+        | Rec::Label { .. }
+        | Rec::Entry { .. } => Ok(Value::Fixed(0)),
+    }
+}
+
+ghost use Rattle.link_emit.specs.Fits.{told_load};
+
+/// BANKSIZE of the load segment with this number.
+fn bank_of(loads: &[Load], number: u16) -> u32
+    ensures { (headers : List Fields) → loads.now ≡ map told_load headers → result ≡ bank_of headers number }
+{
+    match loads.get(usize::from(number).saturating_sub(1)) {
+        Some(load) => load.bank_size,
+        None => 0,
+    }
+}
+
+ghost use Rattle.omf_format.specs.Header.{Fields};
+
+/// Puts what the records of a member give, behind what its load segment holds up to the member's offset. The fault is the first
+/// one's, with its displacement.
+fn put_records(
+    whole: &Whole,
+    seat: Seat,
+    segment: &SegmentView,
+    content: &mut Content,
+    table: &mut Table,
+) -> Result<(), (LinkCause, u32)>
+    requires whole { IsWhole whole.now.program.now whole.now.slots.now whole.now.loads.now whole.now.table }
+    requires sound { IsSound segment.now }
+    requires begun { HasBegun whole.now.program.now (rows_of (entries whole.now.program.now) whole.now.slots.now) seat (shown segment.now) table.old content.old }
+    ensures ok { OnOk result ((front : List Member) (m : Member) (back : List Member) (before : List Cell)
+        → Begins whole.now.program.now (rows_of (entries whole.now.program.now) whole.now.slots.now) front m back seat (shown segment.now) table.old before content.old
+        → Puts whole.now.program.now (rows_of (entries whole.now.program.now) whole.now.slots.now) front m (shown segment.now).records table.new before content.new) }
+    ensures err { IfErr result (λ fault. (front : List Member) (m : Member) (back : List Member) (before : List Cell)
+        → Begins whole.now.program.now (rows_of (entries whole.now.program.now) whole.now.slots.now) front m back seat (shown segment.now) table.old before content.old
+        → (fault.0 ≡ causes.Memory) ⊎ Unmade whole.now.program.now (rows_of (entries whole.now.program.now) whole.now.slots.now) front m fault.0 fault.1) }
+{
+    let site = Site {
+        table: whole.table,
+        own: seat.load_segment,
+        bank_size: bank_of(whole.loads, seat.load_segment),
+        offset: seat.offset,
+    };
+    let mut records = segment.records();
+    let mut location = 0;
+    'walk: loop {
+        match next_record(&mut records) {
+            None => return Ok(()),
+            Some((at, rec)) => {
+                let value = value_of(whole, seat, location, &rec);
+                match put_record(content, table, whole.loads, site, location, &rec, value) {
+                    Ok(()) => {}
+                    Err(cause) => return Err((cause, at)),
+                }
+                location = (u64::from(location) + size_at(&rec, location)) as u32;
+            }
+        }
+    }
+}
+
+/// Puts what a member gives: zeros up to its offset, what its records give, and RESSPC zeros.
+fn put_segment(
+    whole: &Whole,
+    seat: Seat,
+    segment: &SegmentView,
+    content: &mut Content,
+    table: &mut Table,
+) -> Result<(), (LinkCause, u32)>
+    requires whole { IsWhole whole.now.program.now whole.now.slots.now whole.now.loads.now whole.now.table }
+    requires sound { IsSound segment.now }
+    requires stood { HasStood whole.now.program.now (rows_of (entries whole.now.program.now) whole.now.slots.now) seat (shown segment.now) table.old content.old }
+    ensures ok { OnOk result ((front : List Member) (m : Member) (back : List Member) (cells : List Cell)
+        → StandsBehind whole.now.program.now (rows_of (entries whole.now.program.now) whole.now.slots.now) front m back seat (shown segment.now) table.old cells content.old
+        → PutsMember whole.now.program.now (rows_of (entries whole.now.program.now) whole.now.slots.now) front m table.new cells content.new) }
+    ensures err { IfErr result (λ fault. (front : List Member) (m : Member) (back : List Member) (cells : List Cell)
+        → StandsBehind whole.now.program.now (rows_of (entries whole.now.program.now) whole.now.slots.now) front m back seat (shown segment.now) table.old cells content.old
+        → (fault.0 ≡ causes.Memory) ⊎ Unmade whole.now.program.now (rows_of (entries whole.now.program.now) whole.now.slots.now) front m fault.0 fault.1) }
+{
+    let gap = seat.offset as usize - content.len();
+    match content.put_zeros(gap) {
+        Ok(()) => {}
+        Err(_) => return Err((LinkCause::Memory, 0)),
+    }
+    match put_records(whole, seat, segment, content, table) {
+        Ok(()) => {}
+        Err(fault) => return Err(fault),
+    }
+    match content.put_zeros(segment.header.res_spc as usize) {
+        Ok(()) => Ok(()),
+        Err(_) => Err((LinkCause::Memory, 0)),
+    }
+}
+
+/// The first fault of a member's records, as a fault of the linker.
+fn value_fault(program: &Program, place: u32, cause: LinkCause, at: u32) -> LinkFault
+    ensures { (m : Member) → member_at program.now place ≡ Some m → IsToldAt m cause at result }
+{
+    match cause {
+        LinkCause::Memory => memory_fault(),
+        LinkCause::Truncated
+        | LinkCause::BadHeader
+        | LinkCause::Unsupported
+        | LinkCause::BadRecord
+        | LinkCause::AlignFault
+        | LinkCause::BadLength
+        | LinkCause::BadLibrary
+        | LinkCause::Empty
+        | LinkCause::Unresolved
+        | LinkCause::Duplicate
+        | LinkCause::OrgConflict
+        | LinkCause::TooManySegments
+        | LinkCause::SegmentTooLong
+        | LinkCause::Circular
+        | LinkCause::DivideByZero
+        | LinkCause::NotRelocatable
+        | LinkCause::DynamicReference
+        | LinkCause::OutOfSegment
+        | LinkCause::TooManyEntries
+        | LinkCause::DoesNotFit
+        | LinkCause::FileTooLong => fault_in(program, place, cause, at),
+    }
+}
+
+/// A fault of a record of the member at a place.
+fn fault_in(program: &Program, place: u32, cause: LinkCause, at: u32) -> LinkFault
+    ensures { (m : Member) → member_at program.now place ≡ Some m → result ≡ record { cause = cause; name = None; spot = spot_in m at } }
+{
+    match program.member(place) {
+        Some(member) => LinkFault {
+            cause,
+            name: None,
+            spot: Spot {
+                file: member.file,
+                segment: member.segment,
+                at,
+            },
+        },
+        None => memory_fault(),
+    }
+}
+
+ghost use Rattle.std.specs.Prelude.{Some, None};
+ghost use Rattle.link_meaning.specs.LinkFaults.{spot_in};
+ghost use Rattle.link_resolve.specs.Linked.{member_at};
+
+/// Puts what the member at a place, from 1, gives, behind what the members before it gave.
+fn put_member(
+    whole: &Whole,
+    place: u32,
+    contents: &mut Vec<Content>,
+    table: &mut Table,
+) -> Result<(), LinkFault>
+    requires whole { IsWhole whole.now.program.now whole.now.slots.now whole.now.loads.now whole.now.table }
+    requires first { 1 ≤ place }
+    requires inside { place ≤ length whole.now.program.now }
+    requires walked { IsWalkedTo whole.now.program.now (rows_of (entries whole.now.program.now) whole.now.slots.now) (place - 1) table.old contents.old.items }
+    ensures ok { OnOk result (IsWalkedTo whole.now.program.now (rows_of (entries whole.now.program.now) whole.now.slots.now) place table.new contents.new.items) }
+    ensures err { IfErr result (λ fault. IsValueRefused whole.now.program.now (rows_of (entries whole.now.program.now) whole.now.slots.now) fault) }
+{
+    let seat = match seat_of(whole.program, place) {
+        Some(seat) => seat,
+        None => unreachable!(),
+    };
+    let segment = match whole.program.view(place) {
+        Some(segment) => segment,
+        None => unreachable!(),
+    };
+    let number = usize::from(seat.load_segment) - 1;
+    match put_segment(whole, seat, segment, &mut contents[number], table) {
+        Ok(()) => Ok(()),
+        Err((cause, at)) => Err(value_fault(whole.program, place, cause, at)),
+    }
+}
+
+/// Load segments without cells, so many.
+fn no_contents(alloc: Global, count: usize) -> Result<Vec<Content>, AllocError>
+    ensures { IfOk result (λ contents. AreEmpty count contents.items) }
+{
+    let mut contents = Vec::new(alloc);
+    'loads: while contents.as_slice().len() < count {
+        contents.push(Content::new(alloc))?;
+    }
+    Ok(contents)
+}
+
+ghost use Rattle.link_emit.specs.Walks.{AreEmpty, IsFilled};
+
+/// The load segments with the cells of all members, and the jump table; or the first fault of a record.
+pub fn fill(alloc: Global, whole: &Whole, table: &mut Table) -> Result<Vec<Content>, LinkFault>
+    requires whole { IsWhole whole.now.program.now whole.now.slots.now whole.now.loads.now whole.now.table }
+    requires empty { table.old ≡ [] }
+    ensures ok { IfOk result (λ contents. IsFilled whole.now.program.now (rows_of (entries whole.now.program.now) whole.now.slots.now) table.new contents.items) }
+    ensures err { IfErr result (λ fault. IsValueRefused whole.now.program.now (rows_of (entries whole.now.program.now) whole.now.slots.now) fault) }
+{
+    let mut contents = match no_contents(alloc, whole.loads.len()) {
+        Ok(contents) => contents,
+        Err(_) => return Err(memory_fault()),
+    };
+    let mut place = 0;
+    'members: while place < whole.program.members() {
+        place += 1;
+        match put_member(whole, place, &mut contents, table) {
+            Ok(()) => {}
+            Err(fault) => return Err(fault),
+        }
+    }
+    Ok(contents)
+}
+
+ghost use Rattle.std.specs.Prelude.{[]};
