@@ -30,3 +30,4 @@ pub mod Sizes
 pub mod Putting
 pub mod MarkLaws
 pub mod StepLaws
+pub mod Assembling

@@ -26,3 +26,4 @@ pub mod DoingView
 pub mod PutView
 pub mod MarkView
 pub mod StepView
+pub mod AssembleView

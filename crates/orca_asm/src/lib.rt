@@ -36,8 +36,13 @@ mod operand;
 mod operation;
 mod piece;
 mod segment;
+mod source;
 mod statement;
 mod step;
 mod text;
 
 pub use asm_meaning::{AsmCause, AsmFault};
+pub use source::assemble;
+
+#[cfg(test)]
+mod tests;

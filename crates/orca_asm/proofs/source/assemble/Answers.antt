@@ -1,0 +1,10 @@
+use Rattle.orca_macro.specs.Files.{texts_of_files}
+use Rattle.orca_asm.proofs.Assembling.{answered}
+use Rattle.orca_asm.proofs.source.assemble.Goals as goal
+
+pub returns-in-Err-clause-refused : goal.returns-in-Err-clause-refused
+returns-in-Err-clause-refused c = c.macro_fault.ensures c.args.source.now (texts_of_files c.args.macros.now.items) c.in-Err.ensures.refused
+
+pub returns-in-Ok-assembled-clause-refused : goal.returns-in-Ok-assembled-clause-refused
+returns-in-Ok-assembled-clause-refused c =
+    answered c.args.source.now (texts_of_files c.args.macros.now.items) c.in-Ok.lines c.in-Ok-assembled.answer c.in-Ok.ensures.lines c.in-Ok-assembled.ensures
