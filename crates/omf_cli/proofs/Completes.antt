@@ -14,10 +14,6 @@ use Rattle.omf_cli.specs.Made.{Made, Bytes, Refusal, first_of}
 use Rattle.omf_cli.specs.Script.{ScriptRun, CanRun}
 use Rattle.omf_cli.specs.Making.{MakesRun, AreRead, AreHeld, CanMake}
 
--- what may be made excludes a refusal
-abbrev pub Excludes : (List (List ℕ) → Made → Type 0) → Type 0
-Excludes makes = (files : List (List ℕ)) (bytes text : List ℕ) → makes files (Bytes bytes) → makes files (Refusal text) → ⊥
-
 some_same : (x y : List ℕ) → Some x ≡ Some y → x ≡ y
 some_same x y same = ap value same
   where
@@ -71,20 +67,20 @@ not_unread told path file before now is_told held small calm (inr (inr failed)) 
 not_printed : (text : List ℕ) (before now : SinkSeen) → (Rose before.faults now.faults → ⊥) → FailsToPrint text before now → ⊥
 not_printed text before now calm fails = calm (rose before.faults now.faults (ap (λ (s : SinkSeen). s.faults) fails.2))
 
-pub completes : (makes : List (List ℕ) → Made → Type 0) → Excludes makes → (output : Option (List ℕ)) (inputs : List (List ℕ)) (result : Status) (o : Outside)
+pub completes : (makes : List (List ℕ) → Made → Type 0) → (output : Option (List ℕ)) (inputs : List (List ℕ)) (result : Status) (o : Outside)
     → MakesRun makes output inputs result o → CanMake makes inputs o → (result ≡ status.Done) ⊎ (result ≡ status.Memory)
-completes makes excludes output inputs status.Done o run can = inl refl
-completes makes excludes output inputs status.Memory o run can = inr refl
-completes makes excludes output inputs status.Usage o run can = absurd run.1
-completes makes excludes output inputs status.CannotPrint o (wanted, text, is, fails) can = absurd (not_printed text o.sink o.new_sink can.calm.sink fails)
-completes makes excludes output inputs status.CannotRead o (text, (path, stops, is), now) can =
+completes makes output inputs status.Done o run can = inl refl
+completes makes output inputs status.Memory o run can = inr refl
+completes makes output inputs status.Usage o run can = absurd run.1
+completes makes output inputs status.CannotPrint o (wanted, text, is, fails) can = absurd (not_printed text o.sink o.new_sink can.calm.sink fails)
+completes makes output inputs status.CannotRead o (text, (path, stops, is), now) can =
     let held = held_at can.told stops.front stops.rest can.files path (subst (λ (paths : List (List ℕ)). AreHeld can.told paths can.files) stops.inputs' can.held') in
     absurd (not_unread can.told path held.0 o.store o.new_store.faults can.is_told held.2 held.1 can.calm.store stops.cause)
-completes makes excludes (Some output) inputs status.CannotWrite o (text, (stops, is), now) can = absurd (can.calm.store (rose o.store.faults o.new_store.faults (ap (λ (s : StoreSeen). s.faults) stops.store)))
-completes makes excludes None inputs status.CannotWrite o run can = absurd run.1
-completes makes excludes output inputs status.Refused o (text, (made, kept), now) can =
+completes makes (Some output) inputs status.CannotWrite o (text, (stops, is), now) can = absurd (can.calm.store (rose o.store.faults o.new_store.faults (ap (λ (s : StoreSeen). s.faults) stops.store)))
+completes makes None inputs status.CannotWrite o run can = absurd run.1
+completes makes output inputs status.Refused o (text, (made, kept), now) can =
     let same = same_files can.told inputs can.files made.files can.held' (subst (λ (h : Option FileMap). AreRead h inputs made.files) can.is_told made.read) in
-    absurd (excludes can.files can.bytes text can.makes' (subst (λ (files : List (List ℕ)). makes files (Refusal text)) same made.made'))
+    absurd (can.sound text (subst (λ (files : List (List ℕ)). makes files (Refusal text)) same made.made'))
 
 -- a script that can be run is run to its end, unless memory runs out
 pub script_completes : (inputs : List (List ℕ)) (result : Status) (last : Option Loaded) (o : Outside) → ScriptRun inputs result last o → CanRun inputs o → (result ≡ status.Done) ⊎ (result ≡ status.Memory)

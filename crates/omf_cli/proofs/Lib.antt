@@ -1,11 +1,8 @@
-pub mod Bodies
-pub mod MemberBodies
-pub mod MemberLists
-pub mod Ends
-pub mod Linked
 pub mod Readings
 pub mod Runs
 pub mod Completes
 pub mod Once
-pub mod Loadables
 pub mod Libraries
+pub mod Linking
+pub mod Sources
+mod Forms

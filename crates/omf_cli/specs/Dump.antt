@@ -2,7 +2,6 @@
 use Rattle.std.specs.Prelude.{◌≡◌, ℕ, List, None}
 use Rattle.omf_format.specs.declared.fault.FileFault.{FileFault}
 use Rattle.omf_format.specs.File.{IsFirstFault}
-use Rattle.omf_format.specs.FileLaws.{no_file}
 use Rattle.omf_listing.specs.Listing.{IsListing}
 use Rattle.omf_cli.specs.FileCauses.{cause_name}
 use Rattle.omf_cli.specs.Lines.{refused_line}
@@ -12,6 +11,3 @@ use Rattle.omf_cli.specs.Made.{Made, Bytes, Refusal, first_of}
 abbrev pub DumpMakes : List (List ℕ) → Made → Type 0
 DumpMakes files (Bytes text) = IsListing (first_of files) text
 DumpMakes files (Refusal text) = (fault : FileFault) × IsFirstFault (first_of files) fault × (text ≡ refused_line (cause_name fault.cause) None 1 fault.segment fault.at)
-
-pub dump_excludes : (files : List (List ℕ)) (bytes text : List ℕ) → DumpMakes files (Bytes bytes) → DumpMakes files (Refusal text) → ⊥
-dump_excludes files bytes text made refused = no_file (first_of files) refused.0 made.segments refused.1 made.is_file

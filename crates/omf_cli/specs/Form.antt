@@ -7,6 +7,7 @@ use Rattle.omf_cli.specs.declared.form.Form.{Form as Words}
 use Rattle.omf_cli.specs.declared.form.Form.TheVariants as words
 
 pub data Form : Type 0 where
+  Asm : (source output : List ℕ) (macros : List (List ℕ)) → Form
   Link : (output : List ℕ) (inputs : List (List ℕ)) → Form
   Dump : (inputs : List (List ℕ)) → Form
   Run : (inputs : List (List ℕ)) → Form
@@ -17,21 +18,28 @@ abbrev pub with_output : ℕ → ℕ → List (List ℕ) → Option (List ℕ ×
 with_output least most [] = None
 with_output least most (output ∷ inputs) = if is_path output && are_paths least most inputs then Some (output, inputs) else None
 
+-- a source, an output, and up to 254 macro files
+abbrev pub source_and_output : List (List ℕ) → Option (List ℕ × List ℕ × List (List ℕ))
+source_and_output [] = None
+source_and_output (source ∷ words) = if is_path source then option_map (λ w. (source, w.0, w.1)) (with_output 0 254 words) else None
+
 -- so many inputs
 abbrev pub inputs_only : ℕ → ℕ → List (List ℕ) → Option (List (List ℕ))
 inputs_only least most inputs = if are_paths least most inputs then Some inputs else None
 
--- `link OUT OBJ`, `dump FILE`, `run SCRIPT`, `lib OUT OBJ..`; other words have no form
+-- `asm SRC OBJ MACROS..`, `link OUT FILE..`, `dump FILE`, `run SCRIPT`, `lib OUT OBJ..`; other words have no form
 abbrev pub form_of : List (List ℕ) → Option Form
 form_of [] = None
 form_of (name ∷ words) =
-    if bytes_eq name (codes "link") then option_map (λ w. Link w.0 w.1) (with_output 1 1 words)
+    if bytes_eq name (codes "asm") then option_map (λ w. Asm w.0 w.1 w.2) (source_and_output words)
+    else (if bytes_eq name (codes "link") then option_map (λ w. Link w.0 w.1) (with_output 1 255 words)
     else (if bytes_eq name (codes "dump") then option_map Dump (inputs_only 1 1 words)
     else (if bytes_eq name (codes "run") then option_map Run (inputs_only 1 1 words)
-    else (if bytes_eq name (codes "lib") then option_map (λ w. Lib w.0 w.1) (with_output 1 255 words) else None)))
+    else (if bytes_eq name (codes "lib") then option_map (λ w. Lib w.0 w.1) (with_output 1 255 words) else None))))
 
 -- a form as it was read from words
 abbrev pub shown : Words → Form
+shown (words.Asm source output macros) = Asm source.now output.now (words_of macros.now)
 shown (words.Link output inputs) = Link output.now (words_of inputs.now)
 shown (words.Dump inputs) = Dump (words_of inputs.now)
 shown (words.Run inputs) = Run (words_of inputs.now)

@@ -1,7 +1,5 @@
-pub mod Content
-pub mod Members
-pub mod LoadFile
-pub mod Plain
+pub mod AsmCauses
+pub mod Assemble
 pub mod Words
 pub mod Form
 pub mod Lines
@@ -10,6 +8,7 @@ pub mod ScriptCauses
 pub mod Printing
 pub mod Made
 pub mod Making
+pub mod LinkCauses
 pub mod Link
 pub mod Dump
 pub mod LibCauses

@@ -4,7 +4,6 @@ use Rattle.lib_dict.specs.declared.fault.LibFault.{LibFault}
 use Rattle.lib_dict.specs.declared.fault.LibCause.TheVariants as lib
 use Rattle.lib_dict.specs.Library.{Given, IsLibraryOf}
 use Rattle.lib_dict.specs.Made.{IsLibRefused}
-use Rattle.lib_dict.specs.MadeOnce.{made_excludes}
 use Rattle.omf_cli.specs.LibCauses.{lib_cause_name}
 use Rattle.omf_cli.specs.Lines.{refused_line}
 use Rattle.omf_cli.specs.Made.{Made, Bytes, Refusal}
@@ -26,6 +25,3 @@ LibMakes paths files (Refusal text) =
 abbrev pub TellsFault : LibFault → Made → Type 0
 TellsFault fault (Bytes bytes) = ⊥
 TellsFault fault (Refusal text) = (fault.cause ≢ lib.Memory) × (text ≡ refused_line (lib_cause_name fault.cause) None fault.spot.file fault.spot.segment fault.spot.at)
-
-pub lib_excludes : (paths files : List (List ℕ)) (bytes text : List ℕ) → LibMakes paths files (Bytes bytes) → LibMakes paths files (Refusal text) → ⊥
-lib_excludes paths files bytes text made refused = refused.2 (made_excludes (given_of paths files) bytes refused.0 made refused.1)

@@ -27,3 +27,7 @@ refused_line cause name file segment at =
 -- a cause against a script, with the line's number in decimal
 abbrev pub script_line : List ℕ → ℕ → List ℕ
 script_line cause number = line (codes "refused " ++ cause ++ codes " " ++ decimal number)
+
+-- a cause against a source or a macro file, with the file's number and the line's in decimal
+abbrev pub line_fault_line : List ℕ → ℕ → ℕ → List ℕ
+line_fault_line cause file number = line (codes "refused " ++ cause ++ codes " " ++ decimal file ++ codes " " ++ decimal number)

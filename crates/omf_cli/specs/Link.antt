@@ -1,22 +1,22 @@
--- `link`: the load file of the one input, which is a plain object file.
-use Rattle.std.specs.Prelude.{◌≡◌, ◌≢◌, ◌⊎◌, ℕ, List, [], codes, None}
-use Rattle.std.proofs.Common.{◌∷◌, inl, inr, length, refl, ap, arith}
-use Rattle.omf_format.specs.File.{Segment, IsFile}
-use Rattle.load_meaning.specs.Plain.{IsPlain, IsLinkedTo, IsUnbuilt}
+-- `link`: the load file of the inputs, which are objects and libraries, or their first fault.
+use Rattle.std.specs.Prelude.{◌≡◌, ◌≢◌, ℕ, List}
+use Rattle.link_meaning.specs.declared.fault.LinkFault.{LinkFault}
+use Rattle.link_meaning.specs.declared.fault.LinkCause.TheVariants as causes
+use Rattle.link_meaning.specs.EmitFaults.{IsFirstLinkFault, IsLinkedTo}
+use Rattle.omf_cli.specs.LinkCauses.{link_cause_name}
 use Rattle.omf_cli.specs.Lines.{refused_line}
-use Rattle.omf_cli.specs.Made.{Made, Bytes, Refusal, first_of}
+use Rattle.omf_cli.specs.Made.{Made, Bytes, Refusal}
 
--- an empty file is refused as such, and any other one that isn't a plain object file as one that isn't linked yet
+-- the line of a fault: its cause, the name if there is one, and its spot
+abbrev pub link_fault_line : LinkFault → List ℕ
+link_fault_line fault = refused_line (link_cause_name fault.cause) fault.name fault.spot.file fault.spot.segment fault.spot.at
+
+-- the load file, or the line of the first fault of all phases
 abbrev pub LinkMakes : List (List ℕ) → Made → Type 0
-LinkMakes files (Bytes output) = IsLinkedTo (first_of files) output
-LinkMakes files (Refusal text) =
-    ((first_of files ≡ []) × (text ≡ refused_line (codes "Empty") None 0 0 0))
-    ⊎ ((first_of files ≢ []) × IsUnbuilt (first_of files) × (text ≡ refused_line (codes "Unbuilt") None 0 0 0))
+LinkMakes files (Bytes output) = IsLinkedTo files output
+LinkMakes files (Refusal text) = (fault : LinkFault) × IsFirstLinkFault files fault × (text ≡ link_fault_line fault)
 
-no_plain : (segments : List Segment) (file : List ℕ) → file ≡ [] → IsFile segments file → IsPlain segments → ⊥
-no_plain [] file none is plain = plain.some refl
-no_plain (s ∷ segments) file none is plain = absurd (omega (arith, ap length none))
-
-pub link_excludes : (files : List (List ℕ)) (bytes text : List ℕ) → LinkMakes files (Bytes bytes) → LinkMakes files (Refusal text) → ⊥
-link_excludes files bytes text made (inl empty) = no_plain made.segments (first_of files) empty.0 made.is_file made.plain
-link_excludes files bytes text made (inr unbuilt) = unbuilt.1 made.segments made.is_file made.plain
+-- the line of a fault that isn't want of memory
+abbrev pub TellsLinkFault : LinkFault → Made → Type 0
+TellsLinkFault fault (Bytes bytes) = ⊥
+TellsLinkFault fault (Refusal text) = (fault.cause ≢ causes.Memory) × (text ≡ link_fault_line fault)

@@ -84,14 +84,13 @@ AreHeld told [] [] = Unit {0}
 AreHeld told (path ∷ paths) (file ∷ files) = ((length file ≤ max_file) × (get told path ≡ Some file)) × AreHeld told paths files
 AreHeld told _ _ = ⊥
 
--- the store tells all inputs, and bytes can be made of them
+-- the store tells all inputs, and they have no fault for which they would be refused
 pub record CanMake (makes : List (List ℕ) → Made → Type 0) (inputs : List (List ℕ)) (o : Outside) : Type 0 where
   pub told : FileMap
   pub is_told : o.store.held ≡ Some told
   pub files : List (List ℕ)
   pub held' : AreHeld told inputs files
-  pub bytes : List ℕ
-  pub makes' : makes files (Bytes bytes)
+  pub sound : (text : List ℕ) → makes files (Refusal text) → ⊥
   pub calm : IsCalm o
 
 -- ---- on the way

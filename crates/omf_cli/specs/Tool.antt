@@ -1,13 +1,14 @@
 -- What a run of the tool did, for each status that it ends with.
-use Rattle.std.specs.Prelude.{◌≡◌, Option, None, Some}
+use Rattle.std.specs.Prelude.{◌≡◌, ◌∷◌, Option, None, Some}
 use Rattle.omf_io.specs.Outside.{Outside}
 use Rattle.loader_agrees.specs.Agrees.{Loaded}
 use Rattle.omf_cli.specs.declared.status.Status.{Status}
 use Rattle.omf_cli.specs.declared.status.Status.TheVariants as status
-use Rattle.omf_cli.specs.Form.{Form, Link, Dump, Run, Lib}
+use Rattle.omf_cli.specs.Form.{Form, Asm, Link, Dump, Run, Lib}
 use Rattle.omf_cli.specs.Lines.{usage_line}
 use Rattle.omf_cli.specs.Printing.{Ends}
 use Rattle.omf_cli.specs.Making.{MakesRun, CanMake}
+use Rattle.omf_cli.specs.Assemble.{AsmMakes}
 use Rattle.omf_cli.specs.Dump.{DumpMakes}
 use Rattle.omf_cli.specs.Link.{LinkMakes}
 use Rattle.omf_cli.specs.Library.{LibMakes}
@@ -21,6 +22,7 @@ UsageRun result o =
 -- a run over words of this form that ends with the status; a loader is handed out by a script alone
 abbrev pub HasRun : Status → Option Form → Option Loaded → Outside → Type 0
 HasRun result None last o = UsageRun result o × (last ≡ None)
+HasRun result (Some (Asm source output macros)) last o = MakesRun AsmMakes (Some output) (source ∷ macros) result o × (last ≡ None)
 HasRun result (Some (Link output inputs)) last o = MakesRun LinkMakes (Some output) inputs result o × (last ≡ None)
 HasRun result (Some (Dump inputs)) last o = MakesRun DumpMakes None inputs result o × (last ≡ None)
 HasRun result (Some (Run inputs)) last o = ScriptRun inputs result last o
@@ -29,6 +31,7 @@ HasRun result (Some (Lib output inputs)) last o = MakesRun (LibMakes inputs) (So
 -- the command can be done: the store tells its inputs, they have no fault, and no count rises
 abbrev pub CanSucceed : Option Form → Outside → Type 0
 CanSucceed None o = ⊥
+CanSucceed (Some (Asm source output macros)) o = CanMake AsmMakes (source ∷ macros) o
 CanSucceed (Some (Link output inputs)) o = CanMake LinkMakes inputs o
 CanSucceed (Some (Dump inputs)) o = CanMake DumpMakes inputs o
 CanSucceed (Some (Run inputs)) o = CanRun inputs o

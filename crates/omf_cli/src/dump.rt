@@ -10,12 +10,12 @@ use std::alloc::{AllocError, Global};
 pub struct Dump;
 
 impl Maker for Dump {
-    ghost use Rattle.omf_cli.specs.Dump.{DumpMakes, dump_excludes};
+    ghost use Rattle.omf_cli.specs.Dump.{DumpMakes};
 
     ghost makes = { λ _ files made. DumpMakes files made };
 
-    fn make(&self, alloc: Global, files: &[Vec<u8>]) -> Result<Making, AllocError> {
-        let fault = match list_file(alloc, first_of(files)) {
+    fn make(&self, alloc: Global, files: Vec<Vec<u8>>) -> Result<Making, AllocError> {
+        let fault = match list_file(alloc, first_of(&files)) {
             Ok(text) => return Ok(Making::Bytes(text.into_bytes())),
             Err(fault) => fault,
         };
@@ -35,6 +35,4 @@ impl Maker for Dump {
             }
         }
     }
-
-    ghost excludes = { λ _ files bytes text made refused. dump_excludes files bytes text made refused };
 }

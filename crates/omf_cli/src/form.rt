@@ -3,10 +3,15 @@
 ghost use Rattle.std.specs.Prelude.{◌≡◌};
 ghost use Rattle.std.specs.Option.{option_map};
 ghost use Rattle.omf_cli.specs.Words.{is_path, are_paths, words_of};
-ghost use Rattle.omf_cli.specs.Form.{with_output, inputs_only, form_of, shown};
+ghost use Rattle.omf_cli.specs.Form.{with_output, source_and_output, inputs_only, form_of, shown};
 
 /// A command with its paths.
 pub enum Form<'a> {
+    Asm {
+        source: &'a str,
+        output: &'a str,
+        macros: &'a [String],
+    },
     Link {
         output: &'a str,
         inputs: &'a [String],
@@ -50,6 +55,19 @@ fn with_output(least: usize, most: usize, words: &[String]) -> Option<(&str, &[S
     }
 }
 
+/// A source, an output, and macro files behind them.
+fn source_and_output(words: &[String]) -> Option<(&str, &str, &[String])>
+    ensures { option_map (λ w. (w.0.now, w.1.now, words_of w.2.now)) result ≡ source_and_output (words_of words.now) }
+{
+    let (source, words) = words.split_first()?;
+    let source = source.as_str();
+    if !is_path(source) {
+        return None;
+    }
+    let (output, macros) = with_output(0, 254, words)?;
+    Some((source, output, macros))
+}
+
 /// So many inputs.
 fn inputs_only(least: usize, most: usize, words: &[String]) -> Option<&[String]>
     ensures { option_map (λ w. words_of w.now) result ≡ inputs_only least most (words_of words.now) }
@@ -67,8 +85,16 @@ pub fn read_form(words: &[String]) -> Option<Form<'_>>
 {
     let (name, words) = words.split_first()?;
     match name.as_str() {
+        "asm" => {
+            let (source, output, macros) = source_and_output(words)?;
+            Some(Form::Asm {
+                source,
+                output,
+                macros,
+            })
+        }
         "link" => {
-            let (output, inputs) = with_output(1, 1, words)?;
+            let (output, inputs) = with_output(1, 255, words)?;
             Some(Form::Link { output, inputs })
         }
         "dump" => {

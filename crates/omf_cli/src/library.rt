@@ -98,13 +98,11 @@ fn make_of(alloc: Global, paths: &[String], files: &[Vec<u8>]) -> Result<Making,
 
 impl Maker for Lib<'_> {
     ghost use Rattle.omf_cli.specs.Words.{words_of};
-    ghost use Rattle.omf_cli.specs.Library.{LibMakes, lib_excludes};
+    ghost use Rattle.omf_cli.specs.Library.{LibMakes};
 
     ghost makes = { λ lib files made. LibMakes (words_of lib.inputs.now) files made };
 
-    fn make(&self, alloc: Global, files: &[Vec<u8>]) -> Result<Making, AllocError> {
-        make_of(alloc, self.inputs, files)
+    fn make(&self, alloc: Global, files: Vec<Vec<u8>>) -> Result<Making, AllocError> {
+        make_of(alloc, self.inputs, &files)
     }
-
-    ghost excludes = { λ lib files bytes text made refused. lib_excludes (words_of lib.inputs.now) files bytes text made refused };
 }

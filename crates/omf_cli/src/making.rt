@@ -29,12 +29,10 @@ pub trait Maker {
     // What may be made of files with these bytes.
     ghost makes: { Self → List (List ℕ) → Made → Type 0 };
 
-    fn make(&self, alloc: Global, files: &[Vec<u8>]) -> Result<Making, AllocError>
-        requires { AreShort (all_bytes files.now) }
-        ensures { IfOk result (λ made. makes self.now (all_bytes files.now) (made_of made)) };
-
-    // Files of which bytes can be made are never refused.
-    ghost excludes: { (maker : Self) (files : List (List ℕ)) (bytes text : List ℕ) → makes maker files (Bytes bytes) → makes maker files (Refusal text) → ⊥ };
+    fn make(&self, alloc: Global, files: Vec<Vec<u8>>) -> Result<Making, AllocError>
+        requires short { AreShort (all_bytes files.items) }
+        requires few { length files.items ≤ 255 }
+        ensures { IfOk result (λ made. makes self.now (all_bytes files.items) (made_of made)) };
 }
 
 /// The file of a command that reads one.
@@ -72,6 +70,7 @@ fn make_all<'a, M: Maker, F: Files>(
     inputs: &'a [String],
     files: &mut F,
 ) -> MakeEnd<'a>
+    requires { length inputs.now ≤ 255 }
     ensures { HasCome (M.makes maker.now) (option_map (λ path. path.now) output.entry) (words_of inputs.now) result (F.seen files.old) (F.seen files.new) }
 {
     let all = match read_all(alloc, inputs, files) {
@@ -79,7 +78,7 @@ fn make_all<'a, M: Maker, F: Files>(
         Reading::Unread(path) => return MakeEnd::Unread(path),
         Reading::Memory => return MakeEnd::Memory,
     };
-    let bytes = match maker.make(alloc, &all) {
+    let bytes = match maker.make(alloc, all) {
         Ok(Making::Bytes(bytes)) => bytes,
         Ok(Making::Refusal(text)) => return MakeEnd::Refused(text),
         Err(AllocError) => return MakeEnd::Memory,
@@ -126,6 +125,7 @@ pub fn run_maker<M: Maker, F: Files, S: Sink>(
     files: &mut F,
     out: &mut S,
 ) -> Status
+    requires few { length inputs.now ≤ 255 }
     ensures run { MakesRun (M.makes maker.now) (option_map (λ path. path.now) output.entry) (words_of inputs.now) result
         (outside (F.seen files.old) (F.seen files.new) (S.seen out.old) (S.seen out.new)) }
     ensures completes { CanMake (M.makes maker.now) (words_of inputs.now)

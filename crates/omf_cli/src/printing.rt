@@ -3,7 +3,7 @@
 ghost use Rattle.std.specs.Prelude.{◌≡◌, ◌++◌, IfOk, OnOk};
 ghost use Rattle.std.specs.Option.{option_map};
 ghost use Rattle.omf_base.specs.Lines.{line};
-ghost use Rattle.omf_cli.specs.Lines.{usage_line, with_name, refused_line, script_line};
+ghost use Rattle.omf_cli.specs.Lines.{usage_line, with_name, refused_line, script_line, line_fault_line};
 ghost use Rattle.omf_cli.specs.FileCauses.{cause_name};
 ghost use Rattle.omf_cli.specs.ScriptCauses.{script_cause_name};
 ghost use Rattle.omf_cli.specs.Printing.{IsPut, IsPrinted};
@@ -89,6 +89,26 @@ pub fn script_line(alloc: Global, cause: &str, number: u32) -> Result<Line, Line
     let mut line = Line::new(alloc);
     line.text("refused ")?;
     line.text(cause)?;
+    line.text(" ")?;
+    line.dec(number)?;
+    line.text("\n")?;
+    Ok(line)
+}
+
+/// The line that says why a source is refused, and at which line of which file.
+pub fn line_fault_line(
+    alloc: Global,
+    cause: &str,
+    file: u32,
+    number: u32,
+) -> Result<Line, LineFault>
+    ensures { IfOk result (λ text. text ≡ line_fault_line cause.now file number) }
+{
+    let mut line = Line::new(alloc);
+    line.text("refused ")?;
+    line.text(cause)?;
+    line.text(" ")?;
+    line.dec(file)?;
     line.text(" ")?;
     line.dec(number)?;
     line.text("\n")?;

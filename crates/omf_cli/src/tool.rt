@@ -1,11 +1,14 @@
 //! All that the program does.
 
-ghost use Rattle.std.specs.Prelude.{◌≡◌, ◌⊎◌, None};
+ghost use Rattle.std.specs.Prelude.{◌≡◌, ◌⊎◌, ◌≤◌, ◌∷◌, length, None, Some};
 ghost use Rattle.omf_io.specs.Outside.{outside};
 ghost use Rattle.omf_cli.specs.Words.{words_of};
+ghost use Rattle.omf_cli.specs.Assemble.{AsmMakes};
 ghost use Rattle.omf_cli.specs.Form.{form_of};
+ghost use Rattle.omf_cli.specs.Making.{MakesRun, CanMake};
 ghost use Rattle.omf_cli.specs.Tool.{HasRun, CanSucceed};
 
+use crate::asm::{Asm, inputs_of};
 use crate::dump::Dump;
 use crate::form::{Form, read_form};
 use crate::library::Lib;
@@ -18,10 +21,34 @@ use omf_io::{Files, Sink};
 use std::alloc::Global;
 use sys_loader::Loader;
 
+/// Reads the source and then the macro files, and writes the object.
+fn run_asm<F: Files, S: Sink>(
+    alloc: Global,
+    source: &str,
+    output: &str,
+    macros: &[String],
+    files: &mut F,
+    out: &mut S,
+) -> Status
+    requires few { length macros.now ≤ 254 }
+    ensures run { MakesRun AsmMakes (Some output.now) (source.now ∷ words_of macros.now) result
+        (outside (F.seen files.old) (F.seen files.new) (S.seen out.old) (S.seen out.new)) }
+    ensures completes { CanMake AsmMakes (source.now ∷ words_of macros.now)
+        (outside (F.seen files.old) (F.seen files.new) (S.seen out.old) (S.seen out.new))
+        → (result ≡ Status.Done) ⊎ (result ≡ Status.Memory) }
+{
+    match inputs_of(alloc, source, macros) {
+        Ok(inputs) => run_maker(alloc, &Asm, Some(output), &inputs, files, out),
+        Err(_) => Status::Memory,
+    }
+}
+
 /// Does what the words say over a store of files and a sink of text, and answers the status. `last` is to hold no loader. Where
 /// a script was run to its end it holds the loader that ran the commands, if there were any, and else none.
 ///
-/// `link OUT OBJ` links one plain object file. The input is read before anything is written. `dump FILE` prints a line
+/// `asm SRC OBJ MACROS..` assembles a source with 0 to 254 macro files; all are read, the source first, before anything is
+/// written; a refusal tells the first fault with its cause, its file (0 is the source) and its line. `link OUT FILE..` links 1 to 255 files, objects and libraries, in this order. All are read, in order, before anything is
+/// written; a refusal tells the first fault with its cause, its name if it has one, and its place. `dump FILE` prints a line
 /// for each segment of a file, and one for each of its records. `run SCRIPT` runs a script of loader commands, which is read
 /// whole before, and prints a line for each. `lib OUT OBJ..` makes a library of 1 to 255 object files, whose paths are their
 /// names in it; all are read in order before anything is written. Other words print the usage line.
@@ -45,6 +72,13 @@ pub fn run_tool<F: Files, S: Sink>(
 {
     match read_form(words) {
         None => print(usage_line(alloc), Status::Usage, out),
+        Some(
+            Form::Asm {
+                source,
+                output,
+                macros,
+            },
+        ) => run_asm(alloc, source, output, macros, files, out),
         Some(Form::Link { output, inputs }) => {
             run_maker(alloc, &Link, Some(output), inputs, files, out)
         }

@@ -12,7 +12,7 @@ returns-clause-run g c =
 
 pub returns-clause-completes : goal.returns-clause-completes
 returns-clause-completes g c =
-    completes (g.M.Maker.makes c.args.maker.now) (g.met.M.Maker.excludes c.args.maker.now) _ (words_of c.args.inputs.now) c.say.result
+    completes (g.M.Maker.makes c.args.maker.now) _ (words_of c.args.inputs.now) c.say.result
     (outside (g.F.Files.seen c.args.files.now) (g.F.Files.seen c.make_all-end.new.files) (g.S.Sink.seen c.args.out.now) (g.S.Sink.seen c.say.new.out))
     (makes_run (g.M.Maker.makes c.args.maker.now) _ (words_of c.args.inputs.now) c.make_all-end.result c.say.result
     (outside (g.F.Files.seen c.args.files.now) (g.F.Files.seen c.make_all-end.new.files) (g.S.Sink.seen c.args.out.now) (g.S.Sink.seen c.say.new.out))

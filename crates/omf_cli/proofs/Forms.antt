@@ -1,0 +1,75 @@
+-- What the inputs of a form are, which `link` and `lib` rest on.
+use Rattle.std.proofs.Common.{◌≡◌, ◌≤◌, ℕ, List, [], ◌∷◌, length, Option, Some, None, refl, sym, subst, arith}
+use Rattle.std.specs.Prelude.{◌&&◌, Bool, true, false, cond, codes, String, string_bytes, IsTrue}
+use Rattle.std.specs.Option.{option_map}
+use Rattle.std.specs.Str.{bytes_eq}
+use Rattle.std.specs.declared.alloc.Global.{Global}
+use Rattle.std.proofs.lemmas.Bool.{and_parts}
+use Rattle.std.proofs.lemmas.List.{length-map}
+use Rattle.omf_cli.specs.Form.{Form, Asm, Link, Dump, Run, Lib, form_of, with_output, source_and_output, inputs_only}
+use Rattle.omf_cli.specs.Words.{is_path, are_paths, words_of}
+use Rattle.omf_cli.proofs.Libraries.{few_paths}
+
+-- the inputs of `link` and `lib` are 1 to 255 paths
+abbrev HasPaths : Option Form → Type 0
+HasPaths None = Unit {0}
+HasPaths (Some (Asm source output macros)) = Unit {0}
+HasPaths (Some (Link output inputs)) = IsTrue (are_paths 1 255 inputs)
+HasPaths (Some (Dump inputs)) = Unit {0}
+HasPaths (Some (Run inputs)) = Unit {0}
+HasPaths (Some (Lib output inputs)) = IsTrue (are_paths 1 255 inputs)
+
+abbrev ArePaths : Option (List ℕ × List (List ℕ)) → Type 0
+ArePaths None = Unit {0}
+ArePaths (Some w) = IsTrue (are_paths 1 255 w.1)
+
+either : (b : Bool) (x y : Option Form) → HasPaths x → HasPaths y → HasPaths (cond b x y)
+either true x y p q = p
+either false x y p q = q
+
+paths_behind : (words : List (List ℕ)) → ArePaths (with_output 1 255 words)
+paths_behind [] = tt
+paths_behind (output ∷ inputs) = by_test (is_path output && are_paths 1 255 inputs) refl
+  where
+    by_test : (b : Bool) → (is_path output && are_paths 1 255 inputs) ≡ b → ArePaths (cond b (Some (output, inputs)) None)
+    by_test true is = (and_parts (is_path output) (are_paths 1 255 inputs) is).1
+    by_test false is = tt
+
+of_asm : (found : Option (List ℕ × List ℕ × List (List ℕ))) → HasPaths (option_map (λ (w : List ℕ × List ℕ × List (List ℕ)). Asm w.0 w.1 w.2) found)
+of_asm None = tt
+of_asm (Some w) = tt
+
+of_link : (found : Option (List ℕ × List (List ℕ))) → ArePaths found → HasPaths (option_map (λ (w : List ℕ × List (List ℕ)). Link w.0 w.1) found)
+of_link None are = tt
+of_link (Some w) are = are
+
+of_lib : (found : Option (List ℕ × List (List ℕ))) → ArePaths found → HasPaths (option_map (λ (w : List ℕ × List (List ℕ)). Lib w.0 w.1) found)
+of_lib None are = tt
+of_lib (Some w) are = are
+
+of_dump : (found : Option (List (List ℕ))) → HasPaths (option_map Dump found)
+of_dump None = tt
+of_dump (Some inputs) = tt
+
+of_run : (found : Option (List (List ℕ))) → HasPaths (option_map Run found)
+of_run None = tt
+of_run (Some inputs) = tt
+
+paths_in : (words : List (List ℕ)) → HasPaths (form_of words)
+paths_in [] = tt
+paths_in (name ∷ words) =
+    either (bytes_eq name (codes "asm")) _ _ (of_asm (source_and_output words))
+    (either (bytes_eq name (codes "link")) _ _ (of_link (with_output 1 255 words) (paths_behind words))
+    (either (bytes_eq name (codes "dump")) _ _ (of_dump (inputs_only 1 1 words))
+    (either (bytes_eq name (codes "run")) _ _ (of_run (inputs_only 1 1 words))
+    (either (bytes_eq name (codes "lib")) _ _ (of_lib (with_output 1 255 words) (paths_behind words)) tt))))
+
+-- `lib` has 1 to 255 paths
+pub lib_paths : (words : List (List ℕ)) (output : List ℕ) (inputs : List (List ℕ)) → Some (Lib output inputs) ≡ form_of words → IsTrue (are_paths 1 255 inputs)
+lib_paths words output inputs is = subst HasPaths (sym is) (paths_in words)
+
+-- `link` has 255 inputs at most
+pub link_few : (words : List (List ℕ)) (output : List ℕ) (inputs : List (String Global)) → Some (Link output (words_of inputs)) ≡ form_of words → length inputs ≤ 255
+link_few words output inputs is =
+    let are : IsTrue (are_paths 1 255 (words_of inputs)) = subst HasPaths (sym is) (paths_in words) in
+    omega (arith, few_paths (words_of inputs) are, length-map inputs string_bytes)

@@ -1,0 +1,130 @@
+-- The inputs of `asm`, and what it makes of them.
+use Rattle.std.proofs.Common.{◌≡◌, ℕ, suc, ◌+◌, ◌<◌, ◌≤◌, List, [], ◌∷◌, ◌++◌, length, get_or, take, Option, Some, None, Result, Ok, Err, IfOk, refl, sym, ap, subst, ◌∙◌, add-one, arith}
+use Rattle.std.specs.Prelude.{◌&&◌, Bool, true, false, cond, nat_le, codes, String, string_bytes}
+use Rattle.std.specs.Option.{option_map}
+use Rattle.std.specs.List.{list_all}
+use Rattle.std.specs.Str.{bytes_eq}
+use Rattle.std.proofs.lemmas.Bool.{and_parts, leb-true}
+use Rattle.std.specs.declared.alloc.Global.{Global}
+use Rattle.std.proofs.Math.Seq.{take-suc}
+use Rattle.std.proofs.lemmas.List.{length-map, map-append, take_all}
+use Rattle.asm_meaning.specs.declared.faults.AsmCause.{AsmCause}
+use Rattle.asm_meaning.specs.declared.faults.AsmFault.{AsmFault}
+use Rattle.asm_meaning.specs.Object.{IsObject, IsAsmFault, OutOfMemory, First}
+use Rattle.omf_io.specs.Files.{StoreSeen}
+use Rattle.omf_cli.specs.Form.{Form, Asm, Link, Dump, Run, Lib, form_of, with_output, source_and_output, inputs_only}
+use Rattle.omf_cli.specs.Words.{is_path, are_paths, words_of}
+use Rattle.omf_cli.specs.declared.making.Making.{Making}
+use Rattle.omf_cli.specs.Made.{Made, Bytes, Refusal, made_of, first_of}
+use Rattle.omf_cli.specs.Making.{IsShort}
+use Rattle.omf_cli.specs.Assemble.{AsmMakes, TellsAsmFault, behind_first}
+
+-- ---- inputs
+
+-- one more path
+pub inputs_more : (source : List ℕ) (macros : List (String Global)) (k : ℕ) (item : String Global) (inputs new : List (String Global)) (s : String Global) → k < length macros → item ≡ get_or macros k item
+    → words_of inputs ≡ source ∷ words_of (take k macros) → string_bytes s ≡ string_bytes item → new ≡ inputs ++ s ∷ [] → words_of new ≡ source ∷ words_of (take (k + 1) macros)
+inputs_more source macros k item inputs new s small is are same is_new =
+    let taken : take (k + 1) macros ≡ take k macros ++ item ∷ [] =
+    ap (λ (n : ℕ). take n macros) (add-one k) ∙ take-suc macros k item small ∙ ap (λ (x : String Global). take k macros ++ x ∷ []) (sym is) in
+    ap words_of is_new
+    ∙ map-append string_bytes inputs (s ∷ [])
+    ∙ ap (λ (l : List (List ℕ)). l ++ string_bytes s ∷ []) are
+    ∙ ap (λ (p : List ℕ). source ∷ (words_of (take k macros) ++ p ∷ [])) same
+    ∙ ap (λ (l : List (List ℕ)). source ∷ l) (sym (ap words_of taken ∙ map-append string_bytes (take k macros) (item ∷ [])))
+
+-- no path is left
+pub inputs_all : (source : List ℕ) (macros : List (String Global)) (k : ℕ) (inputs : List (String Global)) → length macros ≤ k → words_of inputs ≡ source ∷ words_of (take k macros)
+    → words_of inputs ≡ source ∷ words_of macros
+inputs_all source macros k inputs past are = are ∙ ap (λ (l : List (String Global)). source ∷ words_of l) (take_all k macros past)
+
+-- nothing was read
+pub none_read : (inputs : List (List ℕ)) (store : StoreSeen) → IsShort inputs store store
+none_read inputs store = record { reads = 0; most = omega arith; store = refl }
+
+-- ---- how many macro files a form has
+
+abbrev macros_of : Option Form → List (List ℕ)
+macros_of None = []
+macros_of (Some (Asm source output macros)) = macros
+macros_of (Some (Link output inputs)) = []
+macros_of (Some (Dump inputs)) = []
+macros_of (Some (Run inputs)) = []
+macros_of (Some (Lib output inputs)) = []
+
+abbrev HasFew : Option Form → Type 0
+HasFew form = length (macros_of form) ≤ 254
+
+abbrev AreFew : Option (List ℕ × List (List ℕ)) → Type 0
+AreFew None = Unit {0}
+AreFew (Some w) = length w.1 ≤ 254
+
+either : (b : Bool) (x y : Option Form) → HasFew x → HasFew y → HasFew (cond b x y)
+either true x y p q = p
+either false x y p q = q
+
+few_behind : (words : List (List ℕ)) → AreFew (with_output 0 254 words)
+few_behind [] = tt
+few_behind (output ∷ inputs) = by_test (is_path output && are_paths 0 254 inputs) refl
+  where
+    by_test : (b : Bool) → (is_path output && are_paths 0 254 inputs) ≡ b → AreFew (cond b (Some (output, inputs)) None)
+    by_test true is =
+        let all = (and_parts (is_path output) (are_paths 0 254 inputs) is).1 in
+        let counts = (and_parts (nat_le 0 (length inputs) && nat_le (length inputs) 254) (list_all is_path inputs) all).0 in
+        leb-true (length inputs) 254 (and_parts (nat_le 0 (length inputs)) (nat_le (length inputs) 254) counts).1
+    by_test false is = tt
+
+few_asm : (words : List (List ℕ)) → HasFew (option_map (λ (w : List ℕ × List ℕ × List (List ℕ)). Asm w.0 w.1 w.2) (source_and_output words))
+few_asm [] = omega arith
+few_asm (source ∷ words) = by_path (is_path source) (with_output 0 254 words) (few_behind words)
+  where
+    by_path : (b : Bool) (found : Option (List ℕ × List (List ℕ))) → AreFew found → HasFew (option_map (λ (w : List ℕ × List ℕ × List (List ℕ)). Asm w.0 w.1 w.2) (cond b (option_map (λ (w : List ℕ × List (List ℕ)). (source, w.0, w.1)) found) None))
+    by_path true None few = omega arith
+    by_path true (Some w) few = few
+    by_path false found few = omega arith
+
+few_link : (found : Option (List ℕ × List (List ℕ))) → HasFew (option_map (λ (w : List ℕ × List (List ℕ)). Link w.0 w.1) found)
+few_link None = omega arith
+few_link (Some w) = omega arith
+
+few_lib : (found : Option (List ℕ × List (List ℕ))) → HasFew (option_map (λ (w : List ℕ × List (List ℕ)). Lib w.0 w.1) found)
+few_lib None = omega arith
+few_lib (Some w) = omega arith
+
+few_dump : (found : Option (List (List ℕ))) → HasFew (option_map Dump found)
+few_dump None = omega arith
+few_dump (Some inputs) = omega arith
+
+few_run : (found : Option (List (List ℕ))) → HasFew (option_map Run found)
+few_run None = omega arith
+few_run (Some inputs) = omega arith
+
+few_in : (words : List (List ℕ)) → HasFew (form_of words)
+few_in [] = omega arith
+few_in (name ∷ words) =
+    either (bytes_eq name (codes "asm")) _ _ (few_asm words)
+    (either (bytes_eq name (codes "link")) _ _ (few_link (with_output 1 255 words))
+    (either (bytes_eq name (codes "dump")) _ _ (few_dump (inputs_only 1 1 words))
+    (either (bytes_eq name (codes "run")) _ _ (few_run (inputs_only 1 1 words))
+    (either (bytes_eq name (codes "lib")) _ _ (few_lib (with_output 1 255 words)) (omega arith)))))
+
+-- they are 254 at most
+pub few_macros : (words : List (List ℕ)) (source output : List ℕ) (macros : List (String Global)) → Some (Asm source output (words_of macros)) ≡ form_of words → length macros ≤ 254
+few_macros words source output macros is =
+    let same : length (words_of macros) ≡ length (macros_of (form_of words)) = ap (λ (o : Option Form). length (macros_of o)) is in
+    omega (arith, same, few_in words, length-map macros string_bytes)
+
+-- ---- what is made
+
+-- a fault that isn't want of memory is the first fault
+pub told_asm : (files : List (List ℕ)) (fault : AsmFault) (made : Made) → IsAsmFault (first_of files) (behind_first files) fault → TellsAsmFault fault made → AsmMakes files made
+told_asm files fault (Bytes bytes) is tells = absurd tells
+told_asm files fault (Refusal text) (OutOfMemory memory) tells = absurd (tells.0 (ap (λ (f : AsmFault). f.cause) memory))
+told_asm files fault (Refusal text) (First first) tells = (fault, first, tells.1)
+
+-- and so is what is told of it
+pub told_making : {E : Type 0} → (files macros : List (List ℕ)) (source : List ℕ) (fault : AsmFault) (r : Result Making E) → source ≡ first_of files → macros ≡ behind_first files
+    → IsAsmFault source macros fault → IfOk r (λ made. TellsAsmFault fault (made_of made)) → IfOk r (λ made. AsmMakes files (made_of made))
+told_making files macros source fault (Ok made) source_is macros_is is tells =
+    told_asm files fault (made_of made) (subst (λ (s : List ℕ). IsAsmFault s (behind_first files) fault) source_is (subst (λ (m : List (List ℕ)). IsAsmFault source m fault) macros_is is)) tells
+told_making files macros source fault (Err error) source_is macros_is is tells = tells
