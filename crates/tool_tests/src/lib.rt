@@ -16,6 +16,8 @@ mod lives;
 #[cfg(test)]
 mod loading;
 #[cfg(test)]
+mod programs;
+#[cfg(test)]
 mod runner;
 #[cfg(test)]
 mod running;

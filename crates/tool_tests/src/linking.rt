@@ -36,8 +36,6 @@ const ZEROS: [u8; 56] = [
 
 const EMPTY: &[u8] = b"refused Empty 0 0 00000000\n";
 
-const UNBUILT: &[u8] = b"refused Unbuilt 0 0 00000000\n";
-
 const USAGE: &[u8] = b"usage: omf asm, link, lib, dump, run or stress\n";
 
 /// Links an object while nothing outside fails, and says whether it ended so.
@@ -87,56 +85,88 @@ fn what_the_format_leaves_open_is_passed_over(rt: HostRuntime) -> Result<(), Fai
 }
 
 #[test]
-fn other_files_are_refused(rt: HostRuntime) -> Result<(), Fail> {
+fn empty_and_cut_files_are_refused(rt: HostRuntime) -> Result<(), Fail> {
     let alloc = rt.alloc();
     assert!(rt; links(alloc, &[], Status::Refused, EMPTY, None)?);
-    assert!(rt; links(alloc, &OBJECT[..43], Status::Refused, UNBUILT, None)?);
-
-    // A second segment of another load name.
-    let mut two = OBJECT.to_vec(alloc)?;
-    let other = changed(alloc, &OBJECT, &[(0x2C, 0x42)])?;
-    two.extend_from_slice(&other)?;
-    assert!(rt; links(alloc, &two, Status::Refused, UNBUILT, None)?);
+    assert!(rt;
+        links(
+            alloc,
+            &OBJECT[..43],
+            Status::Refused,
+            b"refused Truncated 1 1 0000002B\n",
+            None
+        )?
+    );
     Ok(())
 }
 
-/// Each change breaks one rule: NUMLEN, VERSION, BANKSIZE above $10000, an unknown type, NUMSEX, DISPNAME, BYTECNT,
-/// DISPDATA, RESSPC above LENGTH, a jump table, a pathname segment, a dictionary, ORG, ALIGN, a wrong LENGTH, a wrong
-/// RESSPC, a LENGTH that no record makes up, an unknown record, a cut record, no END.
-const BREAKS: [(usize, u8); 20] = [
-    (0x0E, 2),
-    (0x0F, 1),
-    (0x10, 1),
-    (0x14, 3),
-    (0x20, 1),
-    (0x28, 0x2B),
-    (0x00, 0x43),
-    (0x2A, 0x37),
-    (0x04, 9),
-    (0x14, 2),
-    (0x14, 4),
-    (0x14, 8),
-    (0x18, 1),
-    (0x1C, 1),
-    (0x08, 9),
-    (0x04, 1),
-    (0x0A, 1),
-    (0x3C, 0xE0),
-    (0x38, 0xDF),
-    (0x41, 1),
+/// The second load segment of the object and its copy under the load name `B`.
+const OTHER: [u8; 65] = [
+    0x41, 0, 0, 0, 5, 0, 0, 0, 8, 0, 0, 0, 0, 0, 4, 2, 0, 0, 1, 0, 0, 0, 0, 0, 0, 0, 0, 0, 0, 0, 0,
+    0, 0, 0, 2, 0, 0, 0, 0, 0, 0x2C, 0, 0x38, 0, 0x42, 0x20, 0x20, 0x20, 0x20, 0x20, 0x20, 0x20,
+    0x20, 0x20, 1, 0x42, 0xF2, 3, 0, 0, 0, 0xA9, 1, 0x60, 0,
+];
+
+#[test]
+fn load_names_part_load_segments(rt: HostRuntime) -> Result<(), Fail> {
+    let alloc = rt.alloc();
+    let mut two = OBJECT.to_vec(alloc)?;
+    let other = changed(alloc, &OBJECT, &[(0x2C, 0x42)])?;
+    two.extend_from_slice(&other)?;
+    let mut file = LOAD_FILE.to_vec(alloc)?;
+    file.extend_from_slice(&OTHER)?;
+    assert!(rt; links(alloc, &two, Status::Done, b"", Some(&file))?);
+    Ok(())
+}
+
+/// Each change breaks one rule, and the line tells which one and where: NUMLEN, VERSION 1 without a whole block, BANKSIZE above
+/// $10000, an unknown type, NUMSEX, DISPNAME, BYTECNT, DISPDATA, RESSPC above LENGTH, a jump table, a pathname segment, a
+/// dictionary that is none, a wrong LENGTH, a wrong RESSPC, a LENGTH that no record makes up, an ALIGN in a segment without
+/// one, a cut record, no END.
+const BREAKS: [(usize, u8, &[u8]); 18] = [
+    (0x0E, 2, b"refused Unsupported 1 1 0000000E\n"),
+    (0x0F, 1, b"refused Truncated 1 1 00000042\n"),
+    (0x10, 1, b"refused BadHeader 1 1 00000010\n"),
+    (0x14, 3, b"refused Unsupported 1 1 00000014\n"),
+    (0x20, 1, b"refused Unsupported 1 1 00000020\n"),
+    (0x28, 0x2B, b"refused BadHeader 1 1 00000028\n"),
+    (0x00, 0x43, b"refused Truncated 1 1 00000042\n"),
+    (0x2A, 0x37, b"refused BadHeader 1 1 0000002A\n"),
+    (0x04, 9, b"refused BadHeader 1 1 00000004\n"),
+    (0x14, 2, b"refused Unsupported 1 1 00000000\n"),
+    (0x14, 4, b"refused Unsupported 1 1 00000000\n"),
+    (0x14, 8, b"refused BadLibrary 1 1 00000000\n"),
+    (0x08, 9, b"refused BadLength 1 1 00000000\n"),
+    (0x04, 1, b"refused BadLength 1 1 00000000\n"),
+    (0x0A, 1, b"refused BadLength 1 1 00000000\n"),
+    (0x3C, 0xE0, b"refused AlignFault 1 1 0000003C\n"),
+    (0x38, 0xDF, b"refused Truncated 1 1 00000042\n"),
+    (0x41, 1, b"refused Truncated 1 1 00000042\n"),
 ];
 
 #[test]
 fn each_broken_rule_is_refused(rt: HostRuntime) -> Result<(), Fail> {
     let alloc = rt.alloc();
-    for change in BREAKS {
-        let object = changed(alloc, &OBJECT, &[change])?;
-        assert!(rt; links(alloc, &object, Status::Refused, UNBUILT, None)?);
+    for (at, value, line) in BREAKS {
+        let object = changed(alloc, &OBJECT, &[(at, value)])?;
+        assert!(rt; links(alloc, &object, Status::Refused, line, None)?);
     }
 
     // A BANKSIZE of 7 for 8 bytes.
     let object = changed(alloc, &OBJECT, &[(0x10, 7), (0x12, 0)])?;
-    assert!(rt; links(alloc, &object, Status::Refused, UNBUILT, None)?);
+    let line = b"refused SegmentTooLong 1 1 00000000\n";
+    assert!(rt; links(alloc, &object, Status::Refused, line, None)?);
+    Ok(())
+}
+
+#[test]
+fn the_place_that_is_asked_for_is_kept(rt: HostRuntime) -> Result<(), Fail> {
+    let alloc = rt.alloc();
+    for at in [0x18, 0x1C] {
+        let object = changed(alloc, &OBJECT, &[(at, 1)])?;
+        let file = changed(alloc, &LOAD_FILE, &[(at, 1)])?;
+        assert!(rt; links(alloc, &object, Status::Done, b"", Some(&file))?);
+    }
     Ok(())
 }
 
@@ -153,7 +183,6 @@ fn other_words_print_the_usage(rt: HostRuntime) -> Result<(), Fail> {
         "",
         "link",
         "link out",
-        "link out obj obj",
         "Link out obj",
         "dump",
         "dump obj obj",

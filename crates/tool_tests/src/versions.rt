@@ -7,8 +7,6 @@ use omf_cli::Status;
 use std::alloc::{AllocError, Global};
 use std::test::Fail;
 
-const UNBUILT: &[u8] = b"refused Unbuilt 0 0 00000000\n";
-
 /// The object in version 1: a block of 512 bytes, with bytes changed at displacements.
 fn first(alloc: Global, changes: &[(usize, u8)]) -> Result<Vec<u8>, AllocError> {
     let mut bytes = OBJECT;
@@ -107,7 +105,8 @@ fn an_entry_is_listed_and_loaded(rt: HostRuntime) -> Result<(), Fail> {
             b"segment 1 at 00000000 kind 0000 length 00000008 resspc 00000000 banksize 00010000 align 00000000 org 00000000 entry 00000000 loadname \"          \" segname \"A\"\n00000038 CONST 00000003 A90160\n0000003C DS 00000005\n00000041 ENTRY 0001 00000000 NAME\n0000004D END\n"
         )?
     );
-    assert!(rt; links(alloc, &file, Status::Refused, UNBUILT, None)?);
+    let line = b"refused BadRecord 1 1 00000041\n";
+    assert!(rt; links(alloc, &file, Status::Refused, line, None)?);
     let script = b"banks 02\nload prog\n";
     assert!(rt;
         says(
