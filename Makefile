@@ -32,8 +32,9 @@ bench: build
 	bench/load
 	bench/library build/omf
 	bench/loader build/omf
-	bench/link
+	bench/link build/omf
 	bench/macro
+	bench/asm build/omf
 
 refuse: build
 	tools/refuse build/omf
