@@ -10,6 +10,7 @@ pub mod SegmentsLeft
 pub mod SegmentName
 pub mod DefinitionLaws
 pub mod UseLaws
+pub mod UseTables
 pub mod SearchLaws
 pub mod LinkedLaws
 pub mod TitleLaws

@@ -19,7 +19,7 @@ use Rattle.link_resolve.specs.declared.linked.LinkedMember.{LinkedMember}
 use Rattle.link_resolve.specs.declared.linked.Linked.{Linked}
 use Rattle.link_resolve.specs.Names.{Indexes}
 use Rattle.link_resolve.specs.Definitions.{AreDefinitions, IsOf, founds_in}
-use Rattle.link_resolve.specs.Uses.{use_of, told_use, at_place, HaveShortNames}
+use Rattle.link_resolve.specs.Uses.{told_use, at_place, HaveShortNames}
 use Rattle.link_resolve.specs.Linked.{names_of, ToldMember, kept_member, told_member, place_rows, Holds, GainsTitle, OriginOf, member_at}
 
 -- ---- lists
@@ -51,13 +51,6 @@ told-uses_at place m (u ∷ uses) = ap (λ (l : List (ℕ × Use)). (place, u) �
 
 -- ---- names of USING
 
-names_of_kept : (xs : List kept.Use) → flat_map (λ u. data_name (use_of u).1) xs ≡ flat_map (λ p. data_name p.1) (map use_of xs)
-names_of_kept [] = refl
-names_of_kept (x ∷ xs) =
-    flat_map-cons (λ (u : kept.Use). data_name (use_of u).1) x xs
-    ∙ ap (λ (l : List (List ℕ)). data_name (use_of x).1 ++ l) (names_of_kept xs)
-    ∙ sym (flat_map-cons (λ (p : ℕ × Use). data_name p.1) (use_of x) (map use_of xs))
-
 names_at_place : (place : ℕ) (us : List Use) → flat_map (λ p. data_name p.1) (at_place place us) ≡ flat_map data_name us
 names_at_place place [] = refl
 names_at_place place (u ∷ us) =
@@ -65,21 +58,13 @@ names_at_place place (u ∷ us) =
     ∙ ap (λ (l : List (List ℕ)). data_name u ++ l) (names_at_place place us)
     ∙ sym (flat_map-cons data_name u us)
 
-map-drop : {A B : Type 0} → (f : A → B) (k : ℕ) (xs : List A) → map f (drop k xs) ≡ drop k (map f xs)
-map-drop f zero xs = refl
-map-drop f (suc k) [] = refl
-map-drop f (suc k) (x ∷ xs) = map-drop f k xs
-
-pub usings_are : (place : ℕ) (s : Segment) (old new : List kept.Use) (names : List (Bor (List ℕ))) → map use_of new ≡ map use_of old ++ at_place place (uses_of s)
-    → names_of names ≡ flat_map (λ u. data_name (use_of u).1) (drop (length old) new) → names_of names ≡ usings_of s
+pub usings_are : (place : ℕ) (s : Segment) (old new : List (ℕ × Use)) (names : List (Bor (List ℕ))) → new ≡ old ++ at_place place (uses_of s)
+    → names_of names ≡ flat_map (λ u. data_name u.1) (drop (length old) new) → names_of names ≡ usings_of s
 unfolding usings_of
 usings_are place s old new names more is =
-    let size : length (map use_of old) ≡ length old = length-map old use_of in
-    is ∙ names_of_kept (drop (length old) new)
-    ∙ ap (λ (l : List (ℕ × Use)). flat_map (λ p. data_name p.1) l)
-    (map-drop use_of (length old) new ∙ ap (drop (length old)) more
-    ∙ ap (λ (k : ℕ). drop k (map use_of old ++ at_place place (uses_of s))) (sym size)
-    ∙ drop-append_seam (map use_of old) (at_place place (uses_of s)))
+    is
+    ∙ ap (λ (l : List (ℕ × Use)). flat_map (λ p. data_name p.1) (drop (length old) l)) more
+    ∙ ap (λ (l : List (ℕ × Use)). flat_map (λ p. data_name p.1) l) (drop-append_seam old (at_place place (uses_of s)))
     ∙ names_at_place place (uses_of s)
 
 -- ---- the whole
@@ -95,7 +80,7 @@ pub held_more : (list : List Member) (m : Member) (old new : Linked) (s : Segmen
     → kept_member k ≡ record { file = origin.file; number = origin.segment; from = origin.from; usings = names_of usings } → new.members.items ≡ old.members.items ++ k ∷ []
     → ((fs : List Found) (n : Member) → IsOf n origin → AreDefinitions fs old.definitions → AreDefinitions (fs ++ founds_in place n (defined_in s)) new.definitions)
     → GainsTitle old.titles new.titles origin place (data_title_of s)
-    → map use_of new.uses.items ≡ map use_of old.uses.items ++ at_place place (uses_of s) → (HaveShortNames old.uses.items → HaveShortNames new.uses.items)
+    → new.uses ≡ old.uses ++ at_place place (uses_of s) → (HaveShortNames old.uses → HaveShortNames new.uses)
     → names_of usings ≡ usings_of s → Holds (list ++ m ∷ []) new
 unfolding entries data_titles asked
 held_more list m old new s origin usings k place of same holds place_is kept_is members defines titles uses short names =
@@ -130,9 +115,9 @@ held_more list m old new s origin usings k place of same holds place_is kept_is 
       short = short holds.short;
     }
 
-pub held_none : (new : Linked) → new.members.items ≡ [] → AreDefinitions [] new.definitions → Indexes [] new.titles → new.uses.items ≡ [] → Holds [] new
+pub held_none : (new : Linked) → new.members.items ≡ [] → AreDefinitions [] new.definitions → Indexes [] new.titles → new.uses ≡ [] → Holds [] new
 unfolding entries data_titles asked
-held_none new members definitions titles uses = record { members = ap (map kept_member) members; definitions = definitions; titles = titles; uses = ap (map use_of) uses; short = subst HaveShortNames (sym uses) tt }
+held_none new members definitions titles uses = record { members = ap (map kept_member) members; definitions = definitions; titles = titles; uses = uses; short = subst HaveShortNames (sym uses) tt }
 
 some_same : (a b : ToldMember) → Some a ≡ Some b → a ≡ b
 some_same a b e = cc

@@ -3,6 +3,7 @@ use Rattle.std.proofs.Common.{◌≡◌, ℕ, Bool, true, false, List, [], ◌�
 use Rattle.std.specs.Prelude.{filter, if◌then◌else◌, ◌==◌}
 use Rattle.std.proofs.lemmas.Bool.{and_parts, eqb-true}
 use Rattle.std.specs.Str.{bytes_eq}
+use Rattle.std.specs.Map.{lookup}
 use Rattle.indexmap.specs.IndexMap.{get_by, Updates}
 use Rattle.link_meaning.specs.Search.{is_step}
 use Rattle.link_resolve.specs.contracts.names.KeyPartialEq.TheImpl as test
@@ -32,6 +33,10 @@ pub looked_up : (rows : List Row) (names : Names) (key : Key) (found : Option Ou
     → found ≡ get_by ((test.ghosts).eq key) names.outcomes → found_or found ≡ outcome rows (key_of key)
 looked_up rows names key found ix is =
     ap found_or (is ∙ ap (λ (t : Key → Bool). get_by t names.outcomes) (λ i k. same_test key k i)) ∙ ix (key_of key)
+
+-- a table with the same entries
+pub same_entries : (rows : List Row) (old new : Names) → new.outcomes.entries ≡ old.outcomes.entries → Indexes rows old → Indexes rows new
+same_entries rows old new same ix = λ key. ap (λ (es : List (Key × Outcome)). found_or (lookup (λ k. is_key key (key_of k)) es)) same ∙ ix key
 
 -- ---- one key, and one more row
 

@@ -1,10 +1,10 @@
 -- What is kept of the linked list.
-use Rattle.std.specs.Prelude.{◌≡◌, ℕ, zero, suc, ◌++◌, List, Option, Some, None, map, slice_get}
+use Rattle.std.specs.Prelude.{◌≡◌, ℕ, zero, suc, ◌++◌, List, Option, Some, None, map, drop, slice_get}
 use Rattle.std.specs.List.{flat_map}
 use Rattle.std.specs.Borrow.{Bor}
 use Rattle.link_meaning.specs.Member.{Member}
 use Rattle.link_meaning.specs.Defines.{Definition}
-use Rattle.link_meaning.specs.Uses.{usings_of}
+use Rattle.link_meaning.specs.Uses.{Use, data_name, usings_of}
 use Rattle.link_meaning.specs.Search.{Found, entries, data_titles, only_place, finds_data}
 use Rattle.link_meaning.specs.LinkedList.{asked}
 use Rattle.link_resolve.specs.declared.names.Outcome.{Outcome}
@@ -14,11 +14,15 @@ use Rattle.link_resolve.specs.declared.linked.LinkedMember.{LinkedMember}
 use Rattle.link_resolve.specs.declared.linked.Linked.{Linked}
 use Rattle.link_resolve.specs.Names.{Row, Indexes}
 use Rattle.link_resolve.specs.Definitions.{Seen, AreDefinitions, IsOf, key_of_found, founds_in}
-use Rattle.link_resolve.specs.Uses.{use_of, told_use, HaveShortNames}
+use Rattle.link_resolve.specs.Uses.{told_use, HaveShortNames}
 
 -- names without where they lie
 abbrev pub names_of : List (Bor (List ℕ)) → List (List ℕ)
 names_of names = map (λ name. name.now) names
+
+-- the names of USING among the uses from a number on, counted from 0
+abbrev pub usings_from : List (ℕ × Use) → ℕ → List (List ℕ)
+usings_from uses from = flat_map (λ u. data_name u.1) (drop from uses)
 
 -- what is kept of a member: where it comes from, and its names of USING
 pub record ToldMember : Type 0 where
@@ -54,8 +58,8 @@ pub record Holds (list : List Member) (kept : Linked) : Type 0 where
   pub members : map kept_member kept.members.items ≡ map told_member list
   pub definitions : AreDefinitions (entries list) kept.definitions
   pub titles : Indexes (place_rows (data_titles list)) kept.titles
-  pub uses : map use_of kept.uses.items ≡ map told_use (asked list)
-  pub short : HaveShortNames kept.uses.items
+  pub uses : kept.uses ≡ map told_use (asked list)
+  pub short : HaveShortNames kept.uses
 
 -- what a table of titles gains
 abbrev pub GainsTitle : Names → Names → Origin → ℕ → List Definition → Type 0

@@ -1,7 +1,6 @@
 //! The linked list: its members, what they define and use, and what their names find.
 
-ghost use Rattle.std.specs.Prelude.{◌≡◌, ◌+◌, ◌-◌, ◌<◌, ◌≤◌, ◌^◌, ◌++◌, ◌∷◌, [], List, ℕ, Some, length, drop, map, slice_get, filter, OnOk, IfOk, IsNone, MatchOption, ◌⊎◌, option_map};
-ghost use Rattle.std.specs.List.{flat_map};
+ghost use Rattle.std.specs.Prelude.{◌≡◌, ◌+◌, ◌-◌, ◌<◌, ◌≤◌, ◌^◌, ◌++◌, ◌∷◌, [], List, ℕ, Some, length, map, slice_get, filter, OnOk, IfOk, IsNone, MatchOption, ◌⊎◌, option_map};
 ghost use Rattle.omf_records.specs.Segments.{IsSound, shown};
 ghost use Rattle.link_meaning.specs.Sizes.{body_size};
 ghost use Rattle.link_meaning.specs.Member.{Member, Offer};
@@ -16,7 +15,7 @@ ghost use Rattle.link_resolve.specs.Definitions.{AreDefinitions, IsOf, Sees, fou
 ghost use Rattle.link_resolve.specs.Uses.{use_of};
 ghost use Rattle.link_resolve.specs.Offers.{AreOffers, IsRow};
 ghost use Rattle.link_resolve.specs.Wanted.{WantsNothing, IsWanted};
-ghost use Rattle.link_resolve.specs.Linked.{Holds, GainsTitle, SeesPlace, names_of, used_places};
+ghost use Rattle.link_resolve.specs.Linked.{Holds, GainsTitle, SeesPlace, names_of, usings_from, used_places};
 ghost use Rattle.link_meaning.specs.declared.search.Step.TheVariants.{Within, Everyone};
 ghost use Rattle.std.specs.Prelude.{false, true};
 ghost use Rattle.link_meaning.specs.LinkedList.{Asked};
@@ -27,7 +26,7 @@ use crate::definitions::{Definition, Definitions, Origin, outer_step};
 use crate::names::{Key, Names, Outcome};
 use crate::offers::Offers;
 use crate::segname::title;
-use crate::uses::{Use, add_uses};
+use crate::uses::{Use, Uses, add_uses};
 use link_meaning::{LinkCause, Step, Want};
 use omf_records::SegmentView;
 use std::alloc::{AllocError, Global};
@@ -45,7 +44,7 @@ pub struct Linked<'a> {
     members: Vec<LinkedMember<'a>>,
     definitions: Definitions<'a>,
     titles: Names<'a>,
-    uses: Vec<Use<'a>>,
+    uses: Uses<'a>,
 }
 
 /// Adds a data segment's SEGNAME, for which USING asks.
@@ -69,26 +68,29 @@ fn add_data_title<'a>(
     titles.add(Key { step, name }, place as usize)
 }
 
-/// The names of USING among uses.
-fn usings_in<'a>(alloc: Global, uses: &[Use<'a>]) -> Result<Vec<&'a [u8]>, AllocError>
-    ensures { IfOk result (λ names. names_of names.items ≡ flat_map (λ u. data_name (use_of u).1) uses.now) }
+/// Adds the name of a use, where it is one of USING.
+fn add_using<'a>(names: &mut Vec<&'a [u8]>, used: Use<'a>) -> Result<(), AllocError>
+    ensures { OnOk result (names_of names.new.items ≡ names_of names.old.items ++ data_name (use_of used.entry).1) }
 {
-    let mut names = Vec::new(alloc);
-    for found in uses {
-        match found.want {
-            Want::Data => names.push(found.name)?,
-            Want::One | Want::Any => {}
+    match used.want {
+        Want::Data => {
+            names.push(used.name)?;
+            Ok(())
         }
+        Want::One => Ok(()),
+        Want::Any => Ok(()),
     }
-    Ok(names)
 }
 
-/// The uses from a place on.
-fn uses_from<'s, 'a>(uses: &'s Vec<Use<'a>>, from: usize) -> &'s [Use<'a>]
-    requires { from ≤ length uses.now.items }
-    ensures { result.now ≡ drop from uses.now.items }
+/// The names of USING among the uses from this number on, counted from 0.
+fn usings_in<'a>(alloc: Global, uses: &Uses<'a>, from: usize) -> Result<Vec<&'a [u8]>, AllocError>
+    ensures { IfOk result (λ names. names_of names.items ≡ usings_from uses.now from) }
 {
-    &uses.as_slice()[from..]
+    let mut names = Vec::new(alloc);
+    for number in from..uses.count() {
+        add_using(&mut names, uses.get(number))?;
+    }
+    Ok(names)
 }
 
 impl<'a> Linked<'a> {
@@ -100,7 +102,7 @@ impl<'a> Linked<'a> {
             members: Vec::new(alloc),
             definitions: Definitions::new(alloc),
             titles: Names::new(alloc),
-            uses: Vec::new(alloc),
+            uses: Uses::new(alloc),
         }
     }
 
@@ -128,12 +130,12 @@ impl<'a> Linked<'a> {
     /// The use with this number, from 0: where its member comes from, its name, and the displacement of its record.
     pub fn used(&self, number: usize) -> (Origin, &'a [u8], u32)
         requires held { IsHeld self.now }
-        requires within { number < length self.now.uses.items }
+        requires within { number < length self.now.uses }
         ensures told { (list : List Member) (a : Asked) → Holds list self.now → slice_get (asked list) number ≡ Some a
             → IsOf a.member result.0 × (result.1.now ≡ a.use'.name) × (result.2 ≡ a.use'.at) }
         ensures short { length result.1.now ≤ 255 }
     {
-        let found = &self.uses[number];
+        let found = self.uses.get(number);
         let member = &self.members[found.place as usize - 1];
         (member.origin, found.name, found.at)
     }
@@ -188,11 +190,11 @@ impl<'a> Linked<'a> {
         ensures one { OnOk result (length self.new.members.items ≡ length self.old.members.items + 1) }
     {
         let place = self.members.as_slice().len() as u32 + 1;
-        let before = self.uses.as_slice().len();
+        let before = self.uses.count();
         self.definitions.add(segment, origin, place)?;
         add_data_title(&mut self.titles, segment, origin, place)?;
         add_uses(&mut self.uses, segment, place)?;
-        let usings = usings_in(alloc, uses_from(&self.uses, before))?;
+        let usings = usings_in(alloc, &self.uses, before)?;
         self.members.push(LinkedMember { origin, usings })?;
         Ok(())
     }
@@ -322,9 +324,9 @@ impl<'a> Linked<'a> {
             → IsWanted os list result }
     {
         let mut number = from;
-        'uses: while number < self.uses.as_slice().len() {
-            let used = &self.uses[number];
-            match self.row_wanted(offers, used) {
+        'uses: while number < self.uses.count() {
+            let used = self.uses.get(number);
+            match self.row_wanted(offers, &used) {
                 Some(row) => return Some((number, row)),
                 None => {}
             }
@@ -367,9 +369,9 @@ impl<'a> Linked<'a> {
             (HasNone (FailsToResolve list) (asked list)) (λ found. IsFirstUse list found.0 found.1) }
     {
         let mut number = 0;
-        'uses: while number < self.uses.as_slice().len() {
-            let used = &self.uses[number];
-            match use_cause(used.want, self.found_for(used)) {
+        'uses: while number < self.uses.count() {
+            let used = self.uses.get(number);
+            match use_cause(used.want, self.found_for(&used)) {
                 Some(cause) => return Some((cause, number)),
                 None => {}
             }

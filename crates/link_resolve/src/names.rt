@@ -47,6 +47,13 @@ impl<'a> Names<'a> {
         }
     }
 
+    /// Room for so many more names.
+    pub fn reserve(&mut self, count: usize) -> Result<(), AllocError>
+        ensures { (rows : List Row) → Indexes rows self.old → Indexes rows self.new }
+    {
+        self.outcomes.reserve(count)
+    }
+
     /// One more name, behind the others.
     pub fn add(&mut self, key: Key<'a>, number: usize) -> Result<(), AllocError>
         ensures { OnOk result ((rows : List Row) → Indexes rows self.old → Indexes (rows ++ (key_of key.entry, number) ∷ []) self.new) }

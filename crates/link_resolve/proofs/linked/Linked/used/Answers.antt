@@ -15,31 +15,31 @@ asked_same a b e = cc
 pub overflow_sub-found : goal.overflow_sub-found
 overflow_sub-found c =
     let kept = c.args.self.now in
-    let u = c.index-found.result.now in
-    let there = slice_get_read kept.uses.items (length kept.uses.items) c.args.number u refl c.requires.within c.index-found.ensures in
+    let u = c.get-found.result in
+    let there = c.get-found.ensures in
     (place_within c.requires.held.0 kept c.args.number u c.requires.held.1 (use_is c.requires.held.0 kept c.args.number u c.requires.held.1 there)).0
 
 pub index-member-requires : goal.index-member-requires
 index-member-requires c =
     let kept = c.args.self.now in
-    let u = c.index-found.result.now in
-    let there = slice_get_read kept.uses.items (length kept.uses.items) c.args.number u refl c.requires.within c.index-found.ensures in
+    let u = c.get-found.result in
+    let there = c.get-found.ensures in
     let place = place_within c.requires.held.0 kept c.args.number u c.requires.held.1 (use_is c.requires.held.0 kept c.args.number u c.requires.held.1 there) in
     omega (arith, place.0, place.1, kept.members.ok.0)
 
 pub returns-clause-short : goal.returns-clause-short
 returns-clause-short c =
     let kept = c.args.self.now in
-    let u = c.index-found.result.now in
-    let there = slice_get_read kept.uses.items (length kept.uses.items) c.args.number u refl c.requires.within c.index-found.ensures in
-    short_at kept.uses.items c.args.number u c.requires.held.1.short there
+    let u = c.get-found.result in
+    let there = c.get-found.ensures in
+    short_at kept.uses c.args.number (use_of u) c.requires.held.1.short there
 
 pub returns-clause-told : goal.returns-clause-told
 returns-clause-told c = λ list a holds at.
     let kept = c.args.self.now in
-    let u = c.index-found.result.now in
+    let u = c.get-found.result in
     let items = kept.members.items in
-    let there = slice_get_read kept.uses.items (length kept.uses.items) c.args.number u refl c.requires.within c.index-found.ensures in
+    let there = c.get-found.ensures in
     let is = use_is list kept c.args.number u holds there in
     let same : is.use' ≡ a = asked_same is.use' a (sym is.at ∙ at) in
     let told : told_use a ≡ use_of u = subst (λ (x : Asked). told_use x ≡ use_of u) same is.told in
