@@ -37,7 +37,7 @@ use Rattle.sys_loader.proofs.Settling.{addresses, is_setting}
 
 -- ---- new blocks
 
-want_some : (head : Head) → 0 < (want_of head).size
+pub want_some : (head : Head) → 0 < (want_of head).size
 unfolding want_of stack_want plain_want
 want_some head = elim (decide (is_stack head)) [ inl stack ↦ rw stack (grind arith) | inr plain ↦ rw plain (grind arith) ]
 

@@ -171,7 +171,7 @@ module _ (old new : Loaded) (id : ℕ) (sound : IsSound old.memory old.users) (d
     still p kept user made ne was = agrees_still held old.memory new.memory (first_id + p) kept user was (λ n h found.
         let one = has_any old sound p kept made n h found in Same (live_before p n one.0 h one.1 ne) (bytes_same h))
 
-    agrees_next : Agrees held new next
+    pub agrees_next : Agrees held new (dropped_state state id)
     agrees_next = record {
       banks = did.bytes.banks ∙ agrees.banks;
       slots = did.slots ∙ ap (λ (t : Slots). without_user t id) agrees.slots;

@@ -23,3 +23,17 @@ pub mod Resting
 pub mod Idling
 pub mod Stopping
 pub mod UserItems
+pub mod Comparing
+pub mod Bringing
+pub mod Coming
+pub mod Came
+pub mod Activated
+pub mod Brought
+pub mod Waking
+pub mod Loadable
+pub mod Entries
+pub mod Followed
+pub mod Resuming
+pub mod Again
+pub mod Restarted
+pub mod MakingActive

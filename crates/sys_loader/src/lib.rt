@@ -3,9 +3,12 @@
 
 mod answers;
 mod blocks;
+mod compare;
+mod dynamic;
 mod file;
 mod fill;
 mod head;
+mod jsl;
 mod load;
 mod loader;
 mod lying;
@@ -15,6 +18,7 @@ mod plan;
 mod poke;
 mod purge;
 mod renew;
+mod restart;
 mod shutdown;
 mod turn;
 mod unload;

@@ -57,7 +57,7 @@ fn place_all(
 }
 
 /// Writes the static segments into their new blocks, once all of these are placed.
-fn settle(
+pub fn settle(
     banks: &mut Banks,
     load: &LoadFile<'_>,
     segments: &mut Vec<Segment>,
@@ -80,7 +80,7 @@ fn settle(
 }
 
 /// What the loader says of a load file's fault.
-fn bad_file(fault: LoadFault) -> LoaderFault
+pub fn bad_file(fault: LoadFault) -> LoaderFault
     ensures { (file : List ℕ) → IsRefused fault file → IsBadFile file result }
 {
     match fault.cause {
@@ -90,7 +90,7 @@ fn bad_file(fault: LoadFault) -> LoaderFault
 }
 
 /// How many segments a load file has: the number of the last one.
-fn count_of(load: &LoadFile<'_>) -> u16
+pub fn count_of(load: &LoadFile<'_>) -> u16
     requires loadable { (file : List ℕ) × IsLoadable file load.now }
     ensures { result ≡ length load.now }
 {
