@@ -6,6 +6,8 @@ mod dumping;
 #[cfg(test)]
 mod every_record;
 #[cfg(test)]
+mod fits;
+#[cfg(test)]
 mod headers;
 #[cfg(test)]
 mod libraries;
