@@ -1,5 +1,5 @@
 -- What the calls of a loader do, whatever files there are.
-use Rattle.std.specs.Prelude.{◌≡◌, ◌^◌, take, drop, None, ℕ, ◌+◌, ◌<◌, ◌≤◌, [], ◌∷◌, ◌++◌, map, false, IsSome, List, length, Option, Some}
+use Rattle.std.specs.Prelude.{◌≡◌, ◌≢◌, ◌⊎◌, slice_get, ◌^◌, take, drop, None, ℕ, ◌+◌, ◌<◌, ◌≤◌, [], ◌∷◌, ◌++◌, map, false, IsSome, List, length, Option, Some}
 use Rattle.omf_format.specs.File.{Segment, segment_at}
 use Rattle.omf_io.specs.Counts.{IsFront}
 use Rattle.iigs_meaning.specs.declared.handles.Handle.{Handle}
@@ -71,6 +71,29 @@ started_kept path heads handles = record {
   handles = handles_of (started_user path heads handles);
   heads = heads;
 }
+
+-- The same of memory alone: the static segments of a file are in new blocks, each of which begins with what stands in its segment,
+-- and nothing else is written.
+pub record HasPlaced (old : Memory) (path : List ℕ) (segments : List Segment) (id : ℕ) (entry : Option ℕ) (new : Memory) : Type 0 where
+  pub short : length segments < 2 ^ 16
+  pub handles : List Handle
+  pub middle : Memory
+  pub placed : AreAllPlaced Purges old id false (wants_of (map head_of segments)) handles middle
+  pub banks : new.banks ≡ old.banks
+  pub slots : new.slots ≡ middle.slots
+  pub entry_is : entry ≡ entry_of id new.slots (map head_of segments) (started_kept path (map head_of segments) handles).handles
+  pub stay : (k : Handle) → IsSome (get old.slots k) → bytes_at new k.slot ≡ bytes_at middle k.slot
+  pub begins : (n : ℕ) (s : Segment) (h : Handle) → segment_at segments n ≡ Some s
+      → handle_at (started_kept path (map head_of segments) handles).handles n ≡ Some h
+      → IsFront (stands (setting id new.slots (started_kept path (map head_of segments) handles).handles) no_pokes s) (bytes_at new h.slot)
+  pub sizes : (slot : ℕ) → length (bytes_at new slot) ≡ length (bytes_at middle slot)
+
+-- a user is added at a place that has none, and all others stay
+pub record IsAdded (old : List (Option Kept)) (place : ℕ) (kept : Kept) (new : List (Option Kept)) : Type 0 where
+  pub few : length new ≤ max_users
+  pub here : slice_get new place ≡ Some (Some kept)
+  pub which : (p : ℕ) (k : Kept) → slice_get new p ≡ Some (Some k) → ((p ≢ place) × (slice_get old p ≡ Some (Some k))) ⊎ ((p ≡ place) × (k ≡ kept))
+  pub stay : (p : ℕ) (k : Kept) → slice_get old p ≡ Some (Some k) → slice_get new p ≡ Some (Some k)
 
 -- The static segments of a file are in new blocks, each of which begins with what stands in its segment; nothing else is written;
 -- and there is one user more.

@@ -1,7 +1,7 @@
 -- What a loader holds, and when it agrees with a state of the machine.
 use Rattle.std.specs.Prelude.{◌≡◌, ◌≢◌, ◌⊎◌, ℕ, ◌+◌, ◌≤◌, ◌<◌, ◌^◌, true, false, List, [], length, map, Option, Some, option_map, IsSome, slice_get}
 use Rattle.omf_format.specs.File.{Segment, segment_at}
-use Rattle.omf_io.specs.Counts.{one_more, IsFront}
+use Rattle.omf_io.specs.Counts.{risen, one_more, IsFront}
 use Rattle.omf_io.specs.Files.{FileMap}
 use Rattle.load_meaning.specs.LoadTable.{is_table}
 use Rattle.iigs_meaning.specs.declared.handles.Handle.{Handle}
@@ -12,7 +12,7 @@ use Rattle.iigs_meaning.specs.Puts.{MakesRoom}
 use Rattle.iigs_meaning.specs.Memory.{Memory, bytes_at}
 use Rattle.loader_machine.specs.declared.seen.Head.{Head}
 use Rattle.loader_machine.specs.declared.seen.Life.{Life}
-use Rattle.loader_machine.specs.declared.seen.Life.TheVariants.{Running}
+use Rattle.loader_machine.specs.declared.seen.Life.TheVariants.{Running, Dormant}
 use Rattle.loader_machine.specs.declared.faults.LoaderFault.TheVariants as refusal
 use Rattle.loader_machine.specs.Heads.{head_of, at_number, is_static}
 use Rattle.loader_machine.specs.State.{User, Machine, Seen, no_pokes, first_id, max_users, user_of, handles_of, held_at}
@@ -21,7 +21,7 @@ use Rattle.loader_machine.specs.Stands.{setting, stands}
 use Rattle.loader_machine.specs.Found.{HoldsLoad}
 use Rattle.loader_machine.specs.Commands.{Command, Reply, Refused}
 use Rattle.loader_machine.specs.Steps.{Steps}
-use Rattle.loader_machine.specs.Needs.{Needs}
+use Rattle.loader_machine.specs.Needs.{Needs, IsReadFor}
 
 -- a user as a loader keeps it: the path of its file, whether it runs, and for each segment of the file its handle and what was
 -- read of its header
@@ -105,14 +105,17 @@ pub record Has (users : List (Option Kept)) (place number : ℕ) (head : Head) (
   pub head' : at_number kept.heads number ≡ Some head
   pub handle : handle_at kept.handles number ≡ Some h
 
--- At most 255 users were made. Each has fewer than 65,536 segments, and a place for a handle for each header. The static segments of a running user are active. Each
--- handle of a user is its own, no two segments have one slot, and each block of a user is a segment's.
+-- At most 255 users were made. Each has fewer than 65,536 segments, and a place for a handle for each header. The static segments of a
+-- running user are active, and no segment of a dormant one is. Each handle of a user is its own, no two segments have one slot, and
+-- each block of a user is a segment's.
 pub record IsSound (memory : Memory) (users : List (Option Kept)) : Type 0 where
   pub few : length users ≤ max_users
   pub lengths : (place : ℕ) (kept : Kept) → slice_get users place ≡ Some (Some kept) → length kept.handles ≡ length kept.heads
   pub short : (place : ℕ) (kept : Kept) → slice_get users place ≡ Some (Some kept) → length kept.heads < 2 ^ 16
   pub statics : (place : ℕ) (kept : Kept) (number : ℕ) (head : Head) → slice_get users place ≡ Some (Some kept) → kept.life ≡ Running
       → at_number kept.heads number ≡ Some head → is_static head ≡ true → is_active (presence_at memory.slots kept.handles number) ≡ true
+  pub rests : (place : ℕ) (kept : Kept) (number : ℕ) → slice_get users place ≡ Some (Some kept) → kept.life ≡ Dormant
+      → is_active (presence_at memory.slots kept.handles number) ≡ false
   pub each : (place number : ℕ) (head : Head) (h : Handle) → Has users place number head h → IsOf memory (first_id + place) head h
   pub once : (place other number n : ℕ) (head second : Head) (h k : Handle) → Has users place number head h → Has users other n second k
       → h.slot ≡ k.slot → (place ≡ other) × (number ≡ n)
@@ -132,3 +135,7 @@ Meets Makes held state command reply new before now =
     (Met Makes held state command reply new × (now ≡ before))
     ⊎ (((reply ≡ Refused refusal.CannotRead) × (paths : List (List ℕ)) × Needs held state command paths × (paths ≢ []) × Agrees held new state × (now ≡ one_more before))
     ⊎ ((reply ≡ Refused refusal.Memory) × Agrees held new state × (now ≡ before)))
+
+-- The files that the command needs were read, once each, and no other was: the count of reads is one more for each.
+abbrev pub ReadsNeeded : FileMap → Machine → Command → ℕ → ℕ → Type 0
+ReadsNeeded held state command before now = (reads : ℕ) × IsReadFor held state command reads × (now ≡ risen reads before)

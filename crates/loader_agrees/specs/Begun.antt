@@ -4,7 +4,7 @@ use Rattle.std.specs.Prelude.{slice_get, slice_set, option_map, position, not, �
 use Rattle.std.specs.List.{prefix_len}
 use Rattle.std.specs.Option.{option_map_or, option_and_then}
 use Rattle.std.proofs.lemmas.Option.{same_Some, slice_get_within}
-use Rattle.std.proofs.lemmas.List.{get_or-set_same, length-map, map-append}
+use Rattle.std.proofs.lemmas.List.{get_or-set_same, length-map, length-append, map-append}
 use Rattle.std.proofs.lemmas.List.Quantifiers.{position-Some}
 use Rattle.std.proofs.lemmas.Bool.Decides.{nat_tests}
 use Rattle.omf_format.specs.File.{Segment, segment_at}
@@ -19,6 +19,7 @@ use Rattle.iigs_meaning.specs.Slots.{slot_at, new_slot, get, is_free, lowest_fre
 use Rattle.iigs_meaning.specs.Placement.{can_purge, emptied_where, is_gone, emptied}
 use Rattle.iigs_meaning.specs.Fits.{Slots}
 use Rattle.iigs_meaning.specs.Puts.{Purges, Puts, PutsAll, placed}
+use Rattle.iigs_meaning.specs.Memory.{Memory}
 use Rattle.loader_machine.specs.declared.seen.Head.{Head}
 use Rattle.loader_machine.specs.Heads.{head_of, at_number, is_static, wants_of}
 use Rattle.loader_machine.specs.State.{Held, User, Machine, absent, no_pokes, first_id, max_users, held_at}
@@ -29,7 +30,7 @@ use Rattle.loader_machine.specs.Refusals.{load_refusal}
 use Rattle.loader_machine.specs.Steps.{PutIn, Begins, Steps, spread, started_user}
 use Rattle.loader_agrees.specs.Agrees.{Kept, Loaded, Outline, outline, outline_of, UserAgrees, Agrees, IsSound, Met}
 use Rattle.loader_agrees.specs.Frame.{Keeps, Same, Gone, agrees_still}
-use Rattle.loader_agrees.specs.Acts.{HasBegun, started_kept}
+use Rattle.loader_agrees.specs.Acts.{HasPlaced, IsAdded, HasBegun, started_kept}
 use Rattle.loader_agrees.specs.Lists.{number_map}
 use Rattle.loader_agrees.specs.Seeing.{has_any}
 use Rattle.loader_agrees.specs.Stay.{Stays, placement_keeps, all_stay, slot_map}
@@ -209,21 +210,60 @@ pub may_load : (made : ℕ) → made < max_users → load_refusal made ≡ None
 unfolding load_refusal
 may_load made few = let t : nat_lt made max_users ≡ true = grind arith in rw t refl
 
--- a block that was there is kept by a load
-pub begun_keeps : (old new : Loaded) (path : List ℕ) (segments : List Segment) (id : ℕ) (entry : Option ℕ) → HasBegun old path segments id entry new
-    → (h : Handle) → IsSome (get old.memory.slots h) → Keeps old.memory new.memory h
-begun_keeps old new path segments id entry begun h live = elim (placement_keeps old.memory begun.middle id (wants_of (map head_of segments)) begun.handles h begun.placed live) [
+-- a block that was there is kept while a program is placed
+pub begun_keeps : (old new : Memory) (path : List ℕ) (segments : List Segment) (id : ℕ) (entry : Option ℕ) → HasPlaced old path segments id entry new
+    → (h : Handle) → IsSome (get old.slots h) → Keeps old new h
+begun_keeps old new path segments id entry begun h live = elim (placement_keeps old begun.middle id (wants_of (map head_of segments)) begun.handles h begun.placed live) [
   | Same slot bytes ↦ Same (ap (λ (t : Slots). get t h) begun.slots ∙ slot)
       (λ there. begun.stay h live ∙ bytes (subst (λ (t : Slots). IsSome (there_at (presence t (Some h)))) begun.slots there))
   | Gone block was can gone ↦ Gone block was can (ap (λ (t : Slots). get t h) begun.slots ∙ gone)
 ]
 
-module _ (held : FileMap) (old new : Loaded) (state : Machine) (path : List ℕ) (segments : List Segment) (id : ℕ) (entry : Option ℕ) (sound : IsSound old.memory old.users) (agrees : Agrees held old state)
-    (begun : HasBegun old path segments id entry new) (holds : HoldsLoad held path segments) where
-  abbrev user : User
+-- what a load placed, and the user that it added
+abbrev pub as_placed : (old new : Loaded) (path : List ℕ) (segments : List Segment) (id : ℕ) (entry : Option ℕ) → HasBegun old path segments id entry new → HasPlaced old.memory path segments id entry new.memory
+as_placed old new path segments id entry begun = record {
+  short = begun.short;
+  handles = begun.handles;
+  middle = begun.middle;
+  placed = begun.placed;
+  banks = begun.banks;
+  slots = begun.slots;
+  entry_is = begun.entry_is;
+  stay = begun.stay;
+  begins = begun.begins;
+  sizes = begun.sizes;
+}
+
+push_old : {X : Type 0} (xs : List X) (x y : X) (k : ℕ) → slice_get xs k ≡ Some y → slice_get (xs ++ x ∷ []) k ≡ Some y
+push_old [] x y k is = absurd cc
+push_old (z ∷ xs) x y zero is = is
+push_old (z ∷ xs) x y (suc k) is = push_old xs x y k is
+
+push_new : {X : Type 0} (xs : List X) (x : X) → slice_get (xs ++ x ∷ []) (length xs) ≡ Some x
+push_new [] x = refl
+push_new (z ∷ xs) x = push_new xs x
+
+pub as_added : (old new : Loaded) (path : List ℕ) (segments : List Segment) (id : ℕ) (entry : Option ℕ) → (begun : HasBegun old path segments id entry new)
+    → IsAdded old.users (length old.users) (started_kept path (map head_of segments) begun.handles) new.users
+as_added old new path segments id entry begun = subst (IsAdded old.users (length old.users) its) (sym begun.users) (record {
+  few = omega (arith, begun.few, length-append old.users (Some its ∷ []));
+  here = push_new old.users (Some its);
+  which = λ p k made. elim (slice_push old.users (Some its) p (Some k) made) [
+    | inl was ↦ let within = slice_get_within old.users p (Some k) was in inl ((λ e. omega (arith, e, within)), was)
+    | inr last ↦ inr (last.0, same_Some k its last.1)
+  ];
+  stay = λ p k was. push_old old.users (Some its) (Some k) p was;
+})
+  where
+    its : Kept
+    its = started_kept path (map head_of segments) begun.handles
+
+module _ (held : FileMap) (old new : Loaded) (path : List ℕ) (segments : List Segment) (id : ℕ) (entry : Option ℕ) (sound : IsSound old.memory old.users)
+    (begun : HasPlaced old.memory path segments id entry new.memory) (holds : HoldsLoad held path segments) where
+  abbrev pub user : User
   user = started_user path (map head_of segments) begun.handles
 
-  abbrev kept : Kept
+  abbrev pub kept : Kept
   kept = started_kept path (map head_of segments) begun.handles
 
   heads_at : (n : ℕ) (s : Segment) → segment_at segments n ≡ Some s → at_number (map head_of segments) n ≡ Some (head_of s)
@@ -242,7 +282,7 @@ module _ (held : FileMap) (old new : Loaded) (state : Machine) (path : List ℕ)
   no_poke zero = refl
   no_poke (suc k) = spread_pokes (map head_of segments) begun.handles k
 
-  user_agrees : UserAgrees held new.memory id kept user
+  pub user_agrees : UserAgrees held new.memory id kept user
   user_agrees = record {
     same = refl;
     segments = segments;
@@ -255,42 +295,53 @@ module _ (held : FileMap) (old new : Loaded) (state : Machine) (path : List ℕ)
   }
 
   keeps : (h : Handle) → IsSome (get old.memory.slots h) → Keeps old.memory new.memory h
-  keeps h live = begun_keeps old new path segments id entry begun h live
+  keeps h live = begun_keeps old.memory new.memory path segments id entry begun h live
 
-  others_agree : (place : ℕ) (kept' : Kept) (user' : User) → slice_get old.users place ≡ Some (Some kept') → UserAgrees held old.memory (first_id + place) kept' user' → UserAgrees held new.memory (first_id + place) kept' user'
+  pub others_agree : (place : ℕ) (kept' : Kept) (user' : User) → slice_get old.users place ≡ Some (Some kept') → UserAgrees held old.memory (first_id + place) kept' user' → UserAgrees held new.memory (first_id + place) kept' user'
   others_agree place kept' user' made was = agrees_still held old.memory new.memory (first_id + place) kept' user' was
       (λ n h found. let one = has_any old sound place kept' made n h found in
       let of' = sound.each place n one.0 h one.1 in
       let live : IsSome (get old.memory.slots h) = rw of'.live refl in
       keeps h live)
 
+module _ (held : FileMap) (old new : Loaded) (state : Machine) (path : List ℕ) (segments : List Segment) (id : ℕ) (entry : Option ℕ) (sound : IsSound old.memory old.users) (agrees : Agrees held old state)
+    (begun : HasBegun old path segments id entry new) (holds : HoldsLoad held path segments) where
+  abbrev its_user : User
+  its_user = started_user path (map head_of segments) begun.handles
+
+  abbrev its_kept : Kept
+  its_kept = started_kept path (map head_of segments) begun.handles
+
+  abbrev put : HasPlaced old.memory path segments id entry new.memory
+  put = as_placed old new path segments id entry begun
+
   same_count : length old.users ≡ length state.users
   same_count = sym (length-map old.users (option_map outline)) ∙ ap length agrees.users ∙ length-map state.users (option_map outline_of)
 
   abbrev next : Machine
-  next = record { banks = state.banks; slots = new.memory.slots; users = state.users ++ Some user ∷ [] }
+  next = record { banks = state.banks; slots = new.memory.slots; users = state.users ++ Some its_user ∷ [] }
 
   agrees_next : Agrees held new next
   agrees_next = record {
     banks = begun.banks ∙ agrees.banks;
     slots = refl;
-    users = ap (map (option_map outline)) begun.users ∙ map-append (option_map outline) old.users (Some kept ∷ [])
-        ∙ ap (λ (os : List (Option Outline)). os ++ Some (outline kept) ∷ []) agrees.users ∙ sym (map-append (option_map outline_of) state.users (Some user ∷ []));
+    users = ap (map (option_map outline)) begun.users ∙ map-append (option_map outline) old.users (Some its_kept ∷ [])
+        ∙ ap (λ (os : List (Option Outline)). os ++ Some (outline its_kept) ∷ []) agrees.users ∙ sym (map-append (option_map outline_of) state.users (Some its_user ∷ []));
     each = λ place kept' user' made made'.
         let in_old = ap (λ (us : List (Option Kept)). slice_get us place) (sym begun.users) ∙ made in
-        elim (slice_push old.users (Some kept) place (Some kept') in_old) [
-          | inl was ↦ elim (slice_push state.users (Some user) place (Some user') made') [
-            | inl was' ↦ others_agree place kept' user' was (agrees.each place kept' user' was was')
+        elim (slice_push old.users (Some its_kept) place (Some kept') in_old) [
+          | inl was ↦ elim (slice_push state.users (Some its_user) place (Some user') made') [
+            | inl was' ↦ others_agree held old new path segments id entry sound put holds place kept' user' was (agrees.each place kept' user' was was')
             | inr last ↦ absurd (omega (arith, last.0, same_count, slice_get_within old.users place (Some kept') was))
           ]
-          | inr last ↦ elim (slice_push state.users (Some user) place (Some user') made') [
+          | inr last ↦ elim (slice_push state.users (Some its_user) place (Some user') made') [
             | inl was' ↦ absurd (omega (arith, last.0, same_count, slice_get_within state.users place (Some user') was'))
             | inr last' ↦
-                let kept_is : kept ≡ kept' = same_Some kept kept' (sym last.1) in
-                let user_is : user ≡ user' = same_Some user user' (sym last'.1) in
+                let kept_is : its_kept ≡ kept' = same_Some its_kept kept' (sym last.1) in
+                let user_is : its_user ≡ user' = same_Some its_user user' (sym last'.1) in
                 let id_is : id ≡ first_id + place = omega (arith, begun.id_is, last.0) in
                 subst (λ (n : ℕ). UserAgrees held new.memory n kept' user') id_is
-                (subst (λ (u : User). UserAgrees held new.memory id kept' u) user_is (subst (λ (k : Kept). UserAgrees held new.memory id k user) kept_is user_agrees))
+                (subst (λ (u : User). UserAgrees held new.memory id kept' u) user_is (subst (λ (k : Kept). UserAgrees held new.memory id k its_user) kept_is (user_agrees held old new path segments id entry sound put holds)))
           ]
         ];
   }

@@ -13,16 +13,17 @@ use Rattle.iigs_meaning.specs.Fits.{Slots, block_in}
 use Rattle.iigs_meaning.specs.Puts.{Purges, Puts, PutsAll, placed}
 use Rattle.iigs_meaning.specs.Memory.{bytes_at}
 use Rattle.loader_machine.specs.declared.seen.Head.{Head}
+use Rattle.loader_machine.specs.declared.seen.Life.TheVariants.{Running, Dormant}
 use Rattle.loader_machine.specs.Heads.{head_of, at_number, is_static, is_stack, stack_want, plain_want, want_of, wants_of}
 use Rattle.loader_machine.specs.State.{Held, first_id}
 use Rattle.loader_machine.specs.Presences.{handle_at, presence, presence_at, is_active}
 use Rattle.loader_machine.specs.Steps.{spread}
 use Rattle.loader_agrees.specs.Agrees.{Kept, Loaded, IsOf, Has, IsSound}
-use Rattle.loader_agrees.specs.Acts.{HasBegun, started_kept}
+use Rattle.loader_agrees.specs.Acts.{HasPlaced, IsAdded, HasBegun, started_kept}
 use Rattle.loader_agrees.specs.Stay.{put_stays, put_apart, still_live}
 use Rattle.loader_agrees.specs.Slotted.{in_put}
-use Rattle.loader_agrees.specs.Begun.{puts_here, all_placed, all_active, all_length, spread_length, spread_static, slice_push, decide, begun_keeps}
-use Rattle.loader_agrees.specs.Keeping.{AllKept, of_kept, statics_kept}
+use Rattle.loader_agrees.specs.Begun.{puts_here, all_placed, all_active, all_length, spread_length, spread_static, decide, begun_keeps, as_placed, as_added}
+use Rattle.loader_agrees.specs.Keeping.{AllKept, of_kept, statics_kept, rests_kept}
 
 -- ---- handles of one placement
 
@@ -180,19 +181,8 @@ want_size head = elim (decide (is_stack head)) [ inl stack ↦ rw stack (grind a
 
 -- ---- users
 
-push_old : {X : Type 0} (xs : List X) (x y : X) (k : ℕ) → slice_get xs k ≡ Some y → slice_get (xs ++ x ∷ []) k ≡ Some y
-push_old [] x y k is = absurd cc
-push_old (z ∷ xs) x y zero is = is
-push_old (z ∷ xs) x y (suc k) is = push_old xs x y k is
-
-push_new : {X : Type 0} (xs : List X) (x : X) → slice_get (xs ++ x ∷ []) (length xs) ≡ Some x
-push_new [] x = refl
-push_new (z ∷ xs) x = push_new xs x
-
-kept_same : (a b : Kept) → Some (Some a) ≡ Some (Some b) → a ≡ b
-kept_same a b e = cc
-
-module _ (old new : Loaded) (path : List ℕ) (segments : List Segment) (id : ℕ) (entry : Option ℕ) (sound : IsSound old.memory old.users) (begun : HasBegun old path segments id entry new) where
+module _ (old new : Loaded) (path : List ℕ) (segments : List Segment) (id : ℕ) (entry : Option ℕ) (sound : IsSound old.memory old.users) (begun : HasPlaced old.memory path segments id entry new.memory)
+    (its_place : ℕ) (id_is : id ≡ first_id + its_place) (added : IsAdded old.users its_place (started_kept path (map head_of segments) begun.handles) new.users) where
   abbrev heads : List Head
   heads = map head_of segments
 
@@ -203,7 +193,7 @@ module _ (old new : Loaded) (path : List ℕ) (segments : List Segment) (id : �
   its = started_kept path (map head_of segments) begun.handles
 
   abbrev users : List (Option Kept)
-  users = old.users ++ Some (started_kept path (map head_of segments) begun.handles) ∷ []
+  users = new.users
 
   long : length begun.handles ≡ length (wants_of (map head_of segments))
   long = all_length old.memory.banks id old.memory.slots begun.middle.slots (wants_of (map head_of segments)) begun.handles begun.placed.puts
@@ -211,17 +201,14 @@ module _ (old new : Loaded) (path : List ℕ) (segments : List Segment) (id : �
   all_kept : AllKept old new.memory
   all_kept place number head h has =
       let of' = sound.each place number head h has in
-      begun_keeps old new path segments id entry begun h (rw of'.live refl)
+      begun_keeps old.memory new.memory path segments id entry begun h (rw of'.live refl)
 
   -- a user is an old one, or the new one
   abbrev Which : ℕ → Kept → Type 0
-  Which place kept = (slice_get old.users place ≡ Some (Some kept)) ⊎ ((place ≡ length old.users) × (kept ≡ its))
+  Which p kept = (slice_get old.users p ≡ Some (Some kept)) ⊎ ((p ≡ its_place) × (kept ≡ its))
 
-  which : (place : ℕ) (kept : Kept) → slice_get users place ≡ Some (Some kept) → Which place kept
-  which place kept made = elim (slice_push old.users (Some its) place (Some kept) made) [
-    | inl was ↦ inl was
-    | inr last ↦ inr (last.0, same_Some kept its last.1)
-  ]
+  which : (p : ℕ) (kept : Kept) → slice_get users p ≡ Some (Some kept) → Which p kept
+  which p kept made = elim (added.which p kept made) [ inl was ↦ inl was.1 | inr last ↦ inr last ]
 
   handle_in : (number : ℕ) (h : Handle) → handle_at its.handles number ≡ Some h → (k : ℕ) × (number ≡ suc k) × (slice_get (spread_handles (map head_of segments) begun.handles) k ≡ Some (Some h))
   handle_in zero h is = absurd cc
@@ -263,7 +250,7 @@ module _ (old new : Loaded) (path : List ℕ) (segments : List Segment) (id : �
   parts_old place number head h has was = record { kept = has.kept; made = was; head' = has.head'; handle = has.handle }
 
   lift : (place number : ℕ) (head : Head) (h : Handle) → Has old.users place number head h → Has users place number head h
-  lift place number head h has = record { kept = has.kept; made = push_old old.users (Some its) (Some has.kept) place has.made; head' = has.head'; handle = has.handle }
+  lift place number head h has = record { kept = has.kept; made = added.stay place has.kept has.made; head' = has.head'; handle = has.handle }
 
   its_head : (place number : ℕ) (head : Head) (h : Handle) → (has : Has users place number head h) → has.kept ≡ its → at_number (map head_of segments) number ≡ Some head
   its_head place number head h has is = sym (ap (λ (k : Kept). at_number k.heads number) is) ∙ has.head'
@@ -274,7 +261,7 @@ module _ (old new : Loaded) (path : List ℕ) (segments : List Segment) (id : �
   each : (place number : ℕ) (head : Head) (h : Handle) → Has users place number head h → IsOf new.memory (first_id + place) head h
   each place number head h has = elim (which place has.kept has.made) [
     | inl was ↦ of_kept old.memory new.memory (first_id + place) head h (sound.each place number head h (parts_old place number head h has was)) (all_kept place number head h (parts_old place number head h has was))
-    | inr last ↦ subst (λ (n : ℕ). IsOf new.memory n head h) (omega (arith, begun.id_is, last.0)) (its_block number head h (its_head place number head h has last.1) (its_handle place number head h has last.1))
+    | inr last ↦ subst (λ (n : ℕ). IsOf new.memory n head h) (omega (arith, id_is, last.0)) (its_block number head h (its_head place number head h has last.1) (its_handle place number head h has last.1))
   ]
 
   -- a new handle isn't in the slot of an old one
@@ -313,11 +300,11 @@ module _ (old new : Loaded) (path : List ℕ) (segments : List Segment) (id : �
       (sym (ap (λ (t : Slots). block_in (slot_at t slot)) begun.slots) ∙ is)) [
         | inl new' ↦
             (let one = spread_has (map head_of segments) begun.handles long new'.0 new'.1 new'.2 in (
-              length old.users,
+              its_place,
               suc one.0,
               one.1,
               new'.1,
-              record { kept = its; made = push_new old.users (Some its); head' = one.2; handle = ap (option_and_then (λ (o : Option Handle). o)) one.3 },
+              record { kept = its; made = added.here; head' = one.2; handle = ap (option_and_then (λ (o : Option Handle). o)) one.3 },
               new'.3,
             ))
         | inr was ↦
@@ -325,9 +312,9 @@ module _ (old new : Loaded) (path : List ℕ) (segments : List Segment) (id : �
             (before.0, before.1, before.2, before.3, lift before.0 before.1 before.2 before.3 before.4, before.5))
       ]
 
-  sound_users : IsSound new.memory users
-  sound_users = record {
-    few = omega (arith, begun.few, length-append old.users (Some its ∷ []));
+  pub sound_placed : IsSound new.memory new.users
+  sound_placed = record {
+    few = added.few;
     lengths = λ place kept made. elim (which place kept made) [
       | inl was ↦ sound.lengths place kept was
       | inr last ↦ rw last.1 (length-map (spread (map head_of segments) begun.handles) (λ (held : Held). held.handle) ∙ spread_length (map head_of segments) begun.handles)
@@ -340,11 +327,16 @@ module _ (old new : Loaded) (path : List ℕ) (segments : List Segment) (id : �
       | inl was ↦ statics_kept old new.memory sound all_kept place kept number head was runs has static
       | inr last ↦ rw last.1 (its_static number head (sym (ap (λ (k : Kept). at_number k.heads number) last.1) ∙ has) static)
     ];
+    rests = λ place kept number made life. elim (which place kept made) [
+      | inl was ↦ rests_kept old new.memory sound all_kept place kept number was life
+      | inr last ↦ (let clash : Running ≡ Dormant = ap (λ (k : Kept). k.life) (sym last.1) ∙ life in absurd cc)
+    ];
     each = each;
     once = once;
     only = only;
   }
 
-  -- after a load the loader is sound
-  pub sound_begun : IsSound new.memory new.users
-  sound_begun = subst (IsSound new.memory) (sym begun.users) sound_users
+-- after a load the loader is sound
+pub sound_begun : (old new : Loaded) (path : List ℕ) (segments : List Segment) (id : ℕ) (entry : Option ℕ) → IsSound old.memory old.users → HasBegun old path segments id entry new → IsSound new.memory new.users
+sound_begun old new path segments id entry sound begun =
+    sound_placed old new path segments id entry sound (as_placed old new path segments id entry begun) (length old.users) begun.id_is (as_added old new path segments id entry begun)

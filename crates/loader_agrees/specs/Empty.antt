@@ -24,6 +24,7 @@ sound_empty memory new = record {
   lengths = λ place kept made. absurd cc;
   short = λ place kept made. absurd cc;
   statics = λ place kept number head made runs has static. absurd cc;
+  rests = λ place kept number made life. absurd cc;
   each = λ place number head h has. let made = has.made in absurd cc;
   once = λ place other number n head second h k has has' same. let made = has.made in absurd cc;
   only = λ slot block is user. absurd (no_block memory.slots slot block new is);

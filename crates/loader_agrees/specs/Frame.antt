@@ -57,6 +57,15 @@ module _ (old new : Memory) (handles : List (Option Handle)) (kept : AreKept old
       not_locked h (Some a) true e active = cc
       not_locked h (Some a) false e active = cc
 
+  -- what wasn't active isn't so now
+  pub not_active_still : (number : ℕ) (o : Option Handle) → handle_at handles number ≡ o → is_active (presence old.slots o) ≡ false
+      → is_active (presence new.slots o) ≡ false
+  not_active_still number None is rests = refl
+  not_active_still number (Some h) is rests = elim (kept number h is) [
+    | Same slot bytes ↦ ap (λ (b : Option Block). is_active (lies_in h b)) slot ∙ rests
+    | Gone block was can gone ↦ ap (λ (b : Option Block). is_active (lies_in h b)) gone
+  ]
+
   -- the targets of a table stay
   target_stays : (number : ℕ) (o : Option Handle) → handle_at handles number ≡ o → active_at (presence new.slots o) ≡ active_at (presence old.slots o)
   target_stays number None is = refl

@@ -9,13 +9,13 @@ use Rattle.iigs_meaning.specs.Slots.{get, slot_at}
 use Rattle.iigs_meaning.specs.Fits.{Slots, block_in}
 use Rattle.iigs_meaning.specs.Memory.{Memory}
 use Rattle.loader_machine.specs.declared.seen.Head.{Head}
-use Rattle.loader_machine.specs.declared.seen.Life.TheVariants.{Running}
+use Rattle.loader_machine.specs.declared.seen.Life.TheVariants.{Running, Dormant}
 use Rattle.loader_machine.specs.Heads.{at_number, is_static}
 use Rattle.loader_machine.specs.State.{Machine, first_id}
 use Rattle.loader_machine.specs.Presences.{handle_at, presence, presence_at, there_at, is_active, lies_in, lies_at}
 use Rattle.loader_machine.specs.Steps.{with_slots}
 use Rattle.loader_agrees.specs.Agrees.{Kept, Loaded, outline, Agrees, IsOf, Has, IsSegments, IsSound}
-use Rattle.loader_agrees.specs.Frame.{Keeps, Same, Gone, AreKept, was_active, agrees_still}
+use Rattle.loader_agrees.specs.Frame.{Keeps, Same, Gone, AreKept, was_active, not_active_still, agrees_still}
 use Rattle.loader_agrees.specs.Seeing.{has_any}
 
 -- each handle of a user's segment is kept
@@ -67,6 +67,10 @@ module _ (old : Loaded) (new : Memory) (sound : IsSound old.memory old.users) (k
       let before = sound.statics place user number head made runs has static in
       rw (was_active old.memory new user.handles (handles_kept place user made) number (handle_at user.handles number) refl before) before
 
+  pub rests_kept : (place : ℕ) (user : Kept) (number : ℕ) → slice_get old.users place ≡ Some (Some user) → user.life ≡ Dormant → is_active (presence_at new.slots user.handles number) ≡ false
+  rests_kept place user number made life =
+      not_active_still old.memory new user.handles (handles_kept place user made) number (handle_at user.handles number) refl (sound.rests place user number made life)
+
   -- where each user's block was one before, the loader is sound
   pub sound_kept : OnlyOld old.memory new → IsSound new old.users
   sound_kept only = record {
@@ -74,6 +78,7 @@ module _ (old : Loaded) (new : Memory) (sound : IsSound old.memory old.users) (k
     lengths = sound.lengths;
     short = sound.short;
     statics = statics_kept;
+    rests = rests_kept;
     each = λ place number head h has. of_kept old.memory new (first_id + place) head h (sound.each place number head h has) (kept place number head h has);
     once = sound.once;
     only = λ slot block is user. let was = only slot block is user in sound.only slot was.0 was.1 was.2;

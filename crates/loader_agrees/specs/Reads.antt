@@ -60,7 +60,7 @@ pub all_there : (held : FileMap) (loader : Loaded) (id : ℕ) (kept : Kept) (use
 all_there held loader id kept user agrees runs number s is static = active_there (presence_at loader.memory.slots kept.handles number) (agrees.statics runs number s is static)
 
 -- so many bytes within a front
-within_front : (front rest : List ℕ) (at count : ℕ) → at + count ≤ length front → take count (drop at (front ++ rest)) ≡ take count (drop at front)
+pub within_front : (front rest : List ℕ) (at count : ℕ) → at + count ≤ length front → take count (drop at (front ++ rest)) ≡ take count (drop at front)
 within_front front rest at count within =
     ap (take count) (drop-append-le at front rest (omega arith))
     ∙ take-append-le count (drop at front) rest (omega (arith, length-drop at front))
@@ -73,27 +73,27 @@ module _ (held : FileMap) (loader : Loaded) (state : Machine) (agrees : Agrees h
       record { user = is.user; made = is.made; segments = is.does_agree.segments; holds = subst (λ (p : List ℕ). HoldsLoad held p is.does_agree.segments) path is.does_agree.holds }
 
   module _ (id number : ℕ) (h : Handle) (is : IsActive loader id number h) where
-    abbrev one : IsKept held loader state agrees id is.kept
+    abbrev pub one : IsKept held loader state agrees id is.kept
     one = kept_is held loader state agrees id is.kept is.made
 
-    abbrev user : User
+    abbrev pub user : User
     user = one.user
 
-    its_segment : (s : Segment) × (segment_at one.does_agree.segments number ≡ Some s) × (head_of s ≡ is.head)
+    pub its_segment : (s : Segment) × (segment_at one.does_agree.segments number ≡ Some s) × (head_of s ≡ is.head)
     its_segment = headed one.does_agree.segments number is.head (ap (λ (hs : List Head). at_number hs number) (sym one.does_agree.heads) ∙ is.head')
 
-    handles : is.kept.handles ≡ handles_of user
+    pub handles : is.kept.handles ≡ handles_of user
     handles = ap (λ (o : Outline). o.handles) one.does_agree.same
 
-    present : presence_at loader.memory.slots is.kept.handles number ≡ Active h is.address
+    pub present : presence_at loader.memory.slots is.kept.handles number ≡ Active h is.address
     present = ap (presence loader.memory.slots) is.handle ∙ is.active
 
     -- its block begins with what stands in it
-    begins : IsFront (stands (setting id loader.memory.slots is.kept.handles) (held_at user number).pokes its_segment.0) (bytes_at loader.memory h.slot)
+    pub begins : IsFront (stands (setting id loader.memory.slots is.kept.handles) (held_at user number).pokes its_segment.0) (bytes_at loader.memory h.slot)
     begins = one.does_agree.begins (all_there held loader id is.kept user one.does_agree is.runs) number its_segment.0 h its_segment.1 is.handle
         (rw present refl)
 
-    stands_there : StandsIn held state id number (stands (setting id loader.memory.slots is.kept.handles) (held_at user number).pokes its_segment.0)
+    pub stands_there : StandsIn held state id number (stands (setting id loader.memory.slots is.kept.handles) (held_at user number).pokes its_segment.0)
     stands_there = record {
       sees = sees_of id is.kept one;
       s = its_segment.0;
@@ -102,12 +102,12 @@ module _ (held : FileMap) (loader : Loaded) (state : Machine) (agrees : Agrees h
           ∙ ap (λ (hs : List (Option Handle)). stands (setting id state.slots hs) (held_at user number).pokes its_segment.0) handles;
     }
 
-    stands_size : length (stands (setting id loader.memory.slots is.kept.handles) (held_at user number).pokes its_segment.0) ≡ is.head.length
+    pub stands_size : length (stands (setting id loader.memory.slots is.kept.handles) (held_at user number).pokes its_segment.0) ≡ is.head.length
     stands_size = stands_long one.does_agree.segments number its_segment.0 (setting id loader.memory.slots is.kept.handles) (held_at user number).pokes
         (loadable_has one.does_agree.holds.file one.does_agree.segments one.does_agree.holds.loadable number its_segment.0 its_segment.1)
         ∙ ap (λ (head : Head). head.length) its_segment.2
 
-    at_there : (address offset : ℕ) → is.address + offset ≡ address → offset < is.head.length → IsAt held state address id number offset
+    abbrev pub at_there : (address offset : ℕ) → is.address + offset ≡ address → offset < is.head.length → IsAt held state address id number offset
     at_there address offset sum inside = record {
       sees = sees_of id is.kept one;
       runs = sym (ap (λ (o : Outline). o.life) one.does_agree.same) ∙ is.runs;

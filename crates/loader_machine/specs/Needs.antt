@@ -76,3 +76,7 @@ Needs held state (Unlock h) paths = paths ≡ []
 Needs held state (Level h level) paths = paths ≡ []
 Needs held state (StateOf h) paths = paths ≡ []
 Needs held state Room paths = paths ≡ []
+
+-- so many files are read for the command in the state
+abbrev pub IsReadFor : FileMap → Machine → Command → ℕ → Type 0
+IsReadFor held state command reads = (paths : List (List ℕ)) × Needs held state command paths × (reads ≡ length paths)

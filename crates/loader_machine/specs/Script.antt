@@ -13,7 +13,7 @@ use Rattle.loader_machine.specs.declared.script.ScriptCause.{ScriptCause}
 use Rattle.loader_machine.specs.declared.script.ScriptCause.TheVariants.{TooManyLines, BadWord, UnknownCommand, BanksFirst, WrongCount, BadNumber, BankTwice}
 use Rattle.loader_machine.specs.declared.script.ScriptFault.{ScriptFault}
 use Rattle.loader_machine.specs.Heads.{some_if}
-use Rattle.loader_machine.specs.Commands.{Command, Banks, Load, UnloadSegment, ShutDown, Purge, Poke, Bytes, Where, Info, Alloc, Free, Lock, Unlock, Level, StateOf, Room}
+use Rattle.loader_machine.specs.Commands.{Command, Banks, Load, LoadSegment, UnloadSegment, Jsl, ShutDown, Restart, Purge, Poke, Bytes, Where, Info, Alloc, Free, Lock, Unlock, Level, StateOf, Room}
 
 -- ---- lines
 
@@ -67,8 +67,11 @@ unfoldable pub named : List ℕ → Option CommandName
 named word =
     if bytes_eq word (codes "banks") then Some name.Banks
     else if bytes_eq word (codes "load") then Some name.Load
+    else if bytes_eq word (codes "loadseg") then Some name.LoadSegment
     else if bytes_eq word (codes "unloadseg") then Some name.UnloadSegment
+    else if bytes_eq word (codes "jsl") then Some name.Jsl
     else if bytes_eq word (codes "shutdown") then Some name.ShutDown
+    else if bytes_eq word (codes "restart") then Some name.Restart
     else if bytes_eq word (codes "purge") then Some name.Purge
     else if bytes_eq word (codes "poke") then Some name.Poke
     else if bytes_eq word (codes "bytes") then Some name.Bytes
@@ -113,6 +116,16 @@ shut_down_of (user ∷ manner ∷ []) =
     then Ok (ShutDown (number_of user) (bytes_eq manner (codes "keep")))
     else Err BadNumber
 shut_down_of words = Err WrongCount
+
+-- the numbers of `jsl`: a user, a segment, and an offset
+abbrev pub are_jsl_numbers : List ℕ → List ℕ → List ℕ → Bool
+are_jsl_numbers user segment at = is_number 0 0xFFFF user && is_number 0 0xFFFF segment && is_number 0 0xFFFFFFFF at
+
+-- `jsl U S OFF`
+unfoldable pub jsl_of : List (List ℕ) → Result Command ScriptCause
+jsl_of (user ∷ segment ∷ at ∷ []) =
+    if are_jsl_numbers user segment at then Ok (Jsl (number_of user) (number_of segment) (number_of at)) else Err BadNumber
+jsl_of words = Err WrongCount
 
 -- the numbers of `poke`: a user, a segment, an offset, and a byte
 abbrev pub are_poke_numbers : List ℕ → List ℕ → List ℕ → List ℕ → Bool
@@ -202,8 +215,11 @@ room_of (word ∷ words) = Err WrongCount
 unfoldable pub words_command : CommandName → List (List ℕ) → Result Command ScriptCause
 words_command name.Banks words = banks_of words
 words_command name.Load words = load_of words
+words_command name.LoadSegment words = given_by (λ n. LoadSegment n.0 n.1) (two_numbers 0xFFFF 0xFFFF words)
 words_command name.UnloadSegment words = given_by (λ n. UnloadSegment n.0 n.1) (two_numbers 0xFFFF 0xFFFF words)
+words_command name.Jsl words = jsl_of words
 words_command name.ShutDown words = shut_down_of words
+words_command name.Restart words = given_by Restart (one_number 0xFFFF words)
 words_command name.Purge words = given_by Purge (one_number 0xFFFF words)
 words_command name.Poke words = poke_of words
 words_command name.Bytes words = bytes_of words
@@ -243,8 +259,11 @@ abbrev pub IsCommand : Bool → Command → Type 0
 IsCommand is_first (Banks banks) = (is_first ≡ true) × (1 ≤ length banks) × (length banks ≤ 256)
     × AllByRecursion (λ bank. bank ≤ 0xFF) banks × (stands_twice banks ≡ false)
 IsCommand is_first (Load path) = (is_first ≡ false) × (1 ≤ length path) × (length path ≤ 255) × (is_word path ≡ true)
+IsCommand is_first (LoadSegment user segment) = (is_first ≡ false) × (user ≤ 0xFFFF) × (segment ≤ 0xFFFF)
 IsCommand is_first (UnloadSegment user segment) = (is_first ≡ false) × (user ≤ 0xFFFF) × (segment ≤ 0xFFFF)
+IsCommand is_first (Jsl user segment at) = (is_first ≡ false) × (user ≤ 0xFFFF) × (segment ≤ 0xFFFF) × (at ≤ 0xFFFFFFFF)
 IsCommand is_first (ShutDown user keep) = (is_first ≡ false) × (user ≤ 0xFFFF)
+IsCommand is_first (Restart user) = (is_first ≡ false) × (user ≤ 0xFFFF)
 IsCommand is_first (Purge user) = (is_first ≡ false) × (user ≤ 0xFFFF)
 IsCommand is_first (Poke user segment at byte) = (is_first ≡ false) × (user ≤ 0xFFFF) × (segment ≤ 0xFFFF)
     × (at ≤ 0xFFFFFFFF) × (byte ≤ 0xFF)
@@ -259,7 +278,6 @@ IsCommand is_first (Unlock h) = (is_first ≡ false) × IsHandle h
 IsCommand is_first (Level h level) = (is_first ≡ false) × IsHandle h × (level ≤ 3)
 IsCommand is_first (StateOf h) = (is_first ≡ false) × IsHandle h
 IsCommand is_first Room = is_first ≡ false
-IsCommand is_first _ = ⊥
 
 -- the same of a list of commands, of which the first is a script's first one or not
 abbrev pub AreCommands : Bool → List Command → Type 0

@@ -10,10 +10,10 @@ use Rattle.loader_machine.specs.declared.script.CommandName.{CommandName}
 use Rattle.loader_machine.specs.declared.script.CommandName.TheVariants as names
 use Rattle.omf_format.specs.Header.{has_attribute}
 use Rattle.iigs_meaning.specs.Fits.{IsWant}
-use Rattle.loader_machine.specs.Commands.{Command, Banks, Load, UnloadSegment, ShutDown, Purge, Poke, Bytes, Where, Info, Alloc, Free, Lock, Unlock, Level, StateOf, Room}
+use Rattle.loader_machine.specs.Commands.{Command, Banks, Load, LoadSegment, UnloadSegment, Jsl, ShutDown, Restart, Purge, Poke, Bytes, Where, Info, Alloc, Free, Lock, Unlock, Level, StateOf, Room}
 use Rattle.iigs_meaning.specs.Banks.{AreDistinctTo}
 use Rattle.omf_format.specs.Lines.{lines_of}
-use Rattle.loader_machine.specs.Script.{written, line_command, Give, IsScript, IsHandle, IsCommand, AreCommands, is_number, number_of, is_word, stands_twice, banks_of, load_of, is_manner, shut_down_of, are_poke_numbers, poke_of, bytes_of, are_bytes_numbers, level_in, alloc_want, are_alloc_numbers, alloc_of, one_number, two_numbers, given_by, handle_of, room_of, words_command, is_banks, is_in_turn, named, named_command, command_of, words_of, is_well_formed}
+use Rattle.loader_machine.specs.Script.{written, line_command, Give, IsScript, IsHandle, IsCommand, AreCommands, is_number, number_of, is_word, stands_twice, banks_of, load_of, are_jsl_numbers, jsl_of, is_manner, shut_down_of, are_poke_numbers, poke_of, bytes_of, are_bytes_numbers, level_in, alloc_want, are_alloc_numbers, alloc_of, one_number, two_numbers, given_by, handle_of, room_of, words_command, is_banks, is_in_turn, named, named_command, command_of, words_of, is_well_formed}
 
 abbrev failed : ScriptCause → Result Command ScriptCause
 failed cause = Err cause
@@ -90,6 +90,20 @@ bytes_keep (user ∷ segment ∷ at ∷ size ∷ []) command e =
     (refl, (number_within 0 0xFFFF user c.0).1, (number_within 0 0xFFFF segment c.1).1, (number_within 0 0xFFFFFFFF at b.1).1, sized.0, sized.1) in
     subst (IsCommand false) (same_ok (Ok found) found command refl tests.1) keep
 bytes_keep (user ∷ segment ∷ at ∷ size ∷ more ∷ words) command e = let clash : failed WrongCount ≡ Ok command = e in absurd cc
+
+jsl_keep : (words : List (List ℕ)) (command : Command) → jsl_of words ≡ Ok command → IsCommand false command
+unfolding jsl_of
+jsl_keep [] command e = let clash : failed WrongCount ≡ Ok command = e in absurd cc
+jsl_keep (user ∷ []) command e = let clash : failed WrongCount ≡ Ok command = e in absurd cc
+jsl_keep (user ∷ segment ∷ []) command e = let clash : failed WrongCount ≡ Ok command = e in absurd cc
+jsl_keep (user ∷ segment ∷ at ∷ []) command e =
+    let found : Command = Jsl (number_of user) (number_of segment) (number_of at) in
+    let tests = or_err (are_jsl_numbers user segment at) _ _ command e in
+    let a = and_parts _ _ tests.0 in
+    let b = and_parts _ _ a.0 in
+    let keep : IsCommand false found = (refl, (number_within 0 0xFFFF user b.0).1, (number_within 0 0xFFFF segment b.1).1, (number_within 0 0xFFFFFFFF at a.1).1) in
+    subst (IsCommand false) (same_ok (Ok found) found command refl tests.1) keep
+jsl_keep (user ∷ segment ∷ at ∷ more ∷ words) command e = let clash : failed WrongCount ≡ Ok command = e in absurd cc
 
 poke_keep : (words : List (List ℕ)) (command : Command) → poke_of words ≡ Ok command → IsCommand false command
 unfolding poke_of
@@ -193,11 +207,19 @@ words_keep : (name : CommandName) (words : List (List ℕ)) (command : Command) 
 unfolding words_command
 words_keep names.Banks words command are e = banks_keep words command e
 words_keep names.Load words command are e = load_keep words command are e
+words_keep names.LoadSegment words command are e =
+    let is = given (λ n. LoadSegment n.0 n.1) (two_numbers 0xFFFF 0xFFFF words) command e in
+    let within = two_within 0xFFFF 0xFFFF words is.0 is.1 in
+    subst (IsCommand false) (sym is.2) (refl, within.0, within.1)
 words_keep names.UnloadSegment words command are e =
     let is = given (λ n. UnloadSegment n.0 n.1) (two_numbers 0xFFFF 0xFFFF words) command e in
     let within = two_within 0xFFFF 0xFFFF words is.0 is.1 in
     subst (IsCommand false) (sym is.2) (refl, within.0, within.1)
+words_keep names.Jsl words command are e = jsl_keep words command e
 words_keep names.ShutDown words command are e = shut_down_keep words command e
+words_keep names.Restart words command are e =
+    let is = given Restart (one_number 0xFFFF words) command e in
+    subst (IsCommand false) (sym is.2) (refl, one_within 0xFFFF words is.0 is.1)
 words_keep names.Purge words command are e =
     let is = given Purge (one_number 0xFFFF words) command e in
     subst (IsCommand false) (sym is.2) (refl, one_within 0xFFFF words is.0 is.1)

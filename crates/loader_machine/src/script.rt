@@ -7,8 +7,11 @@ use std::alloc::{AllocError, AllocFailed};
 pub enum CommandName {
     Banks,
     Load,
+    LoadSegment,
     UnloadSegment,
+    Jsl,
     ShutDown,
+    Restart,
     Purge,
     Poke,
     Bytes,

@@ -1,7 +1,7 @@
 -- Commands with another number of words than they take.
 use Rattle.std.proofs.Common.{◌≡◌, ◌≢◌, ℕ, List, [], ◌∷◌, length, Err, refl}
 use Rattle.loader_machine.specs.declared.script.ScriptCause.TheVariants.{WrongCount}
-use Rattle.loader_machine.specs.Script.{load_of, shut_down_of, poke_of, bytes_of, alloc_of, one_number, two_numbers}
+use Rattle.loader_machine.specs.Script.{load_of, jsl_of, shut_down_of, poke_of, bytes_of, alloc_of, one_number, two_numbers}
 
 pub load_of_others : (words : List (List ℕ)) → length words ≢ 1 → load_of words ≡ Err WrongCount
 unfolding load_of
@@ -54,3 +54,11 @@ shut_down_of_others [] other = refl
 shut_down_of_others (user ∷ []) other = refl
 shut_down_of_others (user ∷ manner ∷ []) other = absurd (other refl)
 shut_down_of_others (user ∷ manner ∷ more ∷ words) other = refl
+
+pub jsl_of_others : (words : List (List ℕ)) → length words ≢ 3 → jsl_of words ≡ Err WrongCount
+unfolding jsl_of
+jsl_of_others [] other = refl
+jsl_of_others (user ∷ []) other = refl
+jsl_of_others (user ∷ segment ∷ []) other = refl
+jsl_of_others (user ∷ segment ∷ at ∷ []) other = absurd (other refl)
+jsl_of_others (user ∷ segment ∷ at ∷ more ∷ words) other = refl

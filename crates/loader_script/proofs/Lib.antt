@@ -8,3 +8,4 @@ pub mod Ends
 pub mod Transcripts
 pub mod ScriptWords
 pub mod UnderWay
+pub mod Reading

@@ -26,8 +26,9 @@ use Rattle.loader_machine.specs.Heads.{head_of, at_number, is_table}
 use Rattle.loader_machine.specs.State.{Machine, Seen, empty_of, first_id, max_users, is_running}
 use Rattle.loader_machine.specs.Presences.{presence_at, is_active}
 use Rattle.loader_machine.specs.Commands as commands
-use Rattle.loader_machine.specs.Commands.{Command, Load, Reply}
-use Rattle.loader_machine.specs.Refusals.{Refuse, of_user, of_running, of_head, of_live, of_there, bytes_refusal, info_refusal, poke_refusal, unload_refusal, shut_down_refusal, purge_refusal, free_refusal, change_refusal, state_refusal}
+use Rattle.loader_machine.specs.Commands.{Command, Load, LoadSegment, Jsl, Restart, Reply}
+use Rattle.loader_machine.specs.Needs.{IsReadFor}
+use Rattle.loader_machine.specs.Refusals.{Refuse, of_user, of_running, of_head, of_live, of_there, bytes_refusal, info_refusal, poke_refusal, unload_refusal, load_segment_refusal, restart_refusal, shut_down_refusal, purge_refusal, free_refusal, change_refusal, state_refusal}
 use Rattle.loader_machine.specs.Transcript.{IsAnswered, AreAnswered}
 use Rattle.loader_machine.specs.Replies.{reply_line, replies_text}
 use Rattle.sys_loader.specs.declared.answers.Started.{Started}
@@ -36,10 +37,10 @@ use Rattle.sys_loader.specs.declared.answers.Entered.{Entered}
 use Rattle.sys_loader.specs.Replies.{load_reply, done_reply, where_reply, IsAllocRefusal}
 use Rattle.loader_agrees.specs.Begun.{puts_here}
 use Rattle.sys_loader.specs.Lives.{DidPoke, DidUnload, DidShutDown}
-use Rattle.loader_agrees.specs.Agrees.{Loaded, seen_by, Agrees, Met, Meets}
+use Rattle.loader_agrees.specs.Agrees.{Loaded, seen_by, Agrees, Met, Meets, ReadsNeeded}
 use Rattle.loader_script.specs.declared.run.Stop.{Stop}
 use Rattle.loader_script.specs.declared.run.Stop.TheVariants as stop
-use Rattle.loader_script.specs.Replied.{is_unread, is_unread_fault, is_full_fault, unread, asks, asked_for, AreReplies, OnceAtMost, IsUnanswered}
+use Rattle.loader_script.specs.Replied.{is_unread, is_unread_fault, is_full_fault, unread, MayRead, MayReadAll, AreReplies, OnceAtMost, ReadsOnceAtMost, IsUnanswered}
 use Rattle.loader_script.specs.Running.{HasPrinted, IsLineOf, HasLine, IsAnswer, HasAnswered}
 
 -- ---- counts
@@ -53,26 +54,29 @@ risen-more m (suc n) count =
 unread-push : (replies : List Reply) (reply : Reply) → unread (replies ++ reply ∷ []) ≡ unread replies + unread (reply ∷ [])
 unread-push replies reply = sum_by-append (λ r. cond (is_unread r) 1 0) replies (reply ∷ [])
 
-asked_for-push : (commands : List Command) (replies : List Reply) (command : Command) (reply : Reply) → length replies ≡ length commands
-    → asked_for (commands ++ command ∷ []) (replies ++ reply ∷ []) ≡ asked_for commands replies + asks command reply
-asked_for-push [] [] command reply same = omega arith
-asked_for-push [] (r ∷ replies) command reply same = absurd (omega (arith, same))
-asked_for-push (c ∷ commands) [] command reply same = absurd (omega (arith, same))
-asked_for-push (c ∷ commands) (r ∷ replies) command reply same = omega (arith, asked_for-push commands replies command reply (omega (arith, same)))
+may_read-push : (commands : List Command) (replies : List Reply) (command : Command) (reply : Reply) (reads here : ℕ) → length replies ≡ length commands
+    → MayReadAll commands replies reads → MayRead command reply here → MayReadAll (commands ++ command ∷ []) (replies ++ reply ∷ []) (reads + here)
+may_read-push [] [] command reply reads here same all one = (here, 0, one, refl, omega (arith, all))
+may_read-push [] (r ∷ replies) command reply reads here same all one = absurd (omega (arith, same))
+may_read-push (c ∷ commands) [] command reply reads here same all one = absurd (omega (arith, same))
+may_read-push (c ∷ commands) (r ∷ replies) command reply reads here same all one =
+    (all.0, all.1 + here, all.2, may_read-push commands replies command reply all.1 here (omega (arith, same)) all.3 one, omega (arith, all.4))
 
 -- ---- transcripts
 
 -- one command more
-answered-push : (files : FileMap) (state : Machine) (commands : List Command) (replies : List Reply) (others : ℕ) (last : Machine) (command : Command) (reply : Reply) (here : ℕ) (next : Machine)
-    → AreAnswered files state commands replies others last → IsAnswered files last command reply here next
-    → AreAnswered files state (commands ++ command ∷ []) (replies ++ reply ∷ []) (others + here) next
-answered-push files state [] [] others last command reply here next run one =
-    let at : IsAnswered files state command reply here next = subst (λ (s : Machine). IsAnswered files s command reply here next) run.1 one in
-    (here, 0, next, at, (refl, refl), omega (arith, run.0))
-answered-push files state [] (r ∷ replies) others last command reply here next run one = absurd run
-answered-push files state (c ∷ commands) [] others last command reply here next run one = absurd run
-answered-push files state (c ∷ commands) (r ∷ replies) others last command reply here next run one =
-    (run.0, run.1 + here, run.2, run.3, answered-push files run.2 commands replies run.1 last command reply here next run.4 one, omega (arith, run.5))
+answered-push : (files : FileMap) (state : Machine) (commands : List Command) (replies : List Reply) (others reads : ℕ) (last : Machine) (command : Command) (reply : Reply) (here read : ℕ) (next : Machine)
+    → AreAnswered files state commands replies others reads last → IsAnswered files last command reply here next → IsReadFor files last command read
+    → AreAnswered files state (commands ++ command ∷ []) (replies ++ reply ∷ []) (others + here) (reads + read) next
+answered-push files state [] [] others reads last command reply here read next run one needs =
+    let at : IsAnswered files state command reply here next = subst (λ (s : Machine). IsAnswered files s command reply here next) run.2 one in
+    let needs' : IsReadFor files state command read = subst (λ (s : Machine). IsReadFor files s command read) run.2 needs in
+    (here, 0, read, 0, next, at, needs', (refl, refl, refl), omega (arith, run.0), omega (arith, run.1))
+answered-push files state [] (r ∷ replies) others reads last command reply here read next run one needs = absurd run
+answered-push files state (c ∷ commands) [] others reads last command reply here read next run one needs = absurd run
+answered-push files state (c ∷ commands) (r ∷ replies) others reads last command reply here read next run one needs =
+    let later = answered-push files run.4 commands replies run.1 run.3 last command reply here read next run.7 one needs in
+    (run.0, run.1 + here, run.2, run.3 + read, run.4, run.5, run.6, later, omega (arith, run.8), omega (arith, run.9))
 
 -- ---- what was printed
 
@@ -118,21 +122,56 @@ pub line_answered : (line : Result (List ℕ) LineFault) (result : Result (Unit 
 line_answered (Ok text) result command old new o has printed short = answered result command old new has.0 o has.1 (printed (reply_line has.0) has.2)
 line_answered (Err fault) result command old new o has printed short = subst (λ (r : Result (Unit {0}) Stop). HasAnswered r command old new o) (sym short.0) (has, short.1)
 
+-- what is told of an answer, where the files are
+abbrev pub OneTold : Command → Reply → Loaded → Loaded → StoreSeen → StoreSeen → Option FileMap → Type 0
+OneTold command reply old new before now held = ToldOr held
+    ((reads : ℕ) × MayRead command reply reads × (now.faults ≡ risen (unread (reply ∷ [])) before.faults) × (now.asked ≡ risen reads before.asked))
+    (λ files. (state : Machine) → Agrees files old state → (others : ℕ) × (reads : ℕ) × (next : Machine) × IsAnswered files state command reply others next
+    × IsReadFor files state command reads × Agrees files new next × (now.faults ≡ risen others before.faults) × (now.asked ≡ risen reads before.asked))
+
+-- and of all answers
+abbrev pub AllTold : (FileMap → Machine → Type 0) → List Command → List Reply → StoreSeen → StoreSeen → Option FileMap → Type 0
+AllTold P commands replies before now held = ToldOr held
+    ((reads : ℕ) × MayReadAll commands replies reads × (now.faults ≡ risen (unread replies) before.faults) × (now.asked ≡ risen reads before.asked))
+    (λ files. (others : ℕ) × (reads : ℕ) × (last : Machine) × AreAnswered files (empty_of []) commands replies others reads last × P files last
+    × (now.faults ≡ risen others before.faults) × (now.asked ≡ risen reads before.asked))
+
 -- ---- commands that read no file
 
+-- the command may read a file
+abbrev pub is_reader : Command → Bool
+is_reader (Load path) = true
+is_reader (LoadSegment user segment) = true
+is_reader (Jsl user segment at) = true
+is_reader (Restart user) = true
+is_reader _ = false
+
+idle_may : (command : Command) (reply : Reply) → is_reader command ≡ false → MayRead command reply 0
+idle_may (Load path) reply none = absurd cc
+idle_may (LoadSegment user segment) reply none = absurd cc
+idle_may (Jsl user segment at) reply none = absurd cc
+idle_may (Restart user) reply none = absurd cc
+idle_may _ reply none = refl
+
+pub idle_reads : (files : FileMap) (state : Machine) (command : Command) → is_reader command ≡ false → IsReadFor files state command 0
+idle_reads files state (Load path) none = absurd cc
+idle_reads files state (LoadSegment user segment) none = absurd cc
+idle_reads files state (Jsl user segment at) none = absurd cc
+idle_reads files state (Restart user) none = absurd cc
+idle_reads files state _ none = ([], refl, refl)
+
 -- a command that reads no file is answered as by the machine
-pub idle_answer : (store : StoreSeen) (command : Command) (old new : Loaded) (reply : Reply) → is_unread reply ≡ false → asks command reply ≡ 0 → IsUnanswered command store store
+pub idle_answer : (store : StoreSeen) (command : Command) (old new : Loaded) (reply : Reply) → is_unread reply ≡ false → is_reader command ≡ false → IsUnanswered command store store
     → ((files : FileMap) (state : Machine) → Agrees files old state → Met Purges files state command reply new) → IsAnswer command old reply new store store
-idle_answer store command old new reply other none idle meets = record { told = go store.held; store = ap (λ (n : ℕ). record store { asked = risen n store.asked }) (sym none); unanswered = idle }
+idle_answer store command old new reply other none idle meets = record { told = go store.held; store = refl; unanswered = idle }
   where
-    go : (h : Option FileMap) → ToldOr h (store.faults ≡ risen (unread (reply ∷ [])) store.faults) (λ files. (state : Machine) → Agrees files old state
-        → (others : ℕ) × (next : Machine) × IsAnswered files state command reply others next × Agrees files new next × (store.faults ≡ risen others store.faults))
-    go None = rw other refl
-    go (Some files) = λ state agrees. let m = meets files state agrees in (0, m.0, inl (m.1, refl), m.2, refl)
+    go : (h : Option FileMap) → OneTold command reply old new store store h
+    go None = (0, idle_may command reply none, rw other refl, refl)
+    go (Some files) = λ state agrees. let m = meets files state agrees in (0, 0, m.0, inl (m.1, refl), idle_reads files state command none, m.2, refl, refl)
 
 -- and so is its line
 pub idle_line : (line : Result (List ℕ) LineFault) (store : StoreSeen) (command : Command) (old new : Loaded) (reply : Reply) → IfOk line (λ text. text ≡ reply_line reply) → is_unread reply ≡ false
-    → asks command reply ≡ 0 → IsUnanswered command store store → ((files : FileMap) (state : Machine) → Agrees files old state → Met Purges files state command reply new)
+    → is_reader command ≡ false → IsUnanswered command store store → ((files : FileMap) (state : Machine) → Agrees files old state → Met Purges files state command reply new)
     → HasLine line command old new store store
 idle_line (Ok text) store command old new reply is other none idle meets = (reply, idle_answer store command old new reply other none idle meets, is)
 idle_line (Err short) store command old new reply is other none idle meets = idle
@@ -234,6 +273,17 @@ unload_safe slots user number = safe_user user _ (λ seen.
     (safe_if (is_active (presence_at slots seen.handles number)) None (Some faults.NotActive) safe_none (safe_some faults.NotActive refl)) (safe_some faults.Static refl)))
     (safe_some faults.NotRunning refl))
 
+pub segment_safe : (user : Option Seen) (number : ℕ) → Safe (load_segment_refusal user number)
+unfolding load_segment_refusal
+segment_safe user number = safe_user user _ (λ seen.
+    safe_if (is_running seen.life) _ (Some faults.NotRunning) (safe_head (at_number seen.heads number) _ (λ head.
+    safe_if (is_dynamic head.kind) None (Some faults.Static) safe_none (safe_some faults.Static refl)))
+    (safe_some faults.NotRunning refl))
+
+pub restart_safe : (user : Option Seen) → Safe (restart_refusal user)
+unfolding restart_refusal
+restart_safe user = safe_user user _ (λ seen. safe_if (is_running seen.life) (Some faults.Running) None (safe_some faults.Running refl) safe_none)
+
 pub shut_down_safe : (user : Option Seen) (keep : Bool) → Safe (shut_down_refusal user keep)
 unfolding shut_down_refusal
 shut_down_safe user keep = safe_user user _ (λ seen.
@@ -281,9 +331,9 @@ pub done_safe : (done : Result (Unit {0}) LoaderFault) (refusal : Refuse) → Sa
 done_safe (Ok done) refusal safe none = refl
 done_safe (Err why) refusal safe none = safe why none
 
--- ---- load
+-- ---- commands that read
 
-unread_untold : (held : Option FileMap) (path : List ℕ) (before now : ℕ) → held ≡ None → IsUnread held path before now → now ≡ one_more before
+pub unread_untold : (held : Option FileMap) (path : List ℕ) (before now : ℕ) → held ≡ None → IsUnread held path before now → now ≡ one_more before
 unread_untold held path before now none unread = go (subst (λ (h : Option FileMap). IsUnread h path before now) none unread)
   where
     go : IsUnread None path before now → now ≡ one_more before
@@ -291,7 +341,7 @@ unread_untold held path before now none unread = go (subst (λ (h : Option FileM
     go (inr (inl rose)) = rose
     go (inr (inr rose)) = rose
 
-unread_once : (held : Option FileMap) (path : List ℕ) (before now : ℕ) → IsUnread held path before now → OnceAtMost before now
+pub unread_once : (held : Option FileMap) (path : List ℕ) (before now : ℕ) → IsUnread held path before now → OnceAtMost before now
 unread_once None path before now (inl rose) = inr rose
 unread_once None path before now (inr (inl rose)) = inr rose
 unread_once None path before now (inr (inr rose)) = inr rose
@@ -303,52 +353,82 @@ unread_once (Some files) path before now (inr (inr rose)) = inr rose
 abbrev Counted : Reply → ℕ → ℕ → Type 0
 Counted reply before now = now ≡ risen (unread (reply ∷ [])) before
 
-module _ (old new : Loaded) (path : List ℕ) (before now : StoreSeen) (held : now.held ≡ before.held)
-    (asked : length old.users < max_users → now.asked ≡ one_more before.asked) (unasked : max_users ≤ length old.users → now.asked ≡ before.asked) where
-  store_is : (n : ℕ) → now.asked ≡ n → now ≡ record before { faults = now.faults; asked = n }
-  store_is n is =
-      ap (λ (h : Option FileMap). record { held = h; faults = now.faults; asked = now.asked }) held
-      ∙ ap (λ (a : ℕ). record { held = before.held; faults = now.faults; asked = a }) is
+-- a command that may read a file is answered
+module _ (command : Command) (old new : Loaded) (before now : StoreSeen) (held : now.held ≡ before.held) (as_unanswered : ReadsOnceAtMost before now → IsUnanswered command before now)
+    (needed : (files : FileMap) (state : Machine) → before.held ≡ Some files → Agrees files old state → ReadsNeeded files state command before.asked now.asked) where
+  store_is : now ≡ record before { faults = now.faults; asked = now.asked }
+  store_is = ap (λ (h : Option FileMap). record { held = h; faults = now.faults; asked = now.asked }) held
 
   -- over files that are told: the machine's reply, or `cannot read`
-  told_answer : (files : FileMap) (state : Machine) (reply : Reply) → reply ≢ commands.Refused faults.Memory → Meets Purges files state (Load path) reply new before.faults now.faults
-      → (others : ℕ) × (next : Machine) × IsAnswered files state (Load path) reply others next × Agrees files new next × (now.faults ≡ risen others before.faults)
-  told_answer files state reply other (inl met) = (0, met.0.0, inl (met.0.1, refl), met.0.2, met.1)
-  told_answer files state reply other (inr (inl cannot)) = (1, state, inr (cannot.0, cannot.1, cannot.2, cannot.3, refl, refl), cannot.4, cannot.5)
-  told_answer files state reply other (inr (inr short)) = absurd (other short.0)
+  told_answer : (files : FileMap) (state : Machine) (reply : Reply) → reply ≢ commands.Refused faults.Memory → Meets Purges files state command reply new before.faults now.faults
+      → ReadsNeeded files state command before.asked now.asked
+      → (others : ℕ) × (reads : ℕ) × (next : Machine) × IsAnswered files state command reply others next × IsReadFor files state command reads × Agrees files new next
+      × (now.faults ≡ risen others before.faults) × (now.asked ≡ risen reads before.asked)
+  told_answer files state reply other (inl met) reads = (0, reads.0, met.0.0, inl (met.0.1, refl), reads.1, met.0.2, met.1, reads.2)
+  told_answer files state reply other (inr (inl cannot)) reads = (1, reads.0, state, inr (cannot.0, cannot.1, cannot.2, cannot.3, refl, refl), reads.1, cannot.4, cannot.5, reads.2)
+  told_answer files state reply other (inr (inr short)) reads = absurd (other short.0)
 
-  answer : (reply : Reply) (n : ℕ) → asks (Load path) reply ≡ n → now.asked ≡ risen n before.asked → OnceAtMost before.asked now.asked → OnceAtMost before.faults now.faults → reply ≢ commands.Refused faults.Memory
+  pub read_answer : (reply : Reply) (n : ℕ) → MayRead command reply n → now.asked ≡ risen n before.asked → OnceAtMost before.asked now.asked → OnceAtMost before.faults now.faults → reply ≢ commands.Refused faults.Memory
       → (before.held ≡ None → Counted reply before.faults now.faults)
-      → ((files : FileMap) (state : Machine) → before.held ≡ Some files → Agrees files old state → Meets Purges files state (Load path) reply new before.faults now.faults)
-      → IsAnswer (Load path) old reply new before now
-  answer reply n times is once faults_once other untold meets = record {
+      → ((files : FileMap) (state : Machine) → before.held ≡ Some files → Agrees files old state → Meets Purges files state command reply new before.faults now.faults)
+      → IsAnswer command old reply new before now
+  read_answer reply n may is once faults_once other untold meets = record {
     told = go before.held refl;
-    store = store_is (risen (asks (Load path) reply) before.asked) (is ∙ ap (λ (k : ℕ). risen k before.asked) (sym times));
-    unanswered = (faults_once, once, store_is now.asked refl);
+    store = store_is;
+    unanswered = as_unanswered (faults_once, once, store_is);
   }
     where
-      go : (h : Option FileMap) → before.held ≡ h → ToldOr h (now.faults ≡ risen (unread (reply ∷ [])) before.faults) (λ files. (state : Machine) → Agrees files old state
-          → (others : ℕ) × (next : Machine) × IsAnswered files state (Load path) reply others next × Agrees files new next × (now.faults ≡ risen others before.faults))
-      go None none = untold none
-      go (Some files) told = λ state agrees. told_answer files state reply other (meets files state told agrees)
+      go : (h : Option FileMap) → before.held ≡ h → OneTold command reply old new before now h
+      go None none = (n, may, untold none, is)
+      go (Some files) told = λ state agrees. told_answer files state reply other (meets files state told agrees) (needed files state told agrees)
+
+  -- its line, or none
+  pub read_line : (line : Result (List ℕ) LineFault) (reply : Reply) (n : ℕ) → IfOk line (λ text. (reply ≢ commands.Refused faults.Memory) × (text ≡ reply_line reply)) → MayRead command reply n
+      → now.asked ≡ risen n before.asked → OnceAtMost before.asked now.asked → OnceAtMost before.faults now.faults → (before.held ≡ None → Counted reply before.faults now.faults)
+      → ((files : FileMap) (state : Machine) → before.held ≡ Some files → Agrees files old state → Meets Purges files state command reply new before.faults now.faults)
+      → HasLine line command old new before now
+  read_line (Ok text) reply n is may asked once faults_once untold meets = (reply, read_answer reply n may asked once faults_once is.0 untold meets, is.1)
+  read_line (Err short) reply n is may asked once faults_once untold meets = as_unanswered (faults_once, once, store_is)
+
+  -- the same where it reads once at most
+  pub once_line : (line : Result (List ℕ) LineFault) (reply : Reply) → IfOk line (λ text. (reply ≢ commands.Refused faults.Memory) × (text ≡ reply_line reply)) → ((n : ℕ) → n ≤ 1 → MayRead command reply n)
+      → OnceAtMost before.asked now.asked → OnceAtMost before.faults now.faults → (before.held ≡ None → Counted reply before.faults now.faults)
+      → ((files : FileMap) (state : Machine) → before.held ≡ Some files → Agrees files old state → Meets Purges files state command reply new before.faults now.faults)
+      → HasLine line command old new before now
+  once_line line reply is may (inl same) faults_once untold meets = read_line line reply 0 is (may 0 (omega arith)) same (inl same) faults_once untold meets
+  once_line line reply is may (inr more) faults_once untold meets = read_line line reply 1 is (may 1 (omega arith)) more (inr more) faults_once untold meets
+
+-- a reply that is no refusal
+pub good_text : (line : Result (List ℕ) LineFault) (reply : Reply) → reply ≢ commands.Refused faults.Memory → IfOk line (λ text. text ≡ reply_line reply)
+    → IfOk line (λ text. (reply ≢ commands.Refused faults.Memory) × (text ≡ reply_line reply))
+good_text (Ok text) reply other is = (other, is)
+good_text (Err short) reply other is = tt
+
+-- and one that is
+pub bad_text : (line : Result (List ℕ) LineFault) (why : LoaderFault) → IfOk line (λ text. (why ≢ faults.Memory) × (text ≡ reply_line (commands.Refused why)))
+    → IfOk line (λ text. (commands.Refused why ≢ commands.Refused faults.Memory) × (text ≡ reply_line (commands.Refused why)))
+bad_text (Ok text) why is = ((λ same. is.0 (fault_same why same)), is.1)
+  where
+    fault_same : (f : LoaderFault) → commands.Refused f ≡ commands.Refused faults.Memory → f ≡ faults.Memory
+    fault_same f e = cc
+bad_text (Err short) why is = tt
+
+-- ---- load
+
+module _ (old new : Loaded) (path : List ℕ) (before now : StoreSeen) (held : now.held ≡ before.held)
+    (asked : length old.users < max_users → now.asked ≡ one_more before.asked) (unasked : max_users ≤ length old.users → now.asked ≡ before.asked)
+    (needed : (files : FileMap) (state : Machine) → before.held ≡ Some files → Agrees files old state → ReadsNeeded files state (Load path) before.asked now.asked) where
+  abbrev Meets' : Reply → Type 0
+  Meets' reply = (files : FileMap) (state : Machine) → before.held ≡ Some files → Agrees files old state → Meets Purges files state (Load path) reply new before.faults now.faults
 
   -- a load that gave a program
   pub load_started : (line : Result (List ℕ) LineFault) (started : Started) → IfOk line (λ text. text ≡ reply_line (load_reply (Ok started))) → HasLoaded before.held old path (Ok started) new before.faults now.faults
-      → ((files : FileMap) (state : Machine) → before.held ≡ Some files → Agrees files old state → Meets Purges files state (Load path) (load_reply (Ok started)) new before.faults now.faults)
-      → HasLine line (Load path) old new before now
-  load_started line started text done meets = go line text
-    where
-      one : IsAnswer (Load path) old (load_reply (Ok started)) new before now
-      one = answer (load_reply (Ok started)) 1 refl (asked done.0.few) (inr (asked done.0.few)) (inl done.1) (λ same. absurd cc) (λ none. done.1) meets
-
-      go : (l : Result (List ℕ) LineFault) → IfOk l (λ t. t ≡ reply_line (load_reply (Ok started))) → HasLine l (Load path) old new before now
-      go (Ok t) is = (load_reply (Ok started), one, is)
-      go (Err short) is = one.unanswered
+      → Meets' (load_reply (Ok started)) → HasLine line (Load path) old new before now
+  load_started line started text done meets =
+      read_line (Load path) old new before now held (λ once. once) needed line (load_reply (Ok started)) 1 (good_text line (load_reply (Ok started)) (λ same. absurd cc) text) refl (asked done.0.few)
+      (inr (asked done.0.few)) (inl done.1) (λ none. done.1) meets
 
   -- why it refuses, but for want of memory
-  abbrev Refuses : LoaderFault → Type 0
-  Refuses why = IsAnswer (Load path) old (commands.Refused why) new before now
-
   begin_safe : (memory : Memory) (id : ℕ) (heads : List Head) (why : LoaderFault) → IsBeginRefusal memory id heads why → (is_unread_fault why ≡ false) × (is_full_fault why ≡ false)
   begin_safe memory id heads why (inl full) = (ap is_unread_fault full.0, ap is_full_fault full.0)
   begin_safe memory id heads why (inr room) = (ap is_unread_fault room.1, ap is_full_fault room.1)
@@ -358,39 +438,34 @@ module _ (old new : Loaded) (path : List ℕ) (before now : StoreSeen) (held : n
   start_safe file why (inl (inr bad)) = (ap is_unread_fault bad.2, ap is_full_fault bad.2)
   start_safe file why (inr none) = begin_safe old.memory (first_id + length old.users) (map head_of none.0) why none.2
 
-  fault_same : (a b : LoaderFault) → commands.Refused a ≡ commands.Refused b → a ≡ b
-  fault_same a b e = cc
+  refused_line : (line : Result (List ℕ) LineFault) (why : LoaderFault) (n : ℕ) → IfOk line (λ text. (why ≢ faults.Memory) × (text ≡ reply_line (commands.Refused why)))
+      → n ≡ cond (is_full_fault why) 0 1 → now.asked ≡ risen n before.asked → OnceAtMost before.asked now.asked → OnceAtMost before.faults now.faults
+      → (before.held ≡ None → Counted (commands.Refused why) before.faults now.faults) → Meets' (commands.Refused why) → HasLine line (Load path) old new before now
+  refused_line line why n is times asked' once faults_once untold meets =
+      read_line (Load path) old new before now held (λ o. o) needed line (commands.Refused why) n (bad_text line why is) times asked' once faults_once untold meets
 
-  refused_answer : (why : LoaderFault) → why ≢ faults.Memory → IsLoadRefusal before.held old path before.faults now.faults why
-      → ((files : FileMap) (state : Machine) → before.held ≡ Some files → Agrees files old state → Meets Purges files state (Load path) (commands.Refused why) new before.faults now.faults) → Refuses why
-  refused_answer why other (IsFull full is same) meets =
-      answer (commands.Refused why) 0 (ap (λ (f : LoaderFault). asks (Load path) (commands.Refused f)) is) (unasked full) (inl (unasked full)) (inl same) (λ e. other (fault_same why faults.Memory e))
-      (λ none. same ∙ ap (λ (f : LoaderFault). risen (unread (commands.Refused f ∷ [])) before.faults) (sym is)) meets
-  refused_answer why other (CantRead few cause is) meets =
-      answer (commands.Refused why) 1 (ap (λ (f : LoaderFault). asks (Load path) (commands.Refused f)) is) (asked few) (inr (asked few)) (unread_once before.held path before.faults now.faults cause) (λ e. other (fault_same why faults.Memory e))
-      (λ none. unread_untold before.held path before.faults now.faults none cause ∙ ap (λ (f : LoaderFault). risen (unread_of f) before.faults) (sym is)) meets
-    where
-      unread_of : LoaderFault → ℕ
-      unread_of f = unread (commands.Refused f ∷ [])
-  refused_answer why other (LacksMemory few is same) meets = absurd (other is)
-  refused_answer why other (CantStart few file is_read none same) meets =
-      let safe = start_safe file why none in
-      answer (commands.Refused why) 1 (rw safe.1 refl) (asked few) (inr (asked few)) (inl same) (λ e. other (fault_same why faults.Memory e))
-      (λ untold. rw safe.0 same) meets
-
-  short_answer : (why : LoaderFault) → IsLoadRefusal before.held old path before.faults now.faults why → IsUnanswered (Load path) before now
-  short_answer why (IsFull full is same) = (inl same, inl (unasked full), store_is now.asked refl)
-  short_answer why (CantRead few cause is) = (unread_once before.held path before.faults now.faults cause, inr (asked few), store_is now.asked refl)
-  short_answer why (LacksMemory few is same) = (inl same, inr (asked few), store_is now.asked refl)
-  short_answer why (CantStart few file is_read none same) = (inl same, inr (asked few), store_is now.asked refl)
+  abbrev unread_of : LoaderFault → ℕ
+  unread_of f = unread (commands.Refused f ∷ [])
 
   -- a load that was refused
+  load_refusal_line : (line : Result (List ℕ) LineFault) (why : LoaderFault) → IfOk line (λ text. (why ≢ faults.Memory) × (text ≡ reply_line (commands.Refused why)))
+      → IsLoadRefusal before.held old path before.faults now.faults why → Meets' (commands.Refused why) → HasLine line (Load path) old new before now
+  load_refusal_line line why is (IsFull full why_is same) meets =
+      refused_line line why 0 is (sym (ap (λ (f : LoaderFault). cond (is_full_fault f) 0 1) why_is)) (unasked full) (inl (unasked full)) (inl same)
+      (λ none. same ∙ ap (λ (f : LoaderFault). risen (unread_of f) before.faults) (sym why_is)) meets
+  load_refusal_line line why is (CantRead few cause why_is) meets =
+      refused_line line why 1 is (sym (ap (λ (f : LoaderFault). cond (is_full_fault f) 0 1) why_is)) (asked few) (inr (asked few)) (unread_once before.held path before.faults now.faults cause)
+      (λ none. unread_untold before.held path before.faults now.faults none cause ∙ ap (λ (f : LoaderFault). risen (unread_of f) before.faults) (sym why_is)) meets
+  load_refusal_line line why is (LacksMemory few why_is same) meets =
+      refused_line line why 1 is (sym (ap (λ (f : LoaderFault). cond (is_full_fault f) 0 1) why_is)) (asked few) (inr (asked few)) (inl same)
+      (λ none. same ∙ ap (λ (f : LoaderFault). risen (unread_of f) before.faults) (sym why_is)) meets
+  load_refusal_line line why is (CantStart few file is_read none same) meets =
+      let safe = start_safe file why none in
+      refused_line line why 1 is (rw safe.1 refl) (asked few) (inr (asked few)) (inl same) (λ untold. rw safe.0 same) meets
+
   pub load_refused : (line : Result (List ℕ) LineFault) (why : LoaderFault) → IfOk line (λ text. (why ≢ faults.Memory) × (text ≡ reply_line (commands.Refused why)))
-      → HasLoaded before.held old path (Err why) new before.faults now.faults
-      → ((files : FileMap) (state : Machine) → before.held ≡ Some files → Agrees files old state → Meets Purges files state (Load path) (load_reply (Err why)) new before.faults now.faults)
-      → HasLine line (Load path) old new before now
-  load_refused (Ok text) why is done meets = (commands.Refused why, refused_answer why is.0 done.0 meets, is.1)
-  load_refused (Err short) why is done meets = short_answer why done.0
+      → HasLoaded before.held old path (Err why) new before.faults now.faults → Meets' (load_reply (Err why)) → HasLine line (Load path) old new before now
+  load_refused line why is done meets = load_refusal_line line why is done.0 meets
 
 -- ---- all commands
 
@@ -400,42 +475,31 @@ module _ (commands : List Command) (replies : List Reply) (command : Command) (r
   held_same : mid.held ≡ before.held
   held_same = ap (λ (s : StoreSeen). s.held) so_far.store
 
-  more_told : (h : Option FileMap) → ToldOr h (mid.faults ≡ risen (unread replies) before.faults) (λ files. (others : ℕ) × (last : Machine)
-      × AreAnswered files (empty_of []) commands replies others last × Agrees files old last × (mid.faults ≡ risen others before.faults))
-      → ToldOr h (now.faults ≡ risen (unread (reply ∷ [])) mid.faults) (λ files. (state : Machine) → Agrees files old state
-      → (others : ℕ) × (next : Machine) × IsAnswered files state command reply others next × Agrees files new next × (now.faults ≡ risen others mid.faults))
-      → ToldOr h (now.faults ≡ risen (unread (replies ++ reply ∷ [])) before.faults) (λ files. (others : ℕ) × (last : Machine)
-      × AreAnswered files (empty_of []) (commands ++ command ∷ []) (replies ++ reply ∷ []) others last × Agrees files new last × (now.faults ≡ risen others before.faults))
-  more_told None p q =
-      q ∙ ap (risen (unread (reply ∷ []))) p ∙ risen-more (unread replies) (unread (reply ∷ [])) before.faults
-      ∙ ap (λ (n : ℕ). risen n before.faults) (sym (unread-push replies reply))
+  more_told : (h : Option FileMap) → AllTold (λ files last. Agrees files old last) commands replies before mid h → OneTold command reply old new mid now h
+      → AllTold (λ files last. Agrees files new last) (commands ++ command ∷ []) (replies ++ reply ∷ []) before now h
+  more_told None p q = (
+    p.0 + q.0,
+    may_read-push commands replies command reply p.0 q.0 so_far.one_each p.1 q.1,
+    q.2 ∙ ap (risen (unread (reply ∷ []))) p.2 ∙ risen-more (unread replies) (unread (reply ∷ [])) before.faults
+        ∙ ap (λ (n : ℕ). risen n before.faults) (sym (unread-push replies reply)),
+    q.3 ∙ ap (risen q.0) p.3 ∙ risen-more p.0 q.0 before.asked,
+  )
   more_told (Some files) p q =
-      let next = q p.1 p.3 in (
+      let next = q p.2 p.4 in (
         p.0 + next.0,
-        next.1,
-        answered-push files (empty_of []) commands replies p.0 p.1 command reply next.0 next.1 p.2 next.2,
-        next.3,
-        next.4 ∙ ap (risen next.0) p.4 ∙ risen-more p.0 next.0 before.faults,
+        p.1 + next.1,
+        next.2,
+        answered-push files (empty_of []) commands replies p.0 p.1 p.2 command reply next.0 next.1 next.2 p.3 next.3 next.4,
+        next.5,
+        next.6 ∙ ap (risen next.0) p.5 ∙ risen-more p.0 next.0 before.faults,
+        next.7 ∙ ap (risen next.1) p.6 ∙ risen-more p.1 next.1 before.asked,
       )
-
-  asked_more : risen (asks command reply) mid.asked ≡ risen (asked_for (commands ++ command ∷ []) (replies ++ reply ∷ [])) before.asked
-  asked_more =
-      ap (risen (asks command reply)) (ap (λ (s : StoreSeen). s.asked) so_far.store)
-      ∙ risen-more (asked_for commands replies) (asks command reply) before.asked
-      ∙ ap (λ (n : ℕ). risen n before.asked) (sym (asked_for-push commands replies command reply so_far.one_each))
-
-  abbrev OneTold : Option FileMap → Type 0
-  OneTold h = ToldOr h (now.faults ≡ risen (unread (reply ∷ [])) mid.faults) (λ files. (state : Machine) → Agrees files old state
-      → (others : ℕ) × (next : Machine) × IsAnswered files state command reply others next × Agrees files new next × (now.faults ≡ risen others mid.faults))
 
   pub more_replied : AreReplies (λ files last. Agrees files new last) (commands ++ command ∷ []) (replies ++ reply ∷ []) before now
   more_replied = record {
     one_each = omega (arith, length-append replies (reply ∷ []), length-append commands (command ∷ []), so_far.one_each);
-    told = more_told before.held so_far.told (subst OneTold held_same one.told);
-    store =
-        one.store
-        ∙ ap (λ (h : Option FileMap). record { held = h; faults = now.faults; asked = risen (asks command reply) mid.asked }) held_same
-        ∙ ap (λ (n : ℕ). record { held = before.held; faults = now.faults; asked = n }) asked_more;
+    told = more_told before.held so_far.told (subst (OneTold command reply old new mid now) held_same one.told);
+    store = one.store ∙ ap (λ (h : Option FileMap). record { held = h; faults = now.faults; asked = now.asked }) held_same;
   }
 
 -- what was replied, whatever state it led to
@@ -443,9 +507,6 @@ pub forget : (P Q : FileMap → Machine → Type 0) (commands : List Command) (r
     → AreReplies P commands replies before now → AreReplies Q commands replies before now
 forget P Q commands replies before now weaker run = record { one_each = run.one_each; told = go before.held run.told; store = run.store }
   where
-    go : (h : Option FileMap) → ToldOr h (now.faults ≡ risen (unread replies) before.faults) (λ files. (others : ℕ) × (last : Machine)
-        × AreAnswered files (empty_of []) commands replies others last × P files last × (now.faults ≡ risen others before.faults))
-        → ToldOr h (now.faults ≡ risen (unread replies) before.faults) (λ files. (others : ℕ) × (last : Machine)
-        × AreAnswered files (empty_of []) commands replies others last × Q files last × (now.faults ≡ risen others before.faults))
+    go : (h : Option FileMap) → AllTold P commands replies before now h → AllTold Q commands replies before now h
     go None p = p
-    go (Some files) p = (p.0, p.1, p.2, weaker files p.1 p.3, p.4)
+    go (Some files) p = (p.0, p.1, p.2, p.3, weaker files p.2 p.4, p.5, p.6)

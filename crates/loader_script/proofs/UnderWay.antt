@@ -7,7 +7,7 @@ use Rattle.omf_io.specs.Sinks.{SinkSeen, FailsToPrint}
 use Rattle.omf_io.specs.Outside.{Outside, outside}
 use Rattle.loader_machine.specs.State.{Machine, empty_of}
 use Rattle.loader_machine.specs.Commands as step
-use Rattle.loader_machine.specs.Commands.{Command, Banks, Load, Bytes}
+use Rattle.loader_machine.specs.Commands.{Command, Banks, Load, LoadSegment, Jsl, Restart, Bytes}
 use Rattle.iigs_meaning.specs.Blocks.{new_slots}
 use Rattle.loader_machine.specs.Transcript.{IsAnswered}
 use Rattle.loader_machine.specs.Replies.{reply_line}
@@ -18,7 +18,7 @@ use Rattle.loader_script.specs.declared.run.Stop.TheVariants as stop
 use Rattle.loader_script.specs.Replied.{AreReplies, IsUnanswered}
 use Rattle.loader_script.specs.Run.{HandsOut, HasRunAll, StopsShort}
 use Rattle.loader_script.specs.Running.{HasPrinted, IsAnswer, IsFirstLoader, HasAnswered, IsUnderWay, HasFinished}
-use Rattle.loader_script.proofs.Transcripts.{answered, more_replied, forget, printed_more, with_text-none}
+use Rattle.loader_script.proofs.Transcripts.{OneTold, AllTold, answered, more_replied, forget, printed_more, with_text-none}
 
 -- what stands for the loader before there is one
 abbrev pub no_loader : Loaded
@@ -33,19 +33,17 @@ nothing_yet store sink = record {
   printed = with_text-none sink;
 }
   where
-    go : (h : Option FileMap) → ToldOr h (store.faults ≡ store.faults) (λ files. (others : ℕ) × (last : Machine)
-        × ((others ≡ 0) × (last ≡ empty_of [])) × Agrees files no_loader last × (store.faults ≡ risen others store.faults))
-    go None = refl
-    go (Some files) = (0, empty_of [], (refl, refl), record { banks = refl; slots = refl; users = refl; each = λ place kept user is made. absurd (cc) }, refl)
+    go : (h : Option FileMap) → AllTold (λ files last. Agrees files no_loader last) [] [] store store h
+    go None = (0, refl, refl, refl)
+    go (Some files) = (0, 0, empty_of [], (refl, refl, refl), record { banks = refl; slots = refl; users = refl; each = λ place kept user is made. absurd (cc) }, refl, refl)
 
 -- the banks of the first command
 first_answer : (store : StoreSeen) (command : Command) (loader : Loaded) → IsFirstLoader command loader → IsAnswer command no_loader step.Okay loader store store
 first_answer store (Banks banks) loader is = record { told = go store.held; store = refl; unanswered = refl }
   where
-    go : (h : Option FileMap) → ToldOr h (store.faults ≡ store.faults) (λ files. (state : Machine) → Agrees files no_loader state
-        → (others : ℕ) × (next : Machine) × IsAnswered files state (Banks banks) step.Okay others next × Agrees files loader next × (store.faults ≡ risen others store.faults))
-    go None = refl
-    go (Some files) = λ state agrees. (0, empty_of banks, inl ((refl, refl), refl), is files, refl)
+    go : (h : Option FileMap) → OneTold (Banks banks) step.Okay no_loader loader store store h
+    go None = (0, refl, refl, refl)
+    go (Some files) = λ state agrees. (0, 0, empty_of banks, inl ((refl, refl), refl), ([], refl, refl), is files, refl, refl)
 first_answer store _ loader is = absurd is
 
 pub first_answered : (store : StoreSeen) (sink new_sink : SinkSeen) (command : Command) (loader : Loaded) (result : Result (Unit {0}) Stop) → IsFirstLoader command loader
@@ -184,5 +182,8 @@ no_memory (c ∷ commands) first store sink is here =
     idle : (command : Command) → IsCommand true command → IsUnanswered command store store
     idle (Banks banks) are = refl
     idle (Load path) are = absurd (cc)
+    idle (LoadSegment user segment) are = absurd (cc)
+    idle (Jsl user segment at) are = absurd (cc)
+    idle (Restart user) are = absurd (cc)
     idle (Bytes user number at count) are = absurd (cc)
     idle _ are = refl

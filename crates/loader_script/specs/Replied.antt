@@ -1,11 +1,11 @@
 -- The replies to a script's commands, and how they go with what is seen of the store.
-use Rattle.std.specs.Prelude.{◌≡◌, ◌⊎◌, ℕ, Bool, true, false, ◌+◌, List, [], ◌∷◌, length, count_by, if◌then◌else◌}
+use Rattle.std.specs.Prelude.{◌≡◌, ◌⊎◌, ℕ, Bool, true, false, ◌+◌, ◌≤◌, List, [], ◌∷◌, length, count_by, if◌then◌else◌}
 use Rattle.omf_io.specs.Counts.{one_more, risen, ToldOr}
 use Rattle.omf_io.specs.Files.{FileMap, StoreSeen}
 use Rattle.loader_machine.specs.declared.faults.LoaderFault.{LoaderFault}
 use Rattle.loader_machine.specs.declared.faults.LoaderFault.TheVariants.{TooManyUsers, CannotRead}
 use Rattle.loader_machine.specs.State.{Machine, empty_of}
-use Rattle.loader_machine.specs.Commands.{Command, Load, Reply, Refused}
+use Rattle.loader_machine.specs.Commands.{Command, Load, LoadSegment, Jsl, Restart, Reply, Refused}
 use Rattle.loader_machine.specs.Transcript.{AreAnswered}
 
 abbrev pub is_unread_fault : LoaderFault → Bool
@@ -30,33 +30,48 @@ abbrev pub is_full : Reply → Bool
 is_full (Refused fault) = is_full_fault fault
 is_full _ = false
 
--- how often a command with this reply read a file: a load once, unless 255 users were made
-abbrev pub asks : Command → Reply → ℕ
-asks (Load path) reply = if is_full reply then 0 else 1
-asks _ reply = 0
+-- How often a command with this reply may have read a file: a load once, unless 255 users were made; a segment that is made active,
+-- a JSL and a restart once at most; no other command.
+abbrev pub MayRead : Command → Reply → ℕ → Type 0
+MayRead (Load path) reply reads = reads ≡ (if is_full reply then 0 else 1)
+MayRead (LoadSegment user segment) reply reads = reads ≤ 1
+MayRead (Jsl user segment at) reply reads = reads ≤ 1
+MayRead (Restart user) reply reads = reads ≤ 1
+MayRead _ reply reads = reads ≡ 0
 
 -- the same of all commands
-abbrev pub asked_for : List Command → List Reply → ℕ
-asked_for [] replies = 0
-asked_for (command ∷ commands) [] = 0
-asked_for (command ∷ commands) (reply ∷ replies) = asks command reply + asked_for commands replies
+abbrev pub MayReadAll : List Command → List Reply → ℕ → Type 0
+MayReadAll [] replies reads = reads ≡ 0
+MayReadAll (command ∷ commands) [] reads = reads ≡ 0
+MayReadAll (command ∷ commands) (reply ∷ replies) reads =
+    (here : ℕ) × (later : ℕ) × MayRead command reply here × MayReadAll commands replies later × (reads ≡ here + later)
 
 -- These are replies to the commands, from the empty state on. Over files that are told they are the machine's, but that a
 -- command which reads may be answered by `cannot read` in the place of its reply; the count of faults is one more for each of
--- these, and `P` holds of the state to which the replies lead. Over files that aren't told the count is one more for each
--- `cannot read`. The store was read once for each load, unless 255 users were made, and all else of it is as before.
+-- these, that of reads one more for each file that a command needs, and `P` holds of the state to which the replies lead. Over
+-- files that aren't told the count of faults is one more for each `cannot read`, and so many reads may have been. All else of the
+-- store is as before.
 pub record AreReplies (P : FileMap → Machine → Type 0) (commands : List Command) (replies : List Reply) (before now : StoreSeen) : Type 0 where
   pub one_each : length replies ≡ length commands
-  pub told : ToldOr before.held (now.faults ≡ risen (unread replies) before.faults) (λ files. (others : ℕ) × (last : Machine)
-      × AreAnswered files (empty_of []) commands replies others last × P files last × (now.faults ≡ risen others before.faults))
-  pub store : now ≡ record before { faults = now.faults; asked = risen (asked_for commands replies) before.asked }
+  pub told : ToldOr before.held
+      ((reads : ℕ) × MayReadAll commands replies reads × (now.faults ≡ risen (unread replies) before.faults) × (now.asked ≡ risen reads before.asked))
+      (λ files. (others : ℕ) × (reads : ℕ) × (last : Machine) × AreAnswered files (empty_of []) commands replies others reads last × P files last
+      × (now.faults ≡ risen others before.faults) × (now.asked ≡ risen reads before.asked))
+  pub store : now ≡ record before { faults = now.faults; asked = now.asked }
 
 -- a count is as before or one more
 abbrev pub OnceAtMost : ℕ → ℕ → Type 0
 OnceAtMost before now = (now ≡ before) ⊎ (now ≡ one_more before)
 
--- a command has no reply, since memory ran out in it: a load may have read its file, once, and no other command reads one
-abbrev pub IsUnanswered : Command → StoreSeen → StoreSeen → Type 0
-IsUnanswered (Load path) before now =
+-- a file was read once at most, and nothing else was done to the store
+abbrev pub ReadsOnceAtMost : StoreSeen → StoreSeen → Type 0
+ReadsOnceAtMost before now =
     OnceAtMost before.faults now.faults × OnceAtMost before.asked now.asked × (now ≡ record before { faults = now.faults; asked = now.asked })
+
+-- a command has no reply, since memory ran out in it: one that reads may have read its file, once, and no other command reads one
+abbrev pub IsUnanswered : Command → StoreSeen → StoreSeen → Type 0
+IsUnanswered (Load path) before now = ReadsOnceAtMost before now
+IsUnanswered (LoadSegment user segment) before now = ReadsOnceAtMost before now
+IsUnanswered (Jsl user segment at) before now = ReadsOnceAtMost before now
+IsUnanswered (Restart user) before now = ReadsOnceAtMost before now
 IsUnanswered _ before now = now ≡ before

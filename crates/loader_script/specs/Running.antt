@@ -10,6 +10,7 @@ use Rattle.loader_machine.specs.Commands.{Command, Banks, Reply}
 use Rattle.loader_machine.specs.Script.{HasScriptFault}
 use Rattle.omf_base.specs.declared.line.LineFault.{LineFault}
 use Rattle.loader_machine.specs.declared.faults.LoaderFault.TheVariants as fault
+use Rattle.loader_machine.specs.Needs.{IsReadFor}
 use Rattle.loader_machine.specs.Transcript.{IsAnswered}
 use Rattle.loader_machine.specs.Replies.{reply_line, replies_text}
 use Rattle.loader_agrees.specs.Agrees.{Loaded, Agrees}
@@ -17,7 +18,7 @@ use Rattle.loader_script.specs.declared.run.ScriptEnd.{ScriptEnd}
 use Rattle.loader_script.specs.declared.run.ScriptEnd.TheVariants as end
 use Rattle.loader_script.specs.declared.run.Stop.{Stop}
 use Rattle.loader_script.specs.declared.run.Stop.TheVariants.{CannotPrint, Memory}
-use Rattle.loader_script.specs.Replied.{unread, asks, AreReplies, IsUnanswered}
+use Rattle.loader_script.specs.Replied.{unread, MayRead, AreReplies, IsUnanswered}
 use Rattle.loader_script.specs.Run.{HasRunAll, StopsPrinting, StopsShort}
 
 -- what became of a line: it was printed whole, a front of it, or nothing
@@ -26,11 +27,14 @@ HasPrinted (Ok done) text before now = now ≡ with_text text before
 HasPrinted (Err CannotPrint) text before now = FailsToPrint text before now
 HasPrinted (Err Memory) text before now = now ≡ before
 
--- the loader answers a command: over files that are told as the machine does, or by `cannot read` where the count is one more
+-- the loader answers a command: over files that are told as the machine does, or by `cannot read` where the count is one more; and
+-- it reads what the command needs
 pub record IsAnswer (command : Command) (old : Loaded) (reply : Reply) (new : Loaded) (before now : StoreSeen) : Type 0 where
-  pub told : ToldOr before.held (now.faults ≡ risen (unread (reply ∷ [])) before.faults) (λ files. (state : Machine) → Agrees files old state
-      → (others : ℕ) × (next : Machine) × IsAnswered files state command reply others next × Agrees files new next × (now.faults ≡ risen others before.faults))
-  pub store : now ≡ record before { faults = now.faults; asked = risen (asks command reply) before.asked }
+  pub told : ToldOr before.held
+      ((reads : ℕ) × MayRead command reply reads × (now.faults ≡ risen (unread (reply ∷ [])) before.faults) × (now.asked ≡ risen reads before.asked))
+      (λ files. (state : Machine) → Agrees files old state → (others : ℕ) × (reads : ℕ) × (next : Machine) × IsAnswered files state command reply others next
+      × IsReadFor files state command reads × Agrees files new next × (now.faults ≡ risen others before.faults) × (now.asked ≡ risen reads before.asked))
+  pub store : now ≡ record before { faults = now.faults; asked = now.asked }
   pub unanswered : IsUnanswered command before now
 
 -- the line is that of a reply, which isn't want of memory

@@ -13,8 +13,11 @@ use Rattle.loader_script.specs.declared.command.Command.TheVariants as declared
 abbrev pub command : Command → machine.Command
 command (declared.Banks list) = machine.Banks list
 command (declared.Load path) = machine.Load path
+command (declared.LoadSegment user segment) = machine.LoadSegment user segment
 command (declared.UnloadSegment user segment) = machine.UnloadSegment user segment
+command (declared.Jsl user segment at) = machine.Jsl user segment at
 command (declared.ShutDown user keep) = machine.ShutDown user keep
+command (declared.Restart user) = machine.Restart user
 command (declared.Purge user) = machine.Purge user
 command (declared.Poke user segment at byte) = machine.Poke user segment at byte
 command (declared.Bytes user segment at size) = machine.Bytes user segment at size

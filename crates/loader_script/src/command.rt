@@ -53,15 +53,30 @@ pub enum Command {
     Load {
         path: Name,
     },
+    /// A dynamic segment to be made active.
+    LoadSegment {
+        user: u16,
+        segment: u16,
+    },
     /// A dynamic segment to be let go.
     UnloadSegment {
         user: u16,
         segment: u16,
     },
+    /// A JSL in a user's segment to be followed, at the offset `at`.
+    Jsl {
+        user: u16,
+        segment: u16,
+        at: u32,
+    },
     /// A program to be shut down: kept dormant, or dropped.
     ShutDown {
         user: u16,
         keep: bool,
+    },
+    /// A dormant program to be restarted.
+    Restart {
+        user: u16,
     },
     /// A user's purgeable blocks to be emptied.
     Purge {

@@ -3,7 +3,7 @@
 ghost use Rattle.std.specs.Prelude.{◌≡◌, ◌≢◌, ◌==◌, ◌&&◌, ◌<◌, false, ◌≤◌, ◌∷◌, [], true, length, IfOk, IfErr, IfSome, MatchOption, bytes_eq, codes};
 ghost use Rattle.std.specs.List.{list_all, list_any};
 ghost use Rattle.loader_machine.specs.Commands as machine;
-ghost use Rattle.loader_machine.specs.Script.{words_of, is_word, stands_twice, banks_of, load_of, is_manner, shut_down_of, are_poke_numbers, poke_of, bytes_of, are_bytes_numbers, is_attributes, are_alloc_numbers, alloc_of, room_of, one_number, two_numbers, given_by, handle_of, words_command, named, is_in_turn, is_number, number_of, command_of, line_command};
+ghost use Rattle.loader_machine.specs.Script.{words_of, is_word, stands_twice, banks_of, load_of, are_jsl_numbers, jsl_of, is_manner, shut_down_of, are_poke_numbers, poke_of, bytes_of, are_bytes_numbers, is_attributes, are_alloc_numbers, alloc_of, room_of, one_number, two_numbers, given_by, handle_of, words_command, named, is_in_turn, is_number, number_of, command_of, line_command};
 ghost use Rattle.loader_script.specs.Words.{bank_numbers, IsHandleIn};
 ghost use Rattle.loader_script.specs.View.{command, IsRead};
 
@@ -325,6 +325,55 @@ fn info(words: &mut Words) -> Result<Command, ScriptCause>
     }
 }
 
+/// `loadseg U S`
+fn load_segment(words: &mut Words) -> Result<Command, ScriptCause>
+    ensures { IsRead command result (given_by (λ n. machine.LoadSegment n.0 n.1) (two_numbers 0xFFFF 0xFFFF words.old)) }
+{
+    match two_numbers(words, 0xFFFF, 0xFFFF) {
+        Ok((user, segment)) => Ok(Command::LoadSegment {
+            user: user as u16,
+            segment: segment as u16,
+        }),
+        Err(cause) => Err(cause),
+    }
+}
+
+/// The command `jsl` of these words.
+fn jsl_command(user: &[u8], segment: &[u8], at: &[u8]) -> Option<Command>
+    ensures { MatchOption result (are_jsl_numbers user.now segment.now at.now ≡ false) (λ found.
+        (are_jsl_numbers user.now segment.now at.now ≡ true)
+        × (found ≡ Command.Jsl (number_of user.now) (number_of segment.now) (number_of at.now))) }
+{
+    let user = number(user, 0, 0xFFFF)? as u16;
+    let segment = number(segment, 0, 0xFFFF)? as u16;
+    let at = number(at, 0, 0xFFFF_FFFF)?;
+    Some(Command::Jsl { user, segment, at })
+}
+
+/// `jsl U S OFF`
+#[tactic(auto, unfolding(loader_machine::specs::Script::jsl_of), using(crate::proofs::Counts::jsl_of_others))]
+fn jsl(words: &mut Words) -> Result<Command, ScriptCause>
+    ensures { IsRead command result (jsl_of words.old) }
+{
+    let Some((user, segment, at)) = three_words(words) else {
+        return Err(ScriptCause::WrongCount);
+    };
+    match jsl_command(user, segment, at) {
+        Some(found) => Ok(found),
+        None => Err(ScriptCause::BadNumber),
+    }
+}
+
+/// `restart U`
+fn restart(words: &mut Words) -> Result<Command, ScriptCause>
+    ensures { IsRead command result (given_by machine.Restart (one_number 0xFFFF words.old)) }
+{
+    match one_number(words, 0xFFFF) {
+        Ok(user) => Ok(Command::Restart { user: user as u16 }),
+        Err(cause) => Err(cause),
+    }
+}
+
 /// `unloadseg U S`
 fn unload_segment(words: &mut Words) -> Result<Command, ScriptCause>
     ensures { IsRead command result (given_by (λ n. machine.UnloadSegment n.0 n.1) (two_numbers 0xFFFF 0xFFFF words.old)) }
@@ -484,8 +533,11 @@ fn words_command(
     match name {
         CommandName::Banks => banks(alloc, words),
         CommandName::Load => load(alloc, words),
+        CommandName::LoadSegment => load_segment(words),
         CommandName::UnloadSegment => unload_segment(words),
+        CommandName::Jsl => jsl(words),
         CommandName::ShutDown => shut_down(words),
+        CommandName::Restart => restart(words),
         CommandName::Purge => purge(words),
         CommandName::Poke => poke(words),
         CommandName::Bytes => bytes(words),
@@ -519,11 +571,20 @@ fn named(word: &[u8]) -> Option<CommandName>
     if is_name(word, "load") {
         return Some(CommandName::Load);
     }
+    if is_name(word, "loadseg") {
+        return Some(CommandName::LoadSegment);
+    }
     if is_name(word, "unloadseg") {
         return Some(CommandName::UnloadSegment);
     }
+    if is_name(word, "jsl") {
+        return Some(CommandName::Jsl);
+    }
     if is_name(word, "shutdown") {
         return Some(CommandName::ShutDown);
+    }
+    if is_name(word, "restart") {
+        return Some(CommandName::Restart);
     }
     if is_name(word, "purge") {
         return Some(CommandName::Purge);

@@ -50,6 +50,36 @@ pub fn started_line(alloc: Global, started: Started) -> Result<Line, LineFault>
     Ok(line)
 }
 
+/// The reply that a segment was made active.
+#[tactic(auto, unfolding(loader_machine::specs::Replies::reply_line, loader_machine::specs::Replies::reply_text))]
+pub fn active_line(alloc: Global, segment: u16, address: u32) -> Result<Line, LineFault>
+    ensures { IfOk result (λ text. text ≡ reply_line (machine.MadeActive segment address)) }
+{
+    let mut line = Line::new(alloc);
+    line.text("active ")?;
+    line.hex(u32::from(segment), 4)?;
+    put_at(&mut line, address)?;
+    line.text("\n")?;
+    Ok(line)
+}
+
+/// The reply that a JSL enters a place.
+#[tactic(auto, unfolding(loader_machine::specs::Replies::reply_line, loader_machine::specs::Replies::reply_text))]
+pub fn entered_line(alloc: Global, place: Entered) -> Result<Line, LineFault>
+    ensures { IfOk result (λ text. text ≡ reply_line (machine.Entered place.user place.segment place.offset place.address)) }
+{
+    let mut line = Line::new(alloc);
+    line.text("entered ")?;
+    line.hex(u32::from(place.user), 4)?;
+    line.text(" ")?;
+    line.hex(u32::from(place.segment), 4)?;
+    line.text(" ")?;
+    line.hex(place.offset, 8)?;
+    put_at(&mut line, place.address)?;
+    line.text("\n")?;
+    Ok(line)
+}
+
 /// The reply to a purge.
 #[tactic(auto, unfolding(loader_machine::specs::Replies::reply_line, loader_machine::specs::Replies::reply_text))]
 pub fn counted_line(alloc: Global, count: u32) -> Result<Line, LineFault>

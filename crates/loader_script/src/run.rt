@@ -16,8 +16,8 @@ ghost use Rattle.loader_script.specs.Running.{HasPrinted, IsLineOf, HasLine, Has
 
 use crate::command::{BankList, Command};
 use crate::replies::{
-    counted_line, info_line, okay_line, placed_line, refusal_line, room_line, shown_line,
-    started_line, state_line, where_line,
+    active_line, counted_line, entered_line, info_line, okay_line, placed_line, refusal_line,
+    room_line, shown_line, started_line, state_line, where_line,
 };
 use crate::script::{Script, read_script};
 use iigs_meaning::{BanksFault, Handle, Want};
@@ -97,6 +97,54 @@ fn load<F: Files>(
     ensures { HasLine result (machine.Load path.now) loader.old loader.new (F.seen files.old) (F.seen files.new) }
 {
     match loader.load(files, path_of(path)) {
+        Ok(started) => started_line(alloc, started),
+        Err(fault) => refusal_line(alloc, fault),
+    }
+}
+
+/// Makes a user's dynamic segment active.
+fn load_segment<F: Files>(
+    alloc: Global,
+    user: u16,
+    segment: u16,
+    loader: &mut Loader,
+    files: &mut F,
+) -> Result<Line, LineFault>
+    ensures { HasLine result (machine.LoadSegment user segment) loader.old loader.new (F.seen files.old) (F.seen files.new) }
+{
+    match loader.load_segment(files, user, segment) {
+        Ok(address) => active_line(alloc, segment, address),
+        Err(fault) => refusal_line(alloc, fault),
+    }
+}
+
+/// Follows a JSL in a user's segment.
+fn jsl<F: Files>(
+    alloc: Global,
+    user: u16,
+    segment: u16,
+    at: u32,
+    loader: &mut Loader,
+    files: &mut F,
+) -> Result<Line, LineFault>
+    ensures { HasLine result (machine.Jsl user segment at) loader.old loader.new (F.seen files.old) (F.seen files.new) }
+{
+    match loader.jsl(files, user, segment, at) {
+        Ok(place) => entered_line(alloc, place),
+        Err(fault) => refusal_line(alloc, fault),
+    }
+}
+
+/// Restarts a dormant program.
+fn restart<F: Files>(
+    alloc: Global,
+    user: u16,
+    loader: &mut Loader,
+    files: &mut F,
+) -> Result<Line, LineFault>
+    ensures { HasLine result (machine.Restart user) loader.old loader.new (F.seen files.old) (F.seen files.new) }
+{
+    match loader.restart(files, user) {
         Ok(started) => started_line(alloc, started),
         Err(fault) => refusal_line(alloc, fault),
     }
@@ -291,6 +339,11 @@ fn reply<F: Files>(
     match command {
         Command::Banks { .. } => unreachable!(),
         Command::Load { path } => load(alloc, path, loader, files),
+        Command::LoadSegment { user, segment } => {
+            load_segment(alloc, *user, *segment, loader, files)
+        }
+        Command::Jsl { user, segment, at } => jsl(alloc, *user, *segment, *at, loader, files),
+        Command::Restart { user } => restart(alloc, *user, loader, files),
         Command::UnloadSegment { user, segment } => {
             unload_segment(alloc, *user, *segment, loader)
         }

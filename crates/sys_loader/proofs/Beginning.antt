@@ -1,15 +1,14 @@
 -- A program that has begun.
-use Rattle.std.proofs.Common.{◌≡◌, ◌≢◌, ◌⊎◌, inl, inr, ℕ, zero, suc, true, false, ◌+◌, ◌<◌, ◌≤◌, ◌^◌, List, [], ◌∷◌, ◌++◌, length, map, take, drop, replicate, Option, Some, None, IsSome, refl, sym, ap, subst, ◌∙◌, arith}
-use Rattle.std.specs.Prelude.{slice_get, IsSomeAnd, string_bytes}
+use Rattle.std.proofs.Common.{◌≡◌, ◌≢◌, inl, inr, ℕ, zero, suc, false, ◌+◌, ◌<◌, ◌≤◌, ◌^◌, List, [], ◌∷◌, ◌++◌, length, map, take, drop, Option, Some, None, refl, sym, ap, subst, ◌∙◌, arith}
+use Rattle.std.specs.Prelude.{slice_get, string_bytes}
 use Rattle.std.specs.Option.{option_map, option_and_then}
-use Rattle.std.proofs.lemmas.Option.{same_Some, slice_get_within}
+use Rattle.std.proofs.lemmas.Option.{slice_get_within}
 use Rattle.std.proofs.lemmas.List.{length-map, length-replicate, map-append, take_at}
 use Rattle.omf_format.specs.File.{Segment, segment_at}
 use Rattle.omf_io.specs.Counts.{IsFront}
 use Rattle.load_meaning.specs.Loadable.{IsLoadable}
 use Rattle.iigs_meaning.specs.declared.handles.Handle.{Handle}
 use Rattle.iigs_meaning.specs.declared.wants.Want.{Want}
-use Rattle.iigs_meaning.specs.Slots.{get}
 use Rattle.iigs_meaning.specs.Fits.{Slots}
 use Rattle.iigs_meaning.specs.declared.faults.PlaceFault.TheVariants as place
 use Rattle.iigs_meaning.specs.Puts.{Purges, PutsAll, slots_for, IsPlaceAllRefusal}
@@ -22,7 +21,6 @@ use Rattle.loader_machine.specs.Heads.{head_of, at_number, is_stack, stack_want,
 use Rattle.loader_machine.specs.State.{no_pokes, first_id, max_users}
 use Rattle.loader_machine.specs.Presences.{handle_at}
 use Rattle.loader_machine.specs.Stands.{setting, stands, place_in}
-use Rattle.loader_machine.specs.Steps.{entry_of}
 use Rattle.loader_agrees.specs.Agrees.{Kept, Loaded, IsSound}
 use Rattle.loader_agrees.specs.Acts.{HasBegun, started_kept}
 use Rattle.loader_agrees.specs.Begun.{all_placed, all_length, decide}
@@ -37,7 +35,7 @@ use Rattle.sys_loader.proofs.Settling.{addresses, is_setting}
 
 -- ---- new blocks
 
-want_some : (head : Head) → 0 < (want_of head).size
+pub want_some : (head : Head) → 0 < (want_of head).size
 unfolding want_of stack_want plain_want
 want_some head = elim (decide (is_stack head)) [ inl stack ↦ rw stack (grind arith) | inr plain ↦ rw plain (grind arith) ]
 
@@ -61,7 +59,6 @@ module _ (before memory : Memory) (load : List Segment) (hs : List Handle) (user
       let size : length (bytes_at memory h.slot) ≡ (want_of head).size = ap length zeros ∙ length-replicate {A = ℕ} (want_of head).size 0 in
       record {
         there = rw there.3 refl;
-        some = omega (arith, size, want_some head);
         fits = omega (arith, size, want_size head);
       }
 
@@ -106,6 +103,17 @@ settled file load hs user kept old new loadable same handles filled = record {
         let one = spread_index (map head_of load) hs k h (has_handle (spread_handles load hs) k h is) in
         apart one.0 h one.1 at
 
+-- ---- a user whose static segments have these handles
+
+pub kept_started : (user : User) (load : List Segment) (path : List ℕ) (hs : List Handle) → heads_of user.segments.items ≡ map head_of load → handles_of user.segments.items ≡ spread_handles load hs
+    → string_bytes user.path ≡ path → user.life ≡ Running → kept user ≡ started_kept path (map head_of load) hs
+kept_started user load path hs same handles path_is runs =
+    let made : List ℕ → Life → List (Option Handle) → List Head → Kept = λ p l os gs. record { path = p; life = l; handles = os; heads = gs } in
+    ap (λ (p : List ℕ). made p user.life (handles_of user.segments.items) (heads_of user.segments.items)) path_is
+    ∙ ap (λ (l : Life). made path l (handles_of user.segments.items) (heads_of user.segments.items)) runs
+    ∙ ap (λ (os : List (Option Handle)). made path Running os (heads_of user.segments.items)) handles
+    ∙ ap (λ (gs : List Head). made path Running (spread_handles load hs) gs) same
+
 -- ---- one user more
 
 module _ (memory middle new : Memory) (users' : List (Option User)) (user : User) (load : List Segment) (path : List ℕ) (hs : List Handle) (id : ℕ) (entry : Option ℕ)
@@ -113,12 +121,7 @@ module _ (memory middle new : Memory) (users' : List (Option User)) (user : User
     (is_settled : IsSettled load id hs middle new) (same : heads_of user.segments.items ≡ map head_of load) (handles : handles_of user.segments.items ≡ spread_handles load hs)
     (path_is : string_bytes user.path ≡ path) (runs : user.life ≡ Running) (entry_is : entry ≡ entry_in (heads_of user.segments.items) (place_in new.slots (handles_of user.segments.items)) 1) where
   kept_is : kept user ≡ started_kept path (map head_of load) hs
-  kept_is =
-      let made : List ℕ → Life → List (Option Handle) → List Head → Kept = λ p l os gs. record { path = p; life = l; handles = os; heads = gs } in
-      ap (λ (p : List ℕ). made p user.life (handles_of user.segments.items) (heads_of user.segments.items)) path_is
-      ∙ ap (λ (l : Life). made path l (handles_of user.segments.items) (heads_of user.segments.items)) runs
-      ∙ ap (λ (os : List (Option Handle)). made path Running os (heads_of user.segments.items)) handles
-      ∙ ap (λ (gs : List Head). made path Running (spread_handles load hs) gs) same
+  kept_is = kept_started user load path hs same handles path_is runs
 
   count : length (map (option_map kept) users') ≡ length users'
   count = length-map users' (option_map kept)

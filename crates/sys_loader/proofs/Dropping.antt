@@ -13,7 +13,7 @@ use Rattle.iigs_meaning.specs.Puts.{Purges, without_user, without_user_in}
 use Rattle.iigs_meaning.specs.Memory.{Memory, KeepsBut, AreAllPlaced, bytes_at}
 use Rattle.loader_machine.specs.declared.faults.LoaderFault.{LoaderFault}
 use Rattle.loader_machine.specs.declared.seen.Head.{Head}
-use Rattle.loader_machine.specs.declared.seen.Life.TheVariants.{Running}
+use Rattle.loader_machine.specs.declared.seen.Life.TheVariants.{Running, Dormant}
 use Rattle.loader_machine.specs.Heads.{at_number, is_static}
 use Rattle.loader_machine.specs.State.{Seen, User, Machine, first_id, user_of, with_user}
 use Rattle.loader_machine.specs.Presences.{handle_at, presence, presence_at, there_at, is_active, lies_in}
@@ -138,6 +138,18 @@ module _ (old new : Loaded) (id : ℕ) (sound : IsSound old.memory old.users) (d
           let has : Has old.users p n head h = record { kept = kept; made = made'; head' = found; handle = e } in
           ap (λ (o : Option Handle). is_active (presence new.memory.slots o)) e ∙ ap (λ (o : Option Block). is_active (lies_in h o)) (live_before p n head h has ne) ∙ active
 
+  rests_now : (p : ℕ) (kept : Kept) (n : ℕ) → slice_get new.users p ≡ Some (Some kept) → kept.life ≡ Dormant → is_active (presence_at new.memory.slots kept.handles n) ≡ false
+  rests_now p kept n made life =
+      let was = before p kept made in
+      go (handle_at kept.handles n) refl (sound.rests p kept n was.0 life)
+    where
+      go : (o : Option Handle) → handle_at kept.handles n ≡ o → is_active (presence old.memory.slots o) ≡ false → is_active (presence_at new.memory.slots kept.handles n) ≡ false
+      go None e rests = ap (λ (o : Option Handle). is_active (presence new.memory.slots o)) e
+      go (Some h) e rests =
+          let was = before p kept made in
+          let one = has_any old sound p kept was.0 n h e in
+          ap (λ (o : Option Handle). is_active (presence new.memory.slots o)) e ∙ ap (λ (o : Option Block). is_active (lies_in h o)) (live_before p n one.0 h one.1 was.1) ∙ rests
+
   only_now : (slot : ℕ) (b : Block) → block_in (slot_at new.memory.slots slot) ≡ Some b → b.user ≢ 0
       → (p : ℕ) × (n : ℕ) × (head : Head) × (h : Handle) × Has new.users p n head h × (h.slot ≡ slot)
   only_now slot b found user =
@@ -155,6 +167,7 @@ module _ (old new : Loaded) (id : ℕ) (sound : IsSound old.memory old.users) (d
     lengths = λ p kept made. sound.lengths p kept (before p kept made).0;
     short = λ p kept made. sound.short p kept (before p kept made).0;
     statics = statics_now;
+    rests = rests_now;
     each = each_now;
     once = λ p q n m head second h k one two same. sound.once p q n m head second h k (has_before p n head h one).0 (has_before q m second k two).0 same;
     only = only_now;
@@ -171,7 +184,7 @@ module _ (old new : Loaded) (id : ℕ) (sound : IsSound old.memory old.users) (d
     still p kept user made ne was = agrees_still held old.memory new.memory (first_id + p) kept user was (λ n h found.
         let one = has_any old sound p kept made n h found in Same (live_before p n one.0 h one.1 ne) (bytes_same h))
 
-    agrees_next : Agrees held new next
+    pub agrees_next : Agrees held new (dropped_state state id)
     agrees_next = record {
       banks = did.bytes.banks ∙ agrees.banks;
       slots = did.slots ∙ ap (λ (t : Slots). without_user t id) agrees.slots;

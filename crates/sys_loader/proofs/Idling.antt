@@ -27,7 +27,7 @@ pub handle_get : (segments : List users.Segment) (k : ℕ) (s : users.Segment) �
 handle_get segments k s inside is =
     slice_get-map (λ (x : users.Segment). x.handle) segments k ∙ ap (option_map (λ (x : users.Segment). x.handle)) (slice_get-get_or segments k s inside) ∙ ap (λ (x : users.Segment). Some x.handle) (sym is)
 
-take_more : {X : Type 0} (xs : List X) (k : ℕ) (x : X) → slice_get xs k ≡ Some x → take (k + 1) xs ≡ take k xs ++ x ∷ []
+pub take_more : {X : Type 0} (xs : List X) (k : ℕ) (x : X) → slice_get xs k ≡ Some x → take (k + 1) xs ≡ take k xs ++ x ∷ []
 take_more {X} xs k x is = let more : k + 1 ≡ suc k = omega arith in ap (λ (n : ℕ). take n xs) more ∙ go xs k is
   where
     go : (ys : List X) (i : ℕ) → slice_get ys i ≡ Some x → take (suc i) ys ≡ take i ys ++ x ∷ []

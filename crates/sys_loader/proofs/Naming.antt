@@ -106,7 +106,7 @@ module _ (segments : List Segment) (number : ℕ) (s : Segment) (sound : IsSound
   part_near = part_tells Near s (weaker (IsPatch segments s) (λ (p : Patch). Near p.segment) patch_near (patch_list s) sound.patches) at file target offset index part
 
   -- a table has no parts
-  part_plain : is_table s ≡ false
+  pub part_plain : is_table s ≡ false
   part_plain = go (is_table s) refl
     where
       no_part : (o : Option ℕ) → option_map Byte o ≡ Some (Part file target offset (pos 0) index) → ⊥
@@ -123,7 +123,7 @@ unfolding read_bytes
 plain_bytes at s is = ap (λ (b : Bool). cond b (entries_bytes at (targets_of s)) (map (byte_of at.place) (cells s))) is
 
 -- the byte of a cell stands where nothing was written
-cell_stands : (where' : Setting) (pokes : Pokes) (s : Segment) (at : ℕ) (c : Cell) → is_table s ≡ false → slice_get (cells s) at ≡ Some c → get pokes at ≡ None
+pub cell_stands : (where' : Setting) (pokes : Pokes) (s : Segment) (at : ℕ) (c : Cell) → is_table s ≡ false → slice_get (cells s) at ≡ Some c → get pokes at ≡ None
     → slice_get (stands where' pokes s) at ≡ Some (byte_of where'.place c)
 unfolding stands over
 cell_stands where' pokes s at c plain is none = let same : 0 + at ≡ at = omega arith in
@@ -138,7 +138,7 @@ whole n small = omega arith
 three_bytes : (n : ℕ) → n < 2 ^ 24 → n / 256 ^ 0 % 256 + 256 * (n / 256 ^ 1 % 256 + 256 * (n / 256 ^ 2 % 256 + 256 * 0)) ≡ n
 three_bytes n small = omega arith
 
-number_of_three : (bytes : List ℕ) (at a b c : ℕ) → slice_get bytes (at + 0) ≡ Some a → slice_get bytes (at + 1) ≡ Some b → slice_get bytes (at + 2) ≡ Some c
+pub number_of_three : (bytes : List ℕ) (at a b c : ℕ) → slice_get bytes (at + 0) ≡ Some a → slice_get bytes (at + 1) ≡ Some b → slice_get bytes (at + 2) ≡ Some c
     → number_at 3 at bytes ≡ a + 256 * (b + 256 * (c + 256 * 0))
 unfolding number_at
 number_of_three bytes at a b c one two three =
@@ -150,7 +150,7 @@ number_of_three bytes at a b c one two three =
 module _ (setting : Setting) (pokes : Pokes) (s : Segment) (at target offset : ℕ) (plain : is_table s ≡ false)
     (parts : (k : ℕ) → k < 3 → slice_get (cells s) (at + k) ≡ Some (Part 1 target offset (pos 0) k)) (none : (k : ℕ) → k < 3 → get pokes (at + k) ≡ None)
     (small : setting.place target + offset < 2 ^ 24) where
-  byte_there : (k : ℕ) → k < 3 → slice_get (stands setting pokes s) (at + k) ≡ Some ((setting.place target + offset) / 256 ^ k % 256)
+  pub byte_there : (k : ℕ) → k < 3 → slice_get (stands setting pokes s) (at + k) ≡ Some ((setting.place target + offset) / 256 ^ k % 256)
   byte_there k lt = cell_stands setting pokes s (at + k) (Part 1 target offset (pos 0) k) plain (parts k lt) (none k lt)
       ∙ ap (λ (n : ℕ). Some (n / 256 ^ k % 256)) (whole (setting.place target + offset) small)
 
@@ -177,7 +177,7 @@ has_byte slots address h has = go (slot_at slots h.slot) ((slot_at slots h.slot)
 module _ (held : FileMap) (loader : Loaded) (state : Machine) (agrees : Agrees held loader state) (sound : IsSound loader.memory loader.users)
     (below : (place address : ℕ) → HoldsByte address (slot_at loader.memory.slots place) → address < 2 ^ 24)
     (id number at target offset : ℕ) (has : HasAddress held state id number at target offset) where
-  segment_sound : IsSoundSegment has.sees.segments number has.s
+  pub segment_sound : IsSoundSegment has.sees.segments number has.s
   segment_sound = loadable_has has.sees.holds.file has.sees.segments has.sees.holds.loadable number has.s has.is
 
   target_active : is_active (presence_at state.slots (handles_of has.sees.user) target) ≡ true
@@ -197,7 +197,7 @@ module _ (held : FileMap) (loader : Loaded) (state : Machine) (agrees : Agrees h
             ∙ in_state.does_agree.statics life target has.t there static)
       ]
 
-  target_at : (first : ℕ) × (place_in state.slots (handles_of has.sees.user) target ≡ first) × IsAt held state (first + offset) id target offset
+  pub target_at : (first : ℕ) × (place_in state.slots (handles_of has.sees.user) target ≡ first) × IsAt held state (first + offset) id target offset
   target_at =
       let active = active_of (presence_at state.slots (handles_of has.sees.user) target) target_active in (
         active.1,
@@ -210,7 +210,7 @@ module _ (held : FileMap) (loader : Loaded) (state : Machine) (agrees : Agrees h
       let t = target_at in
       subst (λ (n : ℕ). LiesIn loader (n + offset) id target offset) (sym t.1) (lies_back held loader state agrees Purges sound (t.0 + offset) id target offset t.2)
 
-  target_small : place_in state.slots (handles_of has.sees.user) target + offset < 2 ^ 24
+  pub target_small : place_in state.slots (handles_of has.sees.user) target + offset < 2 ^ 24
   target_small = below target_lies.h.slot _ (has_byte loader.memory.slots _ target_lies.h (lies_block loader sound _ id target offset target_lies).0)
 
   pub read_is : address_read has ≡ place_in state.slots (handles_of has.sees.user) target + offset

@@ -113,6 +113,7 @@ sound_written memory users slot w sound same = record {
   lengths = sound.lengths;
   short = sound.short;
   statics = sound.statics;
+  rests = sound.rests;
   each = λ place number head h has.
       let is = sound.each place number head h has in
       let is' : IsOf (with_bytes memory slot w) (first_id + place) head h = record {

@@ -58,7 +58,7 @@ module _ (xs ys : List Entry) (rest : List ℕ) where
       (flat_map-append entry_bytes xs (e ∷ ys) ∙ ap (λ (m : List ℕ). flat_map entry_bytes xs ++ m) (flat_map-cons entry_bytes e ys ∙ ap (λ (x : List ℕ). x ++ flat_map entry_bytes ys) (entry_is e)))
       ∙ regroup (replicate 8 0) (flat_map entry_bytes xs) (head_bytes e) (code_bytes e.loaded) (flat_map entry_bytes ys) (replicate 4 0) rest
 
-  segment_is : (e : Entry) (bytes : List ℕ) → bytes ≡ table_bytes (xs ++ e ∷ ys) ++ rest → e.segment < 256 ^ 2 → number_at 2 (entry_start (length xs) + 4) bytes ≡ e.segment
+  pub segment_is : (e : Entry) (bytes : List ℕ) → bytes ≡ table_bytes (xs ++ e ∷ ys) ++ rest → e.segment < 256 ^ 2 → number_at 2 (entry_start (length xs) + 4) bytes ≡ e.segment
   segment_is e bytes is fits =
       ap (number_at 2 (entry_start (length xs) + 4)) (is ∙ split e)
       ∙ number_part 2 4 (entry_start (length xs)) up_to (head_bytes e) (code_bytes e.loaded ++ behind) up_length (omega (arith, head_length e))
@@ -66,7 +66,7 @@ module _ (xs ys : List Entry) (rest : List ℕ) where
       ∙ number_rest 2 0 4 (little_bytes 2 e.user ++ little_bytes 2 e.file) (little_bytes 2 e.segment ++ little_bytes 4 e.offset) refl
       ∙ number_written 2 e.segment (little_bytes 4 e.offset) fits
 
-  offset_is : (e : Entry) (bytes : List ℕ) → bytes ≡ table_bytes (xs ++ e ∷ ys) ++ rest → e.offset < 256 ^ 4 → number_at 4 (entry_start (length xs) + 6) bytes ≡ e.offset
+  pub offset_is : (e : Entry) (bytes : List ℕ) → bytes ≡ table_bytes (xs ++ e ∷ ys) ++ rest → e.offset < 256 ^ 4 → number_at 4 (entry_start (length xs) + 6) bytes ≡ e.offset
   offset_is e bytes is fits =
       ap (number_at 4 (entry_start (length xs) + 6)) (is ∙ split e)
       ∙ number_part 4 6 (entry_start (length xs)) up_to (head_bytes e) (code_bytes e.loaded ++ behind) up_length (omega (arith, head_length e))

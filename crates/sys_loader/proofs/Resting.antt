@@ -16,6 +16,8 @@ use Rattle.iigs_meaning.specs.Memory.{Memory, bytes_at}
 use Rattle.loader_machine.specs.declared.faults.LoaderFault.{LoaderFault}
 use Rattle.loader_machine.specs.declared.seen.Head.{Head}
 use Rattle.loader_machine.specs.declared.seen.Life.TheVariants.{Running, Dormant}
+use Rattle.loader_machine.specs.declared.seen.Presence.{Presence}
+use Rattle.loader_machine.specs.declared.seen.Presence.TheVariants.{Absent, Purged, Idle, Active}
 use Rattle.loader_machine.specs.Heads.{head_of, at_number, is_static, is_table}
 use Rattle.loader_machine.specs.State.{Seen, User, Machine, first_id, user_of, with_user}
 use Rattle.loader_machine.specs.Presences.{handle_at, presence, presence_at, there_at, active_at, is_active, lies_in, lies_at}
@@ -227,12 +229,39 @@ module _ (old new : Loaded) (id : ℕ) (sound : IsSound old.memory old.users) (d
       let it = sound.only slot was.0 was.1 (λ e. user (sym was.2 ∙ e)) in
       (it.0, it.1, it.2, it.3, has_now it.0 it.1 it.2 it.3 it.4, it.5)
 
+  rests_now : (p : ℕ) (k : Kept) (n : ℕ) → slice_get new.users p ≡ Some (Some k) → k.life ≡ Dormant → is_active (presence_at new.memory.slots k.handles n) ≡ false
+  rests_now p k n made life = elim (users_now p k made) [
+    | inl it ↦ ap (λ (x : Kept). is_active (presence_at new.memory.slots x.handles n)) it.1 ∙ its_own (handle_at kept.handles n) refl
+    | inr other ↦ go (handle_at k.handles n) refl other.0 other.1 (sound.rests p k n other.1 life)
+  ]
+    where
+      by_place : (p : Presence) → active_at p ≡ None → is_active p ≡ false
+      by_place Absent e = refl
+      by_place (Purged h) e = refl
+      by_place (Idle h a) e = refl
+      by_place (Active h a) e = absurd cc
+
+      its_own : (o : Option Handle) → handle_at kept.handles n ≡ o → is_active (presence_at new.memory.slots kept.handles n) ≡ false
+      its_own None e = ap (λ (o : Option Handle). is_active (presence new.memory.slots o)) e
+      its_own (Some h) e =
+          let one' = own n h e in
+          let of' = sound.each place n one'.0 h one'.1 in
+          ap (λ (o : Option Handle). is_active (presence new.memory.slots o)) e ∙ ap (λ (o : Option Block). is_active (lies_in h o)) (own_get n h of'.block e of'.live)
+          ∙ by_place (lies_at h (let_go of'.block).at (let_go of'.block).locked) (let_go_active_at h of'.block)
+
+      go : (o : Option Handle) → handle_at k.handles n ≡ o → p ≢ place → slice_get old.users p ≡ Some (Some k) → is_active (presence old.memory.slots o) ≡ false → is_active (presence_at new.memory.slots k.handles n) ≡ false
+      go None e ne made' still = ap (λ (o : Option Handle). is_active (presence new.memory.slots o)) e
+      go (Some h) e ne made' still =
+          let one' = has_any old sound p k made' n h e in
+          ap (λ (o : Option Handle). is_active (presence new.memory.slots o)) e ∙ ap (λ (o : Option Block). is_active (lies_in h o)) (other_get p n one'.0 h one'.1 ne) ∙ still
+
   pub kept_sound : IsSound new.memory new.users
   kept_sound = record {
     few = omega (arith, sound.few, ap (λ (us : List (Option Kept)). length us) did.users, length_set old.users place (Some rests));
     lengths = λ p k made. (lengths_now p k made).0;
     short = λ p k made. (lengths_now p k made).1;
     statics = statics_now;
+    rests = rests_now;
     each = λ p n head h has. each_before p n head h (has_before p n head h has);
     once = λ p q n m head second h k one two same. sound.once p q n m head second h k (has_before p n head h one) (has_before q m second k two) same;
     only = only_now;

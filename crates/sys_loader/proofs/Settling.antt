@@ -128,7 +128,7 @@ module _ (segments : List Segment) (number : ℕ) (head : Head) (has : HasHead s
 abbrev pub addresses : Slots → List users.Segment → List (Option ℕ)
 addresses slots segments = map (λ s. there_at (presence slots s.handle)) segments
 
-address_is : (slots : Slots) (segments : List users.Segment) (n : ℕ) → address_in (addresses slots segments) n ≡ machine.place_in slots (handles_of segments) n
+pub address_is : (slots : Slots) (segments : List users.Segment) (n : ℕ) → address_in (addresses slots segments) n ≡ machine.place_in slots (handles_of segments) n
 address_is slots segments zero = refl
 address_is slots segments (suc k) = go segments k
   where

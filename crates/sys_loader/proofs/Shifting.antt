@@ -17,7 +17,7 @@ use Rattle.iigs_meaning.specs.Slots.{slot_at, new_slot, get, with_value}
 use Rattle.iigs_meaning.specs.Fits.{Slots, block_in}
 use Rattle.iigs_meaning.specs.Memory.{bytes_at}
 use Rattle.loader_machine.specs.declared.seen.Head.{Head}
-use Rattle.loader_machine.specs.declared.seen.Life.TheVariants.{Running}
+use Rattle.loader_machine.specs.declared.seen.Life.TheVariants.{Running, Dormant}
 use Rattle.loader_machine.specs.Heads.{head_of, at_number, is_static, is_table}
 use Rattle.loader_machine.specs.State.{User, Machine, first_id, user_of}
 use Rattle.loader_machine.specs.Presences.{handle_at, presence, presence_at, there_at, active_at, is_active, lies_in, lies_at}
@@ -240,6 +240,19 @@ module _ (old new : Loaded) (id number : ℕ) (kept : Kept) (h : Handle) (change
           let ne : j.slot ≢ h.slot = apart p n g j has (λ pe ne. static_apart n g (ap (λ (x : Kept). at_number x.heads n) (sym (kept_one p k made' pe)) ∙ found) static ne) in
           ap (λ (o : Option Handle). is_active (presence new.memory.slots o)) e ∙ ap (λ (o : Option Block). is_active (lies_in j o)) (get_apart j ne) ∙ active
 
+  rests_now : kept.life ≡ Running → (p : ℕ) (k : Kept) (n : ℕ) → slice_get old.users p ≡ Some (Some k) → k.life ≡ Dormant → is_active (presence_at new.memory.slots k.handles n) ≡ false
+  rests_now runs p k n made' life = go (handle_at k.handles n) refl (sound.rests p k n made' life)
+    where
+      not_both : Running ≡ Dormant → ⊥
+      not_both clash = cc
+
+      go : (o : Option Handle) → handle_at k.handles n ≡ o → is_active (presence old.memory.slots o) ≡ false → is_active (presence_at new.memory.slots k.handles n) ≡ false
+      go None e rests = ap (λ (o : Option Handle). is_active (presence new.memory.slots o)) e
+      go (Some j) e rests =
+          let one = has_any old sound p k made' n j e in
+          let ne : j.slot ≢ h.slot = apart p n one.0 j one.1 (λ pe ne. not_both (sym runs ∙ ap (λ (x : Kept). x.life) (sym (kept_one p k made' pe)) ∙ life)) in
+          ap (λ (o : Option Handle). is_active (presence new.memory.slots o)) e ∙ ap (λ (o : Option Block). is_active (lies_in j o)) (get_apart j ne) ∙ rests
+
   only_now : (slot : ℕ) (b : Block) → block_in (slot_at new.memory.slots slot) ≡ Some b → b.user ≢ 0
       → (p : ℕ) × (n : ℕ) × (g : Head) × (k : Handle) × Has old.users p n g k × (k.slot ≡ slot)
   only_now slot b found user = elim (value_in old.memory.slots h block (change block) was slot b (sym (ap (λ (t : Slots). block_in (slot_at t slot)) slots_are) ∙ found)) [
@@ -248,8 +261,8 @@ module _ (old new : Loaded) (id number : ℕ) (kept : Kept) (h : Handle) (change
   ]
 
   -- it is sound still
-  pub shifted_sound : IsSound new.memory old.users
-  shifted_sound = record { few = sound.few; lengths = sound.lengths; short = sound.short; statics = statics_now; each = each_now; once = sound.once; only = only_now }
+  pub shifted_sound : kept.life ≡ Running → IsSound new.memory old.users
+  shifted_sound runs = record { few = sound.few; lengths = sound.lengths; short = sound.short; statics = statics_now; rests = rests_now runs; each = each_now; once = sound.once; only = only_now }
 
   -- ---- agreement
 

@@ -64,11 +64,11 @@ pub record Turned (old new : Memory) (id : ℕ) (only address : Option ℕ) (kep
       → handle_at kept'.handles number ≡ Some h → IsSome (there_at (presence_at new.slots kept'.handles number))
       → Becomes (setting id old.slots kept.handles) (setting id new.slots kept'.handles) only address old new kept user user' number s h
 
-table_stands : (s : Segment) (at : Setting) → is_table s ≡ true → stands at no_pokes s ≡ table_bytes (map (entry_for at) (targets_of s))
+pub table_stands : (s : Segment) (at : Setting) → is_table s ≡ true → stands at no_pokes s ≡ table_bytes (map (entry_for at) (targets_of s))
 unfolding stands read_bytes entries_bytes
 table_stands s at table = over_none (read_bytes at s) ∙ ap (λ (t : Bool). cond t (entries_bytes at (targets_of s)) (map (byte_of at.place) (cells s))) table
 
-targets_count : (s : Segment) → length (targets_of s) ≡ entry_count s.fields.length
+pub targets_count : (s : Segment) → length (targets_of s) ≡ entry_count s.fields.length
 unfolding targets_of
 targets_count s = length-targets_from (segment_bytes s) 0 (entry_count s.fields.length)
 

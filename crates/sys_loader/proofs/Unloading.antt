@@ -80,7 +80,7 @@ none_active h block = go block.at
 
 module _ (old new : Loaded) (id number : ℕ) (sound : IsSound old.memory old.users) (did : HasUnloaded old id number new) where
   pub unloaded_sound : IsSound new.memory old.users
-  unloaded_sound = shifted_sound old new id number did.can.is.kept did.h idle_block None did.can.is.head sound did.can.is.made did.can.is.head' did.can.is.handle did.can.dynamic idles did.shifted
+  unloaded_sound = shifted_sound old new id number did.can.is.kept did.h idle_block None did.can.is.head sound did.can.is.made did.can.is.head' did.can.is.handle did.can.dynamic idles did.shifted did.can.is.runs
 
   module _ (held : FileMap) (state : Machine) (agrees : Agrees held old state) where
     is : IsKept held old state agrees id did.can.is.kept

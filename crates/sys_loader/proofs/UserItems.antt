@@ -1,5 +1,5 @@
 -- The users of a loader by their places.
-use Rattle.std.proofs.Common.{◌≡◌, ℕ, ◌-◌, ◌<◌, List, length, map, get_or, Option, Some, sym, ap, ◌∙◌, arith}
+use Rattle.std.proofs.Common.{◌≡◌, ℕ, ◌-◌, ◌<◌, List, length, map, get_or, Option, Some, None, IsSome, refl, sym, ap, ◌∙◌, arith}
 use Rattle.std.specs.Prelude.{slice_get, option_map}
 use Rattle.std.proofs.lemmas.Option.{slice_get-map, slice_get-get_or, slice_get_within}
 use Rattle.std.proofs.lemmas.List.{length-map}
@@ -22,3 +22,8 @@ item_is users id n item u k place made at is =
   where
     one : (a b : Kept) → Some (Some a) ≡ Some (Some b) → a ≡ b
     one a b e = cc
+
+-- a value that is some is one
+pub some_is : {X : Type 0} (o : Option X) → IsSome o → (x : X) × (o ≡ Some x)
+some_is None is = absurd cc
+some_is (Some x) is = (x, refl)

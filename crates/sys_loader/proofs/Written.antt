@@ -1,13 +1,12 @@
 -- Segments written into their blocks one by one.
-use Rattle.std.proofs.Common.{◌≡◌, ◌≢◌, ◌⊎◌, inl, inr, ℕ, zero, suc, ◌+◌, ◌<◌, ◌≤◌, List, [], ◌∷◌, length, map, get_or, Option, Some, None, IsSome, refl, sym, ap, subst, ◌∙◌, arith}
-use Rattle.std.specs.Prelude.{slice_get, IsSomeAnd}
+use Rattle.std.proofs.Common.{◌≡◌, ◌≢◌, inl, inr, ℕ, zero, suc, ◌+◌, ◌<◌, ◌≤◌, List, [], ◌∷◌, length, map, get_or, Option, Some, None, IsSome, refl, sym, ap, subst, ◌∙◌, arith}
+use Rattle.std.specs.Prelude.{IsSomeAnd}
 use Rattle.std.specs.Option.{option_map, option_and_then}
-use Rattle.std.proofs.Math.ListN.{set, get_or-eq_default}
-use Rattle.std.proofs.lemmas.Bool.{cases_lt, cases_eq}
+use Rattle.std.proofs.Math.ListN.{set}
+use Rattle.std.proofs.lemmas.Bool.{cases_eq}
 use Rattle.std.proofs.lemmas.Option.{same_Some, slice_get-get_or}
-use Rattle.std.proofs.lemmas.List.{get_or-set_same, get_or-set_other}
-use Rattle.omf_format.specs.File.{Segment, segment_at}
-use Rattle.omf_io.specs.Counts.{IsFront}
+use Rattle.std.proofs.lemmas.List.{get_or-set_other}
+use Rattle.omf_format.specs.File.{Segment}
 use Rattle.iigs_meaning.specs.declared.handles.Handle.{Handle}
 use Rattle.iigs_meaning.specs.Slots.{get}
 use Rattle.iigs_meaning.specs.Fits.{Slots}
@@ -47,6 +46,16 @@ has_head load segments place s same inside is =
 
 -- ---- one more
 
+-- bytes of the same length that are put in a place stand there, also where it has none
+set_here : (all : List (List ℕ)) (slot : ℕ) (w : List ℕ) → length w ≡ length (get_or all slot []) → get_or (set all slot w) slot [] ≡ w
+set_here [] slot w same = sym (empty w same)
+  where
+    empty : (v : List ℕ) → length v ≡ 0 → v ≡ []
+    empty [] e = refl
+    empty (x ∷ v) e = absurd (omega (arith, e))
+set_here (x ∷ all) zero w same = refl
+set_here (x ∷ all) (suc k) w same = set_here all k w same
+
 pub filled_none : (load : List Segment) (handles : List (Option Handle)) (user : ℕ) (places : List (Option ℕ)) (old : Memory) → AreFilled load handles user places old old 0
 filled_none load handles user places old = record { banks = refl; slots = refl; filled = none; stay = λ place apart. refl; sizes = λ place. refl }
   where
@@ -79,14 +88,8 @@ module _ (load : List Segment) (heads : List Head) (handles : List (Option Handl
   fits_now = omega (arith, one.fits, so_far.sizes h.slot)
 
   module _ (written : IsWritten load (k + 1) user places now h new) where
-    inside : h.slot < length now.bytes
-    inside = elim (cases_lt h.slot (length now.bytes)) [
-      | inl lt ↦ lt
-      | inr le ↦ (let none : bytes_at now h.slot ≡ [] = get_or-eq_default now.bytes [] le in absurd (omega (arith, one.some, so_far.sizes h.slot, ap length none)))
-    ]
-
     here : bytes_at new h.slot ≡ written.content
-    here = ap (λ (m : Memory). bytes_at m h.slot) written.new_is ∙ get_or-set_same now.bytes h.slot written.content [] inside
+    here = ap (λ (m : Memory). bytes_at m h.slot) written.new_is ∙ set_here now.bytes h.slot written.content written.same
 
     apart : (place : ℕ) → place ≢ h.slot → bytes_at new place ≡ bytes_at now place
     apart place ne = ap (λ (m : Memory). bytes_at m place) written.new_is ∙ get_or-set_other now.bytes h.slot place written.content [] ne

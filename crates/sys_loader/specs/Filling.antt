@@ -1,5 +1,5 @@
 -- Segments that are written into their blocks. No public clause cites this module.
-use Rattle.std.specs.Prelude.{◌≡◌, ℕ, ◌<◌, ◌≤◌, true, List, length, Option, Some, None, IsSome, IsSomeAnd, slice_set}
+use Rattle.std.specs.Prelude.{◌≡◌, ℕ, ◌≤◌, true, List, length, Option, Some, None, IsSome, IsSomeAnd, slice_set}
 use Rattle.std.specs.List.{AllByRecursion}
 use Rattle.omf_format.specs.Header.{Fields}
 use Rattle.omf_format.specs.File.{Segment, segment_at}
@@ -62,7 +62,6 @@ pub record IsWritten (segments : List Segment) (number user : ℕ) (places : Lis
 -- the block of a segment is there, and has room for LENGTH bytes
 pub record IsReady (memory : Memory) (head : Head) (h : Handle) : Type 0 where
   pub there : IsSomeAnd (get memory.slots h) (λ block. IsSome block.at)
-  pub some : 0 < length (bytes_at memory h.slot)
   pub fits : head.length ≤ length (bytes_at memory h.slot)
 
 -- so it is of each segment that has a handle, and no two have one slot

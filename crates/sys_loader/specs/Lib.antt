@@ -6,3 +6,7 @@ pub mod Calls
 pub mod Lives
 pub mod Renewing
 pub mod Naming
+pub mod Activating
+pub mod Following
+pub mod Calling
+pub mod Restarting

@@ -17,6 +17,11 @@ abbrev pub load_reply : Result Started LoaderFault → Reply
 load_reply (Ok started) = commands.Started started.user started.entry
 load_reply (Err fault) = Refused fault
 
+-- of a segment that was made active, where the reply of one at an address is this
+abbrev pub activation_reply : (ℕ → Reply) → Result ℕ LoaderFault → Reply
+activation_reply of (Ok address) = of address
+activation_reply of (Err fault) = Refused fault
+
 -- of a call that answers nothing
 abbrev pub done_reply : Result (Unit {0}) LoaderFault → Reply
 done_reply (Ok done) = Okay

@@ -13,7 +13,7 @@ use omf_header::Header;
 use std::alloc::{AllocError, Global};
 
 /// What is kept of a header.
-fn head_from(header: &Header) -> Head
+pub fn head_from(header: &Header) -> Head
     ensures { result ≡ head_in (fields header.now) }
 {
     Head {

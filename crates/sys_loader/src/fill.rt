@@ -69,7 +69,7 @@ fn fill(load: &LoadFile<'_>, number: u32, head: &Head, places: &Places, user: u1
 }
 
 /// Writes a segment into its block.
-fn fill_block(
+pub fn fill_block(
     banks: &mut Banks,
     h: Handle,
     load: &LoadFile<'_>,

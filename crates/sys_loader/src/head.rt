@@ -4,6 +4,7 @@ ghost use Rattle.std.specs.Prelude.{◌≡◌, ◌==◌};
 ghost use Rattle.omf_format.specs.Header as format;
 ghost use Rattle.iigs_meaning.specs.Fits.{IsWant};
 ghost use Rattle.loader_machine.specs.Heads as heads;
+ghost use Rattle.loader_machine.specs.Steps as steps;
 
 use iigs_meaning::Want;
 use loader_machine::Head;
@@ -50,6 +51,13 @@ pub fn is_static(head: &Head) -> bool
 {
     let kind = kind(head);
     !kind.is_dynamic() && !kind.is_skip()
+}
+
+/// The segment is static, and read again at each restart.
+pub fn is_read_again(head: &Head) -> bool
+    ensures { result ≡ steps.is_read_again head.now }
+{
+    is_static(head) && kind(head).is_reload()
 }
 
 /// The segment is a jump table.

@@ -3,9 +3,12 @@
 
 mod answers;
 mod blocks;
+mod compare;
+mod dynamic;
 mod file;
 mod fill;
 mod head;
+mod jsl;
 mod load;
 mod loader;
 mod lying;
@@ -15,7 +18,10 @@ mod plan;
 mod poke;
 mod purge;
 mod renew;
+mod restart;
 mod shutdown;
+#[cfg(test)]
+mod tests;
 mod turn;
 mod unload;
 mod user;
@@ -24,4 +30,4 @@ mod users;
 pub use answers::{Entered, Info, Started};
 pub use iigs_meaning::{BanksFault, BlockState, Handle, Want};
 pub use loader::Loader;
-pub use loader_machine::{LoaderFault, Presence};
+pub use loader_machine::{Facts, LoaderFault, Presence};

@@ -11,7 +11,7 @@ ghost use Rattle.loader_machine.specs.Heads.{head_of, wants_of};
 ghost use Rattle.loader_machine.specs.State.{Machine, first_id, max_users};
 ghost use Rattle.loader_machine.specs.Steps.{spread};
 ghost use Rattle.loader_machine.specs.Commands.{Load};
-ghost use Rattle.loader_agrees.specs.Agrees.{Agrees, Meets};
+ghost use Rattle.loader_agrees.specs.Agrees.{Agrees, Meets, ReadsNeeded};
 ghost use Rattle.loader_agrees.specs.Acts.{HasBegun};
 ghost use Rattle.omf_cells.specs.Load.{IsRefused};
 ghost use Rattle.sys_loader.specs.Calls.{IsPlan, IsSettled, IsBadFile, IsBeginRefusal, IsStartRefusal, HasStartedFrom, HasLoaded};
@@ -57,7 +57,7 @@ fn place_all(
 }
 
 /// Writes the static segments into their new blocks, once all of these are placed.
-fn settle(
+pub fn settle(
     banks: &mut Banks,
     load: &LoadFile<'_>,
     segments: &mut Vec<Segment>,
@@ -80,7 +80,7 @@ fn settle(
 }
 
 /// What the loader says of a load file's fault.
-fn bad_file(fault: LoadFault) -> LoaderFault
+pub fn bad_file(fault: LoadFault) -> LoaderFault
     ensures { (file : List ℕ) → IsRefused fault file → IsBadFile file result }
 {
     match fault.cause {
@@ -90,7 +90,7 @@ fn bad_file(fault: LoadFault) -> LoaderFault
 }
 
 /// How many segments a load file has: the number of the last one.
-fn count_of(load: &LoadFile<'_>) -> u16
+pub fn count_of(load: &LoadFile<'_>) -> u16
     requires loadable { (file : List ℕ) × IsLoadable file load.now }
     ensures { result ≡ length load.now }
 {
@@ -199,9 +199,11 @@ impl Loader {
         ensures asked { length self.old.users < max_users → (F.seen files.new).asked ≡ one_more (F.seen files.old).asked }
         ensures unasked { max_users ≤ length self.old.users → (F.seen files.new).asked ≡ (F.seen files.old).asked }
 
-        // Over files that are told, and with which the loader agrees, it is the machine's step.
+        // Over files that are told, and with which the loader agrees, it is the machine's step, and reads what that needs.
         ensures meets { (held : FileMap) (state : Machine) → (F.seen files.old).held ≡ Some held → Agrees held self.old state
             → Meets Purges held state (Load path.now) (load_reply result) self.new (F.seen files.old).faults (F.seen files.new).faults }
+        ensures needed { (held : FileMap) (state : Machine) → (F.seen files.old).held ≡ Some held → Agrees held self.old state
+            → ReadsNeeded held state (Load path.now) (F.seen files.old).asked (F.seen files.new).asked }
 
         // And so much is true of it over any files.
         ensures loaded { HasLoaded (F.seen files.old).held self.old path.now result self.new (F.seen files.old).faults (F.seen files.new).faults }

@@ -92,7 +92,7 @@ impl Loader {
     }
 
     // What is true of every loader's blocks.
-    fn is_apart(&self)
+    pub(crate) fn is_apart(&self)
         ensures apart { AreApart self.now.memory.banks self.now.memory.slots }
         ensures below { (place address : ℕ) → HoldsByte address (slot_at self.now.memory.slots place) → address < 2 ^ 24 }
     {
@@ -153,7 +153,13 @@ impl Loader {
     }
 
     // The bytes of an active segment, so many from an offset on.
-    fn lent(&self, user: u16, segment: u16, at: u32, count: u32) -> Result<&[u8], LoaderFault>
+    pub(crate) fn lent(
+        &self,
+        user: u16,
+        segment: u16,
+        at: u32,
+        count: u32,
+    ) -> Result<&[u8], LoaderFault>
         ensures lent { IfOk result (λ bytes. HasLent self.now user segment at count bytes.now) }
         ensures refused { IfErr result (λ fault. bytes_refusal self.now.memory.slots (seen_by self.now user) segment at count ≡ Some fault) }
     {
@@ -216,7 +222,7 @@ impl Loader {
     }
 
     // The place of an address among the users' active segments.
-    fn located(&self, address: u32) -> Option<Entered>
+    pub(crate) fn located(&self, address: u32) -> Option<Entered>
         ensures { MatchOption result ((id number offset : ℕ) → ¬ LiesIn self.now address id number offset)
             (λ entered. LiesIn self.now address entered.user entered.segment entered.offset × (entered.address ≡ address)) }
     {

@@ -97,7 +97,7 @@ pub fn set_places(banks: &Banks, segments: &Vec<Segment>, places: &mut Places)
 }
 
 /// Where a segment lies, 0 where it isn't there.
-fn place_of(banks: &Banks, handle: Option<Handle>) -> u32
+pub fn place_of(banks: &Banks, handle: Option<Handle>) -> u32
     ensures { result ≡ unwrap_or (presences.there_at (presences.presence banks.now.slots handle)) 0 }
 {
     match address_of(banks, handle) {

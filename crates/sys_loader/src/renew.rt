@@ -19,11 +19,12 @@ use loader_machine::Presence;
 use omf_base::number_at;
 
 /// The number of so many bytes, 1 to 4, at a displacement.
-fn number(bytes: &[u8], at: usize, width: usize) -> u32
+pub fn number(bytes: &[u8], at: usize, width: usize) -> u32
     requires some { 1 ≤ width }
     requires few { width ≤ 4 }
     requires inside { at + width ≤ length bytes.now }
-    ensures { result ≡ numbers.number_at width at bytes.now }
+    ensures is { result ≡ numbers.number_at width at bytes.now }
+    ensures fits { result < 256 ^ width }
 {
     match number_at(bytes, at, width) {
         Some(number) => number,
@@ -32,7 +33,7 @@ fn number(bytes: &[u8], at: usize, width: usize) -> u32
 }
 
 /// How many entries a table of so many bytes has.
-fn entry_count(size: u32) -> usize
+pub fn entry_count(size: u32) -> usize
     ensures is { result ≡ tables.entry_count size }
 {
     (size.saturating_sub(12) / 14) as usize
@@ -49,7 +50,7 @@ fn chosen(only: Option<u16>, segment: u32) -> bool
 }
 
 /// An address of 24 bits.
-fn address_in(place: u32, offset: u32) -> u32
+pub fn address_in(place: u32, offset: u32) -> u32
     ensures { result ≡ (place + offset) % 2 ^ 24 }
 {
     ((u64::from(place) + u64::from(offset)) % 0x100_0000) as u32

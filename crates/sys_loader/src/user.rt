@@ -1,11 +1,12 @@
 //! Users: programs that were loaded.
 
-ghost use Rattle.std.specs.Prelude.{◌≡◌, map, option_map, Some, IfOk, IfErr};
+ghost use Rattle.std.specs.Prelude.{◌≡◌, ◌≤◌, length, map, option_map, Some, IfOk, IfErr};
 ghost use Rattle.loader_machine.specs.Heads.{at_number};
 ghost use Rattle.loader_machine.specs.Presences.{handle_at};
 ghost use Rattle.loader_agrees.specs.Agrees.{seen_in};
 ghost use Rattle.loader_agrees.specs.Checks.{PassesSegment, StopsSegment};
 ghost use Rattle.sys_loader.specs.View.{kept};
+ghost use Rattle.sys_loader.specs.Activating.{with_handle};
 
 use crate::head::is_skipped;
 use iigs_meaning::Handle;
@@ -52,5 +53,19 @@ impl User {
             return Err(LoaderFault::NoSegment);
         }
         Ok(*segment)
+    }
+
+    /// Gives the segment with a number, from 1, a handle.
+    pub fn set_handle(&mut self, number: u16, h: Handle)
+        requires some { 1 ≤ number }
+        requires inside { number ≤ length self.old.segments.items }
+        ensures { kept self.new ≡ with_handle (kept self.old) number h }
+    {
+        let place = usize::from(number) - 1;
+        let head = self.segments[place].head;
+        self.segments[place] = Segment {
+            handle: Some(h),
+            head,
+        };
     }
 }

@@ -1,0 +1,540 @@
+-- A loader after a dynamic segment was read into a new block.
+use Rattle.std.proofs.Common.{◌≡◌, ◌≢◌, ◌⊎◌, inl, inr, ℕ, zero, suc, Bool, true, false, ◌==◌, ◌+◌, ◌-◌, ◌^◌, ◌<◌, ◌≤◌, List, [], length, map, Option, Some, None, IsSome, refl, sym, ap, subst, ◌∙◌, arith}
+use Rattle.std.specs.Prelude.{slice_get, slice_set, option_map, unwrap_or, not, ◌&&◌}
+use Rattle.std.specs.Option.{option_map_or, option_and_then}
+use Rattle.std.proofs.lemmas.Option.{same_Some, slice_get_within}
+use Rattle.std.proofs.lemmas.Bool.{cases_eq, cases_lt}
+use Rattle.std.proofs.lemmas.List.{get_or-set_same, get_or-set_other, length-map}
+use Rattle.std.proofs.Math.ListN.{get_or-eq_default}
+use Rattle.omf_format.specs.Header.{is_dynamic, is_skipped}
+use Rattle.omf_format.specs.File.{Segment, segment_at}
+use Rattle.omf_io.specs.Counts.{IsFront}
+use Rattle.omf_io.specs.Files.{FileMap}
+use Rattle.load_meaning.specs.CellLaws.{loadable_has}
+use Rattle.load_meaning.specs.LoadTable as load
+use Rattle.iigs_meaning.specs.declared.handles.Handle.{Handle}
+use Rattle.iigs_meaning.specs.declared.wants.Block.{Block}
+use Rattle.iigs_meaning.specs.Slots.{slot_at, get}
+use Rattle.iigs_meaning.specs.Fits.{Slots, block_in}
+use Rattle.iigs_meaning.specs.Memory.{Memory, bytes_at}
+use Rattle.loader_machine.specs.declared.seen.Head.{Head}
+use Rattle.loader_machine.specs.declared.seen.Life.TheVariants.{Running, Dormant}
+use Rattle.loader_machine.specs.Heads.{head_of, at_number, is_static, is_table, want_of}
+use Rattle.loader_machine.specs.State.{Pokes, Held, User, Machine, absent, fresh, no_pokes, first_id, user_of, with_user, held_at}
+use Rattle.loader_machine.specs.Presences.{handle_at, presence, presence_at, there_at, active_at, is_active, lies_in, lies_at}
+use Rattle.loader_machine.specs.Stands.{setting, stands}
+use Rattle.loader_machine.specs.Steps.{with_both, with_segment}
+use Rattle.loader_agrees.specs.Agrees.{Kept, Loaded, Outline, outline, outline_of, UserAgrees, Agrees, IsOf, Has, IsSound}
+use Rattle.loader_agrees.specs.Begun.{decide}
+use Rattle.loader_agrees.specs.BegunSound.{want_size}
+use Rattle.loader_agrees.specs.Frame.{Keeps, Same, Gone, unlocked, agrees_still}
+use Rattle.loader_agrees.specs.Keeping.{of_kept}
+use Rattle.loader_agrees.specs.Lists.{set_map, set_at, set_apart, length_set}
+use Rattle.loader_agrees.specs.Reads.{head_at}
+use Rattle.loader_agrees.specs.Seeing.{made_at, IsKept, kept_is, has_any}
+use Rattle.sys_loader.specs.Renewing.{is_chosen, AreRenewed}
+use Rattle.sys_loader.specs.Lives.{with_bytes}
+use Rattle.sys_loader.specs.Activating.{with_handle}
+use Rattle.sys_loader.proofs.Beginning.{want_some}
+use Rattle.sys_loader.proofs.Bringing.{Brings}
+use Rattle.sys_loader.proofs.Turned.{Becomes, Stays, Turns, Anew, Turned, turned_agrees}
+
+-- ---- a handle that is kept
+
+module _ (old new : Memory) (k : Handle) (keeps : Keeps old new k) where
+  pub keeps_there : IsSome (there_at (presence new.slots (Some k))) → presence new.slots (Some k) ≡ presence old.slots (Some k)
+  keeps_there there = elim keeps [
+    | Same slot bytes ↦ ap (lies_in k) slot
+    | Gone block was can gone ↦ (let no : IsSome {T = ℕ} None = rw gone at there in absurd cc)
+  ]
+
+  pub keeps_active : is_active (presence old.slots (Some k)) ≡ true → presence new.slots (Some k) ≡ presence old.slots (Some k)
+  keeps_active active = elim keeps [
+    | Same slot bytes ↦ ap (lies_in k) slot
+    | Gone block was can gone ↦ absurd (not_locked block.at block.locked (unlocked block can) (subst (λ (o : Option Block). is_active (lies_in k o) ≡ true) was active))
+  ]
+    where
+      not_locked : (at : Option ℕ) (locked : Bool) → locked ≡ false → is_active (lies_at k at locked) ≡ true → ⊥
+      not_locked None locked e act = cc
+      not_locked (Some a) true e act = cc
+      not_locked (Some a) false e act = cc
+
+  pub keeps_rest : is_active (presence old.slots (Some k)) ≡ false → is_active (presence new.slots (Some k)) ≡ false
+  keeps_rest rests = elim keeps [
+    | Same slot bytes ↦ ap (λ (b : Option Block). is_active (lies_in k b)) slot ∙ rests
+    | Gone block was can gone ↦ ap (λ (b : Option Block). is_active (lies_in k b)) gone
+  ]
+
+  pub keeps_target : active_at (presence new.slots (Some k)) ≡ active_at (presence old.slots (Some k))
+  keeps_target = elim keeps [
+    | Same slot bytes ↦ ap (λ (b : Option Block). active_at (lies_in k b)) slot
+    | Gone block was can gone ↦
+        ap (λ (b : Option Block). active_at (lies_in k b)) gone ∙ sym (not_active block.at block.locked (unlocked block can)) ∙ ap (λ (b : Option Block). active_at (lies_in k b)) (sym was)
+  ]
+    where
+      not_active : (at : Option ℕ) (locked : Bool) → locked ≡ false → active_at (lies_at k at locked) ≡ None
+      not_active None locked e = refl
+      not_active (Some a) true e = absurd cc
+      not_active (Some a) false e = refl
+
+  pub keeps_bytes : IsSome (there_at (presence new.slots (Some k))) → bytes_at new k.slot ≡ bytes_at old k.slot
+  keeps_bytes there = elim keeps [
+    | Same slot bytes ↦ bytes there
+    | Gone block was can gone ↦ (let no : IsSome {T = ℕ} None = rw gone at there in absurd cc)
+  ]
+
+-- ---- the handles of a user with one more
+
+module _ (kept : Kept) (number : ℕ) (h : Handle) (inside : number - 1 < length kept.handles) (some : 1 ≤ number) where
+  abbrev kept' : Kept
+  kept' = with_handle kept number h
+
+  pub handle_here : handle_at kept'.handles number ≡ Some h
+  handle_here = go number some inside
+    where
+      go : (n : ℕ) → 1 ≤ n → n - 1 < length kept.handles → handle_at (slice_set kept.handles (n - 1) (Some h)) n ≡ Some h
+      go zero le lt = absurd (omega (arith, le))
+      go (suc k) le lt =
+          let back : suc k - 1 ≡ k = omega arith in
+          ap (λ (m : ℕ). option_and_then (λ (x : Option Handle). x) (slice_get (slice_set kept.handles m (Some h)) k)) back
+          ∙ ap (option_and_then (λ (x : Option Handle). x)) (set_at kept.handles k (Some h) (omega (arith, lt, back)))
+
+  pub handle_apart : (n : ℕ) → n ≢ number → handle_at kept'.handles n ≡ handle_at kept.handles n
+  handle_apart zero ne = refl
+  handle_apart (suc k) ne =
+      let apart : k ≢ number - 1 = λ e. ne (omega (arith, e, some)) in
+      ap (option_and_then (λ (x : Option Handle). x)) (set_apart kept.handles (number - 1) k (Some h) apart)
+
+-- ---- the loader
+
+module _ (old new : Loaded) (id number : ℕ) (kept : Kept) (head : Head) (handle : Option Handle) (h : Handle) (address : ℕ) (placed : Memory) (content : List ℕ)
+    (sound : IsSound old.memory old.users) (made : user_of old.users id ≡ Some kept) (head' : at_number kept.heads number ≡ Some head) (handle' : handle_at kept.handles number ≡ handle)
+    (dynamic : is_dynamic head.kind ≡ true) (gone : there_at (presence old.memory.slots handle) ≡ None)
+    (brings : Brings old id head h address placed)
+    (apart : (p n : ℕ) (g : Head) (k : Handle) → Has old.users p n g k → ((first_id + p ≡ id) → (n ≡ number) → ⊥) → k.slot ≢ h.slot)
+    (own_handle : (k : Handle) → handle ≡ Some k → k ≡ h)
+    (same : length content ≡ length (bytes_at placed h.slot))
+    (renewed : AreRenewed kept.heads kept.handles (Some number) (Some address) (with_bytes placed h.slot content) new.memory (length kept.heads))
+    (users : new.users ≡ with_user old.users id (Some (with_handle kept number h))) where
+  abbrev place : ℕ
+  place = id - first_id
+
+  its_users : (slice_get old.users place ≡ Some (Some kept)) × (first_id + place ≡ id)
+  its_users = made_at old.users id kept made
+
+  number_in : (1 ≤ number) × (number - 1 < length kept.heads)
+  number_in = go number head'
+    where
+      go : (n : ℕ) → at_number kept.heads n ≡ Some head → (1 ≤ n) × (n - 1 < length kept.heads)
+      go zero is = absurd cc
+      go (suc k) is = let within = slice_get_within kept.heads k head is in (omega arith, omega (arith, within))
+
+  inside : number - 1 < length kept.handles
+  inside = omega (arith, number_in.1, sound.lengths place kept its_users.0)
+
+  abbrev come : Kept
+  come = with_handle kept number h
+
+  slots_are : new.memory.slots ≡ placed.slots
+  slots_are = renewed.slots
+
+  -- ---- bytes
+
+  slot_inside : h.slot < length placed.bytes
+  slot_inside = elim (cases_lt h.slot (length placed.bytes)) [
+    | inl lt ↦ lt
+    | inr le ↦ (let none : bytes_at placed h.slot ≡ [] = get_or-eq_default placed.bytes [] le in absurd (omega (arith, brings.size, ap length none, want_some head)))
+  ]
+
+  filled_here : bytes_at (with_bytes placed h.slot content) h.slot ≡ content
+  filled_here = get_or-set_same placed.bytes h.slot content [] slot_inside
+
+  filled_apart : (slot : ℕ) → slot ≢ h.slot → bytes_at (with_bytes placed h.slot content) slot ≡ bytes_at placed slot
+  filled_apart slot ne = get_or-set_other placed.bytes h.slot slot content [] ne
+
+  sizes_apart : (k : Handle) → k.slot ≢ h.slot → length (bytes_at new.memory k.slot) ≡ length (bytes_at placed k.slot)
+  sizes_apart k ne = renewed.sizes k.slot ∙ ap length (filled_apart k.slot ne)
+
+  size_here : length (bytes_at new.memory h.slot) ≡ (want_of head).size
+  size_here = renewed.sizes h.slot ∙ ap length filled_here ∙ same ∙ brings.size
+
+  -- ---- handles before and after
+
+  kept_one : (p : ℕ) (k : Kept) → slice_get old.users p ≡ Some (Some k) → p ≡ place → k ≡ kept
+  kept_one p k found eq = go k kept (sym found ∙ ap (slice_get old.users) eq ∙ its_users.0)
+    where
+      go : (a b : Kept) → Some (Some a) ≡ Some (Some b) → a ≡ b
+      go a b e = cc
+
+  id_of : (p : ℕ) → first_id + p ≡ id → p ≡ place
+  id_of p e = omega (arith, e, its_users.1)
+
+  -- a user is as before, or it is the one with the handle more
+  users_now : (p : ℕ) (k : Kept) → slice_get new.users p ≡ Some (Some k) → ((p ≡ place) × (k ≡ come)) ⊎ ((p ≢ place) × (slice_get old.users p ≡ Some (Some k)))
+  users_now p k found = elim (cases_eq p place) [
+    | inl eq ↦
+        let within = slice_get_within old.users place (Some kept) its_users.0 in
+        let now : slice_get new.users p ≡ Some (Some come) = ap (λ (us : List (Option Kept)). slice_get us p) users ∙ ap (slice_get (slice_set old.users place (Some come))) eq ∙ set_at old.users place (Some come) within in
+        inl (eq, one k come (sym found ∙ now))
+    | inr ne ↦ inr (ne, sym (set_apart old.users place p (Some come) ne) ∙ ap (λ (us : List (Option Kept)). slice_get us p) (sym users) ∙ found)
+  ]
+    where
+      one : (a b : Kept) → Some (Some a) ≡ Some (Some b) → a ≡ b
+      one a b e = cc
+
+  -- a handle is the new block's, or was there before and is apart from it
+  has_before : (p n : ℕ) (g : Head) (k : Handle) → Has new.users p n g k
+      → ((p ≡ place) × (n ≡ number) × (g ≡ head) × (k ≡ h)) ⊎ (Has old.users p n g k × (k.slot ≢ h.slot))
+  has_before p n g k has = elim (users_now p has.kept has.made) [
+    | inl it ↦ elim (cases_eq n number) [
+      | inl eq ↦
+          let heads : Some g ≡ Some head = sym has.head' ∙ ap (λ (x : Kept). at_number x.heads n) it.1 ∙ ap (at_number kept.heads) eq ∙ head' in
+          let handles : Some k ≡ Some h = sym has.handle ∙ ap (λ (x : Kept). handle_at x.handles n) it.1 ∙ ap (handle_at come.handles) eq ∙ handle_here kept number h inside number_in.0 in
+          inl (it.0, eq, same_Some g head heads, same_Some k h handles)
+      | inr ne ↦
+          let was : Has old.users p n g k = record {
+            kept = kept;
+            made = ap (slice_get old.users) it.0 ∙ its_users.0;
+            head' = ap (λ (x : Kept). at_number x.heads n) (sym it.1) ∙ has.head';
+            handle = sym (handle_apart kept number h inside number_in.0 n ne) ∙ ap (λ (x : Kept). handle_at x.handles n) (sym it.1) ∙ has.handle;
+          } in
+          inr (was, apart p n g k was (λ e e'. ne e'))
+    ]
+    | inr other ↦
+        let was : Has old.users p n g k = record { kept = has.kept; made = other.1; head' = has.head'; handle = has.handle } in
+        inr (was, apart p n g k was (λ e e'. other.0 (id_of p e)))
+  ]
+
+  -- ---- what is true of every loader
+
+  of_slots : (p : ℕ) (g : Head) (k : Handle) → k.slot ≢ h.slot → IsOf placed (first_id + p) g k → IsOf new.memory (first_id + p) g k
+  of_slots p g k ne is = record {
+    block = is.block;
+    live = ap (λ (t : Slots). get t k) slots_are ∙ is.live;
+    user = is.user;
+    form = is.form;
+    want = is.want;
+    room = λ there. omega (arith, is.room there, sizes_apart k ne);
+  }
+
+  of_it : IsOf new.memory (first_id + place) head h
+  of_it = record {
+    block = brings.block;
+    live = ap (λ (t : Slots). get t h) slots_are ∙ brings.live;
+    user = brings.user ∙ sym its_users.1;
+    form = inl (brings.locked, brings.level);
+    want = omega (arith, want_size head, ap (λ w. w.size) brings.want);
+    room = λ there. omega (arith, want_size head, size_here);
+  }
+
+  each_now : (p n : ℕ) (g : Head) (k : Handle) → Has new.users p n g k → IsOf new.memory (first_id + p) g k
+  each_now p n g k has = elim (has_before p n g k has) [
+    | inl it ↦
+        subst (λ (q : ℕ). IsOf new.memory (first_id + q) g k) (sym it.0)
+        (subst (λ (x : Head). IsOf new.memory (first_id + place) x k) (sym it.2) (subst (IsOf new.memory (first_id + place) head) (sym it.3) of_it))
+    | inr was ↦ of_slots p g k was.1 (of_kept old.memory placed (first_id + p) g k (sound.each p n g k was.0) (brings.keeps p n g k was.0 was.1))
+  ]
+
+  static_apart : (n : ℕ) (g : Head) → at_number kept.heads n ≡ Some g → is_static g ≡ true → n ≢ number
+  static_apart n g found static eq =
+      let same' : g ≡ head = same_Some g head (sym found ∙ ap (at_number kept.heads) eq ∙ head') in
+      no (is_dynamic g.kind) (is_skipped g.kind) (ap (λ (x : Head). is_dynamic x.kind) same' ∙ dynamic) static
+    where
+      no : (d k : Bool) → d ≡ true → (not d && not k) ≡ true → ⊥
+      no true k e e' = cc
+      no false k e e' = cc
+
+  keeps_old : (p n : ℕ) (g : Head) (k : Handle) → Has old.users p n g k → ((first_id + p ≡ id) → (n ≡ number) → ⊥) → Keeps old.memory placed k
+  keeps_old p n g k has differ = brings.keeps p n g k has (apart p n g k has differ)
+
+  active_still : (p : ℕ) (k : Kept) (n : ℕ) (g : Head) → slice_get old.users p ≡ Some (Some k) → at_number k.heads n ≡ Some g → ((first_id + p ≡ id) → (n ≡ number) → ⊥) → is_active (presence_at old.memory.slots k.handles n) ≡ true
+      → presence new.memory.slots (handle_at k.handles n) ≡ presence old.memory.slots (handle_at k.handles n)
+  active_still p k n g found head'' differ active = go (handle_at k.handles n) refl active
+    where
+      go : (o : Option Handle) → handle_at k.handles n ≡ o → is_active (presence old.memory.slots o) ≡ true → presence new.memory.slots o ≡ presence old.memory.slots o
+      go None e act = refl
+      go (Some j) e act =
+          ap (λ (t : Slots). presence t (Some j)) slots_are
+          ∙ keeps_active old.memory placed j (keeps_old p n g j (record { kept = k; made = found; head' = head''; handle = e }) differ) act
+
+  statics_now : (p : ℕ) (k : Kept) (n : ℕ) (g : Head) → slice_get new.users p ≡ Some (Some k) → k.life ≡ Running → at_number k.heads n ≡ Some g → is_static g ≡ true
+      → is_active (presence_at new.memory.slots k.handles n) ≡ true
+  statics_now p k n g found runs head'' static = elim (users_now p k found) [
+    | inl it ↦
+        let own : at_number kept.heads n ≡ Some g = ap (λ (x : Kept). at_number x.heads n) (sym it.1) ∙ head'' in
+        let ne = static_apart n g own static in
+        let life : kept.life ≡ Running = ap (λ (x : Kept). x.life) (sym it.1) ∙ runs in
+        let before = sound.statics place kept n g its_users.0 life own static in
+        ap (λ (x : Kept). is_active (presence_at new.memory.slots x.handles n)) it.1
+        ∙ ap (λ (o : Option Handle). is_active (presence new.memory.slots o)) (handle_apart kept number h inside number_in.0 n ne)
+        ∙ ap is_active (active_still place kept n g its_users.0 own (λ e e'. ne e') before) ∙ before
+    | inr other ↦
+        let before = sound.statics p k n g other.1 runs head'' static in
+        ap is_active (active_still p k n g other.1 head'' (λ e e'. other.0 (id_of p e)) before) ∙ before
+  ]
+
+  rests_now : kept.life ≡ Running → (p : ℕ) (k : Kept) (n : ℕ) → slice_get new.users p ≡ Some (Some k) → k.life ≡ Dormant → is_active (presence_at new.memory.slots k.handles n) ≡ false
+  rests_now runs p k n found life = elim (users_now p k found) [
+    | inl it ↦ (let clash : Running ≡ Dormant = sym runs ∙ ap (λ (x : Kept). x.life) (sym it.1) ∙ life in absurd cc)
+    | inr other ↦ go (handle_at k.handles n) refl other.0 other.1 (sound.rests p k n other.1 life)
+  ]
+    where
+      go : (o : Option Handle) → handle_at k.handles n ≡ o → p ≢ place → slice_get old.users p ≡ Some (Some k) → is_active (presence old.memory.slots o) ≡ false → is_active (presence_at new.memory.slots k.handles n) ≡ false
+      go None e ne made' rests = ap (λ (o : Option Handle). is_active (presence new.memory.slots o)) e
+      go (Some j) e ne made' rests =
+          let one = has_any old sound p k made' n j e in
+          ap (λ (o : Option Handle). is_active (presence new.memory.slots o)) e ∙ ap (λ (t : Slots). is_active (presence t (Some j))) slots_are
+          ∙ keeps_rest old.memory placed j (keeps_old p n one.0 j one.1 (λ e' e''. ne (id_of p e'))) rests
+
+  has_now : (p n : ℕ) (g : Head) (k : Handle) → Has old.users p n g k → ((first_id + p ≡ id) → (n ≡ number) → ⊥) → Has new.users p n g k
+  has_now p n g k has differ = elim (cases_eq p place) [
+    | inl eq ↦
+        let same' = kept_one p has.kept has.made eq in
+        let within = slice_get_within old.users place (Some kept) its_users.0 in
+        let ne : n ≢ number = λ e. differ (omega (arith, its_users.1, eq)) e in
+        record {
+          kept = come;
+          made = ap (λ (us : List (Option Kept)). slice_get us p) users ∙ ap (slice_get (slice_set old.users place (Some come))) eq ∙ set_at old.users place (Some come) within;
+          head' = ap (λ (x : Kept). at_number x.heads n) (sym same') ∙ has.head';
+          handle = handle_apart kept number h inside number_in.0 n ne ∙ ap (λ (x : Kept). handle_at x.handles n) (sym same') ∙ has.handle;
+        }
+    | inr ne ↦ record {
+      kept = has.kept;
+      made = ap (λ (us : List (Option Kept)). slice_get us p) users ∙ set_apart old.users place p (Some come) ne ∙ has.made;
+      head' = has.head';
+      handle = has.handle;
+    }
+  ]
+
+  it_made : slice_get new.users place ≡ Some (Some come)
+  it_made = ap (λ (us : List (Option Kept)). slice_get us place) users ∙ set_at old.users place (Some come) (slice_get_within old.users place (Some kept) its_users.0)
+
+  has_it : Has new.users place number head h
+  has_it = record { kept = come; made = it_made; head' = head'; handle = handle_here kept number h inside number_in.0 }
+
+  differs : (p n : ℕ) (g : Head) (k : Handle) → Has old.users p n g k → k.slot ≢ h.slot → (first_id + p ≡ id) → (n ≡ number) → ⊥
+  differs p n g k has ne e e' =
+      let same' = kept_one p has.kept has.made (id_of p e) in
+      let found : handle ≡ Some k = sym handle' ∙ ap (handle_at kept.handles) (sym e') ∙ ap (λ (x : Kept). handle_at x.handles n) (sym same') ∙ has.handle in
+      ne (ap (λ (x : Handle). x.slot) (own_handle k found))
+
+  only_now : (slot : ℕ) (b : Block) → block_in (slot_at new.memory.slots slot) ≡ Some b → b.user ≢ 0
+      → (p : ℕ) × (n : ℕ) × (g : Head) × (k : Handle) × Has new.users p n g k × (k.slot ≡ slot)
+  only_now slot b found user = elim (cases_eq slot h.slot) [
+    | inl eq ↦ (place, number, head, h, has_it, sym eq)
+    | inr ne ↦ elim (brings.only slot b (sym (ap (λ (t : Slots). block_in (slot_at t slot)) slots_are) ∙ found)) [
+      | inl here ↦ absurd (ne here.0)
+      | inr was ↦
+          let it = sound.only slot was.0 was.1 (λ e. user (sym was.2 ∙ e)) in
+          let other : it.3.slot ≢ h.slot = λ e. ne (sym it.5 ∙ e) in
+          (it.0, it.1, it.2, it.3, has_now it.0 it.1 it.2 it.3 it.4 (differs it.0 it.1 it.2 it.3 it.4 other), it.5)
+    ]
+  ]
+
+  once_now : (p q n m : ℕ) (g f : Head) (j k : Handle) → Has new.users p n g j → Has new.users q m f k → j.slot ≡ k.slot → (p ≡ q) × (n ≡ m)
+  once_now p q n m g f j k one two same' = elim (has_before p n g j one) [
+    | inl it ↦ elim (has_before q m f k two) [
+      | inl it' ↦ (it.0 ∙ sym it'.0, it.1 ∙ sym it'.1)
+      | inr was' ↦ absurd (was'.1 (sym same' ∙ ap (λ (x : Handle). x.slot) it.3))
+    ]
+    | inr was ↦ elim (has_before q m f k two) [
+      | inl it' ↦ absurd (was.1 (same' ∙ ap (λ (x : Handle). x.slot) it'.3))
+      | inr was' ↦ sound.once p q n m g f j k was.0 was'.0 same'
+    ]
+  ]
+
+  lengths_now : (p : ℕ) (k : Kept) → slice_get new.users p ≡ Some (Some k) → (length k.handles ≡ length k.heads) × (length k.heads < 2 ^ 16)
+  lengths_now p k found = elim (users_now p k found) [
+    | inl it ↦ subst (λ (x : Kept). (length x.handles ≡ length x.heads) × (length x.heads < 2 ^ 16)) (sym it.1)
+        (length_set kept.handles (number - 1) (Some h) ∙ sound.lengths place kept its_users.0, sound.short place kept its_users.0)
+    | inr other ↦ (sound.lengths p k other.1, sound.short p k other.1)
+  ]
+
+  pub come_sound : kept.life ≡ Running → IsSound new.memory new.users
+  come_sound runs = record {
+    few = omega (arith, sound.few, ap (λ (us : List (Option Kept)). length us) users, length_set old.users place (Some come));
+    lengths = λ p k found. (lengths_now p k found).0;
+    short = λ p k found. (lengths_now p k found).1;
+    statics = statics_now;
+    rests = rests_now runs;
+    each = each_now;
+    once = once_now;
+    only = only_now;
+  }
+
+  -- ---- agreement
+
+  -- no table's block is written but the user's own
+  plain_bytes : (p n : ℕ) (g : Head) (k : Handle) → Has old.users p n g k → k.slot ≢ h.slot → ((p ≡ place) → is_table g ≡ false) → bytes_at new.memory k.slot ≡ bytes_at placed k.slot
+  plain_bytes p n g k has ne plain = renewed.stay k.slot (λ m f j le fhead fhandle table same'.
+      let other : Has old.users place m f j = record { kept = kept; made = its_users.0; head' = fhead; handle = fhandle } in
+      let both = sound.once place p m n f g j k other has same' in
+      let kept_same = kept_one p has.kept has.made (sym both.0) in
+      let heads : Some g ≡ Some f = sym has.head' ∙ ap (λ (x : Kept). at_number x.heads n) kept_same ∙ ap (at_number kept.heads) (sym both.1) ∙ fhead in
+      let clash : true ≡ false = sym table ∙ ap is_table (sym (same_Some g f heads)) ∙ plain (sym both.0) in absurd cc) ∙ filled_apart k.slot ne
+
+  module _ (held : FileMap) (state : Machine) (agrees : Agrees held old state) (fits : head.length < 2 ^ 32)
+      (begins : (s : Segment) → segment_at (kept_is held old state agrees id kept made).does_agree.segments number ≡ Some s → IsFront (stands (setting id placed.slots come.handles) no_pokes s) content) where
+    abbrev is : IsKept held old state agrees id kept
+    is = kept_is held old state agrees id kept made
+
+    abbrev user' : User
+    user' = with_segment is.user number (fresh (Some h))
+
+    heads_at : (n : ℕ) (s : Segment) → segment_at is.does_agree.segments n ≡ Some s → at_number kept.heads n ≡ Some (head_of s)
+    heads_at n s found = ap (λ (hs : List Head). at_number hs n) is.does_agree.heads ∙ head_at is.does_agree.segments n s found
+
+    sound_one : (n : ℕ) (s : Segment) → segment_at is.does_agree.segments n ≡ Some s → load.is_table s ≡ true → is_static (head_of s) ≡ true
+    sound_one n s found table =
+        let t = (loadable_has is.does_agree.holds.file is.does_agree.segments is.does_agree.holds.loadable n s found).table table in
+        rw (t.static, t.kept) refl
+
+    segments_in : number - 1 < length is.user.segments
+    segments_in = omega (arith, number_in.1, ap (λ (hs : List Head). length hs) is.does_agree.heads, length-map is.does_agree.segments head_of, is.does_agree.count)
+
+    held_here : held_at user' number ≡ fresh (Some h)
+    held_here = go number number_in.0 segments_in
+      where
+        go : (n : ℕ) → 1 ≤ n → n - 1 < length is.user.segments → held_at (with_segment is.user n (fresh (Some h))) n ≡ fresh (Some h)
+        go zero le lt = absurd (omega (arith, le))
+        go (suc k) le lt =
+            let back : suc k - 1 ≡ k = omega arith in
+            ap (λ (m : ℕ). option_map_or (λ x. x) (slice_get (slice_set is.user.segments m (fresh (Some h))) k) absent) back
+            ∙ ap (λ (o : Option Held). option_map_or (λ x. x) o absent) (set_at is.user.segments k (fresh (Some h)) (omega (arith, lt, back)))
+
+    held_apart : (n : ℕ) → n ≢ number → held_at user' n ≡ held_at is.user n
+    held_apart zero ne = refl
+    held_apart (suc k) ne =
+        let other : k ≢ number - 1 = λ e. ne (omega (arith, e, number_in.0)) in
+        ap (λ (o : Option Held). option_map_or (λ x. x) o absent) (set_apart is.user.segments (number - 1) k (fresh (Some h)) other)
+
+    outlines : outline come ≡ outline_of user'
+    outlines =
+        let one : Outline → Outline = λ o. record o { handles = slice_set o.handles (number - 1) (Some h) } in
+        ap one is.does_agree.same ∙ ap (λ (hs : List (Option Handle)). let o : Outline = record (outline_of is.user) { handles = hs } in o) (sym (set_map (λ (x : Held). x.handle) is.user.segments (number - 1) (fresh (Some h))))
+
+    -- ---- where the segments are
+
+    has_own : (n : ℕ) (k : Handle) → handle_at kept.handles n ≡ Some k → (g : Head) × Has old.users place n g k
+    has_own n k found = has_any old sound place kept its_users.0 n k found
+
+    there_same : (n : ℕ) → n ≢ number → IsSome (there_at (presence_at new.memory.slots come.handles n)) → presence_at new.memory.slots come.handles n ≡ presence_at old.memory.slots kept.handles n
+    there_same n ne there = ap (presence new.memory.slots) (handle_apart kept number h inside number_in.0 n ne) ∙ go (handle_at kept.handles n) refl (subst (λ (o : Option Handle). IsSome (there_at (presence new.memory.slots o))) (handle_apart kept number h inside number_in.0 n ne) there)
+      where
+        go : (o : Option Handle) → handle_at kept.handles n ≡ o → IsSome (there_at (presence new.memory.slots o)) → presence new.memory.slots o ≡ presence old.memory.slots o
+        go None e some = refl
+        go (Some k) e some =
+            ap (λ (t : Slots). presence t (Some k)) slots_are
+            ∙ keeps_there old.memory placed k (keeps_old place n (has_own n k e).0 k (has_own n k e).1 (λ a b. ne b)) (subst (λ (t : Slots). IsSome (there_at (presence t (Some k)))) slots_are some)
+
+    target_same : (n : ℕ) → n ≢ number → active_at (presence_at new.memory.slots come.handles n) ≡ active_at (presence_at old.memory.slots kept.handles n)
+    target_same n ne = ap (λ (o : Option Handle). active_at (presence new.memory.slots o)) (handle_apart kept number h inside number_in.0 n ne) ∙ go (handle_at kept.handles n) refl
+      where
+        go : (o : Option Handle) → handle_at kept.handles n ≡ o → active_at (presence new.memory.slots o) ≡ active_at (presence old.memory.slots o)
+        go None e = refl
+        go (Some k) e =
+            ap (λ (t : Slots). active_at (presence t (Some k))) slots_are
+            ∙ keeps_target old.memory placed k (keeps_old place n (has_own n k e).0 k (has_own n k e).1 (λ a b. ne b))
+
+    now_active : presence new.memory.slots (Some h) ≡ Rattle.loader_machine.specs.declared.seen.Presence.TheVariants.Active h address
+    now_active = ap (lies_in h) (ap (λ (t : Slots). get t h) slots_are ∙ brings.live) ∙ ap (λ (o : Option ℕ). lies_at h o brings.block.locked) brings.at ∙ ap (λ (l : Bool). lies_at h (Some address) l) brings.locked
+
+    static_ne : (n : ℕ) (s : Segment) → segment_at is.does_agree.segments n ≡ Some s → is_static (head_of s) ≡ true → n ≢ number
+    static_ne n s found static = static_apart n (head_of s) (heads_at n s found) static
+
+    bytes_here : (s : Segment) → segment_at is.does_agree.segments number ≡ Some s → bytes_at new.memory h.slot ≡ content
+    bytes_here s found = renewed.stay h.slot (λ m g j le ghead ghandle table same'.
+        let has : Has old.users place m g j = record { kept = kept; made = its_users.0; head' = ghead; handle = ghandle } in
+        elim (cases_eq m number) [
+          | inl eq ↦
+              let heads : Some g ≡ Some (head_of s) = sym ghead ∙ ap (at_number kept.heads) eq ∙ heads_at number s found in
+              let table' : load.is_table s ≡ true = ap is_table (sym (same_Some g (head_of s) heads)) ∙ table in
+              static_ne number s found (sound_one number s found table') refl
+          | inr ne ↦ apart place m g j has (λ a b. ne b) same'
+        ]) ∙ filled_here
+
+    at_most : (heads : List Head) (n : ℕ) (g : Head) → at_number heads n ≡ Some g → n ≤ length heads
+    at_most heads zero g e = omega arith
+    at_most heads (suc m) g e = let within = slice_get_within heads m g e in omega (arith, within)
+
+    becomes_other : (n : ℕ) (s : Segment) (k : Handle) → n ≢ number → segment_at is.does_agree.segments n ≡ Some s → handle_at come.handles n ≡ Some k → IsSome (there_at (presence_at new.memory.slots come.handles n))
+        → Becomes (setting id old.memory.slots kept.handles) (setting id new.memory.slots come.handles) (Some number) (Some address) old.memory new.memory kept is.user user' n s k
+    becomes_other n s k ne found has there =
+        let was : handle_at kept.handles n ≡ Some k = sym (handle_apart kept number h inside number_in.0 n ne) ∙ has in
+        let one : Has old.users place n (head_of s) k = record { kept = kept; made = its_users.0; head' = heads_at n s found; handle = was } in
+        let presence_same = there_same n ne there in
+        let before : IsSome (there_at (presence_at old.memory.slots kept.handles n)) = rw (← presence_same) there in
+        let here : IsSome (there_at (presence placed.slots (Some k))) = subst (λ (t : Slots). IsSome (there_at (presence t (Some k)))) slots_are (subst (λ (o : Option Handle). IsSome (there_at (presence new.memory.slots o))) has there) in
+        let other = apart place n (head_of s) k one (λ a b. ne b) in
+        let kept_bytes = keeps_bytes old.memory placed k (keeps_old place n (head_of s) k one (λ a b. ne b)) here in
+        elim (decide (load.is_table s)) [
+          | inl table ↦ Turns table was before (
+              renewed.follow n (head_of s) k (at_most kept.heads n (head_of s) (heads_at n s found)) (heads_at n s found) was table here
+              ∙ ap (Rattle.sys_loader.specs.Renewing.renewed (Some number) (Some address) (load.entry_count s.fields.length)) (filled_apart k.slot other ∙ kept_bytes))
+          | inr plain ↦ Stays plain was before (ap (λ p. unwrap_or (there_at p) 0) presence_same) (ap (λ (x : Held). x.pokes) (held_apart n ne))
+              (plain_bytes place n (head_of s) k one other (λ e. plain) ∙ kept_bytes)
+        ]
+
+    turned : Turned old.memory new.memory id (Some number) (Some address) kept come is.user user' is.does_agree.segments
+    turned = record {
+      same = outlines;
+      path = refl;
+      heads = refl;
+      count = length_set is.user.segments (number - 1) (fresh (Some h));
+      unpoked = λ n s found table. ap (λ (x : Held). x.pokes) (held_apart n (static_ne n s found (sound_one n s found table))) ∙ is.does_agree.unpoked n s found table;
+      statics = λ runs n s found static. statics_now place come n (head_of s) it_made runs (heads_at n s found) static;
+      were = λ there n s found static. let now = there n s found static in subst (λ p. IsSome (there_at p)) (there_same n (static_ne n s found static) now) now;
+      places = λ there n s found static. ap (λ p. unwrap_or (there_at p) 0) (there_same n (static_ne n s found static) (there n s found static));
+      chosen = λ n s found dynamic' kept'' c.
+          let eq : n ≡ number = grind (arith, c) in
+          ap (λ (m : ℕ). active_at (presence_at new.memory.slots come.handles m)) eq ∙ ap (λ (o : Option Handle). active_at (presence new.memory.slots o)) (handle_here kept number h inside number_in.0) ∙ ap active_at now_active;
+      fits = λ n s found c some.
+          let eq : n ≡ number = grind (arith, c) in
+          let same' : head_of s ≡ head = same_Some (head_of s) head (sym (heads_at n s found) ∙ ap (at_number kept.heads) eq ∙ head') in
+          omega (arith, fits, ap (λ (x : Head). x.length) same');
+      others = λ n s found dynamic' kept'' c. target_same n (λ eq. let yes : (n == number) ≡ true = grind (arith, eq) in absurd cc);
+      each = λ there n s k found has present. elim (cases_eq n number) [
+        | inl eq ↦
+            let found' : segment_at is.does_agree.segments number ≡ Some s = subst (λ (m : ℕ). segment_at is.does_agree.segments m ≡ Some s) eq found in
+            let it : k ≡ h = same_Some k h (sym has ∙ ap (handle_at come.handles) eq ∙ handle_here kept number h inside number_in.0) in
+            let at : IsFront (stands (setting id new.memory.slots come.handles) no_pokes s) content = subst (λ (t : Slots). IsFront (stands (setting id t come.handles) no_pokes s) content) (sym slots_are) (begins s found') in
+            let held' : IsFront (stands (setting id new.memory.slots come.handles) (held_at user' n).pokes s) content =
+            subst (λ (p : Pokes). IsFront (stands (setting id new.memory.slots come.handles) p s) content) (sym (ap (λ (x : Held). x.pokes) (ap (held_at user') eq ∙ held_here))) at in
+            Anew (subst (λ (x : Handle). IsFront (stands (setting id new.memory.slots come.handles) (held_at user' n).pokes s) (bytes_at new.memory x.slot)) (sym it)
+            (subst (λ (bs : List ℕ). IsFront (stands (setting id new.memory.slots come.handles) (held_at user' n).pokes s) bs) (sym (bytes_here s found')) held'))
+        | inr ne ↦ becomes_other n s k ne found has present
+      ];
+    }
+
+    pub come_agrees_own : UserAgrees held new.memory id come user'
+    come_agrees_own = turned_agrees held old.memory new.memory id (Some number) (Some address) kept come is.user user' is.does_agree (sound.short place kept its_users.0) turned
+
+    others_agree : (p : ℕ) (k : Kept) (u : User) → slice_get old.users p ≡ Some (Some k) → p ≢ place → UserAgrees held old.memory (first_id + p) k u → UserAgrees held new.memory (first_id + p) k u
+    others_agree p k u found ne was = agrees_still held old.memory new.memory (first_id + p) k u was (λ n j has.
+        let one = has_any old sound p k found n j has in
+        let other = apart p n one.0 j one.1 (λ e e'. ne (id_of p e)) in
+        moved j (plain_bytes p n one.0 j one.1 other (λ e. absurd (ne e))) (brings.keeps p n one.0 j one.1 other))
+      where
+        moved : (j : Handle) → bytes_at new.memory j.slot ≡ bytes_at placed j.slot → Keeps old.memory placed j → Keeps old.memory new.memory j
+        moved j same' (Same slot bytes) = Same (ap (λ (t : Slots). get t j) slots_are ∙ slot) (λ there. same' ∙ bytes (subst (λ (t : Slots). IsSome (there_at (presence t (Some j)))) slots_are there))
+        moved j same' (Gone block was' can gone') = Gone block was' can (ap (λ (t : Slots). get t j) slots_are ∙ gone')
+
+    pub come_agrees : Agrees held new (with_both state id new.memory.slots (Some user'))
+    come_agrees = record {
+      banks = renewed.banks ∙ brings.banks ∙ agrees.banks;
+      slots = refl;
+      users = ap (map (option_map outline)) users ∙ set_map (option_map outline) old.users place (Some come) ∙ ap (λ us. slice_set us place (Some (outline come))) agrees.users
+          ∙ ap (λ (o : Outline). slice_set (map (option_map outline_of) state.users) place (Some o)) outlines ∙ sym (set_map (option_map outline_of) state.users place (Some user'));
+      each = λ p k u found found'. elim (users_now p k found) [
+        | inl it ↦
+            let within = slice_get_within state.users place (Some is.user) (made_at state.users id is.user is.made).0 in
+            let user_same : u ≡ user' = user_one u user' (sym found' ∙ ap (slice_get (slice_set state.users place (Some user'))) it.0 ∙ set_at state.users place (Some user') within) in
+            let id_is : id ≡ first_id + p = omega (arith, its_users.1, it.0) in
+            subst (λ (n : ℕ). UserAgrees held new.memory n k u) id_is
+            (subst (λ (x : User). UserAgrees held new.memory id k x) (sym user_same) (subst (λ (x : Kept). UserAgrees held new.memory id x user') (sym it.1) come_agrees_own))
+        | inr other ↦ others_agree p k u other.1 other.0 (agrees.each p k u other.1 (sym (set_apart state.users place p (Some user') other.0) ∙ found'))
+      ];
+    }
+      where
+        user_one : (a b : User) → Some (Some a) ≡ Some (Some b) → a ≡ b
+        user_one a b e = cc

@@ -1,0 +1,272 @@
+-- The files that a call reads are those that the machine's command needs.
+use Rattle.std.proofs.Common.{◌≡◌, ◌≢◌, ◌⊎◌, inl, inr, ℕ, Bool, true, false, cond, not, ◌||◌, ◌<◌, ◌≤◌, ◌^◌, List, [], ◌∷◌, length, map, take, drop, Option, Some, None, IsSome, nat_lt, refl, sym, ap, subst, ◌∙◌, arith}
+use Rattle.std.specs.Option.{option_map, option_map_or}
+use Rattle.std.proofs.lemmas.List.{length-map}
+use Rattle.omf_format.specs.File.{Segment}
+use Rattle.omf_io.specs.Counts.{one_more, risen}
+use Rattle.omf_io.specs.Files.{FileMap}
+use Rattle.load_meaning.specs.declared.table.Target.{Target}
+use Rattle.load_meaning.specs.LoadTable.{targets_of}
+use Rattle.iigs_meaning.specs.declared.handles.Handle.{Handle}
+use Rattle.iigs_meaning.specs.Slots.{slot_at}
+use Rattle.iigs_meaning.specs.Fits.{Slots, HoldsByte}
+use Rattle.iigs_meaning.specs.Puts.{Purges}
+use Rattle.iigs_meaning.specs.Blocks.{AreApart}
+use Rattle.loader_machine.specs.declared.faults.LoaderFault.{LoaderFault}
+use Rattle.loader_machine.specs.declared.faults.LoaderFault.TheVariants as fault
+use Rattle.loader_machine.specs.declared.seen.Head.{Head}
+use Rattle.loader_machine.specs.declared.seen.Presence.{Presence}
+use Rattle.loader_machine.specs.Heads.{head_of, is_table}
+use Rattle.loader_machine.specs.State.{User, Machine, Seen, max_users, user_of, handles_of}
+use Rattle.loader_machine.specs.Presences.{presence_at}
+use Rattle.loader_machine.specs.OnceLaws.{IsApartState, segment_same, seen_once, at_once, stands_once}
+use Rattle.loader_machine.specs.Commands.{Load, LoadSegment, Jsl, Restart}
+use Rattle.loader_machine.specs.Refusals.{Refuse, load_refusal, bytes_refusal, load_segment_refusal, restart_refusal}
+use Rattle.loader_machine.specs.Steps.{Sees, IsSeen, IsAt, seen_of, are_there, no_jsl, address_of, target_at_code}
+use Rattle.loader_machine.specs.Needs as needs
+use Rattle.loader_machine.specs.Needs.{Needs, NeedsOf, IsReadFor, Reaches, is_read, path_if, some_read_again}
+use Rattle.loader_agrees.specs.Agrees.{Kept, Loaded, Outline, outline, outline_of, seen_in, seen_by, Agrees, IsSound, ReadsNeeded}
+use Rattle.loader_agrees.specs.Acts.{HasLent, LiesIn}
+use Rattle.loader_agrees.specs.Apart.{is_apart}
+use Rattle.loader_agrees.specs.Reads.{lies_back}
+use Rattle.loader_agrees.specs.Seeing.{IsKept, is_seen}
+use Rattle.sys_loader.specs.declared.answers.Entered as answers
+use Rattle.sys_loader.specs.Activating.{segment_reads}
+use Rattle.sys_loader.specs.Following.{LeadsTo, IsJslRefusal, NoBytes, NoJsl, NoPlace, NoEntry, EntersPlace, CallsEntry, JslReads, JslReadsNone, IsRefused, IsPlace, IsStopped, IsThere, HasAsked}
+use Rattle.sys_loader.specs.Restarting.{restart_reads}
+use Rattle.sys_loader.proofs.Followed as followed
+
+-- ---- one path, or none
+
+-- so many paths, by whether the call is refused, and whether it reads
+counted : (r : Refuse) (b : Bool) (path : List ℕ) (before now : ℕ) → (r ≡ None → b ≡ true → now ≡ one_more before) → (b ≡ false → now ≡ before) → (IsSome r → now ≡ before)
+    → now ≡ risen (length (path_if r b path)) before
+counted (Some why) b path before now asked unasked refused = refused refl
+counted None true path before now asked unasked refused = asked refl refl
+counted None false path before now asked unasked refused = unasked refl
+
+-- ---- load
+
+few_of : (made : ℕ) → load_refusal made ≡ None → made < max_users
+unfolding load_refusal
+few_of made none = go (nat_lt made max_users) refl none
+  where
+    go : (b : Bool) → nat_lt made max_users ≡ b → cond b None (Some fault.TooManyUsers) ≡ None → made < max_users
+    go true lt e = grind (arith, lt)
+    go false ge e = absurd cc
+
+full_of : (made : ℕ) → IsSome (load_refusal made) → max_users ≤ made
+unfolding load_refusal
+full_of made some = go (nat_lt made max_users) refl some
+  where
+    go : (b : Bool) → nat_lt made max_users ≡ b → IsSome (cond b None (Some fault.TooManyUsers)) → max_users ≤ made
+    go true lt e = absurd cc
+    go false ge e = grind (arith, ge)
+
+pub load_needs : (held : FileMap) (old : Loaded) (state : Machine) (path : List ℕ) (before now : ℕ) → Agrees held old state
+    → (length old.users < max_users → now ≡ one_more before) → (max_users ≤ length old.users → now ≡ before) → ReadsNeeded held state (Load path) before now
+load_needs held old state path before now agrees asked unasked =
+    let same : length old.users ≡ length state.users =
+    sym (length-map old.users (option_map outline)) ∙ ap length agrees.users ∙ length-map state.users (option_map outline_of) in
+    let r : Refuse = load_refusal (length state.users) in (
+      length (path_if r true path),
+      (path_if r true path, refl, refl),
+      counted r true path before now (λ none yes. asked (omega (arith, few_of (length state.users) none, same))) (λ no'. absurd cc)
+          (λ some. unasked (omega (arith, full_of (length state.users) some, same))),
+    )
+
+-- ---- a command on a user
+
+module _ (held : FileMap) (old : Loaded) (state : Machine) (agrees : Agrees held old state) (id : ℕ) (refusal : Option Seen → Refuse) (reads : Seen → User → Bool) (flag : Bool) (before now : ℕ)
+    (same : (sees : Sees held state id) → seen_by old id ≡ Some (seen_of sees.user sees.segments) → reads (seen_of sees.user sees.segments) sees.user ≡ flag)
+    (none : seen_by old id ≡ None → flag ≡ false)
+    (asked : refusal (seen_by old id) ≡ None → flag ≡ true → now ≡ one_more before) (unasked : flag ≡ false → now ≡ before) (refused : IsSome (refusal (seen_by old id)) → now ≡ before) where
+  abbrev Of : Seen → User → List (List ℕ)
+  Of seen user = path_if (refusal (Some seen)) (reads seen user) user.path
+
+  user_needs : (reads : ℕ) × ((paths : List (List ℕ)) × NeedsOf held state id Of paths × (reads ≡ length paths)) × (now ≡ risen reads before)
+  user_needs = go (seen_by old id) refl (is_seen held old state agrees id)
+    where
+      go : (o : Option Seen) → seen_by old id ≡ o → IsSeen held state id o
+          → (reads : ℕ) × ((paths : List (List ℕ)) × NeedsOf held state id Of paths × (reads ≡ length paths)) × (now ≡ risen reads before)
+      go None e gone = (0, ([], inl (gone, refl), refl), unasked (none e))
+      go (Some seen) e is =
+          let sees = is.0 in
+          let its : Seen = seen_of sees.user sees.segments in
+          let here : seen_by old id ≡ Some its = e ∙ ap (λ (s : Seen). Some s) is.1 in
+          let flag' : reads its sees.user ≡ flag = same sees here in (
+            length (Of its sees.user),
+            (Of its sees.user, inr (sees, refl), refl),
+            counted (refusal (Some its)) (reads its sees.user) sees.user.path before now
+                (λ passes yes. asked (ap refusal here ∙ passes) (sym flag' ∙ yes)) (λ no'. unasked (sym flag' ∙ no'))
+                (λ stops. refused (subst (λ (o : Option Seen). IsSome (refusal o)) (sym here) stops)),
+          )
+
+-- a user that is seen is kept
+kept_of : (old : Loaded) (id : ℕ) (seen : Seen) → seen_by old id ≡ Some seen → (kept : Kept) × (user_of old.users id ≡ Some kept) × (seen_in kept ≡ seen)
+kept_of old id seen is = go (user_of old.users id) refl is
+  where
+    go : (o : Option Kept) → user_of old.users id ≡ o → option_map seen_in o ≡ Some seen → (kept : Kept) × (user_of old.users id ≡ Some kept) × (seen_in kept ≡ seen)
+    go None e is' = absurd cc
+    go (Some kept) e is' = (kept, e, cc)
+
+-- what is asked of a user that isn't seen
+not_kept : (old : Loaded) (id : ℕ) (f : Kept → Bool) → seen_by old id ≡ None → option_map_or f (user_of old.users id) false ≡ false
+not_kept old id f is = go (user_of old.users id) is
+  where
+    go : (o : Option Kept) → option_map seen_in o ≡ None → option_map_or f o false ≡ false
+    go None e = refl
+    go (Some kept) e = absurd cc
+
+module _ (held : FileMap) (old : Loaded) (state : Machine) (agrees : Agrees held old state) (id : ℕ) (before now : ℕ) where
+  pub load_segment_needs : (number : ℕ) → (load_segment_refusal (seen_by old id) number ≡ None → segment_reads old id number ≡ true → now ≡ one_more before)
+      → (segment_reads old id number ≡ false → now ≡ before) → (IsSome (load_segment_refusal (seen_by old id) number) → now ≡ before) → ReadsNeeded held state (LoadSegment id number) before now
+  load_segment_needs number asked unasked refused =
+      user_needs held old state agrees id (λ seen. load_segment_refusal seen number) (λ seen user. is_read (presence_at state.slots (handles_of user) number)) (segment_reads old id number) before now
+      same (not_kept old id (λ kept. is_read (presence_at old.memory.slots kept.handles number))) asked unasked refused
+    where
+      same : (sees : Sees held state id) → seen_by old id ≡ Some (seen_of sees.user sees.segments) → is_read (presence_at state.slots (handles_of sees.user) number) ≡ segment_reads old id number
+      same sees is =
+          let kept = kept_of old id (seen_of sees.user sees.segments) is in
+          sym (ap (λ (o : Option Kept). option_map_or (λ k. is_read (presence_at old.memory.slots k.handles number)) o false) kept.1
+          ∙ ap (λ (t : Slots). is_read (presence_at t kept.0.handles number)) agrees.slots
+          ∙ ap (λ (seen : Seen). is_read (presence_at state.slots seen.handles number)) kept.2)
+
+  pub restart_needs : (restart_refusal (seen_by old id) ≡ None → restart_reads old id ≡ true → now ≡ one_more before)
+      → (restart_reads old id ≡ false → now ≡ before) → (IsSome (restart_refusal (seen_by old id)) → now ≡ before) → ReadsNeeded held state (Restart id) before now
+  restart_needs asked unasked refused =
+      user_needs held old state agrees id restart_refusal (λ seen user. needs.restart_reads state seen) (restart_reads old id) before now
+      same (not_kept old id (λ kept. not (are_there old.memory.slots kept.heads kept.handles 1) || some_read_again kept.heads)) asked unasked refused
+    where
+      same : (sees : Sees held state id) → seen_by old id ≡ Some (seen_of sees.user sees.segments) → needs.restart_reads state (seen_of sees.user sees.segments) ≡ restart_reads old id
+      same sees is =
+          let kept = kept_of old id (seen_of sees.user sees.segments) is in
+          sym (ap (λ (o : Option Kept). option_map_or (λ k. not (are_there old.memory.slots k.heads k.handles 1) || some_read_again k.heads) o false) kept.1
+          ∙ ap (λ (t : Slots). not (are_there t kept.0.heads kept.0.handles 1) || some_read_again kept.0.heads) agrees.slots
+          ∙ ap (λ (seen : Seen). needs.restart_reads state seen) kept.2)
+
+-- ---- jsl
+
+module _ (held : FileMap) (old : Loaded) (state : Machine) (sound : IsSound old.memory old.users) (agrees : Agrees held old state) (apart : AreApart old.memory.banks old.memory.slots) where
+  abbrev apart_state : IsApartState held state
+  apart_state = is_apart held old state agrees sound apart
+
+  -- what is true of the one place where an address lies is true wherever the machine has it
+  anywhere : (P : (address owner number offset : ℕ) → IsAt held state address owner number offset → Type 0) (place : answers.Entered) (lies : LiesIn old place.address place.user place.segment place.offset)
+      → ((is : IsAt held state place.address place.user place.segment place.offset) → P place.address place.user place.segment place.offset is)
+      → (address owner number offset : ℕ) → address ≡ place.address → (is : IsAt held state address owner number offset) → P address owner number offset is
+  anywhere P place lies all address owner number offset same is =
+      let here : IsAt held state place.address owner number offset = subst (λ (n : ℕ). IsAt held state n owner number offset) same is in
+      let once = at_once held state apart_state place.address owner place.user number place.segment offset place.offset here
+      (followed.is_at held old state sound agrees place.address place.user place.segment place.offset lies) in
+      subst (λ (n : ℕ). (at : IsAt held state n owner number offset) → P n owner number offset at) (sym same)
+      (subst (λ (n : ℕ). (at : IsAt held state place.address n number offset) → P place.address n number offset at) (sym once.0)
+      (subst (λ (n : ℕ). (at : IsAt held state place.address place.user n offset) → P place.address place.user n offset at) (sym once.1)
+      (subst (λ (n : ℕ). (at : IsAt held state place.address place.user place.segment n) → P place.address place.user place.segment n at) (sym once.2) all))) is
+
+  -- the segment there
+  same_segment : (place : answers.Entered) (lies : LiesIn old place.address place.user place.segment place.offset) (is : IsAt held state place.address place.user place.segment place.offset)
+      → is.s ≡ followed.s held old state sound agrees place.address place.user place.segment place.offset lies
+  same_segment place lies is =
+      segment_same held state place.user is.sees (followed.sees held old state sound agrees place.address place.user place.segment place.offset lies) place.segment is.s
+      (followed.s held old state sound agrees place.address place.user place.segment place.offset lies) is.is
+      (followed.found held old state sound agrees place.address place.user place.segment place.offset lies)
+
+  module _ (id number at : ℕ) where
+    -- no read is needed where the call stops, or enters a place
+    module _ (owner : ℕ) (t : Target) (r : Reaches held state id number at owner t) where
+      passes : bytes_refusal old.memory.slots (seen_by old id) number at 4 ≡ None
+      passes =
+          ap (λ (slots : Slots). bytes_refusal slots (seen_by old id) number at 4) agrees.slots
+          ∙ ap (λ (seen : Option Seen). bytes_refusal state.slots seen number at 4) (seen_once held state id (seen_by old id) r.seen (is_seen held old state agrees id) r.is_seen) ∙ r.passes
+
+      same_bytes : (bytes : List ℕ) → HasLent old id number at 4 bytes → bytes ≡ take 4 (drop at r.bytes)
+      same_bytes bytes lent =
+          let four = followed.four held old state sound agrees id number at bytes lent in
+          four.2 ∙ ap (λ (bs : List ℕ). take 4 (drop at bs)) (stands_once held state id number four.0 r.bytes four.1 r.stands)
+
+      same_address : (address : ℕ) (bytes : List ℕ) → HasLent old id number at 4 bytes → address ≡ address_of bytes → address_of (take 4 (drop at r.bytes)) ≡ address
+      same_address address bytes lent is = sym (is ∙ ap address_of (same_bytes bytes lent))
+
+      stops : (why : LoaderFault) → IsJslRefusal old id number at why → ⊥
+      stops why (NoBytes is) = let clash : Some why ≡ None = sym is ∙ passes in cc
+      stops why (NoJsl bytes lent is) = let clash : Some why ≡ None = sym is ∙ ap no_jsl (same_bytes bytes lent) ∙ r.jsl in cc
+      stops why (NoPlace address call none is) =
+          none owner r.table r.offset (lies_back held old state agrees Purges sound address owner r.table r.offset
+          (subst (λ (n : ℕ). IsAt held state n owner r.table r.offset) (same_address address call.bytes call.lent call.address_is) r.is_at))
+      stops why (NoEntry place leads table apart' is) =
+          anywhere (λ address id' n offset at'. target_at_code (targets_of at'.s) 0 offset ≡ Some t → ⊥) place leads.lies
+          (λ at' found.
+          let none : target_at_code (targets_of (followed.s held old state sound agrees place.address place.user place.segment place.offset leads.lies)) 0 place.offset ≡ None =
+          followed.none held old state sound agrees place.address place.user place.segment place.offset leads.lies table apart' in
+          let clash : Some t ≡ None = sym found ∙ ap (λ (x : Segment). target_at_code (targets_of x) 0 place.offset) (same_segment place leads.lies at') ∙ none in cc)
+          (address_of (take 4 (drop at r.bytes))) owner r.table r.offset (same_address place.address leads.call.bytes leads.call.lent leads.call.address_is) r.is_at r.target
+
+      leads : (place : answers.Entered) → EntersPlace old id number at place → ⊥
+      leads place enters =
+          let lies = enters.leads.lies in
+          anywhere (λ address id' n offset at'. is_table (head_of at'.s) ≡ true → ⊥) place lies
+          (λ at' table.
+          let clash : true ≡ false = sym table ∙ ap (λ (x : Segment). is_table (head_of x)) (same_segment place lies at')
+          ∙ followed.same_table held old state sound agrees place.address place.user place.segment place.offset lies ∙ enters.plain in cc)
+          (address_of (take 4 (drop at r.bytes))) owner r.table r.offset (same_address place.address enters.leads.call.bytes enters.leads.call.lent enters.leads.call.address_is) r.is_at r.is_table
+
+    none_needed : ((owner : ℕ) (t : Target) → ¬ Reaches held state id number at owner t) → IsReadFor held state (Jsl id number at) 0
+    none_needed none = ([], inr (none, refl), refl)
+
+    -- an entry needs the path of the table's user where its segment isn't there
+    module _ (below : (place address : ℕ) → HoldsByte address (slot_at old.memory.slots place) → address < 2 ^ 24) (owner segment offset : ℕ) (calls : CallsEntry old id number at owner segment offset) where
+      abbrev place : answers.Entered
+      place = calls.place
+
+      abbrev its : IsKept held old state agrees place.user calls.entry.lies.is.kept
+      its = followed.its held old state sound agrees place.address place.user place.segment place.offset calls.entry.lies
+
+      abbrev t : Target
+      t = (followed.t held old old state sound agrees below below id number at 0 0 place calls.leads.call calls.target calls.entry).0
+
+      same_number : t.segment ≡ segment
+      same_number = sym (followed.segment_is held old old state sound agrees below below id number at 0 0 place calls.leads.call calls.target calls.entry) ∙ calls.segment'
+
+      same_reads : is_read (presence_at state.slots (handles_of its.user) t.segment) ≡ segment_reads old owner segment
+      same_reads =
+          ap (λ (o : Outline). is_read (presence_at state.slots o.handles t.segment)) (sym its.does_agree.same)
+          ∙ ap (λ (slots : Slots). is_read (presence_at slots calls.entry.lies.is.kept.handles t.segment)) (sym agrees.slots)
+          ∙ sym (ap (λ (o : Option Kept). option_map_or (λ k. is_read (presence_at old.memory.slots k.handles t.segment)) o false) calls.entry.lies.is.made)
+          ∙ ap (λ (n : ℕ). segment_reads old n t.segment) calls.its ∙ ap (segment_reads old owner) same_number
+
+      entry_needs : (b : Bool) → segment_reads old owner segment ≡ b → IsReadFor held state (Jsl id number at) (length (path_if None b its.user.path))
+      entry_needs b is = (
+        path_if None b its.user.path,
+        inl (
+          place.user,
+          t,
+          followed.reaches held old old state sound agrees below below id number at 0 0 place calls.leads.call calls.target calls.entry,
+          its.user,
+          its.made,
+          sym (ap (λ (x : Bool). path_if None x its.user.path) (same_reads ∙ is)),
+        ),
+        refl,
+      )
+
+      -- it can be made active
+      never_stopped : IsSome (load_segment_refusal (seen_by old owner) segment) → ⊥
+      never_stopped some =
+          let lies = calls.entry.lies in
+          let passes' : load_segment_refusal (seen_by old place.user) t.segment ≡ None =
+          followed.can_load held old state sound agrees place.address place.user place.segment place.offset lies calls.entry.table calls.entry.k calls.entry.inside calls.entry.code in
+          let none : load_segment_refusal (seen_by old owner) segment ≡ None =
+          sym (ap (λ (n : ℕ). load_segment_refusal (seen_by old n) t.segment) calls.its ∙ ap (λ (n : ℕ). load_segment_refusal (seen_by old owner) n) same_number) ∙ passes' in
+          no_some (load_segment_refusal (seen_by old owner) segment) none some
+        where
+          no_some : (r : Refuse) → r ≡ None → IsSome r → ⊥
+          no_some None e some' = cc
+          no_some (Some why) e some' = cc
+
+    pub jsl_needs : (below : (place address : ℕ) → HoldsByte address (slot_at old.memory.slots place) → address < 2 ^ 24) (before now : ℕ) → HasAsked old id number at before now
+        → ReadsNeeded held state (Jsl id number at) before now
+    jsl_needs below before now (inl (reads, is)) = (1, entry_needs below reads.owner reads.segment reads.offset reads.calls true reads.reads, is)
+    jsl_needs below before now (inr (IsRefused why stopped, is)) = (0, none_needed (λ owner t r. stops owner t r why stopped), is)
+    jsl_needs below before now (inr (IsPlace place enters, is)) = (0, none_needed (λ owner t r. leads owner t r place enters), is)
+    jsl_needs below before now (inr (IsStopped owner segment offset calls some, is)) = absurd (never_stopped below owner segment offset calls some)
+    jsl_needs below before now (inr (IsThere owner segment offset calls there, is)) = (0, entry_needs below owner segment offset calls false there, is)

@@ -1,0 +1,221 @@
+-- A user that is restarted in place, as it is done.
+use Rattle.std.proofs.Common.{◌≡◌, ℕ, zero, suc, Bool, true, false, cond, ◌==◌, ◌+◌, ◌-◌, ◌^◌, ◌<◌, ◌≤◌, List, [], ◌∷◌, length, map, get_or, Option, Some, None, IsSome, refl, sym, ap, subst, ◌∙◌, arith}
+use Rattle.std.specs.Prelude.{slice_get, IsSomeAnd, option_map}
+use Rattle.std.specs.Option.{option_and_then}
+use Rattle.std.specs.List.{AllByRecursion}
+use Rattle.std.proofs.lemmas.Bool.{and_parts}
+use Rattle.std.proofs.lemmas.Option.{same_Some, slice_get_within, slice_get-get_or}
+use Rattle.std.proofs.lemmas.List.{length-map}
+use Rattle.omf_format.specs.File.{Segment}
+use Rattle.load_meaning.specs.declared.table.Target.{Target}
+use Rattle.load_meaning.specs.LoadTable.{targets_of}
+use Rattle.iigs_meaning.specs.declared.handles.Handle.{Handle}
+use Rattle.iigs_meaning.specs.declared.wants.Block.{Block}
+use Rattle.iigs_meaning.specs.Slots.{get, slot_at}
+use Rattle.iigs_meaning.specs.Fits.{Slots, block_in}
+use Rattle.iigs_meaning.specs.Memory.{Memory}
+use Rattle.loader_machine.specs.declared.faults.LoaderFault.TheVariants as fault
+use Rattle.loader_machine.specs.declared.seen.Head.{Head}
+use Rattle.loader_machine.specs.declared.seen.Life.TheVariants.{Running, Dormant}
+use Rattle.loader_machine.specs.declared.seen.Presence.{Presence}
+use Rattle.loader_machine.specs.declared.seen.Presence.TheVariants.{Absent, Purged, Idle, Active}
+use Rattle.loader_machine.specs.Heads.{head_of, at_number, is_static, entry_in}
+use Rattle.loader_machine.specs.State.{Seen, first_id, user_of, with_user}
+use Rattle.loader_machine.specs.Presences.{handle_at, presence, presence_at, is_there, is_active, active_at}
+use Rattle.loader_machine.specs.Refusals.{restart_refusal}
+use Rattle.loader_machine.specs.Stands.{place_in, setting, target_in}
+use Rattle.loader_machine.specs.Steps.{active_block, changed_all, static_handles, is_read_again}
+use Rattle.loader_agrees.specs.Agrees.{Kept, Loaded, Has, IsSound}
+use Rattle.loader_agrees.specs.Lists.{number_map}
+use Rattle.loader_agrees.specs.Reads.{head_at}
+use Rattle.loader_agrees.specs.Seeing.{made_at}
+use Rattle.sys_loader.specs.declared.answers.Started.{Started}
+use Rattle.sys_loader.specs.declared.user.Segment as users
+use Rattle.sys_loader.specs.declared.user.User.{User}
+use Rattle.sys_loader.specs.View.{kept}
+use Rattle.sys_loader.specs.Filling.{IsSetting, AreReady, AreFilled}
+use Rattle.sys_loader.specs.Restarting.{is_whole, AreReread, HasResumed, AreActivated, static_handle, again_handle}
+use Rattle.sys_loader.proofs.Written.{heads_of, handles_of}
+use Rattle.sys_loader.proofs.Settling.{addresses, address_is}
+use Rattle.sys_loader.proofs.Resuming.{IsQuiet, there_all, number_suc}
+use Rattle.sys_loader.proofs.Static.{live_of, same_changed}
+
+-- ---- the refusal
+
+pub restart_none : (user : Option Seen) → user ≡ None → restart_refusal user ≡ Some fault.NoUser
+unfolding restart_refusal
+restart_none user is = rw is refl
+
+pub restart_runs : (user : Option Seen) (seen : Seen) → user ≡ Some seen → seen.life ≡ Running → restart_refusal user ≡ Some fault.Running
+unfolding restart_refusal
+restart_runs user seen is runs = rw (is, runs) refl
+
+pub restart_rests : (user : Option Seen) (seen : Seen) → user ≡ Some seen → seen.life ≡ Dormant → restart_refusal user ≡ None
+unfolding restart_refusal
+restart_rests user seen is rests = rw (is, rests) refl
+
+-- ---- it runs
+
+pub quiet_same : (memory : Memory) → IsQuiet memory memory
+quiet_same memory = record { banks = refl; slots = refl; sizes = λ slot. refl }
+
+pub has_resumed : (old : Memory) (users' : List (Option Kept)) (id : ℕ) (k : Kept) (items : List users.Segment) (started : Started) (new : Loaded) → heads_of items ≡ k.heads → handles_of items ≡ k.handles → started.user ≡ id
+    → AreActivated (map static_handle items) old new.memory → new.users ≡ with_user users' id (Some (record k { life = Running }))
+    → started.entry ≡ entry_in (heads_of items) (place_in new.memory.slots (handles_of items)) 1 → HasResumed old users' id k started new
+has_resumed old users' id k items started new heads handles user activated runs entry = record {
+  user = user;
+  slots = activated.slots ∙ same_changed active_block old.slots items
+      ∙ ap (λ (gs : List Head). changed_all active_block old.slots (static_handles gs (handles_of items) 1)) heads
+      ∙ ap (λ (hs : List (Option Handle)). changed_all active_block old.slots (static_handles k.heads hs 1)) handles;
+  bytes = activated.bytes;
+  users' = runs;
+  entry = entry ∙ ap (λ (gs : List Head). entry_in gs (place_in new.memory.slots (handles_of items)) 1) heads ∙ ap (λ (hs : List (Option Handle)). entry_in k.heads (place_in new.memory.slots hs) 1) handles;
+}
+
+-- ---- bytes that are written
+
+-- a loader is sound still where nothing but bytes changes
+pub quiet_sound : (old new : Memory) (users' : List (Option Kept)) → IsSound old users' → IsQuiet old new → IsSound new users'
+quiet_sound old new users' sound quiet = record {
+  few = sound.few;
+  lengths = sound.lengths;
+  short = sound.short;
+  statics = λ p k n head made runs found static. ap (λ (t : Slots). is_active (presence_at t k.handles n)) quiet.slots ∙ sound.statics p k n head made runs found static;
+  rests = λ p k n made life. ap (λ (t : Slots). is_active (presence_at t k.handles n)) quiet.slots ∙ sound.rests p k n made life;
+  each = λ p n head h has.
+      let of' = sound.each p n head h has in
+      record {
+        block = of'.block;
+        live = ap (λ (t : Slots). get t h) quiet.slots ∙ of'.live;
+        user = of'.user;
+        form = of'.form;
+        want = of'.want;
+        room = λ there. omega (arith, of'.room there, quiet.sizes h.slot);
+      };
+  once = sound.once;
+  only = λ slot b found user. sound.only slot b (sym (ap (λ (t : Slots). block_in (slot_at t slot)) quiet.slots) ∙ found) user;
+}
+
+-- ---- the segments that are read again
+
+again_some : (s : users.Segment) (h : Handle) → again_handle s ≡ Some h → (is_read_again s.head ≡ true) × (s.handle ≡ Some h)
+again_some s h is = go (is_read_again s.head) refl is
+  where
+    go : (b : Bool) → is_read_again s.head ≡ b → cond b s.handle None ≡ Some h → (is_read_again s.head ≡ true) × (s.handle ≡ Some h)
+    go true e found = (e, found)
+    go false e found = absurd cc
+
+pub again_here : (segments : List users.Segment) (k : ℕ) (s : users.Segment) → k < length segments → s ≡ get_or segments k s → handle_at (map again_handle segments) (k + 1) ≡ again_handle s
+again_here segments k s inside is =
+    let more : k + 1 ≡ suc k = omega arith in
+    ap (handle_at (map again_handle segments)) more ∙ ap (option_and_then (λ (o : Option Handle). o)) (number_map again_handle segments (suc k)
+    ∙ ap (option_map again_handle) (slice_get-get_or segments k s inside)) ∙ ap again_handle (sym is)
+
+-- a handle among them is that of such a segment
+abbrev IsAgain : List users.Segment → ℕ → Handle → Type 0
+IsAgain items n h = (head : Head) × (at_number (heads_of items) n ≡ Some head) × (is_read_again head ≡ true) × (handle_at (handles_of items) n ≡ Some h)
+
+again_of : (items : List users.Segment) (n : ℕ) (h : Handle) → handle_at (map again_handle items) n ≡ Some h → IsAgain items n h
+again_of items zero h is = absurd cc
+again_of items (suc k) h is = go items k is
+  where
+    go : (xs : List users.Segment) (i : ℕ) → option_and_then (λ (o : Option Handle). o) (slice_get (map again_handle xs) i) ≡ Some h → IsAgain xs (suc i) h
+    go [] i e = absurd cc
+    go (x ∷ xs) zero e = let its = again_some x h e in (x.head, refl, its.0, its.1)
+    go (x ∷ xs) (suc i) e = go xs i e
+
+-- and such a segment's handle is among them
+again_at : (items : List users.Segment) (n : ℕ) (head : Head) (h : Handle) → at_number (heads_of items) n ≡ Some head → is_read_again head ≡ true → handle_at (handles_of items) n ≡ Some h
+    → handle_at (map again_handle items) n ≡ Some h
+again_at items zero head h found again has = absurd cc
+again_at items (suc k) head h found again has = go items k found has
+  where
+    go : (xs : List users.Segment) (i : ℕ) → slice_get (heads_of xs) i ≡ Some head → option_and_then (λ (o : Option Handle). o) (slice_get (handles_of xs) i) ≡ Some h
+        → option_and_then (λ (o : Option Handle). o) (slice_get (map again_handle xs) i) ≡ Some h
+    go [] i e e' = absurd cc
+    go (x ∷ xs) zero e e' = ap (λ (b : Bool). cond b x.handle None) (ap is_read_again (same_Some x.head head e) ∙ again) ∙ e'
+    go (x ∷ xs) (suc i) e e' = go xs i e e'
+
+at_most : (heads : List Head) (n : ℕ) (g : Head) → at_number heads n ≡ Some g → n ≤ length heads
+at_most heads zero g e = omega arith
+at_most heads (suc m) g e = let inside = slice_get_within heads m g e in omega (arith, inside)
+
+module _ (old : Loaded) (id : ℕ) (user : User) (sound : IsSound old.memory old.users) (made : user_of old.users id ≡ Some (kept user)) where
+  abbrev place : ℕ
+  place = id - first_id
+
+  abbrev items : List users.Segment
+  items = user.segments.items
+
+  its_users : (slice_get old.users place ≡ Some (Some (kept user))) × (first_id + place ≡ id)
+  its_users = made_at old.users id (kept user) made
+
+  own : (n : ℕ) (head : Head) (h : Handle) → at_number (heads_of items) n ≡ Some head → handle_at (handles_of items) n ≡ Some h → Has old.users place n head h
+  own n head h found has = record { kept = kept user; made = its_users.0; head' = found; handle = has }
+
+  pub its_short : length items < 2 ^ 16
+  its_short = omega (arith, sound.short place (kept user) its_users.0, length-map items (λ (s : users.Segment). s.head))
+
+  pub again_ready : is_whole old (kept user) ≡ true → AreReady old.memory (heads_of items) (map again_handle items)
+  again_ready whole = record {
+    each = λ n head h found has.
+        let its = again_of items n h has in
+        let same : its.0 ≡ head = same_Some its.0 head (sym its.1 ∙ found) in
+        let static : is_static head ≡ true = ap is_static (sym same) ∙ (and_parts (is_static its.0) _ its.2).0 in
+        let at = number_suc (heads_of items) n head found in
+        let there : is_there (presence old.memory.slots (Some h)) ≡ true =
+        ap (λ (o : Option Handle). is_there (presence old.memory.slots o)) (sym (ap (handle_at (handles_of items)) (sym at.1) ∙ its.3))
+        ∙ there_all old.memory.slots (heads_of items) (handles_of items) 1 at.0 head whole at.2 static in
+        let live = live_of old.memory.slots h there in
+        let of' = sound.each place n head h (own n head h found its.3) in
+        let block : of'.block ≡ live.0 = same_Some of'.block live.0 (sym of'.live ∙ live.1) in
+        record {
+          there = subst (λ (o : Option Block). IsSomeAnd o (λ b. IsSome b.at)) (sym live.1) live.2;
+          fits = of'.room (subst (λ (b : Block). IsSome b.at) (sym block) live.2);
+        };
+    once = λ m n h k found found' same.
+        let one = again_of items m h found in
+        let two = again_of items n k found' in
+        (sound.once place place m n one.0 two.0 h k (own m one.0 h one.1 one.3) (own n two.0 k two.1 two.3) same).1;
+  }
+
+  -- no segment of a dormant user is active
+  none_active : user.life ≡ Dormant → (n : ℕ) → active_at (presence_at old.memory.slots (handles_of items) n) ≡ None
+  none_active rests n = by_place (presence_at old.memory.slots (handles_of items) n) (sound.rests place (kept user) n its_users.0 rests)
+    where
+      by_place : (p : Presence) → is_active p ≡ false → active_at p ≡ None
+      by_place Absent e = refl
+      by_place (Purged h) e = refl
+      by_place (Idle h a) e = refl
+      by_place (Active h a) e = absurd cc
+
+  no_target : user.life ≡ Dormant → (file n : ℕ) → target_in old.memory.slots (handles_of items) file n ≡ None
+  no_target rests file n = go (file == 1) (none_active rests n)
+    where
+      go : (b : Bool) → active_at (presence_at old.memory.slots (handles_of items) n) ≡ None → cond b (active_at (presence_at old.memory.slots (handles_of items) n)) None ≡ None
+      go true e = e
+      go false e = refl
+
+  no_targets : user.life ≡ Dormant → (ts : List Target) → AllByRecursion (λ (t : Target). target_in old.memory.slots (handles_of items) t.file t.segment ≡ None) ts
+  no_targets rests [] = tt
+  no_targets rests (t ∷ ts) = (no_target rests t.file t.segment, no_targets rests ts)
+
+  its_setting : user.life ≡ Dormant → (segments : List Segment) → IsSetting segments id (addresses old.memory.slots items) (setting id old.memory.slots (handles_of items))
+  its_setting rests segments = record {
+    id = refl;
+    place = λ n. address_is old.memory.slots items n;
+    targets = λ number s is table. no_targets rests (targets_of s);
+  }
+
+  pub has_reread : user.life ≡ Dormant → (segments : List Segment) → map head_of segments ≡ heads_of items → (middle : Memory)
+      → AreFilled segments (map again_handle items) id (addresses old.memory.slots items) old.memory middle (length items) → AreReread segments id (kept user) old.memory middle
+  has_reread rests segments same middle filled = record {
+    banks = filled.banks;
+    slots = filled.slots;
+    begins = λ n s h there again has.
+        let found : at_number (heads_of items) n ≡ Some (head_of s) = ap (λ (gs : List Head). at_number gs n) (sym same) ∙ head_at segments n s there in
+        filled.filled n h (omega (arith, at_most (heads_of items) n (head_of s) found, length-map items (λ (x : users.Segment). x.head))) (again_at items n (head_of s) h found again has)
+        (setting id old.memory.slots (handles_of items)) s (its_setting rests segments) there;
+    stay = λ slot apart. filled.stay slot (λ n h le is at. let its = again_of items n h is in apart n its.0 h its.1 its.2 its.3 at);
+    sizes = filled.sizes;
+  }

@@ -1,0 +1,518 @@
+-- A user that is restarted in place.
+use Rattle.std.proofs.Common.{◌≡◌, ◌≢◌, ◌⊎◌, inl, inr, ℕ, zero, suc, Bool, true, false, cond, ◌+◌, ◌-◌, ◌^◌, ◌<◌, List, [], ◌∷◌, length, map, Option, Some, None, IsSome, refl, sym, ap, subst, ◌∙◌, arith}
+use Rattle.std.specs.Prelude.{slice_get, slice_set, option_map, unwrap_or, Contains}
+use Rattle.std.specs.Option.{option_map_or}
+use Rattle.std.proofs.lemmas.Bool.{cases_eq, and_parts}
+use Rattle.std.proofs.lemmas.Option.{same_Some, slice_get_within}
+use Rattle.omf_format.specs.File.{Segment, segment_at}
+use Rattle.omf_format.specs.Header.{is_dynamic}
+use Rattle.omf_io.specs.Counts.{IsFront}
+use Rattle.omf_io.specs.Files.{FileMap}
+use Rattle.load_meaning.specs.LoadTable as load
+use Rattle.load_meaning.specs.CellLaws.{loadable_has}
+use Rattle.iigs_meaning.specs.declared.handles.Handle.{Handle}
+use Rattle.iigs_meaning.specs.declared.wants.Block.{Block}
+use Rattle.iigs_meaning.specs.Slots.{slot_at, get}
+use Rattle.iigs_meaning.specs.Fits.{Slots, block_in}
+use Rattle.iigs_meaning.specs.Memory.{Memory, bytes_at}
+use Rattle.loader_machine.specs.declared.seen.Head.{Head}
+use Rattle.loader_machine.specs.declared.seen.Life.TheVariants.{Running, Dormant}
+use Rattle.loader_machine.specs.Heads.{head_of, at_number, is_static}
+use Rattle.loader_machine.specs.State.{Held, User, Machine, fresh, absent, no_pokes, first_id, user_of, with_user, handles_of, held_at}
+use Rattle.loader_machine.specs.declared.seen.Presence.{Presence}
+use Rattle.loader_machine.specs.declared.seen.Presence.TheVariants.{Absent, Purged, Idle, Active}
+use Rattle.loader_machine.specs.Presences.{handle_at, presence, presence_at, there_at, active_at, is_active, is_there, lies_in, lies_at}
+use Rattle.loader_machine.specs.Stands.{Setting, setting, stands}
+use Rattle.loader_machine.specs.StandsLaws.{AreAlike, stands_alike}
+use Rattle.loader_machine.specs.Steps.{active_block, changed_all, are_there, static_handles, is_read_again, read_again, with_both}
+use Rattle.loader_agrees.specs.Agrees.{Kept, Loaded, Outline, outline, outline_of, IsSegments, AreThere, UserAgrees, Agrees, IsOf, Has, IsSound}
+use Rattle.loader_agrees.specs.Begun.{decide}
+use Rattle.loader_agrees.specs.Frame.{Same, agrees_still}
+use Rattle.loader_agrees.specs.Lists.{set_map, set_at, set_apart, length_set}
+use Rattle.loader_agrees.specs.Reads.{head_at}
+use Rattle.loader_agrees.specs.Seeing.{made_at, IsKept, kept_is, has_any}
+use Rattle.loader_agrees.specs.Stay as stay
+use Rattle.sys_loader.specs.declared.answers.Started.{Started}
+use Rattle.sys_loader.specs.Restarting.{AreReread, HasResumed}
+use Rattle.sys_loader.proofs.Shifting.{there_block}
+use Rattle.sys_loader.proofs.ChangedAll.{all_here, all_apart, all_in}
+
+-- ---- static segments and their handles
+
+pub has_handle : (handles : List (Option Handle)) (first : ℕ) → handle_at handles (first + 0) ≡ handle_at handles first
+has_handle handles first = let same : first + 0 ≡ first = omega arith in ap (handle_at handles) same
+
+pub next_number : (first k : ℕ) → first + suc k ≡ first + 1 + k
+next_number first k = omega arith
+
+pub statics_cons : (g : Head) (heads : List Head) (handles : List (Option Handle)) (first : ℕ) → is_static g ≡ true
+    → static_handles (g ∷ heads) handles first ≡ handle_at handles first ∷ static_handles heads handles (first + 1)
+statics_cons g heads handles first is = rw is refl
+
+pub statics_pass : (g : Head) (heads : List Head) (handles : List (Option Handle)) (first : ℕ) → is_static g ≡ false → static_handles (g ∷ heads) handles first ≡ static_handles heads handles (first + 1)
+statics_pass g heads handles first is = rw is refl
+
+-- the handle of a static segment is one of them
+in_statics : (heads : List Head) (handles : List (Option Handle)) (first k : ℕ) (head : Head) (h : Handle) → slice_get heads k ≡ Some head → is_static head ≡ true → handle_at handles (first + k) ≡ Some h
+    → (i : ℕ) × (slice_get (static_handles heads handles first) i ≡ Some (Some h))
+in_statics [] handles first k head h is static has = absurd cc
+in_statics (g ∷ heads) handles first zero head h is static has =
+    (zero, ap (λ (l : List (Option Handle)). slice_get l 0) (statics_cons g heads handles first (ap is_static (same_Some g head is) ∙ static)) ∙ ap (λ (o : Option Handle). Some o) (sym (has_handle handles first) ∙ has))
+in_statics (g ∷ heads) handles first (suc k) head h is static has =
+    let later = in_statics heads handles (first + 1) k head h is static (ap (handle_at handles) (sym (next_number first k)) ∙ has) in
+    elim (decide (is_static g)) [
+      | inl static' ↦ (suc later.0, ap (λ (l : List (Option Handle)). slice_get l (suc later.0)) (statics_cons g heads handles first static') ∙ later.1)
+      | inr other ↦ (later.0, ap (λ (l : List (Option Handle)). slice_get l later.0) (statics_pass g heads handles first other) ∙ later.1)
+    ]
+
+-- and each of them is that of one
+abbrev IsStatics : List Head → List (Option Handle) → ℕ → Handle → Type 0
+IsStatics heads handles first h = (k : ℕ) × (head : Head) × (slice_get heads k ≡ Some head) × (is_static head ≡ true) × (handle_at handles (first + k) ≡ Some h)
+
+one_behind : (g : Head) (heads : List Head) (handles : List (Option Handle)) (first : ℕ) (h : Handle) → IsStatics heads handles (first + 1) h → IsStatics (g ∷ heads) handles first h
+one_behind g heads handles first h was = (suc was.0, was.1, was.2, was.3, ap (handle_at handles) (next_number first was.0) ∙ was.4)
+
+statics_in : (heads : List Head) (handles : List (Option Handle)) (first i : ℕ) (h : Handle) → slice_get (static_handles heads handles first) i ≡ Some (Some h) → IsStatics heads handles first h
+statics_in [] handles first i h is = absurd cc
+statics_in (g ∷ heads) handles first i h is = elim (decide (is_static g)) [
+  | inl static ↦ here i static (λ j e. statics_in heads handles (first + 1) j h e) (sym (ap (λ (l : List (Option Handle)). slice_get l i) (statics_cons g heads handles first static)) ∙ is)
+  | inr other ↦ one_behind g heads handles first h (statics_in heads handles (first + 1) i h (sym (ap (λ (l : List (Option Handle)). slice_get l i) (statics_pass g heads handles first other)) ∙ is))
+]
+  where
+    here : (j : ℕ) → is_static g ≡ true → ((m : ℕ) → slice_get (static_handles heads handles (first + 1)) m ≡ Some (Some h) → IsStatics heads handles (first + 1) h)
+        → slice_get (handle_at handles first ∷ static_handles heads handles (first + 1)) j ≡ Some (Some h) → IsStatics (g ∷ heads) handles first h
+    here zero static later e = (zero, g, refl, static, has_handle handles first ∙ same_Some (handle_at handles first) (Some h) e)
+    here (suc j) static later e = one_behind g heads handles first h (later j e)
+
+-- where all static segments are there, each one is
+pub there_all : (slots : Slots) (heads : List Head) (handles : List (Option Handle)) (first k : ℕ) (head : Head) → are_there slots heads handles first ≡ true → slice_get heads k ≡ Some head → is_static head ≡ true
+    → is_there (presence_at slots handles (first + k)) ≡ true
+there_all slots [] handles first k head all is static = absurd cc
+there_all slots (g ∷ heads) handles first zero head all is static =
+    let both = and_parts _ _ all in
+    let same : first + 0 ≡ first = omega arith in
+    ap (λ (n : ℕ). is_there (presence_at slots handles n)) same ∙ one (is_static g) (ap is_static (same_Some g head is) ∙ static) both.0
+  where
+    one : (b : Bool) → b ≡ true → cond b (is_there (presence_at slots handles first)) true ≡ true → is_there (presence_at slots handles first) ≡ true
+    one true e is = is
+    one false e is = absurd cc
+there_all slots (g ∷ heads) handles first (suc k) head all is static =
+    let both = and_parts _ _ all in
+    ap (λ (n : ℕ). is_there (presence_at slots handles n)) (next_number first k) ∙ there_all slots heads handles (first + 1) k head both.1 is static
+
+pub there_some : (p : Presence) → is_there p ≡ true → IsSome (there_at p)
+there_some Absent e = absurd cc
+there_some (Purged h) e = absurd cc
+there_some (Idle h a) e = refl
+there_some (Active h a) e = refl
+
+pub number_suc : (heads : List Head) (n : ℕ) (head : Head) → at_number heads n ≡ Some head → (k : ℕ) × (n ≡ 1 + k) × (slice_get heads k ≡ Some head)
+number_suc heads zero head is = absurd cc
+number_suc heads (suc k) head is = (k, omega arith, is)
+
+-- ---- what is held of segments that are read again
+
+again_get : (heads : List Head) (held : List Held) (k : ℕ) (head : Head) → length held ≡ length heads → slice_get heads k ≡ Some head
+    → option_map_or (λ (x : Held). x) (slice_get (read_again heads held) k) absent ≡ cond (is_read_again head) (fresh (option_map_or (λ (x : Held). x) (slice_get held k) absent).handle) (option_map_or (λ (x : Held). x) (slice_get held k) absent)
+again_get [] held k head long is = absurd cc
+again_get (g ∷ heads) [] k head long is = absurd (omega (arith, long))
+again_get (g ∷ heads) (x ∷ held) zero head long is = ap (λ (b : Head). cond (is_read_again b) (fresh x.handle) x) (same_Some g head is)
+again_get (g ∷ heads) (x ∷ held) (suc k) head long is = again_get heads held k head (omega (arith, long)) is
+
+again_length : (heads : List Head) (held : List Held) → length held ≡ length heads → length (read_again heads held) ≡ length held
+again_length [] [] long = refl
+again_length [] (x ∷ held) long = absurd (omega (arith, long))
+again_length (g ∷ heads) [] long = refl
+again_length (g ∷ heads) (x ∷ held) long = ap suc (again_length heads held (omega (arith, long)))
+
+again_handles : (heads : List Head) (held : List Held) → length held ≡ length heads → map (λ (x : Held). x.handle) (read_again heads held) ≡ map (λ (x : Held). x.handle) held
+again_handles [] [] long = refl
+again_handles [] (x ∷ held) long = absurd (omega (arith, long))
+again_handles (g ∷ heads) [] long = refl
+again_handles (g ∷ heads) (x ∷ held) long =
+    let rest = again_handles heads held (omega (arith, long)) in
+    ap (λ (o : Option Handle). o ∷ map (λ (y : Held). y.handle) (read_again heads held)) (by (is_read_again g)) ∙ ap (λ (l : List (Option Handle)). x.handle ∷ l) rest
+  where
+    by : (b : Bool) → (cond b (fresh x.handle) x).handle ≡ x.handle
+    by true = refl
+    by false = refl
+
+-- ---- the loader
+
+pub again_is : (b : Block) → active_block (active_block b) ≡ active_block b
+again_is b = refl
+
+-- nothing but bytes changes, and no block's size
+pub record IsQuiet (old new : Memory) : Type 0 where
+  pub banks : new.banks ≡ old.banks
+  pub slots : new.slots ≡ old.slots
+  pub sizes : (slot : ℕ) → length (bytes_at new slot) ≡ length (bytes_at old slot)
+
+pub quiet_reread : (segments : List Segment) (id : ℕ) (kept : Kept) (old new : Memory) → AreReread segments id kept old new → IsQuiet old new
+quiet_reread segments id kept old new reread = record { banks = reread.banks; slots = reread.slots; sizes = reread.sizes }
+
+module _ (old new : Loaded) (id : ℕ) (kept : Kept) (started : Started) (sound : IsSound old.memory old.users) (made : user_of old.users id ≡ Some kept)
+    (whole : are_there old.memory.slots kept.heads kept.handles 1 ≡ true) (middle : Memory) (quiet : IsQuiet old.memory middle) (did : HasResumed middle old.users id kept started new) where
+  abbrev place : ℕ
+  place = id - first_id
+
+  abbrev runs : Kept
+  runs = record kept { life = Running }
+
+  abbrev statics : List (Option Handle)
+  statics = static_handles kept.heads kept.handles 1
+
+  its_users : (slice_get old.users place ≡ Some (Some kept)) × (first_id + place ≡ id)
+  its_users = made_at old.users id kept made
+
+  slots_are : new.memory.slots ≡ changed_all active_block old.memory.slots (static_handles kept.heads kept.handles 1)
+  slots_are = did.slots ∙ ap (λ (t : Slots). changed_all active_block t (static_handles kept.heads kept.handles 1)) quiet.slots
+
+  kept_one : (a b : Kept) → Some (Some a) ≡ Some (Some b) → a ≡ b
+  kept_one a b e = cc
+
+  -- a user is as before, or it is the one that runs
+  users_now : (p : ℕ) (k : Kept) → slice_get new.users p ≡ Some (Some k) → ((p ≡ place) × (k ≡ runs)) ⊎ ((p ≢ place) × (slice_get old.users p ≡ Some (Some k)))
+  users_now p k made' = elim (cases_eq p place) [
+    | inl eq ↦
+        let inside = slice_get_within old.users place (Some kept) its_users.0 in
+        let now : slice_get new.users p ≡ Some (Some runs) = ap (λ (us : List (Option Kept)). slice_get us p) did.users' ∙ ap (slice_get (slice_set old.users place (Some runs))) eq ∙ set_at old.users place (Some runs) inside in
+        inl (eq, kept_one k runs (sym made' ∙ now))
+    | inr ne ↦ inr (ne, sym (set_apart old.users place p (Some runs) ne) ∙ ap (λ (us : List (Option Kept)). slice_get us p) (sym did.users') ∙ made')
+  ]
+
+  has_before : (p n : ℕ) (head : Head) (h : Handle) → Has new.users p n head h → Has old.users p n head h
+  has_before p n head h has = elim (users_now p has.kept has.made) [
+    | inl it ↦ record {
+      kept = kept;
+      made = ap (slice_get old.users) it.0 ∙ its_users.0;
+      head' = ap (λ (k : Kept). at_number k.heads n) (sym it.1) ∙ has.head';
+      handle = ap (λ (k : Kept). handle_at k.handles n) (sym it.1) ∙ has.handle;
+    }
+    | inr other ↦ record { kept = has.kept; made = other.1; head' = has.head'; handle = has.handle }
+  ]
+
+  has_now : (p n : ℕ) (head : Head) (h : Handle) → Has old.users p n head h → Has new.users p n head h
+  has_now p n head h has = elim (cases_eq p place) [
+    | inl eq ↦
+        let same : has.kept ≡ kept = kept_one has.kept kept (sym has.made ∙ ap (slice_get old.users) eq ∙ its_users.0) in
+        let inside = slice_get_within old.users place (Some kept) its_users.0 in
+        record {
+          kept = runs;
+          made = ap (λ (us : List (Option Kept)). slice_get us p) did.users' ∙ ap (slice_get (slice_set old.users place (Some runs))) eq ∙ set_at old.users place (Some runs) inside;
+          head' = ap (λ (k : Kept). at_number k.heads n) (sym same) ∙ has.head';
+          handle = ap (λ (k : Kept). handle_at k.handles n) (sym same) ∙ has.handle;
+        }
+    | inr ne ↦ record {
+      kept = has.kept;
+      made = ap (λ (us : List (Option Kept)). slice_get us p) did.users' ∙ set_apart old.users place p (Some runs) ne ∙ has.made;
+      head' = has.head';
+      handle = has.handle;
+    }
+  ]
+
+  abbrev own : (n : ℕ) (head : Head) (h : Handle) → at_number kept.heads n ≡ Some head → handle_at kept.handles n ≡ Some h → Has old.users place n head h
+  own n head h found has = record { kept = kept; made = its_users.0; head' = found; handle = has }
+
+  -- ---- blocks
+
+  static_get : (n : ℕ) (head : Head) (h : Handle) (b : Block) → at_number kept.heads n ≡ Some head → is_static head ≡ true → handle_at kept.handles n ≡ Some h → get old.memory.slots h ≡ Some b
+      → get new.memory.slots h ≡ Some (active_block b)
+  static_get n head h b found static has live =
+      let at = number_suc kept.heads n head found in
+      let i = in_statics kept.heads kept.handles 1 at.0 head h at.2 static (ap (handle_at kept.handles) (sym at.1) ∙ has) in
+      ap (λ (t : Slots). get t h) slots_are ∙ all_here active_block again_is old.memory.slots (static_handles kept.heads kept.handles 1) h b i.0 live i.1
+
+  -- any other segment's is as before
+  apart_get : (p n : ℕ) (head : Head) (h : Handle) → Has old.users p n head h → ((p ≡ place) → is_static head ≡ false) → get new.memory.slots h ≡ get old.memory.slots h
+  apart_get p n head h has other = ap (λ (t : Slots). get t h) slots_are ∙ all_apart active_block again_is old.memory.slots (static_handles kept.heads kept.handles 1) h (λ i k found same.
+      let one = statics_in kept.heads kept.handles 1 i k found in
+      let more : 1 + one.0 ≡ suc one.0 = omega arith in
+      let has' : Has old.users place (1 + one.0) one.1 k = own (1 + one.0) one.1 k (ap (at_number kept.heads) more ∙ one.2) one.4 in
+      let both = sound.once p place n (1 + one.0) head one.1 h k has has' same in
+      let kept_same : has.kept ≡ kept = kept_one has.kept kept (sym has.made ∙ ap (slice_get old.users) both.0 ∙ its_users.0) in
+      let heads' : Some head ≡ Some one.1 = sym has.head' ∙ ap (λ (x : Kept). at_number x.heads n) kept_same ∙ ap (at_number kept.heads) both.1 ∙ has'.head' in
+      let clash : true ≡ false = sym one.3 ∙ ap is_static (sym (same_Some head one.1 heads')) ∙ other both.0 in absurd cc)
+
+  none_in : (n : ℕ) → ¬ Contains {X = ℕ} [] n
+  none_in n found = omega (arith, found.1)
+
+  bytes_middle : (h : Handle) → IsSome (there_at (presence new.memory.slots (Some h))) → bytes_at new.memory h.slot ≡ bytes_at middle h.slot
+  bytes_middle h there = did.bytes.bytes h.slot (none_in h.slot) (stay.is_there new.memory h there)
+
+  sizes : (h : Handle) → IsSome (there_at (presence new.memory.slots (Some h))) → length (bytes_at new.memory h.slot) ≡ length (bytes_at old.memory h.slot)
+  sizes h there = ap length (bytes_middle h there) ∙ quiet.sizes h.slot
+
+  -- a block of a segment afterwards: as before, but a static one of the user is active
+  record IsAfter (h : Handle) (b : Block) : Type 0 where
+    after : Block
+    live : get new.memory.slots h ≡ Some after
+    at : after.at ≡ b.at
+    user : after.user ≡ b.user
+    want : after.want ≡ b.want
+    form : IsSegments b → IsSegments after
+
+  after_get : (p n : ℕ) (head : Head) (h : Handle) (b : Block) → Has old.users p n head h → get old.memory.slots h ≡ Some b → IsAfter h b
+  after_get p n head h b has live = elim (cases_eq p place) [
+    | inl eq ↦ elim (decide (is_static head)) [
+      | inl static ↦
+          let same : has.kept ≡ kept = kept_one has.kept kept (sym has.made ∙ ap (slice_get old.users) eq ∙ its_users.0) in
+          let head' : at_number kept.heads n ≡ Some head = ap (λ (k : Kept). at_number k.heads n) (sym same) ∙ has.head' in
+          let handle : handle_at kept.handles n ≡ Some h = ap (λ (k : Kept). handle_at k.handles n) (sym same) ∙ has.handle in
+          record { after = active_block b; live = static_get n head h b head' static handle live; at = refl; user = refl; want = refl; form = λ was. inl (refl, refl) }
+      | inr other ↦ as_was (apart_get p n head h has (λ e. other))
+    ]
+    | inr ne ↦ as_was (apart_get p n head h has (λ e. absurd (ne e)))
+  ]
+    where
+      as_was : get new.memory.slots h ≡ get old.memory.slots h → IsAfter h b
+      as_was same = record { after = b; live = same ∙ live; at = refl; user = refl; want = refl; form = λ was. was }
+
+  each_before : (p n : ℕ) (head : Head) (h : Handle) → Has old.users p n head h → IsOf new.memory (first_id + p) head h
+  each_before p n head h has =
+      let of' = sound.each p n head h has in
+      let it = after_get p n head h of'.block has of'.live in
+      record {
+        block = it.after;
+        live = it.live;
+        user = it.user ∙ of'.user;
+        form = it.form of'.form;
+        want = omega (arith, of'.want, ap (λ w. w.size) it.want);
+        room = λ there.
+            let present : IsSome (there_at (presence new.memory.slots (Some h))) = subst (λ (o : Option Block). IsSome (there_at (lies_in h o))) (sym it.live) (there_block h it.after there) in
+            omega (arith, of'.room (subst (λ (o : Option ℕ). IsSome o) it.at there), sizes h present);
+      }
+
+  -- the static segments were there
+  was_there : (n : ℕ) (head : Head) → at_number kept.heads n ≡ Some head → is_static head ≡ true → IsSome (there_at (presence_at old.memory.slots kept.handles n))
+  was_there n head found static =
+      let at = number_suc kept.heads n head found in
+      there_some (presence_at old.memory.slots kept.handles n)
+      (ap (λ (m : ℕ). is_there (presence_at old.memory.slots kept.handles m)) at.1 ∙ there_all old.memory.slots kept.heads kept.handles 1 at.0 head whole at.2 static)
+
+  static_active : (n : ℕ) (head : Head) → at_number kept.heads n ≡ Some head → is_static head ≡ true → is_active (presence_at new.memory.slots kept.handles n) ≡ true
+  static_active n head found static = go (handle_at kept.handles n) refl (was_there n head found static)
+    where
+      active_here : (h : Handle) (at : Option ℕ) → IsSome at → is_active (lies_at h at true) ≡ true
+      active_here h None some = absurd cc
+      active_here h (Some a) some = refl
+
+      some_at : (h : Handle) (at : Option ℕ) (locked : Bool) → IsSome (there_at (lies_at h at locked)) → IsSome at
+      some_at h None locked e = absurd cc
+      some_at h (Some a) locked e = refl
+
+      go : (o : Option Handle) → handle_at kept.handles n ≡ o → IsSome (there_at (presence old.memory.slots o)) → is_active (presence_at new.memory.slots kept.handles n) ≡ true
+      go None e there = absurd cc
+      go (Some h) e there =
+          let of' = sound.each place n head h (own n head h found e) in
+          let some = some_at h of'.block.at of'.block.locked (subst (λ (o : Option Block). IsSome (there_at (lies_in h o))) of'.live there) in
+          ap (λ (o : Option Handle). is_active (presence new.memory.slots o)) e
+          ∙ ap (λ (o : Option Block). is_active (lies_in h o)) (static_get n head h of'.block found static e of'.live) ∙ active_here h of'.block.at some
+
+  statics_now : (p : ℕ) (k : Kept) (n : ℕ) (head : Head) → slice_get new.users p ≡ Some (Some k) → k.life ≡ Running → at_number k.heads n ≡ Some head → is_static head ≡ true
+      → is_active (presence_at new.memory.slots k.handles n) ≡ true
+  statics_now p k n head made' life found static = elim (users_now p k made') [
+    | inl it ↦ subst (λ (x : Kept). is_active (presence_at new.memory.slots x.handles n) ≡ true) (sym it.1) (static_active n head (ap (λ (x : Kept). at_number x.heads n) (sym it.1) ∙ found) static)
+    | inr other ↦ go (handle_at k.handles n) refl other.0 other.1 (sound.statics p k n head other.1 life found static)
+  ]
+    where
+      go : (o : Option Handle) → handle_at k.handles n ≡ o → p ≢ place → slice_get old.users p ≡ Some (Some k) → is_active (presence old.memory.slots o) ≡ true → is_active (presence_at new.memory.slots k.handles n) ≡ true
+      go None e ne made'' active = absurd cc
+      go (Some h) e ne made'' active =
+          let has : Has old.users p n head h = record { kept = k; made = made''; head' = found; handle = e } in
+          ap (λ (o : Option Handle). is_active (presence new.memory.slots o)) e ∙ ap (λ (o : Option Block). is_active (lies_in h o)) (apart_get p n head h has (λ eq. absurd (ne eq))) ∙ active
+
+  rests_now : (p : ℕ) (k : Kept) (n : ℕ) → slice_get new.users p ≡ Some (Some k) → k.life ≡ Dormant → is_active (presence_at new.memory.slots k.handles n) ≡ false
+  rests_now p k n made' life = elim (users_now p k made') [
+    | inl it ↦ (let clash : Running ≡ Dormant = ap (λ (x : Kept). x.life) (sym it.1) ∙ life in absurd cc)
+    | inr other ↦ go (handle_at k.handles n) refl other.0 other.1 (sound.rests p k n other.1 life)
+  ]
+    where
+      go : (o : Option Handle) → handle_at k.handles n ≡ o → p ≢ place → slice_get old.users p ≡ Some (Some k) → is_active (presence old.memory.slots o) ≡ false → is_active (presence_at new.memory.slots k.handles n) ≡ false
+      go None e ne made'' rests = ap (λ (o : Option Handle). is_active (presence new.memory.slots o)) e
+      go (Some h) e ne made'' rests =
+          let one = has_any old sound p k made'' n h e in
+          ap (λ (o : Option Handle). is_active (presence new.memory.slots o)) e
+          ∙ ap (λ (o : Option Block). is_active (lies_in h o)) (apart_get p n one.0 h one.1 (λ eq. absurd (ne eq))) ∙ rests
+
+  lengths_now : (p : ℕ) (k : Kept) → slice_get new.users p ≡ Some (Some k) → (length k.handles ≡ length k.heads) × (length k.heads < 2 ^ 16)
+  lengths_now p k made' = elim (users_now p k made') [
+    | inl it ↦ subst (λ (x : Kept). (length x.handles ≡ length x.heads) × (length x.heads < 2 ^ 16)) (sym it.1) (sound.lengths place kept its_users.0, sound.short place kept its_users.0)
+    | inr other ↦ (sound.lengths p k other.1, sound.short p k other.1)
+  ]
+
+  only_now : (slot : ℕ) (b : Block) → block_in (slot_at new.memory.slots slot) ≡ Some b → b.user ≢ 0
+      → (p : ℕ) × (n : ℕ) × (head : Head) × (h : Handle) × Has new.users p n head h × (h.slot ≡ slot)
+  only_now slot b found user =
+      let was = all_in active_block again_is (λ x. refl) old.memory.slots (static_handles kept.heads kept.handles 1) slot b (sym (ap (λ (t : Slots). block_in (slot_at t slot)) slots_are) ∙ found) in
+      let it = sound.only slot was.0 was.1 (λ e. user (sym was.2 ∙ e)) in
+      (it.0, it.1, it.2, it.3, has_now it.0 it.1 it.2 it.3 it.4, it.5)
+
+  pub resumed_sound : IsSound new.memory new.users
+  resumed_sound = record {
+    few = omega (arith, sound.few, ap (λ (us : List (Option Kept)). length us) did.users', length_set old.users place (Some runs));
+    lengths = λ p k made'. (lengths_now p k made').0;
+    short = λ p k made'. (lengths_now p k made').1;
+    statics = statics_now;
+    rests = rests_now;
+    each = λ p n head h has. each_before p n head h (has_before p n head h has);
+    once = λ p q n m head second h k one two same. sound.once p q n m head second h k (has_before p n head h one) (has_before q m second k two) same;
+    only = only_now;
+  }
+
+  -- ---- agreement
+
+  there_now : (n : ℕ) → there_at (presence_at new.memory.slots kept.handles n) ≡ there_at (presence_at old.memory.slots kept.handles n)
+  there_now n = go (handle_at kept.handles n) refl
+    where
+      lies_alike : (h : Handle) (at : Option ℕ) (one other : Bool) → there_at (lies_at h at one) ≡ there_at (lies_at h at other)
+      lies_alike h None one other = refl
+      lies_alike h (Some a) true true = refl
+      lies_alike h (Some a) true false = refl
+      lies_alike h (Some a) false true = refl
+      lies_alike h (Some a) false false = refl
+
+      go : (o : Option Handle) → handle_at kept.handles n ≡ o → there_at (presence new.memory.slots o) ≡ there_at (presence old.memory.slots o)
+      go None e = refl
+      go (Some h) e =
+          let one = has_any old sound place kept its_users.0 n h e in
+          let of' = sound.each place n one.0 h one.1 in
+          let it = after_get place n one.0 h of'.block one.1 of'.live in
+          ap (λ (o : Option Block). there_at (lies_in h o)) it.live ∙ ap (λ (at : Option ℕ). there_at (lies_at h at it.after.locked)) it.at
+          ∙ lies_alike h of'.block.at it.after.locked of'.block.locked ∙ sym (ap (λ (o : Option Block). there_at (lies_in h o)) of'.live)
+
+  -- a dynamic segment is as before
+  dynamic_now : (n : ℕ) (head : Head) → at_number kept.heads n ≡ Some head → is_static head ≡ false → presence_at new.memory.slots kept.handles n ≡ presence_at old.memory.slots kept.handles n
+  dynamic_now n head found other = go (handle_at kept.handles n) refl
+    where
+      go : (o : Option Handle) → handle_at kept.handles n ≡ o → presence new.memory.slots o ≡ presence old.memory.slots o
+      go None e = refl
+      go (Some h) e = ap (lies_in h) (apart_get place n head h (own n head h found e) (λ eq. other))
+
+  module _ (segments : List Segment) (reread : AreReread segments id kept old.memory middle)
+      (held : FileMap) (state : Machine) (agrees : Agrees held old state) (same_segments : (kept_is held old state agrees id kept made).does_agree.segments ≡ segments) where
+    -- the bytes of a segment that isn't read again stay
+    plain_bytes : (p n : ℕ) (g : Head) (k : Handle) → Has old.users p n g k → ((p ≡ place) → is_read_again g ≡ false) → bytes_at middle k.slot ≡ bytes_at old.memory k.slot
+    plain_bytes p n g k has plain = reread.stay k.slot (λ m f j fhead again fhandle same.
+        let other = own m f j fhead fhandle in
+        let both = sound.once place p m n f g j k other has same in
+        let kept_same : has.kept ≡ kept = kept_one has.kept kept (sym has.made ∙ ap (slice_get old.users) (sym both.0) ∙ its_users.0) in
+        let heads' : Some g ≡ Some f = sym has.head' ∙ ap (λ (x : Kept). at_number x.heads n) kept_same ∙ ap (at_number kept.heads) (sym both.1) ∙ fhead in
+        let clash : true ≡ false = sym again ∙ ap is_read_again (sym (same_Some g f heads')) ∙ plain (sym both.0) in absurd cc)
+
+    abbrev is : IsKept held old state agrees id kept
+    is = kept_is held old state agrees id kept made
+
+    abbrev user : User
+    user = is.user
+
+    abbrev user' : User
+    user' = record is.user { life = Running; segments = read_again (map head_of is.does_agree.segments) is.user.segments }
+
+    count : length is.user.segments ≡ length (map head_of is.does_agree.segments)
+    count = is.does_agree.count ∙ sym (Rattle.std.proofs.lemmas.List.length-map is.does_agree.segments head_of)
+
+    heads_at : (n : ℕ) (s : Segment) → segment_at is.does_agree.segments n ≡ Some s → at_number kept.heads n ≡ Some (head_of s)
+    heads_at n s found = ap (λ (hs : List Head). at_number hs n) is.does_agree.heads ∙ head_at is.does_agree.segments n s found
+
+    abbrev a : Setting
+    a = setting id old.memory.slots kept.handles
+
+    abbrev b : Setting
+    b = setting id new.memory.slots kept.handles
+
+    not_static : (s : Segment) → is_dynamic s.fields.kind ≡ true → is_static (head_of s) ≡ false
+    not_static s dynamic = rw dynamic refl
+
+    alike : (n : ℕ) (s : Segment) → AreAlike is.does_agree.segments n s a b
+    alike n s = record {
+      id = refl;
+      own = ap (λ (o : Option ℕ). unwrap_or o 0) (sym (there_now n));
+      static = λ m t found static. ap (λ (o : Option ℕ). unwrap_or o 0) (sym (there_now m));
+      target = λ table m t found dynamic kept'. ap active_at (sym (dynamic_now m (head_of t) (heads_at m t found) (not_static t dynamic)));
+    }
+
+    alike_stands : (n : ℕ) (s : Segment) (pokes : Rattle.loader_machine.specs.State.Pokes) → segment_at is.does_agree.segments n ≡ Some s → stands a pokes s ≡ stands b pokes s
+    alike_stands n s pokes found = stands_alike is.does_agree.segments n s (loadable_has is.does_agree.holds.file is.does_agree.segments is.does_agree.holds.loadable n s found) a b (alike n s) pokes
+
+    pokes_now : (n : ℕ) (s : Segment) → segment_at is.does_agree.segments n ≡ Some s → held_at user' n ≡ cond (is_read_again (head_of s)) (fresh (held_at user n).handle) (held_at user n)
+    pokes_now zero s found = absurd cc
+    pokes_now (suc k) s found = again_get (map head_of is.does_agree.segments) is.user.segments k (head_of s) count (head_at is.does_agree.segments (suc k) s found)
+
+    begins : AreThere old.memory.slots kept.handles is.does_agree.segments → (n : ℕ) (s : Segment) (h : Handle) → segment_at is.does_agree.segments n ≡ Some s → handle_at kept.handles n ≡ Some h
+        → IsSome (there_at (presence_at new.memory.slots kept.handles n)) → IsFront (stands b (held_at user' n).pokes s) (bytes_at new.memory h.slot)
+    begins there n s h found has present =
+        let present' : IsSome (there_at (presence new.memory.slots (Some h))) = subst (λ (o : Option Handle). IsSome (there_at (presence new.memory.slots o))) has present in
+        elim (decide (is_read_again (head_of s))) [
+          | inl again ↦
+              let front = reread.begins n s h (subst (λ (ss : List Segment). segment_at ss n ≡ Some s) same_segments found) again has in
+              let pokes : (held_at user' n).pokes ≡ no_pokes = ap (λ (x : Held). x.pokes) (pokes_now n s found) ∙ ap (λ (t : Bool). (cond t (fresh (held_at user n).handle) (held_at user n)).pokes) again in
+              rw (pokes, ← alike_stands n s no_pokes found, bytes_middle h present') front
+          | inr plain ↦
+              let before : IsSome (there_at (presence_at old.memory.slots kept.handles n)) = rw (← there_now n) present in
+              let front = is.does_agree.begins there n s h found has before in
+              let pokes : (held_at user' n).pokes ≡ (held_at user n).pokes = ap (λ (x : Held). x.pokes) (pokes_now n s found) ∙ ap (λ (t : Bool). (cond t (fresh (held_at user n).handle) (held_at user n)).pokes) plain in
+              let bytes : bytes_at new.memory h.slot ≡ bytes_at old.memory h.slot = bytes_middle h present' ∙ plain_bytes place n (head_of s) h (own n (head_of s) h (heads_at n s found) has) (λ e. plain) in
+              rw (pokes, ← alike_stands n s (held_at user n).pokes found, bytes) front
+        ]
+
+    unpoked : (n : ℕ) (s : Segment) → segment_at is.does_agree.segments n ≡ Some s → load.is_table s ≡ true → (held_at user' n).pokes ≡ no_pokes
+    unpoked n s found table = elim (decide (is_read_again (head_of s))) [
+      | inl again ↦ ap (λ (x : Held). x.pokes) (pokes_now n s found) ∙ ap (λ (t : Bool). (cond t (fresh (held_at user n).handle) (held_at user n)).pokes) again
+      | inr plain ↦ ap (λ (x : Held). x.pokes) (pokes_now n s found) ∙ ap (λ (t : Bool). (cond t (fresh (held_at user n).handle) (held_at user n)).pokes) plain ∙ is.does_agree.unpoked n s found table
+    ]
+
+    outlines : outline runs ≡ outline_of user'
+    outlines =
+        let new_life : Outline → Outline = λ o. record o { life = Running } in
+        ap new_life is.does_agree.same
+        ∙ ap (λ (hs : List (Option Handle)). let o : Outline = record { path = is.user.path; life = Running; handles = hs } in o) (sym (again_handles (map head_of is.does_agree.segments) is.user.segments count))
+
+    user_agrees : UserAgrees held new.memory id runs user'
+    user_agrees = record {
+      same = outlines;
+      segments = is.does_agree.segments;
+      holds = is.does_agree.holds;
+      heads = is.does_agree.heads;
+      count = again_length (map head_of is.does_agree.segments) is.user.segments count ∙ is.does_agree.count;
+      unpoked = unpoked;
+      statics = λ life n s found static. static_active n (head_of s) (heads_at n s found) static;
+      begins = λ there n s h found has present. begins (λ m t found' static. was_there m (head_of t) (heads_at m t found') static) n s h found has present;
+    }
+
+    others_agree : (p : ℕ) (k : Kept) (u : User) → slice_get old.users p ≡ Some (Some k) → p ≢ place → UserAgrees held old.memory (first_id + p) k u → UserAgrees held new.memory (first_id + p) k u
+    others_agree p k u made' ne was = agrees_still held old.memory new.memory (first_id + p) k u was (λ n j found.
+        let one = has_any old sound p k made' n j found in
+        Same (apart_get p n one.0 j one.1 (λ e. absurd (ne e))) (λ there. bytes_middle j there ∙ plain_bytes p n one.0 j one.1 (λ e. absurd (ne e))))
+
+    state_users : slice_get state.users place ≡ Some (Some is.user)
+    state_users = (made_at state.users id is.user is.made).0
+
+    abbrev pub next : Machine
+    next = with_both state id (changed_all active_block state.slots (static_handles (map head_of is.does_agree.segments) (handles_of is.user) 1)) (Some (record is.user { life = Running; segments = read_again (map head_of is.does_agree.segments) is.user.segments }))
+
+    next_slots : new.memory.slots ≡ changed_all active_block state.slots (static_handles (map head_of is.does_agree.segments) (handles_of is.user) 1)
+    next_slots = slots_are ∙ ap (λ (t : Slots). changed_all active_block t (static_handles kept.heads kept.handles 1)) agrees.slots
+        ∙ ap (λ (hs : List Head). changed_all active_block state.slots (static_handles hs kept.handles 1)) is.does_agree.heads
+        ∙ ap (λ (o : Outline). changed_all active_block state.slots (static_handles (map head_of is.does_agree.segments) o.handles 1)) is.does_agree.same
+
+    pub resumed_agrees : Agrees held new (with_both state id (changed_all active_block state.slots (static_handles (map head_of (kept_is held old state agrees id kept made).does_agree.segments) (handles_of (kept_is held old state agrees id kept made).user) 1))
+        (Some (record (kept_is held old state agrees id kept made).user { life = Running; segments = read_again (map head_of (kept_is held old state agrees id kept made).does_agree.segments) (kept_is held old state agrees id kept made).user.segments })))
+    resumed_agrees = record {
+      banks = did.bytes.banks ∙ reread.banks ∙ agrees.banks;
+      slots = next_slots;
+      users = ap (map (option_map outline)) did.users' ∙ set_map (option_map outline) old.users place (Some runs) ∙ ap (λ us. slice_set us place (Some (outline runs))) agrees.users
+          ∙ ap (λ (o : Outline). slice_set (map (option_map outline_of) state.users) place (Some o)) outlines ∙ sym (set_map (option_map outline_of) state.users place (Some user'));
+      each = λ p k u made' made''. elim (users_now p k made') [
+        | inl it ↦
+            let inside = slice_get_within state.users place (Some is.user) state_users in
+            let user_same : u ≡ user' = user_one u user' (sym made'' ∙ ap (slice_get (slice_set state.users place (Some user'))) it.0 ∙ set_at state.users place (Some user') inside) in
+            let id_is : id ≡ first_id + p = omega (arith, its_users.1, it.0) in
+            subst (λ (n : ℕ). UserAgrees held new.memory n k u) id_is
+            (subst (λ (x : User). UserAgrees held new.memory id k x) (sym user_same) (subst (λ (x : Kept). UserAgrees held new.memory id x user') (sym it.1) user_agrees))
+        | inr other ↦ others_agree p k u other.1 other.0 (agrees.each p k u other.1 (sym (set_apart state.users place p (Some user') other.0) ∙ made''))
+      ];
+    }
+      where
+        user_one : (a b : User) → Some (Some a) ≡ Some (Some b) → a ≡ b
+        user_one a b e = cc

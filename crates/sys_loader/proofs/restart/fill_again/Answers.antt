@@ -1,0 +1,44 @@
+use Rattle.std.proofs.Common.{◌+◌, ◌<◌, length, map, sym, subst, ◌∙◌, arith}
+use Rattle.iigs_meaning.specs.Memory.{Memory}
+use Rattle.sys_loader.specs.Filling.{AreFilled}
+use Rattle.sys_loader.specs.Restarting.{again_handle}
+use Rattle.sys_loader.proofs.Written.{heads_of, head_here, has_head, filled_skip, filled_more, there_now, fits_now}
+use Rattle.sys_loader.proofs.Reloading.{again_here}
+use Rattle.sys_loader.proofs.restart.fill_again.Goals.{in-Some, in-None}
+use Rattle.sys_loader.proofs.restart.fill_again.Goals as goal
+
+pub fill_block-requires-clause-head : goal.fill_block-requires-clause-head
+fill_block-requires-clause-head c =
+    has_head c.args.load.now c.args.segments.now.items c.places.k c.index-segment.result.now c.requires.heads (omega (arith, c.places-test.true, c.len-k-end.ensures)) c.index-segment.ensures
+
+pub fill_block-requires-clause-there : goal.fill_block-requires-clause-there
+fill_block-requires-clause-there c =
+    let segments = c.args.segments.now.items in
+    let s = c.index-segment.result.now in
+    let inside : c.places.k < length segments = omega (arith, c.places-test.true, c.len-k-end.ensures) in
+    there_now c.args.load.now (heads_of segments) (map again_handle segments) c.args.user c.args.places.now c.args.banks.now c.places.banks c.places.banks c.places.k c.in-Some.h s.head c.places.invariant c.requires.ready
+    (head_here segments c.places.k s inside c.index-segment.ensures) (again_here segments c.places.k s inside c.index-segment.ensures ∙ sym c.again_handle.ensures ∙ c.in-Some.is)
+
+pub fill_block-requires-clause-fits : goal.fill_block-requires-clause-fits
+fill_block-requires-clause-fits c =
+    let segments = c.args.segments.now.items in
+    let s = c.index-segment.result.now in
+    let inside : c.places.k < length segments = omega (arith, c.places-test.true, c.len-k-end.ensures) in
+    fits_now c.args.load.now (heads_of segments) (map again_handle segments) c.args.user c.args.places.now c.args.banks.now c.places.banks c.places.banks c.places.k c.in-Some.h s.head c.places.invariant c.requires.ready
+    (head_here segments c.places.k s inside c.index-segment.ensures) (again_here segments c.places.k s inside c.index-segment.ensures ∙ sym c.again_handle.ensures ∙ c.in-Some.is)
+
+pub places-preserved : goal.places-preserved
+places-preserved c =
+    let segments = c.args.segments.now.items in
+    let s = c.index-segment.result.now in
+    let inside : c.places.k < length segments = omega (arith, c.places-test.true, c.len-k-end.ensures) in
+    let handle = again_here segments c.places.k s inside c.index-segment.ensures ∙ sym c.again_handle.ensures in
+    elim c.match-again_handle.branch [
+      | in-Some w ↦
+          subst (λ (m : Memory). AreFilled c.args.load.now (map again_handle segments) c.args.user c.args.places.now c.args.banks.now m (c.places.k + 1)) (sym w.banks-is)
+          (filled_more c.args.load.now (heads_of segments) (map again_handle segments) c.args.user c.args.places.now c.args.banks.now c.places.banks w.fill_block.new.banks c.places.k w.in-Some.h s.head c.places.invariant c.requires.ready
+          (head_here segments c.places.k s inside c.index-segment.ensures) (handle ∙ w.in-Some.is) w.fill_block.ensures)
+      | in-None w ↦
+          subst (λ (m : Memory). AreFilled c.args.load.now (map again_handle segments) c.args.user c.args.places.now c.args.banks.now m (c.places.k + 1)) (sym w.banks-is)
+          (filled_skip c.args.load.now (map again_handle segments) c.args.user c.args.places.now c.args.banks.now c.places.banks c.places.k c.places.invariant (handle ∙ w.in-None.is))
+    ]

@@ -1,0 +1,156 @@
+-- What it takes to make a dynamic segment active, whatever files there are.
+use Rattle.std.specs.Prelude.{◌≡◌, ◌≢◌, ◌⊎◌, ℕ, ◌-◌, ◌^◌, ◌<◌, Bool, true, false, List, length, map, Option, Some, None, IsSome, slice_set, Result, Ok, Err}
+use Rattle.std.specs.Option.{option_map_or}
+use Rattle.omf_format.specs.Header.{is_dynamic}
+use Rattle.omf_format.specs.File.{Segment, segment_at}
+use Rattle.omf_io.specs.Counts.{IsFront}
+use Rattle.omf_io.specs.Files.{FileMap, IsRead, IsUnread}
+use Rattle.load_meaning.specs.Loadable.{IsLoadable}
+use Rattle.iigs_meaning.specs.declared.handles.Handle.{Handle}
+use Rattle.iigs_meaning.specs.Slots.{new_handle}
+use Rattle.iigs_meaning.specs.Puts.{Purges, LacksRoom}
+use Rattle.iigs_meaning.specs.Memory.{Memory, IsPlaced, IsReplaced, Changes, bytes_at}
+use Rattle.loader_machine.specs.declared.faults.LoaderFault.{LoaderFault}
+use Rattle.loader_machine.specs.declared.faults.LoaderFault.TheVariants as fault
+use Rattle.loader_machine.specs.declared.seen.Head.{Head}
+use Rattle.loader_machine.specs.declared.seen.Facts.{Facts}
+use Rattle.loader_machine.specs.declared.seen.Life.TheVariants.{Running}
+use Rattle.loader_machine.specs.declared.seen.Presence.{Presence}
+use Rattle.loader_machine.specs.declared.seen.Presence.TheVariants.{Absent, Purged, Idle, Active}
+use Rattle.loader_machine.specs.Heads.{head_of, at_number, want_of}
+use Rattle.loader_machine.specs.State.{no_pokes, user_of, with_user}
+use Rattle.loader_machine.specs.Presences.{handle_at, presence, presence_at}
+use Rattle.loader_machine.specs.Stands.{setting, stands}
+use Rattle.loader_machine.specs.Refusals.{load_segment_refusal}
+use Rattle.loader_machine.specs.Steps.{active_block}
+use Rattle.loader_machine.specs.Needs.{is_read}
+use Rattle.loader_agrees.specs.Agrees.{Kept, Loaded, seen_by}
+use Rattle.sys_loader.specs.Calls.{IsBadFile}
+use Rattle.sys_loader.specs.Renewing.{AreRenewed}
+use Rattle.sys_loader.specs.Lives.{with_bytes, HasShifted}
+
+-- ---- a file that has changed
+
+-- what is told of a segment of a file with so many
+abbrev pub facts_of : ℕ → ℕ → Head → Facts
+facts_of count number head = record {
+  count = count;
+  segment = number;
+  length = head.length;
+  kind = head.kind;
+  bank_size = head.bank_size;
+  align = head.align;
+  org = head.org;
+  entry = head.entry;
+}
+
+-- what is told of a file of which only the number of segments has changed
+abbrev pub count_facts : ℕ → Facts
+count_facts count = facts_of count 0 (record { length = 0; kind = 0; bank_size = 0; align = 0; org = 0; entry = 0 })
+
+-- the headers of segments that both files have, up to a number, are the same
+abbrev pub AreSameBelow : List Head → List Head → ℕ → Type 0
+AreSameBelow kept found number = (n : ℕ) (a b : Head) → n < number → at_number kept n ≡ Some a → at_number found n ≡ Some b → a ≡ b
+
+-- the first segment that differs has this number
+pub record DiffersAt (kept found : List Head) (number : ℕ) (was is : Head) : Type 0 where
+  pub was' : at_number kept number ≡ Some was
+  pub is' : at_number found number ≡ Some is
+  pub other : was ≢ is
+  pub before : AreSameBelow kept found number
+
+-- the file isn't the one that was loaded: the first segment that differs, or else the number of segments
+abbrev pub IsChanged : List Head → List Head → LoaderFault → Type 0
+IsChanged kept found why =
+    ((number : ℕ) × (was : Head) × (is : Head) × DiffersAt kept found number was is
+    × (why ≡ fault.Changed (facts_of (length kept) number was) (facts_of (length found) number is)))
+    ⊎ (((n : ℕ) → AreSameBelow kept found n) × (length kept ≢ length found) × (why ≡ fault.Changed (count_facts (length kept)) (count_facts (length found))))
+
+-- ---- a segment that can be made active
+
+-- a dynamic segment of a user that runs, with this header and handle
+pub record CanLoad (loader : Loaded) (id number : ℕ) (head : Head) (handle : Option Handle) : Type 0 where
+  pub passes : load_segment_refusal (seen_by loader id) number ≡ None
+  pub kept : Kept
+  pub made : user_of loader.users id ≡ Some kept
+  pub runs : kept.life ≡ Running
+  pub head' : at_number kept.heads number ≡ Some head
+  pub handle' : handle_at kept.handles number ≡ handle
+  pub dynamic : is_dynamic head.kind ≡ true
+  pub fits : head.length < 2 ^ 32
+
+-- ---- a segment that is read
+
+-- its block is placed, locked with level 0: under a new handle, or anew under the one that it has
+abbrev pub IsBrought : Memory → ℕ → Head → Option Handle → Handle → ℕ → Memory → Type 0
+IsBrought old id head None h address new = (is : IsPlaced Purges old (want_of head) id true 0 h new) × (is.puts.address ≡ address)
+IsBrought old id head (Some k) h address new =
+    (k ≡ h) × (middle : Memory) × (is : IsReplaced Purges old h (want_of head) middle) × (is.puts.address ≡ address) × Changes middle h active_block new
+
+-- why it isn't: no slot is free, or there is no room
+abbrev pub IsBringRefusal : Memory → Head → Option Handle → ℕ → LoaderFault → Type 0
+IsBringRefusal memory head None number why = ((why ≡ fault.NoHandle) × (new_handle memory.slots ≡ None))
+    ⊎ ((why ≡ fault.NoRoom number) × IsSome (new_handle memory.slots) × LacksRoom Purges memory.banks memory.slots (want_of head))
+IsBringRefusal memory head (Some h) number why = (why ≡ fault.NoRoom number) × LacksRoom Purges memory.banks memory.slots (want_of head)
+
+-- the user with this handle for the segment with a number
+abbrev pub with_handle : Kept → ℕ → Handle → Kept
+with_handle kept number h = record kept { handles = slice_set kept.handles (number - 1) (Some h) }
+
+-- The block of a segment of these is placed and begins with what stands in it, and the entries of the user's tables for it lead to
+-- it; nothing else is written.
+pub record HasCome (old : Loaded) (id number : ℕ) (kept : Kept) (head : Head) (handle : Option Handle) (segments : List Segment) (address : ℕ) (new : Loaded) : Type 0 where
+  pub h : Handle
+  pub placed : Memory
+  pub brought : IsBrought old.memory id head handle h address placed
+  pub content : List ℕ
+  pub same : length content ≡ length (bytes_at placed h.slot)
+  pub begins : (s : Segment) → segment_at segments number ≡ Some s → IsFront (stands (setting id placed.slots (with_handle kept number h).handles) no_pokes s) content
+  pub renewed : AreRenewed kept.heads kept.handles (Some number) (Some address) (with_bytes placed h.slot content) new.memory (length kept.heads)
+  pub users : new.users ≡ with_user old.users id (Some (with_handle kept number h))
+
+-- why a segment of a file that was read doesn't come: the file is no load file, or not the one that was loaded, or there is no
+-- handle or room; or memory ran out
+abbrev pub IsComeRefusal : List ℕ → Loaded → ℕ → Kept → Head → Option Handle → LoaderFault → Type 0
+IsComeRefusal file old number kept head handle why = IsBadFile file why
+    ⊎ ((segments : List Segment) × IsLoadable file segments × (IsChanged kept.heads (map head_of segments) why
+    ⊎ ((map head_of segments ≡ kept.heads) × IsBringRefusal old.memory head handle number why)))
+
+-- a segment of a file that was read has come
+abbrev pub HasComeFrom : List ℕ → Loaded → ℕ → ℕ → Kept → Head → Option Handle → ℕ → Loaded → Type 0
+HasComeFrom file old id number kept head handle address new =
+    (segments : List Segment) × IsLoadable file segments × (map head_of segments ≡ kept.heads) × HasCome old id number kept head handle segments address new
+
+-- why a segment of the file at a user's path doesn't come: the read is refused, memory ran out, or the file that was read gives none
+pub data IsReadRefusal (held : Option FileMap) (old : Loaded) (number : ℕ) (kept : Kept) (head : Head) (handle : Option Handle) (before now : ℕ) (why : LoaderFault) : Type 0 where
+  CantRead : IsUnread held kept.path before now → why ≡ fault.CannotRead → IsReadRefusal held old number kept head handle before now why
+  LacksMemory : why ≡ fault.Memory → now ≡ before → IsReadRefusal held old number kept head handle before now why
+  CantCome : (file : List ℕ) → IsRead held kept.path file → IsComeRefusal file old number kept head handle why → now ≡ before
+      → IsReadRefusal held old number kept head handle before now why
+
+-- what came of reading the file at a user's path: its segment has come, or none has and all stays
+abbrev pub DidCome : Option FileMap → Loaded → ℕ → ℕ → Kept → Head → Option Handle → Result ℕ LoaderFault → Loaded → ℕ → ℕ → Type 0
+DidCome held old id number kept head handle (Ok address) new before now =
+    ((file : List ℕ) × IsRead held kept.path file × HasComeFrom file old id number kept head handle address new) × (now ≡ before)
+DidCome held old id number kept head handle (Err why) new before now = IsReadRefusal held old number kept head handle before now why × (new ≡ old)
+
+-- ---- the whole call
+
+-- the segment with a number of the user of an ID isn't there, and has to be read
+abbrev pub segment_reads : Loaded → ℕ → ℕ → Bool
+segment_reads loader id number = option_map_or (λ kept. is_read (presence_at loader.memory.slots kept.handles number)) (user_of loader.users id) false
+
+-- what came of a segment that can be made active, by where it is: nothing is done, it wakes, or it comes
+abbrev pub HasActivated : Option FileMap → Loaded → ℕ → ℕ → Kept → Head → Option Handle → Presence → Result ℕ LoaderFault → Loaded → ℕ → ℕ → Type 0
+HasActivated held old id number kept head handle (Active h at) result new before now = (result ≡ Ok at) × (new ≡ old) × (now ≡ before)
+HasActivated held old id number kept head handle (Idle h at) result new before now =
+    (result ≡ Ok at) × HasShifted old kept number h active_block (Some at) new × (now ≡ before)
+HasActivated held old id number kept head handle (Purged h) result new before now = DidCome held old id number kept head handle result new before now
+HasActivated held old id number kept head handle Absent result new before now = DidCome held old id number kept head handle result new before now
+
+-- what a call to make a segment active did
+abbrev pub DidActivate : Option FileMap → Loaded → ℕ → ℕ → Result ℕ LoaderFault → Loaded → ℕ → ℕ → Type 0
+DidActivate held old id number result new before now =
+    ((why : LoaderFault) × (load_segment_refusal (seen_by old id) number ≡ Some why) × (result ≡ Err why) × (new ≡ old) × (now ≡ before))
+    ⊎ ((head : Head) × (handle : Option Handle) × (can : CanLoad old id number head handle)
+    × HasActivated held old id number can.kept head handle (presence old.memory.slots handle) result new before now)

@@ -1,0 +1,268 @@
+//! Calls that are followed: a JSL in an active segment, and the entry of a jump table to which it may lead.
+
+ghost use Rattle.std.specs.Prelude.{◌≡◌, ◌≢◌, ◌+◌, ◌*◌, ◌<◌, ◌≤◌, ◌^◌, ℕ, Some, None, IsSome, IsSomeAnd, Result, length, true, false, IfOk, IfErr, OnErr, MatchOption};
+ghost use Rattle.omf_io.specs.Counts.{one_more};
+ghost use Rattle.omf_io.specs.Files.{FileMap};
+ghost use Rattle.load_meaning.specs.Table.{entry_place};
+ghost use Rattle.load_meaning.specs.LoadTable as tables;
+ghost use Rattle.load_meaning.specs.LoadTable.{target_at};
+ghost use Rattle.iigs_meaning.specs.Puts.{Purges};
+ghost use Rattle.iigs_meaning.specs.Slots.{get};
+ghost use Rattle.iigs_meaning.specs.Memory.{bytes_at};
+ghost use Rattle.loader_machine.specs.State.{Machine};
+ghost use Rattle.loader_machine.specs.Heads.{at_number};
+ghost use Rattle.loader_machine.specs.Presences.{handle_at};
+ghost use Rattle.loader_machine.specs.Steps.{no_jsl, address_of};
+ghost use Rattle.loader_machine.specs.Commands as commands;
+ghost use Rattle.loader_machine.specs.Refusals.{load_segment_refusal};
+ghost use Rattle.loader_agrees.specs.Agrees.{Agrees, Meets, ReadsNeeded, seen_by};
+ghost use Rattle.loader_agrees.specs.Acts.{LiesIn};
+ghost use Rattle.sys_loader.specs.View.{kept};
+ghost use Rattle.sys_loader.specs.Activating.{segment_reads, DidActivate};
+ghost use Rattle.sys_loader.specs.Calling.{HasCall, EntersTarget};
+ghost use Rattle.sys_loader.specs.Following.{jsl_reply, LeadsTo, IsJslRefusal, HasReached, CallsEntry, entered_at, HasAsked, DidJsl};
+
+use crate::answers::Entered;
+use crate::head::is_table;
+use crate::loader::Loader;
+use crate::renew::{address_in, entry_count, number};
+use crate::user::{Segment, User};
+use crate::users::user_in;
+use iigs_meaning::{BlockFault, Handle};
+use iigs_memory::Banks;
+use load_meaning::Target;
+use loader_machine::LoaderFault;
+use omf_io::Files;
+
+/// The code of a JSL.
+const JSL: u8 = 0x22;
+
+/// Where a JSL leads: to a place in a segment, or through the entry of a user's jump table to an offset in one.
+#[derive(Clone, Copy)]
+pub enum Reached {
+    Place(Entered),
+    Entry {
+        user: u16,
+        segment: u16,
+        offset: u32,
+    },
+}
+
+/// The address in a JSL's four bytes.
+fn called(four: &[u8]) -> Result<u32, LoaderFault>
+    requires { length four.now ≡ 4 }
+    ensures ok { IfOk result (λ address. (no_jsl four.now ≡ None) × (address ≡ address_of four.now)) }
+    ensures err { IfErr result (λ why. no_jsl four.now ≡ Some why) }
+{
+    if four[0] != JSL {
+        return Err(LoaderFault::NotJsl);
+    }
+    Ok(number(four, 1, 3))
+}
+
+/// The place, from 0, of the entry whose code is at an offset of a table of so many bytes.
+fn entry_at(size: u32, offset: u32) -> Option<usize>
+    ensures { MatchOption result ((k : ℕ) → k < tables.entry_count size → entry_place k ≢ offset)
+        (λ k. (k < tables.entry_count size) × (entry_place k ≡ offset)) }
+{
+    if offset < 18 {
+        return None;
+    }
+    if (offset - 18) % 14 != 0 {
+        return None;
+    }
+    let k = ((offset - 18) / 14) as usize;
+    if k >= entry_count(size) {
+        return None;
+    }
+    Some(k)
+}
+
+/// Where the entry at a place of a table leads.
+#[tactic(auto, unfolding(load_meaning::specs::LoadTable::target_at))]
+fn target_in(bytes: &[u8], k: usize) -> Target
+    requires { 22 + 14 * k ≤ length bytes.now }
+    ensures { result ≡ target_at bytes.now k }
+{
+    let start = 8 + 14 * k;
+    Target {
+        file: number(bytes, start + 2, 2) as u16,
+        segment: number(bytes, start + 4, 2) as u16,
+        offset: number(bytes, start + 6, 4),
+    }
+}
+
+/// The bytes of a block that is there.
+fn block_of(banks: &Banks, handle: Option<Handle>) -> &[u8]
+    requires { IsSomeAnd handle (λ h. IsSomeAnd (get banks.now.slots h) (λ block. IsSome block.at)) }
+    ensures { IsSomeAnd handle (λ h. result.now ≡ bytes_at banks.now h.slot) }
+{
+    let h = match handle {
+        Some(h) => h,
+        None => unreachable!(),
+    };
+    match banks.block(h) {
+        Ok(bytes) => bytes,
+        Err(BlockFault::Stale) => unreachable!(),
+        Err(BlockFault::Empty) => unreachable!(),
+    }
+}
+
+/// A user's segment with a number, from 1.
+fn segment_in(user: &User, number: u16) -> Segment
+    requires some { 1 ≤ number }
+    requires inside { number ≤ length user.now.segments.items }
+    ensures head { at_number (kept user.now).heads number ≡ Some result.head }
+    ensures handle { handle_at (kept user.now).handles number ≡ result.handle }
+{
+    user.segments[usize::from(number) - 1]
+}
+
+impl Loader {
+    // The place to which the JSL at an offset leads.
+    fn jsl_place(&self, user: u16, segment: u16, at: u32) -> Result<Entered, LoaderFault>
+        ensures leads { IfOk result (LeadsTo self.now user segment at) }
+        ensures refused { IfErr result (IsJslRefusal self.now user segment at) }
+    {
+        self.is_sound();
+        let four = match self.lent(user, segment, at, 4) {
+            Ok(four) => four,
+            Err(fault) => return Err(fault),
+        };
+        let address = match called(four) {
+            Ok(address) => address,
+            Err(fault) => return Err(fault),
+        };
+        match self.located(address) {
+            Some(place) => Ok(place),
+            None => Err(LoaderFault::NoTarget),
+        }
+    }
+
+    // Where a place leads: to itself, or in a table to the entry whose code is there.
+    fn reached(&self, place: Entered) -> Result<Reached, LoaderFault>
+        requires lies { LiesIn self.now place.address place.user place.segment place.offset }
+        ensures reached { (user segment at : ℕ) → LeadsTo self.now user segment at place → IfOk result (HasReached self.now user segment at) }
+        ensures refused { (user segment at : ℕ) → LeadsTo self.now user segment at place → IfErr result (IsJslRefusal self.now user segment at) }
+    {
+        self.is_sound();
+        let found = segment_in(user_in(&self.users, place.user), place.segment);
+        if !is_table(&found.head) {
+            return Ok(Reached::Place(place));
+        }
+        let k = match entry_at(found.head.length, place.offset) {
+            Some(k) => k,
+            None => return Err(LoaderFault::NotEntry),
+        };
+        let target = target_in(block_of(&self.banks, found.handle), k);
+        Ok(Reached::Entry {
+            user: place.user,
+            segment: target.segment,
+            offset: target.offset,
+        })
+    }
+
+    // Where the JSL at an offset leads.
+    fn reach(&self, user: u16, segment: u16, at: u32) -> Result<Reached, LoaderFault>
+        ensures reached { IfOk result (HasReached self.now user segment at) }
+        ensures refused { IfErr result (IsJslRefusal self.now user segment at) }
+    {
+        let place = match self.jsl_place(user, segment, at) {
+            Ok(place) => place,
+            Err(fault) => return Err(fault),
+        };
+        self.reached(place)
+    }
+
+    // The segment of an entry is made active, and entered.
+    fn enter<F: Files>(
+        &mut self,
+        files: &mut F,
+        user: u16,
+        segment: u16,
+        offset: u32,
+    ) -> Result<Entered, LoaderFault>
+        ensures held { (F.seen files.new).held ≡ (F.seen files.old).held }
+        ensures never_falls { (F.seen files.old).faults ≤ (F.seen files.new).faults }
+        ensures asked { load_segment_refusal (seen_by self.old user) segment ≡ None → segment_reads self.old user segment ≡ true
+            → (F.seen files.new).asked ≡ one_more (F.seen files.old).asked }
+        ensures unasked { segment_reads self.old user segment ≡ false → (F.seen files.new).asked ≡ (F.seen files.old).asked }
+        ensures refused_unasked { IsSome (load_segment_refusal (seen_by self.old user) segment) → (F.seen files.new).asked ≡ (F.seen files.old).asked }
+        ensures did { (made : Result ℕ LoaderFault) × DidActivate (F.seen files.old).held self.old user segment made self.new (F.seen files.old).faults (F.seen files.new).faults
+            × (result ≡ entered_at user segment offset made) }
+    {
+        match self.make_active(files, user, segment) {
+            Ok(address) => Ok(Entered {
+                user,
+                segment,
+                offset,
+                address: address_in(address, offset),
+            }),
+            Err(fault) => Err(fault),
+        }
+    }
+
+    // The JSL at an offset is followed.
+    fn follow<F: Files>(
+        &mut self,
+        files: &mut F,
+        user: u16,
+        segment: u16,
+        at: u32,
+    ) -> Result<Entered, LoaderFault>
+        ensures held { (F.seen files.new).held ≡ (F.seen files.old).held }
+        ensures never_falls { (F.seen files.old).faults ≤ (F.seen files.new).faults }
+        ensures asked { HasAsked self.old user segment at (F.seen files.old).asked (F.seen files.new).asked }
+        ensures did { DidJsl (F.seen files.old).held self.old user segment at result self.new (F.seen files.old).faults (F.seen files.new).faults }
+    {
+        let reached = match self.reach(user, segment, at) {
+            Ok(reached) => reached,
+            Err(fault) => return Err(fault),
+        };
+        match reached {
+            Reached::Place(place) => Ok(place),
+            Reached::Entry {
+                user: owner,
+                segment: number,
+                offset,
+            } => self.enter(files, owner, number, offset),
+        }
+    }
+
+    /// Follows the JSL at an offset of an active segment of a user that runs. It enters the active segment in which its address
+    /// lies. In a jump table the address must be the code of an entry: the entry's segment of the table's user is made active as by
+    /// `load_segment`, and entered at the entry's offset. Where that segment is active or idle, no memory is taken.
+    pub fn jsl<F: Files>(
+        &mut self,
+        files: &mut F,
+        user: u16,
+        segment: u16,
+        at: u32,
+    ) -> Result<Entered, LoaderFault>
+        ensures held { (F.seen files.new).held ≡ (F.seen files.old).held }
+        ensures never_falls { (F.seen files.old).faults ≤ (F.seen files.new).faults }
+
+        // The file of the table's user is read once where the entry's segment can be made active and isn't there, and else not at all.
+        ensures asked { HasAsked self.old user segment at (F.seen files.old).asked (F.seen files.new).asked }
+
+        // Over files that are told, and with which the loader agrees, it is the machine's step, and reads what that needs.
+        ensures meets { (held : FileMap) (state : Machine) → (F.seen files.old).held ≡ Some held → Agrees held self.old state
+            → Meets Purges held state (commands.Jsl user segment at) (jsl_reply result) self.new (F.seen files.old).faults (F.seen files.new).faults }
+        ensures needed { (held : FileMap) (state : Machine) → (F.seen files.old).held ≡ Some held → Agrees held self.old state
+            → ReadsNeeded held state (commands.Jsl user segment at) (F.seen files.old).asked (F.seen files.new).asked }
+
+        // A JSL to the code of an entry enters where the entry leads, or is refused for want of the file, a handle, room or memory.
+        ensures enters { (held : FileMap) (state : Machine) → (F.seen files.old).held ≡ Some held → Agrees held self.old state
+            → (target : Target) → HasCall held state user segment at target → EntersTarget user target result }
+
+        // And so much is true of it over any files.
+        ensures did { DidJsl (F.seen files.old).held self.old user segment at result self.new (F.seen files.old).faults (F.seen files.new).faults }
+    {
+        self.is_sound();
+        self.is_apart();
+        let entered = self.follow(files, user, segment, at);
+        self.is_sound();
+        self.is_apart();
+        entered
+    }
+}
