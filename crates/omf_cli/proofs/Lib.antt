@@ -6,3 +6,4 @@ pub mod Libraries
 pub mod Linking
 pub mod Sources
 mod Forms
+pub mod Begins

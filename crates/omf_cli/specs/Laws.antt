@@ -3,7 +3,7 @@ use Rattle.std.specs.Prelude.{◌≡◌, ◌≤◌, ℕ, ◌+◌, ◌-◌, ◌^�
 use Rattle.loader_agrees.specs.Agrees.{Loaded}
 use Rattle.omf_io.specs.Outside.{Outside}
 use Rattle.omf_cli.specs.declared.status.Status.TheVariants.{CannotRead, CannotWrite}
-use Rattle.omf_cli.specs.Form.{Link, Run, Lib}
+use Rattle.omf_cli.specs.Form.{Asm, Link, Run, Lib}
 use Rattle.omf_cli.specs.Tool.{HasRun}
 
 -- where an output couldn't be written, the store was asked for each input once, and for nothing else
@@ -15,6 +15,11 @@ OutputsAreAskedForOnce = (output : List ℕ) (inputs : List (List ℕ)) (last : 
 abbrev pub LibrariesAreAskedForOnce : Type 0
 LibrariesAreAskedForOnce = (output : List ℕ) (inputs : List (List ℕ)) (last : Option Loaded) (o : Outside) → o.store.asked + length inputs ≤ 2 ^ 64 - 1
     → HasRun CannotWrite (Some (Lib output inputs)) last o → o.new_store.asked ≡ o.store.asked + length inputs
+
+-- the same for an object: its source and its macro files
+abbrev pub ObjectsAreAskedForOnce : Type 0
+ObjectsAreAskedForOnce = (source output : List ℕ) (macros : List (List ℕ)) (last : Option Loaded) (o : Outside) → o.store.asked + length (source ∷ macros) ≤ 2 ^ 64 - 1
+    → HasRun CannotWrite (Some (Asm source output macros)) last o → o.new_store.asked ≡ o.store.asked + length (source ∷ macros)
 
 -- where a script couldn't be read, the store was asked for no more than the script
 abbrev pub ScriptsAreAskedForOnce : Type 0

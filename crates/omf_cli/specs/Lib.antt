@@ -17,3 +17,4 @@ pub mod Script
 pub mod Tool
 pub mod Code
 pub mod Laws
+pub mod Loads

@@ -14,6 +14,6 @@ mod script;
 mod status;
 mod tool;
 
-pub use laws::inputs_are_asked_for_once;
+pub use laws::{inputs_are_asked_for_once, linked_files_begin};
 pub use status::Status;
 pub use tool::run_tool;

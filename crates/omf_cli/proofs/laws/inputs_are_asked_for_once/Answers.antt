@@ -1,3 +1,5 @@
+use Rattle.std.specs.Prelude.{◌∷◌}
+use Rattle.omf_cli.specs.Assemble.{AsmMakes}
 use Rattle.omf_cli.specs.Library.{LibMakes}
 use Rattle.omf_cli.specs.Link.{LinkMakes}
 use Rattle.omf_cli.proofs.Once.{unwritten_reads, unread_reads}
@@ -8,6 +10,9 @@ returns-clause-outputs c output inputs last o small run = unwritten_reads LinkMa
 
 pub returns-clause-libraries : goal.returns-clause-libraries
 returns-clause-libraries c = λ output inputs last o small run. unwritten_reads (LibMakes inputs) output inputs o small run.0
+
+pub returns-clause-objects : goal.returns-clause-objects
+returns-clause-objects c = λ source output macros last o small run. unwritten_reads AsmMakes output (source ∷ macros) o small run.0
 
 pub returns-clause-scripts : goal.returns-clause-scripts
 returns-clause-scripts c = unread_reads

@@ -1,0 +1,37 @@
+-- What comes of loading a file that the linker wrote.
+use Rattle.std.specs.Prelude.{◌≡◌, ℕ, List, Some, Result, Ok, Err}
+use Rattle.std.specs.List.{AllByRecursion}
+use Rattle.std.specs.FinMap.{get}
+use Rattle.omf_format.specs.HeaderLaws.{IsBytes}
+use Rattle.omf_io.specs.Files.{FileMap}
+use Rattle.link_meaning.specs.EmitFaults.{IsLinkedTo}
+use Rattle.link_meaning.specs.LinkLoadable.{NamesNoSkipped}
+use Rattle.iigs_meaning.specs.Puts.{Purges}
+use Rattle.loader_machine.specs.declared.faults.LoaderFault.{LoaderFault}
+use Rattle.loader_machine.specs.declared.faults.LoaderFault.TheVariants.{TooManyUsers, CannotRead, NoHandle, NoRoom, Memory}
+use Rattle.loader_machine.specs.State.{Machine}
+use Rattle.loader_machine.specs.Commands.{Load}
+use Rattle.loader_agrees.specs.Agrees.{Loaded, Meets}
+use Rattle.sys_loader.specs.declared.answers.Started.{Started}
+use Rattle.sys_loader.specs.Replies.{load_reply}
+
+-- the reason lies outside the file: 255 users, a read that failed, no handle, no room, or no memory
+abbrev pub LiesOutside : LoaderFault → Type 0
+LiesOutside TooManyUsers = Unit {0}
+LiesOutside CannotRead = Unit {0}
+LiesOutside NoHandle = Unit {0}
+LiesOutside (NoRoom number) = Unit {0}
+LiesOutside Memory = Unit {0}
+LiesOutside _ = ⊥
+
+-- a program began, or none did for a reason outside the file
+abbrev pub BeginsOrLacks : Result Started LoaderFault → Type 0
+BeginsOrLacks (Ok started) = Unit {0}
+BeginsOrLacks (Err why) = LiesOutside why
+
+-- Where a path holds a file that the linker wrote, and no part of it and no entry of its jump table names a skipped segment, a load
+-- of that path is answered by its program, or refused for a reason outside the file.
+abbrev pub LinkedFilesBegin : Type 0
+LinkedFilesBegin = (files : List (List ℕ)) (output : List ℕ) → AllByRecursion IsBytes files → (is : IsLinkedTo files output) → NamesNoSkipped is.list is.table
+    → (held : FileMap) (path : List ℕ) → get held path ≡ Some output
+    → (state : Machine) (result : Result Started LoaderFault) (new : Loaded) (before now : ℕ) → Meets Purges held state (Load path) (load_reply result) new before now → BeginsOrLacks result
