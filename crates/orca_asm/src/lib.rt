@@ -45,4 +45,6 @@ pub use asm_meaning::{AsmCause, AsmFault};
 pub use source::assemble;
 
 #[cfg(test)]
+mod opcode_tests;
+#[cfg(test)]
 mod tests;
