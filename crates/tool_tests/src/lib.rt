@@ -2,7 +2,13 @@
 #![tactic(auto)]
 
 #[cfg(test)]
+mod activating;
+#[cfg(test)]
+mod calls;
+#[cfg(test)]
 mod dumping;
+#[cfg(test)]
+mod embedding;
 #[cfg(test)]
 mod every_record;
 #[cfg(test)]
@@ -17,6 +23,8 @@ mod lives;
 mod loading;
 #[cfg(test)]
 mod programs;
+#[cfg(test)]
+mod restarts;
 #[cfg(test)]
 mod runner;
 #[cfg(test)]
