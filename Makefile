@@ -32,6 +32,7 @@ bench: build
 	bench/load
 	bench/library build/omf
 	bench/loader build/omf
+	bench/lives build/omf
 	bench/link build/omf
 	bench/macro
 	bench/asm build/omf
