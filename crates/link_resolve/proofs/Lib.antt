@@ -8,8 +8,10 @@ pub mod Grown
 pub mod FirstLeft
 pub mod SegmentsLeft
 pub mod SegmentName
+pub mod ListedLaws
 pub mod DefinitionLaws
 pub mod UseLaws
+pub mod UseTables
 pub mod SearchLaws
 pub mod LinkedLaws
 pub mod TitleLaws

@@ -5,11 +5,12 @@ ghost use Rattle.std.specs.Bool.{OnTrue};
 ghost use Rattle.omf_format.specs.File.{Segment};
 ghost use Rattle.link_meaning.specs.declared.fault.LinkCause.TheVariants.{Empty};
 ghost use Rattle.link_meaning.specs.First.{HasNone};
-ghost use Rattle.link_meaning.specs.Member.{Member};
+ghost use Rattle.link_meaning.specs.Member.{Input, Member};
 ghost use Rattle.link_meaning.specs.LinkedList.{asked};
 ghost use Rattle.link_meaning.specs.LinkFaults.{nowhere, HasUseFault, IsResolved};
 ghost use Rattle.link_resolve.specs.Linked.{Holds};
 ghost use Rattle.link_resolve.specs.Gathered.{AllAmong};
+ghost use Rattle.link_resolve.specs.Grown.{MayGrow, HasGrown};
 ghost use Rattle.link_resolve.specs.Laid.{Laid};
 ghost use Rattle.link_resolve.specs.Resolving.{IsHeld};
 ghost use Rattle.link_resolve.specs.Resolved.{all_bytes, total_size, AreFew, HasGathered, IsReadingFault, IsUseFault, IsRefused};
@@ -20,6 +21,7 @@ use crate::grow::grow;
 use crate::input::memory_fault;
 use crate::layout::{Layout, headers};
 use crate::linked::Linked;
+use crate::offers::Offers;
 use crate::program::{Kept, Program};
 use link_meaning::{LinkCause, LinkFault};
 use omf_base::{Name, NameFault, Spot};
@@ -73,6 +75,19 @@ fn empty_fault() -> LinkFault
             at: 0,
         },
     }
+}
+
+/// Grows the list until no use wants a member. The rows are let go behind it.
+fn grow_whole<'a>(
+    alloc: Global,
+    files: &[SegmentList<'a>],
+    offers: Offers,
+    linked: &mut Linked<'a>,
+) -> Result<(), AllocError>
+    requires { (inputs : List Input) × MayGrow inputs files.now offers linked.old }
+    ensures { OnOk result ((inputs : List Input) → MayGrow inputs files.now offers linked.old → HasGrown inputs files.now linked.new) }
+{
+    grow(alloc, files, &offers, linked)
 }
 
 /// The first use that doesn't resolve, as a fault; Ok where each does.
@@ -150,7 +165,7 @@ pub fn resolve<'a>(alloc: Global, inputs: &'a Vec<Vec<u8>>) -> Result<Program<'a
         offers,
     } = gathered;
     let segments = files.as_slice();
-    match grow(alloc, segments, &offers, &mut linked) {
+    match grow_whole(alloc, segments, offers, &mut linked) {
         Ok(()) => {}
         Err(_) => return Err(memory_fault()),
     }
