@@ -30,4 +30,6 @@ mod runner;
 #[cfg(test)]
 mod running;
 #[cfg(test)]
+mod stressing;
+#[cfg(test)]
 mod versions;

@@ -1,0 +1,6 @@
+pub mod Draws
+pub mod Object
+pub mod Store
+pub mod Rounds
+pub mod Work
+pub mod Answering
