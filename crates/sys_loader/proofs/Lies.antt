@@ -1,5 +1,5 @@
 -- An address that lies in none of the segments so far, and then in one or in none.
-use Rattle.std.proofs.Common.{◌≡◌, inl, inr, ℕ, zero, suc, Bool, true, false, ◌+◌, ◌-◌, ◌<◌, ◌≤◌, List, length, map, get_or, Option, Some, None, IsSomeAnd, nat_lt, refl, sym, ap, subst, ◌∙◌, arith}
+use Rattle.std.proofs.Common.{◌≡◌, ◌≢◌, inl, inr, ℕ, zero, suc, Bool, true, false, ◌+◌, ◌-◌, ◌<◌, ◌≤◌, List, length, map, get_or, Option, Some, None, IsSomeAnd, nat_lt, refl, sym, ap, subst, ◌∙◌, arith}
 use Rattle.std.specs.Prelude.{slice_get, option_map, ◌^◌}
 use Rattle.std.proofs.lemmas.List.{length-map}
 use Rattle.std.specs.Option.{option_and_then}
@@ -25,28 +25,28 @@ use Rattle.sys_loader.specs.declared.user.User.{User}
 use Rattle.sys_loader.specs.declared.user.Segment.{Segment}
 use Rattle.sys_loader.specs.Lying.{LiesAt, LiesInNone, IsSomewhereOf, IsNowhereFor, IsSomewhere}
 
-pub none_yet : (slots : Slots) (segments : List Segment) (address : ℕ) → LiesInNone slots segments 0 address
-none_yet slots segments address k s offset less is = absurd (omega (arith, less))
+pub none_yet : (slots : Slots) (segments : List Segment) (h : Handle) (address : ℕ) → LiesInNone slots segments 0 h address
+none_yet slots segments h address k s offset less is = absurd (omega (arith, less))
 
-module _ (slots : Slots) (segments xs : List Segment) (place address : ℕ) (d : Segment) (same : xs ≡ segments) (inside : place < length xs) where
+module _ (slots : Slots) (segments xs : List Segment) (h : Handle) (place address : ℕ) (d : Segment) (same : xs ≡ segments) (inside : place < length xs) where
   here : slice_get segments place ≡ Some (get_or xs place d)
   here = ap (λ (l : List Segment). slice_get l place) (sym same) ∙ slice_get-get_or xs place d inside
 
-  pub none_more : LiesInNone slots segments place address → ((offset : ℕ) → ¬ LiesAt slots (get_or xs place d) address offset) → LiesInNone slots segments (place + 1) address
+  pub none_more : LiesInNone slots segments place h address → ((offset : ℕ) → ¬ LiesAt slots (get_or xs place d) h address offset) → LiesInNone slots segments (place + 1) h address
   none_more none not k t offset less found = elim (cases_lt k place) [
     | inl before ↦ none k t offset before found
     | inr after ↦ λ lies.
         let at : k ≡ place = omega (arith, after, less) in
         let it : t ≡ get_or xs place d = same_Some t (get_or xs place d) (sym found ∙ ap (slice_get segments) at ∙ here) in
-        not offset (subst (λ (x : Segment). LiesAt slots x address offset) it lies)
+        not offset (subst (λ (x : Segment). LiesAt slots x h address offset) it lies)
   ]
 
-pub none_all : (slots : Slots) (segments : List Segment) (place address : ℕ) → LiesInNone slots segments place address → length segments ≤ place → LiesInNone slots segments (length segments) address
-none_all slots segments place address none past k s offset less is = none k s offset (omega (arith, less, past)) is
+pub none_all : (slots : Slots) (segments : List Segment) (h : Handle) (place address : ℕ) → LiesInNone slots segments place h address → length segments ≤ place → LiesInNone slots segments (length segments) h address
+none_all slots segments h place address none past k s offset less is = none k s offset (omega (arith, less, past)) is
 
 -- ---- users
 
-active_handle : (slots : Slots) (o : Option Handle) (h : Handle) (first : ℕ) → presence slots o ≡ Active h first → o ≡ Some h
+pub active_handle : (slots : Slots) (o : Option Handle) (h : Handle) (first : ℕ) → presence slots o ≡ Active h first → o ≡ Some h
 active_handle slots None h first is = absurd cc
 active_handle slots (Some k) h first is = ap (λ (x : Handle). Some x) (in_slot (get slots k) is)
   where
@@ -93,15 +93,15 @@ module _ (memory : Memory) (items : List (Option User)) where
       let place : first_id + k - first_id ≡ k = omega arith in
       rw (above, place) (ap (option_and_then (λ (u : Option Kept). u)) (slice_get-map (option_map kept) items k ∙ ap (option_map (option_map kept)) is))
 
-  pub lies_there : (k id address number offset : ℕ) (user : Option User) → slice_get items k ≡ Some user → id ≡ first_id + k → IsSomewhereOf memory.slots user address number offset
+  pub lies_there : (h : Handle) (k id address number offset : ℕ) (user : Option User) → slice_get items k ≡ Some user → id ≡ first_id + k → IsSomewhereOf memory.slots user h address number offset
       → LiesIn (loaded memory items) address id number offset
-  lies_there k id address number offset None is e somewhere = absurd somewhere
-  lies_there k id address number offset (Some user) is e somewhere =
+  lies_there h k id address number offset None is e somewhere = absurd somewhere
+  lies_there h k id address number offset (Some user) is e somewhere =
       let s = somewhere.1.0 in
       let at = somewhere.1.2 in
-      let handle = active_handle memory.slots s.handle at.h at.first at.active in
+      let handle = active_handle memory.slots s.handle h at.first at.active in
       record {
-        h = at.h;
+        h = h;
         is = record {
           kept = kept user;
           made = ap (user_of (map (option_map kept) items)) e ∙ user_at k user is;
@@ -135,9 +135,9 @@ module _ (memory : Memory) (items : List (Option User)) where
   at_place segments zero s is = absurd cc
   at_place segments (suc k) s is = (k, is, slice_get_within segments k s is)
 
-  -- where it lies in no segment of the user of an ID, it lies nowhere with that ID
-  pub lies_nowhere : (address id : ℕ) → IsNowhereFor memory.slots items address id → (number offset : ℕ) → ¬ LiesIn (loaded memory items) address id number offset
-  lies_nowhere address id nowhere number offset lies =
+  -- where it lies in no segment of the user of an ID under a handle, it lies in none of that handle's with that ID
+  pub lies_nowhere : (h : Handle) (address id : ℕ) → IsNowhereFor memory.slots items h address id → (number offset : ℕ) → (lies : LiesIn (loaded memory items) address id number offset) → lies.h ≢ h
+  lies_nowhere h address id nowhere number offset lies same =
       let is = lies.is in
       let both = made_at (map (option_map kept) items) id is.kept is.made in
       let item = item_of (id - first_id) is.kept both.0 in
@@ -145,10 +145,10 @@ module _ (memory : Memory) (items : List (Option User)) where
       let found = numbered user.segments.items number is.head (ap (λ (x : Kept). at_number x.heads number) item.2 ∙ is.head') in
       let s = found.0 in
       let place = at_place user.segments.items number s found.1 in
-      let handle : s.handle ≡ Some lies.h = sym (handle_is user.segments.items number s found.1) ∙ ap (λ (x : Kept). handle_at x.handles number) item.2 ∙ is.handle in
+      let handle : s.handle ≡ Some h = sym (handle_is user.segments.items number s found.1) ∙ ap (λ (x : Kept). handle_at x.handles number) item.2 ∙ is.handle ∙ ap (λ (k : Handle). Some k) same in
       let inside : offset < s.head.length = omega (arith, lies.inside, ap (λ (x : Head). x.length) found.2) in
       nowhere (Some user) (omega (arith, both.1)) item.1 (ap (λ (x : Kept). x.life) item.2 ∙ is.runs)
-      place.0 s offset place.2 place.1 (record { h = lies.h; first = is.address; active = ap (presence memory.slots) handle ∙ is.active; sum = lies.sum; inside = inside })
+      place.0 s offset place.2 place.1 (record { first = is.address; active = subst (λ (k : Handle). presence memory.slots s.handle ≡ Active k is.address) same (ap (presence memory.slots) (handle ∙ ap (λ (k : Handle). Some k) (sym same)) ∙ is.active); sum = lies.sum; inside = inside })
 
   module _ (sound : IsSound memory (map (option_map kept) items)) (address : ℕ) where
     pub none_held : ((h : Handle) → ¬ Has memory.slots address h) → (id number offset : ℕ) → ¬ LiesIn (loaded memory items) address id number offset
@@ -158,16 +158,16 @@ module _ (memory : Memory) (items : List (Option User)) where
     same_user None user id one two = absurd one
     same_user (Some block) user id one two = sym one ∙ two
 
-    pub none_owned : (h : Handle) → IsHolder memory.slots address h → (user : ℕ) → IsSomeAnd (get memory.slots h) (λ block. block.user ≡ user) → IsNowhereFor memory.slots items address user
+    pub none_owned : (h : Handle) → IsHolder memory.slots address h → (user : ℕ) → IsSomeAnd (get memory.slots h) (λ block. block.user ≡ user) → IsNowhereFor memory.slots items h address user
         → (id number offset : ℕ) → ¬ LiesIn (loaded memory items) address id number offset
     none_owned h holder user owner nowhere id number offset lies =
         let block = lies_block (loaded memory items) sound address id number offset lies in
         let one : IsSomeAnd (get memory.slots h) (λ block. block.user ≡ id) = subst (λ k. IsSomeAnd (get memory.slots k) (λ block. block.user ≡ id)) (holder.only lies.h block.0) block.1 in
         let same : user ≡ id = same_user (get memory.slots h) user id owner one in
-        lies_nowhere address id (subst (λ n. IsNowhereFor memory.slots items address n) same nowhere) number offset lies
+        lies_nowhere h address id (subst (λ n. IsNowhereFor memory.slots items h address n) same nowhere) number offset lies (holder.only lies.h block.0)
 
-    pub lies_owned : (user number offset : ℕ) → IsSomewhere memory.slots items address user number offset → LiesIn (loaded memory items) address user number offset
-    lies_owned user number offset there = lies_there there.place user address number offset there.user there.is there.id_is there.lies
+    pub lies_owned : (h : Handle) (user number offset : ℕ) → IsSomewhere memory.slots items h address user number offset → LiesIn (loaded memory items) address user number offset
+    lies_owned h user number offset there = lies_there h there.place user address number offset there.user there.is there.id_is there.lies
 
   -- what a sound loader's users keep
   pub short_users : IsSound memory (map (option_map kept) items) → (k : ℕ) (one : User) → slice_get items k ≡ Some (Some one) → length one.segments.items < 2 ^ 16

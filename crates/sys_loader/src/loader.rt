@@ -231,7 +231,7 @@ impl Loader {
             None => return None,
         };
         let user = owner_of(&self.banks, h);
-        match search_owner(&self.banks, &self.users, user, address) {
+        match search_owner(&self.banks, &self.users, user, h, address) {
             Some((segment, offset)) => Some(Entered {
                 user,
                 segment,

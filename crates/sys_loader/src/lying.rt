@@ -13,10 +13,16 @@ use iigs_meaning::{BlockFault, Handle};
 use iigs_memory::Banks;
 use loader_machine::{Life, Presence};
 
-/// The offset at which an address lies in a segment, where that is active.
-fn offset_in(banks: &Banks, segment: &Segment, address: u32) -> Option<u32>
-    ensures { MatchOption result ((offset : ℕ) → ¬ LiesAt banks.now.slots segment.now address offset) (LiesAt banks.now.slots segment.now address) }
+/// The offset at which an address lies in a segment, where that is active under a handle.
+fn offset_in(banks: &Banks, segment: &Segment, h: Handle, address: u32) -> Option<u32>
+    ensures { MatchOption result ((offset : ℕ) → ¬ LiesAt banks.now.slots segment.now h address offset) (LiesAt banks.now.slots segment.now h address) }
 {
+    let Some(own) = segment.handle else {
+        return None;
+    };
+    if own != h {
+        return None;
+    }
     match presence(banks, segment.handle) {
         Presence::Active(_, first) => {
             if first <= address && address - first < segment.head.length {
@@ -31,15 +37,20 @@ fn offset_in(banks: &Banks, segment: &Segment, address: u32) -> Option<u32>
     }
 }
 
-/// The number of the active segment in which an address lies, from 1, with the offset.
-pub fn search(banks: &Banks, segments: &Vec<Segment>, address: u32) -> Option<(u16, u32)>
+/// The number of the segment, active under a handle, in which an address lies, from 1, with the offset.
+pub fn search(
+    banks: &Banks,
+    segments: &Vec<Segment>,
+    h: Handle,
+    address: u32,
+) -> Option<(u16, u32)>
     requires { length segments.now.items < 2 ^ 16 }
-    ensures { MatchOption result (LiesInNone banks.now.slots segments.now.items (length segments.now.items) address)
-        (λ found. LiesInOne banks.now.slots segments.now.items address found.0 found.1) }
+    ensures { MatchOption result (LiesInNone banks.now.slots segments.now.items (length segments.now.items) h address)
+        (λ found. LiesInOne banks.now.slots segments.now.items h address found.0 found.1) }
 {
     let mut number: u32 = 1;
     'segments: for segment in segments {
-        match offset_in(banks, segment, address) {
+        match offset_in(banks, segment, h, address) {
             Some(offset) => return Some((number as u16, offset)),
             None => {}
         }
@@ -49,13 +60,18 @@ pub fn search(banks: &Banks, segments: &Vec<Segment>, address: u32) -> Option<(u
 }
 
 /// The same of a user, where it isn't gone and runs.
-pub fn search_user(banks: &Banks, user: &Option<User>, address: u32) -> Option<(u16, u32)>
+pub fn search_user(
+    banks: &Banks,
+    user: &Option<User>,
+    h: Handle,
+    address: u32,
+) -> Option<(u16, u32)>
     requires { (one : declared.User) → user.now ≡ Some one → length one.segments.items < 2 ^ 16 }
-    ensures { MatchOption result (IsNowhereOf banks.now.slots user.now address) (λ found. IsSomewhereOf banks.now.slots user.now address found.0 found.1) }
+    ensures { MatchOption result (IsNowhereOf banks.now.slots user.now h address) (λ found. IsSomewhereOf banks.now.slots user.now h address found.0 found.1) }
 {
     match user {
         Some(one) => match one.life {
-            Life::Running => search(banks, &one.segments, address),
+            Life::Running => search(banks, &one.segments, h, address),
             Life::Dormant => None,
         },
         None => None,
@@ -74,22 +90,23 @@ pub fn owner_of(banks: &Banks, h: Handle) -> u16
     }
 }
 
-/// The number of the active segment of the user of an ID in which an address lies, with the offset.
+/// The number of the segment of the user of an ID, active under a handle, in which an address lies, with the offset.
 pub fn search_owner(
     banks: &Banks,
     users: &Vec<Option<User>>,
     id: u16,
+    h: Handle,
     address: u32,
 ) -> Option<(u16, u32)>
     requires short { (k : ℕ) (one : declared.User) → slice_get users.now.items k ≡ Some (Some one) → length one.segments.items < 2 ^ 16 }
-    ensures { MatchOption result (IsNowhereFor banks.now.slots users.now.items address id)
-        (λ found. IsSomewhere banks.now.slots users.now.items address id found.0 found.1) }
+    ensures { MatchOption result (IsNowhereFor banks.now.slots users.now.items h address id)
+        (λ found. IsSomewhere banks.now.slots users.now.items h address id found.0 found.1) }
 {
     if id < FIRST_ID {
         return None;
     }
     match users.get(usize::from(id - FIRST_ID)) {
-        Some(user) => search_user(banks, user, address),
+        Some(user) => search_user(banks, user, h, address),
         None => None,
     }
 }

@@ -14,7 +14,7 @@ search_owner-requires c = record { short = short_users c.self.inside.banks c.sel
 pub returns-in-Some-search_owner : goal.returns-in-Some-search_owner
 returns-in-Some-search_owner c = (
   subst (λ (l : Loaded). LiesIn l c.args.address c.owner_of-user.result c.in-Some-search_owner.segment c.in-Some-search_owner.offset) c.self.view_is
-      (lies_owned c.self.inside.banks c.self.inside.users.items c.self.invariant.0 c.args.address c.owner_of-user.result c.in-Some-search_owner.segment c.in-Some-search_owner.offset c.in-Some-search_owner.ensures),
+      (lies_owned c.self.inside.banks c.self.inside.users.items c.self.invariant.0 c.args.address c.in-Some.h c.owner_of-user.result c.in-Some-search_owner.segment c.in-Some-search_owner.offset c.in-Some-search_owner.ensures),
   refl,
 )
 
