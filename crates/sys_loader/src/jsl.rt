@@ -162,15 +162,27 @@ impl Loader {
         })
     }
 
+    // Notes in which segment a place was found: the first that the next call to that block asks.
+    fn note(&mut self, place: Entered)
+        ensures { self.new ≡ self.old }
+    {
+        match self.banks.holder(place.address) {
+            Some(h) => self.firsts[usize::from(h.slot % 256)] = place.segment,
+            None => {}
+        }
+    }
+
     // Where the JSL at an offset leads.
-    fn reach(&self, user: u16, segment: u16, at: u32) -> Result<Reached, LoaderFault>
-        ensures reached { IfOk result (HasReached self.now user segment at) }
-        ensures refused { IfErr result (IsJslRefusal self.now user segment at) }
+    fn reach(&mut self, user: u16, segment: u16, at: u32) -> Result<Reached, LoaderFault>
+        ensures same { self.new ≡ self.old }
+        ensures reached { IfOk result (HasReached self.old user segment at) }
+        ensures refused { IfErr result (IsJslRefusal self.old user segment at) }
     {
         let place = match self.jsl_place(user, segment, at) {
             Ok(place) => place,
             Err(fault) => return Err(fault),
         };
+        self.note(place);
         self.reached(place)
     }
 

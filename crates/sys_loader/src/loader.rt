@@ -42,6 +42,8 @@ pub struct Loader {
     pub(crate) banks: Banks,
     // With room for all users. None is gone.
     pub(crate) users: Vec<Option<User>>,
+    // For the last byte of a slot, the number of the segment in whose block a call's address was found last: the first to be asked.
+    pub(crate) firsts: [u16; 256],
 }
 
 impl Model for Loader {
@@ -79,6 +81,7 @@ impl Loader {
                 alloc,
                 banks: memory,
                 users,
+                firsts: [0; 256],
             }),
             Err(AllocError) => Err(BanksFault::Memory),
         }
@@ -231,7 +234,14 @@ impl Loader {
             None => return None,
         };
         let user = owner_of(&self.banks, h);
-        match search_owner(&self.banks, &self.users, user, h, address) {
+        match search_owner(
+            &self.banks,
+            &self.users,
+            user,
+            h,
+            self.firsts[usize::from(h.slot % 256)],
+            address,
+        ) {
             Some((segment, offset)) => Some(Entered {
                 user,
                 segment,

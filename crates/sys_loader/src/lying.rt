@@ -3,7 +3,7 @@
 ghost use Rattle.std.specs.Prelude.{◌≡◌, ◌<◌, ◌^◌, ℕ, length, MatchOption};
 ghost use Rattle.sys_loader.specs.Lying.{LiesAt, LiesInNone, LiesInOne, IsNowhereOf, IsSomewhereOf, IsNowhereFor, IsSomewhere};
 ghost use Rattle.iigs_meaning.specs.Slots.{get};
-ghost use Rattle.std.specs.Prelude.{Some, slice_get, IsSome, IsSomeAnd};
+ghost use Rattle.std.specs.Prelude.{Some, slice_get, IfSome, IsSome, IsSomeAnd};
 ghost use Rattle.sys_loader.specs.declared.user.User as declared;
 
 use crate::loader::FIRST_ID;
@@ -37,17 +37,42 @@ fn offset_in(banks: &Banks, segment: &Segment, h: Handle, address: u32) -> Optio
     }
 }
 
-/// The number of the segment, active under a handle, in which an address lies, from 1, with the offset.
+/// The offset at which an address lies in the segment with a number, from 1, where there is one that is active under a handle.
+fn offset_there(
+    banks: &Banks,
+    segments: &Vec<Segment>,
+    h: Handle,
+    number: u16,
+    address: u32,
+) -> Option<u32>
+    ensures { IfSome result (LiesInOne banks.now.slots segments.now.items h address number) }
+{
+    if number == 0 {
+        return None;
+    }
+    match segments.get(usize::from(number) - 1) {
+        Some(segment) => offset_in(banks, segment, h, address),
+        None => None,
+    }
+}
+
+/// The number of the segment, active under a handle, in which an address lies, from 1, with the offset. The one with the number
+/// `first` is asked before all.
 pub fn search(
     banks: &Banks,
     segments: &Vec<Segment>,
     h: Handle,
+    first: u16,
     address: u32,
 ) -> Option<(u16, u32)>
     requires { length segments.now.items < 2 ^ 16 }
     ensures { MatchOption result (LiesInNone banks.now.slots segments.now.items (length segments.now.items) h address)
         (λ found. LiesInOne banks.now.slots segments.now.items h address found.0 found.1) }
 {
+    match offset_there(banks, segments, h, first, address) {
+        Some(offset) => return Some((first, offset)),
+        None => {}
+    }
     let mut number: u32 = 1;
     'segments: for segment in segments {
         match offset_in(banks, segment, h, address) {
@@ -64,6 +89,7 @@ pub fn search_user(
     banks: &Banks,
     user: &Option<User>,
     h: Handle,
+    first: u16,
     address: u32,
 ) -> Option<(u16, u32)>
     requires { (one : declared.User) → user.now ≡ Some one → length one.segments.items < 2 ^ 16 }
@@ -71,7 +97,7 @@ pub fn search_user(
 {
     match user {
         Some(one) => match one.life {
-            Life::Running => search(banks, &one.segments, h, address),
+            Life::Running => search(banks, &one.segments, h, first, address),
             Life::Dormant => None,
         },
         None => None,
@@ -96,6 +122,7 @@ pub fn search_owner(
     users: &Vec<Option<User>>,
     id: u16,
     h: Handle,
+    first: u16,
     address: u32,
 ) -> Option<(u16, u32)>
     requires short { (k : ℕ) (one : declared.User) → slice_get users.now.items k ≡ Some (Some one) → length one.segments.items < 2 ^ 16 }
@@ -106,7 +133,7 @@ pub fn search_owner(
         return None;
     }
     match users.get(usize::from(id - FIRST_ID)) {
-        Some(user) => search_user(banks, user, h, address),
+        Some(user) => search_user(banks, user, h, first, address),
         None => None,
     }
 }

@@ -1,5 +1,8 @@
-use Rattle.std.proofs.Common.{inr, refl, subst}
-use Rattle.sys_loader.specs.Following.{IsRefused, IsPlace, Stops, Leads, Calls, HasReached}
+use Rattle.std.proofs.Common.{inr, refl, sym, subst}
+use Rattle.loader_agrees.specs.Agrees.{Loaded}
+use Rattle.sys_loader.specs.Activating.{DidActivate}
+use Rattle.sys_loader.specs.declared.jsl.Reached.TheVariants.{Entry}
+use Rattle.sys_loader.specs.Following.{IsRefused, IsPlace, Stops, Leads, Calls, HasReached, HasAsked}
 use Rattle.sys_loader.proofs.Reaching.{has_asked}
 use Rattle.sys_loader.proofs.loader.Loader.follow.Goals as goal
 
@@ -7,7 +10,7 @@ pub returns-in-Err-clause-asked : goal.returns-in-Err-clause-asked
 returns-in-Err-clause-asked g c = inr (IsRefused c.in-Err.fault c.in-Err.ensures.refused, refl)
 
 pub returns-in-Err-clause-did : goal.returns-in-Err-clause-did
-returns-in-Err-clause-did g c = Stops c.in-Err.fault c.in-Err.ensures.refused refl refl refl
+returns-in-Err-clause-did g c = Stops c.in-Err.fault c.in-Err.ensures.refused refl c.reach.ensures.same refl
 
 pub returns-in-Place-clause-asked : goal.returns-in-Place-clause-asked
 returns-in-Place-clause-asked g c =
@@ -15,15 +18,21 @@ returns-in-Place-clause-asked g c =
 
 pub returns-in-Place-clause-did : goal.returns-in-Place-clause-did
 returns-in-Place-clause-did g c =
-    Leads c.in-Place.place (subst (HasReached c.args.self.now c.args.user c.args.segment c.args.at) c.in-Place.is c.in-Ok.ensures.reached) refl refl refl
+    Leads c.in-Place.place (subst (HasReached c.args.self.now c.args.user c.args.segment c.args.at) c.in-Place.is c.in-Ok.ensures.reached) refl c.reach.ensures.same refl
 
 pub returns-in-Entry-clause-asked : goal.returns-in-Entry-clause-asked
 returns-in-Entry-clause-asked g c =
-    has_asked c.args.self.now c.args.user c.args.segment c.args.at c.in-Entry.owner c.in-Entry.number c.in-Entry.offset
-    (subst (HasReached c.args.self.now c.args.user c.args.segment c.args.at) c.in-Entry.is c.in-Ok.ensures.reached)
-    (g.F.Files.seen c.args.files.now).asked (g.F.Files.seen c.enter.new.files).asked c.enter.ensures.asked c.enter.ensures.unasked c.enter.ensures.refused_unasked
+    let asked = (g.F.Files.seen c.args.files.now).asked in
+    let asked' = (g.F.Files.seen c.enter.new.files).asked in
+    let reached = subst (HasReached c.args.self.now c.args.user c.args.segment c.args.at) c.in-Entry.is c.in-Ok.ensures.reached in
+    let there = subst (λ (l : Loaded). HasReached l c.args.user c.args.segment c.args.at (Entry c.in-Entry.owner c.in-Entry.number c.in-Entry.offset)) (sym c.reach.ensures.same) reached in
+    subst (λ (l : Loaded). HasAsked l c.args.user c.args.segment c.args.at asked asked') c.reach.ensures.same
+    (has_asked c.reach.new.self c.args.user c.args.segment c.args.at c.in-Entry.owner c.in-Entry.number c.in-Entry.offset there
+    asked asked' c.enter.ensures.asked c.enter.ensures.unasked c.enter.ensures.refused_unasked)
 
 pub returns-in-Entry-clause-did : goal.returns-in-Entry-clause-did
 returns-in-Entry-clause-did g c =
     let made = c.enter.ensures.did in
-    Calls c.in-Entry.owner c.in-Entry.number c.in-Entry.offset (subst (HasReached c.args.self.now c.args.user c.args.segment c.args.at) c.in-Entry.is c.in-Ok.ensures.reached) made.0 made.1 made.2
+    let activated = subst (λ (l : Loaded). DidActivate (g.F.Files.seen c.args.files.now).held l c.in-Entry.owner c.in-Entry.number made.0 c.enter.new.self
+            (g.F.Files.seen c.args.files.now).faults (g.F.Files.seen c.enter.new.files).faults) c.reach.ensures.same made.1 in
+    Calls c.in-Entry.owner c.in-Entry.number c.in-Entry.offset (subst (HasReached c.args.self.now c.args.user c.args.segment c.args.at) c.in-Entry.is c.in-Ok.ensures.reached) made.0 activated made.2
