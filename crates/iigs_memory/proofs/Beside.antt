@@ -5,7 +5,7 @@ use Rattle.std.proofs.lemmas.Bool.{cases_lt}
 use Rattle.iigs_meaning.specs.declared.wants.Want.{Want}
 use Rattle.iigs_memory.specs.declared.spots.Spot.{Spot}
 use Rattle.iigs_memory.specs.Open.{IsNextOpen}
-use Rattle.iigs_memory.specs.Spots.{FitsAmong, IsLeastAmong, IsBeside, IsPast}
+use Rattle.iigs_memory.specs.Spots.{FitsAmong, IsLeastAmong, IsBeside, IsPast, HasNoPlace}
 
 past_beside : (limit address size : ℕ) (spot : Spot) → IsPast limit address spot → limit ≤ spot.turn → IsBeside address size spot
 past_beside limit address size spot (inl gone) kept = absurd (omega arith)
@@ -15,7 +15,42 @@ past_later : (limit address later : ℕ) (spot : Spot) → address ≤ later →
 past_later limit address later spot le (inl gone) = inl gone
 past_later limit address later spot le (inr ended) = inr (omega arith)
 
+-- bytes that share one with a block that counts
+pub none_beside : (spots : List Spot) (limit size address place : ℕ) (d : Spot) → place < length spots → limit ≤ (get_or spots place d).turn
+    → (get_or spots place d).at < address + size → address < (get_or spots place d).end → HasNoPlace spots limit size address
+none_beside spots limit size address place d inside kept begins ends beside = elim (beside place d inside kept) [
+  | inl before ↦ absurd (omega (arith, before))
+  | inr behind ↦ absurd (omega (arith, behind))
+]
+
 module _ (banks : List ℕ) (want : Want) (spots : List Spot) (limit from index place next : ℕ) where
+  -- up to the end of the blocks there the want fits nowhere
+  pub none_before : (end : ℕ) (d : Spot) → ((other : ℕ) → other < from → ¬ FitsAmong banks want spots limit other)
+      → IsNextOpen banks want from place
+      → next < length spots → limit ≤ (get_or spots next d).turn → (get_or spots next d).at < place + want.size
+      → ((other : ℕ) → (get_or spots next d).end ≤ other → other < end → HasNoPlace spots limit want.size other)
+      → (other : ℕ) → other < end → ¬ FitsAmong banks want spots limit other
+  none_before end d before open_ inside kept begins full other lt fits = elim (cases_lt other from) [
+    | inl lt' ↦ before other lt' fits
+    | inr ge ↦ elim (cases_lt other place) [
+      | inl lt' ↦ open_.first other ge lt' fits.open_
+      | inr ge' ↦ elim (cases_lt other (get_or spots next d).end) [
+        | inl lt' ↦ none_beside spots limit want.size other next d inside kept (omega (arith, begins, ge')) lt' fits.beside
+        | inr ge'' ↦ full other ge'' lt fits.beside
+      ]
+    ]
+  ]
+
+  -- blocks that are past here are past there too
+  pub past_there : (end : ℕ) → from ≤ place → place ≤ end
+      → ((k : ℕ) (d : Spot) → k < index → IsPast limit from (get_or spots k d))
+      → ((k : ℕ) (d : Spot) → index ≤ k → k < next → IsPast limit place (get_or spots k d))
+      → (k : ℕ) (d : Spot) → k < next → IsPast limit end (get_or spots k d)
+  past_there end le le' past passed k d lt = elim (cases_lt k index) [
+    | inl lt' ↦ past_later limit from end (get_or spots k d) (omega arith) (past k d lt')
+    | inr ge ↦ past_later limit place end (get_or spots k d) le' (passed k d ge lt)
+  ]
+
   -- the first place where the want is open lies beside all blocks, if the next block that counts begins after it
   pub least_before : IsNonDecreasingBy (λ spot. spot.at) spots
       → ((other : ℕ) → other < from → ¬ FitsAmong banks want spots limit other)

@@ -11,6 +11,7 @@ pub mod Parts
 pub mod Extents
 pub mod Keeps
 pub mod InPlace
+pub mod Emptied
 pub mod Takes
 pub mod Stores
 pub mod Changed

@@ -54,6 +54,10 @@ pub record IsLeastAmong (banks : List ℕ) (want : Want) (spots : List Spot) (li
   pub fits : FitsAmong banks want spots limit address
   pub least : (other : ℕ) → FitsAmong banks want spots limit other → address ≤ other
 
+-- so many bytes at the address don't lie beside all blocks whose turn isn't below the limit
+abbrev pub HasNoPlace : List Spot → ℕ → ℕ → ℕ → Type 0
+HasNoPlace spots limit size address = ¬ All (λ spot. limit ≤ spot.turn → IsBeside address size spot) spots
+
 -- the block is purged, or ends at the address or before it
 abbrev pub IsPast : ℕ → ℕ → Spot → Type 0
 IsPast limit address spot = (spot.turn < limit) ⊎ (spot.end ≤ address)

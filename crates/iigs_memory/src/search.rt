@@ -5,7 +5,7 @@ ghost use Rattle.iigs_meaning.specs.Placement.{HasNoRoom};
 ghost use Rattle.std.specs.List.Sorted.{IsNonDecreasingBy};
 ghost use Rattle.iigs_meaning.specs.Fits.{IsWant};
 ghost use Rattle.iigs_memory.specs.declared.spots.Spot.{Spot};
-ghost use Rattle.iigs_memory.specs.Spots.{FitsAmong, IsLeastAmong, IsPast, IsFewestAmong, FitsWithNone, limit_of, never, IsBoundedSlot, IsFound};
+ghost use Rattle.iigs_memory.specs.Spots.{FitsAmong, IsLeastAmong, IsPast, HasNoPlace, IsFewestAmong, FitsWithNone, limit_of, never, IsBoundedSlot, IsFound};
 
 use crate::bank_map::BankMap;
 use crate::open::next_open;
@@ -38,6 +38,29 @@ fn first_after(spots: &[Spot], from: usize, limit: u32, address: u32) -> usize
     spots.len()
 }
 
+// Where the blocks end that begin with the one at a place and leave no room for so many bytes between them. Those with a
+// turn below the limit don't count.
+fn run_end(spots: &[Spot], first: usize, limit: u32, size: u32) -> u32
+    requires inside { first < length spots.now }
+    requires size { size ≤ 2 ^ 24 }
+    requires ends { All (λ spot. spot.end ≤ 2 ^ 24) spots.now }
+    ensures after { (d : Spot) → (slice_index_or spots.now first d).end ≤ result }
+    ensures within { result ≤ 2 ^ 24 }
+    ensures full { (d : Spot) (address : ℕ) → (slice_index_or spots.now first d).end ≤ address → address < result → HasNoPlace spots.now limit size address }
+{
+    let mut end = spots[first].end;
+    for place in first + 1..spots.len() {
+        let spot = &spots[place];
+        if limit <= spot.turn {
+            if end + size <= spot.at {
+                return end;
+            }
+            end = end.max(spot.end);
+        }
+    }
+    end
+}
+
 /// The least address at which the want fits beside all blocks whose turn isn't below the limit. The blocks stand in
 /// order of address.
 pub fn least_among(map: &BankMap, want: &Want, spots: &[Spot], limit: u32) -> Option<u32>
@@ -57,7 +80,7 @@ pub fn least_among(map: &BankMap, want: &Want, spots: &[Spot], limit: u32) -> Op
         if place + want.size <= spot.at {
             return Some(place);
         }
-        from = spot.end;
+        from = run_end(spots, index, limit, want.size);
     }
     None
 }

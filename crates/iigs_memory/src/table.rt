@@ -62,6 +62,9 @@ pub fn empty_below(table: &mut Handles<Block>, limit: u32)
     requires bounded { All IsBoundedSlot table.old }
     ensures { table.new ≡ map (emptied_where (λ block. nat_lt (turn_in_order block) limit)) table.old }
 {
+    if limit == 0 {
+        return;
+    }
     for place in 0..table.slots().len() {
         if is_below(table, place, limit) {
             empty_slot(table, place);
