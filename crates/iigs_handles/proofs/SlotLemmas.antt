@@ -1,5 +1,5 @@
 -- How the lowest free slot and the count of free ones change with one slot.
-use Rattle.std.proofs.Common.{◌≡◌, ℕ, Bool, true, false, cond, ◌+◌, ◌-◌, ◌<◌, ◌≤◌, inl, inr, List, length, count_by, is_some, min, get_or, get_or-set_same, get_or-set_other, arith, sym, ◌∙◌, ◌≢◌, refl}
+use Rattle.std.proofs.Common.{◌≡◌, ℕ, zero, suc, Bool, true, false, cond, ◌+◌, ◌-◌, ◌<◌, ◌≤◌, inl, inr, List, length, replicate, count_by, is_some, min, max, get_or, get_or-set_same, get_or-set_other, arith, sym, ◌∙◌, ◌≢◌, refl}
 use Rattle.std.proofs.Math.ListN.{set, length-set}
 use Rattle.std.specs.List.{position_or_len}
 use Rattle.std.proofs.lemmas.List.Sums.{sum_by-set, position_or_len_is, fails_before_first, passes_at_first}
@@ -77,33 +77,56 @@ module _ {X : Type 0} (p : X → Bool) (d : X) where
 
 module _ {T : Type 0} where
   -- a place below the lowest free one isn't free, and neither is the lowest once it is taken
-  pub none_below : (slots : List (Slot T)) (first free : ℕ) (slot : Slot T) → IsSound slots first free → first < length slots → is_free slot ≡ false → (k : ℕ) → k < first + 1 → is_free (slot_at (set slots first slot) k) ≡ false
-  none_below slots first free slot sound h e = none_to_first is_free new_slot slots first slot sound.lowest h e
+  pub none_below : (slots : List (Slot T)) (first free end : ℕ) (slot : Slot T) → IsSound slots first free end → first < length slots → is_free slot ≡ false → (k : ℕ) → k < first + 1 → is_free (slot_at (set slots first slot) k) ≡ false
+  none_below slots first free end slot sound h e = none_to_first is_free new_slot slots first slot sound.lowest h e
 
-  pub counts_one : (slots : List (Slot T)) (first free : ℕ) (slot : Slot T) → IsSound slots first free → first < length slots → is_free slot ≡ false → 0 < free
-  counts_one slots first free slot sound h e =
+  pub counts_one : (slots : List (Slot T)) (first free end : ℕ) (slot : Slot T) → IsSound slots first free end → first < length slots → is_free slot ≡ false → 0 < free
+  counts_one slots first free end slot sound h e =
       let less : count_by is_free (set slots first slot) + 1 ≡ count_by is_free slots = first_less is_free new_slot slots first slot sound.lowest h e in
       omega (arith, sound.counted)
 
-  pub IsSound-take : (slots : List (Slot T)) (first free next : ℕ) (slot : Slot T) → IsSound slots first free → first < length slots → is_free slot ≡ false → next ≡ position_or_len is_free (set slots first slot) → IsSound (set slots first slot) next (free - 1)
-  IsSound-take slots first free next slot sound h e n = record {
+  pub IsSound-take : (slots : List (Slot T)) (first free end next : ℕ) (slot : Slot T) → IsSound slots first free end → first < length slots → is_free slot ≡ false → next ≡ position_or_len is_free (set slots first slot) → IsSound (set slots first slot) next (free - 1) (max end (first + 1))
+  IsSound-take slots first free end next slot sound h e n = record {
     size = length-set slots first slot ∙ sound.size;
     lowest = n;
     counted = let less : count_by is_free (set slots first slot) + 1 ≡ count_by is_free slots = first_less is_free new_slot slots first slot sound.lowest h e in omega (arith, sound.counted);
+    within = omega (arith, sound.within, sound.size, h);
+    unused = λ k le. let ne : k ≢ first = omega arith in rw get_or-set_other (sound.unused k (omega arith));
   }
 
-  pub IsSound-free : (slots : List (Slot T)) (first free place : ℕ) (slot : Slot T) → IsSound slots first free → place < length slots → is_free (slot_at slots place) ≡ false → is_free slot ≡ true → IsSound (set slots place slot) (min first place) (free + 1)
-  IsSound-free slots first free place slot sound h was e = record {
+  -- a slot that isn't free stands below the end
+  below_end : (slots : List (Slot T)) (first free end place : ℕ) → IsSound slots first free end → is_free (slot_at slots place) ≡ false → place < end
+  below_end slots first free end place sound was = elim (cases_lt place end) [
+    | inl lt ↦ lt
+    | inr le ↦
+        let free : is_free (slot_at slots place) ≡ true = rw (sound.unused place le) refl in
+        let no : true ≡ false = sym free ∙ was in
+        absurd (cc)
+  ]
+
+  unused_still : (slots : List (Slot T)) (first free end place : ℕ) (slot : Slot T) → IsSound slots first free end → is_free (slot_at slots place) ≡ false
+      → (k : ℕ) → end ≤ k → slot_at (set slots place slot) k ≡ new_slot
+  unused_still slots first free end place slot sound was k le =
+      let lt = below_end slots first free end place sound was in
+      let ne : k ≢ place = omega (arith, lt) in
+      rw get_or-set_other (sound.unused k le)
+
+  pub IsSound-free : (slots : List (Slot T)) (first free end place : ℕ) (slot : Slot T) → IsSound slots first free end → place < length slots → is_free (slot_at slots place) ≡ false → is_free slot ≡ true → IsSound (set slots place slot) (min first place) (free + 1) end
+  IsSound-free slots first free end place slot sound h was e = record {
     size = length-set slots place slot ∙ sound.size;
     lowest = first-set is_free new_slot slots place first slot h e sound.lowest;
     counted = rw sound.counted (one_more is_free new_slot slots place slot h was e);
+    within = sound.within;
+    unused = unused_still slots first free end place slot sound was;
   }
 
-  pub IsSound-retire : (slots : List (Slot T)) (first free place : ℕ) (slot : Slot T) → IsSound slots first free → place < length slots → is_free slot ≡ is_free (slot_at slots place) → IsSound (set slots place slot) first free
-  IsSound-retire slots first free place slot sound h same = record {
+  pub IsSound-retire : (slots : List (Slot T)) (first free end place : ℕ) (slot : Slot T) → IsSound slots first free end → place < length slots → is_free (slot_at slots place) ≡ false → is_free slot ≡ false → IsSound (set slots place slot) first free end
+  IsSound-retire slots first free end place slot sound h was e = record {
     size = length-set slots place slot ∙ sound.size;
-    lowest = sound.lowest ∙ sym (position_or_len-set is_free slots place slot new_slot same);
-    counted = sound.counted ∙ as_many is_free new_slot slots place slot h same;
+    lowest = sound.lowest ∙ sym (position_or_len-set is_free slots place slot new_slot (e ∙ sym was));
+    counted = sound.counted ∙ as_many is_free new_slot slots place slot h (e ∙ sym was);
+    within = sound.within;
+    unused = unused_still slots first free end place slot sound was;
   }
 
   used_taken : (same : Bool) (content : Content T) → is_some (cond same (used_value content) None) ≡ true → is_free_content content ≡ false
@@ -126,3 +149,10 @@ module _ {T : Type 0} where
         let no : true ≡ false = sym free ∙ live_taken slots h live in
         absurd (cc)
   ]
+
+  -- among slots that were never used each is one
+  pub unused_slots : (count place : ℕ) → slot_at {T = T} (replicate count new_slot) place ≡ new_slot
+  unused_slots zero zero = refl
+  unused_slots zero (suc place) = refl
+  unused_slots (suc count) zero = refl
+  unused_slots (suc count) (suc place) = unused_slots count place

@@ -45,6 +45,8 @@ pub struct Handles<T> {
     first: usize,
     // How many slots are free.
     free: u32,
+    // The place from which on no slot was ever used.
+    end: usize,
 }
 
 impl<T> Model for Handles<T> {
@@ -57,7 +59,7 @@ impl<T> Model for Handles<T> {
 
     ghost view = { λ s. s.slots.items };
 
-    ghost invariant = { λ s. IsSound s.slots.items s.first s.free };
+    ghost invariant = { λ s. IsSound s.slots.items s.first s.free s.end };
 }
 
 // So many free slots that were never used.
@@ -175,6 +177,7 @@ impl<T: Drop> Handles<T> {
             slots,
             first: 0,
             free: SLOTS as u32,
+            end: 0,
         })
     }
 
@@ -192,6 +195,7 @@ impl<T: Drop> Handles<T> {
         self.slots[place].content = Content::Used(value);
         self.first = next_free(&self.slots, place + 1);
         self.free -= 1;
+        self.end = self.end.max(place + 1);
         Ok(Handle {
             slot: place as u16,
             generation,
@@ -271,6 +275,14 @@ impl<T: Drop> Handles<T> {
         &self.slots
     }
 
+    /// A place from which on no slot was ever used.
+    pub fn end(&self) -> usize
+        ensures within { result ≤ SLOTS }
+        ensures unused { (place : ℕ) → result ≤ place → slot_at self.now place ≡ new_slot }
+    {
+        self.end
+    }
+
     /// Makes this table a copy of another, without memory. It is another table then: a handle that was released before may
     /// be live in it.
     pub fn copy_from(&mut self, other: &Handles<T>)
@@ -281,6 +293,7 @@ impl<T: Drop> Handles<T> {
         copy_slots(&mut self.slots, &other.slots);
         self.first = other.first;
         self.free = other.free;
+        self.end = other.end;
     }
 
     // Whether the handle's slot is used under its generation.

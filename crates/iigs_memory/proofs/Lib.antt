@@ -12,6 +12,7 @@ pub mod Extents
 pub mod Keeps
 pub mod InPlace
 pub mod Emptied
+pub mod Unused
 pub mod Takes
 pub mod Stores
 pub mod Changed

@@ -71,6 +71,17 @@ past_none slots place e is = elim (cases_lt place (length slots)) [
   | inr le ↦ let no : None ≡ Some e = ap extent (sym (get_or-eq_default slots new_slot le)) ∙ is in absurd cc
 ]
 
+-- where the other slots were never used those are all marks
+pub gathered_all : (slots : List (Slot Block)) (count : ℕ) (marks : List Mark) → AreGathered slots count marks → ((place : ℕ) → count ≤ place → slot_at slots place ≡ new_slot) → count ≤ length slots
+    → AreGathered slots (length slots) marks
+gathered_all slots count marks g unused le = record {
+  each = λ place e lt is. elim (cases_lt place count) [
+    | inl before ↦ g.each place e before is
+    | inr behind ↦ (let no : None ≡ Some e = ap extent (sym (unused place behind)) ∙ is in absurd cc)
+  ];
+  are = λ m has. (omega (arith, (g.are m has).0, le), (g.are m has).1, (g.are m has).2, (g.are m has).3);
+}
+
 pub sorted_marks : (slots : List (Slot Block)) (marks sorted : List Mark) → AreGathered slots (length slots) marks → IsPermutation marks sorted → IsNonDecreasingBy (λ m. m.at) sorted
     → AreMarks slots sorted
 sorted_marks slots marks sorted g moved order = record {

@@ -364,7 +364,7 @@ impl Banks {
             Ok(put) => put,
             Err(fault) => return Err(fault),
         };
-        mark_all(self.table.slots(), &mut self.marks);
+        mark_all(&self.table, &mut self.marks);
         clear(&mut self.bytes, self.map.offset(put.at), want.size as usize);
         Ok(put.handle)
     }
@@ -387,7 +387,7 @@ impl Banks {
             Ok(at) => at,
             Err(fault) => return Err(fault),
         };
-        mark_all(self.table.slots(), &mut self.marks);
+        mark_all(&self.table, &mut self.marks);
         clear(&mut self.bytes, self.map.offset(at), want.size as usize);
         Ok(())
     }
@@ -425,7 +425,7 @@ impl Banks {
             Err(fault) => return Err(fault),
         }
         self.table.copy_from(&self.plan);
-        mark_all(self.table.slots(), &mut self.marks);
+        mark_all(&self.table, &mut self.marks);
         clear_all(&self.map, &mut self.bytes, wants, &self.made);
         give(&self.made, handles);
         Ok(())
@@ -438,7 +438,7 @@ impl Banks {
         ensures all { (address : ℕ) → IsRoom self.now.banks self.now.slots address → address < 2 ^ 24 }
     {
         let free = self.map.free_bytes();
-        let used = used_bytes(self.table.slots());
+        let used = used_bytes(&self.table);
         free - used as u32
     }
 }

@@ -7,6 +7,7 @@ ghost use Rattle.iigs_memory.specs.declared.marks.Mark as declared;
 ghost use Rattle.iigs_memory.specs.Marks.{mark_in, AreGathered, AreMarks, CountsUpTo, IsLast};
 
 use crate::spots::push_some;
+use iigs_handles::Handles;
 use iigs_meaning::{Block, Content, Slot};
 
 /// Where a block begins, and in which slot it is.
@@ -34,27 +35,27 @@ fn mark_of(slots: &[Slot<Block>], place: usize) -> Option<Mark>
     })
 }
 
-// The marks of the blocks that are there, in the order of their slots.
-fn gather_marks(slots: &[Slot<Block>], marks: &mut Vec<Mark>)
+// The marks of the blocks that are there in the first so many slots, in their order.
+fn gather_marks(slots: &[Slot<Block>], count: usize, marks: &mut Vec<Mark>)
     requires few { length slots.now ≤ 4096 }
-    requires room { length slots.now ≤ vec_capacity marks.old }
-    ensures gathered { AreGathered slots.now (length slots.now) marks.new.items }
+    requires inside { count ≤ length slots.now }
+    requires room { count ≤ vec_capacity marks.old }
+    ensures gathered { AreGathered slots.now count marks.new.items }
     ensures capacity { vec_capacity marks.old ≤ vec_capacity marks.new }
 {
     marks.clear();
-    for place in 0..slots.len() {
+    for place in 0..count {
         push_some(marks, mark_of(slots, place));
     }
 }
 
-/// Marks the blocks that are there.
-pub fn mark_all(slots: &[Slot<Block>], marks: &mut Vec<Mark>)
-    requires few { length slots.now ≤ 4096 }
-    requires room { length slots.now ≤ vec_capacity marks.old }
-    ensures marked { AreMarks slots.now marks.new.items }
+/// Marks the blocks that are there. Slots that were never used have none.
+pub fn mark_all(table: &Handles<Block>, marks: &mut Vec<Mark>)
+    requires { 4096 ≤ vec_capacity marks.old }
+    ensures marked { AreMarks table.now marks.new.items }
     ensures capacity { vec_capacity marks.old ≤ vec_capacity marks.new }
 {
-    gather_marks(slots, marks);
+    gather_marks(table.slots(), table.end(), marks);
     marks.sort_unstable_by_key(|mark| mark.at);
 }
 

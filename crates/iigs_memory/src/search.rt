@@ -10,7 +10,8 @@ ghost use Rattle.iigs_memory.specs.Spots.{FitsAmong, IsLeastAmong, IsPast, HasNo
 use crate::bank_map::BankMap;
 use crate::open::next_open;
 use crate::spots::{Spot, survey};
-use iigs_meaning::{Block, Slot, Want};
+use iigs_handles::Handles;
+use iigs_meaning::{Block, Want};
 
 /// Where a want goes, and which blocks are purged for it.
 #[derive(Clone, Copy)]
@@ -131,23 +132,23 @@ pub fn fewest(map: &BankMap, want: &Want, spots: &[Spot], turns: &[u32]) -> Opti
     })
 }
 
-/// Where the want goes among the blocks in these slots, and which are purged for it. `spots` and `turns` are scratch
+/// Where the want goes among the blocks of this table, and which are purged for it. `spots` and `turns` are scratch
 /// space with room for all blocks.
 pub fn find(
     map: &BankMap,
     want: &Want,
-    slots: &[Slot<Block>],
+    table: &Handles<Block>,
     spots: &mut Vec<Spot>,
     turns: &mut Vec<u32>,
 ) -> Option<Found>
     requires want { IsWant want.now }
-    requires bounded { All IsBoundedSlot slots.now }
-    requires spots_room { length slots.now ≤ vec_capacity spots.old }
-    requires turns_room { length slots.now ≤ vec_capacity turns.old }
-    ensures found { MatchOption result (HasNoRoom map.now slots.now want.now) (IsFound map.now slots.now want.now) }
+    requires bounded { All IsBoundedSlot table.now }
+    requires spots_room { 4096 ≤ vec_capacity spots.old }
+    requires turns_room { 4096 ≤ vec_capacity turns.old }
+    ensures found { MatchOption result (HasNoRoom map.now table.now want.now) (IsFound map.now table.now want.now) }
     ensures spots_capacity { vec_capacity spots.old ≤ vec_capacity spots.new }
     ensures turns_capacity { vec_capacity turns.old ≤ vec_capacity turns.new }
 {
-    survey(slots, spots, turns);
+    survey(table, spots, turns);
     fewest(map, want, spots, turns)
 }

@@ -5,6 +5,7 @@ ghost use Rattle.std.specs.Option.{option_to_list};
 ghost use Rattle.std.specs.List.Sorted.{IsPermutation, IsNonDecreasingBy};
 ghost use Rattle.iigs_memory.specs.Spots.{never, turn_of as turn_in_order, spot_in, turn_in as kept_turn, spots_of, turns_of, IsBounded, IsBoundedSlot, IsSurvey};
 
+use iigs_handles::Handles;
 use iigs_meaning::{Block, Content, Slot};
 
 /// A block that is there.
@@ -80,6 +81,17 @@ fn gather_spots(slots: &[Slot<Block>], spots: &mut Vec<Spot>)
     }
 }
 
+// Those of a table. Slots that were never used have none.
+fn gather_all(table: &Handles<Block>, spots: &mut Vec<Spot>)
+    requires bounded { All IsBoundedSlot table.now }
+    requires room { 4096 ≤ vec_capacity spots.old }
+    ensures items { spots.new.items ≡ spots_of table.now }
+    ensures few { length spots.new.items ≤ 4096 }
+    ensures capacity { vec_capacity spots.old ≤ vec_capacity spots.new }
+{
+    gather_spots(&table.slots()[..table.end()], spots);
+}
+
 fn turn_in(spot: &Spot) -> Option<u32>
     ensures { result ≡ kept_turn spot.now }
 {
@@ -105,15 +117,15 @@ fn gather_turns(spots: &[Spot], turns: &mut Vec<u32>)
 }
 
 /// Gathers the blocks that are there, in order of address, and the turns of those that may be purged, in order.
-pub fn survey(slots: &[Slot<Block>], spots: &mut Vec<Spot>, turns: &mut Vec<u32>)
-    requires bounded { All IsBoundedSlot slots.now }
-    requires spots_room { length slots.now ≤ vec_capacity spots.old }
-    requires turns_room { length slots.now ≤ vec_capacity turns.old }
-    ensures surveyed { IsSurvey slots.now spots.new.items turns.new.items }
+pub fn survey(table: &Handles<Block>, spots: &mut Vec<Spot>, turns: &mut Vec<u32>)
+    requires bounded { All IsBoundedSlot table.now }
+    requires spots_room { 4096 ≤ vec_capacity spots.old }
+    requires turns_room { 4096 ≤ vec_capacity turns.old }
+    ensures surveyed { IsSurvey table.now spots.new.items turns.new.items }
     ensures spots_capacity { vec_capacity spots.old ≤ vec_capacity spots.new }
     ensures turns_capacity { vec_capacity turns.old ≤ vec_capacity turns.new }
 {
-    gather_spots(slots, spots);
+    gather_all(table, spots);
     spots.sort_unstable_by_key(|spot| spot.at);
     gather_turns(spots, turns);
     turns.sort_unstable();

@@ -166,7 +166,7 @@ pub fn put_block(
     if table.left() == 0 {
         return Err(PlaceFault::NoHandle);
     }
-    let Some(found) = find(map, want, table.slots(), spots, turns) else {
+    let Some(found) = find(map, want, table, spots, turns) else {
         return Err(PlaceFault::NoRoom(0));
     };
     empty_below(table, found.limit);
@@ -212,7 +212,7 @@ pub fn replace_block(
     if block.at.is_some() {
         return Err(PlaceFault::NotEmpty);
     }
-    let Some(found) = find(map, want, table.slots(), spots, turns) else {
+    let Some(found) = find(map, want, table, spots, turns) else {
         return Err(PlaceFault::NoRoom(0));
     };
     empty_below(table, found.limit);
@@ -239,8 +239,8 @@ fn size_of(slot: &Slot<Block>) -> u32
     block.want.size
 }
 
-/// How many bytes the blocks that are there have.
-pub fn used_bytes(slots: &[Slot<Block>]) -> u64
+// How many bytes the blocks that are there in these slots have.
+fn bytes_in(slots: &[Slot<Block>]) -> u64
     requires bounded { All IsBoundedSlot slots.now }
     requires few { length slots.now ≤ 4096 }
     ensures { result ≡ sum_by size_in slots.now }
@@ -250,6 +250,14 @@ pub fn used_bytes(slots: &[Slot<Block>]) -> u64
         total += u64::from(size_of(slot));
     }
     total
+}
+
+/// How many bytes the blocks that are there have. Slots that were never used have none.
+pub fn used_bytes(table: &Handles<Block>) -> u64
+    requires { All IsBoundedSlot table.now }
+    ensures { result ≡ sum_by size_in table.now }
+{
+    bytes_in(&table.slots()[..table.end()])
 }
 
 /// Places blocks for these wants in order, locked with level 0. `made` tells where they are; it, `spots` and `turns` are

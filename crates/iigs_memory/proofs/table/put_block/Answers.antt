@@ -14,7 +14,7 @@ pub returns-in_default-clause-refused : goal.returns-in_default-clause-refused
 returns-in_default-clause-refused c = (
   refl,
   some_handle c.args.table.now (λ none. c.if-left-eq0.false (c.left.ensures ∙ none)),
-  lacks_room c.args.map.now c.args.table.now c.args.want.now (rw (← c.slots.ensures.value) c.in_default.ensures.found),
+  lacks_room c.args.map.now c.args.table.now c.args.want.now c.in_default.ensures.found,
 )
 
 pub unreachable-requires : goal.unreachable-requires
@@ -26,7 +26,7 @@ unreachable-requires c =
 
 pub returns-clause-put : goal.returns-clause-put
 returns-clause-put c =
-    let found : IsFound c.args.map.now c.args.table.now c.args.want.now c.in-Some.found = rw (← c.slots.ensures.value) c.in-Some.ensures.found in
+    let found : IsFound c.args.map.now c.args.table.now c.args.want.now c.in-Some.found = c.in-Some.ensures.found in
     record {
       count = found.count;
       goes = found.goes;

@@ -18,7 +18,7 @@ invariant_of-self-2 c =
       put_store c.self.inside.map c.self.inside.bytes.items c.self.inside.table c.put_block.new.table (vec_capacity c.self.inside.spots) (vec_capacity c.self.inside.turns) (vec_capacity c.self.inside.made) c.self.invariant.0
           c.in-Ok.put.handle.slot (c.in-Ok.put.at, c.args.want.now.size) f.len f.bounded f.sound f.others f.is (vec_capacity c.put_block.new.spots) (vec_capacity c.put_block.new.turns)
           (omega (arith, c.self.invariant.0.spots_room, c.in-Ok.ensures.spots_capacity)) (omega (arith, c.self.invariant.0.turns_room, c.in-Ok.ensures.turns_capacity)),
-      marked_of c.self.inside.map c.put_block.new.table c.mark_all.new.marks.items (f.len ∙ c.self.invariant.0.count) f.bounded f.sound (rw c.slots.ensures.value at c.mark_all.ensures.marked),
+      marked_of c.self.inside.map c.put_block.new.table c.mark_all.new.marks.items (f.len ∙ c.self.invariant.0.count) f.bounded f.sound c.mark_all.ensures.marked,
       omega (arith, c.self.invariant.2, c.mark_all.ensures.capacity),
     )
 

@@ -37,7 +37,7 @@ invariant_of-self-2 c = rw (c.copy_from.ensures, c.clear_all.ensures, c.deref.en
   marked_of c.self.inside.map c.put_all.new.table c.mark_all.new.marks.items
       (all_count c.self.inside.map c.self.inside.bytes.items c.self.inside.table c.put_all.new.table (vec_capacity c.self.inside.spots) (vec_capacity c.self.inside.turns) (vec_capacity c.self.inside.made) c.self.invariant.0
       c.args.user c.args.fresh c.args.wants.now c.put_all.new.made.items (rw c.start_plan.ensures at c.in-Ok.ensures.put))
-      c.in-Ok.ensures.put.bounded c.in-Ok.ensures.put.sound (rw (c.slots.ensures.value, c.copy_from.ensures) at c.mark_all.ensures.marked),
+      c.in-Ok.ensures.put.bounded c.in-Ok.ensures.put.sound (rw c.copy_from.ensures at c.mark_all.ensures.marked),
   omega (arith, c.self.invariant.2, c.mark_all.ensures.capacity),
 )
 

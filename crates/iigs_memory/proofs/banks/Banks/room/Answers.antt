@@ -1,4 +1,4 @@
-use Rattle.std.proofs.Common.{◌≡◌, ◌+◌, ◌-◌, ◌^◌, ap, subst, ◌∙◌, arith, sum_by, ℕ}
+use Rattle.std.proofs.Common.{◌≡◌, ◌+◌, ◌-◌, ◌^◌, subst, arith, sum_by, ℕ}
 use Rattle.iigs_meaning.specs.Memory.{Memory}
 use Rattle.iigs_memory.specs.Sizes.{size_in}
 use Rattle.iigs_memory.specs.Store.{memory_of}
@@ -13,7 +13,7 @@ left : (c : goal.After-used_bytes-used) → (room : ℕ) × (room + c.used_bytes
 left c =
     let is : memory_of c.self.inside.map c.self.inside.table c.self.inside.bytes.items ≡ c.args.self.now = c.self.view_is in
     let counts = room_counts (memory_of c.self.inside.map c.self.inside.table c.self.inside.bytes.items) c.self.invariant.0.bounded c.self.invariant.0.sound in
-    let used : c.used_bytes-used.result ≡ sum_by size_in c.self.inside.table = c.used_bytes-used.ensures ∙ ap (sum_by size_in) c.slots.ensures.value in
+    let used : c.used_bytes-used.result ≡ sum_by size_in c.self.inside.table = c.used_bytes-used.ensures in
     (counts.0, rw (used, c.free_bytes-free.ensures) counts.1, subst (λ (memory : Memory). CountsBelow (IsRoom memory.banks memory.slots) (2 ^ 24) counts.0) is counts.2)
 
 pub overflow_cast-result : goal.overflow_cast-result

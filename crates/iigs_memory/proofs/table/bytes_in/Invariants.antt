@@ -1,6 +1,6 @@
 use Rattle.std.proofs.Common.{◌≡◌, ◌≤◌, ◌*◌, ◌^◌, take, sum_by}
 use Rattle.iigs_memory.specs.Sizes.{size_in}
-use Rattle.iigs_memory.proofs.table.used_bytes.Given as goal
+use Rattle.iigs_memory.proofs.table.bytes_in.Given as goal
 
 -- the bytes of the blocks so far
 abbrev pub invariant-loop-slot : goal.invariant-loop-slot
