@@ -43,6 +43,11 @@ two_there at bytes =
     let next : at + 1 + 0 ≡ at + 1 = omega arith in
     omega (arith, two_bytes at bytes, one_byte at bytes, one_byte (at + 1) bytes, ap (slice_index bytes) next)
 
+pub two_near : (at : ℕ) (bytes : List ℕ) → number_at 2 at bytes ≡ number_at 1 (at + 0) bytes + 256 * number_at 1 (at + 1) bytes
+two_near at bytes =
+    let here : at + 0 ≡ at = omega arith in
+    two_there at bytes ∙ ap (λ (i : ℕ). number_at 1 i bytes + 256 * number_at 1 (at + 1) bytes) (sym here)
+
 -- and one of four
 pub four_there : (at : ℕ) (bytes : List ℕ) → number_at 4 at bytes ≡ number_at 2 at bytes + 65536 * number_at 2 (at + 2) bytes
 four_there at bytes =

@@ -1,9 +1,9 @@
 -- Pieces of a segment's data, one behind another.
-use Rattle.std.proofs.Common.{◌≡◌, ℕ, zero, suc, ◌+◌, ◌-◌, ◌<◌, ◌≤◌, List, [], ◌∷◌, ◌++◌, length, get_or, replicate, Some, None, refl, sym, ap, subst, ◌∙◌, arith, inl, inr}
-use Rattle.std.specs.Prelude.{◌⊎◌, slice_get}
+use Rattle.std.proofs.Common.{◌≡◌, ℕ, zero, suc, ◌+◌, ◌-◌, ◌<◌, ◌≤◌, List, [], ◌∷◌, ◌++◌, length, drop, get_or, replicate, Some, None, refl, sym, ap, subst, ◌∙◌, arith, inl, inr}
+use Rattle.std.specs.Prelude.{◌⊎◌, slice_get, slice_index}
 use Rattle.std.specs.List.Sorted.{IsNonDecreasingBy}
 use Rattle.std.proofs.lemmas.Bool.{cases_lt, cases_order}
-use Rattle.std.proofs.lemmas.List.{length-append}
+use Rattle.std.proofs.lemmas.List.{length-append, length-drop, get_or-drop}
 use Rattle.omf_cells.specs.declared.pieces.Piece.{Piece}
 use Rattle.omf_cells.specs.Content.{IsZeros, ArePieces, start_of}
 use Rattle.load_meaning.specs.LayingLaws.{get-front, get-behind}
@@ -99,6 +99,16 @@ pub covered : (pieces : List Piece) (bytes : List ℕ) (at i : ℕ) (p : Piece) 
 covered pieces bytes at i p b are there low is =
     let place : p.start + (at - p.start) ≡ at = omega (arith, low) in
     ap (slice_get bytes) (sym place) ∙ are.inside i (at - p.start) p there (within p.bytes.now (at - p.start) b is) ∙ is
+
+-- the bytes of a piece from an offset on
+pub covered_from : (pieces : List Piece) (bytes : List ℕ) (at i n : ℕ) (p : Piece) → ArePieces pieces bytes → slice_get pieces i ≡ Some p → start_of p ≤ at → n < length (drop (at - p.start) p.bytes.now)
+    → slice_get bytes (at + n) ≡ Some (slice_index (drop (at - p.start) p.bytes.now) n)
+covered_from pieces bytes at i n p are there low lt =
+    let from : at + n - p.start ≡ at - p.start + n = omega (arith, low) in
+    let inside : at - p.start + n < length p.bytes.now = omega (arith, lt, length-drop (at - p.start) p.bytes.now) in
+    let low' : start_of p ≤ at + n = omega (arith, low) in
+    covered pieces bytes (at + n) i p (slice_index (drop (at - p.start) p.bytes.now) n) are there low'
+    (ap (slice_get p.bytes.now) from ∙ get_there p.bytes.now (at - p.start + n) 0 inside ∙ ap (λ (b : ℕ). Some b) (sym (get_or-drop (at - p.start) p.bytes.now n 0)))
 
 past : (bytes : List ℕ) (k : ℕ) → slice_get bytes k ≡ None → length bytes ≤ k
 past [] k e = omega arith

@@ -1,6 +1,6 @@
 -- What is kept of a segment beside its header: where its bytes stand in the file, and which of them patches give. No public
 -- clause cites this module.
-use Rattle.std.specs.Prelude.{◌≡◌, ◌⊎◌, ℕ, zero, suc, ◌+◌, ◌-◌, ◌<◌, ◌≤◌, ◌^◌, ◌==◌, nat_le, ◌||◌, if◌then◌else◌, List, [], ◌∷◌, ◌++◌, length, replicate, map, slice_get, slice_set, All, Option, Some, None}
+use Rattle.std.specs.Prelude.{◌≡◌, ◌⊎◌, ℕ, zero, suc, ◌+◌, ◌-◌, ◌<◌, ◌≤◌, ◌^◌, ◌==◌, nat_le, ◌||◌, if◌then◌else◌, List, [], ◌∷◌, ◌++◌, length, replicate, map, slice_get, slice_index, slice_set, All, Option, Some, None}
 use Rattle.std.specs.Option.{option_or}
 use Rattle.std.specs.List.Sorted.{IsNonDecreasingBy}
 use Rattle.omf_format.specs.File.{Segment}
@@ -51,6 +51,10 @@ pub record HasPieces (v : SegmentView) (pieces : List Piece) : Type 0 where
   pub are : ArePieces pieces (segment_bytes (shown v))
   pub sized : length (segment_bytes (shown v)) ≡ v.header.length
   pub short : v.header.length < 2 ^ 32
+
+-- the bytes are those of the data from an offset on, as many as they are
+abbrev pub IsNear : SegmentView → ℕ → List ℕ → Type 0
+IsNear v at near = (n : ℕ) → n < length near → number_at 1 (at + n) (segment_bytes (shown v)) ≡ slice_index near n
 
 -- ---- patches
 

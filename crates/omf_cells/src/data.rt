@@ -4,9 +4,9 @@ ghost use Rattle.std.specs.Prelude.{◌≡◌, ◌+◌, ◌≤◌};
 ghost use Rattle.omf_format.specs.Number.{number_at};
 ghost use Rattle.load_meaning.specs.Cells.{segment_bytes};
 ghost use Rattle.omf_records.specs.Segments.{shown};
-ghost use Rattle.omf_cells.specs.Content.{HasPieces};
+ghost use Rattle.omf_cells.specs.Content.{HasPieces, IsNear};
 
-use crate::pieces::{Piece, byte_at};
+use crate::pieces::{Piece, byte_at, bytes_from};
 use omf_records::SegmentView;
 
 /// The byte of the data there.
@@ -18,15 +18,47 @@ pub fn data_u8(view: &SegmentView, pieces: &[Piece], at: u32) -> u8
     byte_at(pieces, at)
 }
 
+/// The bytes of the data from an offset on that stand together in the file. There may be none.
+pub fn data_from<'a>(view: &SegmentView<'a>, pieces: &[Piece<'a>], at: u32) -> &'a [u8]
+    requires { HasPieces view.now pieces.now }
+    ensures { IsNear view.now at result.now }
+{
+    bytes_from(pieces, at)
+}
+
+/// The byte of the data there, where these bytes are those from an offset on that stand together.
+pub fn near_u8(near: &[u8], place: u32, view: &SegmentView, pieces: &[Piece], at: u32) -> u8
+    requires near { IsNear view.now at near.now }
+    requires pieces { HasPieces view.now pieces.now }
+    requires inside { at + place + 1 ≤ view.now.header.length }
+    ensures { number_at 1 (at + place) (segment_bytes (shown view.now)) ≡ result }
+{
+    if (place as usize) < near.len() {
+        near[place as usize]
+    } else {
+        data_u8(view, pieces, at + place)
+    }
+}
+
+/// The number in the two bytes of the data there, where these bytes are those that stand together.
+pub fn near_u16(near: &[u8], view: &SegmentView, pieces: &[Piece], at: u32) -> u16
+    requires near { IsNear view.now at near.now }
+    requires pieces { HasPieces view.now pieces.now }
+    requires inside { at + 2 ≤ view.now.header.length }
+    ensures { number_at 2 at (segment_bytes (shown view.now)) ≡ result }
+{
+    let low = u16::from(near_u8(near, 0, view, pieces, at));
+    let high = u16::from(near_u8(near, 1, view, pieces, at));
+    low + 0x100 * high
+}
+
 /// The number in the two bytes of the data there.
 pub fn data_u16(view: &SegmentView, pieces: &[Piece], at: u32) -> u16
     requires pieces { HasPieces view.now pieces.now }
     requires inside { at + 2 ≤ view.now.header.length }
     ensures { number_at 2 at (segment_bytes (shown view.now)) ≡ result }
 {
-    let low = u16::from(data_u8(view, pieces, at));
-    let high = u16::from(data_u8(view, pieces, at + 1));
-    low + 0x100 * high
+    near_u16(data_from(view, pieces, at), view, pieces, at)
 }
 
 /// The number in the four bytes of the data there.

@@ -1,6 +1,6 @@
 //! The data of a segment: where the bytes of its records stand in the file.
 
-ghost use Rattle.std.specs.Prelude.{◌≡◌, ◌<◌, ◌≤◌, ◌^◌, ◌++◌, ℕ, List, length, length as size_of, slice_get, OnOk, IfOk, MatchOption, Some};
+ghost use Rattle.std.specs.Prelude.{◌≡◌, ◌+◌, ◌<◌, ◌≤◌, ◌^◌, ◌++◌, ℕ, List, length, length as size_of, drop, slice_get, slice_index, OnOk, IfOk, MatchOption, Some};
 ghost use Rattle.std.specs.List.Sorted.{IsNonDecreasingBy};
 ghost use Rattle.omf_format.specs.Reading.{IsBody};
 ghost use Rattle.omf_format.specs.Record.{content_of};
@@ -108,6 +108,31 @@ pub fn byte_at(pieces: &[Piece], at: u32) -> u8
     match nth(piece.bytes, (at - piece.start) as usize) {
         Some(byte) => byte,
         None => 0,
+    }
+}
+
+fn behind(bytes: &[u8], from: usize) -> &[u8]
+    requires { from ≤ length bytes.now }
+    ensures { result.now ≡ drop from bytes.now }
+{
+    &bytes[from..]
+}
+
+/// The bytes from an offset on that the piece has which covers it; none where no piece does.
+pub fn bytes_from<'a>(pieces: &[Piece<'a>], at: u32) -> &'a [u8]
+    requires { IsNonDecreasingBy start_of pieces.now }
+    ensures { (bytes : List ℕ) (n : ℕ) → ArePieces pieces.now bytes → n < length result.now → slice_get bytes (at + n) ≡ Some (slice_index result.now n) }
+{
+    let count = count_up_to(pieces, at);
+    if count == 0 {
+        return &[];
+    }
+    let piece = pieces[count - 1];
+    let from = (at - piece.start) as usize;
+    if from < piece.bytes.len() {
+        behind(piece.bytes, from)
+    } else {
+        &[]
     }
 }
 

@@ -10,9 +10,9 @@ ghost use Rattle.omf_records.specs.View as records;
 ghost use Rattle.omf_records.specs.Segments.{shown};
 ghost use Rattle.omf_cells.specs.Walk.{HasSpelling, patches_from};
 ghost use Rattle.omf_cells.specs.Load.{IsLoadView, AreShown, IsLaterRefused};
-ghost use Rattle.omf_cells.specs.Content.{HasPieces, IsContent, AreContents, patch_of, spread_all, shown_spot, super_count, super_segment};
+ghost use Rattle.omf_cells.specs.Content.{HasPieces, IsNear, IsContent, AreContents, patch_of, spread_all, shown_spot, super_count, super_segment};
 
-use crate::data::{data_u8, data_u16};
+use crate::data::{data_from, near_u8, near_u16};
 use crate::pieces::{Piece, pieces_of};
 use crate::spots::{Relocation, Spot, add_spots, is_outside};
 use load_meaning::{LoadCause, LoadFault};
@@ -113,8 +113,9 @@ fn super_count(form: u8) -> u8
 }
 
 /// The segment that the patch of a SUPER at a location names: the segment itself, or in type 2 the byte of the data behind
-/// the offset, and else the one that the type names.
-fn super_segment(form: u8, at: u32, view: &SegmentView, pieces: &[Piece]) -> u16
+/// the offset, and else the one that the type names. The bytes near the location are those of the data from there on.
+fn super_segment(form: u8, at: u32, near: &[u8], view: &SegmentView, pieces: &[Piece]) -> u16
+    requires near { IsNear view.now at near.now }
     requires pieces { HasPieces view.now pieces.now }
     requires inside { at + super_count form ≤ view.now.header.length }
     ensures { result ≡ super_segment (shown view.now) form at }
@@ -123,7 +124,7 @@ fn super_segment(form: u8, at: u32, view: &SegmentView, pieces: &[Piece]) -> u16
         return view.header.seg_num;
     }
     if form == 2 {
-        return u16::from(data_u8(view, pieces, at + 2));
+        return u16::from(near_u8(near, 2, view, pieces, at));
     }
     let form = u16::from(form);
     if form <= 25 {
@@ -139,12 +140,13 @@ fn super_patch(form: u8, at: u32, view: &SegmentView, pieces: &[Piece]) -> Reloc
     requires inside { at + super_count form ≤ view.now.header.length }
     ensures { patch_of result ≡ super_patch (shown view.now) form at }
 {
+    let near = data_from(view, pieces, at);
     Relocation {
         location: u64::from(at),
         count: super_count(form),
         file: 1,
-        segment: super_segment(form, at, view, pieces),
-        offset: u32::from(data_u16(view, pieces, at)),
+        segment: super_segment(form, at, near, view, pieces),
+        offset: u32::from(near_u16(near, view, pieces, at)),
         shift: if form <= 25 { 0 } else { -16 },
     }
 }
