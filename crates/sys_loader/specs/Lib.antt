@@ -1,5 +1,6 @@
 pub mod View
 pub mod Replies
+pub mod Scripts
 pub mod Lying
 pub mod Filling
 pub mod Calls

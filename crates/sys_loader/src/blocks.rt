@@ -7,12 +7,13 @@ ghost use Rattle.iigs_meaning.specs.Slots.{get};
 ghost use Rattle.iigs_meaning.specs.Fits.{IsWant};
 ghost use Rattle.iigs_meaning.specs.Puts.{Purges};
 ghost use Rattle.iigs_meaning.specs.Blocks.{state_of};
-ghost use Rattle.iigs_meaning.specs.Memory.{IsPlaced, IsFreed, Changes};
+ghost use Rattle.iigs_meaning.specs.Memory.{IsPlaced, IsFreed};
 ghost use Rattle.iigs_meaning.specs.Room.{CountsBelow, IsRoom};
 ghost use Rattle.loader_machine.specs.State.{Machine};
 ghost use Rattle.loader_machine.specs.Refusals.{free_refusal, change_refusal, state_refusal};
 ghost use Rattle.loader_machine.specs.Commands.{Alloc, Free, Lock, Unlock, Level, StateOf, Room, Placed, RoomIs, Refused};
 ghost use Rattle.loader_agrees.specs.Agrees.{Agrees, Met};
+ghost use Rattle.sys_loader.specs.Scripts.{HasChanged};
 ghost use Rattle.sys_loader.specs.Replies.{done_reply, state_reply, IsAllocRefusal};
 
 use crate::loader::Loader;
@@ -130,8 +131,7 @@ impl Loader {
 
     // Locks a block of the script.
     fn lock_block(&mut self, h: Handle) -> Result<(), LoaderFault>
-        ensures changed { IfOk result (λ _. Changes self.old.memory h (λ block. record block { locked = true }) self.new.memory × (self.new.users ≡ self.old.users)
-            × IsSomeAnd (get self.old.memory.slots h) (λ block. block.user ≡ 0) × (change_refusal self.old.memory.slots h ≡ None)) }
+        ensures changed { IfOk result (λ _. HasChanged self.old h (λ block. record block { locked = true }) self.new) }
         ensures refused { IfErr result (λ fault. change_refusal self.old.memory.slots h ≡ Some fault) }
         ensures err { OnErr result (self.new ≡ self.old) }
     {
@@ -152,8 +152,7 @@ impl Loader {
         ensures meets { (held : FileMap) (state : Machine) → Agrees held self.old state → Met Purges held state (Lock h) (done_reply result) self.new }
 
         // And so much is true of it over any files.
-        ensures changed { IfOk result (λ _. Changes self.old.memory h (λ block. record block { locked = true }) self.new.memory × (self.new.users ≡ self.old.users)
-            × IsSomeAnd (get self.old.memory.slots h) (λ block. block.user ≡ 0) × (change_refusal self.old.memory.slots h ≡ None)) }
+        ensures changed { IfOk result (λ _. HasChanged self.old h (λ block. record block { locked = true }) self.new) }
         ensures refused { IfErr result (λ fault. change_refusal self.old.memory.slots h ≡ Some fault) }
         ensures err { OnErr result (self.new ≡ self.old) }
     {
@@ -163,8 +162,7 @@ impl Loader {
 
     // Unlocks a block of the script.
     fn unlock_block(&mut self, h: Handle) -> Result<(), LoaderFault>
-        ensures changed { IfOk result (λ _. Changes self.old.memory h (λ block. record block { locked = false }) self.new.memory × (self.new.users ≡ self.old.users)
-            × IsSomeAnd (get self.old.memory.slots h) (λ block. block.user ≡ 0) × (change_refusal self.old.memory.slots h ≡ None)) }
+        ensures changed { IfOk result (λ _. HasChanged self.old h (λ block. record block { locked = false }) self.new) }
         ensures refused { IfErr result (λ fault. change_refusal self.old.memory.slots h ≡ Some fault) }
         ensures err { OnErr result (self.new ≡ self.old) }
     {
@@ -185,8 +183,7 @@ impl Loader {
         ensures meets { (held : FileMap) (state : Machine) → Agrees held self.old state → Met Purges held state (Unlock h) (done_reply result) self.new }
 
         // And so much is true of it over any files.
-        ensures changed { IfOk result (λ _. Changes self.old.memory h (λ block. record block { locked = false }) self.new.memory × (self.new.users ≡ self.old.users)
-            × IsSomeAnd (get self.old.memory.slots h) (λ block. block.user ≡ 0) × (change_refusal self.old.memory.slots h ≡ None)) }
+        ensures changed { IfOk result (λ _. HasChanged self.old h (λ block. record block { locked = false }) self.new) }
         ensures refused { IfErr result (λ fault. change_refusal self.old.memory.slots h ≡ Some fault) }
         ensures err { OnErr result (self.new ≡ self.old) }
     {
@@ -196,8 +193,7 @@ impl Loader {
 
     // Sets the level of a block of the script.
     fn set_level(&mut self, h: Handle, n: u8) -> Result<(), LoaderFault>
-        ensures changed { IfOk result (λ _. Changes self.old.memory h (λ block. record block { level = n }) self.new.memory × (self.new.users ≡ self.old.users)
-            × IsSomeAnd (get self.old.memory.slots h) (λ block. block.user ≡ 0) × (change_refusal self.old.memory.slots h ≡ None)) }
+        ensures changed { IfOk result (λ _. HasChanged self.old h (λ block. record block { level = n }) self.new) }
         ensures refused { IfErr result (λ fault. change_refusal self.old.memory.slots h ≡ Some fault) }
         ensures err { OnErr result (self.new ≡ self.old) }
     {
@@ -218,8 +214,7 @@ impl Loader {
         ensures meets { (held : FileMap) (state : Machine) → Agrees held self.old state → Met Purges held state (Level h n) (done_reply result) self.new }
 
         // And so much is true of it over any files.
-        ensures changed { IfOk result (λ _. Changes self.old.memory h (λ block. record block { level = n }) self.new.memory × (self.new.users ≡ self.old.users)
-            × IsSomeAnd (get self.old.memory.slots h) (λ block. block.user ≡ 0) × (change_refusal self.old.memory.slots h ≡ None)) }
+        ensures changed { IfOk result (λ _. HasChanged self.old h (λ block. record block { level = n }) self.new) }
         ensures refused { IfErr result (λ fault. change_refusal self.old.memory.slots h ≡ Some fault) }
         ensures err { OnErr result (self.new ≡ self.old) }
     {
