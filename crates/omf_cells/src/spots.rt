@@ -46,15 +46,16 @@ pub fn add_spots(spots: &mut Vec<Spot>, patch: &Relocation) -> Result<(), AllocE
     requires short { patch.now.location + patch.now.count < 2 ^ 32 }
     ensures { OnOk result (map shown_spot spots.new.items ≡ map shown_spot spots.old.items ++ spread (patch_of patch.now)) }
 {
+    spots.reserve(patch.count as usize)?;
     let mut index = 0;
     'bytes: while index < patch.count {
-        spots.push(Spot {
+        spots.push_reserved(Spot {
             at: patch.location as u32 + u32::from(index),
             offset: patch.offset,
             segment: patch.segment,
             shift: patch.shift,
             index,
-        })?;
+        });
         index += 1;
     }
     Ok(())

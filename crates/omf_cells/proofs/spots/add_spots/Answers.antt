@@ -5,7 +5,7 @@ use Rattle.std.proofs.Common.{◌≡◌, ℕ, ℤ, ◌+◌, ◌-◌, suc, ◌++�
 use Rattle.std.proofs.lemmas.List.{append-nil}
 use Rattle.load_meaning.specs.Cells.{Part}
 use Rattle.omf_cells.specs.declared.spots.Spot.{Spot}
-use Rattle.omf_cells.specs.Content.{patch_of, spread_from, shown_spot}
+use Rattle.omf_cells.specs.Content.{patch_of, spread_from, spread, shown_spot}
 use Rattle.omf_cells.proofs.SpotLists.{push_spot}
 use Rattle.omf_cells.proofs.spots.add_spots.Goals as goal
 
@@ -16,7 +16,8 @@ bytes-init c =
     let all : p.count - 0 ≡ p.count = omega arith in
     record {
       within = omega arith;
-      whole = ap (λ (n : ℕ). map shown_spot c.args.spots.now.items ++ spread_from p n 0 (p.count - 0)) at ∙ ap (λ (n : ℕ). map shown_spot c.args.spots.now.items ++ spread_from p p.location 0 n) all;
+      room = omega (arith, c.in_ok-reserve.ensures.ok);
+      whole = ap (λ (n : ℕ). map shown_spot c.reserve.new.self.items ++ spread_from p n 0 (p.count - 0)) at ∙ ap (λ (n : ℕ). map shown_spot c.reserve.new.self.items ++ spread_from p p.location 0 n) all;
     }
 
 pub bytes-preserved : goal.bytes-preserved
@@ -34,9 +35,10 @@ bytes-preserved c =
     let new : Spot = record { at = p.location + c.from.result; offset = p.offset; segment = p.segment; shift = to_z w8 (of_z w8 p.shift); index = index } in
     record {
       within = omega (arith, c.bytes-test.true);
+      room = omega (arith, c.bytes.invariant.room, c.bytes-test.true, c.push_reserved.ensures.len, c.push_reserved.ensures.capacity);
       whole =
-          ap (λ (n : ℕ). map shown_spot c.push.new.self.items ++ spread_from p n (index + 1) (p.count - (index + 1))) place
-          ∙ ap (λ l. map shown_spot l ++ spread_from p (p.location + index + 1) (index + 1) (p.count - (index + 1))) c.in_ok-push.ensures.items
+          ap (λ (n : ℕ). map shown_spot c.push_reserved.new.self.items ++ spread_from p n (index + 1) (p.count - (index + 1))) place
+          ∙ ap (λ l. map shown_spot l ++ spread_from p (p.location + index + 1) (index + 1) (p.count - (index + 1))) c.push_reserved.ensures.items
           ∙ push_spot c.bytes.spots.items new p (p.location + index) index (p.count - index) (p.count - (index + 1)) one is
           ∙ c.bytes.invariant.whole;
     }
@@ -48,3 +50,4 @@ returns c =
     sym (append-nil (map shown_spot c.bytes.spots.items))
     ∙ sym (ap (λ (n : ℕ). map shown_spot c.bytes.spots.items ++ spread_from p (p.location + c.bytes.index) c.bytes.index n) none)
     ∙ c.bytes.invariant.whole
+    ∙ ap (λ l. map shown_spot l ++ spread p) c.in_ok-reserve.ensures.items
