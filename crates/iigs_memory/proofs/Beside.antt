@@ -1,5 +1,5 @@
 -- When a place lies beside all blocks.
-use Rattle.std.proofs.Common.{inl, inr, ℕ, ◌+◌, ◌<◌, ◌≤◌, List, length, get_or, arith}
+use Rattle.std.proofs.Common.{◌≡◌, inl, inr, ℕ, ◌+◌, ◌<◌, ◌≤◌, List, length, get_or, arith}
 use Rattle.std.specs.List.Sorted.{IsNonDecreasingBy}
 use Rattle.std.proofs.lemmas.Bool.{cases_lt}
 use Rattle.iigs_meaning.specs.declared.wants.Want.{Want}
@@ -11,9 +11,24 @@ past_beside : (limit address size : ℕ) (spot : Spot) → IsPast limit address 
 past_beside limit address size spot (inl gone) kept = absurd (omega arith)
 past_beside limit address size spot (inr ended) kept = inr ended
 
-past_later : (limit address later : ℕ) (spot : Spot) → address ≤ later → IsPast limit address spot → IsPast limit later spot
+pub past_later : (limit address later : ℕ) (spot : Spot) → address ≤ later → IsPast limit address spot → IsPast limit later spot
 past_later limit address later spot le (inl gone) = inl gone
 past_later limit address later spot le (inr ended) = inr (omega arith)
+
+-- one block more is past
+pub past_next : (spots : List Spot) (limit end later first place : ℕ) → end ≤ later
+    → ((k : ℕ) (d : Spot) → first ≤ k → k < place → IsPast limit end (get_or spots k d))
+    → ((d : Spot) → IsPast limit later (get_or spots place d))
+    → (k : ℕ) (d : Spot) → first ≤ k → k < place + 1 → IsPast limit later (get_or spots k d)
+past_next spots limit end later first place le past here k d from to = elim (cases_lt k place) [
+  | inl lt ↦ past_later limit end later (get_or spots k d) le (past k d from lt)
+  | inr ge ↦ let same : k ≡ place = omega arith in rw same (here d)
+]
+
+-- and the first one
+pub past_first : (spots : List Spot) (limit end first : ℕ) → ((d : Spot) → (get_or spots first d).end ≤ end)
+    → (k : ℕ) (d : Spot) → first ≤ k → k < first + 1 → IsPast limit end (get_or spots k d)
+past_first spots limit end first ends k d from to = let same : k ≡ first = omega arith in rw same (inr (ends d))
 
 -- bytes that share one with a block that counts
 pub none_beside : (spots : List Spot) (limit size address place : ℕ) (d : Spot) → place < length spots → limit ≤ (get_or spots place d).turn
@@ -41,14 +56,18 @@ module _ (banks : List ℕ) (want : Want) (spots : List Spot) (limit from index 
     ]
   ]
 
-  -- blocks that are past here are past there too
-  pub past_there : (end : ℕ) → from ≤ place → place ≤ end
+  -- blocks that are past here are past there too, and so are those of a run
+  pub past_there : (end last : ℕ) → from ≤ place → place ≤ end
       → ((k : ℕ) (d : Spot) → k < index → IsPast limit from (get_or spots k d))
       → ((k : ℕ) (d : Spot) → index ≤ k → k < next → IsPast limit place (get_or spots k d))
-      → (k : ℕ) (d : Spot) → k < next → IsPast limit end (get_or spots k d)
-  past_there end le le' past passed k d lt = elim (cases_lt k index) [
-    | inl lt' ↦ past_later limit from end (get_or spots k d) (omega arith) (past k d lt')
-    | inr ge ↦ past_later limit place end (get_or spots k d) le' (passed k d ge lt)
+      → ((k : ℕ) (d : Spot) → next ≤ k → k < last → IsPast limit end (get_or spots k d))
+      → (k : ℕ) (d : Spot) → k < last → IsPast limit end (get_or spots k d)
+  past_there end last le le' past passed run k d lt = elim (cases_lt k index) [
+    | inl before ↦ past_later limit from end (get_or spots k d) (omega arith) (past k d before)
+    | inr ge ↦ elim (cases_lt k next) [
+      | inl before ↦ past_later limit place end (get_or spots k d) le' (passed k d ge before)
+      | inr behind ↦ run k d behind lt
+    ]
   ]
 
   -- the first place where the want is open lies beside all blocks, if the next block that counts begins after it

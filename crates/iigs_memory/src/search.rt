@@ -39,27 +39,41 @@ fn first_after(spots: &[Spot], from: usize, limit: u32, address: u32) -> usize
     spots.len()
 }
 
-// Where the blocks end that begin with the one at a place and leave no room for so many bytes between them. Those with a
-// turn below the limit don't count.
-fn run_end(spots: &[Spot], first: usize, limit: u32, size: u32) -> u32
+// Blocks that leave no room between them.
+#[derive(Clone, Copy)]
+struct Run {
+    // Where the last of them ends.
+    end: u32,
+    // The place of the block behind them.
+    next: usize,
+}
+
+// The blocks that begin with the one at a place and leave no room for so many bytes between them. Those with a turn below
+// the limit don't count.
+fn run_from(spots: &[Spot], first: usize, limit: u32, size: u32) -> Run
     requires inside { first < length spots.now }
     requires size { size ≤ 2 ^ 24 }
     requires ends { All (λ spot. spot.end ≤ 2 ^ 24) spots.now }
-    ensures after { (d : Spot) → (slice_index_or spots.now first d).end ≤ result }
-    ensures within { result ≤ 2 ^ 24 }
-    ensures full { (d : Spot) (address : ℕ) → (slice_index_or spots.now first d).end ≤ address → address < result → HasNoPlace spots.now limit size address }
+    ensures after { (d : Spot) → (slice_index_or spots.now first d).end ≤ result.end }
+    ensures within { result.end ≤ 2 ^ 24 }
+    ensures inside { result.next ≤ length spots.now }
+    ensures past { (k : ℕ) (d : Spot) → first ≤ k → k < result.next → IsPast limit result.end (slice_index_or spots.now k d) }
+    ensures full { (d : Spot) (address : ℕ) → (slice_index_or spots.now first d).end ≤ address → address < result.end → HasNoPlace spots.now limit size address }
 {
     let mut end = spots[first].end;
     for place in first + 1..spots.len() {
         let spot = &spots[place];
         if limit <= spot.turn {
             if end + size <= spot.at {
-                return end;
+                return Run { end, next: place };
             }
             end = end.max(spot.end);
         }
     }
-    end
+    Run {
+        end,
+        next: spots.len(),
+    }
 }
 
 /// The least address at which the want fits beside all blocks whose turn isn't below the limit. The blocks stand in
@@ -81,7 +95,9 @@ pub fn least_among(map: &BankMap, want: &Want, spots: &[Spot], limit: u32) -> Op
         if place + want.size <= spot.at {
             return Some(place);
         }
-        from = run_end(spots, index, limit, want.size);
+        let run = run_from(spots, index, limit, want.size);
+        from = run.end;
+        index = run.next;
     }
     None
 }

@@ -14,10 +14,10 @@ loop-place-preserved c =
     let inside : next < length c.args.spots.now = grind (arith, common_steps) in
     let is : get_or c.args.spots.now next spot ≡ spot = grind (arith, common_steps) in
     let here = c.first_after-index.ensures.here spot inside in (
-      c.run_end-from.ensures.within,
-      c.first_after-index.ensures.within,
-      none_before c.args.map.now c.args.want.now c.args.spots.now c.args.limit c.loop-place.from c.loop-place.index c.in-Some.place next c.run_end-from.result spot
-          c.loop-place.invariant.2 c.in-Some.ensures inside here.0 (rw is (omega (arith, c.if-place-want.false))) (c.run_end-from.ensures.full spot),
-      past_there c.args.map.now c.args.want.now c.args.spots.now c.args.limit c.loop-place.from c.loop-place.index c.in-Some.place next c.run_end-from.result
-          c.in-Some.ensures.after (omega (arith, here.1, c.run_end-from.ensures.after spot)) c.loop-place.invariant.3 c.first_after-index.ensures.past,
+      c.run_from-run.ensures.within,
+      c.run_from-run.ensures.inside,
+      none_before c.args.map.now c.args.want.now c.args.spots.now c.args.limit c.loop-place.from c.loop-place.index c.in-Some.place next c.run_from-run.result.end spot
+          c.loop-place.invariant.2 c.in-Some.ensures inside here.0 (rw is (omega (arith, c.if-place-want.false))) (c.run_from-run.ensures.full spot),
+      past_there c.args.map.now c.args.want.now c.args.spots.now c.args.limit c.loop-place.from c.loop-place.index c.in-Some.place next c.run_from-run.result.end c.run_from-run.result.next
+          c.in-Some.ensures.after (omega (arith, here.1, c.run_from-run.ensures.after spot)) c.loop-place.invariant.3 c.first_after-index.ensures.past c.run_from-run.ensures.past,
     )
