@@ -5,6 +5,9 @@ use Rattle.std.specs.List.{flat_map}
 use Rattle.std.proofs.lemmas.List.{map-append, length-map, append-nil}
 use Rattle.std.proofs.lemmas.Option.{slice_get-map}
 use Rattle.std.proofs.lemmas.Grind.{flat_map-append}
+use Rattle.std.proofs.lemmas.List.Concat.{flat_map-cons}
+use Rattle.std.proofs.lemmas.List.Elements.{filter-append}
+use Rattle.std.specs.Str.{bytes_eq}
 use Rattle.omf_format.specs.Record.{Record}
 use Rattle.omf_format.specs.Reading.{Reader}
 use Rattle.omf_format.specs.File.{Segment}
@@ -12,16 +15,17 @@ use Rattle.link_meaning.specs.Sizes.{Located, size_at, located_from, place_behin
 use Rattle.link_meaning.specs.Member.{Member}
 use Rattle.link_meaning.specs.Defines.{Definition, outer_scope, defined_by, title_of}
 use Rattle.omf_format.specs.Header.{is_private}
-use Rattle.link_meaning.specs.Search.{Found, step_for}
+use Rattle.link_meaning.specs.Search.{Found, step_for, step_of, is_step, sees, named}
 use Rattle.link_meaning.specs.declared.search.Step.{Step}
+use Rattle.link_meaning.specs.declared.search.Step.TheVariants.{Within, OfUnit, Everyone}
 use Rattle.link_resolve.specs.declared.names.Outcome.{Outcome}
-use Rattle.link_resolve.specs.declared.names.Outcome.TheVariants.{One, Several}
+use Rattle.link_resolve.specs.declared.names.Outcome.TheVariants.{Nothing, One, Several}
 use Rattle.link_resolve.specs.declared.definitions.Definition as kept
 use Rattle.link_resolve.specs.declared.definitions.Definitions.{Definitions}
 use Rattle.link_resolve.specs.declared.definitions.Origin.{Origin}
 use Rattle.link_resolve.specs.Names.{Named, Row, Indexes, is_row, seen_of, outcome}
 use Rattle.link_resolve.specs.Coming.{Coming, Walks}
-use Rattle.link_resolve.specs.Definitions.{ToldDefinition, definition_of, told_definition, key_of_found, is_found, numbered, AreDefinitions, Sees, IsOf, founds_in}
+use Rattle.link_resolve.specs.Definitions.{ToldDefinition, definition_of, told_definition, key_of_found, is_found, numbered, local_under, local_rows, AreDefinitions, Sees, IsOf, founds_in}
 use Rattle.link_resolve.proofs.Grown.{grows}
 
 -- ---- look-ups
@@ -52,11 +56,58 @@ pub seen_all : (fs : List Found) (table : Definitions) (key : Named) (answer : O
 seen_all fs table key answer are looks =
     subst (λ (o : Outcome). Sees fs (filter (is_found key) fs) o) (sym (looks (numbered 0 fs) are.names)) (seen_from fs fs 0 key (λ k. let same : 0 + k ≡ k = omega arith in ap (slice_get fs) same))
 
-pub got : (fs : List Found) (table : Definitions) (number : ℕ) (answer : Option kept.Definition) → AreDefinitions fs table → answer ≡ slice_get table.items.items number
+pub got : (fs : List Found) (table : Definitions) (number : ℕ) (answer : Option kept.Definition) → AreDefinitions fs table → option_map definition_of answer ≡ slice_get table.items number
     → option_map definition_of answer ≡ option_map told_definition (slice_get fs number)
-got fs table number answer are is =
-    ap (option_map definition_of) is ∙ sym (slice_get-map definition_of table.items.items number)
-    ∙ ap (λ (l : List ToldDefinition). slice_get l number) are.items ∙ slice_get-map told_definition fs number
+got fs table number answer are is = is ∙ ap (λ (l : List ToldDefinition). slice_get l number) are.items ∙ slice_get-map told_definition fs number
+
+-- ---- what segments have for themselves
+
+nothing_seen : (rows : List Row) → seen_of rows ≡ Nothing → rows ≡ []
+nothing_seen [] e = refl
+nothing_seen (r ∷ []) e = absurd cc
+nothing_seen (r ∷ r' ∷ rows) e = absurd cc
+
+append_none : {A : Type 0} → (xs ys : List A) → xs ++ ys ≡ [] → ys ≡ []
+append_none [] ys e = e
+append_none (x ∷ xs) ys e = absurd cc
+
+first_none : {A : Type 0} → (x : A) (xs : List A) → x ∷ xs ≡ [] → ⊥
+first_none x xs e = cc
+
+abbrev all_key : List ℕ → Named
+all_key name = record { step = Everyone; name = name }
+
+no_local_rows : (fs : List Found) (name : List ℕ) (place : ℕ) → filter (is_row (all_key name)) (local_rows fs) ≡ [] → filter (sees (Within place)) (filter (λ f. bytes_eq name f.definition.name) fs) ≡ []
+no_local_rows [] name place none = refl
+no_local_rows (f ∷ fs) name place none = settle (step_of f) refl (bytes_eq name f.definition.name) refl both (no_local_rows fs name place (append_none (filter (is_row (all_key name)) (local_under (step_of f) f.definition.name)) (filter (is_row (all_key name)) (local_rows fs)) both))
+  where
+    here : List Row
+    here = local_under (step_of f) f.definition.name
+
+    rest : List Found
+    rest = filter (λ g. bytes_eq name g.definition.name) fs
+
+    both : filter (is_row (all_key name)) here ++ filter (is_row (all_key name)) (local_rows fs) ≡ []
+    both = sym (filter-append (is_row (all_key name)) here (local_rows fs)) ∙ ap (filter (is_row (all_key name))) (sym (flat_map-cons (λ (g : Found). local_under (step_of g) g.definition.name) f fs)) ∙ none
+
+    unseen : (t : Step) → step_of f ≡ t → is_step (Within place) t ≡ false → filter (sees (Within place)) rest ≡ [] → filter (sees (Within place)) (f ∷ rest) ≡ []
+    unseen t is apart again = ap (λ (u : Bool). if u then f ∷ filter (sees (Within place)) rest else filter (sees (Within place)) rest) (ap (is_step (Within place)) is ∙ apart) ∙ again
+
+    settle : (t : Step) → step_of f ≡ t → (b : Bool) → bytes_eq name f.definition.name ≡ b → filter (is_row (all_key name)) here ++ filter (is_row (all_key name)) (local_rows fs) ≡ [] → filter (sees (Within place)) rest ≡ []
+        → filter (sees (Within place)) (if bytes_eq name f.definition.name then f ∷ rest else rest) ≡ []
+    settle t is false e none again = ap (λ (b : Bool). filter (sees (Within place)) (if b then f ∷ rest else rest)) e ∙ again
+    settle (OfUnit file from) is true e none again = ap (λ (b : Bool). filter (sees (Within place)) (if b then f ∷ rest else rest)) e ∙ unseen (OfUnit file from) is refl again
+    settle Everyone is true e none again = ap (λ (b : Bool). filter (sees (Within place)) (if b then f ∷ rest else rest)) e ∙ unseen Everyone is refl again
+    settle (Within p) is true e none again =
+        let row : filter (is_row (all_key name)) here ≡ (all_key f.definition.name, p) ∷ [] =
+        ap (λ (u : Step). filter (is_row (all_key name)) (local_under u f.definition.name)) is ∙ ap (λ (b : Bool). if b then (all_key f.definition.name, p) ∷ [] else []) e in
+        absurd (first_none (all_key f.definition.name, p) (filter (is_row (all_key name)) (local_rows fs)) (sym (ap (λ (l : List Row). l ++ filter (is_row (all_key name)) (local_rows fs)) row) ∙ none))
+
+-- a name that no segment has for itself is found in none
+pub no_local : (fs : List Found) (table : Definitions) (name : List ℕ) (o : Outcome) → AreDefinitions fs table → ((rows : List Row) → Indexes rows table.locals → o ≡ outcome rows (all_key name)) → o ≡ Nothing
+    → (place : ℕ) → filter (sees (Within place)) (named name fs) ≡ []
+unfolding named
+no_local fs table name o are looks nothing place = no_local_rows fs name place (nothing_seen (filter (is_row (all_key name)) (local_rows fs)) (sym (looks (local_rows fs) are.locals) ∙ nothing))
 
 -- ---- one more
 
@@ -66,19 +117,27 @@ numbered-snoc n (g ∷ fs) f =
     let same : n + 1 + length fs ≡ n + suc (length fs) = omega arith in
     ap (λ (l : List Row). (key_of_found g, n) ∷ l) (numbered-snoc (n + 1) fs f ∙ ap (λ (k : ℕ). numbered (n + 1) fs ++ (key_of_found f, k) ∷ []) same)
 
+locals-snoc : (fs : List Found) (f : Found) → local_rows fs ++ local_under (step_of f) f.definition.name ≡ local_rows (fs ++ f ∷ [])
+locals-snoc [] f = sym (flat_map-cons (λ (g : Found). local_under (step_of g) g.definition.name) f [] ∙ append-nil (local_under (step_of f) f.definition.name))
+locals-snoc (g ∷ fs) f =
+    let L : Found → List Row = λ x. local_under (step_of x) x.definition.name in
+    ap (λ (l : List Row). l ++ L f) (flat_map-cons L g fs) ∙ append_assoc (L g) (local_rows fs) (L f) ∙ ap (λ (l : List Row). L g ++ l) (locals-snoc fs f) ∙ sym (flat_map-cons L g (fs ++ f ∷ []))
+
 pub pushed : (fs : List Found) (f : Found) (old new : Definitions) (key : Named) (number : ℕ) (d : kept.Definition) → AreDefinitions fs old → key ≡ key_of_found f → definition_of d ≡ told_definition f
-    → number ≡ length old.items.items → ((rows : List Row) → Indexes rows old.names → Indexes (rows ++ (key, number) ∷ []) new.names) → new.items.items ≡ old.items.items ++ d ∷ []
-    → AreDefinitions (fs ++ f ∷ []) new
-pushed fs f old new key number d are key_is told_is number_is more items =
-    let size : length old.items.items ≡ length fs = sym (length-map old.items.items definition_of) ∙ ap length are.items ∙ length-map fs told_definition in
+    → number ≡ length old.items → ((rows : List Row) → Indexes rows old.names → Indexes (rows ++ (key, number) ∷ []) new.names) → new.items ≡ old.items ++ definition_of d ∷ []
+    → ((rows : List Row) → Indexes rows old.locals → Indexes (rows ++ local_under key.step key.name) new.locals) → AreDefinitions (fs ++ f ∷ []) new
+pushed fs f old new key number d are key_is told_is number_is more items more_locals =
+    let size : length old.items ≡ length fs = ap length are.items ∙ length-map fs told_definition in
     let front : length fs ≡ 0 + length fs = omega arith in
     let rows : numbered 0 fs ++ (key, number) ∷ [] ≡ numbered 0 (fs ++ f ∷ []) =
     ap (λ (k : Named). numbered 0 fs ++ (k, number) ∷ []) key_is ∙ ap (λ (k : ℕ). numbered 0 fs ++ (key_of_found f, k) ∷ []) (number_is ∙ size) ∙ ap (λ (k : ℕ). numbered 0 fs ++ (key_of_found f, k) ∷ []) front ∙ sym (numbered-snoc 0 fs f) in
+    let locals : local_rows fs ++ local_under key.step key.name ≡ local_rows (fs ++ f ∷ []) =
+    ap (λ (k : Named). local_rows fs ++ local_under k.step k.name) key_is ∙ locals-snoc fs f in
     record {
       names = subst (λ (l : List Row). Indexes l new.names) rows (more (numbered 0 fs) are.names);
+      locals = subst (λ (l : List Row). Indexes l new.locals) locals (more_locals (local_rows fs) are.locals);
       items =
-          ap (map definition_of) items ∙ map-append definition_of old.items.items (d ∷ [])
-          ∙ ap (λ (l : List ToldDefinition). l ++ definition_of d ∷ []) are.items
+          items ∙ ap (λ (l : List ToldDefinition). l ++ definition_of d ∷ []) are.items
           ∙ ap (λ (t : ToldDefinition). map told_definition fs ++ t ∷ []) told_is
           ∙ sym (map-append told_definition fs (f ∷ []));
     }

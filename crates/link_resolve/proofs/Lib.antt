@@ -3,13 +3,16 @@ pub mod OnOks
 pub mod Spelled
 pub mod ShortNames
 pub mod NameTables
+pub mod EmptyTables
 pub mod ComingLaws
 pub mod Grown
 pub mod FirstLeft
 pub mod SegmentsLeft
 pub mod SegmentName
+pub mod ListedLaws
 pub mod DefinitionLaws
 pub mod UseLaws
+pub mod UseTables
 pub mod SearchLaws
 pub mod LinkedLaws
 pub mod TitleLaws

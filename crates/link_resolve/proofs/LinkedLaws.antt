@@ -1,11 +1,12 @@
 -- One more member of the linked list.
-use Rattle.std.proofs.Common.{◌≡◌, ℕ, zero, suc, ◌+◌, ◌-◌, ◌≤◌, ◌<◌, Option, None, List, [], ◌∷◌, ◌++◌, length, map, drop, Some, refl, sym, ap, subst, ◌∙◌, append_assoc, append-nil, arith}
-use Rattle.std.specs.Prelude.{slice_get, option_map}
+use Rattle.std.proofs.Common.{◌≡◌, ℕ, zero, suc, ◌+◌, ◌-◌, ◌≤◌, ◌<◌, Bool, true, false, Option, None, List, [], ◌∷◌, ◌++◌, length, map, drop, Some, refl, sym, ap, subst, ◌∙◌, append_assoc, append-nil, arith}
+use Rattle.std.specs.Prelude.{slice_get, option_map, nat_eq, if◌then◌else◌}
 use Rattle.std.specs.List.{flat_map}
 use Rattle.std.specs.Borrow.{Bor}
 use Rattle.std.proofs.Math.Seq.{drop-append_seam}
 use Rattle.std.proofs.lemmas.List.{map-append, length-map}
-use Rattle.std.proofs.lemmas.Option.{slice_get-map, slice_get_within}
+use Rattle.std.proofs.lemmas.Bool.{eqb-true}
+use Rattle.std.proofs.lemmas.Option.{slice_get-map, slice_get_within, slice_get_past}
 use Rattle.std.proofs.lemmas.List.Concat.{flat_map-cons}
 use Rattle.omf_format.specs.File.{Segment}
 use Rattle.link_meaning.specs.Member.{Member}
@@ -13,14 +14,12 @@ use Rattle.link_meaning.specs.Defines.{Definition, defined_in, data_title_of}
 use Rattle.link_meaning.specs.Uses.{Use, data_name, uses_of, usings_of}
 use Rattle.link_meaning.specs.Search.{Found, entries_from, entries, data_titles}
 use Rattle.link_meaning.specs.LinkedList.{Asked, asked_from, asked}
-use Rattle.link_resolve.specs.declared.uses.Use as kept
 use Rattle.link_resolve.specs.declared.definitions.Origin.{Origin}
-use Rattle.link_resolve.specs.declared.linked.LinkedMember.{LinkedMember}
 use Rattle.link_resolve.specs.declared.linked.Linked.{Linked}
 use Rattle.link_resolve.specs.Names.{Indexes}
 use Rattle.link_resolve.specs.Definitions.{AreDefinitions, IsOf, founds_in}
-use Rattle.link_resolve.specs.Uses.{use_of, told_use, at_place, HaveShortNames}
-use Rattle.link_resolve.specs.Linked.{names_of, ToldMember, kept_member, told_member, place_rows, Holds, GainsTitle, OriginOf, member_at}
+use Rattle.link_resolve.specs.Uses.{told_use, at_place, HaveShortNames}
+use Rattle.link_resolve.specs.Linked.{names_of, usings_at, usings_in, origin_of, place_rows, Holds, GainsTitle, OriginOf, member_at}
 
 -- ---- lists
 
@@ -51,13 +50,6 @@ told-uses_at place m (u ∷ uses) = ap (λ (l : List (ℕ × Use)). (place, u) �
 
 -- ---- names of USING
 
-names_of_kept : (xs : List kept.Use) → flat_map (λ u. data_name (use_of u).1) xs ≡ flat_map (λ p. data_name p.1) (map use_of xs)
-names_of_kept [] = refl
-names_of_kept (x ∷ xs) =
-    flat_map-cons (λ (u : kept.Use). data_name (use_of u).1) x xs
-    ∙ ap (λ (l : List (List ℕ)). data_name (use_of x).1 ++ l) (names_of_kept xs)
-    ∙ sym (flat_map-cons (λ (p : ℕ × Use). data_name p.1) (use_of x) (map use_of xs))
-
 names_at_place : (place : ℕ) (us : List Use) → flat_map (λ p. data_name p.1) (at_place place us) ≡ flat_map data_name us
 names_at_place place [] = refl
 names_at_place place (u ∷ us) =
@@ -65,46 +57,69 @@ names_at_place place (u ∷ us) =
     ∙ ap (λ (l : List (List ℕ)). data_name u ++ l) (names_at_place place us)
     ∙ sym (flat_map-cons data_name u us)
 
-map-drop : {A B : Type 0} → (f : A → B) (k : ℕ) (xs : List A) → map f (drop k xs) ≡ drop k (map f xs)
-map-drop f zero xs = refl
-map-drop f (suc k) [] = refl
-map-drop f (suc k) (x ∷ xs) = map-drop f k xs
-
-pub usings_are : (place : ℕ) (s : Segment) (old new : List kept.Use) (names : List (Bor (List ℕ))) → map use_of new ≡ map use_of old ++ at_place place (uses_of s)
-    → names_of names ≡ flat_map (λ u. data_name (use_of u).1) (drop (length old) new) → names_of names ≡ usings_of s
+pub usings_are : (place : ℕ) (s : Segment) (old new : List (ℕ × Use)) (names : List (Bor (List ℕ))) → new ≡ old ++ at_place place (uses_of s)
+    → names_of names ≡ flat_map (λ u. data_name u.1) (drop (length old) new) → names_of names ≡ usings_of s
 unfolding usings_of
 usings_are place s old new names more is =
-    let size : length (map use_of old) ≡ length old = length-map old use_of in
-    is ∙ names_of_kept (drop (length old) new)
-    ∙ ap (λ (l : List (ℕ × Use)). flat_map (λ p. data_name p.1) l)
-    (map-drop use_of (length old) new ∙ ap (drop (length old)) more
-    ∙ ap (λ (k : ℕ). drop k (map use_of old ++ at_place place (uses_of s))) (sym size)
-    ∙ drop-append_seam (map use_of old) (at_place place (uses_of s)))
+    is
+    ∙ ap (λ (l : List (ℕ × Use)). flat_map (λ p. data_name p.1) (drop (length old) l)) more
+    ∙ ap (λ (l : List (ℕ × Use)). flat_map (λ p. data_name p.1) l) (drop-append_seam old (at_place place (uses_of s)))
     ∙ names_at_place place (uses_of s)
 
 -- ---- the whole
 
 pub count_is : (list : List Member) (kept : Linked) → Holds list kept → length kept.members.items ≡ length list
-count_is list kept holds = sym (length-map kept.members.items kept_member) ∙ ap length holds.members ∙ length-map list told_member
+count_is list kept holds = ap length holds.members ∙ length-map list origin_of
 
-abbrev told : ℕ → ℕ → ℕ → List (List ℕ) → ToldMember
-told file number from usings = record { file = file; number = number; from = from; usings = usings }
+abbrev from_there : ℕ → ℕ → ℕ → Origin
+from_there file number from = record { file = file; segment = number; from = from }
 
-pub held_more : (list : List Member) (m : Member) (old new : Linked) (s : Segment) (origin : Origin) (usings : List (Bor (List ℕ))) (k : LinkedMember) (place : ℕ)
-    → IsOf m origin → m.segment ≡ s → Holds list old → place ≡ length old.members.items + 1
-    → kept_member k ≡ record { file = origin.file; number = origin.segment; from = origin.from; usings = names_of usings } → new.members.items ≡ old.members.items ++ k ∷ []
+end_place : (list : List Member) (m : Member) → slice_get (list ++ m ∷ []) (length list) ≡ Some m
+end_place [] m = refl
+end_place (x ∷ list) m = end_place list m
+
+other_place : (list : List Member) (m : Member) (k : ℕ) → (k ≡ length list → ⊥) → slice_get (list ++ m ∷ []) k ≡ slice_get list k
+other_place [] m zero other = absurd (other refl)
+other_place [] m (suc k) other = refl
+other_place (x ∷ list) m zero other = refl
+other_place (x ∷ list) m (suc k) other = other_place list m k (λ e. other (ap suc e))
+
+usings_more : (list : List Member) (m : Member) (old new : Linked) (names : List (List ℕ)) (place : ℕ) → Holds list old → place ≡ 1 + length list → names ≡ usings_of m.segment
+    → (usings_at old.usings place ≡ [] → (other : ℕ) → usings_at new.usings other ≡ (if nat_eq place other then names else usings_at old.usings other))
+    → (other : ℕ) → usings_at new.usings other ≡ usings_in (member_at (list ++ m ∷ []) other)
+usings_more list m old new names place holds at are more other = more none other ∙ settle (nat_eq place other) refl
+  where
+    end : place ≡ suc (length list)
+    end = omega (arith, at)
+
+    none : usings_at old.usings place ≡ []
+    none = holds.usings place ∙ ap (λ (n : ℕ). usings_in (member_at list n)) end ∙ ap usings_in (slice_get_past list (length list) (omega arith))
+
+    before : (n : ℕ) → (n ≡ place → ⊥) → member_at list n ≡ member_at (list ++ m ∷ []) n
+    before zero ne = refl
+    before (suc k) ne = sym (other_place list m k (λ e. ne (omega (arith, e, at))))
+
+    eq_self : (n : ℕ) → nat_eq n n ≡ true
+    eq_self n = grind (arith)
+
+    two : nat_eq place other ≡ true → nat_eq place other ≡ false → ⊥
+    two a b = let clash : true ≡ false = sym a ∙ b in cc
+
+    settle : (b : Bool) → nat_eq place other ≡ b → (if b then names else usings_at old.usings other) ≡ usings_in (member_at (list ++ m ∷ []) other)
+    settle true e = are ∙ sym (ap (λ (n : ℕ). usings_in (member_at (list ++ m ∷ []) n)) (sym (eqb-true place other e) ∙ end) ∙ ap usings_in (end_place list m))
+    settle false e = holds.usings other ∙ ap usings_in (before other (λ same. let clash : nat_eq place other ≡ true = ap (nat_eq place) same ∙ eq_self place in absurd (two clash e)))
+
+pub held_more : (list : List Member) (m : Member) (old new : Linked) (s : Segment) (origin : Origin) (names : List (List ℕ)) (place : ℕ)
+    → IsOf m origin → m.segment ≡ s → Holds list old → place ≡ length old.members.items + 1 → new.members.items ≡ old.members.items ++ origin ∷ []
     → ((fs : List Found) (n : Member) → IsOf n origin → AreDefinitions fs old.definitions → AreDefinitions (fs ++ founds_in place n (defined_in s)) new.definitions)
     → GainsTitle old.titles new.titles origin place (data_title_of s)
-    → map use_of new.uses.items ≡ map use_of old.uses.items ++ at_place place (uses_of s) → (HaveShortNames old.uses.items → HaveShortNames new.uses.items)
-    → names_of usings ≡ usings_of s → Holds (list ++ m ∷ []) new
+    → new.uses ≡ old.uses ++ at_place place (uses_of s) → (HaveShortNames old.uses → HaveShortNames new.uses) → names ≡ usings_of s
+    → (usings_at old.usings place ≡ [] → (other : ℕ) → usings_at new.usings other ≡ (if nat_eq place other then names else usings_at old.usings other)) → Holds (list ++ m ∷ []) new
 unfolding entries data_titles asked
-held_more list m old new s origin usings k place of same holds place_is kept_is members defines titles uses short names =
+held_more list m old new s origin names place of same holds place_is members defines titles uses short are usings =
     let at : place ≡ 1 + length list = omega (arith, place_is, count_is list old holds) in
-    let same_told : kept_member k ≡ told_member m =
-    kept_is ∙ ap (λ (l : List (List ℕ)). told origin.file origin.segment origin.from l) (names ∙ ap usings_of (sym same))
-    ∙ ap (λ (n : ℕ). told n origin.segment origin.from (usings_of m.segment)) (sym of.0)
-    ∙ ap (λ (n : ℕ). told m.file n origin.from (usings_of m.segment)) (sym of.1)
-    ∙ ap (λ (n : ℕ). told m.file m.number n (usings_of m.segment)) (sym of.2) in
+    let same_origin : origin ≡ origin_of m =
+    ap (λ (n : ℕ). from_there n origin.segment origin.from) (sym of.0) ∙ ap (λ (n : ℕ). from_there m.file n origin.from) (sym of.1) ∙ ap (λ (n : ℕ). from_there m.file m.number n) (sym of.2) in
     let founds : founds_in place m (defined_in s) ≡ founds_in (1 + length list) m (defined_in m.segment) =
     ap (λ (p : ℕ). founds_in p m (defined_in s)) at ∙ ap (λ (x : Segment). founds_in (1 + length list) m (defined_in x)) (sym same) in
     let named : founds_in place m (data_title_of s) ≡ founds_in (1 + length list) m (data_title_of m.segment) =
@@ -115,9 +130,8 @@ held_more list m old new s origin usings k place of same holds place_is kept_is 
     ap (λ (l : List Found). entries_from data_title_of 1 list ++ l) named ∙ sym (entries_from-snoc data_title_of 1 list m) in
     record {
       members =
-          ap (map kept_member) members ∙ map-append kept_member old.members.items (k ∷ [])
-          ∙ ap (λ (l : List ToldMember). l ++ kept_member k ∷ []) holds.members ∙ ap (λ (t : ToldMember). map told_member list ++ t ∷ []) same_told
-          ∙ sym (map-append told_member list (m ∷ []));
+          members ∙ ap (λ (l : List Origin). l ++ origin ∷ []) holds.members ∙ ap (λ (o : Origin). map origin_of list ++ o ∷ []) same_origin ∙ sym (map-append origin_of list (m ∷ []));
+      usings = usings_more list m old new names place holds at (are ∙ ap usings_of (sym same)) usings;
       definitions = subst (λ (l : List Found). AreDefinitions l new.definitions) all_entries (defines (entries_from defined_in 1 list) m of holds.definitions);
       titles = subst (λ (l : List Found). Indexes (place_rows l) new.titles) all_titles (titles (entries_from data_title_of 1 list) m of holds.titles);
       uses =
@@ -130,23 +144,22 @@ held_more list m old new s origin usings k place of same holds place_is kept_is 
       short = short holds.short;
     }
 
-pub held_none : (new : Linked) → new.members.items ≡ [] → AreDefinitions [] new.definitions → Indexes [] new.titles → new.uses.items ≡ [] → Holds [] new
+pub held_none : (new : Linked) → new.members.items ≡ [] → ((place : ℕ) → usings_at new.usings place ≡ []) → AreDefinitions [] new.definitions → Indexes [] new.titles → new.uses ≡ [] → Holds [] new
 unfolding entries data_titles asked
-held_none new members definitions titles uses = record { members = ap (map kept_member) members; definitions = definitions; titles = titles; uses = ap (map use_of) uses; short = subst HaveShortNames (sym uses) tt }
+held_none new members usings definitions titles uses = record { members = members; usings = λ place. usings place ∙ none place; definitions = definitions; titles = titles; uses = uses; short = subst HaveShortNames (sym uses) tt }
+  where
+    none : (place : ℕ) → [] ≡ usings_in (member_at [] place)
+    none zero = refl
+    none (suc k) = refl
 
-some_same : (a b : ToldMember) → Some a ≡ Some b → a ≡ b
+some_same : (a b : Origin) → Some a ≡ Some b → a ≡ b
 some_same a b e = cc
 
 -- what is kept of the member at a place
-pub member_is : (list : List Member) (kept : Linked) (k : ℕ) (m : Member) (x : LinkedMember) → Holds list kept → slice_get list k ≡ Some m → slice_get kept.members.items k ≡ Some x → kept_member x ≡ told_member m
+pub member_is : (list : List Member) (kept : Linked) (k : ℕ) (m : Member) (x : Origin) → Holds list kept → slice_get list k ≡ Some m → slice_get kept.members.items k ≡ Some x → IsOf m x
 member_is list kept k m x holds at there =
-    some_same (kept_member x) (told_member m)
-    (sym (ap (option_map kept_member) there) ∙ sym (slice_get-map kept_member kept.members.items k)
-    ∙ ap (λ (l : List ToldMember). slice_get l k) holds.members
-    ∙ slice_get-map told_member list k ∙ ap (option_map told_member) at)
-
-pub member_of : (m : Member) (x : LinkedMember) → kept_member x ≡ told_member m → IsOf m x.origin
-member_of m x is = (sym (ap (λ (t : ToldMember). t.file) is), sym (ap (λ (t : ToldMember). t.number) is), sym (ap (λ (t : ToldMember). t.from) is))
+    let is : x ≡ origin_of m = some_same x (origin_of m) (sym there ∙ ap (λ (l : List Origin). slice_get l k) holds.members ∙ slice_get-map origin_of list k ∙ ap (option_map origin_of) at) in
+    (sym (ap (λ (o : Origin). o.file) is), sym (ap (λ (o : Origin). o.segment) is), sym (ap (λ (o : Origin). o.from) is))
 
 -- ---- where a member comes from
 
@@ -154,20 +167,25 @@ place_as : (place : ℕ) → 0 < place → (k : ℕ) × (place ≡ suc k)
 place_as zero some = absurd (omega arith)
 place_as (suc k) some = (k, refl)
 
-pub origin_some : (list : List Member) (kept : Linked) (place : ℕ) (x : LinkedMember) → Holds list kept → 0 < place → slice_get kept.members.items (place - 1) ≡ Some x → OriginOf (member_at list place) (Some x.origin)
+pub usings_is : (list : List Member) (kept : Linked) (place : ℕ) (m : Member) → Holds list kept → 0 < place → slice_get list (place - 1) ≡ Some m → usings_at kept.usings place ≡ usings_of m.segment
+usings_is list kept place m holds some at =
+    let p = place_as place some in
+    let less : p.0 ≡ place - 1 = omega (arith, p.1) in
+    holds.usings place ∙ ap (λ (n : ℕ). usings_in (member_at list n)) p.1 ∙ ap usings_in (ap (slice_get list) less ∙ at)
+
+pub origin_some : (list : List Member) (kept : Linked) (place : ℕ) (x : Origin) → Holds list kept → 0 < place → slice_get kept.members.items (place - 1) ≡ Some x → OriginOf (member_at list place) (Some x)
 origin_some list kept place x holds some there =
     let p = place_as place some in
     let less : place - 1 ≡ p.0 = omega (arith, p.1) in
     let at : slice_get kept.members.items p.0 ≡ Some x = ap (slice_get kept.members.items) (sym less) ∙ there in
-    subst (λ (n : ℕ). OriginOf (member_at list n) (Some x.origin)) (sym p.1) (settle (slice_get list p.0) p.0 refl at)
+    subst (λ (n : ℕ). OriginOf (member_at list n) (Some x)) (sym p.1) (settle (slice_get list p.0) p.0 refl at)
   where
-    settle : (o : Option Member) → (k : ℕ) → slice_get list k ≡ o → slice_get kept.members.items k ≡ Some x → OriginOf o (Some x.origin)
+    settle : (o : Option Member) → (k : ℕ) → slice_get list k ≡ o → slice_get kept.members.items k ≡ Some x → OriginOf o (Some x)
     settle None k e at =
-        let clash : None ≡ Some (kept_member x) =
-        sym (ap (option_map told_member) e) ∙ sym (slice_get-map told_member list k) ∙ sym (ap (λ (l : List ToldMember). slice_get l k) holds.members)
-        ∙ slice_get-map kept_member kept.members.items k ∙ ap (option_map kept_member) at in
+        let clash : None ≡ Some x =
+        sym (ap (option_map origin_of) e) ∙ sym (slice_get-map origin_of list k) ∙ sym (ap (λ (l : List Origin). slice_get l k) holds.members) ∙ at in
         cc
-    settle (Some m) k e at = member_of m x (member_is list kept k m x holds e at)
+    settle (Some m) k e at = member_is list kept k m x holds e at
 
 pub origin_none : (list : List Member) (kept : Linked) (place : ℕ) → Holds list kept → 0 < place → length kept.members.items ≤ place - 1 → OriginOf (member_at list place) None
 origin_none list kept place holds some past =

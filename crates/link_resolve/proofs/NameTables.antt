@@ -3,15 +3,18 @@ use Rattle.std.proofs.Common.{◌≡◌, ℕ, Bool, true, false, List, [], ◌�
 use Rattle.std.specs.Prelude.{filter, if◌then◌else◌, ◌==◌}
 use Rattle.std.proofs.lemmas.Bool.{and_parts, eqb-true}
 use Rattle.std.specs.Str.{bytes_eq}
-use Rattle.indexmap.specs.IndexMap.{get_by, Updates}
+use Rattle.std.specs.Map.{lookup}
+use Rattle.indexmap.specs.IndexMap.{IndexMap, get_by, Updates}
 use Rattle.link_meaning.specs.Search.{is_step}
 use Rattle.link_resolve.specs.contracts.names.KeyPartialEq.TheImpl as test
+use Rattle.link_resolve.specs.contracts.names.PublicPartialEq.TheImpl as test_public
 use Rattle.link_meaning.specs.declared.search.Step.{Step}
 use Rattle.link_meaning.specs.declared.search.Step.TheVariants.{Within, OfUnit, Everyone}
 use Rattle.link_resolve.specs.declared.names.Key.{Key}
+use Rattle.link_resolve.specs.declared.names.Public.{Public}
 use Rattle.link_resolve.specs.declared.names.Outcome.{Outcome}
 use Rattle.link_resolve.specs.declared.names.Names.{Names}
-use Rattle.link_resolve.specs.Names.{Named, Row, key_of, is_key, is_row, seen_of, added, outcome, found_or, Indexes}
+use Rattle.link_resolve.specs.Names.{Named, Row, key_of, is_key, is_row, seen_of, added, outcome, found_or, kept_under, Keeps, Indexes}
 
 by_steps : (a b : Key) (s t : Step) → (test.ghosts).eq (record a { step = s }) (record b { step = t }) ≡ is_key (key_of (record a { step = s })) (key_of (record b { step = t }))
 by_steps a b (Within p) (Within q) = refl
@@ -28,10 +31,38 @@ by_steps a b Everyone Everyone = refl
 pub same_test : (a b : Key) → (test.ghosts).eq a b ≡ is_key (key_of a) (key_of b)
 same_test a b = by_steps a b a.step b.step
 
-pub looked_up : (rows : List Row) (names : Names) (key : Key) (found : Option Outcome) → Indexes rows names
-    → found ≡ get_by ((test.ghosts).eq key) names.outcomes → found_or found ≡ outcome rows (key_of key)
-looked_up rows names key found ix is =
-    ap found_or (is ∙ ap (λ (t : Key → Bool). get_by t names.outcomes) (λ i k. same_test key k i)) ∙ ix (key_of key)
+-- the same of two names that all see
+pub same_public : (a b : Public) → (test_public.ghosts).eq a b ≡ bytes_eq a.name.now b.name.now
+same_public a b = refl
+
+abbrev named_as : Step → List ℕ → Named
+named_as step name = record { step = step; name = name }
+
+pub looked : (rows : List Row) (names : Names) (k : Named) (s : Step) → Indexes rows names → k.step ≡ s → found_or (kept_under s k.name names) ≡ outcome rows k
+looked rows names k s ix is = ap (λ (t : Step). found_or (kept_under t k.name names)) (sym is) ∙ ix k
+
+pub looked_within : (rows : List Row) (names : Names) (k : Named) (place : ℕ) → Indexes rows names → k.step ≡ Within place → found_or (get_by (λ x. is_key k (key_of x)) names.others) ≡ outcome rows k
+looked_within rows names k place ix is =
+    ap (λ (t : Step). found_or (get_by (λ x. is_key (named_as t k.name) (key_of x)) names.others)) is ∙ looked rows names k (Within place) ix is
+
+pub looked_unit : (rows : List Row) (names : Names) (k : Named) (file from : ℕ) → Indexes rows names → k.step ≡ OfUnit file from → found_or (get_by (λ x. is_key k (key_of x)) names.others) ≡ outcome rows k
+looked_unit rows names k file from ix is =
+    ap (λ (t : Step). found_or (get_by (λ x. is_key (named_as t k.name) (key_of x)) names.others)) is ∙ looked rows names k (OfUnit file from) ix is
+
+pub other_found : (names : Names) (key : Key) (found : Option Outcome) → found ≡ get_by ((test.ghosts).eq key) names.others → found_or found ≡ found_or (get_by (λ k. is_key (key_of key) (key_of k)) names.others)
+other_found names key found at = ap found_or (at ∙ ap (λ (t : Key → Bool). get_by t names.others) (λ i k. same_test key k i))
+
+pub public_found : (names : Names) (k : Public) (found : Option Outcome) → found ≡ get_by ((test_public.ghosts).eq k) names.public → found_or found ≡ found_or (kept_under Everyone k.name.now names)
+public_found names k found at = ap found_or (at ∙ ap (λ (t : Public → Bool). get_by t names.public) (λ i x. same_public k x i))
+
+-- a table with the same entries
+pub same_entries : (rows : List Row) (old new : Names) → new.public.entries ≡ old.public.entries → new.others ≡ old.others → Indexes rows old → Indexes rows new
+same_entries rows old new same others ix = λ key. settle key.step key.name ∙ ix key
+  where
+    settle : (s : Step) (name : List ℕ) → found_or (kept_under s name new) ≡ found_or (kept_under s name old)
+    settle (Within place) name = ap (λ (m : IndexMap Key Outcome _). found_or (get_by (λ k. is_key (named_as (Within place) name) (key_of k)) m)) others
+    settle (OfUnit file from) name = ap (λ (m : IndexMap Key Outcome _). found_or (get_by (λ k. is_key (named_as (OfUnit file from) name) (key_of k)) m)) others
+    settle Everyone name = ap (λ (es : List (Public × Outcome)). found_or (lookup (λ k. bytes_eq name k.name.now) es)) same
 
 -- ---- one key, and one more row
 
@@ -55,9 +86,6 @@ bytes_same (x ∷ xs) [] e = absurd cc
 bytes_same (x ∷ xs) (y ∷ ys) e =
     let parts = and_parts (x == y) (bytes_eq xs ys) e in
     ap (λ (n : ℕ). n ∷ xs) (eqb-true x y parts.0) ∙ ap (λ (l : List ℕ). y ∷ l) (bytes_same xs ys parts.1)
-
-abbrev named_as : Step → List ℕ → Named
-named_as step name = record { step = step; name = name }
 
 pub key_same : (a b : Named) → is_key a b ≡ true → a ≡ b
 key_same a b e =
@@ -88,31 +116,60 @@ filter-snoc test (x ∷ rows) row = settle (test x) (test row) (filter-snoc test
     settle false true e = e
     settle false false e = e
 
-pub added_row : (rows : List Row) (old new : Names) (k : Key) (number : ℕ) (so_far now : Outcome) → Indexes rows old → so_far ≡ outcome rows (key_of k) → now ≡ added so_far number
-    → Updates (test.ghosts).eq old.outcomes new.outcomes k (Some now) → Indexes (rows ++ (key_of k, number) ∷ []) new
-added_row rows old new k number so_far now ix seen is updates key = settle (is_key key (key_of k)) refl
+pub keeps_public : (old new : Names) (key : Key) (now : Outcome) → key.step ≡ Everyone → Updates (test_public.ghosts).eq old.public new.public (record { name = key.name }) (Some now)
+    → new.others ≡ old.others → Keeps old new (key_of key) now
+keeps_public old new key now is updates others = λ at. subst (λ (s : Step). kept_under at.step at.name new ≡ (if is_key (named_as s key.name.now) at then Some now else kept_under at.step at.name old)) (sym is) (settle at.step at.name)
   where
-    q : Key
-    q = record k { step = key.step; name = record k.name { now = key.name } }
+    settle : (s : Step) (name : List ℕ) → kept_under s name new ≡ (if is_key (named_as Everyone key.name.now) (named_as s name) then Some now else kept_under s name old)
+    settle (Within place) name = ap (λ (m : IndexMap Key Outcome _). get_by (λ x. is_key (named_as (Within place) name) (key_of x)) m) others
+    settle (OfUnit file from) name = ap (λ (m : IndexMap Key Outcome _). get_by (λ x. is_key (named_as (OfUnit file from) name) (key_of x)) m) others
+    settle Everyone name = updates.0 (record { name = record key.name { now = name } })
 
-    looks : found_or (get_by (λ x. is_key key (key_of x)) new.outcomes) ≡ found_or (if is_key (key_of k) key then Some now else get_by (λ x. is_key key (key_of x)) old.outcomes)
-    looks =
-        ap (λ (t : Key → Bool). found_or (get_by t new.outcomes)) (λ i x. sym (same_test q x) i)
-        ∙ ap found_or (updates.0 q)
-        ∙ ap (λ (b : Bool). found_or (if b then Some now else get_by ((test.ghosts).eq q) old.outcomes)) (same_test k q)
-        ∙ ap (λ (t : Key → Bool). found_or (if is_key (key_of k) key then Some now else get_by t old.outcomes)) (λ i x. same_test q x i)
+abbrev pub IsOwn : Step → Type 0
+IsOwn (Within place) = Unit {0}
+IsOwn (OfUnit file from) = Unit {0}
+IsOwn Everyone = ⊥
 
-    settle : (b : Bool) → is_key key (key_of k) ≡ b → found_or (get_by (λ x. is_key key (key_of x)) new.outcomes) ≡ outcome (rows ++ (key_of k, number) ∷ []) key
+pub keeps_other : (old new : Names) (k : Key) (now : Outcome) → IsOwn k.step → Updates (test.ghosts).eq old.others new.others k (Some now) → new.public ≡ old.public → Keeps old new (key_of k) now
+keeps_other old new k now own updates public = λ key. settle key.step key.name k.step refl own
+  where
+    there : (s : Step) (name : List ℕ) → get_by (λ x. is_key (named_as s name) (key_of x)) new.others ≡ (if is_key (key_of k) (named_as s name) then Some now else get_by (λ x. is_key (named_as s name) (key_of x)) old.others)
+    there s name =
+        let q : Key = record { step = s; name = record k.name { now = name } } in
+        ap (λ (t : Key → Bool). get_by t new.others) (λ i x. sym (same_test q x) i)
+        ∙ updates.0 q
+        ∙ ap (λ (b : Bool). if b then Some now else get_by ((test.ghosts).eq q) old.others) (same_test k q)
+        ∙ ap (λ (t : Key → Bool). if is_key (key_of k) (named_as s name) then Some now else get_by t old.others) (λ i x. same_test q x i)
+
+    settle : (s : Step) (name : List ℕ) (t : Step) → k.step ≡ t → IsOwn t → kept_under s name new ≡ (if is_key (key_of k) (named_as s name) then Some now else kept_under s name old)
+    settle (Within place) name t is own = there (Within place) name
+    settle (OfUnit file from) name t is own = there (OfUnit file from) name
+    settle Everyone name (Within place) is own =
+        ap (λ (m : IndexMap Public Outcome _). get_by (λ x. bytes_eq name x.name.now) m) public
+        ∙ ap (λ (u : Step). if is_key (named_as u k.name.now) (named_as Everyone name) then Some now else get_by (λ x. bytes_eq name x.name.now) old.public) (sym is)
+    settle Everyone name (OfUnit file from) is own =
+        ap (λ (m : IndexMap Public Outcome _). get_by (λ x. bytes_eq name x.name.now) m) public
+        ∙ ap (λ (u : Step). if is_key (named_as u k.name.now) (named_as Everyone name) then Some now else get_by (λ x. bytes_eq name x.name.now) old.public) (sym is)
+    settle Everyone name Everyone is own = absurd own
+
+pub added_row : (rows : List Row) (old new : Names) (k : Named) (number : ℕ) (so_far now : Outcome) → Indexes rows old → so_far ≡ outcome rows k → now ≡ added so_far number
+    → Keeps old new k now → Indexes (rows ++ (k, number) ∷ []) new
+added_row rows old new k number so_far now ix seen is puts key = settle (is_key key k) refl
+  where
+    looks : found_or (kept_under key.step key.name new) ≡ found_or (if is_key k key then Some now else kept_under key.step key.name old)
+    looks = ap found_or (puts key)
+
+    settle : (b : Bool) → is_key key k ≡ b → found_or (kept_under key.step key.name new) ≡ outcome (rows ++ (k, number) ∷ []) key
     settle true e =
-        let there : is_key (key_of k) key ≡ true = key_sym (key_of k) key ∙ e in
+        let there : is_key k key ≡ true = key_sym k key ∙ e in
         looks
-        ∙ ap (λ (b : Bool). found_or (if b then Some now else get_by (λ x. is_key key (key_of x)) old.outcomes)) there
-        ∙ is ∙ ap (λ (o : Outcome). added o number) (seen ∙ ap (outcome rows) (sym (key_same key (key_of k) e)))
-        ∙ sym (seen-snoc (filter (is_row key) rows) (key_of k, number))
-        ∙ sym (ap seen_of (filter-snoc (is_row key) rows (key_of k, number) ∙ ap (λ (b : Bool). if b then filter (is_row key) rows ++ (key_of k, number) ∷ [] else filter (is_row key) rows) e))
+        ∙ ap (λ (b : Bool). found_or (if b then Some now else kept_under key.step key.name old)) there
+        ∙ is ∙ ap (λ (o : Outcome). added o number) (seen ∙ ap (outcome rows) (sym (key_same key k e)))
+        ∙ sym (seen-snoc (filter (is_row key) rows) (k, number))
+        ∙ sym (ap seen_of (filter-snoc (is_row key) rows (k, number) ∙ ap (λ (b : Bool). if b then filter (is_row key) rows ++ (k, number) ∷ [] else filter (is_row key) rows) e))
     settle false e =
-        let there : is_key (key_of k) key ≡ false = key_sym (key_of k) key ∙ e in
+        let there : is_key k key ≡ false = key_sym k key ∙ e in
         looks
-        ∙ ap (λ (b : Bool). found_or (if b then Some now else get_by (λ x. is_key key (key_of x)) old.outcomes)) there
+        ∙ ap (λ (b : Bool). found_or (if b then Some now else kept_under key.step key.name old)) there
         ∙ ix key
-        ∙ sym (ap seen_of (filter-snoc (is_row key) rows (key_of k, number) ∙ ap (λ (b : Bool). if b then filter (is_row key) rows ++ (key_of k, number) ∷ [] else filter (is_row key) rows) e))
+        ∙ sym (ap seen_of (filter-snoc (is_row key) rows (k, number) ∙ ap (λ (b : Bool). if b then filter (is_row key) rows ++ (k, number) ∷ [] else filter (is_row key) rows) e))

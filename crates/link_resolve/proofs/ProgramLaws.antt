@@ -11,11 +11,10 @@ use Rattle.omf_header.specs.View.{fields}
 use Rattle.link_meaning.specs.Member.{Member}
 use Rattle.link_meaning.specs.Layout.{in_load, aligned_from, end_from, load_length, load_names, load_of, offset_of, headers_from, load_headers}
 use Rattle.link_meaning.specs.LayoutLaws.{aligned_from-least, alignment-some}
-use Rattle.link_resolve.specs.declared.linked.LinkedMember.{LinkedMember}
 use Rattle.link_resolve.specs.declared.layout.Place.{Place}
 use Rattle.link_resolve.specs.declared.layout.Layout as laid
 use Rattle.link_resolve.specs.declared.program.Kept.{Kept}
-use Rattle.link_resolve.specs.Linked.{kept_member, told_member, ToldMember, Holds, OriginOf, member_at}
+use Rattle.link_resolve.specs.Linked.{origin_of, Holds, OriginOf, member_at}
 use Rattle.link_resolve.specs.Gathered.{segment_in, IsAmong, AllAmong}
 use Rattle.link_resolve.specs.Laid.{has, AllShort, Laid}
 use Rattle.link_resolve.specs.OfFiles.{IsOfFiles}
@@ -36,37 +35,19 @@ use Rattle.link_resolve.proofs.LayoutFaults.{load_there, length_short}
 abbrev member_as : ℕ → ℕ → ℕ → Segment → Member
 member_as file number from s = record { file = file; number = number; from = from; segment = s }
 
-one_member : (files : List (List Segment)) (k : LinkedMember) (m : Member) → kept_member k ≡ told_member m → IsAmong files m → member_in files k ≡ Some m
-one_member files k m told among =
-    let file : k.origin.file ≡ m.file = ap (λ (t : ToldMember). t.file) told in
-    let number : k.origin.segment ≡ m.number = ap (λ (t : ToldMember). t.number) told in
-    let from : k.origin.from ≡ m.from = ap (λ (t : ToldMember). t.from) told in
-    ap (λ (n : ℕ). by n k.origin.segment k.origin.from) file ∙ ap (λ (n : ℕ). by m.file n k.origin.from) number ∙ ap (λ (n : ℕ). by m.file m.number n) from
-    ∙ ap (option_map (member_as m.file m.number m.from)) among
+one_member : (files : List (List Segment)) (m : Member) → IsAmong files m → member_in files (origin_of m) ≡ Some m
+one_member files m among = ap (option_map (member_as m.file m.number m.from)) among
+
+listed : (files : List (List Segment)) (list : List Member) → AllAmong files list → filter_map (member_in files) (map origin_of list) ≡ list
+listed files [] among = refl
+listed files (m ∷ list) among = front (member_in files (origin_of m)) (one_member files m (among m (inl refl))) ∙ ap (λ (l : List Member). m ∷ l) (listed files list (λ n is. among n (inr is)))
   where
-    by : ℕ → ℕ → ℕ → Option Member
-    by file number from = option_map (member_as file number from) (segment_in files file number)
-
-listed : (files : List (List Segment)) (ks : List LinkedMember) (list : List Member) → map kept_member ks ≡ map told_member list → AllAmong files list → filter_map (member_in files) ks ≡ list
-listed files [] [] e among = refl
-listed files [] (m ∷ list) e among = absurd cc
-listed files (k ∷ ks) [] e among = absurd cc
-listed files (k ∷ ks) (m ∷ list) e among =
-    front (member_in files k) (one_member files k m (heads (kept_member k) (told_member m) (map kept_member ks) (map told_member list) e) (among m (inl refl)))
-    ∙ ap (λ (l : List Member). m ∷ l) (listed files ks list (tails (kept_member k) (told_member m) (map kept_member ks) (map told_member list) e) (λ n is. among n (inr is)))
-  where
-    heads : (x y : ToldMember) (xs ys : List ToldMember) → x ∷ xs ≡ y ∷ ys → x ≡ y
-    heads x y xs ys e = cc
-
-    tails : (x y : ToldMember) (xs ys : List ToldMember) → x ∷ xs ≡ y ∷ ys → xs ≡ ys
-    tails x y xs ys e = cc
-
-    front : (o : Option Member) → o ≡ Some m → cons_option o (filter_map (member_in files) ks) ≡ m ∷ filter_map (member_in files) ks
+    front : (o : Option Member) → o ≡ Some m → cons_option o (filter_map (member_in files) (map origin_of list)) ≡ m ∷ filter_map (member_in files) (map origin_of list)
     front None e = absurd cc
-    front (Some x) e = let same : x ≡ m = cc in ap (λ (y : Member). y ∷ filter_map (member_in files) ks) same
+    front (Some x) e = let same : x ≡ m = cc in ap (λ (y : Member). y ∷ filter_map (member_in files) (map origin_of list)) same
 
 pub list_is : (list : List Member) (kept : Kept) → IsKept list kept → list_of kept ≡ list
-list_is list kept is = listed kept.files.items kept.linked.members.items list is.holds.members is.among
+list_is list kept is = ap (filter_map (member_in kept.files.items)) is.holds.members ∙ listed kept.files.items list is.among
 
 -- ---- offsets
 

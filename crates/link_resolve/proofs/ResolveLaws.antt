@@ -1,6 +1,7 @@
 -- The steps of resolving, put together.
 use Rattle.std.proofs.Common.{◌≡◌, inl, inr, ℕ, suc, ◌+◌, ◌*◌, ◌≤◌, ◌<◌, ◌^◌, List, [], ◌∷◌, ◌++◌, length, get_or, map, take, drop, Option, Some, None, refl, sym, ap, subst, ◌∙◌, arith}
 use Rattle.std.specs.Prelude.{slice_get, option_map, Vec}
+use Rattle.std.specs.List.{AllByRecursion}
 use Rattle.std.specs.Global.{Global}
 use Rattle.std.proofs.lemmas.List.{length-map, length-take-le, take-append-drop}
 use Rattle.std.proofs.lemmas.Option.{slice_get_within, slice_get-map, slice_get_read}
@@ -10,7 +11,7 @@ use Rattle.link_meaning.specs.declared.fault.LinkFault.{LinkFault}
 use Rattle.link_meaning.specs.First.{HasNone, IsFirst}
 use Rattle.link_meaning.specs.Member.{Input, objects}
 use Rattle.link_meaning.specs.LinkedList.{asked}
-use Rattle.link_meaning.specs.LinkFaults.{nowhere, IsInput, AreInputs, IsProgram, HasFileFault, HasUseFault, HasLayoutFault, IsResolved}
+use Rattle.link_meaning.specs.LinkFaults.{nowhere, IsInput, AreInputs, IsProgram, HasFileFault, HasUseFault, HasLayoutFault}
 use Rattle.link_resolve.specs.declared.gather.Gathered as gathered
 use Rattle.link_resolve.specs.declared.linked.Linked.{Linked}
 use Rattle.link_resolve.specs.Reading.{IsFileRefused}
@@ -18,11 +19,12 @@ use Rattle.omf_header.specs.View.{fields}
 use Rattle.link_resolve.specs.declared.layout.Layout as laid
 use Rattle.link_resolve.specs.declared.program.Kept.{Kept}
 use Rattle.link_resolve.specs.Gathered.{IsGathered, AllAmong}
-use Rattle.link_resolve.specs.OfFiles.{IsOfFiles}
+use Rattle.link_resolve.specs.Resolving.{IsHeld}
+use Rattle.omf_format.specs.HeaderLaws.{IsBytes}
 use Rattle.link_resolve.specs.Programs.{IsKept}
 use Rattle.link_resolve.specs.Grown.{MayGrow, HasGrown}
 use Rattle.link_resolve.specs.Laid.{layout_checks, Laid, AllShort, AreHeaders}
-use Rattle.link_resolve.specs.Resolved.{all_bytes, total_size, AreFew, HasGathered, IsReadingFault, IsUseFault, IsRefused}
+use Rattle.link_resolve.specs.Resolved.{all_bytes, total_size, AreFew, HasGathered, HasObjects, IsListOf, IsLaidOut, IsReadingFault, IsUseFault, IsRefused}
 use Rattle.link_resolve.proofs.Lists.{drop_at, empty}
 use Rattle.link_resolve.proofs.LinkedLaws.{count_is}
 use Rattle.link_resolve.proofs.LibraryLaws.{take_more, take_all}
@@ -96,6 +98,9 @@ may_grow files kept h few =
       sound = files_sound kept.files.items h.0 g.files g.sound;
     }
 
+pub may_grow_in : (files : List (List ℕ)) (kept : gathered.Gathered) (segments : List (List Segment)) → segments ≡ kept.files.items → AreFew files → (h : HasGathered files kept) → MayGrow h.0 segments kept.offers kept.linked
+may_grow_in files kept segments same few h = subst (λ (l : List (List Segment)). MayGrow h.0 l kept.offers kept.linked) (sym same) (may_grow files kept h few)
+
 pub few_members : (files : List (List ℕ)) (kept : gathered.Gathered) (h : HasGathered files kept) → AreFew files → length kept.linked.members.items < 2 ^ 32
 few_members files kept h few = omega (arith, count_is (objects h.0) kept.linked h.3.objects', all_fit files h.0 h.1 h.2, few.1)
 
@@ -105,8 +110,32 @@ no_objects files kept h none = empty (objects h.0) (omega (arith, count_is (obje
 pub some_objects : (files : List (List ℕ)) (kept : gathered.Gathered) (h : HasGathered files kept) → (length kept.linked.members.items ≡ 0 → ⊥) → objects h.0 ≡ [] → ⊥
 some_objects files kept h some none = some (count_is (objects h.0) kept.linked h.3.objects' ∙ ap length none)
 
-pub is_program : (files : List (List ℕ)) (kept : gathered.Gathered) (linked : Linked) (h : HasGathered files kept) (grown : HasGrown h.0 kept.files.items linked) → IsProgram files grown.list
-is_program files kept linked h grown = record { inputs = h.0; are_inputs = h.1; linked = grown.is_linked }
+-- what was gathered grows to the list of the files
+pub list_of_files : (files : List (List ℕ)) (kept : gathered.Gathered) (segments : List (List Segment)) (linked : Linked) → segments ≡ kept.files.items → AreFew files → HasObjects files kept
+    → ((inputs : List Input) → MayGrow inputs segments kept.offers kept.linked → HasGrown inputs segments linked) → IsListOf files kept.files.items linked
+list_of_files files kept segments linked same few h grows = record {
+  inputs = h.0.0;
+  are_inputs = h.0.1;
+  some = some_objects files kept h.0 h.1;
+  grown = subst (λ (l : List (List Segment)). HasGrown h.0.0 l linked) same (grows h.0.0 (may_grow_in files kept segments same few h.0));
+}
+
+-- the list does not depend on where its segments are read
+abbrev pub list_in : (files : List (List ℕ)) (segments read : List (List Segment)) (linked : Linked) → read ≡ segments → IsListOf files segments linked → IsListOf files read linked
+list_in files segments read linked same of =
+    let g = of.grown in
+    record {
+      inputs = of.inputs;
+      are_inputs = of.are_inputs;
+      some = of.some;
+      grown = record { list = g.list; is_linked = g.is_linked; holds = g.holds; among = subst (λ (l : List (List Segment)). AllAmong l g.list) (sym same) g.among; few = g.few };
+    }
+
+pub list_held : (files : List (List ℕ)) (segments : List (List Segment)) (linked : Linked) → IsListOf files segments linked → IsHeld linked
+list_held files segments linked of = (of.grown.list, of.grown.holds)
+
+is_program : (files : List (List ℕ)) (segments : List (List Segment)) (linked : Linked) (of : IsListOf files segments linked) → IsProgram files of.grown.list
+is_program files segments linked of = record { inputs = of.inputs; are_inputs = of.are_inputs; linked = of.grown.is_linked }
 
 -- ---- the answers
 
@@ -118,19 +147,23 @@ pub refused_empty : (files : List (List ℕ)) (kept : gathered.Gathered) (fault 
     → IsRefused files fault
 refused_empty files kept fault h none told = inr (at_objects files h.0 fault h.1 (no_objects files kept h none) told)
 
-pub refused_use : (files : List (List ℕ)) (kept : gathered.Gathered) (linked : Linked) (fault : LinkFault) (h : HasGathered files kept) → (length kept.linked.members.items ≡ 0 → ⊥) → (grown : HasGrown h.0 kept.files.items linked)
-    → IsUseFault grown.list fault → IsRefused files fault
-refused_use files kept linked fault h some grown (inl e) = inl e
-refused_use files kept linked fault h some grown (inr first) = inr (at_names files h.0 grown.list fault h.1 (some_objects files kept h some) (is_program files kept linked h grown) first)
+pub refused_use : (files : List (List ℕ)) (segments : List (List Segment)) (linked : Linked) (fault : LinkFault) (of : IsListOf files segments linked) → IsUseFault of.grown.list fault → IsRefused files fault
+refused_use files segments linked fault of (inl e) = inl e
+refused_use files segments linked fault of (inr first) = inr (at_names files of.inputs of.grown.list fault of.are_inputs of.some (is_program files segments linked of) first)
 
-pub refused_layout : (files : List (List ℕ)) (kept : gathered.Gathered) (linked : Linked) (fault : LinkFault) (h : HasGathered files kept) → (length kept.linked.members.items ≡ 0 → ⊥) → (grown : HasGrown h.0 kept.files.items linked)
-    → HasNone (HasUseFault grown.list) (asked grown.list) → IsFirst (HasLayoutFault grown.list) layout_checks fault → IsRefused files fault
-refused_layout files kept linked fault h some grown none first =
-    inr (at_layout files h.0 grown.list fault h.1 (some_objects files kept h some) (is_program files kept linked h grown) none first)
+pub refused_layout : (files : List (List ℕ)) (segments : List (List Segment)) (linked : Linked) (fault : LinkFault) (of : IsListOf files segments linked)
+    → HasNone (HasUseFault of.grown.list) (asked of.grown.list) → IsFirst (HasLayoutFault of.grown.list) layout_checks fault → IsRefused files fault
+refused_layout files segments linked fault of none first = inr (at_layout files of.inputs of.grown.list fault of.are_inputs of.some (is_program files segments linked of) none first)
 
-pub resolved : (files : List (List ℕ)) (kept : gathered.Gathered) (linked : Linked) (h : HasGathered files kept) → (length kept.linked.members.items ≡ 0 → ⊥) → (grown : HasGrown h.0 kept.files.items linked)
-    → HasNone (HasUseFault grown.list) (asked grown.list) → HasNone (HasLayoutFault grown.list) layout_checks → IsResolved files grown.list
-resolved files kept linked h some grown none sound = all_sound files h.0 grown.list h.1 (some_objects files kept h some) (is_program files kept linked h grown) none sound
+pub laid_out : (files : List (List ℕ)) (segments : List (List Segment)) (linked : Linked) (layout : laid.Layout) (of : IsListOf files segments linked)
+    → HasNone (HasUseFault of.grown.list) (asked of.grown.list) → HasNone (HasLayoutFault of.grown.list) layout_checks → Laid of.grown.list layout
+    → (length layout.loads.items ≤ 254) × AllShort layout.loads.items → IsLaidOut files of.grown.list layout
+laid_out files segments linked layout of none sound laid fine = record {
+  resolved = all_sound files of.inputs of.grown.list of.are_inputs of.some (is_program files segments linked of) none sound;
+  laid = laid;
+  few = fine.0;
+  short = fine.1;
+}
 
 -- the bytes of a file at a place
 pub file_there : (read items : List (Vec ℕ Global)) (k : ℕ) (v : Vec ℕ Global) (bytes : List ℕ) → read ≡ items → k < length read → v ≡ get_or read k v → bytes ≡ v.items → slice_get (all_bytes items) k ≡ Some bytes
@@ -152,8 +185,9 @@ size_more items k bytes at = ap total_size (take_more (all_bytes items) k bytes 
     snoc (x ∷ xs) = let rest = snoc xs in omega arith
 
 -- what is kept, where the load segments have no fault
-pub is_kept : (inputs : List Input) (files : List (List Segment)) (kept : Kept) (layout : laid.Layout) (grown : HasGrown inputs files kept.linked) → kept.files.items ≡ files → Laid grown.list layout → (length layout.loads.items ≤ 254) × AllShort layout.loads.items
-    → kept.places.items ≡ layout.places.items → AreHeaders 1 layout.loads.items (map fields kept.headers.items) → IsOfFiles grown.list → IsKept grown.list kept
-is_kept inputs files kept layout grown same laid fine places headers of_files =
-    kept_is grown.list files kept layout grown.holds (subst (λ (l : List (List Segment)). AllAmong l grown.list) (sym same) grown.among) (omega (arith, grown.few)) laid fine.1 (omega (arith, fine.0, loads_are grown.list layout laid)) places
-    (all_headers grown.list layout (map fields kept.headers.items) laid fine.1 headers) of_files
+pub is_kept : (files : List (List ℕ)) (kept : Kept) (layout : laid.Layout) (of : IsListOf files kept.files.items kept.linked) → AllByRecursion IsBytes files → IsLaidOut files of.grown.list layout
+    → kept.places.items ≡ layout.places.items → AreHeaders 1 layout.loads.items (map fields kept.headers.items) → IsKept of.grown.list kept
+is_kept files kept layout of bytes out places headers =
+    let list = of.grown.list in
+    kept_is list kept.files.items kept layout of.grown.holds of.grown.among (omega (arith, of.grown.few)) out.laid out.short (omega (arith, out.few, loads_are list layout out.laid)) places
+    (all_headers list layout (map fields kept.headers.items) out.laid out.short headers) (record { files = files; bytes = bytes; resolved = out.resolved })

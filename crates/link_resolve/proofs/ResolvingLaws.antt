@@ -90,11 +90,11 @@ pub record IsUse (list : List Member) (k : ℕ) (u : kept.Use) : Type 0 where
 pair_same : (a b : ℕ × Use) → Some a ≡ Some b → a ≡ b
 pair_same a b e = cc
 
-pub use_is : (list : List Member) (table : Linked) (k : ℕ) (u : kept.Use) → Holds list table → slice_get table.uses.items k ≡ Some u → IsUse list k u
+pub use_is : (list : List Member) (table : Linked) (k : ℕ) (u : kept.Use) → Holds list table → slice_get table.uses k ≡ Some (use_of u) → IsUse list k u
 use_is list table k u holds there = settle (slice_get (asked list) k) refl
   where
     both : option_map told_use (slice_get (asked list) k) ≡ Some (use_of u)
-    both = sym (slice_get-map told_use (asked list) k) ∙ sym (ap (λ (l : List (ℕ × Use)). slice_get l k) holds.uses) ∙ slice_get-map use_of table.uses.items k ∙ ap (option_map use_of) there
+    both = sym (slice_get-map told_use (asked list) k) ∙ sym (ap (λ (l : List (ℕ × Use)). slice_get l k) holds.uses) ∙ there
 
     settle : (o : Option Asked) → slice_get (asked list) k ≡ o → IsUse list k u
     settle None e = let clash : option_map told_use None ≡ Some (use_of u) = sym (ap (option_map told_use) e) ∙ both in absurd cc
@@ -163,9 +163,9 @@ take_past [] (suc n) less = refl
 take_past (x ∷ xs) zero less = absurd (omega arith)
 take_past {A} (x ∷ xs) (suc n) less = ap (λ (l : List A). x ∷ l) (take_past xs n (omega arith))
 
-pub none_all : (list : List Member) (table : Linked) (k : ℕ) → Holds list table → length table.uses.items ≤ k → HasNone (FailsToResolve list) (take k (asked list)) → HasNone (FailsToResolve list) (asked list)
+pub none_all : (list : List Member) (table : Linked) (k : ℕ) → Holds list table → length table.uses ≤ k → HasNone (FailsToResolve list) (take k (asked list)) → HasNone (FailsToResolve list) (asked list)
 none_all list table k holds past none =
-    let size : length (asked list) ≡ length table.uses.items = sym (length-map (asked list) told_use) ∙ sym (ap length holds.uses) ∙ length-map table.uses.items use_of in
+    let size : length (asked list) ≡ length table.uses = sym (length-map (asked list) told_use) ∙ sym (ap length holds.uses) in
     subst (HasNone (FailsToResolve list)) (take_past (asked list) k (omega (arith, size, past))) none
 
 -- ---- the first definition

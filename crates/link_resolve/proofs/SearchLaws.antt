@@ -252,3 +252,8 @@ finds_outer T list place m name names o are none used seen =
     let own = step_none T (Within place) (map Within (used_data list m) ++ outer_steps m) xs none in
     let here : Seen T (decided (map Within (used_data list m)) xs) Nothing = subst (λ (l : List (List ℕ)). Seen T (decided (map Within (used_places list m l)) xs) Nothing) are used in
     subst (λ (l : List Found). Seen T l o) (sym (own ∙ first_steps_none T (map Within (used_data list m)) (outer_steps m) xs here)) seen
+
+-- nothing is found where no place has the name
+pub none_decided : (xs : List Found) (places : List ℕ) → ((place : ℕ) → filter (sees (Within place)) xs ≡ []) → decided (map Within places) xs ≡ []
+none_decided xs [] none = refl
+none_decided xs (p ∷ places) none = ap (λ (l : List Found). or_else l (decided (map Within places) xs)) (none p) ∙ none_decided xs places none

@@ -6,7 +6,7 @@ use Rattle.omf_format.specs.Field.{IsName}
 use Rattle.omf_format.specs.Expression.{Term, Operator, Location, Constant, Named, Offset, IsTerm, AreTerms, IsExpression, term_text, terms_of, placed_terms, terms_in}
 use Rattle.omf_format.specs.ExpressionLaws.{terms_are}
 use Rattle.omf_format.specs.TreeLaws.{tree_has_terms}
-use Rattle.link_resolve.specs.declared.uses.Use as kept
+use Rattle.link_meaning.specs.Uses.{Use}
 use Rattle.link_resolve.specs.Uses.{IsShortTerm, HaveShortNames}
 
 pub name_short : (l : ℕ) (name : List ℕ) → l < 256 → IsName l name → length name ≤ 255
@@ -31,14 +31,14 @@ terms_short l at (term ∷ terms) few are = (term_short l term few are.0, terms_
 pub text_short : (l : ℕ) (text : List ℕ) → IsExpression l text → l < 256 → AreShort (terms_in l 0 text)
 text_short l text is few = subst AreShort (sym (terms_are l text is.tree is.spells)) (terms_short l 0 (terms_of is.tree) few (tree_has_terms l is.tree is.spells.formed))
 
-pub short_more : (uses : List kept.Use) (u : kept.Use) → HaveShortNames uses → length u.name.now ≤ 255 → HaveShortNames (uses ++ u ∷ [])
+pub short_more : (uses : List (ℕ × Use)) (u : ℕ × Use) → HaveShortNames uses → length u.1.name ≤ 255 → HaveShortNames (uses ++ u ∷ [])
 short_more [] u short is = (is, tt)
 short_more (x ∷ uses) u short is = (short.0, short_more uses u short.1 is)
 
-use_same : (a b : kept.Use) → Some a ≡ Some b → a ≡ b
+use_same : (a b : ℕ × Use) → Some a ≡ Some b → a ≡ b
 use_same a b e = cc
 
-pub short_at : (uses : List kept.Use) (k : ℕ) (u : kept.Use) → HaveShortNames uses → slice_get uses k ≡ Some u → length u.name.now ≤ 255
+pub short_at : (uses : List (ℕ × Use)) (k : ℕ) (u : ℕ × Use) → HaveShortNames uses → slice_get uses k ≡ Some u → length u.1.name ≤ 255
 short_at [] k u short e = absurd cc
-short_at (x ∷ uses) zero u short e = subst (λ (y : kept.Use). length y.name.now ≤ 255) (use_same x u e) short.0
+short_at (x ∷ uses) zero u short e = subst (λ (y : ℕ × Use). length y.1.name ≤ 255) (use_same x u e) short.0
 short_at (x ∷ uses) (suc k) u short e = short_at uses k u short.1 e

@@ -71,8 +71,8 @@ wanted_here os list k u number is row so_far =
     ∙ ap (λ (o : Option Member). option_or o (first_some (wanted_at os list) (drop (k + 1) (asked list)))) row.2 in
     (row.0, row.1, first, so_far, slice_get_within (asked list) k is.use' is.at)
 
-pub wanted_none : (os : List Offer) (list : List Member) (table : Linked) (k : ℕ) → Holds list table → length table.uses.items ≤ k → WantsNothing os list k → wanted os list ≡ None
+pub wanted_none : (os : List Offer) (list : List Member) (table : Linked) (k : ℕ) → Holds list table → length table.uses ≤ k → WantsNothing os list k → wanted os list ≡ None
 unfolding wanted
 wanted_none os list table k holds past so_far =
-    let size : length (asked list) ≡ length table.uses.items = sym (length-map (asked list) told_use) ∙ sym (ap length holds.uses) ∙ length-map table.uses.items use_of in
+    let size : length (asked list) ≡ length table.uses = sym (length-map (asked list) told_use) ∙ sym (ap length holds.uses) in
     sym (ap (first_some (wanted_at os list)) (take_past (asked list) k (omega (arith, size, past)))) ∙ so_far

@@ -1,25 +1,17 @@
 -- What a table of definitions holds of those of the linked list.
-use Rattle.std.specs.Prelude.{◌≡◌, ℕ, ◌+◌, Bool, List, [], ◌∷◌, Option, Some, map, option_map, slice_get}
+pub use Rattle.link_resolve.specs.Listed.{ToldDefinition, definition_of}
+use Rattle.std.specs.Prelude.{◌≡◌, ℕ, ◌+◌, Bool, List, [], ◌∷◌, Some, map, slice_get}
+use Rattle.std.specs.List.{flat_map}
+use Rattle.link_meaning.specs.declared.search.Step.{Step}
+use Rattle.link_meaning.specs.declared.search.Step.TheVariants.{Within, OfUnit, Everyone}
 use Rattle.link_meaning.specs.Member.{Member}
 use Rattle.link_meaning.specs.Defines.{Definition}
 use Rattle.link_meaning.specs.Search.{Found, step_of}
 use Rattle.link_resolve.specs.declared.names.Outcome.{Outcome}
 use Rattle.link_resolve.specs.declared.names.Outcome.TheVariants.{Nothing, One, Several}
-use Rattle.link_resolve.specs.declared.definitions.Definition as kept
 use Rattle.link_resolve.specs.declared.definitions.Definitions.{Definitions}
 use Rattle.link_resolve.specs.declared.definitions.Origin.{Origin}
 use Rattle.link_resolve.specs.Names.{Named, Row, Indexes, is_key}
-
--- what is kept of a definition: its member's place, its own place there, its expression, its length and type
-pub record ToldDefinition : Type 0 where
-  pub member : ℕ
-  pub at : ℕ
-  pub expr : Option (List ℕ)
-  pub length : ℕ
-  pub form : ℕ
-
-abbrev pub definition_of : kept.Definition → ToldDefinition
-definition_of d = record { member = d.member; at = d.at; expr = option_map (λ text. text.now) d.expr; length = d.length; form = d.form }
 
 abbrev pub told_definition : Found → ToldDefinition
 told_definition f = record { member = f.place; at = f.definition.place; expr = f.definition.expr; length = f.definition.size; form = f.definition.form }
@@ -36,10 +28,21 @@ abbrev pub numbered : ℕ → List Found → List Row
 numbered n [] = []
 numbered n (f ∷ fs) = (key_of_found f, n) ∷ numbered (n + 1) fs
 
+-- a name that a segment has for itself, as one that all see, with the member's place
+abbrev pub local_under : Step → List ℕ → List Row
+local_under (Within place) name = (record { step = Everyone; name = name }, place) ∷ []
+local_under (OfUnit file from) name = []
+local_under Everyone name = []
+
+-- what segments have for themselves
+abbrev pub local_rows : List Found → List Row
+local_rows fs = flat_map (λ f. local_under (step_of f) f.definition.name) fs
+
 -- these are the definitions of a table
 pub record AreDefinitions (fs : List Found) (table : Definitions) : Type 0 where
   pub names : Indexes (numbered 0 fs) table.names
-  pub items : map definition_of table.items.items ≡ map told_definition fs
+  pub locals : Indexes (local_rows fs) table.locals
+  pub items : table.items ≡ map told_definition fs
 
 -- what a look-up answers where these are found, of which a number tells the first
 abbrev pub Seen : (Found → ℕ → Type 0) → List Found → Outcome → Type 0

@@ -1,37 +1,27 @@
 -- What is kept of the linked list.
-use Rattle.std.specs.Prelude.{◌≡◌, ℕ, zero, suc, ◌++◌, List, Option, Some, None, map, slice_get}
+pub use Rattle.link_resolve.specs.Usings.{names_of, usings_at}
+use Rattle.std.specs.Prelude.{◌≡◌, ℕ, zero, suc, ◌++◌, List, [], Option, Some, None, map, drop, slice_get}
 use Rattle.std.specs.List.{flat_map}
-use Rattle.std.specs.Borrow.{Bor}
 use Rattle.link_meaning.specs.Member.{Member}
 use Rattle.link_meaning.specs.Defines.{Definition}
-use Rattle.link_meaning.specs.Uses.{usings_of}
+use Rattle.link_meaning.specs.Uses.{Use, data_name, usings_of}
 use Rattle.link_meaning.specs.Search.{Found, entries, data_titles, only_place, finds_data}
 use Rattle.link_meaning.specs.LinkedList.{asked}
 use Rattle.link_resolve.specs.declared.names.Outcome.{Outcome}
 use Rattle.link_resolve.specs.declared.names.Names.{Names}
 use Rattle.link_resolve.specs.declared.definitions.Origin.{Origin}
-use Rattle.link_resolve.specs.declared.linked.LinkedMember.{LinkedMember}
 use Rattle.link_resolve.specs.declared.linked.Linked.{Linked}
 use Rattle.link_resolve.specs.Names.{Row, Indexes}
 use Rattle.link_resolve.specs.Definitions.{Seen, AreDefinitions, IsOf, key_of_found, founds_in}
-use Rattle.link_resolve.specs.Uses.{use_of, told_use, HaveShortNames}
+use Rattle.link_resolve.specs.Uses.{told_use, HaveShortNames}
 
--- names without where they lie
-abbrev pub names_of : List (Bor (List ℕ)) → List (List ℕ)
-names_of names = map (λ name. name.now) names
+-- the names of USING among the uses from a number on, counted from 0
+abbrev pub usings_from : List (ℕ × Use) → ℕ → List (List ℕ)
+usings_from uses from = flat_map (λ u. data_name u.1) (drop from uses)
 
--- what is kept of a member: where it comes from, and its names of USING
-pub record ToldMember : Type 0 where
-  pub file : ℕ
-  pub number : ℕ
-  pub from : ℕ
-  pub usings : List (List ℕ)
-
-abbrev pub kept_member : LinkedMember → ToldMember
-kept_member m = record { file = m.origin.file; number = m.origin.segment; from = m.origin.from; usings = names_of m.usings.items }
-
-abbrev pub told_member : Member → ToldMember
-told_member m = record { file = m.file; number = m.number; from = m.from; usings = usings_of m.segment }
+-- where a member comes from
+abbrev pub origin_of : Member → Origin
+origin_of m = record { file = m.file; segment = m.number; from = m.from }
 
 -- titles, each with its member's place
 abbrev pub place_rows : List Found → List Row
@@ -49,13 +39,19 @@ OriginOf None (Some origin) = ⊥
 OriginOf (Some m) None = ⊥
 OriginOf (Some m) (Some origin) = IsOf m origin
 
+-- the names of USING of a member, if there is one
+abbrev pub usings_in : Option Member → List (List ℕ)
+usings_in None = []
+usings_in (Some m) = usings_of m.segment
+
 -- this is the list
 pub record Holds (list : List Member) (kept : Linked) : Type 0 where
-  pub members : map kept_member kept.members.items ≡ map told_member list
+  pub members : kept.members.items ≡ map origin_of list
+  pub usings : (place : ℕ) → usings_at kept.usings place ≡ usings_in (member_at list place)
   pub definitions : AreDefinitions (entries list) kept.definitions
   pub titles : Indexes (place_rows (data_titles list)) kept.titles
-  pub uses : map use_of kept.uses.items ≡ map told_use (asked list)
-  pub short : HaveShortNames kept.uses.items
+  pub uses : kept.uses ≡ map told_use (asked list)
+  pub short : HaveShortNames kept.uses
 
 -- what a table of titles gains
 abbrev pub GainsTitle : Names → Names → Origin → ℕ → List Definition → Type 0

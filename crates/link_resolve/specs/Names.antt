@@ -1,8 +1,9 @@
 -- Tables of names: what each step of a search finds.
-use Rattle.std.specs.Prelude.{◌≡◌, ℕ, Bool, ◌&&◌, List, [], ◌∷◌, Option, Some, None, filter}
+use Rattle.std.specs.Prelude.{◌≡◌, ℕ, Bool, ◌&&◌, List, [], ◌∷◌, Option, Some, None, filter, if◌then◌else◌}
 use Rattle.std.specs.Str.{bytes_eq}
 use Rattle.indexmap.specs.IndexMap.{get_by}
 use Rattle.link_meaning.specs.declared.search.Step.{Step}
+use Rattle.link_meaning.specs.declared.search.Step.TheVariants.{Within, OfUnit, Everyone}
 use Rattle.link_meaning.specs.Search.{is_step}
 use Rattle.link_resolve.specs.declared.names.Key.{Key}
 use Rattle.link_resolve.specs.declared.names.Outcome.{Outcome}
@@ -47,6 +48,16 @@ abbrev pub found_or : Option Outcome → Outcome
 found_or None = Nothing
 found_or (Some found) = found
 
+-- what a table keeps under a name that a step sees
+abbrev pub kept_under : Step → List ℕ → Names → Option Outcome
+kept_under (Within place) name names = get_by (λ k. is_key (record { step = Within place; name = name }) (key_of k)) names.others
+kept_under (OfUnit file from) name names = get_by (λ k. is_key (record { step = OfUnit file from; name = name }) (key_of k)) names.others
+kept_under Everyone name names = get_by (λ k. bytes_eq name k.name.now) names.public
+
+-- a table keeps this under a key, and all else as before
+abbrev pub Keeps : Names → Names → Named → Outcome → Type 0
+Keeps old new k found = (key : Named) → kept_under key.step key.name new ≡ (if is_key k key then Some found else kept_under key.step key.name old)
+
 -- each key finds in the table what it finds in the rows
 abbrev pub Indexes : List Row → Names → Type 0
-Indexes rows names = (key : Named) → found_or (get_by (λ k. is_key key (key_of k)) names.outcomes) ≡ outcome rows key
+Indexes rows names = (key : Named) → found_or (kept_under key.step key.name names) ≡ outcome rows key

@@ -6,7 +6,7 @@ use Rattle.omf_format.specs.Header.{Fields}
 use Rattle.omf_header.specs.View.{fields}
 use Rattle.link_meaning.specs.Member.{Member}
 use Rattle.link_meaning.specs.Layout.{load_of, offset_of, load_headers}
-use Rattle.link_resolve.specs.declared.linked.LinkedMember.{LinkedMember}
+use Rattle.link_resolve.specs.declared.definitions.Origin.{Origin}
 use Rattle.link_resolve.specs.declared.program.LinkMember.{LinkMember}
 use Rattle.link_resolve.specs.declared.program.Kept.{Kept}
 use Rattle.link_resolve.specs.declared.layout.Place.{Place}
@@ -14,9 +14,8 @@ use Rattle.link_resolve.specs.Linked.{Holds, member_at}
 use Rattle.link_resolve.specs.Gathered.{segment_in, AllAmong}
 use Rattle.link_resolve.specs.OfFiles.{IsOfFiles}
 
-abbrev pub member_in : List (List Segment) → LinkedMember → Option Member
-member_in files kept =
-    option_map (λ s. record { file = kept.origin.file; number = kept.origin.segment; from = kept.origin.from; segment = s }) (segment_in files kept.origin.file kept.origin.segment)
+abbrev pub member_in : List (List Segment) → Origin → Option Member
+member_in files origin = option_map (λ s. record { file = origin.file; number = origin.segment; from = origin.from; segment = s }) (segment_in files origin.file origin.segment)
 
 -- the members that are kept, with their segments
 abbrev pub list_of : Kept → List Member

@@ -1,14 +1,19 @@
 -- What resolving answers.
 use Rattle.std.specs.Prelude.{◌≡◌, ◌⊎◌, ◌<◌, ◌≤◌, ◌^◌, ℕ, ◌+◌, ◌*◌, List, [], ◌∷◌, length, map, Vec}
 use Rattle.std.specs.Global.{Global}
+use Rattle.omf_format.specs.File.{Segment}
 use Rattle.link_meaning.specs.declared.fault.LinkFault.{LinkFault}
 use Rattle.link_meaning.specs.First.{IsFirst}
-use Rattle.link_meaning.specs.Member.{Input, Member}
+use Rattle.link_meaning.specs.Member.{Input, Member, objects}
 use Rattle.link_meaning.specs.LinkedList.{asked}
-use Rattle.link_meaning.specs.LinkFaults.{HasFileFault, AreInputs, HasUseFault, IsFirstResolveFault}
+use Rattle.link_meaning.specs.LinkFaults.{HasFileFault, AreInputs, HasUseFault, IsFirstResolveFault, IsResolved}
 use Rattle.link_resolve.specs.declared.gather.Gathered as gathered
+use Rattle.link_resolve.specs.declared.layout.Layout as laid
+use Rattle.link_resolve.specs.declared.linked.Linked.{Linked}
 use Rattle.link_resolve.specs.Reading.{memory_fault}
 use Rattle.link_resolve.specs.Gathered.{IsGathered}
+use Rattle.link_resolve.specs.Grown.{HasGrown}
+use Rattle.link_resolve.specs.Laid.{Laid, AllShort}
 
 -- the bytes of files that are held
 abbrev pub all_bytes : List (Vec ℕ Global) → List (List ℕ)
@@ -32,6 +37,24 @@ FewRows (i ∷ inputs) (bytes ∷ files) = (12 * length i.rows ≤ length bytes)
 -- all files were read, and these are the inputs
 abbrev pub HasGathered : List (List ℕ) → gathered.Gathered → Type 0
 HasGathered files kept = (inputs : List Input) × AreInputs files inputs × FewRows inputs files × IsGathered inputs kept
+
+-- all files were read, and some are object files
+abbrev pub HasObjects : List (List ℕ) → gathered.Gathered → Type 0
+HasObjects files kept = HasGathered files kept × (length kept.linked.members.items ≡ 0 → ⊥)
+
+-- this is the linked list of files with these segments, some of which are object files
+pub record IsListOf (files : List (List ℕ)) (segments : List (List Segment)) (linked : Linked) : Type 0 where
+  pub inputs : List Input
+  pub are_inputs : AreInputs files inputs
+  pub some : objects inputs ≡ [] → ⊥
+  pub grown : HasGrown inputs segments linked
+
+-- neither the files nor the names and load segments of their list have a fault, and these are its load segments
+pub record IsLaidOut (files : List (List ℕ)) (list : List Member) (layout : laid.Layout) : Type 0 where
+  pub resolved : IsResolved files list
+  pub laid : Laid list layout
+  pub few : length layout.loads.items ≤ 254
+  pub short : AllShort layout.loads.items
 
 -- the first file at fault has this fault, unless memory ran out
 abbrev pub IsReadingFault : List (List ℕ) → LinkFault → Type 0

@@ -1,16 +1,19 @@
 //! What the members of the linked list define.
 
-ghost use Rattle.std.specs.Prelude.{◌≡◌, ◌<◌, ◌^◌, ◌++◌, ◌∷◌, [], List, ℕ, OnOk, filter, slice_get, option_map};
+ghost use Rattle.std.specs.Prelude.{◌≡◌, ◌<◌, ◌^◌, ◌++◌, ◌∷◌, [], List, ℕ, false, OnOk, filter, slice_get, option_map};
 ghost use Rattle.std.specs.List.{flat_map};
 ghost use Rattle.omf_records.specs.Segments.{IsSound, shown};
 ghost use Rattle.omf_records.specs.View.{view};
 ghost use Rattle.link_meaning.specs.Sizes.{located, body_size};
 ghost use Rattle.link_meaning.specs.Member.{Member};
 ghost use Rattle.link_meaning.specs.Defines.{scope_of, title_of, defined_by, defined_in};
-ghost use Rattle.link_meaning.specs.Search.{Found, step_for};
-ghost use Rattle.link_resolve.specs.Names.{key_of};
-ghost use Rattle.link_resolve.specs.Definitions.{AreDefinitions, Sees, IsOf, is_found, key_of_found, definition_of, told_definition, founds_in};
+ghost use Rattle.link_meaning.specs.declared.search.Step.TheVariants.{Within};
+ghost use Rattle.link_meaning.specs.Search.{Found, named, sees, step_for};
+ghost use Rattle.link_resolve.specs.Names.{Row, Indexes, key_of};
+ghost use Rattle.link_resolve.specs.Definitions.{AreDefinitions, Sees, IsOf, local_under, is_found, key_of_found, told_definition, founds_in};
+ghost use Rattle.link_resolve.specs.Listed.{definition_of};
 
+use crate::listed::Listed;
 use crate::names::{Key, Names, Outcome};
 use crate::reading::next_record;
 use crate::segname::title;
@@ -47,7 +50,9 @@ pub struct Origin {
 #[derive(Drop)]
 pub struct Definitions<'a> {
     names: Names<'a>,
-    items: Vec<Definition<'a>>,
+    /// What segments have for themselves, by name alone, with the places of their members.
+    locals: Names<'a>,
+    items: Listed<'a>,
 }
 
 impl<'a> Definitions<'a> {
@@ -56,7 +61,8 @@ impl<'a> Definitions<'a> {
     {
         Definitions {
             names: Names::new(alloc),
-            items: Vec::new(alloc),
+            locals: Names::new(alloc),
+            items: Listed::new(alloc),
         }
     }
 
@@ -67,24 +73,36 @@ impl<'a> Definitions<'a> {
         self.names.look(key)
     }
 
+    /// Whether any segment has the name for itself.
+    pub fn has_local(&self, name: &[u8]) -> bool
+        ensures { (fs : List Found) → AreDefinitions fs self.now → result ≡ false → (place : ℕ) → filter (sees (Within place)) (named name.now fs) ≡ [] }
+    {
+        let key = Key {
+            step: Step::Everyone,
+            name,
+        };
+        match self.locals.look(key) {
+            Outcome::Nothing => false,
+            Outcome::One(_) => true,
+            Outcome::Several(_) => true,
+        }
+    }
+
     /// The definition with this number, from 0.
     pub fn get(&self, number: usize) -> Option<Definition<'a>>
         ensures { (fs : List Found) → AreDefinitions fs self.now → option_map definition_of result ≡ option_map told_definition (slice_get fs number) }
     {
-        match self.items.get(number) {
-            Some(definition) => Some(*definition),
-            None => None,
-        }
+        self.items.get(number)
     }
 
     fn push(&mut self, key: Key<'a>, definition: Definition<'a>) -> Result<(), AllocError>
         ensures { OnOk result ((fs : List Found) (f : Found) → AreDefinitions fs self.old → key_of key.entry ≡ key_of_found f
             → definition_of definition.entry ≡ told_definition f → AreDefinitions (fs ++ f ∷ []) self.new) }
     {
-        let number = self.items.as_slice().len();
+        let number = self.items.count();
         self.names.add(key, number)?;
-        self.items.push(definition)?;
-        Ok(())
+        add_local(&mut self.locals, key)?;
+        self.items.push(definition)
     }
 
     /// Adds what a segment defines that is the member at this place of the list.
@@ -218,6 +236,23 @@ impl<'a> Definitions<'a> {
             | Rec::Formula { .. }
             | Rec::Entry { .. } => Ok(()),
         }
+    }
+}
+
+/// Adds a name that a segment has for itself.
+fn add_local<'a>(locals: &mut Names<'a>, key: Key<'a>) -> Result<(), AllocError>
+    ensures { OnOk result ((rows : List Row) → Indexes rows locals.old → Indexes (rows ++ local_under key.entry.step key.entry.name.now) locals.new) }
+{
+    match key.step {
+        Step::Within(place) => {
+            let name = Key {
+                step: Step::Everyone,
+                name: key.name,
+            };
+            locals.add(name, place)
+        }
+        Step::OfUnit { .. } => Ok(()),
+        Step::Everyone => Ok(()),
     }
 }
 

@@ -13,6 +13,7 @@ mod input;
 mod layout;
 mod library;
 mod linked;
+mod listed;
 mod names;
 mod offers;
 mod program;
@@ -25,6 +26,7 @@ mod sizes;
 #[cfg(test)]
 mod tests;
 mod uses;
+mod usings;
 
 pub use checks::segments_fault;
 pub use definitions::{Definition, Origin};

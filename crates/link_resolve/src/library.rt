@@ -114,6 +114,8 @@ pub fn add_rows<'a>(
     ensures { OnOk result ((os : List Offer) (rows : List told.Row) → dictionary.now ≡ map (told_row segments.now) rows → AllStand segments.now rows
         → AreOffers os offers.old → AreOffers (os ++ filter_map (offer_of file segments.now) rows) offers.new) }
 {
+    let rows = dictionary.count() as usize;
+    offers.reserve(rows)?;
     let mut place = 0;
     'rows: while place < dictionary.count() {
         let row = match dictionary.row(place) {

@@ -1,22 +1,22 @@
 //! The linked list: its members, what they define and use, and what their names find.
 
-ghost use Rattle.std.specs.Prelude.{◌≡◌, ◌+◌, ◌-◌, ◌<◌, ◌≤◌, ◌^◌, ◌++◌, ◌∷◌, [], List, ℕ, Some, length, drop, map, slice_get, filter, OnOk, IfOk, IsNone, MatchOption, ◌⊎◌, option_map};
-ghost use Rattle.std.specs.List.{flat_map};
+ghost use Rattle.std.specs.Prelude.{◌≡◌, ◌+◌, ◌-◌, ◌<◌, ◌≤◌, ◌^◌, ◌++◌, ◌∷◌, [], List, ℕ, Some, length, map, slice_get, filter, OnOk, IfOk, IsNone, MatchOption, ◌⊎◌, option_map};
 ghost use Rattle.omf_records.specs.Segments.{IsSound, shown};
 ghost use Rattle.link_meaning.specs.Sizes.{body_size};
 ghost use Rattle.link_meaning.specs.Member.{Member, Offer};
 ghost use Rattle.link_meaning.specs.Defines.{data_title_of};
-ghost use Rattle.link_meaning.specs.Uses.{data_name};
+ghost use Rattle.link_meaning.specs.Uses.{data_name, usings_of};
 ghost use Rattle.link_meaning.specs.Search.{Found, entries, data_titles, decided, outer_steps, named, sees, finds, finds_data};
 ghost use Rattle.link_meaning.specs.First.{HasNone};
 ghost use Rattle.link_meaning.specs.LinkedList.{asked, found_for, wanted_by};
 ghost use Rattle.link_resolve.specs.Names.{Row, Indexes, key_of};
 ghost use Rattle.link_resolve.specs.Resolving.{first_found, IsShape, IsHeld, FailsToResolve, IsFirstUse, cause_of};
-ghost use Rattle.link_resolve.specs.Definitions.{AreDefinitions, IsOf, Sees, founds_in, definition_of, told_definition};
+ghost use Rattle.link_resolve.specs.Definitions.{AreDefinitions, IsOf, Sees, founds_in, told_definition};
+ghost use Rattle.link_resolve.specs.Listed.{definition_of};
 ghost use Rattle.link_resolve.specs.Uses.{use_of};
 ghost use Rattle.link_resolve.specs.Offers.{AreOffers, IsRow};
 ghost use Rattle.link_resolve.specs.Wanted.{WantsNothing, IsWanted};
-ghost use Rattle.link_resolve.specs.Linked.{Holds, GainsTitle, SeesPlace, names_of, used_places};
+ghost use Rattle.link_resolve.specs.Linked.{Holds, GainsTitle, SeesPlace, names_of, usings_from, used_places};
 ghost use Rattle.link_meaning.specs.declared.search.Step.TheVariants.{Within, Everyone};
 ghost use Rattle.std.specs.Prelude.{false, true};
 ghost use Rattle.link_meaning.specs.LinkedList.{Asked};
@@ -27,25 +27,20 @@ use crate::definitions::{Definition, Definitions, Origin, outer_step};
 use crate::names::{Key, Names, Outcome};
 use crate::offers::Offers;
 use crate::segname::title;
-use crate::uses::{Use, add_uses};
+use crate::uses::{Use, Uses, add_uses};
+use crate::usings::Usings;
 use link_meaning::{LinkCause, Step, Want};
 use omf_records::SegmentView;
 use std::alloc::{AllocError, Global};
 
-/// A member of the linked list: where it comes from, and the names of its USING records.
-#[derive(Drop)]
-pub struct LinkedMember<'a> {
-    origin: Origin,
-    usings: Vec<&'a [u8]>,
-}
-
-/// The members of the linked list in order, with what they define and use.
+/// The members of the linked list in order, each by where it comes from, with what they define and use.
 #[derive(Drop)]
 pub struct Linked<'a> {
-    members: Vec<LinkedMember<'a>>,
+    members: Vec<Origin>,
+    usings: Usings<'a>,
     definitions: Definitions<'a>,
     titles: Names<'a>,
-    uses: Vec<Use<'a>>,
+    uses: Uses<'a>,
 }
 
 /// Adds a data segment's SEGNAME, for which USING asks.
@@ -69,26 +64,29 @@ fn add_data_title<'a>(
     titles.add(Key { step, name }, place as usize)
 }
 
-/// The names of USING among uses.
-fn usings_in<'a>(alloc: Global, uses: &[Use<'a>]) -> Result<Vec<&'a [u8]>, AllocError>
-    ensures { IfOk result (λ names. names_of names.items ≡ flat_map (λ u. data_name (use_of u).1) uses.now) }
+/// Adds the name of a use, where it is one of USING.
+fn add_using<'a>(names: &mut Vec<&'a [u8]>, used: Use<'a>) -> Result<(), AllocError>
+    ensures { OnOk result (names_of names.new.items ≡ names_of names.old.items ++ data_name (use_of used.entry).1) }
 {
-    let mut names = Vec::new(alloc);
-    for found in uses {
-        match found.want {
-            Want::Data => names.push(found.name)?,
-            Want::One | Want::Any => {}
+    match used.want {
+        Want::Data => {
+            names.push(used.name)?;
+            Ok(())
         }
+        Want::One => Ok(()),
+        Want::Any => Ok(()),
     }
-    Ok(names)
 }
 
-/// The uses from a place on.
-fn uses_from<'s, 'a>(uses: &'s Vec<Use<'a>>, from: usize) -> &'s [Use<'a>]
-    requires { from ≤ length uses.now.items }
-    ensures { result.now ≡ drop from uses.now.items }
+/// The names of USING among the uses from this number on, counted from 0.
+fn usings_in<'a>(alloc: Global, uses: &Uses<'a>, from: usize) -> Result<Vec<&'a [u8]>, AllocError>
+    ensures { IfOk result (λ names. names_of names.items ≡ usings_from uses.now from) }
 {
-    &uses.as_slice()[from..]
+    let mut names = Vec::new(alloc);
+    for number in from..uses.count() {
+        add_using(&mut names, uses.get(number))?;
+    }
+    Ok(names)
 }
 
 impl<'a> Linked<'a> {
@@ -98,9 +96,10 @@ impl<'a> Linked<'a> {
     {
         Linked {
             members: Vec::new(alloc),
+            usings: Usings::new(alloc),
             definitions: Definitions::new(alloc),
             titles: Names::new(alloc),
-            uses: Vec::new(alloc),
+            uses: Uses::new(alloc),
         }
     }
 
@@ -120,7 +119,7 @@ impl<'a> Linked<'a> {
             return None;
         }
         match self.members.as_slice().get(place as usize - 1) {
-            Some(member) => Some(member.origin),
+            Some(origin) => Some(*origin),
             None => None,
         }
     }
@@ -128,14 +127,14 @@ impl<'a> Linked<'a> {
     /// The use with this number, from 0: where its member comes from, its name, and the displacement of its record.
     pub fn used(&self, number: usize) -> (Origin, &'a [u8], u32)
         requires held { IsHeld self.now }
-        requires within { number < length self.now.uses.items }
+        requires within { number < length self.now.uses }
         ensures told { (list : List Member) (a : Asked) → Holds list self.now → slice_get (asked list) number ≡ Some a
             → IsOf a.member result.0 × (result.1.now ≡ a.use'.name) × (result.2 ≡ a.use'.at) }
         ensures short { length result.1.now ≤ 255 }
     {
-        let found = &self.uses[number];
-        let member = &self.members[found.place as usize - 1];
-        (member.origin, found.name, found.at)
+        let found = self.uses.get(number);
+        let origin = self.members[found.place as usize - 1];
+        (origin, found.name, found.at)
     }
 
     /// Whether a segment that is to be the next member may open a use again that finds something: it is a data segment with
@@ -188,12 +187,13 @@ impl<'a> Linked<'a> {
         ensures one { OnOk result (length self.new.members.items ≡ length self.old.members.items + 1) }
     {
         let place = self.members.as_slice().len() as u32 + 1;
-        let before = self.uses.as_slice().len();
+        let before = self.uses.count();
         self.definitions.add(segment, origin, place)?;
         add_data_title(&mut self.titles, segment, origin, place)?;
         add_uses(&mut self.uses, segment, place)?;
-        let usings = usings_in(alloc, uses_from(&self.uses, before))?;
-        self.members.push(LinkedMember { origin, usings })?;
+        let names = usings_in(alloc, &self.uses, before)?;
+        self.usings.add(place, names)?;
+        self.members.push(origin)?;
         Ok(())
     }
 
@@ -256,6 +256,21 @@ impl<'a> Linked<'a> {
         Outcome::Nothing
     }
 
+    /// What a name finds in the first data segment that has it, of those that the member at this place names by USING.
+    fn find_by_usings(&self, place: u32, origin: Origin, name: &[u8]) -> Outcome
+        requires { 0 < place }
+        ensures { (list : List Member) (m : Member) → Holds list self.now → slice_get list (place - 1) ≡ Some m → IsOf m origin
+            → Sees (entries list) (decided (map Within (used_places list m (usings_of m.segment))) (named name.now (entries list))) result }
+    {
+        if !self.definitions.has_local(name) {
+            return Outcome::Nothing;
+        }
+        match self.usings.of(place) {
+            Some(usings) => self.find_used(origin, usings, name),
+            None => Outcome::Nothing,
+        }
+    }
+
     /// What a name finds that is used in the member at this place, from 1.
     pub fn find(&self, place: u32, name: &[u8]) -> Outcome
         requires positive { 0 < place }
@@ -263,7 +278,7 @@ impl<'a> Linked<'a> {
         ensures { (list : List Member) (m : Member) → Holds list self.now → slice_get list (place - 1) ≡ Some m
             → Sees (entries list) (finds list place m name.now) result }
     {
-        let member = &self.members[place as usize - 1];
+        let origin = self.members[place as usize - 1];
         let own = Key {
             step: Step::Within(place as usize),
             name,
@@ -273,8 +288,8 @@ impl<'a> Linked<'a> {
             Outcome::One(first) => return Outcome::One(first),
             Outcome::Several(first) => return Outcome::Several(first),
         }
-        match self.find_used(member.origin, member.usings.as_slice(), name) {
-            Outcome::Nothing => self.find_outer(member.origin, name),
+        match self.find_by_usings(place, origin, name) {
+            Outcome::Nothing => self.find_outer(origin, name),
             Outcome::One(first) => Outcome::One(first),
             Outcome::Several(first) => Outcome::Several(first),
         }
@@ -289,8 +304,8 @@ impl<'a> Linked<'a> {
     {
         match used.want {
             Want::Data => {
-                let member = &self.members[used.place as usize - 1];
-                self.find_data(member.origin, used.name)
+                let origin = self.members[used.place as usize - 1];
+                self.find_data(origin, used.name)
             }
             Want::One => self.find(used.place, used.name),
             Want::Any => self.find(used.place, used.name),
@@ -306,8 +321,8 @@ impl<'a> Linked<'a> {
     {
         match self.found_for(used) {
             Outcome::Nothing => {
-                let member = &self.members[used.place as usize - 1];
-                offers.row_for(member.origin, used.want, used.name)
+                let origin = self.members[used.place as usize - 1];
+                offers.row_for(origin, used.want, used.name)
             }
             Outcome::One(_) => None,
             Outcome::Several(_) => None,
@@ -322,9 +337,9 @@ impl<'a> Linked<'a> {
             → IsWanted os list result }
     {
         let mut number = from;
-        'uses: while number < self.uses.as_slice().len() {
-            let used = &self.uses[number];
-            match self.row_wanted(offers, used) {
+        'uses: while number < self.uses.count() {
+            let used = self.uses.get(number);
+            match self.row_wanted(offers, &used) {
                 Some(row) => return Some((number, row)),
                 None => {}
             }
@@ -367,9 +382,9 @@ impl<'a> Linked<'a> {
             (HasNone (FailsToResolve list) (asked list)) (λ found. IsFirstUse list found.0 found.1) }
     {
         let mut number = 0;
-        'uses: while number < self.uses.as_slice().len() {
-            let used = &self.uses[number];
-            match use_cause(used.want, self.found_for(used)) {
+        'uses: while number < self.uses.count() {
+            let used = self.uses.get(number);
+            match use_cause(used.want, self.found_for(&used)) {
                 Some(cause) => return Some((cause, number)),
                 None => {}
             }

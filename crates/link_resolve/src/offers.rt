@@ -94,6 +94,14 @@ impl<'a> Offers<'a> {
         self.origins[number]
     }
 
+    /// Room for so many more rows.
+    pub fn reserve(&mut self, count: usize) -> Result<(), AllocError>
+        ensures { (os : List Offer) → AreOffers os self.old → AreOffers os self.new }
+    {
+        self.origins.reserve(count)?;
+        self.names.reserve(count)
+    }
+
     /// One more row, behind the others: its name, whether it is private, the member that it would bring in, and whether that
     /// is a data segment with this SEGNAME and privacy.
     pub fn add(

@@ -2,7 +2,8 @@
 
 ghost use Rattle.std.specs.Prelude.{◌≡◌, false, ◌+◌, ◌-◌, ◌<◌, ◌≤◌, ◌^◌, ◌++◌, ◌∷◌, [], List, ℕ, None, Some, slice_get, length, IfSome, IfOk, IfErr, OnOk, OnErr};
 ghost use Rattle.std.specs.Bool.{OnTrue};
-ghost use Rattle.omf_format.specs.File.{Segment};
+ghost use Rattle.std.specs.List.{AllByRecursion};
+ghost use Rattle.omf_format.specs.HeaderLaws.{IsBytes};
 ghost use Rattle.link_meaning.specs.declared.fault.LinkCause.TheVariants.{Empty};
 ghost use Rattle.link_meaning.specs.First.{HasNone};
 ghost use Rattle.link_meaning.specs.Member.{Member};
@@ -12,7 +13,7 @@ ghost use Rattle.link_resolve.specs.Linked.{Holds};
 ghost use Rattle.link_resolve.specs.Gathered.{AllAmong};
 ghost use Rattle.link_resolve.specs.Laid.{Laid};
 ghost use Rattle.link_resolve.specs.Resolving.{IsHeld};
-ghost use Rattle.link_resolve.specs.Resolved.{all_bytes, total_size, AreFew, HasGathered, IsReadingFault, IsUseFault, IsRefused};
+ghost use Rattle.link_resolve.specs.Resolved.{all_bytes, total_size, AreFew, HasGathered, HasObjects, IsListOf, IsLaidOut, IsReadingFault, IsUseFault, IsRefused};
 
 use crate::bytes::know_bytes;
 use crate::gather::{Gathered, segment_in};
@@ -25,6 +26,13 @@ use link_meaning::{LinkCause, LinkFault};
 use omf_base::{Name, NameFault, Spot};
 use omf_records::SegmentList;
 use std::alloc::{AllocError, Global};
+
+/// The whole list, with the segments of all files.
+#[derive(Drop)]
+struct Grown<'a> {
+    files: Vec<SegmentList<'a>>,
+    linked: Linked<'a>,
+}
 
 /// The most files, and the most bytes that they have together.
 const MOST: usize = 0xFFFF_FFFF;
@@ -73,6 +81,36 @@ fn empty_fault() -> LinkFault
             at: 0,
         },
     }
+}
+
+/// Reads all files, of which some are object files.
+fn gather_objects<'a>(alloc: Global, inputs: &'a Vec<Vec<u8>>) -> Result<Gathered<'a>, LinkFault>
+    requires { AreFew (all_bytes inputs.now.items) }
+    ensures read { IfOk result (λ gathered. HasObjects (all_bytes inputs.now.items) gathered) }
+    ensures refused { IfErr result (λ fault. IsRefused (all_bytes inputs.now.items) fault) }
+{
+    let gathered = match gather(alloc, inputs) {
+        Ok(gathered) => gathered,
+        Err(fault) => return Err(fault),
+    };
+    if gathered.linked.count() == 0 {
+        return Err(empty_fault());
+    }
+    Ok(gathered)
+}
+
+/// Grows the list of what was gathered until no use wants a member. The rows are let go behind it.
+fn grow_whole<'a>(alloc: Global, gathered: Gathered<'a>) -> Result<Grown<'a>, AllocError>
+    requires { (files : List (List ℕ)) × AreFew files × HasObjects files gathered }
+    ensures { IfOk result (λ grown. (files : List (List ℕ)) → AreFew files → HasObjects files gathered.entry → IsListOf files grown.files.items grown.linked) }
+{
+    let Gathered {
+        files,
+        mut linked,
+        offers,
+    } = gathered;
+    grow(alloc, files.as_slice(), &offers, &mut linked)?;
+    Ok(Grown { files, linked })
 }
 
 /// The first use that doesn't resolve, as a fault; Ok where each does.
@@ -129,43 +167,42 @@ fn lay_out<'a>(
     Ok(layout)
 }
 
-/// The program of files whose names and load segments have no fault.
-#[tactic(none)]
-pub fn resolve<'a>(alloc: Global, inputs: &'a Vec<Vec<u8>>) -> Result<Program<'a>, LinkFault>
-    requires { AreFew (all_bytes inputs.now.items) }
-    ensures resolved { IfOk result (λ program. IsResolved (all_bytes inputs.now.items) program) }
-    ensures refused { IfErr result (λ fault. IsRefused (all_bytes inputs.now.items) fault) }
+/// The load segments of the whole list, where neither its names nor they have a fault.
+fn lay_out_sound<'a>(
+    alloc: Global,
+    files: &[SegmentList<'a>],
+    linked: &Linked<'a>,
+) -> Result<Layout<'a>, LinkFault>
+    requires { (bytes : List (List ℕ)) × IsListOf bytes files.now linked.now }
+    ensures laid { IfOk result (λ layout. (bytes : List (List ℕ)) (of : IsListOf bytes files.now linked.now) → IsLaidOut bytes of.grown.list layout) }
+    ensures refused { IfErr result (λ fault. (bytes : List (List ℕ)) → IsListOf bytes files.now linked.now → IsRefused bytes fault) }
 {
-    know_bytes(inputs);
-    let gathered = match gather(alloc, inputs) {
-        Ok(gathered) => gathered,
-        Err(fault) => return Err(fault),
-    };
-    if gathered.linked.count() == 0 {
-        return Err(empty_fault());
-    }
-    let Gathered {
-        files,
-        mut linked,
-        offers,
-    } = gathered;
-    let segments = files.as_slice();
-    match grow(alloc, segments, &offers, &mut linked) {
-        Ok(()) => {}
-        Err(_) => return Err(memory_fault()),
-    }
-    match check_names(alloc, &linked) {
+    match check_names(alloc, linked) {
         Ok(()) => {}
         Err(fault) => return Err(fault),
     }
-    let layout = match lay_out(alloc, segments, &linked) {
+    let layout = match lay_out(alloc, files, linked) {
         Ok(layout) => layout,
         Err(_) => return Err(memory_fault()),
     };
     match layout.fault() {
-        Some(fault) => return Err(fault),
-        None => {}
+        Some(fault) => Err(fault),
+        None => Ok(layout),
     }
+}
+
+/// The program of a whole list whose names and load segments have no fault.
+fn finish<'a>(alloc: Global, grown: Grown<'a>) -> Result<Program<'a>, LinkFault>
+    requires { (bytes : List (List ℕ)) × AllByRecursion IsBytes bytes × IsListOf bytes grown.files.items grown.linked }
+    ensures resolved { (bytes : List (List ℕ)) → AllByRecursion IsBytes bytes → IsListOf bytes grown.entry.files.items grown.entry.linked
+        → IfOk result (λ program. IsResolved bytes program) }
+    ensures refused { (bytes : List (List ℕ)) → IsListOf bytes grown.entry.files.items grown.entry.linked → IfErr result (λ fault. IsRefused bytes fault) }
+{
+    let Grown { files, linked } = grown;
+    let layout = match lay_out_sound(alloc, files.as_slice(), &linked) {
+        Ok(layout) => layout,
+        Err(fault) => return Err(fault),
+    };
     match headers(alloc, &layout) {
         Ok(headers) => Ok(Program::of(Kept {
             files,
@@ -173,6 +210,23 @@ pub fn resolve<'a>(alloc: Global, inputs: &'a Vec<Vec<u8>>) -> Result<Program<'a
             places: layout.places,
             headers,
         })),
+        Err(_) => Err(memory_fault()),
+    }
+}
+
+/// The program of files whose names and load segments have no fault.
+pub fn resolve<'a>(alloc: Global, inputs: &'a Vec<Vec<u8>>) -> Result<Program<'a>, LinkFault>
+    requires { AreFew (all_bytes inputs.now.items) }
+    ensures resolved { IfOk result (λ program. IsResolved (all_bytes inputs.now.items) program) }
+    ensures refused { IfErr result (λ fault. IsRefused (all_bytes inputs.now.items) fault) }
+{
+    know_bytes(inputs);
+    let gathered = match gather_objects(alloc, inputs) {
+        Ok(gathered) => gathered,
+        Err(fault) => return Err(fault),
+    };
+    match grow_whole(alloc, gathered) {
+        Ok(grown) => finish(alloc, grown),
         Err(_) => Err(memory_fault()),
     }
 }

@@ -1,6 +1,6 @@
 //! What the members of the linked list use.
 
-ghost use Rattle.std.specs.Prelude.{◌≡◌, ◌++◌, map, OnOk};
+ghost use Rattle.std.specs.Prelude.{◌≡◌, ◌<◌, ◌++◌, ◌∷◌, [], Some, length, slice_get, OnOk};
 ghost use Rattle.omf_format.specs.Expression.{IsExpression, terms_in};
 ghost use Rattle.omf_expr.specs.View as terms;
 ghost use Rattle.omf_records.specs.Segments.{IsSound, shown};
@@ -12,7 +12,8 @@ use crate::reading::next_record;
 use link_meaning::Want;
 use omf_expr::{Expr, Term, Terms};
 use omf_records::{Rec, SegmentView};
-use std::alloc::AllocError;
+use std::alloc::{AllocError, Global};
+use std::marker::Model;
 
 /// A use of a name.
 #[derive(Clone, Copy, Debug, PartialEq, Eq)]
@@ -25,16 +26,88 @@ pub struct Use<'a> {
     pub place: u32,
 }
 
-/// The use of a term. $82 is a weak name; $86 is no use.
-fn add_term<'a>(
-    uses: &mut Vec<Use<'a>>,
-    term: Term<'a>,
+/// A use of a name, without what it wants.
+#[derive(Clone, Copy, Debug, PartialEq, Eq)]
+struct Site<'a> {
+    name: &'a [u8],
     at: u32,
     place: u32,
-) -> Result<(), AllocError>
+}
+
+/// Uses in order. What each wants lies apart, since one byte beside 24 takes less memory than both together.
+#[derive(Drop)]
+pub struct Uses<'a> {
+    wants: Vec<Want>,
+    sites: Vec<Site<'a>>,
+}
+
+impl<'a> Model for Uses<'a> {
+    ghost use Rattle.std.specs.Prelude.{◌≡◌, ℕ, List, length};
+    ghost use Rattle.link_meaning.specs.Uses.{Use};
+    ghost use Rattle.link_resolve.specs.Uses.{uses_of_sites};
+
+    ghost Value = { List (ℕ × Use) };
+
+    ghost view = { λ uses. uses_of_sites uses.wants.items uses.sites.items };
+
+    ghost invariant = { λ uses. length uses.wants.items ≡ length uses.sites.items };
+}
+
+impl<'a> Uses<'a> {
+    /// No use.
+    pub fn new(alloc: Global) -> Uses<'a>
+        ensures { result ≡ [] }
+    {
+        Uses {
+            wants: Vec::new(alloc),
+            sites: Vec::new(alloc),
+        }
+    }
+
+    /// How many uses there are.
+    pub fn count(&self) -> usize
+        ensures { result ≡ length self.now }
+    {
+        self.sites.as_slice().len()
+    }
+
+    /// The use with this number, from 0.
+    pub fn get(&self, number: usize) -> Use<'a>
+        requires { number < length self.now }
+        ensures { slice_get self.now number ≡ Some (use_of result) }
+    {
+        let site = self.sites[number];
+        Use {
+            want: self.wants[number],
+            name: site.name,
+            at: site.at,
+            place: site.place,
+        }
+    }
+
+    /// One more use, behind the others.
+    fn push(&mut self, used: Use<'a>) -> Result<(), AllocError>
+        ensures { OnOk result (self.new ≡ self.old ++ use_of used.entry ∷ []) }
+    {
+        let site = Site {
+            name: used.name,
+            at: used.at,
+            place: used.place,
+        };
+        self.wants.push(used.want)?;
+        if let Err(error) = self.sites.push(site) {
+            self.wants.pop();
+            return Err(AllocError::from(error));
+        }
+        Ok(())
+    }
+}
+
+/// The use of a term. $82 is a weak name; $86 is no use.
+fn add_term<'a>(uses: &mut Uses<'a>, term: Term<'a>, at: u32, place: u32) -> Result<(), AllocError>
     requires { IsShortTerm (terms.view term) }
-    ensures gave { OnOk result (map use_of uses.new.items ≡ map use_of uses.old.items ++ at_place place (used_by_term at (terms.view term.entry))) }
-    ensures short { OnOk result (HaveShortNames uses.old.items → HaveShortNames uses.new.items) }
+    ensures gave { OnOk result (uses.new ≡ uses.old ++ at_place place (used_by_term at (terms.view term.entry))) }
+    ensures short { OnOk result (HaveShortNames uses.old → HaveShortNames uses.new) }
 {
     match term {
         Term::Named(code, name) => {
@@ -67,15 +140,15 @@ fn terms_of(expr: &[u8], lab_len: u8) -> Terms<'_>
 
 /// The uses of an expression, in the order of its terms.
 fn add_terms<'a>(
-    uses: &mut Vec<Use<'a>>,
+    uses: &mut Uses<'a>,
     expr: &'a [u8],
     lab_len: u8,
     at: u32,
     place: u32,
 ) -> Result<(), AllocError>
     requires { IsExpression lab_len expr.now }
-    ensures gave { OnOk result (map use_of uses.new.items ≡ map use_of uses.old.items ++ at_place place (used_in_text lab_len at expr.now)) }
-    ensures short { OnOk result (HaveShortNames uses.old.items → HaveShortNames uses.new.items) }
+    ensures gave { OnOk result (uses.new ≡ uses.old ++ at_place place (used_in_text lab_len at expr.now)) }
+    ensures short { OnOk result (HaveShortNames uses.old → HaveShortNames uses.new) }
 {
     let mut terms = terms_of(expr, lab_len);
     'terms: loop {
@@ -88,15 +161,15 @@ fn add_terms<'a>(
 
 /// The uses of a record.
 fn add_record<'a>(
-    uses: &mut Vec<Use<'a>>,
+    uses: &mut Uses<'a>,
     rec: &Rec<'a>,
     lab_len: u8,
     at: u32,
     place: u32,
 ) -> Result<(), AllocError>
     requires { HasSpelling lab_len (view rec.now) }
-    ensures gave { OnOk result (map use_of uses.new.items ≡ map use_of uses.old.items ++ at_place place (used_by lab_len at (view rec.now))) }
-    ensures short { OnOk result (HaveShortNames uses.old.items → HaveShortNames uses.new.items) }
+    ensures gave { OnOk result (uses.new ≡ uses.old ++ at_place place (used_by lab_len at (view rec.now))) }
+    ensures short { OnOk result (HaveShortNames uses.old → HaveShortNames uses.new) }
 {
     let (want, name) = match rec {
         Rec::Using { name } => (Want::Data, *name),
@@ -130,13 +203,13 @@ fn add_record<'a>(
 /// The uses of a segment that is the member at this place of the list, in record order.
 #[tactic(auto, unfolding(link_meaning::specs::Uses::uses_of))]
 pub fn add_uses<'a>(
-    uses: &mut Vec<Use<'a>>,
+    uses: &mut Uses<'a>,
     segment: &SegmentView<'a>,
     place: u32,
 ) -> Result<(), AllocError>
     requires { IsSound segment.now }
-    ensures gave { OnOk result (map use_of uses.new.items ≡ map use_of uses.old.items ++ at_place place (uses_of (shown segment.now))) }
-    ensures short { OnOk result (HaveShortNames uses.old.items → HaveShortNames uses.new.items) }
+    ensures gave { OnOk result (uses.new ≡ uses.old ++ at_place place (uses_of (shown segment.now))) }
+    ensures short { OnOk result (HaveShortNames uses.old → HaveShortNames uses.new) }
 {
     let lab_len = segment.header.lab_len;
     let mut records = segment.records();

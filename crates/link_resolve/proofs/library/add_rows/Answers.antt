@@ -1,5 +1,7 @@
-use Rattle.std.proofs.Common.{arith}
+use Rattle.std.proofs.Common.{List, sym, subst, append-nil, arith}
 use Rattle.lib_dict.specs.Rows.{seen_row}
+use Rattle.link_meaning.specs.Member.{Offer}
+use Rattle.link_resolve.specs.Offers.{AreOffers}
 use Rattle.link_resolve.proofs.LibraryLaws.{row_at, rows_next, rows_all}
 use Rattle.link_resolve.proofs.library.add_rows.Goals as goal
 
@@ -7,6 +9,9 @@ pub add_row-requires-clause-told : goal.add_row-requires-clause-told
 add_row-requires-clause-told c =
     let r = row_at c.args.segments.now c.args.dictionary.now c.requires.told.0 c.rows.place (seen_row c.in-Some.row) c.requires.told.1 c.in-Some.ensures in
     (r.row, r.told', c.requires.told.2 r.row r.among)
+
+pub rows-init : goal.rows-init
+rows-init c = (omega arith, λ os rows told stand are. subst (λ (l : List Offer). AreOffers l c.reserve.new.self) (sym (append-nil os)) (c.reserve.ensures os are))
 
 pub rows-preserved : goal.rows-preserved
 rows-preserved c = (

@@ -1,8 +1,8 @@
-use Rattle.std.proofs.Common.{◌++◌, length, map}
+use Rattle.std.proofs.Common.{◌++◌, length}
 use Rattle.std.specs.List.{flat_map}
 use Rattle.omf_records.specs.Segments.{shown}
 use Rattle.link_meaning.specs.Uses.{used_by}
-use Rattle.link_resolve.specs.Uses.{use_of, at_place, HaveShortNames}
+use Rattle.link_resolve.specs.Uses.{at_place, HaveShortNames}
 use Rattle.link_resolve.proofs.UseLaws.{Using}
 use Rattle.link_resolve.proofs.uses.add_uses.Given as goal
 
@@ -10,9 +10,9 @@ use Rattle.link_resolve.proofs.uses.add_uses.Given as goal
 abbrev pub invariant-walk : goal.invariant-walk
 invariant-walk l =
     Using (λ found. used_by l.lab_len found.0 found.1) l.place l.lab_len
-    (map use_of l.initial.uses.items ++ at_place l.place (flat_map (λ found. used_by l.lab_len found.0 found.1) (shown l.fn.segment).records))
-    l.records (map use_of l.uses.items)
-    × (HaveShortNames l.initial.uses.items → HaveShortNames l.uses.items)
+    (l.initial.uses ++ at_place l.place (flat_map (λ found. used_by l.lab_len found.0 found.1) (shown l.fn.segment).records))
+    l.records l.uses
+    × (HaveShortNames l.initial.uses → HaveShortNames l.uses)
 
 abbrev pub decreases-walk : goal.decreases-walk
 decreases-walk l = length l.records.left

@@ -1,11 +1,12 @@
-use Rattle.std.proofs.Common.{List, length, ap}
-use Rattle.link_resolve.specs.declared.definitions.Definition as kept
 use Rattle.link_resolve.specs.declared.definitions.Definitions.{Definitions}
 use Rattle.link_resolve.specs.Names.{key_of}
+use Rattle.link_resolve.proofs.OnOks.{on_ok}
 use Rattle.link_resolve.proofs.DefinitionLaws.{pushed}
 use Rattle.link_resolve.proofs.definitions.Definitions.push.Goals as goal
 
 pub returns : goal.returns
-returns c = λ fs f are key told.
-    let new : Definitions = record { names = c.add.new.self; items = c.push.new.self } in
-    pushed fs f c.args.self.now new (key_of c.args.key) (length c.as_slice-number.result.now) c.args.definition are key told (ap (λ (l : List kept.Definition). length l) c.as_slice-number.ensures.value) c.in_ok-add.ensures c.in_ok-push.ensures.items
+returns c =
+    let new : Definitions = record { names = c.add.new.self; locals = c.add_local.new.locals; items = c.push.new.self } in
+    on_ok c.push.result _ _
+    (λ items fs f are key told. pushed fs f c.args.self.now new (key_of c.args.key) c.count-number.result c.args.definition are key told c.count-number.ensures c.in_ok-add.ensures items c.in_ok-add_local.ensures)
+    c.push.ensures

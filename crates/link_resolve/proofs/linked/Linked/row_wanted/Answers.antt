@@ -4,7 +4,7 @@ use Rattle.link_meaning.specs.Member.{Member}
 use Rattle.link_meaning.specs.LinkedList.{found_for, row_for}
 use Rattle.link_resolve.specs.Offers.{IsRow}
 use Rattle.link_resolve.specs.Uses.{use_of}
-use Rattle.link_resolve.proofs.LinkedLaws.{member_is, member_of}
+use Rattle.link_resolve.proofs.LinkedLaws.{member_is}
 use Rattle.link_resolve.proofs.SearchLaws.{one_some, several_some}
 use Rattle.link_resolve.proofs.WantedLaws.{row_unless, no_row}
 use Rattle.link_resolve.proofs.linked.Linked.row_wanted.Goals as goal
@@ -15,8 +15,8 @@ returns-in-Nothing c = λ list os m holds are at.
     let items = c.args.self.now.members.items in
     let k = used.place - 1 in
     let less : k < length items = omega (arith, c.requires.positive, c.requires.within) in
-    let there = slice_get_read items (length items) k c.index-member.result.now refl less c.index-member.ensures in
-    let of = member_of m c.index-member.result.now (member_is list c.args.self.now k m c.index-member.result.now holds at there) in
+    let there = slice_get_read items (length items) k c.index-origin.result.now refl less c.index-origin.ensures in
+    let of = member_is list c.args.self.now k m c.index-origin.result.now holds at there in
     let found = found_for list used.place m (use_of used).1 in
     let row = row_for os m (use_of used).1 in
     let same = row_unless found c.found_for.result row (c.found_for.ensures list m holds at) c.in-Nothing.is in

@@ -1,5 +1,4 @@
-use Rattle.std.proofs.Common.{◌<◌, length, refl, sym, ap, ◌∙◌, arith}
-use Rattle.std.proofs.lemmas.Option.{slice_get_read}
+use Rattle.std.proofs.Common.{sym, ◌∙◌}
 use Rattle.link_resolve.proofs.ResolvingLaws.{use_is, place_within, none_before, none_next, first_use}
 use Rattle.link_resolve.proofs.linked.Linked.unresolved.Goals as goal
 
@@ -9,33 +8,25 @@ uses-init c = λ list holds. none_before list
 pub found_for-requires-clause-positive : goal.found_for-requires-clause-positive
 found_for-requires-clause-positive c =
     let kept = c.args.self.now in
-    let items = kept.uses.items in
-    let less : c.uses.number < length items = omega (arith, c.uses-test.true, ap length c.as_slice.ensures.value) in
-    let there = slice_get_read items (length items) c.uses.number c.index-used.result.now refl less c.index-used.ensures in
-    (place_within c.requires.0 kept c.uses.number c.index-used.result.now c.requires.1 (use_is c.requires.0 kept c.uses.number c.index-used.result.now c.requires.1 there)).0
+    let there = c.get-used.ensures in
+    (place_within c.requires.0 kept c.uses.number c.get-used.result c.requires.1 (use_is c.requires.0 kept c.uses.number c.get-used.result c.requires.1 there)).0
 
 pub found_for-requires-clause-within : goal.found_for-requires-clause-within
 found_for-requires-clause-within c =
     let kept = c.args.self.now in
-    let items = kept.uses.items in
-    let less : c.uses.number < length items = omega (arith, c.uses-test.true, ap length c.as_slice.ensures.value) in
-    let there = slice_get_read items (length items) c.uses.number c.index-used.result.now refl less c.index-used.ensures in
-    (place_within c.requires.0 kept c.uses.number c.index-used.result.now c.requires.1 (use_is c.requires.0 kept c.uses.number c.index-used.result.now c.requires.1 there)).1
+    let there = c.get-used.ensures in
+    (place_within c.requires.0 kept c.uses.number c.get-used.result c.requires.1 (use_is c.requires.0 kept c.uses.number c.get-used.result c.requires.1 there)).1
 
 pub returns-in-Some : goal.returns-in-Some
 returns-in-Some c = λ list holds.
     let kept = c.args.self.now in
-    let items = kept.uses.items in
-    let u = c.index-used.result.now in
-    let less : c.uses.number < length items = omega (arith, c.uses-test.true, ap length c.as_slice.ensures.value) in
-    let there = slice_get_read items (length items) c.uses.number u refl less c.index-used.ensures in
+    let u = c.get-used.result in
+    let there = c.get-used.ensures in
     first_use list c.uses.number u c.found_for.result c.in-Some.cause (use_is list kept c.uses.number u holds there) (λ m at. c.found_for.ensures list m holds at) (sym c.use_cause.ensures ∙ c.in-Some.is) (c.uses.invariant list holds)
 
 pub uses-preserved : goal.uses-preserved
 uses-preserved c = λ list holds.
     let kept = c.args.self.now in
-    let items = kept.uses.items in
-    let u = c.index-used.result.now in
-    let less : c.uses.number < length items = omega (arith, c.uses-test.true, ap length c.as_slice.ensures.value) in
-    let there = slice_get_read items (length items) c.uses.number u refl less c.index-used.ensures in
+    let u = c.get-used.result in
+    let there = c.get-used.ensures in
     none_next list c.uses.number u c.found_for.result (use_is list kept c.uses.number u holds there) (λ m at. c.found_for.ensures list m holds at) (sym c.use_cause.ensures ∙ c.in-None.is) (c.uses.invariant list holds)

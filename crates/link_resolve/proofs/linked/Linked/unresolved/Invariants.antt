@@ -11,4 +11,4 @@ abbrev pub invariant-uses : goal.invariant-uses
 invariant-uses l = (list : List Member) → Holds list l.self → HasNone (FailsToResolve list) (take l.number (asked list))
 
 abbrev pub decreases-uses : goal.decreases-uses
-decreases-uses l = length l.self.uses.items - l.number
+decreases-uses l = length l.self.uses - l.number

@@ -1,5 +1,4 @@
-use Rattle.std.proofs.Common.{◌<◌, ◌≤◌, length, Some, None, refl, ap, arith}
-use Rattle.std.proofs.lemmas.Option.{slice_get_read}
+use Rattle.std.proofs.Common.{◌≤◌, length, Some, None, arith}
 use Rattle.link_resolve.proofs.ResolvingLaws.{use_is, place_within}
 use Rattle.link_resolve.proofs.WantedLaws.{wants_so, wants_next, wanted_here, wanted_none}
 use Rattle.link_resolve.proofs.linked.Linked.wanted.Goals as goal
@@ -7,39 +6,31 @@ use Rattle.link_resolve.proofs.linked.Linked.wanted.Goals as goal
 pub row_wanted-requires-clause-positive : goal.row_wanted-requires-clause-positive
 row_wanted-requires-clause-positive c =
     let kept = c.args.self.now in
-    let items = kept.uses.items in
-    let less : c.uses.number < length items = omega (arith, c.uses-test.true, ap length c.as_slice.ensures.value) in
-    let there = slice_get_read items (length items) c.uses.number c.index-used.result.now refl less c.index-used.ensures in
-    (place_within c.requires.0 kept c.uses.number c.index-used.result.now c.requires.1 (use_is c.requires.0 kept c.uses.number c.index-used.result.now c.requires.1 there)).0
+    let there = c.get-used.ensures in
+    (place_within c.requires.0 kept c.uses.number c.get-used.result c.requires.1 (use_is c.requires.0 kept c.uses.number c.get-used.result c.requires.1 there)).0
 
 pub row_wanted-requires-clause-within : goal.row_wanted-requires-clause-within
 row_wanted-requires-clause-within c =
     let kept = c.args.self.now in
-    let items = kept.uses.items in
-    let less : c.uses.number < length items = omega (arith, c.uses-test.true, ap length c.as_slice.ensures.value) in
-    let there = slice_get_read items (length items) c.uses.number c.index-used.result.now refl less c.index-used.ensures in
-    (place_within c.requires.0 kept c.uses.number c.index-used.result.now c.requires.1 (use_is c.requires.0 kept c.uses.number c.index-used.result.now c.requires.1 there)).1
+    let there = c.get-used.ensures in
+    (place_within c.requires.0 kept c.uses.number c.get-used.result c.requires.1 (use_is c.requires.0 kept c.uses.number c.get-used.result c.requires.1 there)).1
 
 pub returns-in-Some : goal.returns-in-Some
 returns-in-Some c = λ list os holds are none.
     let kept = c.args.self.now in
-    let items = kept.uses.items in
-    let u = c.index-used.result.now in
-    let less : c.uses.number < length items = omega (arith, c.uses-test.true, ap length c.as_slice.ensures.value) in
-    let is = use_is list kept c.uses.number u holds (slice_get_read items (length items) c.uses.number u refl less c.index-used.ensures) in
+    let u = c.get-used.result in
+    let is = use_is list kept c.uses.number u holds (c.get-used.ensures) in
     wanted_here os list c.uses.number u c.in-Some.row is (wants_so os list c.uses.number u (Some c.in-Some.row) is (λ m at. c.in-Some.ensures list os m holds are at)) (c.uses.invariant list os holds are none)
 
 pub uses-preserved : goal.uses-preserved
 uses-preserved c = λ list os holds are none.
     let kept = c.args.self.now in
-    let items = kept.uses.items in
-    let u = c.index-used.result.now in
-    let less : c.uses.number < length items = omega (arith, c.uses-test.true, ap length c.as_slice.ensures.value) in
-    let is = use_is list kept c.uses.number u holds (slice_get_read items (length items) c.uses.number u refl less c.index-used.ensures) in
+    let u = c.get-used.result in
+    let is = use_is list kept c.uses.number u holds (c.get-used.ensures) in
     wants_next os list c.uses.number u is (wants_so os list c.uses.number u None is (λ m at. c.in-None.ensures list os m holds are at)) (c.uses.invariant list os holds are none)
 
 pub returns : goal.returns
 returns c = λ list os holds are none.
     let kept = c.args.self.now in
-    let past : length kept.uses.items ≤ c.uses.number = omega (arith, c.uses-test.false, ap length c.as_slice.ensures.value) in
+    let past : length kept.uses ≤ c.uses.number = omega (arith, c.uses-test.false, c.count.ensures) in
     wanted_none os list kept c.uses.number holds past (c.uses.invariant list os holds are none)

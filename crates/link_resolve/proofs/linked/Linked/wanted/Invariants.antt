@@ -10,4 +10,4 @@ abbrev pub invariant-uses : goal.invariant-uses
 invariant-uses l = (list : List Member) (os : List Offer) → Holds list l.self → AreOffers os l.offers → WantsNothing os list l.fn.from → WantsNothing os list l.number
 
 abbrev pub decreases-uses : goal.decreases-uses
-decreases-uses l = length l.self.uses.items - l.number
+decreases-uses l = length l.self.uses - l.number

@@ -1,8 +1,10 @@
-use Rattle.link_resolve.specs.declared.names.Names.{Names}
+use Rattle.link_resolve.specs.Names.{key_of}
+use Rattle.link_resolve.proofs.OnOks.{on_ok}
 use Rattle.link_resolve.proofs.NameTables.{added_row}
 use Rattle.link_resolve.proofs.names.Names.add.Goals as goal
 
 pub returns : goal.returns
-returns c = λ rows ix.
-    let new : Names = record { outcomes = c.insert.new.self } in
-    added_row rows c.args.self.now new c.args.key c.args.number c.look-so_far.result c.added.result ix (c.look-so_far.ensures rows ix) c.added.ensures c.in_ok-insert.ensures.updates
+returns c =
+    on_ok c.keep.result _ _
+    (λ keeps rows ix. added_row rows c.args.self.now c.keep.new.self (key_of c.args.key) c.args.number c.look.result c.added-found.result ix (c.look.ensures rows ix) c.added-found.ensures keeps)
+    c.keep.ensures

@@ -1,10 +1,14 @@
-use Rattle.std.proofs.Common.{Some, None, sym, ap, ◌∙◌}
-use Rattle.std.specs.Option.{option_copied}
-use Rattle.link_resolve.proofs.NameTables.{looked_up}
+use Rattle.std.proofs.Common.{◌∙◌}
+use Rattle.link_meaning.specs.declared.search.Step.TheVariants.{Everyone}
+use Rattle.link_resolve.specs.Names.{key_of}
+use Rattle.link_resolve.proofs.NameTables.{looked, looked_within, looked_unit}
 use Rattle.link_resolve.proofs.names.Names.look.Goals as goal
 
-pub returns-in-Some : goal.returns-in-Some
-returns-in-Some c = λ rows ix. looked_up rows c.args.self.now c.args.key (Some c.in-Some.found.now) ix (ap option_copied (sym c.in-Some.is) ∙ c.get.ensures.value)
+pub returns-in-Everyone : goal.returns-in-Everyone
+returns-in-Everyone c = λ rows ix. c.look_public.ensures ∙ looked rows c.args.self.now (key_of c.args.key) Everyone ix c.in-Everyone.is
 
-pub returns-in-None : goal.returns-in-None
-returns-in-None c = λ rows ix. looked_up rows c.args.self.now c.args.key None ix (ap option_copied (sym c.in-None.is) ∙ c.get.ensures.value)
+pub returns-in-Within : goal.returns-in-Within
+returns-in-Within c = λ rows ix. c.look_other.ensures ∙ looked_within rows c.args.self.now (key_of c.args.key) c.in-Within.field-0 ix c.in-Within.is
+
+pub returns-in-OfUnit : goal.returns-in-OfUnit
+returns-in-OfUnit c = λ rows ix. c.look_other-in-OfUnit.ensures ∙ looked_unit rows c.args.self.now (key_of c.args.key) c.in-OfUnit.file c.in-OfUnit.from ix c.in-OfUnit.is

@@ -1,0 +1,32 @@
+use Rattle.std.proofs.Common.{◌≡◌, ℕ, List, [], map, refl, sym, ap, subst, ◌∙◌}
+use Rattle.std.specs.Option.{option_map_or}
+use Rattle.link_meaning.specs.declared.search.Step.TheVariants.{Within}
+use Rattle.link_meaning.specs.Uses.{usings_of}
+use Rattle.link_meaning.specs.Search.{Found, entries, named, decided}
+use Rattle.link_resolve.specs.declared.names.Outcome.TheVariants.{Nothing}
+use Rattle.link_resolve.specs.Definitions.{Sees}
+use Rattle.link_resolve.specs.Linked.{names_of, used_places}
+use Rattle.link_resolve.proofs.SearchLaws.{none_decided}
+use Rattle.link_resolve.proofs.LinkedLaws.{usings_is}
+use Rattle.link_resolve.proofs.linked.Linked.find_by_usings.Goals as goal
+
+pub returns-in-Some : goal.returns-in-Some
+returns-in-Some c = λ list m holds at of.
+    let fs = entries list in
+    let names : names_of c.in-Some.usings.now ≡ usings_of m.segment =
+    ap (λ o. option_map_or (λ names. names_of names.now) o []) (sym c.in-Some.is) ∙ c.of.ensures ∙ usings_is list c.args.self.now c.args.place m holds c.requires at in
+    subst (λ (l : List (List ℕ)). Sees fs (decided (map Within (used_places list m l)) (named c.args.name.now fs)) c.find_used.result) names (c.find_used.ensures list m holds of)
+
+pub returns-in-None : goal.returns-in-None
+returns-in-None c = λ list m holds at of.
+    let fs = entries list in
+    let none : [] ≡ usings_of m.segment =
+    ap (λ o. option_map_or (λ names. names_of names.now) o []) (sym c.in-None.is) ∙ c.of.ensures ∙ usings_is list c.args.self.now c.args.place m holds c.requires at in
+    subst (λ (l : List (List ℕ)). Sees fs (decided (map Within (used_places list m l)) (named c.args.name.now fs)) Nothing) none refl
+
+pub returns-then-not-has_local : goal.returns-then-not-has_local
+returns-then-not-has_local c = λ list m holds at of.
+    let fs = entries list in
+    let xs = named c.args.name.now fs in
+    let none : decided (map Within (used_places list m (usings_of m.segment))) xs ≡ [] = none_decided xs (used_places list m (usings_of m.segment)) (c.has_local.ensures fs holds.definitions c.if-not-has_local.true) in
+    subst (λ (l : List Found). Sees fs l Nothing) (sym none) refl
