@@ -26,6 +26,8 @@ mod sizes;
 #[cfg(test)]
 mod tests;
 mod uses;
+#[cfg(test)]
+mod using_tests;
 mod usings;
 
 pub use checks::segments_fault;
