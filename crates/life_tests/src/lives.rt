@@ -1,7 +1,7 @@
 // Scripts that write into programs, purge them and shut them down. Expected lines are written by hand from the rules of the
 // loader and of the format.
-use crate::loading::{Front, code, one, program, replies};
 use std::test::Fail;
+use tool_runner::{Front, code, one, program, replies};
 
 // Of the six segments 1, 2, 4 and 6 are static; 3 is dynamic, 4 is the jump table, and 5 is skipped.
 #[test]

@@ -1,10 +1,9 @@
 // Linking of programs: values, names, libraries, equates, calls through the jump table. The objects are made by hand from the format, and
 // so are the files and lines that are expected of them.
-use crate::linking::OBJECT;
-use crate::runner::{changed, ends, run, run_failing};
 use omf_cli::Status;
 use std::alloc::Global;
 use std::test::Fail;
+use tool_runner::{OBJECT, changed, ends, run, run_failing};
 
 /// `A` in the load segment `ONE` holds the distance of `B`, which stands in `TWO`.
 const APART: [u8; 126] = [

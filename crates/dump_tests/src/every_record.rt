@@ -4,12 +4,12 @@ ghost use Rattle.std.specs.Prelude.{IsTrue, ◌==◌};
 ghost use Rattle.omf_format.specs.Field.{is_count};
 ghost use Rattle.omf_format.specs.Record.{is_formula, IsDistance};
 
-use crate::dumping::dumps;
 use omf_cli::Status;
 use omf_expr::Expr;
 use omf_records::{Locations, PutFault, Rec, put_record};
-use std::alloc::{AllocError, Global};
+use std::alloc::Global;
 use std::test::Fail;
+use tool_runner::{block, dumps};
 
 /// Every record under LABLEN 0.
 const COUNTED: [u8; 233] = [
@@ -69,13 +69,6 @@ const FIRST: [u8; 229] = [
 
 const FIRST_LISTING: &[u8] =
     b"segment 1 at 00000000 kind 0000 length 00000008 resspc 00000000 banksize 00010000 align 00000000 org 00000000 entry 00000000 loadname \"          \" segname \"A\"\n00000038 CONST 00000003 A90160\n0000003C LCONST 00000002 EAEA\n00000043 ALIGN 00000100\n00000048 ORG 00000010\n0000004D RELOC 02 F8 00000001 12345678\n00000058 INTERSEG 03 00 00000002 0001 0203 00000004\n00000067 USING ABC\n0000006C STRONG A?B\n00000071 GLOBAL G 02 4E 00\n00000077 GEQU Q 00 4E 01 810500000000\n00000083 EXPR 02 83014181050000000100\n0000008F ZEXPR 01 8000\n00000093 BEXPR 02 870100000000\n0000009B RELEXPR 01 00000001 83014200\n000000A5 LOCAL L 04 4D 00\n000000AB EQU E 00 4E 00 82014500\n000000B5 DS 00000005\n000000BA LEXPR 03 83014400\n000000C0 ENTRY 0203 12345678 N?M\n000000CB cRELOC 04 1F 0001 1234\n000000D2 cINTERSEG 01 E1 0002 05 5678\n000000DA SUPER 00000005 02\n000000E4 END\n";
-
-/// The bytes with zeros behind them up to 512, a block of version 1.
-pub(crate) fn block(alloc: Global, bytes: &[u8]) -> Result<Vec<u8>, AllocError> {
-    let mut file = bytes.to_vec(alloc)?;
-    file.resize(512, 0)?;
-    Ok(file)
-}
 
 #[test]
 fn every_record_is_listed(rt: HostRuntime) -> Result<(), Fail> {

@@ -1,19 +1,12 @@
 // Listings and faults as they are printed. Expected lines are written by hand from the rules of the listing.
-use crate::linking::{LOAD_FILE, OBJECT};
-use crate::runner::{changed, ends, run, run_failing};
 use omf_cli::Status;
 use std::alloc::{AllocError, Global};
 use std::test::Fail;
+use tool_runner::{LOAD_FILE, OBJECT, changed, dumps, ends, run_failing};
 
 /// The listing of the load file.
 const LISTING: &[u8] =
     b"segment 1 at 00000000 kind 0000 length 00000008 resspc 00000005 banksize 00010000 align 00000000 org 00000000 entry 00000000 loadname \"          \" segname \"\"\n00000037 LCONST 00000003 A90160\n0000003F END\n";
-
-/// Dumps a file while nothing outside fails, and says whether it ended so.
-pub(crate) fn dumps(alloc: Global, file: &[u8], status: Status, text: &[u8]) -> Result<bool, Fail> {
-    let run = run(alloc, "dump obj", &[("obj", file)])?;
-    Ok(ends(&run, status, text, None))
-}
 
 #[test]
 fn segments_and_records_are_listed(rt: HostRuntime) -> Result<(), Fail> {

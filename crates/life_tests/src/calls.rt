@@ -1,10 +1,8 @@
 // Scripts that follow JSLs. Expected lines are written by hand from the rules of the loader and of the format. In the program of
 // six segments the JSL at $0804 calls the code of the table's one entry, at $0822, which leads to the dynamic segment 3, offset 1.
-use crate::loading::{program, replies};
-use crate::runner::ends;
-use crate::running::run_script;
 use omf_cli::Status;
 use std::test::Fail;
+use tool_runner::{ends, program, replies, run_script};
 
 // An absent segment is read and placed, and the entry leads to it while it is active; an idle one becomes active where it is.
 #[test]

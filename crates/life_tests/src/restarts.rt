@@ -1,12 +1,12 @@
 // Scripts that restart programs. Expected lines are written by hand from the rules of the loader and of the format.
-use crate::loading::{Front, code, one, program, replies};
-use crate::runner::{changed, ends};
-use crate::running::run_script;
 use omf_cli::Status;
 use omf_io::MemoryFiles;
 use std::alloc::Global;
 use std::test::Fail;
 use sys_loader::{Loader, LoaderFault};
+use tool_runner::{
+    Front, changed, code, ends, one, program, replies, run_script, run_script_whole,
+};
 
 /// Where KIND's high byte stands of segments 2, 3 and 4 of the program of six segments.
 const DATA_KIND: usize = 0x87;
@@ -204,9 +204,8 @@ fn another_file_is_refused(rt: HostRuntime) -> Result<(), Fail> {
     let program = program(alloc)?;
     let data = changed(alloc, &program, &[(DATA_KIND, 4)])?;
     let script = b"banks 02 00\nload prog\npoke 1001 2 3 7F\nshutdown 1001 keep\n";
-    let run = run_script(alloc, script, &data, &[], &[])?;
+    let (run, mut last) = run_script_whole(alloc, script, &data, &[], &[])?;
     let mut files = run.files;
-    let mut last = run.last;
     let other = restarted(&mut files, &mut last, &program)?;
     assert!(rt; matches!(other, Err(LoaderFault::Changed { .. })));
     let none = restarted(&mut files, &mut last, b"")?;

@@ -1,6 +1,6 @@
 // Scripts that make dynamic segments active. Expected lines are written by hand from the rules of the loader and of the format.
-use crate::loading::{program, replies};
 use std::test::Fail;
+use tool_runner::{program, replies};
 
 // Idle, it keeps its pokes; purged, it is read again under its handle, and the entry for it follows.
 #[test]

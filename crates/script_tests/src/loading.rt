@@ -1,137 +1,10 @@
 // Scripts over load files of several segments, and the script's own blocks. Expected lines are written by hand from the
 // rules of the loader and of the format.
-use crate::runner::Outcome;
-use crate::running::{run_script, says};
 use omf_cli::Status;
 use std::alloc::Global;
 use std::test::Fail;
-
-/// What a handmade load segment has beside its body.
-#[derive(Clone, Copy)]
-pub(crate) struct Front {
-    pub(crate) number: u8,
-    /// KIND, its low byte first.
-    pub(crate) kind: [u8; 2],
-    pub(crate) length: [u8; 4],
-    pub(crate) res_spc: u8,
-    pub(crate) bank_size: [u8; 4],
-    pub(crate) org: [u8; 4],
-    pub(crate) entry: u8,
-}
-
-/// A code segment of so many bytes, which stays in a bank.
-pub(crate) fn code(number: u8, length: u8) -> Front {
-    Front {
-        number,
-        kind: [0, 0],
-        length: [length, 0, 0, 0],
-        res_spc: 0,
-        bank_size: [0, 0, 1, 0],
-        org: [0; 4],
-        entry: 0,
-    }
-}
-
-/// Appends a load segment with this body, whose name is empty. It is shorter than 256 bytes.
-fn put_segment(out: &mut Vec<u8>, front: Front, body: &[u8]) -> Result<(), Fail> {
-    if body.len() > 200 {
-        return Err(Fail::new("the body is too long"));
-    }
-    let size = (0x37 + body.len()) as u8;
-    out.extend_from_slice(&[size, 0, 0, 0, front.res_spc, 0, 0, 0])?;
-    out.extend_from_slice(&front.length)?;
-    out.extend_from_slice(&[0, 0, 4, 2])?;
-    out.extend_from_slice(&front.bank_size)?;
-    out.extend_from_slice(&front.kind)?;
-    out.extend_from_slice(&[0, 0])?;
-    out.extend_from_slice(&front.org)?;
-    out.extend_from_slice(&[0, 0, 0, 0, 0, 0, front.number, 0, front.entry, 0, 0, 0])?;
-    out.extend_from_slice(&[0x2C, 0, 0x37, 0])?;
-    out.extend_from_slice(b"          \0")?;
-    out.extend_from_slice(body)?;
-    Ok(())
-}
-
-/// A file of one segment.
-pub(crate) fn one(alloc: Global, front: Front, body: &[u8]) -> Result<Vec<u8>, Fail> {
-    let mut file = Vec::new(alloc);
-    put_segment(&mut file, front, body)?;
-    Ok(file)
-}
-
-/// Whether a script over a file at `prog` is run to its end with these replies.
-pub(crate) fn replies(
-    alloc: Global,
-    script: &[u8],
-    program: &[u8],
-    text: &[u8],
-) -> Result<bool, Fail> {
-    says(alloc, script, program, Status::Done, text)
-}
-
-/// A program of six segments: code with patches to the others, data, a dynamic one, a jump table of one entry, a skipped
-/// one, and a direct page and stack.
-pub(crate) fn program(alloc: Global) -> Result<Vec<u8>, Fail> {
-    let mut file = Vec::new(alloc);
-    put_segment(
-        &mut file,
-        code(1, 12),
-        &[
-            0xF2, 12, 0, 0, 0, 0xAF, 0, 0, 0, 0x22, 0, 0, 0, 0x4C, 0, 0, 0x60, // the data
-            0xE3, 3, 0, 1, 0, 0, 0, 1, 0, 2, 0, 1, 0, 0, 0, // the place of segment 2 plus 1
-            0xE3, 3, 0, 5, 0, 0, 0, 1, 0, 4, 0, 18, 0, 0, 0, // that of the table's entry
-            0xE2, 2, 0, 9, 0, 0, 0, 11, 0, 0, 0, // the own place plus 11
-            0,
-        ],
-    )?;
-    put_segment(
-        &mut file,
-        Front {
-            kind: [1, 0],
-            res_spc: 2,
-            ..code(2, 4)
-        },
-        &[0xF2, 2, 0, 0, 0, 0x11, 0x22, 0],
-    )?;
-    put_segment(
-        &mut file,
-        Front {
-            kind: [0, 0x80],
-            ..code(3, 2)
-        },
-        &[0xF2, 2, 0, 0, 0, 0xEA, 0x6B, 0],
-    )?;
-    put_segment(
-        &mut file,
-        Front {
-            kind: [2, 0],
-            ..code(4, 26)
-        },
-        &[
-            0xF2, 26, 0, 0, 0, 0, 0, 0, 0, 0, 0, 0, 0, // zeros
-            0, 0, 1, 0, 3, 0, 1, 0, 0, 0, 0x22, 0, 0xF0, 0xE1, 0, 0, 0, 0, // the entry
-            0,
-        ],
-    )?;
-    put_segment(
-        &mut file,
-        Front {
-            kind: [1, 2],
-            ..code(5, 1)
-        },
-        &[0xF2, 1, 0, 0, 0, 0x55, 0],
-    )?;
-    put_segment(
-        &mut file,
-        Front {
-            kind: [0x12, 0],
-            res_spc: 0x80,
-            ..code(6, 0x80)
-        },
-        &[0],
-    )?;
-    Ok(file)
-}
+use sys_loader::Loader;
+use tool_runner::{Front, code, one, program, put_segment, replies, run_script, run_script_whole};
 
 #[test]
 fn a_program_of_six_segments_is_loaded(rt: HostRuntime) -> Result<(), Fail> {
@@ -452,25 +325,39 @@ fn a_script_of_every_command(rt: HostRuntime) -> Result<(), Fail> {
     Ok(())
 }
 
-/// Whether a run handed out a loader that shows this byte first in segment 1 of the first user.
-fn hands_out(run: &Outcome, byte: u8) -> bool {
-    match &run.last {
-        Some(loader) => loader.bytes(0x1001, 1, 0, 1) == Ok([byte].as_slice()),
-        None => false,
+/// How a run of a script ends, and, where it hands out a loader, the byte that this shows first in segment 1 of the first user.
+fn handed_out(
+    alloc: Global,
+    script: &[u8],
+    text: &[u32],
+) -> Result<(Status, Option<Option<u8>>), Fail> {
+    let (run, last) = run_script_whole(alloc, script, &program(alloc)?, &[], text)?;
+    Ok((run.status, last.map(|loader| first_byte(&loader))))
+}
+
+fn first_byte(loader: &Loader) -> Option<u8> {
+    match loader.bytes(0x1001, 1, 0, 1) {
+        Ok([byte]) => Some(*byte),
+        _ => None,
     }
 }
 
 #[test]
 fn the_loader_is_handed_out(rt: HostRuntime) -> Result<(), Fail> {
     let alloc = rt.alloc();
-    let program = program(alloc)?;
-    let ran = run_script(alloc, b"banks 00\nload prog\n", &program, &[], &[])?;
-    assert!(rt; hands_out(&ran, 0xAF));
-    let empty = run_script(alloc, b"; nothing\n", &program, &[], &[])?;
-    assert!(rt; empty.status == Status::Done && empty.last.is_none());
-    let refused = run_script(alloc, b"banks 00\nlod prog\n", &program, &[], &[])?;
-    assert!(rt; refused.last.is_none());
-    let stopped = run_script(alloc, b"banks 00\nload prog\n", &program, &[], &[2])?;
-    assert!(rt; stopped.last.is_none());
+    let runs: [(&[u8], &[u32], Status, Option<Option<u8>>); 4] = [
+        (
+            b"banks 00\nload prog\n",
+            &[],
+            Status::Done,
+            Some(Some(0xAF)),
+        ),
+        (b"; nothing\n", &[], Status::Done, None),
+        (b"banks 00\nlod prog\n", &[], Status::Refused, None),
+        (b"banks 00\nload prog\n", &[2], Status::CannotPrint, None),
+    ];
+    for (script, text, status, byte) in runs {
+        assert!(rt; handed_out(alloc, script, text)? == (status, byte));
+    }
     Ok(())
 }

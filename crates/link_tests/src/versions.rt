@@ -1,11 +1,8 @@
 // Files of version 1, and objects with an ENTRY. Expected bytes and lines are worked out by hand from the format.
-use crate::dumping::dumps;
-use crate::every_record::block;
-use crate::linking::{LOAD_FILE, OBJECT, links};
-use crate::running::says;
 use omf_cli::Status;
 use std::alloc::{AllocError, Global};
 use std::test::Fail;
+use tool_runner::{LOAD_FILE, OBJECT, block, dumps, links, says};
 
 /// The object in version 1: a block of 512 bytes, with bytes changed at displacements.
 fn first(alloc: Global, changes: &[(usize, u8)]) -> Result<Vec<u8>, AllocError> {

@@ -1,24 +1,9 @@
 // What no clause says: that memory is enough, and that the bytes and lines are those that other tools know. Expected
 // bytes are worked out by hand from the format.
-use crate::runner::{changed, ends, run, run_failing, run_list};
 use omf_cli::Status;
-use omf_io::MAX_FILE;
 use std::alloc::Global;
 use std::test::Fail;
-
-/// An object: a code segment `A` of three constant bytes and five zeros.
-pub(crate) const OBJECT: [u8; 66] = [
-    0x42, 0, 0, 0, 0, 0, 0, 0, 8, 0, 0, 0, 0, 0, 4, 2, 0, 0, 1, 0, 0, 0, 0, 0, 0, 0, 0, 0, 0, 0, 0,
-    0, 0, 0, 1, 0, 0, 0, 0, 0, 0x2C, 0, 0x38, 0, 0x20, 0x20, 0x20, 0x20, 0x20, 0x20, 0x20, 0x20,
-    0x20, 0x20, 1, 0x41, 3, 0xA9, 1, 0x60, 0xF1, 5, 0, 0, 0, 0,
-];
-
-/// Its load file: the zeros at the end are in RESSPC.
-pub(crate) const LOAD_FILE: [u8; 64] = [
-    0x40, 0, 0, 0, 5, 0, 0, 0, 8, 0, 0, 0, 0, 0, 4, 2, 0, 0, 1, 0, 0, 0, 0, 0, 0, 0, 0, 0, 0, 0, 0,
-    0, 0, 0, 1, 0, 0, 0, 0, 0, 0x2C, 0, 0x37, 0, 0x20, 0x20, 0x20, 0x20, 0x20, 0x20, 0x20, 0x20,
-    0x20, 0x20, 0, 0xF2, 3, 0, 0, 0, 0xA9, 1, 0x60, 0,
-];
+use tool_runner::{LOAD_FILE, OBJECT, changed, ends, links, run, run_failing};
 
 /// The load file of the object twice: the first one's zeros stand between the constants.
 const TWICE: [u8; 72] = [
@@ -35,20 +20,6 @@ const ZEROS: [u8; 56] = [
 ];
 
 const EMPTY: &[u8] = b"refused Empty 0 0 00000000\n";
-
-const USAGE: &[u8] = b"usage: omf asm, link, lib, dump, run or stress\n";
-
-/// Links an object while nothing outside fails, and says whether it ended so.
-pub(crate) fn links(
-    alloc: Global,
-    object: &[u8],
-    status: Status,
-    text: &[u8],
-    output: Option<&[u8]>,
-) -> Result<bool, Fail> {
-    let run = run(alloc, "link out obj", &[("obj", object)])?;
-    Ok(ends(&run, status, text, output))
-}
 
 #[test]
 fn plain_objects_are_linked(rt: HostRuntime) -> Result<(), Fail> {
@@ -166,65 +137,6 @@ fn the_place_that_is_asked_for_is_kept(rt: HostRuntime) -> Result<(), Fail> {
         let object = changed(alloc, &OBJECT, &[(at, 1)])?;
         let file = changed(alloc, &LOAD_FILE, &[(at, 1)])?;
         assert!(rt; links(alloc, &object, Status::Done, b"", Some(&file))?);
-    }
-    Ok(())
-}
-
-/// Whether these words, which stand with spaces between them, print the usage and read nothing.
-fn is_usage(alloc: Global, words: &str) -> Result<bool, Fail> {
-    let run = run(alloc, words, &[("obj", &OBJECT), ("s", b"")])?;
-    Ok(ends(&run, Status::Usage, USAGE, None) && run.files.asked() == 0)
-}
-
-#[test]
-fn other_words_print_the_usage(rt: HostRuntime) -> Result<(), Fail> {
-    let alloc = rt.alloc();
-    let forms = [
-        "",
-        "link",
-        "link out",
-        "Link out obj",
-        "dump",
-        "dump obj obj",
-        "Dump obj",
-        "run",
-        "run s s",
-        "Run s",
-        "link  obj",
-        "lib",
-        "lib out",
-        "Lib out obj",
-        "lib out  obj",
-        "--help",
-    ];
-    for form in forms {
-        assert!(rt; is_usage(alloc, form)?, "{form}");
-    }
-    let mut long = String::from_str(alloc, "link out ")?;
-    for _ in 0..256 {
-        long.push_str("p")?;
-    }
-    assert!(rt; is_usage(alloc, long.as_str())?);
-
-    // No words at all.
-    let none = run_list(alloc, &Vec::new(alloc), &[("obj", &OBJECT)], &[], &[])?;
-    assert!(rt; ends(&none, Status::Usage, USAGE, None));
-    assert_eq!(rt; none.files.asked(), 0);
-    Ok(())
-}
-
-// A file of one byte above the limit isn't read, whatever asks for it.
-#[test]
-fn a_file_above_the_limit_is_not_read(rt: HostRuntime) -> Result<(), Fail> {
-    let alloc = rt.alloc();
-    let long = vec![in alloc; 0; MAX_FILE + 1]?;
-    for words in ["link out obj", "dump obj", "run obj"] {
-        let run = run(alloc, words, &[("obj", &long)])?;
-        assert!(rt;
-            ends(&run, Status::CannotRead, b"cannot read obj\n", None),
-            "{words}"
-        );
-        assert_eq!(rt; (run.files.asked(), run.files.faults()), (1, 0), "{words}");
     }
     Ok(())
 }

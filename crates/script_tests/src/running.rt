@@ -1,39 +1,7 @@
 // Scripts of loader commands. Expected lines are written by hand from the rules of the loader.
-use crate::linking::{LOAD_FILE, OBJECT};
-use crate::runner::{Outcome, changed, ends, run, run_failing};
 use omf_cli::Status;
-use std::alloc::Global;
 use std::test::Fail;
-
-/// Runs a script over a store that holds it at `s` and a file at `prog`. The calls of the store and of the sink that
-/// fail are given by their numbers; the read of the script is the first call.
-pub(crate) fn run_script(
-    alloc: Global,
-    script: &[u8],
-    program: &[u8],
-    file: &[u32],
-    text: &[u32],
-) -> Result<Outcome, Fail> {
-    run_failing(
-        alloc,
-        "run s",
-        &[("s", script), ("prog", program)],
-        file,
-        text,
-    )
-}
-
-/// Runs a script while nothing outside fails, and says whether it ended so.
-pub(crate) fn says(
-    alloc: Global,
-    script: &[u8],
-    program: &[u8],
-    status: Status,
-    text: &[u8],
-) -> Result<bool, Fail> {
-    let run = run_script(alloc, script, program, &[], &[])?;
-    Ok(ends(&run, status, text, None))
-}
+use tool_runner::{LOAD_FILE, OBJECT, changed, ends, run, run_script, says};
 
 #[test]
 fn a_linked_program_is_loaded_and_shown(rt: HostRuntime) -> Result<(), Fail> {

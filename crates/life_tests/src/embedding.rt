@@ -1,10 +1,10 @@
 // The example of docs/LOADER.md, which embeds the loader. In the program of six segments the JSL at offset 4 of segment 1 calls the
 // table's one entry, which leads to the dynamic segment 3, offset 1.
-use crate::loading::program;
 use omf_io::MemoryFiles;
 use std::alloc::Global;
 use std::test::Fail;
 use sys_loader::{Entered, Loader, LoaderFault};
+use tool_runner::program;
 
 /// Runs the program at `prog`, shuts it down and restarts it: where its JSL leads, before and after.
 fn run_twice(alloc: Global, files: &mut MemoryFiles) -> Result<(Entered, Entered), LoaderFault> {

@@ -1,8 +1,8 @@
 // Libraries: `lib` from its words to the bytes at the output, what it refuses, and each status with which it ends.
-use crate::runner::{Outcome, changed, ends, run, run_failing};
 use omf_cli::Status;
 use std::alloc::Global;
 use std::test::Fail;
+use tool_runner::{Outcome, changed, ends, run, run_failing};
 
 /// An object file of one segment, A: three bytes, and five zeros.
 const OBJECT: [u8; 66] = [

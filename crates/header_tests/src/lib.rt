@@ -1,0 +1,5 @@
+//! Tests of headers.
+#![tactic(auto)]
+
+#[cfg(test)]
+mod headers;

@@ -1,0 +1,7 @@
+//! Tests of scripts that load programs and have blocks of their own, over stores and sinks in memory.
+#![tactic(auto)]
+
+#[cfg(test)]
+mod loading;
+#[cfg(test)]
+mod running;
