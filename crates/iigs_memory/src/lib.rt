@@ -12,8 +12,6 @@ mod part;
 mod search;
 mod spots;
 mod table;
-#[cfg(test)]
-mod tests;
 
 pub use banks::Banks;
 pub use iigs_handles::Handle;

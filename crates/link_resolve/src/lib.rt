@@ -19,12 +19,8 @@ mod offers;
 mod program;
 mod reading;
 mod resolving;
-#[cfg(test)]
-mod samples;
 mod segname;
 mod sizes;
-#[cfg(test)]
-mod tests;
 mod uses;
 #[cfg(test)]
 mod using_tests;

@@ -21,16 +21,6 @@ mod shape;
 mod spots;
 mod table;
 mod targets;
-#[cfg(test)]
-mod tests;
-#[cfg(test)]
-mod tests_files;
-#[cfg(test)]
-mod tests_patches;
-#[cfg(test)]
-mod tests_tables;
-#[cfg(test)]
-mod tests_written;
 mod told;
 mod written;
 mod written_data;

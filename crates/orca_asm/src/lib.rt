@@ -43,8 +43,3 @@ mod text;
 
 pub use asm_meaning::{AsmCause, AsmFault};
 pub use source::assemble;
-
-#[cfg(test)]
-mod opcode_tests;
-#[cfg(test)]
-mod tests;

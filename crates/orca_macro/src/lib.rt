@@ -19,6 +19,3 @@ mod visits;
 
 pub use expansion::expand;
 pub use macro_meaning::{MacroCause, MacroFault};
-
-#[cfg(test)]
-mod tests;

@@ -26,6 +26,3 @@ pub use operation::{is_spelled, mnemonic_of};
 pub use orca_meaning::{Form, Mnemonic, OperandUse, Operands, Prefix, Span, TextCause, TextFault};
 pub use short::{ShortFormula, short_formula};
 pub use tokens::{digit, digits_at};
-
-#[cfg(test)]
-mod tests;

@@ -20,8 +20,6 @@ mod purge;
 mod renew;
 mod restart;
 mod shutdown;
-#[cfg(test)]
-mod tests;
 mod turn;
 mod unload;
 mod user;

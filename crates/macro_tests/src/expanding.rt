@@ -1,6 +1,6 @@
 // What no clause says: that memory is enough, and what the definitions make of sources written out. The lines and faults were
 // worked out by hand.
-use crate::{MacroCause, MacroFault, expand};
+use orca_macro::{MacroCause, MacroFault, expand};
 use orca_text::Lines;
 use std::alloc::{AllocError, Global};
 use std::test::Fail;

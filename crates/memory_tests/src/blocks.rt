@@ -1,7 +1,7 @@
 ghost use Rattle.std.specs.Prelude.{◌<◌, IsTrue};
 ghost use Rattle.iigs_meaning.specs.Fits.{IsWant};
 
-use super::*;
+use iigs_memory::{Banks, BanksFault, BlockFault, Handle, PlaceFault, Want};
 use std::alloc::Global;
 use std::process::Abort;
 use std::test::Fail;

@@ -1,7 +1,7 @@
 //! What no clause says: that memory is enough, and what the definitions make of sources written out. Records
 //! and faults were worked out by hand.
 
-use crate::{AsmCause, AsmFault, assemble};
+use orca_asm::{AsmCause, AsmFault, assemble};
 use std::alloc::{AllocError, Global};
 use std::test::Fail;
 

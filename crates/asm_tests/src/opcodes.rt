@@ -1,7 +1,7 @@
 //! Each opcode of the data sheet is reached, and each mode that a mnemonic lacks is refused.
 
-use crate::AsmCause;
-use crate::tests::{gives, refuses};
+use crate::statements::{gives, refuses};
+use orca_asm::AsmCause;
 use std::alloc::{AllocError, Global};
 use std::test::Fail;
 

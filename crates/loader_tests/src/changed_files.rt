@@ -1,8 +1,8 @@
 // Dynamic segments over a file that changes. Facts and displacements are written by hand from the format.
-use super::*;
 use omf_io::MemoryFiles;
 use std::alloc::Global;
 use std::test::Fail;
+use sys_loader::{Facts, Loader, LoaderFault};
 
 /// The first segment of the program.
 const FIRST: Facts = Facts {

@@ -1,7 +1,7 @@
 //! Jump tables of load files.
 
-use crate::tests_files::{add, fault_in, put_all, read};
-use crate::{LoadCause, LoadFault, LoadFile, Target};
+use crate::files::{add, fault_in, put_all, read};
+use omf_cells::{LoadCause, LoadFault, LoadFile, Target};
 use std::alloc::Global;
 use std::test::Fail;
 

@@ -1,6 +1,6 @@
 // What no clause says: that memory is enough, and what the definitions make of source written out. The spans and forms are
 // those of an independent reader of the same source form, the values of formulas were worked out by hand.
-use crate::{
+use orca_text::{
     Form, Formula, FormulaTerm, Operand, Prefix, Span, TextCause, TextFault, read_lines,
     read_operand,
 };

@@ -5,7 +5,7 @@ ghost use Rattle.std.specs.Bool.{OnTrue};
 ghost use Rattle.load_meaning.specs.WrittenBody.{AreWritten, IsWrittenPatch};
 ghost use Rattle.omf_cells.specs.WrittenParts.{seen};
 
-use crate::{Body, BodyFault, Patch, body_of};
+use omf_cells::{Body, BodyFault, Patch, body_of};
 use std::alloc::Global;
 use std::test::Fail;
 

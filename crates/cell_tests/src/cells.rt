@@ -1,6 +1,6 @@
 // What no clause says: that the definitions are those of the field, and that memory is enough.
-use crate::tests_files::{cells, read};
-use crate::{Cell, LoadCause, LoadFault, LoadFile, read_load};
+use crate::files::{cells, read};
+use omf_cells::{Cell, LoadCause, LoadFault, LoadFile, read_load};
 use std::alloc::Global;
 use std::test::Fail;
 

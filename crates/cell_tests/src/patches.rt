@@ -1,7 +1,7 @@
 //! Patches of load files against cells, faults and bytes that were worked out apart from this code.
 
-use crate::tests_files::{add, cells, fault_in, file_of_one, patched};
-use crate::{Cell, LoadCause, LoadFault, Places, PlacesFault};
+use crate::files::{add, cells, fault_in, file_of_one, patched};
+use omf_cells::{Cell, LoadCause, LoadFault, Places, PlacesFault};
 use std::alloc::Global;
 use std::test::Fail;
 

@@ -3,8 +3,8 @@ use crate::samples::{
     ASKING, BARE, BEHIND, DATA, EQUATE_A, EQUATE_B, LIBRARY_B, LIBRARY_C, LIBRARY_D, LIBRARY_P,
     LIBRARY_Y, PLACED, USER, WEAK,
 };
-use crate::{LinkMember, Program, are_few, read_segments, resolve};
 use link_meaning::{LinkCause, LinkFault};
+use link_resolve::{LinkMember, Program, are_few, read_segments, resolve};
 use omf_base::Spot;
 use std::alloc::{AllocError, Global};
 

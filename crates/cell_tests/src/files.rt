@@ -1,6 +1,6 @@
 //! Load files for tests, put together segment by segment, and single calls over them.
 
-use crate::{Cell, LoadFault, LoadFile, Places, PlacesFault, patch_into, read_load};
+use omf_cells::{Cell, LoadFault, LoadFile, Places, PlacesFault, patch_into, read_load};
 use std::alloc::Global;
 use std::test::Fail;
 

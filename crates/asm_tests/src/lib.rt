@@ -1,0 +1,7 @@
+//! Tests of the assembler.
+#![tactic(auto)]
+
+#[cfg(test)]
+mod opcodes;
+#[cfg(test)]
+mod statements;

@@ -1,0 +1,13 @@
+//! Tests of load files as cells, and of written bodies.
+#![tactic(auto)]
+
+#[cfg(test)]
+mod cells;
+#[cfg(test)]
+mod files;
+#[cfg(test)]
+mod patches;
+#[cfg(test)]
+mod tables;
+#[cfg(test)]
+mod written;

@@ -1,0 +1,5 @@
+//! Tests of the expansion of macros.
+#![tactic(auto)]
+
+#[cfg(test)]
+mod expanding;

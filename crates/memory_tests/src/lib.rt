@@ -1,0 +1,5 @@
+//! Tests of memory of banks.
+#![tactic(auto)]
+
+#[cfg(test)]
+mod blocks;

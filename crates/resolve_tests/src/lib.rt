@@ -1,0 +1,7 @@
+//! Tests of what linking needs to know of its inputs.
+#![tactic(auto)]
+
+#[cfg(test)]
+mod resolving;
+#[cfg(test)]
+mod samples;

@@ -1,0 +1,5 @@
+//! Tests of lines and operands of assembly source.
+#![tactic(auto)]
+
+#[cfg(test)]
+mod reading;
