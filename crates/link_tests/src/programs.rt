@@ -175,6 +175,17 @@ fn programs_are_linked(rt: HostRuntime) -> Result<(), Fail> {
     Ok(())
 }
 
+/// The library of one file.
+fn library_of(alloc: Global, path: &str, object: &[u8]) -> Result<Vec<u8>, Fail> {
+    let mut words = String::from_str(alloc, "lib out ")?;
+    words.push_str(path)?;
+    let run = run(alloc, words.as_str(), &[(path, object)])?;
+    match run.files.get("out") {
+        Some(bytes) => Ok(bytes.to_vec(alloc)?),
+        None => Err(Fail::new("no library was made")),
+    }
+}
+
 /// Links files by their words, among which are `m`, which uses `X`, `a`, `b` and `c`, which have 1, 2 and 3 as `X`, and the
 /// libraries of `b` and of `c`.
 fn links_x(
@@ -186,23 +197,18 @@ fn links_x(
 ) -> Result<bool, Fail> {
     let two = changed(alloc, &X_IS_1, &[(0x38, 0x42), (0x41, 2)])?;
     let three = changed(alloc, &X_IS_1, &[(0x38, 0x43), (0x41, 3)])?;
-    let first = run(alloc, "lib out b", &[("b", &two)])?;
-    let second = run(alloc, "lib out c", &[("c", &three)])?;
-    match (first.files.get("out"), second.files.get("out")) {
-        (Some(lb), Some(lc)) => {
-            let held: [(&str, &[u8]); 6] = [
-                ("m", &USES_X),
-                ("a", &X_IS_1),
-                ("b", &two),
-                ("c", &three),
-                ("lb", lb),
-                ("lc", lc),
-            ];
-            let run = run(alloc, words, &held)?;
-            Ok(ends(&run, status, text, output))
-        }
-        _ => Ok(false),
-    }
+    let first = library_of(alloc, "b", &two)?;
+    let second = library_of(alloc, "c", &three)?;
+    let held: [(&str, &[u8]); 6] = [
+        ("m", &USES_X),
+        ("a", &X_IS_1),
+        ("b", &two),
+        ("c", &three),
+        ("lb", &first),
+        ("lc", &second),
+    ];
+    let run = run(alloc, words, &held)?;
+    Ok(ends(&run, status, text, output))
 }
 
 #[test]
