@@ -294,6 +294,16 @@ fn a_write_through_a_lent_block_changes_it_alone(rt: HostRuntime) -> Result<(), 
     Ok(())
 }
 
+// Where a block is placed in three banks.
+fn placed(rt: &(impl Alloc<A = Global> + Abort), want: &Want) -> Result<Option<u32>, Fail> {
+    let mut banks = banks_of(rt, &[0x00, 0xE1, 0x02])?;
+    assert!(rt; is_want(want));
+    match banks.place(want, 0, false, 0) {
+        Ok(h) => Ok(banks.state(h)?.at),
+        Err(_) => Ok(None),
+    }
+}
+
 // Worked out by hand for banks $00, $02 and $E1: one row a condition.
 #[test]
 fn wants_over_three_banks(rt: HostRuntime) -> Result<(), Fail> {
@@ -372,13 +382,7 @@ fn wants_over_three_banks(rt: HostRuntime) -> Result<(), Fail> {
         ),
     ];
     for (want, address) in rows {
-        let mut banks = banks_of(&rt, &[0x00, 0xE1, 0x02])?;
-        assert!(rt; is_want(&want));
-        let found = match banks.place(&want, 0, false, 0) {
-            Ok(h) => banks.state(h)?.at,
-            Err(_) => None,
-        };
-        assert_eq!(rt; found, address);
+        assert_eq!(rt; placed(&rt, &want)?, address);
     }
     Ok(())
 }
