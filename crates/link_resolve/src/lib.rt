@@ -22,8 +22,6 @@ mod resolving;
 mod segname;
 mod sizes;
 mod uses;
-#[cfg(test)]
-mod using_tests;
 mod usings;
 
 pub use checks::segments_fault;

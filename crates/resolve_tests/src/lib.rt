@@ -5,3 +5,5 @@
 mod resolving;
 #[cfg(test)]
 mod samples;
+#[cfg(test)]
+mod usings;

@@ -34,5 +34,5 @@ pub returns-in-Entry-clause-did : goal.returns-in-Entry-clause-did
 returns-in-Entry-clause-did g c =
     let made = c.enter.ensures.did in
     let activated = subst (λ (l : Loaded). DidActivate (g.F.Files.seen c.args.files.now).held l c.in-Entry.owner c.in-Entry.number made.0 c.enter.new.self
-            (g.F.Files.seen c.args.files.now).faults (g.F.Files.seen c.enter.new.files).faults) c.reach.ensures.same made.1 in
+    (g.F.Files.seen c.args.files.now).faults (g.F.Files.seen c.enter.new.files).faults) c.reach.ensures.same made.1 in
     Calls c.in-Entry.owner c.in-Entry.number c.in-Entry.offset (subst (HasReached c.args.self.now c.args.user c.args.segment c.args.at) c.in-Entry.is c.in-Ok.ensures.reached) made.0 activated made.2

@@ -1,7 +1,7 @@
 // Members that name many data segments by USING.
 use crate::samples::BARE;
-use crate::{are_few, resolve};
 use link_meaning::LinkCause;
+use link_resolve::{are_few, resolve};
 use omf_base::Spot;
 use std::alloc::{AllocError, Global};
 
