@@ -20,7 +20,13 @@ const FIRST: Facts = Facts {
 const PLACE: u32 = 0x81B;
 
 /// Appends a segment with this KIND, LENGTH and body, whose name is empty and which stays in a bank.
-fn put(out: &mut Vec<u8>, number: u8, kind: [u8; 2], length: u8, body: &[u8]) -> Result<(), Fail> {
+pub fn put(
+    out: &mut Vec<u8>,
+    number: u8,
+    kind: [u8; 2],
+    length: u8,
+    body: &[u8],
+) -> Result<(), Fail> {
     if body.len() > 200 {
         return Err(Fail::new("the body is too long"));
     }

@@ -1,5 +1,7 @@
-//! Tests of the loader over files that change.
+//! Tests of the loader over files that change, and where memory is refused.
 #![tactic(auto)]
 
 #[cfg(test)]
 mod changed_files;
+#[cfg(test)]
+mod refused_memory;
