@@ -4,7 +4,7 @@
 # make test    the gate: proves everything, tries each must-fail edit, and runs every test and example
 # make times   the gate from nothing, and what each crate costs it
 # make bench   measures the program's speed
-# make refuse  runs the examples with each allocation refused in turn
+# make refuse  runs the examples, and the loader's calls, with each allocation refused in turn
 
 .PHONY: build demo try test times bench refuse
 
@@ -36,6 +36,8 @@ bench: build
 	bench/link build/omf
 	bench/macro
 	bench/asm build/omf
+	bench/hostile build/omf
 
 refuse: build
 	tools/refuse build/omf
+	tools/refuse-calls

@@ -1,8 +1,8 @@
-// The calls of a loader that take memory. A test has all memory, so here each call succeeds; `tools/refuse` runs this test again with one
+// The calls of a loader that take memory. A test has all memory, so here each call succeeds; `tools/refuse-calls` runs this test again with one
 // allocation refused after the other. A call that is refused then changes nothing, and made again it succeeds.
 use crate::changed_files::put;
 use omf_io::MemoryFiles;
-use std::alloc::Global;
+use std::alloc::{AllocError, Global};
 use std::test::Fail;
 use sys_loader::{Info, Loader, LoaderFault};
 
@@ -103,7 +103,7 @@ fn a_refused_call_changes_nothing(rt: HostRuntime) -> Result<(), Fail> {
     let mut files = MemoryFiles::new(alloc, Vec::new(alloc));
     files.set("p", &program(alloc)?)?;
     let Ok(mut loader) = Loader::new(alloc, &[0]) else {
-        return Err(Fail::new("there is no loader"));
+        return Err(AllocError.into());
     };
 
     // The code, and behind it the table; the dynamic segment comes behind both, is entered at its second byte, and comes again where it was
