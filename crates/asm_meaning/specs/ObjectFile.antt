@@ -234,9 +234,13 @@ segments_fit (e ∷ ended) sound short =
     let rest : length (flat_map segment_text ended) < 2 ^ 31 = omega (arith, whole, length-append (segment_text e) (flat_map segment_text ended), short) in
     (record { sound = sound.0; small = size }, segments_fit ended sound.1 rest)
 
-pub object_is_file : ObjectIsFile
+-- sound segments are read again
+pub ended_are_file : (ended : List Ended) → AllByRecursion IsSoundEnded ended → length (object_text ended) ≤ most_bytes → (segments : List format.Segment) × IsFile segments (object_text ended) × AreReadAs ended segments
 unfolding object_text
-object_is_file source macros last has short =
-    let fit = segments_fit last.ended (lines_sound source macros last has).ended (omega (arith, short)) in
-    let both = are_segments 0 last.ended (flat_map segment_text last.ended) fit (record { front = []; size = refl; parts = refl }) in
-    (segments_from 0 last.ended fit, both.0, both.1)
+ended_are_file ended sound short =
+    let fit = segments_fit ended sound (omega (arith, short)) in
+    let both = are_segments 0 ended (flat_map segment_text ended) fit (record { front = []; size = refl; parts = refl }) in
+    (segments_from 0 ended fit, both.0, both.1)
+
+pub object_is_file : ObjectIsFile
+object_is_file source macros last has short = ended_are_file last.ended (lines_sound source macros last has).ended short

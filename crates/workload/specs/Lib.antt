@@ -1,0 +1,4 @@
+pub mod Store
+pub mod Rounds
+pub mod Work
+pub mod Answering
