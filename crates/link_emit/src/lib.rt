@@ -8,13 +8,9 @@ mod emitting;
 mod equates;
 mod file;
 mod fit;
-#[cfg(test)]
-mod fit_tests;
 mod image;
 mod leads;
 mod linking;
-#[cfg(test)]
-mod linking_tests;
 mod meets;
 mod plain;
 mod put;

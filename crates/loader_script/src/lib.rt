@@ -16,6 +16,3 @@ pub use laws::{scripts_are_read_in_one_way, texts_are_lines};
 pub use loader_machine::{ScriptCause, ScriptFault};
 pub use run::{ScriptEnd, run_script};
 pub use script::{Script, read_script};
-
-#[cfg(test)]
-mod tests;

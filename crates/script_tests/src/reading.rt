@@ -1,5 +1,5 @@
 // What no clause says: that memory is enough, and what the definitions make of scripts written out.
-use crate::{Command, ScriptCause, ScriptFault, read_script};
+use loader_script::{Command, ScriptCause, ScriptFault, read_script};
 use std::alloc::{AllocError, Global};
 use std::test::Fail;
 
