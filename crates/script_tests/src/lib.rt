@@ -1,4 +1,4 @@
-//! Tests of scripts that load programs and have blocks of their own, over stores and sinks in memory.
+//! Tests of how scripts are read, and of scripts that load programs and have blocks of their own, over stores and sinks in memory.
 #![tactic(auto)]
 
 #[cfg(test)]
