@@ -1,13 +1,10 @@
 -- What is kept of the segments beside their headers.
-use Rattle.std.proofs.Common.{◌≡◌, ℕ, zero, suc, ◌+◌, ◌<◌, ◌≤◌, List, [], ◌∷◌, ◌++◌, length, map, take, drop, get_or, All, Option, Some, None, refl, sym, ap, subst, ◌∙◌, arith}
-use Rattle.std.specs.Prelude.{slice_get, option_map}
+use Rattle.std.proofs.Common.{◌≡◌, ℕ, zero, suc, ◌+◌, ◌<◌, ◌≤◌, true, false, eqb, List, [], ◌∷◌, ◌++◌, length, map, take, drop, get_or, Option, Some, None, refl, sym, ap, subst, ◌∙◌, arith, inl, inr}
+use Rattle.std.specs.Prelude.{slice_get, option_map, if◌then◌else◌}
 use Rattle.std.specs.List.{flat_map, AllByRecursion}
 use Rattle.std.specs.Option.{option_or}
-use Rattle.std.specs.List.Sorted.{IsPermutation, IsNonDecreasingBy, IsStableByKey}
-use Rattle.std.specs.Ordering.{nat_cmp}
+use Rattle.std.proofs.lemmas.Bool.{cases_Bool, eqb-true, eq-eqb}
 use Rattle.std.proofs.lemmas.List.Concat.{flat_map-cons}
-use Rattle.std.proofs.lemmas.List.Elements.{All-nil, All-cons}
-use Rattle.std.proofs.lemmas.List.Sorted.{All-permutation}
 use Rattle.load_meaning.specs.declared.load.LoadFault.{LoadFault}
 use Rattle.omf_format.specs.Record.{Record}
 use Rattle.omf_format.specs.File.{Segment}
@@ -19,8 +16,7 @@ use Rattle.omf_records.specs.Segments.{shown}
 use Rattle.omf_cells.specs.declared.spots.Spot.{Spot}
 use Rattle.omf_cells.specs.declared.targets.Content.{Content}
 use Rattle.omf_cells.specs.Walk.{patches_from}
-use Rattle.omf_cells.specs.Content.{spread_from, spread, spread_all, last_at, offset_of, shown_spot, AreSpots, IsContent, AreContents}
-use Rattle.omf_cells.proofs.SpotLists.{last_at-stable}
+use Rattle.omf_cells.specs.Content.{spread_from, spread, spread_all, last_at, shown_spots, AreBelow, AreRising, AreSpots, IsContent, AreContents}
 use Rattle.omf_cells.proofs.LoadViews.{found_from, found_from-next, Passed}
 
 -- ---- the patches of a segment
@@ -38,37 +34,76 @@ patch_list-from s = list_from s s.records
 
 -- ---- spots
 
-abbrev Below : ℕ → ℕ × Cell → Type 0
-Below size found = found.0 < size
-
-spread-below : (p : Patch) (size n at index : ℕ) → at + n ≤ size → AllByRecursion (Below size) (spread_from p at index n)
+spread-below : (p : Patch) (size n at index : ℕ) → at + n ≤ size → AreBelow size (spread_from p at index n)
 spread-below p size zero at index le = tt
 spread-below p size (suc n) at index le = (omega (arith, le), spread-below p size n (at + 1) (index + 1) (omega (arith, le)))
 
-both-below : (size : ℕ) (xs ys : List (ℕ × Cell)) → AllByRecursion (Below size) xs → AllByRecursion (Below size) ys → AllByRecursion (Below size) (xs ++ ys)
+both-below : (size : ℕ) (xs ys : List (ℕ × Cell)) → AreBelow size xs → AreBelow size ys → AreBelow size (xs ++ ys)
 both-below size [] ys x y = y
 both-below size (found ∷ xs) ys x y = (x.0, both-below size xs ys x.1 y)
 
-all-below : (segments : List Segment) (s : Segment) (patches : List Patch) → AllByRecursion (IsPatch segments s) patches → AllByRecursion (Below s.fields.length) (spread_all patches)
+pub parts-below : (size : ℕ) (xs ys : List (ℕ × Cell)) → AreBelow size (xs ++ ys) → AreBelow size xs × AreBelow size ys
+parts-below size [] ys all = (tt, all)
+parts-below size (found ∷ xs) ys all = let rest = parts-below size xs ys all.1 in ((all.0, rest.0), rest.1)
+
+pub all-below : (segments : List Segment) (s : Segment) (patches : List Patch) → AllByRecursion (IsPatch segments s) patches → AreBelow s.fields.length (spread_all patches)
 all-below segments s [] sound = tt
 all-below segments s (p ∷ patches) sound =
     both-below s.fields.length (spread p) (spread_all patches) (spread-below p s.fields.length p.count p.location 0 sound.0.inside) (all-below segments s patches sound.1)
 
-spots-below : (size : ℕ) (spots : List Spot) → AllByRecursion (Below size) (map shown_spot spots) → All (λ (s : Spot). s.at < size) spots
-spots-below size [] all = All-nil (λ (s : Spot). s.at < size)
-spots-below size (s ∷ spots) all = All-cons (λ (t : Spot). t.at < size) s spots all.0 (spots-below size spots all.1)
+more-below : (size more : ℕ) (founds : List (ℕ × Cell)) → size ≤ more → AreBelow size founds → AreBelow more founds
+more-below size more [] le all = tt
+more-below size more (found ∷ founds) le all = (omega (arith, le, all.0), more-below size more founds le all.1)
 
--- the spots of a segment's patches, sorted by their offsets
-pub sorted_spots : (segments : List Segment) (number : ℕ) (s : Segment) (spots sorted : List Spot) → target_fault segments number s ≡ None → map shown_spot spots ≡ spread_all (patches_from s s.records)
-    → IsPermutation spots sorted → IsNonDecreasingBy offset_of sorted → IsStableByKey offset_of nat_cmp spots sorted → AreSpots s.fields.length (patch_list s) sorted
-sorted_spots segments number s spots sorted none is moved rise stable =
-    let all : map shown_spot spots ≡ spread_all (patch_list s) = is ∙ ap spread_all (sym (patch_list-from s)) in
-    let below = all-below segments s (patch_list s) (sound_patches segments number s none) in
-    record {
-      rise = rise;
-      inside = All-permutation (λ (t : Spot). t.at < s.fields.length) spots sorted moved (spots-below s.fields.length spots (subst (AllByRecursion (Below s.fields.length)) (sym all) below));
-      last = λ k. last_at-stable spots sorted k stable ∙ ap (λ l. last_at l k) all;
-    }
+-- what a segment's patches give lies below LENGTH
+pub patches-below : (segments : List Segment) (number most : ℕ) (s : Segment) (spots : List Spot) → target_fault segments number s ≡ None → s.fields.length ≤ most
+    → shown_spots spots ≡ spread_all (patches_from s s.records) → AreBelow most (shown_spots spots)
+patches-below segments number most s spots none le is =
+    let all : shown_spots spots ≡ spread_all (patch_list s) = is ∙ ap spread_all (sym (patch_list-from s)) in
+    more-below s.fields.length most (shown_spots spots) le (subst (AreBelow s.fields.length) (sym all) (all-below segments s (patch_list s) (sound_patches segments number s none)))
+
+-- the spots of a segment's patches in the order of their offsets
+pub ordered_spots : (s : Segment) (spots sorted : List Spot) → shown_spots spots ≡ spread_all (patches_from s s.records) → AreRising sorted
+    → ((k : ℕ) → last_at (shown_spots sorted) k ≡ last_at (shown_spots spots) k) → AreSpots (patch_list s) sorted
+ordered_spots s spots sorted is rise last =
+    let all : shown_spots spots ≡ spread_all (patch_list s) = is ∙ ap spread_all (sym (patch_list-from s)) in
+    record { rise = rise; last = λ k. last k ∙ ap (λ l. last_at l k) all }
+
+-- ---- cells by what stands at an offset
+
+nothing : (found : ℕ × Cell) (k : ℕ) (cell : Cell) → eqb found.0 k ≡ false → (if eqb found.0 k then Some found.1 else None) ≡ Some cell → ⊥
+nothing found k cell apart e = let none : (if eqb found.0 k then Some found.1 else None) ≡ None = rw apart refl in absurd cc
+
+below_at : (size : ℕ) (founds : List (ℕ × Cell)) (k : ℕ) (cell : Cell) → AreBelow size founds → last_at founds k ≡ Some cell → k < size
+below_at size [] k cell all is = absurd cc
+below_at size (found ∷ founds) k cell all is = by_rest (last_at founds k) (λ other e. below_at size founds k other all.1 e) is
+  where
+    by_rest : (o : Option Cell) → ((other : Cell) → o ≡ Some other → k < size) → option_or o (if eqb found.0 k then Some found.1 else None) ≡ Some cell → k < size
+    by_rest (Some other) rest e = rest other refl
+    by_rest None rest e = elim (cases_Bool (eqb found.0 k)) [
+      | inl here ↦ omega (arith, eqb-true found.0 k here, all.0)
+      | inr apart ↦ absurd (nothing found k cell apart e)
+    ]
+
+some_here : (found : ℕ × Cell) (founds : List (ℕ × Cell)) → (cell : Cell) × (last_at (found ∷ founds) found.0 ≡ Some cell)
+some_here found founds = by_rest (last_at founds found.0)
+  where
+    by_rest : (o : Option Cell) → (cell : Cell) × (option_or o (if eqb found.0 found.0 then Some found.1 else None) ≡ Some cell)
+    by_rest (Some other) = (other, refl)
+    by_rest None = (found.1, rw (eq-eqb found.0 found.0 refl) refl)
+
+-- cells that stand below an offset, as what stands at each offset says
+pub below_by_last : (size : ℕ) (founds : List (ℕ × Cell)) → ((k : ℕ) (cell : Cell) → last_at founds k ≡ Some cell → k < size) → AreBelow size founds
+below_by_last size [] below = tt
+below_by_last size (found ∷ founds) below =
+    let here = some_here found founds in (
+      below found.0 here.0 here.1,
+      below_by_last size founds (λ k cell is. below k cell (ap (λ o. option_or o (if eqb found.0 k then Some found.1 else None)) is)),
+    )
+
+pub spots-below : (segments : List Segment) (s : Segment) (patches : List Patch) (spots : List Spot) → AllByRecursion (IsPatch segments s) patches → AreSpots patches spots → AreBelow s.fields.length (shown_spots spots)
+spots-below segments s patches spots sound are =
+    below_by_last s.fields.length (shown_spots spots) (λ k cell is. below_at s.fields.length (spread_all patches) k cell (all-below segments s patches sound) (sym (are.last k) ∙ is))
 
 -- ---- contents
 

@@ -5,7 +5,7 @@ use Rattle.std.specs.List.{list_any}
 use Rattle.std.specs.Option.{option_or, option_map_or}
 use Rattle.std.proofs.lemmas.Bool.{cases_Bool, eqb-true, eqb-false}
 use Rattle.std.proofs.lemmas.List.{length-map}
-use Rattle.std.proofs.lemmas.List.Elements.{All-get_or, All-head, All-tail}
+use Rattle.std.proofs.lemmas.List.Elements.{All-get_or}
 use Rattle.std.proofs.lemmas.Option.{slice_get_within, slice_get_past, get_or_from_slice_get, slice_get-map}
 use Rattle.omf_format.specs.Reading.{Reader, records_of}
 use Rattle.omf_format.specs.File.{Segment, body_reader, segment_at}
@@ -19,16 +19,15 @@ use Rattle.load_meaning.specs.LoadTableLaws.{length-targets_from, get-targets_fr
 use Rattle.load_meaning.specs.Loadable.{patch_list, IsSoundSegment}
 use Rattle.omf_records.specs.declared.segment.SegmentView.{SegmentView}
 use Rattle.omf_records.specs.Segments.{placed, shown}
-use Rattle.omf_cells.specs.declared.spots.Spot.{Spot}
 use Rattle.omf_cells.specs.declared.targets.Content.{Content}
 use Rattle.omf_cells.specs.Walk.{content, gives_patch}
-use Rattle.omf_cells.specs.Content.{spread_all, last_at, part_of, shown_spot, with_spots}
+use Rattle.omf_cells.specs.Content.{spread_all, last_at, shown_spots, AreBelow, with_cells}
 use Rattle.omf_cells.specs.Places.{address_in, Stands}
 use Rattle.omf_cells.specs.Load.{IsLoadView, AreLoadViews, Shows, ShowsContent, IsOutside, HasLength, HasPatches, HasBytes, table_targets}
 use Rattle.omf_cells.proofs.PatchRuns.{has_some, has_none}
 use Rattle.omf_cells.proofs.ShownBytes.{body_content, bytes-shown}
-use Rattle.omf_cells.proofs.SpotLists.{last_over-spread}
-use Rattle.omf_cells.proofs.Contents.{contents_at}
+use Rattle.omf_cells.proofs.SpotLists.{last_over-spread, length-slice_set}
+use Rattle.omf_cells.proofs.Contents.{contents_at, spots-below}
 
 -- ---- the segments by their numbers
 
@@ -88,13 +87,13 @@ cell_past segments number k v is past =
     cell_at-shown segments number k v is ∙ slice_get_past (cells (shown v)) k (omega (arith, length-cells segments number (shown v) is.sound))
 
 -- a cell of a patch
-pub cell_part : (segments : List Segment) (number k : ℕ) (v : SegmentView) (content : Content) (cell : Cell) → ShowsContent segments number v content → last_at (map shown_spot content.spots.items) k ≡ Some cell → cell_at segments number k ≡ Some cell
+pub cell_part : (segments : List Segment) (number k : ℕ) (v : SegmentView) (content : Content) (cell : Cell) → ShowsContent segments number v content → last_at (shown_spots content.spots.items) k ≡ Some cell → cell_at segments number k ≡ Some cell
 cell_part segments number k v content cell is found =
     cell_at-shown segments number k v is.shows ∙ cell_of segments number (shown v) k is.shows.sound
     ∙ ap (λ o. option_or o (slice_get (map Byte (segment_bytes (shown v))) k)) (sym (is.content'.spots.last k) ∙ found)
 
 -- a byte of the data
-pub cell_byte : (segments : List Segment) (number k : ℕ) (v : SegmentView) (content : Content) (b : ℕ) → ShowsContent segments number v content → last_at (map shown_spot content.spots.items) k ≡ None
+pub cell_byte : (segments : List Segment) (number k : ℕ) (v : SegmentView) (content : Content) (b : ℕ) → ShowsContent segments number v content → last_at (shown_spots content.spots.items) k ≡ None
     → slice_get (segment_bytes (shown v)) k ≡ Some b → cell_at segments number k ≡ Some (Byte b)
 cell_byte segments number k v content b is none found =
     cell_at-shown segments number k v is.shows ∙ cell_of segments number (shown v) k is.shows.sound
@@ -108,11 +107,6 @@ abbrev over_byte : (ℕ → ℕ) → Option Cell → Option ℕ → Option ℕ
 over_byte places None o = o
 over_byte places (Some cell) o = Some (byte_of places cell)
 
-length-slice_set : (bytes : List ℕ) (i x : ℕ) → length (slice_set bytes i x) ≡ length bytes
-length-slice_set [] i x = refl
-length-slice_set (b ∷ bytes) zero x = refl
-length-slice_set (b ∷ bytes) (suc i) x = ap suc (length-slice_set bytes i x)
-
 get-set_here : (bytes : List ℕ) (i x : ℕ) → i < length bytes → slice_get (slice_set bytes i x) i ≡ Some x
 get-set_here [] i x lt = absurd (omega arith)
 get-set_here (b ∷ bytes) zero x lt = refl
@@ -125,36 +119,39 @@ get-set_else (b ∷ bytes) zero x (suc k) apart = refl
 get-set_else (b ∷ bytes) (suc i) x zero apart = refl
 get-set_else (b ∷ bytes) (suc i) x (suc k) apart = get-set_else bytes i x k (λ e. apart (ap suc e))
 
--- a spot written, and then the others over it
-over_spot : (places : ℕ → ℕ) (s : Spot) (bytes : List ℕ) (k : ℕ) (rest : Option Cell) → s.at < length bytes
-    → over_byte places rest (slice_get (slice_set bytes s.at (byte_of places (part_of s))) k) ≡ over_byte places (option_or rest (if eqb s.at k then Some (part_of s) else None)) (slice_get bytes k)
-over_spot places s bytes k (Some cell) lt = refl
-over_spot places s bytes k None lt = elim (cases_Bool (eqb s.at k)) [
+-- a cell written, and then the others over it
+over_cell : (places : ℕ → ℕ) (found : ℕ × Cell) (bytes : List ℕ) (k : ℕ) (rest : Option Cell) → found.0 < length bytes
+    → over_byte places rest (slice_get (slice_set bytes found.0 (byte_of places found.1)) k) ≡ over_byte places (option_or rest (if eqb found.0 k then Some found.1 else None)) (slice_get bytes k)
+over_cell places found bytes k (Some cell) lt = refl
+over_cell places found bytes k None lt = elim (cases_Bool (eqb found.0 k)) [
   | inl here ↦
-      let same : k ≡ s.at = sym (eqb-true s.at k here) in
-      ap (slice_get (slice_set bytes s.at (byte_of places (part_of s)))) same ∙ get-set_here bytes s.at (byte_of places (part_of s)) lt ∙ sym (rw here refl)
-  | inr apart ↦ get-set_else bytes s.at (byte_of places (part_of s)) k (eqb-false s.at k apart) ∙ sym (rw apart refl)
+      let same : k ≡ found.0 = sym (eqb-true found.0 k here) in
+      ap (slice_get (slice_set bytes found.0 (byte_of places found.1))) same ∙ get-set_here bytes found.0 (byte_of places found.1) lt ∙ sym (rw here refl)
+  | inr apart ↦ get-set_else bytes found.0 (byte_of places found.1) k (eqb-false found.0 k apart) ∙ sym (rw apart refl)
 ]
 
--- what stands at an offset when the spots were written
-pub get-with_spots : (places : ℕ → ℕ) (spots : List Spot) (bytes : List ℕ) (k : ℕ) → All (λ (s : Spot). s.at < length bytes) spots
-    → slice_get (with_spots places spots bytes) k ≡ over_byte places (last_at (map shown_spot spots) k) (slice_get bytes k)
-get-with_spots places [] bytes k inside = refl
-get-with_spots places (s ∷ spots) bytes k inside =
-    let next = slice_set bytes s.at (byte_of places (part_of s)) in
-    let size : length next ≡ length bytes = length-slice_set bytes s.at (byte_of places (part_of s)) in
-    let rest = All-tail (λ (t : Spot). t.at < length bytes) s spots inside in
-    get-with_spots places spots next k (subst (λ (n : ℕ). All (λ (t : Spot). t.at < n) spots) (sym size) rest)
-    ∙ over_spot places s bytes k (last_at (map shown_spot spots) k) (All-head (λ (t : Spot). t.at < length bytes) s spots inside)
+-- what stands at an offset when the cells were written
+get-with_cells : (places : ℕ → ℕ) (founds : List (ℕ × Cell)) (bytes : List ℕ) (k : ℕ) → AreBelow (length bytes) founds
+    → slice_get (with_cells places founds bytes) k ≡ over_byte places (last_at founds k) (slice_get bytes k)
+get-with_cells places [] bytes k below = refl
+get-with_cells places (found ∷ founds) bytes k below =
+    let next = slice_set bytes found.0 (byte_of places found.1) in
+    let size : length next ≡ length bytes = length-slice_set bytes found.0 (byte_of places found.1) in
+    get-with_cells places founds next k (subst (λ (n : ℕ). AreBelow n founds) (sym size) below.1)
+    ∙ over_cell places found bytes k (last_at founds k) below.0
 
 over_byte-map : (places : ℕ → ℕ) (o : Option Cell) (b : Option ℕ) → over_byte places o b ≡ option_map (byte_of places) (option_or o (option_map Byte b))
 over_byte-map places None None = refl
 over_byte-map places None (Some b) = refl
 over_byte-map places (Some cell) b = refl
 
+-- the spots lie below LENGTH
+pub shown_below : (segments : List Segment) (number : ℕ) (v : SegmentView) (content : Content) → ShowsContent segments number v content → AreBelow v.header.length (shown_spots content.spots.items)
+shown_below segments number v content is = spots-below segments (shown v) (patch_list (shown v)) content.spots.items is.shows.sound.patches is.content'.spots
+
 -- the data with the spots over it is what stands in memory
 pub stands-spots : (segments : List Segment) (number : ℕ) (v : SegmentView) (content : Content) (places : ℕ → ℕ) (bytes out : List ℕ) → ShowsContent segments number v content
-    → bytes ≡ segment_bytes (shown v) → out ≡ with_spots places content.spots.items bytes → out ≡ stands places (shown v)
+    → bytes ≡ segment_bytes (shown v) → out ≡ with_cells places (shown_spots content.spots.items) bytes → out ≡ stands places (shown v)
 stands-spots segments number v content places bytes out is data_is out_is = same_list out (stands places (shown v)) at
   where
     size : length bytes ≡ v.header.length
@@ -163,8 +160,8 @@ stands-spots segments number v content places bytes out is data_is out_is = same
     at : (k : ℕ) → slice_get out k ≡ slice_get (stands places (shown v)) k
     at k =
         ap (λ (l : List ℕ). slice_get l k) out_is
-        ∙ get-with_spots places content.spots.items bytes k (subst (λ (n : ℕ). All (λ (t : Spot). t.at < n) content.spots.items) (sym size) is.content'.spots.inside)
-        ∙ over_byte-map places (last_at (map shown_spot content.spots.items) k) (slice_get bytes k)
+        ∙ get-with_cells places (shown_spots content.spots.items) bytes k (subst (λ (n : ℕ). AreBelow n (shown_spots content.spots.items)) (sym size) (shown_below segments number v content is))
+        ∙ over_byte-map places (last_at (shown_spots content.spots.items) k) (slice_get bytes k)
         ∙ ap (λ o. option_map (byte_of places) (option_or o (option_map Byte (slice_get bytes k)))) (is.content'.spots.last k)
         ∙ ap (λ o. option_map (byte_of places) (option_or (last_at (spread_all (patch_list (shown v))) k) o)) (ap (λ (l : List ℕ). option_map Byte (slice_get l k)) data_is ∙ sym (slice_get-map Byte (segment_bytes (shown v)) k))
         ∙ ap (option_map (byte_of places)) (sym (cell_of segments number (shown v) k is.shows.sound))

@@ -1,7 +1,8 @@
 -- What is kept of a segment beside its header: where its bytes stand in the file, and which of them patches give. No public
 -- clause cites this module.
-use Rattle.std.specs.Prelude.{◌≡◌, ◌⊎◌, ℕ, zero, suc, ◌+◌, ◌-◌, ◌<◌, ◌≤◌, ◌^◌, ◌==◌, nat_le, ◌||◌, if◌then◌else◌, List, [], ◌∷◌, ◌++◌, length, replicate, map, slice_get, slice_index, slice_set, All, Option, Some, None}
+use Rattle.std.specs.Prelude.{◌≡◌, ◌⊎◌, ℕ, zero, suc, ◌+◌, ◌-◌, ◌<◌, ◌≤◌, ◌^◌, ◌==◌, nat_le, ◌||◌, if◌then◌else◌, List, [], ◌∷◌, ◌++◌, length, replicate, map, slice_get, slice_index, slice_set, Option, Some, None}
 use Rattle.std.specs.Option.{option_or}
+use Rattle.std.specs.List.{AllByRecursion}
 use Rattle.std.specs.List.Sorted.{IsNonDecreasingBy}
 use Rattle.omf_format.specs.File.{Segment}
 use Rattle.omf_format.specs.Number.{number_at}
@@ -96,31 +97,65 @@ super_segment s form at =
 abbrev pub offset_of : Spot → ℕ
 offset_of s = s.at
 
--- the cell that a spot gives
+-- where it ends
+abbrev pub end_of : Spot → ℕ
+end_of s = s.at + (s.end - s.first)
+
+-- the cell that its first byte gives
 abbrev pub part_of : Spot → Cell
-part_of s = Part 1 s.segment s.offset s.shift s.index
+part_of s = Part 1 s.segment s.offset s.shift s.first
 
--- and its offset
-abbrev pub shown_spot : Spot → ℕ × Cell
-shown_spot s = (s.at, part_of s)
+-- the patch that has its bytes
+abbrev pub spot_patch : Spot → Patch
+spot_patch s = record { location = s.at; count = s.end; file = 1; segment = s.segment; offset = s.offset; shift = s.shift }
 
--- the spots stand in the order of their offsets, below LENGTH, and at each offset the last is that of the patches
-pub record AreSpots (size : ℕ) (patches : List Patch) (spots : List Spot) : Type 0 where
-  pub rise : IsNonDecreasingBy offset_of spots
-  pub inside : All (λ (s : Spot). s.at < size) spots
-  pub last : (k : ℕ) → last_at (map shown_spot spots) k ≡ last_at (spread_all patches) k
+-- the cells that it gives, each with its offset
+abbrev pub spread_spot : Spot → List (ℕ × Cell)
+spread_spot s = spread_from (spot_patch s) s.at s.first (s.end - s.first)
 
--- the bytes with those that the spots stand for written over them, in order
-abbrev pub with_spots : (ℕ → ℕ) → List Spot → List ℕ → List ℕ
-with_spots places [] bytes = bytes
-with_spots places (s ∷ spots) bytes = with_spots places spots (slice_set bytes s.at (byte_of places (part_of s)))
+-- those of each spot, in order
+abbrev pub shown_spots : List Spot → List (ℕ × Cell)
+shown_spots [] = []
+shown_spots (s ∷ spots) = spread_spot s ++ shown_spots spots
+
+-- the cells lie below an offset
+abbrev pub AreBelow : ℕ → List (ℕ × Cell) → Type 0
+AreBelow size founds = AllByRecursion (λ found. found.0 < size) founds
+
+-- each spot ends where a later one begins, or before it
+abbrev pub AreApart : List Spot → Type 0
+AreApart spots = (i j : ℕ) (s t : Spot) → i < j → slice_get spots i ≡ Some s → slice_get spots j ≡ Some t → end_of s ≤ t.at
+
+-- no spot begins or ends before an earlier one does
+pub record AreRising (spots : List Spot) : Type 0 where
+  pub starts : IsNonDecreasingBy offset_of spots
+  pub ends : (i j : ℕ) (s t : Spot) → i < j → slice_get spots i ≡ Some s → slice_get spots j ≡ Some t → end_of s ≤ end_of t
+
+-- a spot of one byte
+abbrev pub IsSingle : Spot → Type 0
+IsSingle s = s.end ≡ suc s.first
+
+-- spots of one byte, which give these cells, were put behind the old ones
+pub record IsCut (old : List Spot) (founds : List (ℕ × Cell)) (new : List Spot) : Type 0 where
+  pub shown' : shown_spots new ≡ shown_spots old ++ founds
+  pub single : AllByRecursion IsSingle old → AllByRecursion IsSingle new
+
+-- no spot begins or ends before an earlier one, and at each offset the last is that of the patches
+pub record AreSpots (patches : List Patch) (spots : List Spot) : Type 0 where
+  pub rise : AreRising spots
+  pub last : (k : ℕ) → last_at (shown_spots spots) k ≡ last_at (spread_all patches) k
+
+-- the bytes with those that the cells stand for written over them, in order
+abbrev pub with_cells : (ℕ → ℕ) → List (ℕ × Cell) → List ℕ → List ℕ
+with_cells places [] bytes = bytes
+with_cells places (found ∷ founds) bytes = with_cells places founds (slice_set bytes found.0 (byte_of places found.1))
 
 -- ---- contents
 
 -- what is kept of a segment that a view shows
 pub record IsContent (v : SegmentView) (content : Content) : Type 0 where
   pub pieces : HasPieces v content.pieces.items
-  pub spots : AreSpots v.header.length (patch_list (shown v)) content.spots.items
+  pub spots : AreSpots (patch_list (shown v)) content.spots.items
 
 -- each view has its content
 abbrev pub AreContents : List SegmentView → List Content → Type 0

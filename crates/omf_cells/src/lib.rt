@@ -11,6 +11,7 @@ mod data;
 mod front;
 mod laws;
 mod load;
+mod order;
 mod pages;
 mod patches;
 mod pieces;

@@ -105,7 +105,7 @@ impl<'a> LoadFile<'a> {
                 segment: spot.segment,
                 offset: spot.offset,
                 shift: spot.shift,
-                index: spot.index,
+                index: spot.first,
             }),
             None => Some(Cell::Byte(byte_at(&content.pieces, at))),
         }

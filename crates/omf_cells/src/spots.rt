@@ -1,10 +1,9 @@
 //! The bytes of a segment that patches give.
 
-ghost use Rattle.std.specs.Prelude.{◌≡◌, ◌+◌, ◌<◌, ◌≤◌, ◌/◌, ◌%◌, ◌^◌, ◌++◌, map, length, nat_lt, All, OnOk, option_map};
+ghost use Rattle.std.specs.Prelude.{◌≡◌, ◌+◌, ◌-◌, ◌<◌, ◌≤◌, ◌/◌, ◌%◌, ◌^◌, ◌++◌, length, nat_lt, OnOk, option_map};
 ghost use Rattle.std.specs.List.Sorted.{IsNonDecreasingBy};
-ghost use Rattle.load_meaning.specs.Cells.{byte_of};
-ghost use Rattle.omf_format.specs.Value.{shifted};
-ghost use Rattle.omf_cells.specs.Content.{IsSplit, patch_of, spread, offset_of, part_of, shown_spot, last_at, with_spots};
+ghost use Rattle.omf_format.specs.Value.{wrapped, shifted};
+ghost use Rattle.omf_cells.specs.Content.{IsSplit, patch_of, spread, offset_of, part_of, spread_spot, shown_spots, last_at, AreBelow, AreRising, with_cells};
 ghost use Rattle.omf_cells.specs.Places.{address_in};
 
 use crate::places::Places;
@@ -21,15 +20,18 @@ pub struct Relocation {
     pub shift: i8,
 }
 
-/// A byte of a segment that a patch gives: byte `index` of the place in a segment of the same file.
+/// Bytes of a segment that a patch gives: some, one after another, of the place in a segment of the same file.
 #[derive(Clone, Copy, Debug)]
 pub struct Spot {
-    /// Its offset in the segment.
+    /// The offset of the first one in the segment.
     pub at: u32,
     pub offset: u32,
     pub segment: u16,
     pub shift: i8,
-    pub index: u8,
+    /// Which byte of the place the first one is.
+    pub first: u8,
+    /// The byte of the place behind the last one.
+    pub end: u8,
 }
 
 /// Whether a patch of so many bytes reaches past LENGTH.
@@ -41,27 +43,31 @@ pub fn is_outside(location: u64, count: u8, length: u32) -> bool
 }
 
 /// Adds the bytes that a patch gives.
-pub fn add_spots(spots: &mut Vec<Spot>, patch: &Relocation) -> Result<(), AllocError>
+pub fn add_spot(spots: &mut Vec<Spot>, patch: &Relocation) -> Result<(), AllocError>
     requires file { patch.now.file ≡ 1 }
-    requires short { patch.now.location + patch.now.count < 2 ^ 32 }
-    ensures { OnOk result (map shown_spot spots.new.items ≡ map shown_spot spots.old.items ++ spread (patch_of patch.now)) }
+    requires short { patch.now.location < 2 ^ 32 }
+    ensures { OnOk result (shown_spots spots.new.items ≡ shown_spots spots.old.items ++ spread (patch_of patch.now)) }
 {
-    spots.reserve(patch.count as usize)?;
-    let mut index = 0;
-    'bytes: while index < patch.count {
-        spots.push_reserved(Spot {
-            at: patch.location as u32 + u32::from(index),
-            offset: patch.offset,
-            segment: patch.segment,
-            shift: patch.shift,
-            index,
-        });
-        index += 1;
-    }
+    spots.push(Spot {
+        at: patch.location as u32,
+        offset: patch.offset,
+        segment: patch.segment,
+        shift: patch.shift,
+        first: 0,
+        end: patch.count,
+    })?;
     Ok(())
 }
 
-/// How many spots lie at most at this offset.
+/// How many bytes a spot has.
+pub fn size_of(spot: &Spot) -> u8
+    ensures value { result ≡ spot.now.end - spot.now.first }
+    ensures small { spot.now.first + result < 2 ^ 8 }
+{
+    spot.end.saturating_sub(spot.first)
+}
+
+/// How many spots begin at most at this offset.
 fn count_up_to(spots: &[Spot], at: u32) -> usize
     requires { IsNonDecreasingBy offset_of spots.now }
     ensures split { IsSplit offset_of spots.now at result }
@@ -70,17 +76,26 @@ fn count_up_to(spots: &[Spot], at: u32) -> usize
     spots.partition_point(|spot| spot.at <= at)
 }
 
-/// The spot at an offset, and the last where there are several.
+/// The byte at an offset that a spot gives, and that of the last where several do.
 pub fn spot_at(spots: &[Spot], at: u32) -> Option<Spot>
-    requires { IsNonDecreasingBy offset_of spots.now }
-    ensures { option_map part_of result ≡ last_at (map shown_spot spots.now) at }
+    requires { AreRising spots.now }
+    ensures { option_map part_of result ≡ last_at (shown_spots spots.now) at }
 {
     let count = count_up_to(spots, at);
     if count == 0 {
         return None;
     }
     let spot = spots[count - 1];
-    if spot.at == at { Some(spot) } else { None }
+    let passed = at - spot.at;
+    if passed < u32::from(size_of(&spot)) {
+        Some(Spot {
+            at,
+            first: spot.first + passed as u8,
+            ..spot
+        })
+    } else {
+        None
+    }
 }
 
 /// The bits shifted left by so many, or right where the count is negative, with zeros coming in.
@@ -111,26 +126,38 @@ fn number_byte(number: u32, index: u8) -> u8
     byte as u8
 }
 
-/// The byte that a spot stands for, where the segments lie at these addresses.
-fn spot_byte(spot: &Spot, places: &Places) -> u8
-    ensures { result ≡ byte_of (address_in places.now) (part_of spot.now) }
+/// The number that a spot has bytes of, where the segments lie at these addresses.
+fn number_of(spot: &Spot, places: &Places) -> u32
+    ensures { result ≡ shifted (wrapped (address_in places.now spot.now.segment + spot.now.offset)) spot.now.shift }
 {
     let address = match places.get(u32::from(spot.segment)) {
         Some(address) => address,
         None => 0,
     };
-    number_byte(
-        shifted(address.wrapping_add(spot.offset), spot.shift),
-        spot.index,
-    )
+    shifted(address.wrapping_add(spot.offset), spot.shift)
+}
+
+/// Writes the bytes that a spot stands for.
+fn write_spot(spot: &Spot, places: &Places, out: &mut [u8])
+    requires { AreBelow (length out.old) (spread_spot spot.now) }
+    ensures { out.new ≡ with_cells (address_in places.now) (spread_spot spot.now) out.old }
+{
+    let number = number_of(spot, places);
+    let mut at = spot.at as usize;
+    let mut index = spot.first;
+    'bytes: while index < spot.end {
+        out[at] = number_byte(number, index);
+        at += 1;
+        index += 1;
+    }
 }
 
 /// Writes the bytes that the spots stand for, in order.
 pub fn write_spots(spots: &[Spot], places: &Places, out: &mut [u8])
-    requires { All (λ spot. spot.at < length out.old) spots.now }
-    ensures { out.new ≡ with_spots (address_in places.now) spots.now out.old }
+    requires { AreBelow (length out.old) (shown_spots spots.now) }
+    ensures { out.new ≡ with_cells (address_in places.now) (shown_spots spots.now) out.old }
 {
     'spots: for spot in spots {
-        out[spot.at as usize] = spot_byte(spot, places);
+        write_spot(spot, places, out);
     }
 }

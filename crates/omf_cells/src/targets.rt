@@ -10,11 +10,12 @@ ghost use Rattle.omf_records.specs.View as records;
 ghost use Rattle.omf_records.specs.Segments.{shown};
 ghost use Rattle.omf_cells.specs.Walk.{HasSpelling, patches_from};
 ghost use Rattle.omf_cells.specs.Load.{IsLoadView, AreShown, IsLaterRefused};
-ghost use Rattle.omf_cells.specs.Content.{HasPieces, IsNear, IsContent, AreContents, patch_of, spread_all, shown_spot, super_count, super_segment};
+ghost use Rattle.omf_cells.specs.Content.{HasPieces, IsNear, IsContent, AreContents, patch_of, spread_all, shown_spots, super_count, super_segment};
 
 use crate::data::{data_from, near_u8, near_u16};
+use crate::order::in_order;
 use crate::pieces::{Piece, pieces_of};
-use crate::spots::{Relocation, Spot, add_spots, is_outside};
+use crate::spots::{Relocation, Spot, add_spot, is_outside};
 use load_meaning::{LoadCause, LoadFault};
 use omf_records::{Locations, Rec, Records, SegmentView};
 use std::alloc::{AllocError, Global};
@@ -94,12 +95,12 @@ fn take(
     spots: &mut Vec<Spot>,
 ) -> Result<Option<LoadCause>, AllocError>
     ensures value { IfOk result (λ cause. cause ≡ first_refusal (map shown views.now.items) (shown view.now) (patch_of patch.now ∷ [])) }
-    ensures spots { result ≡ Ok None → map shown_spot spots.new.items ≡ map shown_spot spots.old.items ++ spread_all (patch_of patch.now ∷ []) }
+    ensures spots { result ≡ Ok None → shown_spots spots.new.items ≡ shown_spots spots.old.items ++ spread_all (patch_of patch.now ∷ []) }
 {
     match refusal(patch, views, view) {
         Some(cause) => Ok(Some(cause)),
         None => {
-            add_spots(spots, patch)?;
+            add_spot(spots, patch)?;
             Ok(None)
         }
     }
@@ -162,7 +163,7 @@ fn take_at(
 ) -> Result<Option<LoadCause>, AllocError>
     requires { HasPieces view.now pieces.now }
     ensures value { IfOk result (λ cause. cause ≡ first_refusal (map shown views.now.items) (shown view.now) (super_patch (shown view.now) form location ∷ [])) }
-    ensures spots { result ≡ Ok None → map shown_spot spots.new.items ≡ map shown_spot spots.old.items ++ spread_all (super_patch (shown view.now) form location ∷ []) }
+    ensures spots { result ≡ Ok None → shown_spots spots.new.items ≡ shown_spots spots.old.items ++ spread_all (super_patch (shown view.now) form location ∷ []) }
 {
     if is_outside(location, super_count(form), view.header.length) {
         return Ok(Some(LoadCause::PatchOutside));
@@ -187,7 +188,7 @@ fn take_super(
     requires pieces { HasPieces view.now pieces.now }
     requires short { length bytes.now < 2 ^ 32 }
     ensures value { IfOk result (λ cause. cause ≡ first_refusal (map shown views.now.items) (shown view.now) (map (super_patch (shown view.now) form) (locations_left 0 0 bytes.now))) }
-    ensures spots { result ≡ Ok None → map shown_spot spots.new.items ≡ map shown_spot spots.old.items ++ spread_all (map (super_patch (shown view.now) form) (locations_left 0 0 bytes.now)) }
+    ensures spots { result ≡ Ok None → shown_spots spots.new.items ≡ shown_spots spots.old.items ++ spread_all (map (super_patch (shown view.now) form) (locations_left 0 0 bytes.now)) }
 {
     let mut locations = Locations::of(bytes);
     'locations: loop {
@@ -212,7 +213,7 @@ fn take_record(
     requires pieces { HasPieces view.now pieces.now }
     requires spelled { HasSpelling (records.view rec.now) }
     ensures value { IfOk result (λ cause. cause ≡ target_refusal (map shown views.now.items) (shown view.now) (records.view rec.now)) }
-    ensures spots { result ≡ Ok None → map shown_spot spots.new.items ≡ map shown_spot spots.old.items ++ spread_all (patches_in (shown view.now) (records.view rec.now)) }
+    ensures spots { result ≡ Ok None → shown_spots spots.new.items ≡ shown_spots spots.old.items ++ spread_all (patches_in (shown view.now) (records.view rec.now)) }
 {
     match rec {
         Rec::Entry {
@@ -320,7 +321,7 @@ fn take_records(
     requires body { IsBody records }
     requires pieces { HasPieces view.now pieces.now }
     ensures value { IfOk result (λ fault. fault ≡ option_map (in_segment number) (first_target_fault (map shown views.now.items) (shown view.now) (records_of records.entry))) }
-    ensures spots { result ≡ Ok None → map shown_spot spots.new.items ≡ map shown_spot spots.old.items ++ spread_all (patches_from (shown view.now) (records_of records.entry)) }
+    ensures spots { result ≡ Ok None → shown_spots spots.new.items ≡ shown_spots spots.old.items ++ spread_all (patches_from (shown view.now) (records_of records.entry)) }
 {
     let mut records = records;
     'records: loop {
@@ -360,7 +361,7 @@ fn content_of<'a>(
         Some(fault) => return Err(fault),
         None => {}
     }
-    spots.sort_by_key(|spot| spot.at)?;
+    let spots = in_order(alloc, spots)?;
     Ok(Content { pieces, spots })
 }
 

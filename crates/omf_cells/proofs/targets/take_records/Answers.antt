@@ -8,7 +8,7 @@ use Rattle.load_meaning.specs.Cells.{Cell, patches_in}
 use Rattle.load_meaning.specs.Loadable.{Fault, first_target_fault, in_segment}
 use Rattle.omf_records.specs.View.{view}
 use Rattle.omf_records.specs.Segments.{shown}
-use Rattle.omf_cells.specs.Content.{shown_spot, spread_all}
+use Rattle.omf_cells.specs.Content.{shown_spots, spread_all}
 use Rattle.omf_cells.proofs.Searches.{Same, same_all, same_next, same_more, same_none, same_fault}
 use Rattle.omf_cells.proofs.PatchWalks.{Given, given_all, given_more, given_none}
 use Rattle.omf_cells.proofs.targets.take_records.Goals as goal
@@ -22,7 +22,7 @@ records-init c =
     let s = shown c.args.view.now in
     record {
       same = same_all (first_target_fault (map shown c.args.views.now.items) s) c.args.records c.requires.body;
-      given = given_all s c.args.records (map shown_spot c.args.spots.now.items) c.requires.body;
+      given = given_all s c.args.records (shown_spots c.args.spots.now.items) c.requires.body;
     }
 
 pub returns-in-Ok-None-clause-value : goal.returns-in-Ok-None-clause-value
@@ -32,7 +32,7 @@ returns-in-Ok-None-clause-value c =
 
 pub returns-in-Ok-None-clause-spots : goal.returns-in-Ok-None-clause-spots
 returns-in-Ok-None-clause-spots c = λ ok.
-    given_none (shown c.args.view.now) c.args.records c.records.records (map shown_spot c.args.spots.now.items) (map shown_spot c.records.spots.items) c.records.invariant.given
+    given_none (shown c.args.view.now) c.args.records c.records.records (shown_spots c.args.spots.now.items) (shown_spots c.records.spots.items) c.records.invariant.given
     (sym (rw c.in-Ok-None.field-0-is at c.in-Ok-None.ensures.answer))
 
 pub take_record-requires-clause-spelled : goal.take_record-requires-clause-spelled
@@ -53,8 +53,8 @@ records-preserved c =
     let is = sym (rw c.in-Ok-Some.field-0-is at c.in-Ok-Some.ensures.answer) in
     let more = same_more find c.args.records c.records.records found c.records.invariant.same is
     (λ rest. ap (λ (o : Option LoadCause). refused found.0 o (find rest)) (sym c.in_ok-cause-in-Ok-Some.ensures.value ∙ c.in-None.is)) in
-    let old = map shown_spot c.records.spots.items in
-    let front = map shown_spot c.args.spots.now.items in
+    let old = shown_spots c.records.spots.items in
+    let front = shown_spots c.args.spots.now.items in
     let given = given_more s c.args.records c.records.records found front old c.records.invariant.given is in
     let added = c.in_ok-cause-in-Ok-Some.ensures.spots (ap (λ o. Ok o) c.in-None.is) in
     record {

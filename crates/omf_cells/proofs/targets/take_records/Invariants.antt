@@ -1,7 +1,7 @@
 use Rattle.std.proofs.Common.{length, map}
 use Rattle.load_meaning.specs.Loadable.{first_target_fault}
 use Rattle.omf_records.specs.Segments.{shown}
-use Rattle.omf_cells.specs.Content.{shown_spot}
+use Rattle.omf_cells.specs.Content.{shown_spots}
 use Rattle.omf_cells.proofs.Searches.{Same}
 use Rattle.omf_cells.proofs.PatchWalks.{Given}
 use Rattle.omf_cells.proofs.targets.take_records.Given as goal
@@ -10,7 +10,7 @@ use Rattle.omf_cells.proofs.targets.take_records.Given as goal
 abbrev pub invariant-records : goal.invariant-records
 invariant-records l = record {
   same : Same (first_target_fault (map shown l.views.items) (shown l.view)) l.initial.records l.records;
-  given : Given (shown l.view) l.initial.records l.records (map shown_spot l.initial.spots.items) (map shown_spot l.spots.items);
+  given : Given (shown l.view) l.initial.records l.records (shown_spots l.initial.spots.items) (shown_spots l.spots.items);
 }
 
 abbrev pub decreases-records : goal.decreases-records

@@ -1,6 +1,6 @@
 use Rattle.std.proofs.Common.{map, Ok, sym, ap, ◌∙◌}
 use Rattle.omf_records.specs.Segments.{shown}
-use Rattle.omf_cells.specs.Content.{shown_spot}
+use Rattle.omf_cells.specs.Content.{shown_spots}
 use Rattle.omf_cells.proofs.SuperPatches.{refusal_next, spread_more}
 use Rattle.omf_cells.proofs.targets.take_super.Goals as goal
 
@@ -14,7 +14,7 @@ locations-preserved c =
           c.locations.invariant.same
           ∙ refusal_next segments s c.args.form c.in-Some.location c.locations.locations c.next.new.self is c.next.ensures.after (sym c.in_ok-cause-in-Some.ensures.value ∙ c.in-None-2.is);
       whole =
-          spread_more segments s c.args.form c.in-Some.location c.locations.locations c.next.new.self (map shown_spot c.locations.spots.items) (map shown_spot c.take_at.new.spots.items) is c.next.ensures.after
+          spread_more segments s c.args.form c.in-Some.location c.locations.locations c.next.new.self (shown_spots c.locations.spots.items) (shown_spots c.take_at.new.spots.items) is c.next.ensures.after
           (c.in_ok-cause-in-Some.ensures.spots (ap (λ o. Ok o) c.in-None-2.is))
           ∙ c.locations.invariant.whole;
     }

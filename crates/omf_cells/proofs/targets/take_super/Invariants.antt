@@ -2,7 +2,7 @@ use Rattle.std.proofs.Common.{◌≡◌, ◌++◌, length, map}
 use Rattle.load_meaning.specs.Cells.{super_patch}
 use Rattle.load_meaning.specs.Loadable.{first_refusal}
 use Rattle.omf_records.specs.Segments.{shown}
-use Rattle.omf_cells.specs.Content.{spread_all, shown_spot}
+use Rattle.omf_cells.specs.Content.{spread_all, shown_spots}
 use Rattle.omf_cells.proofs.targets.take_super.Given as goal
 
 -- the patches so far may stand there, and their bytes were added
@@ -10,8 +10,8 @@ abbrev pub invariant-locations : goal.invariant-locations
 invariant-locations l = record {
   same : first_refusal (map shown l.views.items) (shown l.view) (map (super_patch (shown l.view) l.form) l.initial.locations)
       ≡ first_refusal (map shown l.views.items) (shown l.view) (map (super_patch (shown l.view) l.form) l.locations);
-  whole : map shown_spot l.spots.items ++ spread_all (map (super_patch (shown l.view) l.form) l.locations)
-      ≡ map shown_spot l.initial.spots.items ++ spread_all (map (super_patch (shown l.view) l.form) l.initial.locations);
+  whole : shown_spots l.spots.items ++ spread_all (map (super_patch (shown l.view) l.form) l.locations)
+      ≡ shown_spots l.initial.spots.items ++ spread_all (map (super_patch (shown l.view) l.form) l.initial.locations);
 }
 
 abbrev pub decreases-locations : goal.decreases-locations

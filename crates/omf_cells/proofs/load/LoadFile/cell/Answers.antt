@@ -8,7 +8,7 @@ use Rattle.load_meaning.specs.Cells.{Part, segment_bytes}
 use Rattle.omf_records.specs.Segments.{shown}
 use Rattle.omf_cells.specs.declared.pieces.Piece.{Piece}
 use Rattle.omf_cells.specs.declared.spots.Spot.{Spot}
-use Rattle.omf_cells.specs.Content.{ArePieces, start_of, last_at, part_of, shown_spot}
+use Rattle.omf_cells.specs.Content.{ArePieces, start_of, last_at, part_of, shown_spots}
 use Rattle.omf_cells.proofs.PieceLists.{rising}
 use Rattle.omf_cells.proofs.LoadShows.{cell_past, cell_part, cell_byte}
 use Rattle.omf_cells.proofs.load.LoadFile.cell.Goals as goal
@@ -27,9 +27,9 @@ returns-in-Some-spot_at c =
     let spot = c.in-Some-spot_at.spot in
     let content = c.in-Some.found.1.now in
     let shift : to_z w8 (of_z w8 spot.shift) ≡ spot.shift = grind (arith, to_z-of_z) in
-    let found : last_at (map shown_spot content.spots.items) c.args.at ≡ Some (part_of spot) =
-    ap (λ (l : List Spot). last_at (map shown_spot l) c.args.at) (sym c.deref.ensures.value) ∙ sym c.spot_at.ensures ∙ ap (option_map part_of) c.in-Some-spot_at.is in
-    ap (λ (z : ℤ). Some (Part 1 spot.segment spot.offset z spot.index)) shift
+    let found : last_at (shown_spots content.spots.items) c.args.at ≡ Some (part_of spot) =
+    ap (λ (l : List Spot). last_at (shown_spots l) c.args.at) (sym c.deref.ensures.value) ∙ sym c.spot_at.ensures ∙ ap (option_map part_of) c.in-Some-spot_at.is in
+    ap (λ (z : ℤ). Some (Part 1 spot.segment spot.offset z spot.first)) shift
     ∙ sym (cell_part c.args.self.now c.args.segment c.args.at c.in-Some.found.0.now content (part_of spot) c.in-Some.ensures found)
 
 pub returns-in-None-spot_at : goal.returns-in-None-spot_at
@@ -38,8 +38,8 @@ returns-in-None-spot_at c =
     let content = c.in-Some.found.1.now in
     let bytes = segment_bytes (shown v) in
     let pieces = c.in-Some.ensures.content'.pieces in
-    let none : last_at (map shown_spot content.spots.items) c.args.at ≡ None =
-    ap (λ (l : List Spot). last_at (map shown_spot l) c.args.at) (sym c.deref.ensures.value) ∙ sym c.spot_at.ensures ∙ ap (option_map part_of) c.in-None-spot_at.is in
+    let none : last_at (shown_spots content.spots.items) c.args.at ≡ None =
+    ap (λ (l : List Spot). last_at (shown_spots l) c.args.at) (sym c.deref.ensures.value) ∙ sym c.spot_at.ensures ∙ ap (option_map part_of) c.in-None-spot_at.is in
     let are : ArePieces c.deref-in-None-spot_at.result.now bytes = subst (λ (l : List Piece). ArePieces l bytes) (sym c.deref-in-None-spot_at.ensures.value) pieces.are in
     let lt : c.args.at < length bytes = omega (arith, c.if-at-view.false, pieces.sized) in
     sym (cell_byte c.args.self.now c.args.segment c.args.at v content c.byte_at.result c.in-Some.ensures none (c.byte_at.ensures bytes are lt))

@@ -1,0 +1,16 @@
+use Rattle.std.proofs.Common.{◌≡◌, ◌+◌, ◌-◌, ◌≤◌, length}
+use Rattle.omf_cells.specs.Content.{spot_patch, spread_from, spread_spot, AreBelow, with_cells}
+use Rattle.omf_cells.specs.Places.{address_in}
+use Rattle.omf_cells.proofs.spots.write_spot.Given as goal
+
+-- with the bytes that are left the spot is written
+abbrev pub invariant-bytes : goal.invariant-bytes
+invariant-bytes l = record {
+  at : l.at ≡ l.spot.at + (l.index - l.spot.first);
+  from : l.spot.first ≤ l.index;
+  below : AreBelow (length l.out) (spread_from (spot_patch l.spot) l.at l.index (l.spot.end - l.index));
+  whole : with_cells (address_in l.places) (spread_from (spot_patch l.spot) l.at l.index (l.spot.end - l.index)) l.out ≡ with_cells (address_in l.places) (spread_spot l.spot) l.initial.out;
+}
+
+abbrev pub decreases-bytes : goal.decreases-bytes
+decreases-bytes l = l.spot.end - l.index

@@ -1,0 +1,85 @@
+//! The bytes that patches give, in the order of their offsets.
+
+ghost use Rattle.std.specs.Prelude.{◌≡◌, ◌^◌, ℕ, [], IsTrue, IfOk, OnOk};
+ghost use Rattle.std.specs.List.Sorted.{IsPermutation, IsNonDecreasingBy, IsStableByKey};
+ghost use Rattle.std.specs.Ordering.{nat_cmp};
+ghost use Rattle.omf_cells.specs.Content.{offset_of, spread_spot, shown_spots, last_at, AreBelow, AreApart, AreRising, IsCut};
+
+use crate::spots::{Spot, size_of};
+use std::alloc::{AllocError, Global};
+
+/// Whether each spot ends where the next one begins, or before it.
+fn are_apart(spots: &[Spot]) -> bool
+    ensures { IsTrue result → AreApart spots.now }
+{
+    let mut end = 0u64;
+    'spots: for spot in spots {
+        if u64::from(spot.at) < end {
+            return false;
+        }
+        end = u64::from(spot.at) + u64::from(size_of(spot));
+    }
+    true
+}
+
+/// The spots in the order of their offsets, and those at one offset as they stood.
+fn sorted(alloc: Global, spots: &[Spot]) -> Result<Vec<Spot>, AllocError>
+    ensures rise { IfOk result (λ sorted. IsNonDecreasingBy offset_of sorted.items) }
+    ensures stable { IfOk result (λ sorted. IsStableByKey offset_of nat_cmp spots.now sorted.items) }
+    ensures permutation { IfOk result (λ sorted. IsPermutation spots.now sorted.items) }
+{
+    let mut sorted = Vec::from_slice(alloc, spots)?;
+    sorted.sort_by_key(|spot| spot.at)?;
+    Ok(sorted)
+}
+
+/// Adds the bytes of a spot one by one.
+fn add_bytes(bytes: &mut Vec<Spot>, spot: &Spot) -> Result<(), AllocError>
+    requires { AreBelow (2 ^ 32) (spread_spot spot.now) }
+    ensures { OnOk result (IsCut bytes.old.items (spread_spot spot.now) bytes.new.items) }
+{
+    let mut at = spot.at;
+    let mut index = spot.first;
+    'bytes: while index < spot.end {
+        bytes.push(Spot {
+            at,
+            first: index,
+            end: index + 1,
+            ..*spot
+        })?;
+        at = at.wrapping_add(1);
+        index += 1;
+    }
+    Ok(())
+}
+
+/// The bytes of the spots, one by one.
+fn bytes_of(alloc: Global, spots: &[Spot]) -> Result<Vec<Spot>, AllocError>
+    requires { AreBelow (2 ^ 32) (shown_spots spots.now) }
+    ensures { IfOk result (λ bytes. IsCut [] (shown_spots spots.now) bytes.items) }
+{
+    let mut bytes = Vec::new(alloc);
+    'spots: for spot in spots {
+        add_bytes(&mut bytes, spot)?;
+    }
+    Ok(bytes)
+}
+
+/// The same bytes in the order of their offsets. Only where two spots share a byte, byte by byte, so that the last one of an
+/// offset stays the last.
+pub fn in_order(alloc: Global, spots: Vec<Spot>) -> Result<Vec<Spot>, AllocError>
+    requires { AreBelow (2 ^ 32) (shown_spots spots.items) }
+    ensures rise { IfOk result (λ sorted. AreRising sorted.items) }
+    ensures last { IfOk result (λ sorted. (k : ℕ) → last_at (shown_spots sorted.items) k ≡ last_at (shown_spots spots.items) k) }
+{
+    if are_apart(&spots) {
+        return Ok(spots);
+    }
+    let whole = sorted(alloc, &spots)?;
+    if are_apart(&whole) {
+        return Ok(whole);
+    }
+    let bytes = bytes_of(alloc, &spots)?;
+    let bytes = sorted(alloc, &bytes)?;
+    Ok(bytes)
+}
