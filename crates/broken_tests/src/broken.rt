@@ -83,10 +83,9 @@ fn far_patch(alloc: Global) -> Result<Vec<u8>, Fail> {
         ..code(1, 0)
     };
     let mut file = one(alloc, front, &[0xF1, 0, 3, 0, 0])?;
-    let skips: usize = 132_104;
-    let [a, b, c, d] = u32::try_from(1 + skips + 3)?.to_le_bytes();
+    let [a, b, c, d] = 132_108u32.to_le_bytes();
     file.extend_from_slice(&[0xF7, a, b, c, d, 0])?;
-    file.resize(file.len().saturating_add(skips), 0xFF)?;
+    file.resize(file.len().saturating_add(132_104), 0xFF)?;
     file.extend_from_slice(&[0x88, 0, 0, 0])?;
     sized(alloc, &file)
 }
