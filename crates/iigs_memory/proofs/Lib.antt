@@ -24,3 +24,4 @@ pub mod Alls
 pub mod Cleared
 pub mod AllPlaced
 pub mod Room
+pub mod Blank

@@ -1,5 +1,5 @@
 -- How the bytes of blocks stand in one buffer. No public clause cites this module.
-use Rattle.std.specs.Prelude.{◌≡◌, ℕ, ◌+◌, ◌<◌, ◌≤◌, List, [], All, map, take, drop, length, Option, IsSome, IsSomeAnd}
+use Rattle.std.specs.Prelude.{◌≡◌, ℕ, ◌+◌, ◌<◌, ◌≤◌, Bool, true, List, [], All, map, take, drop, length, Option, IsSome, IsSomeAnd, slice_index}
 use Rattle.std.specs.Option.{option_map, option_map_or, option_and_then}
 use Rattle.iigs_meaning.specs.declared.slots.Slot.{Slot}
 use Rattle.iigs_meaning.specs.declared.wants.Block.{Block}
@@ -32,6 +32,10 @@ bytes_of banks buffer block = option_map_or (λ at. take block.want.size (drop (
 
 abbrev pub bytes_in : List ℕ → List ℕ → Slot Block → List ℕ
 bytes_in banks buffer slot = option_map_or (bytes_of banks buffer) (block_in slot) []
+
+-- where the buffer is blank its bytes are zeros
+abbrev pub IsBlank : Bool → List ℕ → Type 0
+IsBlank blank buffer = blank ≡ true → (i : ℕ) → slice_index buffer i ≡ 0
 
 -- the memory that slots and a buffer stand for
 abbrev pub memory_of : List ℕ → List (Slot Block) → List ℕ → Memory

@@ -36,6 +36,8 @@ pub struct Banks {
     table: Handles<Block>,
     // The bytes of all configured banks.
     bytes: Vec<u8>,
+    // Whether they are all zeros: none was ever lent to be written.
+    blank: bool,
     // Scratch space for the placement of several blocks, all or none.
     plan: Handles<Block>,
     spots: Vec<Spot>,
@@ -52,13 +54,13 @@ impl Model for Banks {
     ghost Value = { Memory };
 
     ghost use Rattle.std.specs.Prelude.{◌≤◌};
-    ghost use Rattle.iigs_memory.specs.Store.{memory_of, IsStore};
+    ghost use Rattle.iigs_memory.specs.Store.{memory_of, IsStore, IsBlank};
     ghost use Rattle.iigs_memory.specs.Marks.{IsMarked};
 
     ghost view = { λ s. memory_of s.map s.table s.bytes.items };
 
     ghost invariant = { λ s. IsStore s.map s.table s.bytes.items (vec_capacity s.spots) (vec_capacity s.turns) (vec_capacity s.made)
-        × IsMarked s.table s.marks.items × (4096 ≤ vec_capacity s.marks) };
+        × IsMarked s.table s.marks.items × (4096 ≤ vec_capacity s.marks) × IsBlank s.blank s.bytes.items };
 }
 
 fn slice(bytes: &[u8], start: usize, end: usize) -> &[u8]
@@ -70,7 +72,7 @@ fn slice(bytes: &[u8], start: usize, end: usize) -> &[u8]
 }
 
 fn zeros(alloc: Global, size: usize) -> Result<Vec<u8>, AllocError>
-    ensures { IfOk result (λ bytes. length bytes.items ≡ size) }
+    ensures { IfOk result (λ bytes. bytes.items ≡ replicate size 0) }
 {
     vec![in alloc; 0u8; size]
 }
@@ -107,6 +109,7 @@ fn parts(alloc: Global, map: BankMap) -> Result<Banks, AllocError>
         map,
         table: table(alloc)?,
         bytes,
+        blank: true,
         plan: table(alloc)?,
         spots: scratch(alloc, SLOTS)?,
         turns: scratch(alloc, SLOTS)?,
@@ -213,6 +216,7 @@ impl Banks {
         ensures refused { IfErr result (IsBlockRefusal self.old.slots h) }
     {
         let part = self.part_of(h)?;
+        self.blank = false;
         Ok(self.bytes.slice_mut(part.start..part.end))
     }
 
@@ -229,6 +233,7 @@ impl Banks {
             Err(BlockFault::Stale) => unreachable!(),
             Err(BlockFault::Empty) => unreachable!(),
         };
+        self.blank = false;
         self.bytes.slice_mut(part.start..part.end)
     }
 
@@ -365,7 +370,12 @@ impl Banks {
             Err(fault) => return Err(fault),
         };
         mark_all(&self.table, &mut self.marks);
-        clear(&mut self.bytes, self.map.offset(put.at), want.size as usize);
+        clear(
+            &mut self.bytes,
+            self.blank,
+            self.map.offset(put.at),
+            want.size as usize,
+        );
         Ok(put.handle)
     }
 
@@ -388,7 +398,12 @@ impl Banks {
             Err(fault) => return Err(fault),
         };
         mark_all(&self.table, &mut self.marks);
-        clear(&mut self.bytes, self.map.offset(at), want.size as usize);
+        clear(
+            &mut self.bytes,
+            self.blank,
+            self.map.offset(at),
+            want.size as usize,
+        );
         Ok(())
     }
 
@@ -426,7 +441,7 @@ impl Banks {
         }
         self.table.copy_from(&self.plan);
         mark_all(&self.table, &mut self.marks);
-        clear_all(&self.map, &mut self.bytes, wants, &self.made);
+        clear_all(&self.map, &mut self.bytes, self.blank, wants, &self.made);
         give(&self.made, handles);
         Ok(())
     }

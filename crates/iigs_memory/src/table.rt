@@ -11,6 +11,7 @@ ghost use Rattle.iigs_memory.specs.Sizes.{size_in};
 ghost use Rattle.iigs_memory.specs.Spots.{turn_of as turn_in_order, IsBoundedSlot};
 ghost use Rattle.iigs_memory.specs.Alls.{AllPut, FitIn, cleared, handle_of};
 ghost use Rattle.iigs_memory.specs.Table.{IsPut, IsReput};
+ghost use Rattle.iigs_memory.specs.Store.{IsBlank};
 
 use crate::bank_map::BankMap;
 use crate::search::find;
@@ -300,23 +301,37 @@ pub fn put_all(
     Ok(())
 }
 
-/// Makes bytes of the buffer zeros.
-pub fn clear(bytes: &mut Vec<u8>, start: usize, size: usize)
+fn fill(bytes: &mut Vec<u8>, start: usize, size: usize)
     requires { start + size ≤ length bytes.old.items }
     ensures { bytes.new.items ≡ take start bytes.old.items ++ (replicate size 0 ++ drop (start + size) bytes.old.items) }
 {
     bytes.slice_mut(start..start + size).fill(0);
 }
 
-/// Makes the bytes of all these blocks zeros.
-pub fn clear_all(map: &BankMap, bytes: &mut Vec<u8>, wants: &[Want], made: &[Put])
+/// Makes bytes of the buffer zeros. Where it is blank they are zeros already.
+pub fn clear(bytes: &mut Vec<u8>, blank: bool, start: usize, size: usize)
+    requires within { start + size ≤ length bytes.old.items }
+    requires blank { IsBlank blank bytes.old.items }
+    ensures value { bytes.new.items ≡ take start bytes.old.items ++ (replicate size 0 ++ drop (start + size) bytes.old.items) }
+    ensures blank { IsBlank blank bytes.new.items }
+{
+    if !blank {
+        fill(bytes, start, size);
+    }
+}
+
+/// Makes the bytes of all these blocks zeros. Where the buffer is blank they are zeros already.
+pub fn clear_all(map: &BankMap, bytes: &mut Vec<u8>, blank: bool, wants: &[Want], made: &[Put])
     requires lengths { length wants.now ≡ length made.now }
+    requires blank { IsBlank blank bytes.old.items }
     requires inside { FitIn map.now (length bytes.old.items) wants.now made.now }
-    ensures { bytes.new.items ≡ cleared map.now wants.now made.now bytes.old.items }
+    ensures value { bytes.new.items ≡ cleared map.now wants.now made.now bytes.old.items }
+    ensures blank { IsBlank blank bytes.new.items }
 {
     for place in 0..made.len() {
         clear(
             bytes,
+            blank,
             map.offset(made[place].at),
             wants[place].size as usize,
         );

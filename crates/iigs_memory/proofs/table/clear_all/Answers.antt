@@ -14,7 +14,8 @@ loop-place-preserved c =
     let inside' : c.loop-place.place < length c.args.wants.now = omega (arith, c.requires.lengths) in
     let fits = c.requires.inside c.loop-place.place _ _ inside' inside in
     let more = cleared_more c.args.map.now c.args.wants.now c.args.made.now c.args.bytes.now.items c.loop-place.place _ _ inside' inside in
-    let is = c.clear.ensures in (
+    let is = c.clear.ensures.value in (
       rw (is, c.offset.ensures.value, c.loop-place.invariant.0) (sym more),
       rw is (length-clear_one c.offset.result _ c.loop-place.bytes.items (rw (c.offset.ensures.value, c.loop-place.invariant.1) fits.1) ∙ c.loop-place.invariant.1),
+      c.clear.ensures.blank,
     )

@@ -10,6 +10,7 @@ invariant_of-self c = rw c.release.ensures.after (
   store_release c.self.inside.map c.self.inside.bytes.items c.self.inside.table (vec_capacity c.self.inside.spots) (vec_capacity c.self.inside.turns) (vec_capacity c.self.inside.made) c.args.h c.self.invariant.0,
   marks_stay c.self.inside.table _ c.self.inside.marks.items c.self.invariant.1 (release_stays c.self.inside.table c.args.h),
   c.self.invariant.2,
+  c.self.invariant.3,
 )
 
 pub invariant_of-self-2 : goal.invariant_of-self-2
@@ -17,6 +18,7 @@ invariant_of-self-2 c = rw c.release.ensures.after (
   store_release c.self.inside.map c.self.inside.bytes.items c.self.inside.table (vec_capacity c.self.inside.spots) (vec_capacity c.self.inside.turns) (vec_capacity c.self.inside.made) c.args.h c.self.invariant.0,
   marks_stay c.self.inside.table _ c.self.inside.marks.items c.self.invariant.1 (release_stays c.self.inside.table c.args.h),
   c.self.invariant.2,
+  c.self.invariant.3,
 )
 
 pub returns-clause-freed : goal.returns-clause-freed

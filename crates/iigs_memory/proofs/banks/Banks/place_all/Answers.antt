@@ -28,7 +28,7 @@ give-requires c = c.requires.lengths ∙ rw c.deref-2.ensures.value
     c.args.user c.args.fresh c.args.wants.now c.put_all.new.made.items (rw c.start_plan.ensures at c.in-Ok.ensures.put))
 
 pub invariant_of-self-2 : goal.invariant_of-self-2
-invariant_of-self-2 c = rw (c.copy_from.ensures, c.clear_all.ensures, c.deref.ensures.value) (
+invariant_of-self-2 c = rw (c.copy_from.ensures, c.clear_all.ensures.value, c.deref.ensures.value) (
   all_store c.self.inside.map c.self.inside.bytes.items c.self.inside.table c.put_all.new.table (vec_capacity c.self.inside.spots) (vec_capacity c.self.inside.turns) (vec_capacity c.self.inside.made) c.self.invariant.0
       c.args.user c.args.fresh c.args.wants.now c.put_all.new.made.items (rw c.start_plan.ensures at c.in-Ok.ensures.put)
       (vec_capacity c.put_all.new.spots) (vec_capacity c.put_all.new.turns) (vec_capacity c.put_all.new.made)
@@ -39,10 +39,11 @@ invariant_of-self-2 c = rw (c.copy_from.ensures, c.clear_all.ensures, c.deref.en
       c.args.user c.args.fresh c.args.wants.now c.put_all.new.made.items (rw c.start_plan.ensures at c.in-Ok.ensures.put))
       c.in-Ok.ensures.put.bounded c.in-Ok.ensures.put.sound (rw c.copy_from.ensures at c.mark_all.ensures.marked),
   omega (arith, c.self.invariant.2, c.mark_all.ensures.capacity),
+  (rw (c.clear_all.ensures.value, c.deref.ensures.value) at c.clear_all.ensures.blank),
 )
 
 pub returns-clause-placed : goal.returns-clause-placed
-returns-clause-placed c = rw (← c.self.view_is, c.copy_from.ensures, c.clear_all.ensures, c.give.ensures, c.deref.ensures.value, c.deref-2.ensures.value)
+returns-clause-placed c = rw (← c.self.view_is, c.copy_from.ensures, c.clear_all.ensures.value, c.give.ensures, c.deref.ensures.value, c.deref-2.ensures.value)
     (all_placed c.self.inside.map c.self.inside.bytes.items c.self.inside.table c.put_all.new.table (vec_capacity c.self.inside.spots) (vec_capacity c.self.inside.turns) (vec_capacity c.self.inside.made) c.self.invariant.0
     c.args.user c.args.fresh c.args.wants.now c.put_all.new.made.items (rw c.start_plan.ensures at c.in-Ok.ensures.put)
     (rw (← c.start_plan.ensures) (omega (arith, c.left.ensures, c.if-left-wants.false))))

@@ -10,6 +10,7 @@ invariant_of-self c = rw c.purge_user.ensures.after (
   store_map (can_purge_of c.args.user) c.self.inside.map c.self.inside.bytes.items c.self.inside.table (vec_capacity c.self.inside.spots) (vec_capacity c.self.inside.turns) (vec_capacity c.self.inside.made) c.self.invariant.0,
   marks_stay c.self.inside.table _ c.self.inside.marks.items c.self.invariant.1 (map_stays (can_purge_of c.args.user) c.self.inside.table),
   c.self.invariant.2,
+  c.self.invariant.3,
 )
 
 pub returns : goal.returns

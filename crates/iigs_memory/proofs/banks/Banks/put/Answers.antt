@@ -9,6 +9,7 @@ invariant_of-self c = rw c.set.ensures (
       (rw (← c.self.view_is) at c.requires.same),
   marks_stay c.self.inside.table _ c.self.inside.marks.items c.self.invariant.1 (blocks_stay c.self.inside.table c.args.h c.args.block (rw (← c.self.view_is) at c.requires.same)),
   c.self.invariant.2,
+  c.self.invariant.3,
 )
 
 pub returns-clause-kept : goal.returns-clause-kept

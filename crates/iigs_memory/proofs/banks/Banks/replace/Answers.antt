@@ -3,8 +3,8 @@ use Rattle.iigs_memory.proofs.Marked.{marked_of}
 use Rattle.iigs_memory.proofs.Puts.{PutFacts, reput_facts, put_within, put_store, put_zeros, put_keeps, reput_is, clear_overlay}
 use Rattle.iigs_memory.proofs.banks.Banks.replace.Goals as goal
 
-pub clear-requires : goal.clear-requires
-clear-requires c =
+pub clear-requires-clause-within : goal.clear-requires-clause-within
+clear-requires-clause-within c =
     let f : PutFacts c.self.inside.map c.self.inside.table c.args.want.now (record { handle = c.args.h; at = c.in-Ok.at }) c.replace_block.new.table = reput_facts c.self.inside.map c.self.inside.table c.replace_block.new.table c.args.h c.args.want.now c.in-Ok.at
     c.self.invariant.0.small c.requires.want c.self.invariant.0.bounded c.self.invariant.0.sound c.in-Ok.ensures.put in
     rw c.offset.ensures.value (put_within c.self.inside.map c.self.inside.bytes.items c.self.inside.table c.replace_block.new.table (vec_capacity c.self.inside.spots) (vec_capacity c.self.inside.turns) (vec_capacity c.self.inside.made) c.self.invariant.0
@@ -14,19 +14,20 @@ pub invariant_of-self-2 : goal.invariant_of-self-2
 invariant_of-self-2 c =
     let f : PutFacts c.self.inside.map c.self.inside.table c.args.want.now (record { handle = c.args.h; at = c.in-Ok.at }) c.replace_block.new.table = reput_facts c.self.inside.map c.self.inside.table c.replace_block.new.table c.args.h c.args.want.now c.in-Ok.at
     c.self.invariant.0.small c.requires.want c.self.invariant.0.bounded c.self.invariant.0.sound c.in-Ok.ensures.put in
-    rw (c.clear.ensures, c.offset.ensures.value, clear_overlay) (
+    rw (c.clear.ensures.value, c.offset.ensures.value, clear_overlay) (
       put_store c.self.inside.map c.self.inside.bytes.items c.self.inside.table c.replace_block.new.table (vec_capacity c.self.inside.spots) (vec_capacity c.self.inside.turns) (vec_capacity c.self.inside.made) c.self.invariant.0
           c.args.h.slot (c.in-Ok.at, c.args.want.now.size) f.len f.bounded f.sound f.others f.is (vec_capacity c.replace_block.new.spots) (vec_capacity c.replace_block.new.turns)
           (omega (arith, c.self.invariant.0.spots_room, c.in-Ok.ensures.spots_capacity)) (omega (arith, c.self.invariant.0.turns_room, c.in-Ok.ensures.turns_capacity)),
       marked_of c.self.inside.map c.replace_block.new.table c.mark_all.new.marks.items (f.len ∙ c.self.invariant.0.count) f.bounded f.sound c.mark_all.ensures.marked,
       omega (arith, c.self.invariant.2, c.mark_all.ensures.capacity),
+      (rw (c.clear.ensures.value, c.offset.ensures.value, clear_overlay) at c.clear.ensures.blank),
     )
 
 pub returns-clause-replaced : goal.returns-clause-replaced
 returns-clause-replaced c =
     let f : PutFacts c.self.inside.map c.self.inside.table c.args.want.now (record { handle = c.args.h; at = c.in-Ok.at }) c.replace_block.new.table = reput_facts c.self.inside.map c.self.inside.table c.replace_block.new.table c.args.h c.args.want.now c.in-Ok.at
     c.self.invariant.0.small c.requires.want c.self.invariant.0.bounded c.self.invariant.0.sound c.in-Ok.ensures.put in
-    rw (← c.self.view_is, c.clear.ensures, c.offset.ensures.value, clear_overlay) (record {
+    rw (← c.self.view_is, c.clear.ensures.value, c.offset.ensures.value, clear_overlay) (record {
       puts = reput_is c.self.inside.map c.self.inside.table c.replace_block.new.table c.args.h c.args.want.now c.in-Ok.at c.in-Ok.ensures.put;
       zeros = put_zeros c.self.inside.map c.self.inside.bytes.items c.self.inside.table c.replace_block.new.table (vec_capacity c.self.inside.spots) (vec_capacity c.self.inside.turns) (vec_capacity c.self.inside.made) c.self.invariant.0
           c.args.h.slot (c.in-Ok.at, c.args.want.now.size) f.len f.bounded f.sound f.others f.is;
