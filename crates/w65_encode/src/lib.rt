@@ -19,8 +19,7 @@ pub fn opcode(mnemonic: Mnemonic, mode: Mode) -> Option<u8>
     ensures found { IfSome result (λ byte. slice_get matrix byte ≡ Some (mnemonic, mode)) }
     ensures absent { IfNone result (¬ Contains matrix (mnemonic, mode)) }
 {
-    let place = matrix::place_of(mnemonic, mode)?;
-    Some(place as u8)
+    matrix::opcode_in(mnemonic, mode)
 }
 
 /// The mnemonic and the mode of an opcode.
