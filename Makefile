@@ -33,6 +33,7 @@ bench: build
 	bench/library build/omf
 	bench/loader build/omf
 	bench/lives build/omf
+	bench/stress build/omf
 	bench/link build/omf
 	bench/macro
 	bench/asm build/omf

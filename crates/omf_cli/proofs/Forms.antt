@@ -1,16 +1,16 @@
--- What the inputs of a form are, which `link` and `lib` rest on.
+-- What the inputs and numbers of a form are, on which `link`, `lib` and `stress` rest.
 use Rattle.std.proofs.Common.{◌≡◌, ◌≤◌, ℕ, List, [], ◌∷◌, length, Option, Some, None, refl, sym, subst, arith}
-use Rattle.std.specs.Prelude.{◌&&◌, Bool, true, false, cond, codes, String, string_bytes, IsTrue}
-use Rattle.std.specs.Option.{option_map}
+use Rattle.std.specs.Prelude.{◌&&◌, Bool, true, false, cond, codes, String, string_bytes, IsTrue, nat_le}
+use Rattle.std.specs.Option.{option_map, option_and_then}
 use Rattle.std.specs.Str.{bytes_eq}
 use Rattle.std.specs.declared.alloc.Global.{Global}
-use Rattle.std.proofs.lemmas.Bool.{and_parts}
+use Rattle.std.proofs.lemmas.Bool.{and_parts, leb-true}
 use Rattle.std.proofs.lemmas.List.{length-map}
-use Rattle.omf_cli.specs.Form.{Form, Asm, Link, Dump, Run, Lib, form_of, with_output, source_and_output, inputs_only}
-use Rattle.omf_cli.specs.Words.{is_path, are_paths, words_of}
+use Rattle.omf_cli.specs.Form.{Form, Asm, Link, Dump, Run, Lib, Stress, form_of, with_output, source_and_output, inputs_only, count_and_seed}
+use Rattle.omf_cli.specs.Words.{is_path, are_paths, words_of, number_in, number_between}
 use Rattle.omf_cli.proofs.Libraries.{few_paths}
 
--- the inputs of `link` and `lib` are 1 to 255 paths
+-- the inputs of `link` and `lib` are 1 to 255 paths, and the count of `stress` is 1 to 64
 abbrev HasPaths : Option Form → Type 0
 HasPaths None = Unit {0}
 HasPaths (Some (Asm source output macros)) = Unit {0}
@@ -18,6 +18,7 @@ HasPaths (Some (Link output inputs)) = IsTrue (are_paths 1 255 inputs)
 HasPaths (Some (Dump inputs)) = Unit {0}
 HasPaths (Some (Run inputs)) = Unit {0}
 HasPaths (Some (Lib output inputs)) = IsTrue (are_paths 1 255 inputs)
+HasPaths (Some (Stress n seed)) = (1 ≤ n) × (n ≤ 64)
 
 abbrev ArePaths : Option (List ℕ × List (List ℕ)) → Type 0
 ArePaths None = Unit {0}
@@ -55,6 +56,33 @@ of_run : (found : Option (List (List ℕ))) → HasPaths (option_map Run found)
 of_run None = tt
 of_run (Some inputs) = tt
 
+-- a number that lies between these
+abbrev AreBetween : ℕ → ℕ → Option ℕ → Type 0
+AreBetween least most None = Unit {0}
+AreBetween least most (Some n) = (least ≤ n) × (n ≤ most)
+
+between : (least most : ℕ) (word : List ℕ) → AreBetween least most (number_between least most word)
+between least most word = go (number_in word)
+  where
+    by_test : (n : ℕ) (b : Bool) → (nat_le least n && nat_le n most) ≡ b → AreBetween least most (cond b (Some n) None)
+    by_test n true is = let both = and_parts (nat_le least n) (nat_le n most) is in (leb-true least n both.0, leb-true n most both.1)
+    by_test n false is = tt
+
+    go : (found : Option ℕ) → AreBetween least most (option_and_then (λ (n : ℕ). cond (nat_le least n && nat_le n most) (Some n) None) found)
+    go None = tt
+    go (Some n) = by_test n (nat_le least n && nat_le n most) refl
+
+of_stress : (words : List (List ℕ)) → HasPaths (option_map (λ (w : ℕ × ℕ). Stress w.0 w.1) (count_and_seed words))
+of_stress [] = tt
+of_stress (count ∷ []) = tt
+of_stress (count ∷ seed ∷ []) = go (number_between 1 64 count) (number_between 0 4294967295 seed) (between 1 64 count)
+  where
+    go : (a b : Option ℕ) → AreBetween 1 64 a → HasPaths (option_map (λ (w : ℕ × ℕ). Stress w.0 w.1) (option_and_then (λ (n : ℕ). option_map (λ (seed : ℕ). (n, seed)) b) a))
+    go None b are = tt
+    go (Some n) None are = tt
+    go (Some n) (Some seed) are = are
+of_stress (count ∷ seed ∷ other ∷ words) = tt
+
 paths_in : (words : List (List ℕ)) → HasPaths (form_of words)
 paths_in [] = tt
 paths_in (name ∷ words) =
@@ -62,7 +90,8 @@ paths_in (name ∷ words) =
     (either (bytes_eq name (codes "link")) _ _ (of_link (with_output 1 255 words) (paths_behind words))
     (either (bytes_eq name (codes "dump")) _ _ (of_dump (inputs_only 1 1 words))
     (either (bytes_eq name (codes "run")) _ _ (of_run (inputs_only 1 1 words))
-    (either (bytes_eq name (codes "lib")) _ _ (of_lib (with_output 1 255 words) (paths_behind words)) tt))))
+    (either (bytes_eq name (codes "lib")) _ _ (of_lib (with_output 1 255 words) (paths_behind words))
+    (either (bytes_eq name (codes "stress")) _ _ (of_stress words) tt)))))
 
 -- `lib` has 1 to 255 paths
 pub lib_paths : (words : List (List ℕ)) (output : List ℕ) (inputs : List (List ℕ)) → Some (Lib output inputs) ≡ form_of words → IsTrue (are_paths 1 255 inputs)
@@ -73,3 +102,7 @@ pub link_few : (words : List (List ℕ)) (output : List ℕ) (inputs : List (Str
 link_few words output inputs is =
     let are : IsTrue (are_paths 1 255 (words_of inputs)) = subst HasPaths (sym is) (paths_in words) in
     omega (arith, few_paths (words_of inputs) are, length-map inputs string_bytes)
+
+-- `stress` has a count of 1 to 64
+pub stress_few : (words : List (List ℕ)) (n seed : ℕ) → Some (Stress n seed) ≡ form_of words → (1 ≤ n) × (n ≤ 64)
+stress_few words n seed is = subst HasPaths (sym is) (paths_in words)

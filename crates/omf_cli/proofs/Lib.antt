@@ -7,3 +7,5 @@ pub mod Linking
 pub mod Sources
 mod Forms
 pub mod Begins
+mod Stressing
+mod Numbers

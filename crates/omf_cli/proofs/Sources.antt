@@ -1,5 +1,5 @@
 -- The inputs of `asm`, and what it makes of them.
-use Rattle.std.proofs.Common.{◌≡◌, ℕ, suc, ◌+◌, ◌<◌, ◌≤◌, List, [], ◌∷◌, ◌++◌, length, get_or, take, Option, Some, None, Result, Ok, Err, IfOk, refl, sym, ap, subst, ◌∙◌, add-one, arith}
+use Rattle.std.proofs.Common.{◌≡◌, ℕ, ◌+◌, ◌<◌, ◌≤◌, List, [], ◌∷◌, ◌++◌, length, get_or, take, Option, Some, None, Result, Ok, Err, IfOk, refl, sym, ap, subst, ◌∙◌, add-one, arith}
 use Rattle.std.specs.Prelude.{◌&&◌, Bool, true, false, cond, nat_le, codes, String, string_bytes}
 use Rattle.std.specs.Option.{option_map}
 use Rattle.std.specs.List.{list_all}
@@ -8,11 +8,10 @@ use Rattle.std.proofs.lemmas.Bool.{and_parts, leb-true}
 use Rattle.std.specs.declared.alloc.Global.{Global}
 use Rattle.std.proofs.Math.Seq.{take-suc}
 use Rattle.std.proofs.lemmas.List.{length-map, map-append, take_all}
-use Rattle.asm_meaning.specs.declared.faults.AsmCause.{AsmCause}
 use Rattle.asm_meaning.specs.declared.faults.AsmFault.{AsmFault}
-use Rattle.asm_meaning.specs.Object.{IsObject, IsAsmFault, OutOfMemory, First}
+use Rattle.asm_meaning.specs.Object.{IsAsmFault, OutOfMemory, First}
 use Rattle.omf_io.specs.Files.{StoreSeen}
-use Rattle.omf_cli.specs.Form.{Form, Asm, Link, Dump, Run, Lib, form_of, with_output, source_and_output, inputs_only}
+use Rattle.omf_cli.specs.Form.{Form, Asm, Link, Dump, Run, Lib, Stress, form_of, with_output, source_and_output, inputs_only, count_and_seed}
 use Rattle.omf_cli.specs.Words.{is_path, are_paths, words_of}
 use Rattle.omf_cli.specs.declared.making.Making.{Making}
 use Rattle.omf_cli.specs.Made.{Made, Bytes, Refusal, made_of, first_of}
@@ -51,6 +50,7 @@ macros_of (Some (Link output inputs)) = []
 macros_of (Some (Dump inputs)) = []
 macros_of (Some (Run inputs)) = []
 macros_of (Some (Lib output inputs)) = []
+macros_of (Some (Stress count seed)) = []
 
 abbrev HasFew : Option Form → Type 0
 HasFew form = length (macros_of form) ≤ 254
@@ -99,6 +99,10 @@ few_run : (found : Option (List (List ℕ))) → HasFew (option_map Run found)
 few_run None = omega arith
 few_run (Some inputs) = omega arith
 
+few_stress : (found : Option (ℕ × ℕ)) → HasFew (option_map (λ (w : ℕ × ℕ). Stress w.0 w.1) found)
+few_stress None = omega arith
+few_stress (Some w) = omega arith
+
 few_in : (words : List (List ℕ)) → HasFew (form_of words)
 few_in [] = omega arith
 few_in (name ∷ words) =
@@ -106,7 +110,8 @@ few_in (name ∷ words) =
     (either (bytes_eq name (codes "link")) _ _ (few_link (with_output 1 255 words))
     (either (bytes_eq name (codes "dump")) _ _ (few_dump (inputs_only 1 1 words))
     (either (bytes_eq name (codes "run")) _ _ (few_run (inputs_only 1 1 words))
-    (either (bytes_eq name (codes "lib")) _ _ (few_lib (with_output 1 255 words)) (omega arith)))))
+    (either (bytes_eq name (codes "lib")) _ _ (few_lib (with_output 1 255 words))
+    (either (bytes_eq name (codes "stress")) _ _ (few_stress (count_and_seed words)) (omega arith))))))
 
 -- they are 254 at most
 pub few_macros : (words : List (List ℕ)) (source output : List ℕ) (macros : List (String Global)) → Some (Asm source output (words_of macros)) ≡ form_of words → length macros ≤ 254

@@ -1,8 +1,8 @@
 -- The forms of words, one for each command.
 use Rattle.std.specs.Prelude.{ℕ, ◌&&◌, if◌then◌else◌, List, [], ◌∷◌, codes, Option, None, Some}
-use Rattle.std.specs.Option.{option_map}
+use Rattle.std.specs.Option.{option_map, option_and_then}
 use Rattle.std.specs.Str.{bytes_eq}
-use Rattle.omf_cli.specs.Words.{is_path, are_paths, words_of}
+use Rattle.omf_cli.specs.Words.{is_path, are_paths, words_of, number_between}
 use Rattle.omf_cli.specs.declared.form.Form.{Form as Words}
 use Rattle.omf_cli.specs.declared.form.Form.TheVariants as words
 
@@ -12,6 +12,7 @@ pub data Form : Type 0 where
   Dump : (inputs : List (List ℕ)) → Form
   Run : (inputs : List (List ℕ)) → Form
   Lib : (output : List ℕ) (inputs : List (List ℕ)) → Form
+  Stress : (count seed : ℕ) → Form
 
 -- an output, and so many inputs behind it
 abbrev pub with_output : ℕ → ℕ → List (List ℕ) → Option (List ℕ × List (List ℕ))
@@ -27,7 +28,13 @@ source_and_output (source ∷ words) = if is_path source then option_map (λ w. 
 abbrev pub inputs_only : ℕ → ℕ → List (List ℕ) → Option (List (List ℕ))
 inputs_only least most inputs = if are_paths least most inputs then Some inputs else None
 
--- `asm SRC OBJ MACROS..`, `link OUT FILE..`, `dump FILE`, `run SCRIPT`, `lib OUT OBJ..`; other words have no form
+-- how many dynamic segments, 1 to 64, and a seed
+abbrev pub count_and_seed : List (List ℕ) → Option (ℕ × ℕ)
+count_and_seed (count ∷ seed ∷ []) =
+    option_and_then (λ n. option_map (λ seed. (n, seed)) (number_between 0 4294967295 seed)) (number_between 1 64 count)
+count_and_seed _ = None
+
+-- `asm SRC OBJ MACROS..`, `link OUT FILE..`, `dump FILE`, `run SCRIPT`, `lib OUT OBJ..`, `stress N SEED`; other words have no form
 abbrev pub form_of : List (List ℕ) → Option Form
 form_of [] = None
 form_of (name ∷ words) =
@@ -35,7 +42,8 @@ form_of (name ∷ words) =
     else (if bytes_eq name (codes "link") then option_map (λ w. Link w.0 w.1) (with_output 1 255 words)
     else (if bytes_eq name (codes "dump") then option_map Dump (inputs_only 1 1 words)
     else (if bytes_eq name (codes "run") then option_map Run (inputs_only 1 1 words)
-    else (if bytes_eq name (codes "lib") then option_map (λ w. Lib w.0 w.1) (with_output 1 255 words) else None))))
+    else (if bytes_eq name (codes "lib") then option_map (λ w. Lib w.0 w.1) (with_output 1 255 words)
+    else (if bytes_eq name (codes "stress") then option_map (λ w. Stress w.0 w.1) (count_and_seed words) else None)))))
 
 -- a form as it was read from words
 abbrev pub shown : Words → Form
@@ -44,3 +52,4 @@ shown (words.Link output inputs) = Link output.now (words_of inputs.now)
 shown (words.Dump inputs) = Dump (words_of inputs.now)
 shown (words.Run inputs) = Run (words_of inputs.now)
 shown (words.Lib output inputs) = Lib output.now (words_of inputs.now)
+shown (words.Stress count seed) = Stress count seed

@@ -14,6 +14,7 @@ pub mod Dump
 pub mod LibCauses
 pub mod Library
 pub mod Script
+pub mod Stress
 pub mod Tool
 pub mod Code
 pub mod Laws

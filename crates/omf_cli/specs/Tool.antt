@@ -1,10 +1,10 @@
 -- What a run of the tool did, for each status that it ends with.
 use Rattle.std.specs.Prelude.{◌≡◌, ◌∷◌, Option, None, Some}
-use Rattle.omf_io.specs.Outside.{Outside}
+use Rattle.omf_io.specs.Outside.{Outside, IsCalm}
 use Rattle.loader_agrees.specs.Agrees.{Loaded}
 use Rattle.omf_cli.specs.declared.status.Status.{Status}
 use Rattle.omf_cli.specs.declared.status.Status.TheVariants as status
-use Rattle.omf_cli.specs.Form.{Form, Asm, Link, Dump, Run, Lib}
+use Rattle.omf_cli.specs.Form.{Form, Asm, Link, Dump, Run, Lib, Stress}
 use Rattle.omf_cli.specs.Lines.{usage_line}
 use Rattle.omf_cli.specs.Printing.{Ends}
 use Rattle.omf_cli.specs.Making.{MakesRun, CanMake}
@@ -13,13 +13,14 @@ use Rattle.omf_cli.specs.Dump.{DumpMakes}
 use Rattle.omf_cli.specs.Link.{LinkMakes}
 use Rattle.omf_cli.specs.Library.{LibMakes}
 use Rattle.omf_cli.specs.Script.{ScriptRun, CanRun}
+use Rattle.omf_cli.specs.Stress.{StressRun}
 
 -- the usage line, and nothing else
 abbrev pub UsageRun : Status → Outside → Type 0
 UsageRun result o =
     Ends (λ wanted text. (wanted ≡ status.Usage) × (text ≡ usage_line) × (o.new_store ≡ o.store)) ⊥ ⊥ result o.sink o.new_sink
 
--- a run over words of this form that ends with the status; a loader is handed out by a script alone
+-- a run over words of this form that ends with the status; a loader is handed out by a script and by a workload alone
 abbrev pub HasRun : Status → Option Form → Option Loaded → Outside → Type 0
 HasRun result None last o = UsageRun result o × (last ≡ None)
 HasRun result (Some (Asm source output macros)) last o = MakesRun AsmMakes (Some output) (source ∷ macros) result o × (last ≡ None)
@@ -27,8 +28,9 @@ HasRun result (Some (Link output inputs)) last o = MakesRun LinkMakes (Some outp
 HasRun result (Some (Dump inputs)) last o = MakesRun DumpMakes None inputs result o × (last ≡ None)
 HasRun result (Some (Run inputs)) last o = ScriptRun inputs result last o
 HasRun result (Some (Lib output inputs)) last o = MakesRun (LibMakes inputs) (Some output) inputs result o × (last ≡ None)
+HasRun result (Some (Stress n seed)) last o = StressRun n seed result last o
 
--- the command can be done: the store tells its inputs, they have no fault, and no count rises
+-- the command can be done: the store tells its inputs, if there are any, they have no fault, and no count rises
 abbrev pub CanSucceed : Option Form → Outside → Type 0
 CanSucceed None o = ⊥
 CanSucceed (Some (Asm source output macros)) o = CanMake AsmMakes (source ∷ macros) o
@@ -36,3 +38,4 @@ CanSucceed (Some (Link output inputs)) o = CanMake LinkMakes inputs o
 CanSucceed (Some (Dump inputs)) o = CanMake DumpMakes inputs o
 CanSucceed (Some (Run inputs)) o = CanRun inputs o
 CanSucceed (Some (Lib output inputs)) o = CanMake (LibMakes inputs) inputs o
+CanSucceed (Some (Stress n seed)) o = IsCalm o

@@ -1,9 +1,9 @@
 //! Forms of words.
 
-ghost use Rattle.std.specs.Prelude.{◌≡◌};
+ghost use Rattle.std.specs.Prelude.{◌≡◌, ◌<◌, ◌^◌};
 ghost use Rattle.std.specs.Option.{option_map};
-ghost use Rattle.omf_cli.specs.Words.{is_path, are_paths, words_of};
-ghost use Rattle.omf_cli.specs.Form.{with_output, source_and_output, inputs_only, form_of, shown};
+ghost use Rattle.omf_cli.specs.Words.{is_path, are_paths, words_of, number_in, number_between};
+ghost use Rattle.omf_cli.specs.Form.{with_output, source_and_output, inputs_only, count_and_seed, form_of, shown};
 
 /// A command with its paths.
 pub enum Form<'a> {
@@ -25,6 +25,10 @@ pub enum Form<'a> {
     Lib {
         output: &'a str,
         inputs: &'a [String],
+    },
+    Stress {
+        count: u32,
+        seed: u32,
     },
 }
 
@@ -79,6 +83,54 @@ fn inputs_only(least: usize, most: usize, words: &[String]) -> Option<&[String]>
     }
 }
 
+/// The number that a word writes: decimal digits alone, 1 to 10 of them.
+#[tactic(auto, using(crate::proofs::Numbers::read_start, crate::proofs::Numbers::read_step, crate::proofs::Numbers::read_small, crate::proofs::Numbers::read_end, crate::proofs::Numbers::read_low, crate::proofs::Numbers::read_high, crate::proofs::Numbers::read_none, crate::proofs::Numbers::read_long))]
+fn number_in(word: &str) -> Option<u64>
+    ensures { result ≡ number_in word.now }
+{
+    let digits = word.as_bytes();
+    if digits.is_empty() || digits.len() > 10 {
+        return None;
+    }
+    let mut number: u64 = 0;
+    let mut left = digits;
+    'digits: while let Some((digit, rest)) = left.split_first() {
+        if *digit < b'0' || *digit > b'9' {
+            return None;
+        }
+        number = 10 * number + u64::from(*digit - b'0');
+        left = rest;
+    }
+    Some(number)
+}
+
+/// The number of a word, where it lies between these.
+fn number_between(least: u64, most: u64, word: &str) -> Option<u32>
+    requires { most < 2 ^ 32 }
+    ensures { result ≡ number_between least most word.now }
+{
+    let number = number_in(word)?;
+    if least <= number && number <= most {
+        Some(number as u32)
+    } else {
+        None
+    }
+}
+
+/// How many dynamic segments, and a seed.
+fn count_and_seed(words: &[String]) -> Option<(u32, u32)>
+    ensures { result ≡ count_and_seed (words_of words.now) }
+{
+    let (count, words) = words.split_first()?;
+    let (seed, words) = words.split_first()?;
+    if !words.is_empty() {
+        return None;
+    }
+    let count = number_between(1, 64, count.as_str())?;
+    let seed = number_between(0, 4_294_967_295, seed.as_str())?;
+    Some((count, seed))
+}
+
 /// The form of the words, or None where they have none.
 pub fn read_form(words: &[String]) -> Option<Form<'_>>
     ensures { option_map shown result ≡ form_of (words_of words.now) }
@@ -108,6 +160,10 @@ pub fn read_form(words: &[String]) -> Option<Form<'_>>
         "lib" => {
             let (output, inputs) = with_output(1, 255, words)?;
             Some(Form::Lib { output, inputs })
+        }
+        "stress" => {
+            let (count, seed) = count_and_seed(words)?;
+            Some(Form::Stress { count, seed })
         }
         _ => None,
     }

@@ -12,6 +12,7 @@ mod printing;
 mod reading;
 mod script;
 mod status;
+mod stress;
 mod tool;
 
 pub use laws::{inputs_are_asked_for_once, linked_files_begin};

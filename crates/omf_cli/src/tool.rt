@@ -17,6 +17,7 @@ use crate::making::run_maker;
 use crate::printing::{print, usage_line};
 use crate::script::run_file;
 use crate::status::Status;
+use crate::stress::run_stress;
 use omf_io::{Files, Sink};
 use std::alloc::Global;
 use sys_loader::Loader;
@@ -51,7 +52,9 @@ fn run_asm<F: Files, S: Sink>(
 /// written; a refusal tells the first fault with its cause, its name if it has one, and its place. `dump FILE` prints a line
 /// for each segment of a file, and one for each of its records. `run SCRIPT` runs a script of loader commands, which is read
 /// whole before, and prints a line for each. `lib OUT OBJ..` makes a library of 1 to 255 object files, whose paths are their
-/// names in it; all are read in order before anything is written. Other words print the usage line.
+/// names in it; all are read in order before anything is written. `stress N SEED` makes a workload of N dynamic segments, 1 to 64, for
+/// a seed of 32 bits, links and runs it over a store of its own, and prints a line; `last` then holds the loader. Other words print
+/// the usage line.
 pub fn run_tool<F: Files, S: Sink>(
     alloc: Global,
     words: &Vec<String>,
@@ -87,5 +90,6 @@ pub fn run_tool<F: Files, S: Sink>(
         Some(Form::Lib { output, inputs }) => {
             run_maker(alloc, &Lib { inputs }, Some(output), inputs, files, out)
         }
+        Some(Form::Stress { count, seed }) => run_stress(alloc, count, seed, out, last),
     }
 }
