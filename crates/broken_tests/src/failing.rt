@@ -256,14 +256,18 @@ fn script_reads(
     }
 }
 
+/// Whether the script and the program are as they were.
+fn stays(run: &Outcome, script: &[u8], program: &[u8]) -> bool {
+    run.files.get("s") == Some(script) && run.files.get("prog") == Some(program)
+}
+
 /// Whether a script ended as it has to, whichever call of the store fails.
 fn script_survives(alloc: Global, commands: &[&str], program: &[u8]) -> Result<bool, Fail> {
     let script = script_of(alloc, commands, commands.len(), MOST as usize)?;
-    let held: [(&str, &[u8]); 2] = [("s", &script), ("prog", program)];
     let whole = run_script(alloc, &script, program, &[], &[])?;
     for call in 1..MOST {
         let run = run_script(alloc, &script, program, &[call], &[])?;
-        if !(script_reads(alloc, commands, program, call, &run)? && are_kept(&run, &held)) {
+        if !(script_reads(alloc, commands, program, call, &run)? && stays(&run, &script, program)) {
             return Ok(false);
         }
         if run.files.faults() == 0 {
@@ -298,7 +302,6 @@ fn script_is_cut(
 /// Whether a script ended as it has to, whichever print fails: there is one for each command.
 fn script_prints(alloc: Global, commands: &[&str], program: &[u8]) -> Result<bool, Fail> {
     let script = script_of(alloc, commands, commands.len(), MOST as usize)?;
-    let held: [(&str, &[u8]); 2] = [("s", &script), ("prog", program)];
     let whole = run_script(alloc, &script, program, &[], &[])?;
     for call in 1..MOST {
         let run = run_script(alloc, &script, program, &[], &[call])?;
@@ -306,10 +309,12 @@ fn script_prints(alloc: Global, commands: &[&str], program: &[u8]) -> Result<boo
             return Ok(
                 call as usize == commands.len().saturating_add(1)
                     && ends(&run, Status::Done, whole.out.bytes(), None)
-                    && are_kept(&run, &held),
+                    && stays(&run, &script, program),
             );
         }
-        if !(script_is_cut(alloc, commands, program, call, &run)? && are_kept(&run, &held)) {
+        if !(script_is_cut(alloc, commands, program, call, &run)?
+            && stays(&run, &script, program))
+        {
             return Ok(false);
         }
     }
