@@ -41,4 +41,5 @@ bench: build
 
 refuse: build
 	tools/refuse build/omf
+	@[ -x crates/loader_tests/out/loader_tests_tests ] || (cd crates/loader_tests && rt test)
 	tools/refuse-calls
