@@ -2,10 +2,10 @@
 #![tactic(auto)]
 
 #[cfg(test)]
+mod equates;
+#[cfg(test)]
 mod fits;
 #[cfg(test)]
 mod limits;
 #[cfg(test)]
 mod objects;
-#[cfg(test)]
-mod rings;
