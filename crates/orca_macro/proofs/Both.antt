@@ -30,7 +30,7 @@ some_operation [] some = absurd cc
 some_operation (byte ∷ behind) some = refl
 
 -- a line with a statement
-statement_is : (s : Setting) (text : List ℕ) (fields : Fields) (operation label operand : List ℕ) (found : Statement) (d : meaning.Deed) → fields ≡ three_fields text
+pub statement_is : (s : Setting) (text : List ℕ) (fields : Fields) (operation label operand : List ℕ) (found : Statement) (d : meaning.Deed) → fields ≡ three_fields text
     → operation ≡ part text fields.operation → label ≡ part text fields.label → operand ≡ part text fields.operand → eqb (length operation) 0 ≡ false → Some found ≡ statement_of operation
     → IsDone s.values found text label operand d → IsStatement s text (three_fields text) d
 statement_is s text fields operation label operand found d fields_are operation_is label_is operand_is some is done =
@@ -58,7 +58,7 @@ unfolding cut three_fields
 cut_none text other = rw (no_dot ((three_fields text).label.to - 0) text other) refl
 
 -- a line without `&`
-plain_is : (s : Setting) (l : Line) (text : List ℕ) (d : meaning.Deed) → text ≡ l.text → is_comment text ≡ false → eqb (plain_len text) (length text) ≡ true
+pub plain_is : (s : Setting) (l : Line) (text : List ℕ) (d : meaning.Deed) → text ≡ l.text → is_comment text ≡ false → eqb (plain_len text) (length text) ≡ true
     → IsShort s l (nat_lt 255 (length text)) text d → IsDeed s l d
 plain_is s l text d same other plain short =
     let whole : plain_len l.text ≡ length l.text = subst (λ (t : List ℕ). plain_len t ≡ length t) same (eqb-true (plain_len text) (length text) plain) in

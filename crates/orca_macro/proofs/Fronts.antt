@@ -49,7 +49,7 @@ folded_end (byte ∷ left) name none so = absurd (omega (arith, none))
 
 -- ---- runs without `&`
 
-plain_most : (text : List ℕ) → plain_len text ≤ length text
+pub plain_most : (text : List ℕ) → plain_len text ≤ length text
 unfolding plain_len
 plain_most [] = omega arith
 plain_most (byte ∷ behind) = by_test (eqb byte 0x26) (plain_most behind)
@@ -59,7 +59,7 @@ plain_most (byte ∷ behind) = by_test (eqb byte 0x26) (plain_most behind)
     by_test false most = omega (arith, most)
 
 -- a run is copied as it is
-plain_front : (text_of : List ℕ → Option (List ℕ)) (naming : ℕ → Naming) (at : ℕ) (text : List ℕ)
+pub plain_front : (text_of : List ℕ → Option (List ℕ)) (naming : ℕ → Naming) (at : ℕ) (text : List ℕ)
     → substituted text_of naming at 0 text ≡ with_front (take (plain_len text) text) (substituted text_of naming (at + plain_len text) 0 (drop (plain_len text) text))
 unfolding substituted plain_len
 plain_front text_of naming at [] = refl
@@ -80,7 +80,7 @@ plain_front text_of naming at (byte ∷ behind) = by_test (eqb byte 0x26) refl (
         ∙ ap (λ (k : ℕ). with_front (take k (byte ∷ behind)) (substituted text_of naming (at + (n + 1)) 0 (drop k (byte ∷ behind)))) count
 
 -- an `&` stands behind a run
-behind_run : (text : List ℕ) (byte : ℕ) (behind : List ℕ) → drop (plain_len text) text ≡ byte ∷ behind → byte ≡ 0x26
+pub behind_run : (text : List ℕ) (byte : ℕ) (behind : List ℕ) → drop (plain_len text) text ≡ byte ∷ behind → byte ≡ 0x26
 unfolding plain_len
 behind_run [] byte behind is = absurd cc
 behind_run (first ∷ text) byte behind is = by_test (eqb first 0x26) refl (behind_run text byte behind) is
@@ -90,7 +90,7 @@ behind_run (first ∷ text) byte behind is = by_test (eqb first 0x26) refl (behi
     by_test false test more is = let count : plain_len text + 1 ≡ suc (plain_len text) = omega arith in more (rw count at is)
 
 -- the bytes that were taken are left out
-skipped : (text_of : List ℕ → Option (List ℕ)) (naming : ℕ → Naming) (at taken : ℕ) (text : List ℕ) → taken ≤ length text
+pub skipped : (text_of : List ℕ → Option (List ℕ)) (naming : ℕ → Naming) (at taken : ℕ) (text : List ℕ) → taken ≤ length text
     → substituted text_of naming at taken text ≡ substituted text_of naming (at + taken) 0 (drop taken text)
 unfolding substituted
 skipped text_of naming at zero text few = let same : at ≡ at + 0 = omega arith in ap (λ (n : ℕ). substituted text_of naming n 0 text) same
@@ -100,7 +100,7 @@ skipped text_of naming at (suc taken) (byte ∷ behind) few =
     skipped text_of naming (at + 1) taken behind (omega (arith, few)) ∙ ap (λ (n : ℕ). substituted text_of naming n 0 (drop taken behind)) same
 
 -- nothing is left
-nothing_left : (text_of : List ℕ → Option (List ℕ)) (naming : ℕ → Naming) (at : ℕ) (rest out : List ℕ) → length rest ≡ 0 → with_front out (substituted text_of naming at 0 rest) ≡ Some out
+pub nothing_left : (text_of : List ℕ → Option (List ℕ)) (naming : ℕ → Naming) (at : ℕ) (rest out : List ℕ) → length rest ≡ 0 → with_front out (substituted text_of naming at 0 rest) ≡ Some out
 unfolding substituted
 nothing_left text_of naming at [] out none = front_end out
 nothing_left text_of naming at (byte ∷ rest) out none = absurd (omega (arith, none))

@@ -19,3 +19,5 @@ pub mod Texts
 pub mod Letters
 pub mod Shorts
 pub mod WholeName
+pub mod Templates
+pub mod Plans

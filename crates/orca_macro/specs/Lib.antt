@@ -12,3 +12,5 @@ pub mod Files
 pub mod Plain
 pub mod Letters
 pub mod Short
+pub mod Template
+pub mod Plan

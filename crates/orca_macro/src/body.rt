@@ -1,14 +1,16 @@
 //! Lines that are visited one behind another.
 
-ghost use Rattle.std.specs.Prelude.{◌≡◌, ◌≤◌, ◌<◌, ◌+◌, ◌^◌, ◌∷◌, ◌++◌, [], List, ℕ, length, take, bytes_eq, Some, None, IfOk, IfSome, OnOk, MatchOption, if◌then◌else◌};
+ghost use Rattle.std.specs.Prelude.{◌≡◌, ◌≤◌, ◌<◌, ◌+◌, ◌^◌, ◌∷◌, ◌++◌, [], List, ℕ, length, slice_get, take, bytes_eq, Some, None, IfOk, IfSome, OnOk, MatchOption, if◌then◌else◌};
 ghost use Rattle.macro_meaning.specs.Visit.{places_from, target_of, has_sequence};
 ghost use Rattle.orca_meaning.specs.Line.{HaveFields, part};
 ghost use Rattle.orca_macro.specs.Held.{held};
 ghost use Rattle.orca_macro.specs.DefinitionView.{summary, with_place};
+ghost use Rattle.orca_macro.specs.Plan.{HavePlans, FitsAt};
 ghost use Rattle.orca_text.specs.View.{line};
 
 use crate::held::{look, put};
 use crate::names::sequence_name;
+use crate::plan::{Plan, plan_of};
 use indexmap::IndexMap;
 use orca_text::{Lines, SourceLine};
 use std::alloc::{AllocError, Global};
@@ -24,12 +26,13 @@ pub(crate) enum Target {
 }
 
 /// Lines that are visited one behind another. Branches go to the first so many of them, whose sequence symbols are in a
-/// map. Contracts see the lines and how many these are.
+/// map. Of a macro's lines it is kept what is known of each. Contracts see the lines and how many these are.
 #[derive(Drop)]
 pub(crate) struct Body {
     lines: Lines,
     reach: u32,
     targets: IndexMap<Vec<u8>, Target>,
+    plans: Vec<Plan>,
 }
 
 impl Model for Body {
@@ -38,12 +41,13 @@ impl Model for Body {
     ghost use Rattle.macro_meaning.specs.Visit.{places_from};
     ghost use Rattle.orca_macro.specs.Held.{held};
     ghost use Rattle.orca_macro.specs.DefinitionView.{summary};
+    ghost use Rattle.orca_macro.specs.Plan.{HavePlans};
 
     ghost Value = { meaning.Body };
 
     ghost view = { λ body. record { lines = body.lines; reach = body.reach } };
 
-    ghost invariant = { λ body. (q : List ℕ) → held body.targets q ≡ summary (places_from 0 q (take body.reach body.lines)) };
+    ghost invariant = { λ body. ((q : List ℕ) → held body.targets q ≡ summary (places_from 0 q (take body.reach body.lines))) × HavePlans body.lines body.plans.items };
 }
 
 /// One more line with this sequence symbol.
@@ -99,19 +103,61 @@ fn targets_of(
     Ok(targets)
 }
 
+/// What is known of each line.
+#[tactic(auto, using(crate::proofs::Plans::no_plans, crate::proofs::Plans::more_plans))]
+fn plans_of(alloc: Global, lines: &Lines) -> Result<Vec<Plan>, AllocError>
+    ensures { IfOk result (λ plans. HavePlans lines.now plans.items) }
+{
+    let mut plans = Vec::with_capacity(alloc, lines.count() as usize)?;
+    let mut at = 0;
+    'lines: while at < lines.count() {
+        let Some(line) = lines.get(at) else {
+            return Ok(plans);
+        };
+        let plan = plan_of(alloc, line)?;
+        plans.push(plan)?;
+        at += 1;
+    }
+    Ok(plans)
+}
+
+/// The plan at a place.
+fn plan_at(plans: &[Plan], at: usize) -> Option<&Plan>
+    ensures { MatchOption result (length plans.now ≤ at) (λ plan. slice_get plans.now at ≡ Some plan.now) }
+{
+    plans.get(at)
+}
+
 impl Body {
     ghost use Rattle.std.specs.Prelude.{slice_get};
 
-    /// These lines, and how many of them a branch can go to.
-    pub(crate) fn of(alloc: Global, lines: Lines, reach: u32) -> Result<Body, AllocError>
-        requires { reach ≤ length lines }
-        ensures { IfOk result (λ body. body ≡ record { lines = lines; reach = reach }) }
+    /// The lines of the source. A branch can go to all of them.
+    #[tactic(auto, using(crate::proofs::Plans::no_plans))]
+    pub(crate) fn of_source(alloc: Global, lines: Lines) -> Result<Body, AllocError>
+        ensures { IfOk result (λ body. body ≡ record { lines = lines; reach = length lines }) }
     {
+        let reach = lines.count();
         let targets = targets_of(alloc, &lines, reach)?;
         Ok(Body {
             lines,
             reach,
             targets,
+            plans: Vec::new(alloc),
+        })
+    }
+
+    /// The lines of a macro, and how many of them a branch can go to.
+    pub(crate) fn of_macro(alloc: Global, lines: Lines, reach: u32) -> Result<Body, AllocError>
+        requires { reach ≤ length lines }
+        ensures { IfOk result (λ body. body ≡ record { lines = lines; reach = reach }) }
+    {
+        let targets = targets_of(alloc, &lines, reach)?;
+        let plans = plans_of(alloc, &lines)?;
+        Ok(Body {
+            lines,
+            reach,
+            targets,
+            plans,
         })
     }
 
@@ -125,6 +171,14 @@ impl Body {
             return self.lines.get(place);
         }
         None
+    }
+
+    /// What is known of the line at a place.
+    #[tactic(auto, using(crate::proofs::Plans::plan_there))]
+    pub(crate) fn plan(&self, place: u32) -> Option<&Plan>
+        ensures { IfSome result (λ plan. FitsAt self.now.lines place plan.now) }
+    {
+        plan_at(self.plans.as_slice(), place as usize)
     }
 
     /// The only line to which a branch to this sequence symbol can go.

@@ -1,6 +1,6 @@
 //! What a visited line does (ORCA/M reference manual, "Conditional assembly directives").
 
-ghost use Rattle.std.specs.Prelude.{◌≡◌, ◌==◌, ◌≤◌, ◌<◌, nat_lt, [], List, ℕ, ℤ, length, take, drop, pos, int_le, codes, slice_get, Some, None, Ok, Err, IfOk, IfErr, IfSome, OnOk, MatchOption, IsTrue};
+ghost use Rattle.std.specs.Prelude.{◌≡◌, ◌==◌, ◌≤◌, ◌<◌, nat_lt, [], List, ℕ, ℤ, length, take, drop, pos, int_le, codes, slice_get, Some, None, Ok, Err, IfOk, IfErr, IfSome, OnOk, MatchOption, IsTrue, false};
 ghost use Rattle.omf_format.specs.Value.{signed};
 ghost use Rattle.macro_meaning.specs.Deed.{earlier, both, or_bad, first_time, declaring, settable, setting, printed, printed_answer, middle_from, middle_of, go_if, going, going_to, counting, noted, noting, IsBranchIf, IsMiddle, IsNote, IsSetting, IsDone, resting, calling, calling_at, begins_definition, IsDeed, IsStatement, IsDoneBy, IsShort, cut};
 ghost use Rattle.macro_meaning.specs.Statements.{symbol_name, target_name};
@@ -9,7 +9,9 @@ ghost use Rattle.macro_meaning.specs.Pieces.{pieces, quoted, joined};
 ghost use Rattle.orca_macro.specs.View.{values, symbols_of, texts_of};
 ghost use Rattle.orca_macro.specs.DeedView.{deed, where_};
 ghost use Rattle.orca_macro.specs.Parts.{definition};
-ghost use Rattle.orca_meaning.specs.Line.{HaveFields, three_fields};
+ghost use Rattle.orca_macro.specs.Plan.{Fits, FitsLine, IsPlain, known};
+ghost use Rattle.orca_macro.specs.Template.{HasParts};
+ghost use Rattle.orca_meaning.specs.Line.{HaveFields, three_fields, is_comment};
 ghost use Rattle.orca_meaning.specs.Characters.{folded};
 ghost use Rattle.macro_meaning.specs.Definition.{first_named};
 ghost use Rattle.macro_meaning.specs.Condition.{Answer, IsCondition};
@@ -20,12 +22,14 @@ use crate::condition::{condition, number};
 use crate::definitions::Definition;
 use crate::names::{is_operation, is_sequence, is_target, statement_of, symbol_name, target_name};
 use crate::pieces::{Piece, joined, pieces, quoted, two_pieces};
+use crate::plan::{Known, Plan};
 use crate::program::Program;
 use crate::substitution::{is_folded, is_plain, shown};
 use crate::symbols::{
     Symbols, Texts, Values, declaration_of, is_count, is_declaration, is_kind, kind_of, name,
     signed_decimal,
 };
+use crate::template::{Part, filled};
 use macro_meaning::{Declaration, Kind, MacroCause, Statement};
 use omf_base::Name;
 use orca_text::{SourceLine, folded, is_comment, label_in, part, three_fields};
@@ -598,7 +602,7 @@ fn begins_dot(text: &[u8]) -> bool
 
 /// The line behind a sequence symbol in column 1.
 #[tactic(auto, unfolding(macro_meaning::specs::Deed::cut), using(crate::proofs::Both::cut_none))]
-fn cut(text: &[u8]) -> &[u8]
+pub(crate) fn cut(text: &[u8]) -> &[u8]
     requires { length text.now ≤ 255 }
     ensures value { result.now ≡ cut text.now }
     ensures bound { length result.now ≤ length text.now }
@@ -670,5 +674,73 @@ pub(crate) fn deed_of(
             Ok(found)
         }
         None => Ok(Deed::Fails(MacroCause::NoSuchSymbol)),
+    }
+}
+
+/// What a line without `&` does.
+#[tactic(auto, using(crate::proofs::Plans::always))]
+fn known_deed(
+    alloc: Global,
+    at: Standing<'_>,
+    of: &SourceLine,
+    said: &Known,
+) -> Result<Deed, AllocError>
+    requires fields { HaveFields of.now.text (line of.now).fields }
+    requires plain { IsPlain (line of.now) }
+    requires known { FitsLine (line of.now) (known said.now) }
+    ensures { IfOk result (λ d. IsDeed (where_ at.entry) (line of.now) (deed d)) }
+{
+    match said {
+        Known::Rests => Ok(Deed::Rests),
+        Known::Leaves => Ok(Deed::Leaves),
+        Known::Goes(target) => {
+            let target = name(alloc, target.bytes())?;
+            Ok(Deed::Goes(target))
+        }
+        Known::Open => written(alloc, at, of, of.text.bytes()),
+    }
+}
+
+/// What a line with these parts does. The buffer takes its text, so that not each line takes memory anew.
+fn parted(
+    alloc: Global,
+    at: Standing<'_>,
+    of: &SourceLine,
+    parts: &[Part],
+    buffer: &mut Vec<u8>,
+) -> Result<Deed, AllocError>
+    requires fields { HaveFields of.now.text (line of.now).fields }
+    requires other { is_comment of.now.text ≡ false }
+    requires parts { HasParts (line of.now) parts.now }
+    ensures { IfOk result (λ d. IsDeed (where_ at.entry) (line of.now) (deed d)) }
+{
+    let taken = std::mem::replace(buffer, Vec::new(alloc));
+    match filled(at.values, parts, taken)? {
+        Some(text) => {
+            let found = written(alloc, at, of, text.as_slice())?;
+            *buffer = text;
+            Ok(found)
+        }
+        None => Ok(Deed::Fails(MacroCause::NoSuchSymbol)),
+    }
+}
+
+/// What a visited line does, of which something is known.
+#[tactic(auto, using(crate::proofs::Plans::comment_rests))]
+pub(crate) fn planned(
+    alloc: Global,
+    at: Standing<'_>,
+    of: &SourceLine,
+    plan: &Plan,
+    buffer: &mut Vec<u8>,
+) -> Result<Deed, AllocError>
+    requires fields { HaveFields of.now.text (line of.now).fields }
+    requires plan { Fits (line of.now) plan.now }
+    ensures { IfOk result (λ d. IsDeed (where_ at.entry) (line of.now) (deed d)) }
+{
+    match plan {
+        Plan::Comment => Ok(Deed::Rests),
+        Plan::Plain(said) => known_deed(alloc, at, of, said),
+        Plan::Parts(parts) => parted(alloc, at, of, parts.as_slice(), buffer),
     }
 }

@@ -30,7 +30,7 @@ pub(crate) struct Definition {
 }
 
 /// Whether the operation of a line has this spelling.
-fn operation_is(of: &SourceLine, spelling: &[u8]) -> bool
+pub(crate) fn operation_is(of: &SourceLine, spelling: &[u8]) -> bool
     requires { HaveFields of.now.text (line of.now).fields }
     ensures { result ≡ operation_is spelling.now (line of.now) }
 {
@@ -97,7 +97,7 @@ fn closed_with(
     }) }
 {
     let inner = copy_range(alloc, lines, from, mend + 1)?;
-    let body = Body::of(alloc, inner, mend - from)?;
+    let body = Body::of_macro(alloc, inner, mend - from)?;
     Ok(Definition {
         model: said,
         behind,

@@ -1,6 +1,6 @@
 //! The expansion of a source with macro files.
 
-ghost use Rattle.std.specs.Prelude.{◌≡◌, ◌≤◌, ◌<◌, ◌+◌, ◌++◌, ◌^◌, ◌==◌, [], List, ℕ, map, length, false, Some, None, IfOk, IfErr, OnOk, MatchOption};
+ghost use Rattle.std.specs.Prelude.{◌≡◌, ◌≤◌, ◌<◌, ◌+◌, ◌++◌, ◌^◌, ◌==◌, [], List, ℕ, map, length, false, Some, None, IfOk, IfErr, IfSome, OnOk, MatchOption};
 ghost use Rattle.macro_meaning.specs.Deed as deeds;
 ghost use Rattle.macro_meaning.specs.Expansion.{IsExpanded, IsMacroFault, fault_at, file_text_fault, first_in};
 ghost use Rattle.macro_meaning.specs.Visit.{Visit, line_at, given_by, root_by, setting_of, most_visits};
@@ -9,14 +9,16 @@ ghost use Rattle.orca_meaning.specs.Line.{HaveFields, numbered};
 ghost use Rattle.orca_macro.specs.DeedView.{deed};
 ghost use Rattle.orca_macro.specs.Files.{texts_of_files, CanRead, lines_from, IsTextFault, AllOwn, first_part_in, definitions_of, IsProgram, HasVisited};
 ghost use Rattle.orca_macro.specs.Parts.{definition, HaveOwn};
+ghost use Rattle.orca_macro.specs.Plan.{Fits};
 ghost use Rattle.orca_macro.specs.StateView.{StandsIn, Visited};
 ghost use Rattle.orca_text.specs.Refusals.{IsRefused};
 ghost use Rattle.orca_text.specs.View.{line};
 
 use crate::body::Body;
-use crate::deed::{Deed, Standing, deed_of};
+use crate::deed::{Deed, Standing, deed_of, planned};
 use crate::definitions::{Definition, fault_at, scan_file};
 use crate::frames::State;
+use crate::plan::Plan;
 use crate::program::Program;
 use crate::symbols::Values;
 use crate::visits::{Outcome, step};
@@ -125,8 +127,7 @@ fn scan_all(
 fn built(alloc: Global, plain: Lines, definitions: Vec<Definition>) -> Result<Program, AllocError>
     ensures { IfOk result (λ program. program ≡ record { source = record { lines = plain; reach = length plain }; definitions = map definition definitions.items }) }
 {
-    let reach = plain.count();
-    let body = Body::of(alloc, plain, reach)?;
+    let body = Body::of_source(alloc, plain)?;
     Program::of(alloc, body, definitions)
 }
 
@@ -165,6 +166,15 @@ fn root_of(state: &State, number: u32) -> u32
     state.scope.root
 }
 
+/// What is known of the line that is visited.
+#[tactic(auto, using(crate::proofs::Plans::fits_here))]
+fn plan_for<'a>(program: &'a Program, state: &State, of: &SourceLine) -> Option<&'a Plan>
+    requires { line_at program.now state.now.scope.place state.now.scope.line ≡ Some (line of.now) }
+    ensures { IfSome result (λ plan. Fits (line of.now) plan.now) }
+{
+    program.plan(state.scope.place, state.scope.line)
+}
+
 /// What a line does.
 fn deed_at(
     alloc: Global,
@@ -172,9 +182,11 @@ fn deed_at(
     state: &State,
     root: u32,
     of: &SourceLine,
+    plan: Option<&Plan>,
     buffer: &mut Vec<u8>,
 ) -> Result<Deed, AllocError>
-    requires { HaveFields of.now.text (line of.now).fields }
+    requires fields { HaveFields of.now.text (line of.now).fields }
+    requires plan { IfSome plan (λ p. Fits (line of.now) p.now) }
     ensures { IfOk result (λ d. (before : List Visit) (v : Visit) → StandsIn before v state.now → root ≡ root_by v.caller v.root (line of.now).number
         → deeds.IsDeed (setting_of program.now v (line of.now).number) (line of.now) (deed d)) }
 {
@@ -188,7 +200,10 @@ fn deed_at(
             calls: &state.calls,
         },
     };
-    deed_of(alloc, at, of, buffer)
+    match plan {
+        Some(plan) => planned(alloc, at, of, plan, buffer),
+        None => deed_of(alloc, at, of, buffer),
+    }
 }
 
 /// The line that a deed gives, behind others.
@@ -216,10 +231,12 @@ fn visit(
     program: &Program,
     state: &mut State,
     of: &SourceLine,
+    plan: Option<&Plan>,
     buffer: &mut Vec<u8>,
     out: &mut Lines,
 ) -> Result<Outcome, AllocError>
     requires fields { HaveFields of.now.text (line of.now).fields }
+    requires plan { IfSome plan (λ p. Fits (line of.now) p.now) }
     requires line { state.old.scope.line + 1 < 2 ^ 32 }
     requires calls { state.old.calls + 1 < 2 ^ 32 }
     requires room { length out.old + 1 < 2 ^ 32 }
@@ -229,7 +246,7 @@ fn visit(
     ensures few { IfOk result (λ outcome. length out.new ≤ length out.old + 1) }
 {
     let root = root_of(state, of.line);
-    let found = deed_at(alloc, program, state, root, of, buffer)?;
+    let found = deed_at(alloc, program, state, root, of, plan, buffer)?;
     give(alloc, out, of, &found)?;
     let outcome = step(alloc, program, state, root, found)?;
     Ok(outcome)
@@ -251,7 +268,16 @@ fn visit_all(alloc: Global, program: &Program) -> Result<Result<Lines, MacroFaul
         if count == MOST_VISITS {
             return Ok(Err(fault_at(line, MacroCause::TooManyLines)));
         }
-        let outcome = visit(alloc, program, &mut state, line, &mut buffer, &mut out)?;
+        let plan = plan_for(program, &state, line);
+        let outcome = visit(
+            alloc,
+            program,
+            &mut state,
+            line,
+            plan,
+            &mut buffer,
+            &mut out,
+        )?;
         match outcome {
             Outcome::Goes => {}
             Outcome::Ends => return Ok(Ok(out)),

@@ -12,9 +12,11 @@ mod held;
 mod model_line;
 mod names;
 mod pieces;
+mod plan;
 mod program;
 mod substitution;
 mod symbols;
+mod template;
 mod visits;
 
 pub use expansion::expand;

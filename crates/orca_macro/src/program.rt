@@ -6,11 +6,13 @@ ghost use Rattle.macro_meaning.specs.Visit.{line_at, body_of, no_body, target_of
 ghost use Rattle.orca_meaning.specs.Line.{HaveFields};
 ghost use Rattle.orca_macro.specs.Held.{held};
 ghost use Rattle.orca_macro.specs.Parts.{definition};
+ghost use Rattle.orca_macro.specs.Plan.{FitsAt};
 ghost use Rattle.orca_text.specs.View.{line};
 
 use crate::body::Body;
 use crate::definitions::Definition;
 use crate::held::{look, put};
+use crate::plan::Plan;
 use indexmap::IndexMap;
 use orca_text::SourceLine;
 use std::alloc::{AllocError, Global};
@@ -135,6 +137,16 @@ impl Program {
     {
         match self.body(place) {
             Some(body) => body.line(at),
+            None => None,
+        }
+    }
+
+    /// What is known of a line of the macro at a place, or of the source.
+    pub(crate) fn plan(&self, place: Option<usize>, at: u32) -> Option<&Plan>
+        ensures { IfSome result (λ plan. FitsAt (body_of self.now place).lines at plan.now) }
+    {
+        match self.body(place) {
+            Some(body) => body.plan(at),
             None => None,
         }
     }

@@ -153,7 +153,7 @@ fn naming_by(statement: Option<Statement>, of: &SourceLine, at: u32) -> Naming
 }
 
 /// Whether a letter stands at the front.
-fn begins_letter(behind: &[u8]) -> bool
+pub(crate) fn begins_letter(behind: &[u8]) -> bool
     ensures { result ≡ first_passes is_letter behind.now }
 {
     match behind.split_first() {
@@ -163,7 +163,7 @@ fn begins_letter(behind: &[u8]) -> bool
 }
 
 /// Whether the start of a name stands at the front.
-fn begins_name(behind: &[u8]) -> bool
+pub(crate) fn begins_name(behind: &[u8]) -> bool
     ensures { result ≡ first_passes is_name_start behind.now }
 {
     match behind.split_first() {
@@ -174,7 +174,7 @@ fn begins_name(behind: &[u8]) -> bool
 
 /// How many bytes go with the name at the front: its own, and a dot directly behind it.
 #[tactic(auto, unfolding(macro_meaning::specs::Substitution::taken_length))]
-fn taken_length(behind: &[u8]) -> usize
+pub(crate) fn taken_length(behind: &[u8]) -> usize
     ensures value { result ≡ taken_length behind.now }
     ensures bound { result ≤ length behind.now }
 {
@@ -289,7 +289,7 @@ pub(crate) fn is_plain(text: &[u8]) -> bool
 }
 
 /// Copies what stands before the first `&`, and gives what stands from there on.
-fn copy_plain<'a>(out: &mut Vec<u8>, text: &'a [u8]) -> Result<&'a [u8], AllocError>
+pub(crate) fn copy_plain<'a>(out: &mut Vec<u8>, text: &'a [u8]) -> Result<&'a [u8], AllocError>
     ensures rest { IfOk result (λ rest. rest.now ≡ drop (plain_len text.now) text.now) }
     ensures copied { OnOk result (out.new.items ≡ out.old.items ++ take (plain_len text.now) text.now) }
 {

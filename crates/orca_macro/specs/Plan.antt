@@ -1,0 +1,62 @@
+-- What is known of a line before it is visited.
+use Rattle.std.specs.Prelude.{◌≡◌, ℕ, List, Option, Some, None, true, false, length, slice_get}
+use Rattle.macro_meaning.specs.Deed as meaning
+use Rattle.macro_meaning.specs.Deed.{Setting, IsDeed, IsDone, IsStatement}
+use Rattle.macro_meaning.specs.Symbol.{Values}
+use Rattle.macro_meaning.specs.declared.statements.Statement.{Statement}
+use Rattle.orca_meaning.specs.Line.{Line, three_fields, is_comment}
+use Rattle.orca_macro.specs.Plain.{plain_len}
+use Rattle.orca_macro.specs.Template.{HasParts}
+use Rattle.orca_macro.specs.declared.plan.Known.{Known}
+use Rattle.orca_macro.specs.declared.plan.Known.TheVariants.{Open, Rests, Goes, Leaves}
+use Rattle.orca_macro.specs.declared.plan.Plan.{Plan}
+use Rattle.orca_macro.specs.declared.plan.Plan.TheVariants.{Comment, Plain, Parts}
+
+-- what is known that a line does
+abbrev pub known : Known → Option meaning.Deed
+known Open = None
+known Rests = Some meaning.Rests
+known (Goes name) = Some (meaning.Goes name)
+known Leaves = Some meaning.Leaves
+
+-- a statement does this wherever it stands
+pub record IsAlwaysDone (statement : Statement) (text label operand : List ℕ) (deed : meaning.Deed) : Type 0 where
+  pub is : (values : Values) → IsDone values statement text label operand deed
+
+abbrev pub FitsDone : Statement → List ℕ → List ℕ → List ℕ → Option meaning.Deed → Type 0
+FitsDone statement text label operand None = Unit {0}
+FitsDone statement text label operand (Some deed) = IsAlwaysDone statement text label operand deed
+
+-- a line behind its sequence symbol does this wherever it stands
+pub record IsAlwaysStatement (text : List ℕ) (deed : meaning.Deed) : Type 0 where
+  pub is : (s : Setting) → IsStatement s text (three_fields text) deed
+
+abbrev pub FitsStatement : List ℕ → Option meaning.Deed → Type 0
+FitsStatement text None = Unit {0}
+FitsStatement text (Some deed) = IsAlwaysStatement text deed
+
+-- a line does this wherever it stands
+pub record IsAlways (line : Line) (deed : meaning.Deed) : Type 0 where
+  pub is : (s : Setting) → IsDeed s line deed
+
+abbrev pub FitsLine : Line → Option meaning.Deed → Type 0
+FitsLine line None = Unit {0}
+FitsLine line (Some deed) = IsAlways line deed
+
+-- the line is no comment and has no `&`
+abbrev pub IsPlain : Line → Type 0
+IsPlain line = (is_comment line.text ≡ false) × (plain_len line.text ≡ length line.text)
+
+-- the plan is right of a line
+abbrev pub Fits : Line → Plan → Type 0
+Fits line Comment = is_comment line.text ≡ true
+Fits line (Plain deed) = IsPlain line × FitsLine line (known deed)
+Fits line (Parts parts) = (is_comment line.text ≡ false) × HasParts line parts.items
+
+-- the plan fits the line at a place
+pub record FitsAt (lines : List Line) (at : ℕ) (plan : Plan) : Type 0 where
+  pub is : (line : Line) → slice_get lines at ≡ Some line → Fits line plan
+
+-- each of the plans fits the line at its place
+pub record HavePlans (lines : List Line) (plans : List Plan) : Type 0 where
+  pub at : (at : ℕ) (plan : Plan) → slice_get plans at ≡ Some plan → FitsAt lines at plan

@@ -1,0 +1,131 @@
+//! What is known of a line before it is visited.
+
+ghost use Rattle.std.specs.Prelude.{◌≡◌, ◌≤◌, ◌==◌, List, ℕ, length, true, false, IfOk};
+ghost use Rattle.orca_meaning.specs.Line.{HaveFields, is_comment};
+ghost use Rattle.orca_macro.specs.Plain.{plain_len};
+ghost use Rattle.orca_macro.specs.Plan.{known, FitsDone, FitsStatement, FitsLine, Fits};
+ghost use Rattle.orca_text.specs.View.{line};
+
+use crate::deed::cut;
+use crate::definitions::operation_is;
+use crate::names::{statement_of, target_name};
+use crate::substitution::is_plain;
+use crate::template::{Part, parts_of};
+use macro_meaning::Statement;
+use omf_base::Name;
+use orca_text::{SourceLine, is_comment, part, three_fields};
+use std::alloc::{AllocError, Global};
+
+/// What a line does at each of its visits, as far as that rests on no symbol and no macro.
+#[derive(Debug, Drop)]
+pub(crate) enum Known {
+    /// That isn't known.
+    Open,
+    /// Nothing.
+    Rests,
+    /// It branches to a sequence symbol.
+    Goes(Name),
+    /// It ends its expansion.
+    Leaves,
+}
+
+/// What is known of a line.
+#[derive(Debug, Drop)]
+pub(crate) enum Plan {
+    /// It is a comment.
+    Comment,
+    /// No `&` stands in it.
+    Plain(Known),
+    /// Its parts.
+    Parts(Vec<Part>),
+}
+
+/// What a statement does.
+fn known_of_done(
+    alloc: Global,
+    statement: Statement,
+    text: &[u8],
+    label: &[u8],
+    operand: &[u8],
+) -> Result<Known, AllocError>
+    requires { length operand.now ≤ 255 }
+    ensures { IfOk result (λ p. FitsDone statement text.now label.now operand.now (known p)) }
+{
+    match statement {
+        Statement::Branch => match target_name(alloc, operand)? {
+            Some(name) => Ok(Known::Goes(name)),
+            None => Ok(Known::Open),
+        },
+        Statement::Nothing => {
+            if label.is_empty() {
+                return Ok(Known::Rests);
+            }
+            Ok(Known::Open)
+        }
+        Statement::Leave => Ok(Known::Leaves),
+        Statement::Declare(_)
+        | Statement::Set(_)
+        | Statement::Middle
+        | Statement::BranchIf
+        | Statement::Count
+        | Statement::Note
+        | Statement::Define => Ok(Known::Open),
+    }
+}
+
+/// What a line does behind its sequence symbol that isn't a comment.
+#[tactic(auto, using(crate::proofs::Plans::statement_fits))]
+fn known_of_statement(alloc: Global, text: &[u8]) -> Result<Known, AllocError>
+    requires { length text.now ≤ 255 }
+    ensures { IfOk result (λ p. FitsStatement text.now (known p)) }
+{
+    let fields = three_fields(text);
+    let operation = part(text, fields.operation);
+    let label = part(text, fields.label);
+    let operand = part(text, fields.operand);
+    if operation.is_empty() {
+        return Ok(Known::Open);
+    }
+    match statement_of(operation) {
+        Some(found) => known_of_done(alloc, found, text, label, operand),
+        None => Ok(Known::Open),
+    }
+}
+
+/// What a line without `&` does that isn't a comment.
+#[tactic(auto, using(crate::proofs::Plans::rest_fits, crate::proofs::Plans::line_fits))]
+fn known_of(alloc: Global, of: &SourceLine, text: &[u8]) -> Result<Known, AllocError>
+    requires fields { HaveFields of.now.text (line of.now).fields }
+    requires text { text.now ≡ of.now.text }
+    requires short { length text.now ≤ 255 }
+    requires other { is_comment text.now ≡ false }
+    requires plain { (plain_len text.now == length text.now) ≡ true }
+    ensures { IfOk result (λ p. FitsLine (line of.now) (known p)) }
+{
+    if operation_is(of, b"MACRO") {
+        return Ok(Known::Open);
+    }
+    let rest = cut(text);
+    if is_comment(rest) {
+        return Ok(Known::Rests);
+    }
+    known_of_statement(alloc, rest)
+}
+
+/// What is known of a line.
+#[tactic(auto, using(crate::proofs::Plans::plain_fits))]
+pub(crate) fn plan_of(alloc: Global, of: &SourceLine) -> Result<Plan, AllocError>
+    requires { HaveFields of.now.text (line of.now).fields }
+    ensures { IfOk result (λ p. Fits (line of.now) p) }
+{
+    let text = of.text.bytes();
+    if is_comment(text) {
+        return Ok(Plan::Comment);
+    }
+    if is_plain(text) {
+        let known = known_of(alloc, of, text)?;
+        return Ok(Plan::Plain(known));
+    }
+    let parts = parts_of(alloc, of)?;
+    Ok(Plan::Parts(parts))
+}
