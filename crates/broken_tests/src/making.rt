@@ -4,7 +4,7 @@ use std::test::Fail;
 use tool_runner::{Outcome, run};
 
 /// What a run wrote to `out`.
-pub fn written(alloc: Global, run: &Outcome) -> Result<Vec<u8>, Fail> {
+pub(crate) fn written(alloc: Global, run: &Outcome) -> Result<Vec<u8>, Fail> {
     match run.files.get("out") {
         Some(bytes) => Ok(bytes.to_vec(alloc)?),
         None => Err(Fail::new("nothing was written")),
@@ -12,13 +12,13 @@ pub fn written(alloc: Global, run: &Outcome) -> Result<Vec<u8>, Fail> {
 }
 
 /// The object of a source.
-pub fn object(alloc: Global, source: &str) -> Result<Vec<u8>, Fail> {
+pub(crate) fn object(alloc: Global, source: &str) -> Result<Vec<u8>, Fail> {
     let run = run(alloc, "asm source out", &[("source", source.as_bytes())])?;
     written(alloc, &run)
 }
 
 /// The library of one object file, whose path is `path`.
-pub fn library(alloc: Global, path: &str, object: &[u8]) -> Result<Vec<u8>, Fail> {
+pub(crate) fn library(alloc: Global, path: &str, object: &[u8]) -> Result<Vec<u8>, Fail> {
     let mut words = String::from_str(alloc, "lib out ")?;
     words.push_str(path)?;
     let run = run(alloc, words.as_str(), &[(path, object)])?;

@@ -12,7 +12,7 @@ const HEAD: [u8; 0x37] = [
 ];
 
 /// Puts bytes over those from a place on, as far as there are any.
-pub fn put_all(bytes: &mut [u8], from: usize, more: &[u8]) {
+pub(crate) fn put_all(bytes: &mut [u8], from: usize, more: &[u8]) {
     for (at, value) in more.iter().enumerate() {
         if let Some(byte) = bytes.get_mut(from.saturating_add(at)) {
             *byte = *value;
@@ -21,7 +21,7 @@ pub fn put_all(bytes: &mut [u8], from: usize, more: &[u8]) {
 }
 
 /// Adds a segment with this number, the two bytes of KIND, LENGTH and records.
-pub fn add(
+pub(crate) fn add(
     file: &mut Vec<u8>,
     number: u8,
     kind: [u8; 2],
@@ -40,14 +40,14 @@ pub fn add(
 }
 
 /// The file of one code segment of this LENGTH with these records.
-pub fn file_of_one(alloc: Global, length: u32, body: &[u8]) -> Result<Vec<u8>, Fail> {
+pub(crate) fn file_of_one(alloc: Global, length: u32, body: &[u8]) -> Result<Vec<u8>, Fail> {
     let mut file = Vec::new(alloc);
     add(&mut file, 1, [0, 0], length, body)?;
     Ok(file)
 }
 
 /// The file, whose size is that of a file; nothing is told where it isn't.
-pub fn read(alloc: Global, file: &[u8]) -> Result<LoadFile<'_>, Option<LoadFault>> {
+pub(crate) fn read(alloc: Global, file: &[u8]) -> Result<LoadFile<'_>, Option<LoadFault>> {
     if file.len() > 0x100_0000 {
         return Err(None);
     }
@@ -58,7 +58,7 @@ pub fn read(alloc: Global, file: &[u8]) -> Result<LoadFile<'_>, Option<LoadFault
 }
 
 /// The fault of a file, if it has one.
-pub fn fault_in(alloc: Global, file: &[u8]) -> Option<LoadFault> {
+pub(crate) fn fault_in(alloc: Global, file: &[u8]) -> Option<LoadFault> {
     match read(alloc, file) {
         Ok(_) => None,
         Err(fault) => fault,
@@ -66,7 +66,7 @@ pub fn fault_in(alloc: Global, file: &[u8]) -> Option<LoadFault> {
 }
 
 /// The cells of a segment from an offset on, so many.
-pub fn cells(
+pub(crate) fn cells(
     alloc: Global,
     file: &[u8],
     segment: u32,
@@ -108,7 +108,7 @@ fn stands(alloc: Global, load: &LoadFile, segment: u32, places: &Places) -> Resu
 }
 
 /// What stands in memory for a segment of a file whose first two segments lie at these addresses.
-pub fn patched(
+pub(crate) fn patched(
     alloc: Global,
     file: &[u8],
     segment: u32,

@@ -36,7 +36,7 @@ fn put(bytes: &mut [u8], changes: &[(usize, u8)]) {
 }
 
 /// Appends a segment of these records and so many cells, with bytes of its header changed.
-pub fn put_segment(
+pub(crate) fn put_segment(
     out: &mut Vec<u8>,
     changes: &[(usize, u8)],
     cells: u32,
@@ -57,7 +57,11 @@ pub fn put_segment(
 }
 
 /// Appends a segment of so many zeros.
-pub fn put_zeros(out: &mut Vec<u8>, changes: &[(usize, u8)], cells: u32) -> Result<(), AllocError> {
+pub(crate) fn put_zeros(
+    out: &mut Vec<u8>,
+    changes: &[(usize, u8)],
+    cells: u32,
+) -> Result<(), AllocError> {
     let mut space = [0xF1, 0, 0, 0, 0];
     space[1..].copy_from_slice(&cells.to_le_bytes());
     put_segment(out, changes, cells, &space)
@@ -65,7 +69,7 @@ pub fn put_zeros(out: &mut Vec<u8>, changes: &[(usize, u8)], cells: u32) -> Resu
 
 /// An object file: a segment of these records with one byte of its header changed, `S` of 16 zeros in the load segment `S`, and `D`
 /// of 4 zeros in the dynamic load segment `D`.
-pub fn object_of(
+pub(crate) fn object_of(
     alloc: Global,
     change: (usize, u8),
     cells: u32,
@@ -79,7 +83,7 @@ pub fn object_of(
 }
 
 /// The load file of these inputs, or why there is none.
-pub fn linked_all(
+pub(crate) fn linked_all(
     alloc: Global,
     inputs: Result<Vec<Vec<u8>>, AllocError>,
 ) -> Result<Vec<u8>, LinkFault> {
@@ -96,12 +100,21 @@ fn one(alloc: Global, object: Result<Vec<u8>, AllocError>) -> Result<Vec<Vec<u8>
 }
 
 /// The load file of one object file, or why there is none.
-pub fn linked(alloc: Global, object: Result<Vec<u8>, AllocError>) -> Result<Vec<u8>, LinkFault> {
+pub(crate) fn linked(
+    alloc: Global,
+    object: Result<Vec<u8>, AllocError>,
+) -> Result<Vec<u8>, LinkFault> {
     linked_all(alloc, one(alloc, object))
 }
 
 /// A fault of the first file.
-pub fn fault(alloc: Global, cause: LinkCause, name: &[u8], segment: u32, at: u32) -> LinkFault {
+pub(crate) fn fault(
+    alloc: Global,
+    cause: LinkCause,
+    name: &[u8],
+    segment: u32,
+    at: u32,
+) -> LinkFault {
     let name = if name.is_empty() {
         None
     } else {
@@ -119,6 +132,6 @@ pub fn fault(alloc: Global, cause: LinkCause, name: &[u8], segment: u32, at: u32
 }
 
 /// Why there is no load file, if there is none.
-pub fn fault_of(made: Result<Vec<u8>, LinkFault>) -> Option<LinkFault> {
+pub(crate) fn fault_of(made: Result<Vec<u8>, LinkFault>) -> Option<LinkFault> {
     made.err()
 }

@@ -20,7 +20,7 @@ const FIRST: Facts = Facts {
 const PLACE: u32 = 0x81B;
 
 /// Appends a segment with this KIND, LENGTH and body, whose name is empty and which stays in a bank.
-pub fn put(
+pub(crate) fn put(
     out: &mut Vec<u8>,
     number: u8,
     kind: [u8; 2],

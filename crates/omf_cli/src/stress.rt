@@ -106,7 +106,6 @@ fn run_workload(alloc: Global, n: u32, seed: u32) -> Result<(u32, Worked), Alloc
 }
 
 /// Runs the workload and prints its line. The loader that answered all calls is handed out.
-
 pub fn run_stress<S: Sink>(
     alloc: Global,
     n: u32,

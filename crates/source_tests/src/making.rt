@@ -14,7 +14,7 @@ fn made(alloc: Global, words: &str, held: &[(&str, &[u8])]) -> Result<Vec<u8>, F
 }
 
 /// The object of a source and a macro file.
-pub fn object(alloc: Global, source: &str, macros: &str) -> Result<Vec<u8>, Fail> {
+pub(crate) fn object(alloc: Global, source: &str, macros: &str) -> Result<Vec<u8>, Fail> {
     made(
         alloc,
         "asm src out mac",
@@ -23,19 +23,19 @@ pub fn object(alloc: Global, source: &str, macros: &str) -> Result<Vec<u8>, Fail
 }
 
 /// The load file of a source and a macro file.
-pub fn program(alloc: Global, source: &str, macros: &str) -> Result<Vec<u8>, Fail> {
+pub(crate) fn program(alloc: Global, source: &str, macros: &str) -> Result<Vec<u8>, Fail> {
     let object = object(alloc, source, macros)?;
     made(alloc, "link out obj", &[("obj", &object)])
 }
 
 /// Whether a source isn't assembled, with this line.
-pub fn asm_refuses(alloc: Global, source: &str, line: &str) -> Result<bool, Fail> {
+pub(crate) fn asm_refuses(alloc: Global, source: &str, line: &str) -> Result<bool, Fail> {
     let run = run(alloc, "asm src out", &[("src", source.as_bytes())])?;
     Ok(ends(&run, Status::Refused, line.as_bytes(), None))
 }
 
 /// Whether a source is assembled and not linked, with this line.
-pub fn link_refuses(alloc: Global, source: &str, line: &str) -> Result<bool, Fail> {
+pub(crate) fn link_refuses(alloc: Global, source: &str, line: &str) -> Result<bool, Fail> {
     let object = object(alloc, source, "")?;
     let run = run(alloc, "link out obj", &[("obj", &object)])?;
     Ok(ends(&run, Status::Refused, line.as_bytes(), None))
