@@ -8,8 +8,11 @@ use Rattle.iigs_meaning.specs.Blocks.{AreApart, new_slots}
 use Rattle.iigs_memory.specs.Offsets.{bytes_below}
 use Rattle.iigs_memory.specs.Spots.{IsBoundedSlot}
 use Rattle.iigs_memory.specs.Store.{IsStore, extent}
-use Rattle.iigs_memory.specs.Marks.{IsMarked}
+use Rattle.iigs_memory.specs.declared.layout.Layout.{Layout}
+use Rattle.iigs_memory.specs.Marks.{HaveMarks}
+use Rattle.iigs_memory.specs.Runs.{HasRoom, IsLayout}
 use Rattle.iigs_memory.proofs.Extents.{all_slots}
+use Rattle.iigs_memory.proofs.Covered.{cover_none}
 
 all_new : (n place : ℕ) → slot_at (replicate n (new_slot {T = Block})) place ≡ new_slot
 all_new zero place = refl
@@ -53,17 +56,26 @@ new_store banks buffer spots turns made small room s t m = record {
   made_room = m;
 }
 
-none_marked : (n : ℕ) → IsMarked (replicate n new_slot) []
-none_marked n = record {
-  order = λ i j d le lt. absurd (omega (arith, lt));
-  small = λ m has. absurd (omega (arith, has.1));
+none_have : (n : ℕ) → HaveMarks (replicate n new_slot) []
+none_have n = record {
   each = λ place e is. absurd (none place e is);
-  apart = λ place e m is has not. absurd (none place e is);
+  are = λ m has. absurd (omega (arith, has.1));
 }
   where
     none : (place : ℕ) (e : ℕ × ℕ) → extent (slot_at (replicate n new_slot) place) ≡ Some e → ⊥
     none place e is = let no : None ≡ Some e = ap extent (sym (all_new n place)) ∙ is in absurd cc
 
-pub new_marks : IsMarked new_slots []
+new_have : HaveMarks new_slots []
 unfolding new_slots
-new_marks = none_marked 4096
+new_have = none_have 4096
+
+pub new_layout : (layout : Layout) → layout.marks.items ≡ [] → layout.runs.items ≡ [] → HasRoom layout → IsLayout new_slots layout
+new_layout layout marks runs room = record {
+  laid = record {
+    order = rw marks (λ i j d le lt. absurd (omega (arith, lt)));
+    few = rw marks (omega arith);
+    cover = rw (marks, runs) cover_none;
+    room = room;
+  };
+  have = rw marks new_have;
+}

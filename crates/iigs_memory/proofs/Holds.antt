@@ -1,7 +1,8 @@
 -- A store whose slots are changed is one again.
-use Rattle.std.proofs.Common.{◌≡◌, inr, ℕ, Bool, true, false, cond, ◌<◌, List, [], map, All, length, Option, Some, None, IsSome, IsSomeAnd, IfSome, is_some, refl, ap, ◌∙◌}
+use Rattle.std.proofs.Common.{◌≡◌, inl, inr, ℕ, Bool, true, false, cond, ◌<◌, List, [], map, All, length, Option, Some, None, IsSome, IsSomeAnd, IfSome, is_some, refl, ap, ◌∙◌}
 use Rattle.std.proofs.Math.ListN.{set, length-set}
 use Rattle.std.proofs.lemmas.List.{length-map}
+use Rattle.std.proofs.lemmas.Bool.{cases_eq}
 use Rattle.iigs_meaning.specs.declared.handles.Handle.{Handle}
 use Rattle.iigs_meaning.specs.declared.slots.Slot.{Slot}
 use Rattle.iigs_meaning.specs.declared.slots.Content.TheVariants.{Used}
@@ -11,10 +12,10 @@ use Rattle.iigs_meaning.specs.Fits.{block_in}
 use Rattle.iigs_meaning.specs.Placement.{emptied_where}
 use Rattle.iigs_meaning.specs.Memory.{KeepsBut}
 use Rattle.iigs_memory.specs.Spots.{IsBounded, IsBoundedSlot}
-use Rattle.iigs_memory.specs.Store.{memory_of, IsStore}
+use Rattle.iigs_memory.specs.Store.{memory_of, extent, IsStore}
 use Rattle.iigs_memory.proofs.Extents.{each_slot}
 use Rattle.iigs_memory.proofs.Stores.{StaysIn, Stays, apart_stays, keeps_stays, map_stays}
-use Rattle.iigs_memory.proofs.Changed.{live_block, live_in, with_is, set_stays, set_bounded, map_bounded, release_stays, release_bounded}
+use Rattle.iigs_memory.proofs.Changed.{live_block, live_in, with_is, set_here, set_other, set_stays, set_bounded, map_bounded, release_stays, release_bounded}
 
 -- the store with other slots, in which no block comes to another place
 pub store_stays : (banks buffer : List ℕ) (old new : List (Slot Block)) (spots turns made : ℕ) → IsStore banks old buffer spots turns made
@@ -61,6 +62,17 @@ module _ (slots : List (Slot Block)) (h : Handle) (block old : Block) (was : get
   put_stays at = rw (with_is slots h (record { generation = h.generation; content = Used block }) live)
       (set_stays slots h.slot (record { generation = h.generation; content = Used block }) (live_in slots h live) put_extent at)
 
+  same_extent : extent (record { generation = h.generation; content = Used block }) ≡ extent (slot_at slots h.slot)
+  same_extent =
+      let there : block_in (slot_at slots h.slot) ≡ Some old = live_block slots h old was in
+      rw (place, want, there) refl
+
+  pub put_same : (at : ℕ) → extent (slot_at (with_value slots h block) at) ≡ extent (slot_at slots at)
+  put_same at = rw (with_is slots h (record { generation = h.generation; content = Used block }) live) (elim (cases_eq at h.slot) [
+    | inl eq ↦ rw (eq, set_here slots h.slot (record { generation = h.generation; content = Used block }) (live_in slots h live)) same_extent
+    | inr ne ↦ rw (set_other slots h.slot (record { generation = h.generation; content = Used block }) at ne) refl
+  ])
+
   pub put_bounded : All IsBoundedSlot slots → block.level < 256 → All IsBoundedSlot (with_value slots h block)
   put_bounded bounded level =
       let there : block_in (slot_at slots h.slot) ≡ Some old = live_block slots h old was in
@@ -83,8 +95,10 @@ put_all slots h block same = go (get slots h) refl same
     go None is same = absurd same
     go (Some old) is same = (old, is, same.0, same.1)
 
-pub blocks_stay : (slots : List (Slot Block)) (h : Handle) (block : Block) → IsSomeAnd (get slots h) (λ old. (block.at ≡ old.at) × (block.want ≡ old.want)) → (place : ℕ) → Stays slots (with_value slots h block) place
-blocks_stay slots h block same = let all = put_all slots h block same in put_stays slots h block all.0 all.1 all.2 all.3
+-- blocks are where they were
+pub blocks_same : (slots : List (Slot Block)) (h : Handle) (block : Block) → IsSomeAnd (get slots h) (λ old. (block.at ≡ old.at) × (block.want ≡ old.want))
+    → (place : ℕ) → extent (slot_at (with_value slots h block) place) ≡ extent (slot_at slots place)
+blocks_same slots h block same = let all = put_all slots h block same in put_same slots h block all.0 all.1 all.2 all.3
 
 pub store_put : (banks buffer : List ℕ) (slots : List (Slot Block)) (spots turns made : ℕ) (h : Handle) (block : Block) → IsStore banks slots buffer spots turns made
     → block.level < 256 → IsSomeAnd (get slots h) (λ old. (block.at ≡ old.at) × (block.want ≡ old.want))

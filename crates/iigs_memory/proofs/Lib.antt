@@ -18,6 +18,8 @@ pub mod Stores
 pub mod Changed
 pub mod Holds
 pub mod Marked
+pub mod Covered
+pub mod Quick
 pub mod Puts
 pub mod Fresh
 pub mod Alls

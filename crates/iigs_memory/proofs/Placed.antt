@@ -131,7 +131,7 @@ module _ (limit address size : ℕ) (some : 0 < size) where
       go generation (Used block) beside = block_kept generation block beside
 
 -- what of fitting doesn't look at blocks
-fits_open : (banks : List ℕ) (slots : List (Slot Block)) (want : Want) (address : ℕ) → 0 < want.size → Fits banks slots want address → IsOpen banks want address
+pub fits_open : (banks : List ℕ) (slots : List (Slot Block)) (want : Want) (address : ℕ) → 0 < want.size → Fits banks slots want address → IsOpen banks want address
 fits_open banks slots want address some fits = record {
   stands = record { aligned = fits.aligned; fixed = fits.fixed; low = fits.low };
   clear = record {
@@ -148,7 +148,7 @@ fits_open banks slots want address some fits = record {
     bank_at None all i from to = tt
     bank_at (Some bank) all i from to = all i from to
 
-open_fits : (banks : List ℕ) (slots : List (Slot Block)) (want : Want) (address : ℕ) → IsOpen banks want address
+pub open_fits : (banks : List ℕ) (slots : List (Slot Block)) (want : Want) (address : ℕ) → IsOpen banks want address
     → All (IsApart address want.size) slots → Fits banks slots want address
 open_fits banks slots want address open_ apart = record {
   free = λ i from to. (open_.clear.allowed i from to).free;

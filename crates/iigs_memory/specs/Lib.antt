@@ -7,4 +7,5 @@ pub mod Overlay
 pub mod Table
 pub mod Alls
 pub mod Marks
+pub mod Runs
 pub mod Holder

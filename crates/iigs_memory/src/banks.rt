@@ -15,7 +15,8 @@ ghost use Rattle.iigs_meaning.specs.Memory.{bytes_at, IsLent, KeepsBut, Changes,
 ghost use Rattle.iigs_meaning.specs.Room.{CountsBelow, IsRoom};
 
 use crate::bank_map::BankMap;
-use crate::marks::{Mark, last_mark, mark_all};
+use crate::layout::{Layout, lay_all, lay_less, new_layout};
+use crate::marks::last_mark;
 use crate::part::Part;
 use crate::spots::Spot;
 use crate::table::{
@@ -28,6 +29,7 @@ use iigs_meaning::{
 };
 use std::alloc::{AllocError, Global};
 use std::marker::Model;
+use std::mem;
 
 /// Banks of memory with blocks under handles.
 #[derive(Drop)]
@@ -43,8 +45,9 @@ pub struct Banks {
     spots: Vec<Spot>,
     turns: Vec<u32>,
     made: Vec<Put>,
-    // Made at each placement. Blocks that went since may have their marks still.
-    marks: Vec<Mark>,
+    // Where the blocks of the table lie, and those of the plan.
+    layout: Layout,
+    plan_layout: Layout,
 }
 
 impl Model for Banks {
@@ -55,12 +58,12 @@ impl Model for Banks {
 
     ghost use Rattle.std.specs.Prelude.{◌≤◌};
     ghost use Rattle.iigs_memory.specs.Store.{memory_of, IsStore, IsBlank};
-    ghost use Rattle.iigs_memory.specs.Marks.{IsMarked};
+    ghost use Rattle.iigs_memory.specs.Runs.{IsLayout, HasRoom};
 
     ghost view = { λ s. memory_of s.map s.table s.bytes.items };
 
     ghost invariant = { λ s. IsStore s.map s.table s.bytes.items (vec_capacity s.spots) (vec_capacity s.turns) (vec_capacity s.made)
-        × IsMarked s.table s.marks.items × (4096 ≤ vec_capacity s.marks) × IsBlank s.blank s.bytes.items };
+        × IsLayout s.table s.layout × HasRoom s.plan_layout × IsBlank s.blank s.bytes.items };
 }
 
 fn slice(bytes: &[u8], start: usize, end: usize) -> &[u8]
@@ -79,12 +82,6 @@ fn zeros(alloc: Global, size: usize) -> Result<Vec<u8>, AllocError>
 
 fn scratch<T>(alloc: Global, count: usize) -> Result<Vec<T>, AllocError>
     ensures { IfOk result (λ items. count ≤ vec_capacity items) }
-{
-    Vec::with_capacity(alloc, count)
-}
-
-fn no_marks(alloc: Global, count: usize) -> Result<Vec<Mark>, AllocError>
-    ensures { IfOk result (λ marks. (marks.items ≡ []) × (count ≤ vec_capacity marks)) }
 {
     Vec::with_capacity(alloc, count)
 }
@@ -114,7 +111,8 @@ fn parts(alloc: Global, map: BankMap) -> Result<Banks, AllocError>
         spots: scratch(alloc, SLOTS)?,
         turns: scratch(alloc, SLOTS)?,
         made: scratch(alloc, SLOTS)?,
-        marks: no_marks(alloc, SLOTS)?,
+        layout: new_layout(alloc)?,
+        plan_layout: new_layout(alloc)?,
     })
 }
 
@@ -204,7 +202,7 @@ impl Banks {
     pub fn holder(&self, address: u32) -> Option<Handle>
         ensures { MatchOption result ((h : declared.Handle) → ¬ Has self.now.slots address h) (IsHolder self.now.slots address) }
     {
-        match last_mark(&self.marks, address) {
+        match last_mark(&self.layout.marks, address) {
             Some(mark) => self.held_at(mark.slot, address),
             None => None,
         }
@@ -313,9 +311,10 @@ impl Banks {
         ensures refused { IfErr result (IsStale self.old.slots h) }
         ensures err { OnErr result (self.new ≡ self.old) }
     {
-        let Ok(_) = self.table.release(h) else {
+        let Ok(block) = self.table.release(h) else {
             return Err(BlockFault::Stale);
         };
+        lay_less(&mut self.layout, h.slot, block.at.unwrap_or(0));
         Ok(())
     }
 
@@ -340,7 +339,9 @@ impl Banks {
     pub fn purge_user(&mut self, user: u16) -> u32
         ensures { IsPurged self.old user result self.new }
     {
-        purge_user(&mut self.table, user)
+        let count = purge_user(&mut self.table, user);
+        lay_all(&mut self.layout, &self.table);
+        count
     }
 
     /// Places a block under a new handle. It is all zeros. Blocks are purged for it as needed.
@@ -359,6 +360,7 @@ impl Banks {
         let put = match put_block(
             &self.map,
             &mut self.table,
+            &mut self.layout,
             &mut self.spots,
             &mut self.turns,
             want,
@@ -369,7 +371,6 @@ impl Banks {
             Ok(put) => put,
             Err(fault) => return Err(fault),
         };
-        mark_all(&self.table, &mut self.marks);
         clear(
             &mut self.bytes,
             self.blank,
@@ -389,6 +390,7 @@ impl Banks {
         let at = match replace_block(
             &self.map,
             &mut self.table,
+            &mut self.layout,
             &mut self.spots,
             &mut self.turns,
             h,
@@ -397,7 +399,6 @@ impl Banks {
             Ok(at) => at,
             Err(fault) => return Err(fault),
         };
-        mark_all(&self.table, &mut self.marks);
         clear(
             &mut self.bytes,
             self.blank,
@@ -427,9 +428,11 @@ impl Banks {
         if (self.plan.left() as usize) < wants.len() {
             return Err(PlaceFault::NoHandle);
         }
+        lay_all(&mut self.plan_layout, &self.plan);
         match put_all(
             &self.map,
             &mut self.plan,
+            &mut self.plan_layout,
             &mut self.spots,
             &mut self.turns,
             &mut self.made,
@@ -440,7 +443,7 @@ impl Banks {
             Err(fault) => return Err(fault),
         }
         self.table.copy_from(&self.plan);
-        mark_all(&self.table, &mut self.marks);
+        mem::swap(&mut self.layout, &mut self.plan_layout);
         clear_all(&self.map, &mut self.bytes, self.blank, wants, &self.made);
         give(&self.made, handles);
         Ok(())

@@ -6,9 +6,11 @@
 mod bank_map;
 mod banks;
 mod law;
+mod layout;
 mod marks;
 mod open;
 mod part;
+mod runs;
 mod search;
 mod spots;
 mod table;

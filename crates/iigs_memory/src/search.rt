@@ -6,8 +6,10 @@ ghost use Rattle.std.specs.List.Sorted.{IsNonDecreasingBy};
 ghost use Rattle.iigs_meaning.specs.Fits.{IsWant};
 ghost use Rattle.iigs_memory.specs.declared.spots.Spot.{Spot};
 ghost use Rattle.iigs_memory.specs.Spots.{FitsAmong, IsLeastAmong, IsPast, HasNoPlace, IsFewestAmong, FitsWithNone, limit_of, never, IsBoundedSlot, IsFound};
+ghost use Rattle.iigs_memory.specs.Runs.{IsLayout};
 
 use crate::bank_map::BankMap;
+use crate::layout::Layout;
 use crate::open::next_open;
 use crate::spots::{Spot, survey};
 use iigs_handles::Handles;
@@ -148,23 +150,28 @@ pub fn fewest(map: &BankMap, want: &Want, spots: &[Spot], turns: &[u32]) -> Opti
     })
 }
 
-/// Where the want goes among the blocks of this table, and which are purged for it. `spots` and `turns` are scratch
-/// space with room for all blocks.
+/// Where the want goes among the blocks of this table, and which are purged for it. Where it fits beside the runs, none
+/// is, and the blocks aren't looked at. `spots` and `turns` are scratch space with room for all blocks.
 pub fn find(
     map: &BankMap,
     want: &Want,
     table: &Handles<Block>,
+    layout: &Layout,
     spots: &mut Vec<Spot>,
     turns: &mut Vec<u32>,
 ) -> Option<Found>
     requires want { IsWant want.now }
     requires bounded { All IsBoundedSlot table.now }
+    requires laid { IsLayout table.now layout.now }
     requires spots_room { 4096 ≤ vec_capacity spots.old }
     requires turns_room { 4096 ≤ vec_capacity turns.old }
     ensures found { MatchOption result (HasNoRoom map.now table.now want.now) (IsFound map.now table.now want.now) }
     ensures spots_capacity { vec_capacity spots.old ≤ vec_capacity spots.new }
     ensures turns_capacity { vec_capacity turns.old ≤ vec_capacity turns.new }
 {
+    if let Some(at) = least_among(map, want, &layout.runs, 0) {
+        return Some(Found { limit: 0, at });
+    }
     survey(table, spots, turns);
     fewest(map, want, spots, turns)
 }

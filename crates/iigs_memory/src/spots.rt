@@ -1,6 +1,7 @@
 //! Blocks as the search for a place sees them.
 
 ghost use Rattle.std.specs.Prelude.{◌≡◌, ◌++◌, ◌+◌, ◌^◌, ◌<◌, ◌≤◌, All, length, vec_len, vec_capacity};
+ghost use Rattle.std.specs.List.{insert};
 ghost use Rattle.std.specs.Option.{option_to_list};
 ghost use Rattle.std.specs.List.Sorted.{IsPermutation, IsNonDecreasingBy};
 ghost use Rattle.iigs_memory.specs.Spots.{never, turn_of as turn_in_order, spot_in, turn_in as kept_turn, spots_of, turns_of, IsBounded, IsBoundedSlot, IsSurvey};
@@ -8,7 +9,7 @@ ghost use Rattle.iigs_memory.specs.Spots.{never, turn_of as turn_in_order, spot_
 use iigs_handles::Handles;
 use iigs_meaning::{Block, Content, Slot};
 
-/// A block that is there.
+/// A block that is there, or several with no byte between them.
 #[derive(Clone, Copy)]
 pub struct Spot {
     /// The address of its first byte.
@@ -63,6 +64,20 @@ pub fn push_some<T: Drop>(items: &mut Vec<T>, item: Option<T>)
 {
     if let Some(item) = item {
         items.push_reserved(item);
+    }
+}
+
+/// Puts an item at a place of a list that has room for it.
+pub fn insert_reserved<T: Drop>(items: &mut Vec<T>, place: usize, item: T)
+    requires place { place ≤ vec_len items.old }
+    requires room { vec_len items.old < vec_capacity items.old }
+    ensures items { items.new.items ≡ insert items.old.items place item }
+    ensures len { vec_len items.new ≡ vec_len items.old + 1 }
+    ensures capacity { vec_capacity items.old ≤ vec_capacity items.new }
+{
+    match items.insert(place, item) {
+        Ok(()) => {}
+        Err(_) => unreachable!(),
     }
 }
 

@@ -12,8 +12,11 @@ ghost use Rattle.iigs_memory.specs.Spots.{turn_of as turn_in_order, IsBoundedSlo
 ghost use Rattle.iigs_memory.specs.Alls.{AllPut, FitIn, cleared, handle_of};
 ghost use Rattle.iigs_memory.specs.Table.{IsPut, IsReput};
 ghost use Rattle.iigs_memory.specs.Store.{IsBlank};
+ghost use Rattle.iigs_memory.specs.Runs.{HasRoom, IsLayout};
 
 use crate::bank_map::BankMap;
+use crate::layout::{Layout, lay_put};
+use crate::marks::Mark;
 use crate::search::find;
 use crate::spots::{Spot, turn_of};
 use iigs_handles::Handles;
@@ -142,11 +145,12 @@ pub fn purge_user(table: &mut Handles<Block>, user: u16) -> u32
     count
 }
 
-/// Puts a block where its want goes, under a new handle. Blocks are purged for it as needed; `spots` and `turns` are
-/// scratch space.
+/// Puts a block where its want goes, under a new handle. Blocks are purged for it as needed. `layout` is that of the
+/// table; `spots` and `turns` are scratch space.
 pub fn put_block(
     map: &BankMap,
     table: &mut Handles<Block>,
+    layout: &mut Layout,
     spots: &mut Vec<Spot>,
     turns: &mut Vec<u32>,
     want: &Want,
@@ -155,21 +159,27 @@ pub fn put_block(
     level: u8,
 ) -> Result<Put, PlaceFault>
     requires want { IsWant want.now }
+    requires banks { All (λ bank. bank < 256) map.now }
     requires bounded { All IsBoundedSlot table.old }
+    requires sound { AreApart map.now table.old }
+    requires laid { IsLayout table.old layout.old }
     requires spots_room { 4096 ≤ vec_capacity spots.old }
     requires turns_room { 4096 ≤ vec_capacity turns.old }
     ensures put { IfOk result (λ put. IsPut map.now table.old want.now user locked level put table.new) }
     ensures refused { IfErr result (IsPlaceRefusal Purges map.now table.old want.now) }
+    ensures laid { OnOk result (IsLayout table.new layout.new) }
     ensures err { OnErr result (table.new ≡ table.old) }
+    ensures layout_kept { OnErr result (layout.new ≡ layout.old) }
     ensures spots_capacity { vec_capacity spots.old ≤ vec_capacity spots.new }
     ensures turns_capacity { vec_capacity turns.old ≤ vec_capacity turns.new }
 {
     if table.left() == 0 {
         return Err(PlaceFault::NoHandle);
     }
-    let Some(found) = find(map, want, table, spots, turns) else {
+    let Some(found) = find(map, want, table, layout, spots, turns) else {
         return Err(PlaceFault::NoRoom(0));
     };
+    let end = found.at + want.size;
     empty_below(table, found.limit);
     let block = Block {
         at: Some(found.at),
@@ -178,31 +188,44 @@ pub fn put_block(
         locked,
         level,
     };
-    match table.take(block) {
-        Ok(handle) => Ok(Put {
-            handle,
-            at: found.at,
-        }),
+    let handle = match table.take(block) {
+        Ok(handle) => handle,
         Err(_) => unreachable!(),
-    }
+    };
+    let mark = Mark {
+        at: found.at,
+        end,
+        slot: handle.slot,
+    };
+    lay_put(layout, table, mark, found.limit);
+    Ok(Put {
+        handle,
+        at: found.at,
+    })
 }
 
-/// Puts an empty block anew where its want goes, and gives the address.
+/// Puts an empty block anew where its want goes, and gives the address. `layout` is that of the table.
 pub fn replace_block(
     map: &BankMap,
     table: &mut Handles<Block>,
+    layout: &mut Layout,
     spots: &mut Vec<Spot>,
     turns: &mut Vec<u32>,
     h: Handle,
     want: &Want,
 ) -> Result<u32, PlaceFault>
     requires want { IsWant want.now }
+    requires banks { All (λ bank. bank < 256) map.now }
     requires bounded { All IsBoundedSlot table.old }
+    requires sound { AreApart map.now table.old }
+    requires laid { IsLayout table.old layout.old }
     requires spots_room { 4096 ≤ vec_capacity spots.old }
     requires turns_room { 4096 ≤ vec_capacity turns.old }
     ensures put { IfOk result (λ address. IsReput map.now table.old h want.now address table.new) }
     ensures refused { IfErr result (IsReplaceRefusal Purges map.now table.old h want.now) }
+    ensures laid { OnOk result (IsLayout table.new layout.new) }
     ensures err { OnErr result (table.new ≡ table.old) }
+    ensures layout_kept { OnErr result (layout.new ≡ layout.old) }
     ensures spots_capacity { vec_capacity spots.old ≤ vec_capacity spots.new }
     ensures turns_capacity { vec_capacity turns.old ≤ vec_capacity turns.new }
 {
@@ -213,9 +236,10 @@ pub fn replace_block(
     if block.at.is_some() {
         return Err(PlaceFault::NotEmpty);
     }
-    let Some(found) = find(map, want, table, spots, turns) else {
+    let Some(found) = find(map, want, table, layout, spots, turns) else {
         return Err(PlaceFault::NoRoom(0));
     };
+    let end = found.at + want.size;
     empty_below(table, found.limit);
     let block = Block {
         at: Some(found.at),
@@ -223,6 +247,12 @@ pub fn replace_block(
         ..block
     };
     set(table, h, block);
+    let mark = Mark {
+        at: found.at,
+        end,
+        slot: h.slot,
+    };
+    lay_put(layout, table, mark, found.limit);
     Ok(found.at)
 }
 
@@ -261,11 +291,12 @@ pub fn used_bytes(table: &Handles<Block>) -> u64
     bytes_in(&table.slots()[..table.end()])
 }
 
-/// Places blocks for these wants in order, locked with level 0. `made` tells where they are; it, `spots` and `turns` are
-/// scratch space.
+/// Places blocks for these wants in order, locked with level 0. `layout` is that of the table. `made` tells where they
+/// are; it, `spots` and `turns` are scratch space.
 pub fn put_all(
     map: &BankMap,
     table: &mut Handles<Block>,
+    layout: &mut Layout,
     spots: &mut Vec<Spot>,
     turns: &mut Vec<u32>,
     made: &mut Vec<Put>,
@@ -276,12 +307,15 @@ pub fn put_all(
     requires banks { All (λ bank. bank < 256) map.now }
     requires bounded { All IsBoundedSlot table.old }
     requires sound { AreApart map.now table.old }
+    requires laid { IsLayout table.old layout.old }
     requires free { length wants.now ≤ count_by is_free table.old }
     requires few { length wants.now ≤ 4096 }
     requires spots_room { 4096 ≤ vec_capacity spots.old }
     requires turns_room { 4096 ≤ vec_capacity turns.old }
     requires made_room { 4096 ≤ vec_capacity made.old }
     ensures put { OnOk result (AllPut map.now user table.old wants.now made.new.items table.new) }
+    ensures laid { OnOk result (IsLayout table.new layout.new) }
+    ensures room { HasRoom layout.new }
     ensures refused { IfErr result (IsPlaceAllRefusal Purges map.now user table.old wants.now) }
     ensures spots_capacity { vec_capacity spots.old ≤ vec_capacity spots.new }
     ensures turns_capacity { vec_capacity turns.old ≤ vec_capacity turns.new }
@@ -289,7 +323,17 @@ pub fn put_all(
 {
     made.clear();
     for place in 0..wants.len() {
-        match put_block(map, table, spots, turns, &wants[place], user, true, 0) {
+        match put_block(
+            map,
+            table,
+            layout,
+            spots,
+            turns,
+            &wants[place],
+            user,
+            true,
+            0,
+        ) {
             Ok(put) => made.push_reserved(put),
             Err(PlaceFault::NoRoom(_)) => return Err(PlaceFault::NoRoom(place as u32)),
             Err(PlaceFault::NoHandle) => unreachable!(),

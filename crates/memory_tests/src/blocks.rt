@@ -1,4 +1,4 @@
-ghost use Rattle.std.specs.Prelude.{◌<◌, IsTrue};
+ghost use Rattle.std.specs.Prelude.{◌<◌, ◌^◌, IsTrue};
 ghost use Rattle.iigs_meaning.specs.Fits.{IsWant};
 
 use iigs_memory::{Banks, BanksFault, BlockFault, Handle, PlaceFault, Want};
@@ -460,5 +460,89 @@ fn the_block_of_a_byte_is_found(rt: HostRuntime) -> Result<(), Fail> {
     puts(&rt, &mut banks, 0x30, (3, 0), Ok(handle(0, 1)));
     found_at(&rt, &banks, 0x2_0010, Some(handle(0, 1)));
     found_at(&rt, &banks, 0x2_002F, Some(handle(0, 1)));
+    Ok(())
+}
+
+// The first byte of a block and the byte after its last one; zeros where none is.
+fn bytes_of(banks: &Banks, slot: &Option<Handle>) -> (u64, u64)
+    ensures { result.1 < 2 ^ 33 }
+{
+    let Some(h) = *slot else {
+        return (0, 0);
+    };
+    let Ok(state) = banks.state(h) else {
+        return (0, 0);
+    };
+    let Some(at) = state.at else {
+        return (0, 0);
+    };
+    (u64::from(at), u64::from(at) + u64::from(state.size))
+}
+
+// Whether the bytes from an address up to another lie beside these blocks.
+fn lie_beside(banks: &Banks, there: &[Option<Handle>], at: u64, end: u64) -> bool {
+    for slot in there {
+        let (first, behind) = bytes_of(banks, slot);
+        if first < end && at < behind {
+            return false;
+        }
+    }
+    true
+}
+
+// The least address in bank 2 at which so many bytes lie beside these blocks: the bank's first, or where a block ends.
+fn least_gap(banks: &Banks, there: &[Option<Handle>], size: u32) -> u64 {
+    if lie_beside(banks, there, 0x2_0000, 0x2_0000 + u64::from(size)) {
+        return 0x2_0000;
+    }
+    let mut least = 0x3_0000;
+    for slot in there {
+        let (_, end) = bytes_of(banks, slot);
+        if 0x2_0000 < end && end < least && lie_beside(banks, there, end, end + u64::from(size)) {
+            least = end;
+        }
+    }
+    least
+}
+
+// Places a block, which goes to the least gap.
+fn goes_to_the_least_gap(
+    rt: &impl Abort,
+    banks: &mut Banks,
+    there: &[Option<Handle>],
+    size: u32,
+) -> Option<Handle>
+    requires { 0 < size }
+{
+    let least = least_gap(banks, there, size);
+    let Ok(h) = banks.place(&any(size), 0, false, 0) else {
+        return None;
+    };
+    let (at, _) = bytes_of(banks, &Some(h));
+    assert_eq!(rt; at, least);
+    Some(h)
+}
+
+// Some 200 blocks that come and go in mixed order. Each goes to the least gap, as a slow search finds it.
+#[test]
+fn blocks_come_and_go(rt: HostRuntime) -> Result<(), Fail> {
+    let mut banks = banks_of(&rt, &[2])?;
+    let mut there = [None; 400];
+    let mut draw = 1u32;
+    for _ in 0..3000 {
+        draw = draw.wrapping_mul(1_103_515_245).wrapping_add(12_345);
+        let place = (draw / 0x1_0000 % 400) as usize;
+        match there[place] {
+            Some(h) => {
+                frees(&rt, &mut banks, h, Ok(()));
+                there[place] = None;
+            }
+            None => {
+                let h = goes_to_the_least_gap(&rt, &mut banks, &there, draw / 0x100 % 97 + 1);
+                assert!(rt; h.is_some());
+                there[place] = h;
+            }
+        }
+    }
     Ok(())
 }

@@ -1,9 +1,12 @@
-use Rattle.std.proofs.Common.{◌≡◌, ◌∙◌, sym, ap, refl, nat_lt, None, IsSome}
+use Rattle.std.proofs.Common.{◌≡◌, ◌∙◌, sym, refl, nat_lt, None, IsSome, arith}
 use Rattle.iigs_meaning.specs.declared.handles.Handle.{Handle}
-use Rattle.iigs_meaning.specs.Puts.{placed}
 use Rattle.iigs_meaning.specs.PlacementLaws.{lacks_room}
-use Rattle.iigs_meaning.specs.Slots.{new_handle, after_take}
-use Rattle.iigs_memory.specs.Spots.{turn_of, IsFound}
+use Rattle.iigs_meaning.specs.Slots.{new_handle}
+use Rattle.iigs_memory.specs.declared.table.Put.{Put}
+use Rattle.iigs_memory.specs.Spots.{turn_of}
+use Rattle.iigs_memory.specs.Table.{IsPut}
+use Rattle.iigs_memory.proofs.Puts.{PutFacts, put_facts, free_limit}
+use Rattle.iigs_memory.proofs.Quick.{put_done, have_taken}
 use Rattle.iigs_memory.proofs.Takes.{no_handle, some_handle, emptied_handle}
 use Rattle.iigs_memory.proofs.table.put_block.Goals as goal
 
@@ -24,12 +27,26 @@ unreachable-requires c =
     let no : IsSome {T = Handle} None = rw (← none) at some in
     cc
 
+pub overflow_add-end : goal.overflow_add-end
+overflow_add-end c = omega (arith, free_limit c.args.map.now c.in-Some.found.at c.args.want.now.size c.requires.banks c.requires.want.some c.in-Some.ensures.found.goes.fits.free)
+
+pub lay_put-requires-clause-sized : goal.lay_put-requires-clause-sized
+lay_put-requires-clause-sized c = (omega (arith, c.requires.want.some), free_limit c.args.map.now c.in-Some.found.at c.args.want.now.size c.requires.banks c.requires.want.some c.in-Some.ensures.found.goes.fits.free)
+
+pub lay_put-requires-clause-bounded : goal.lay_put-requires-clause-bounded
+lay_put-requires-clause-bounded c =
+    let put : Put = record { handle = c.in-Ok.handle; at = c.in-Some.found.at } in
+    let done : IsPut c.args.map.now c.args.table.now c.args.want.now c.args.user c.args.locked c.args.level put c.take.new.self =
+    put_done c.args.map.now c.args.table.now c.args.want.now c.in-Some.found c.in-Some.ensures.found c.args.user c.args.locked c.args.level c.in-Ok.handle c.take.new.self (rw c.empty_below.ensures at c.in-Ok.ensures.handle) (rw c.empty_below.ensures at c.take.ensures.after) in
+    let facts : PutFacts c.args.map.now c.args.table.now c.args.want.now put c.take.new.self =
+    put_facts c.args.map.now c.args.table.now c.take.new.self c.args.want.now c.args.user c.args.locked c.args.level put c.requires.banks c.requires.want c.requires.bounded c.requires.sound c.ranges.level.fits done in
+    facts.bounded
+
+pub lay_put-requires-clause-more : goal.lay_put-requires-clause-more
+lay_put-requires-clause-more c none = rw (c.take.ensures.after, c.empty_below.ensures)
+    (have_taken c.args.table.now c.in-Some.found.limit none c.args.layout.now.marks.items c.requires.laid.have c.args.want.now c.in-Some.found.at c.args.user c.args.locked c.args.level c.in-Ok.handle
+    (sym (c.in-Ok.ensures.handle ∙ rw c.empty_below.ensures (emptied_handle (λ block. nat_lt (turn_of block) c.in-Some.found.limit) c.args.table.now))))
+
 pub returns-clause-put : goal.returns-clause-put
-returns-clause-put c =
-    let found : IsFound c.args.map.now c.args.table.now c.args.want.now c.in-Some.found = c.in-Some.ensures.found in
-    record {
-      count = found.count;
-      goes = found.goes;
-      handle = sym (c.in-Ok.ensures.handle ∙ rw c.empty_below.ensures (emptied_handle (λ block. nat_lt (turn_of block) c.in-Some.found.limit) c.args.table.now));
-      slots = c.take.ensures.after ∙ ap (λ slots. after_take slots (placed c.args.want.now c.in-Some.found.at c.args.user c.args.locked c.args.level)) (c.empty_below.ensures ∙ found.empties);
-    }
+returns-clause-put c = put_done c.args.map.now c.args.table.now c.args.want.now c.in-Some.found c.in-Some.ensures.found c.args.user c.args.locked c.args.level c.in-Ok.handle c.take.new.self
+    (rw c.empty_below.ensures at c.in-Ok.ensures.handle) (rw c.empty_below.ensures at c.take.ensures.after)

@@ -1,7 +1,9 @@
 use Rattle.std.proofs.Common.{◌∙◌, arith, vec_capacity}
-use Rattle.iigs_memory.proofs.Marked.{marked_of}
-use Rattle.iigs_memory.proofs.AllPlaced.{start_bounded, start_sound, all_lengths, all_inside, all_count, all_store, all_placed}
+use Rattle.iigs_memory.proofs.AllPlaced.{start_bounded, start_sound, all_lengths, all_inside, all_store, all_placed}
 use Rattle.iigs_memory.proofs.banks.Banks.place_all.Goals as goal
+
+pub lay_all-requires-clause-bounded : goal.lay_all-requires-clause-bounded
+lay_all-requires-clause-bounded c = rw c.start_plan.ensures (start_bounded c.self.inside.table c.args.user c.args.fresh c.self.invariant.0.bounded)
 
 pub put_all-requires-clause-bounded : goal.put_all-requires-clause-bounded
 put_all-requires-clause-bounded c = rw c.start_plan.ensures (start_bounded c.self.inside.table c.args.user c.args.fresh c.self.invariant.0.bounded)
@@ -34,11 +36,8 @@ invariant_of-self-2 c = rw (c.copy_from.ensures, c.clear_all.ensures.value, c.de
       (vec_capacity c.put_all.new.spots) (vec_capacity c.put_all.new.turns) (vec_capacity c.put_all.new.made)
       (omega (arith, c.self.invariant.0.spots_room, c.in-Ok.ensures.spots_capacity)) (omega (arith, c.self.invariant.0.turns_room, c.in-Ok.ensures.turns_capacity))
       (omega (arith, c.self.invariant.0.made_room, c.in-Ok.ensures.made_capacity)),
-  marked_of c.self.inside.map c.put_all.new.table c.mark_all.new.marks.items
-      (all_count c.self.inside.map c.self.inside.bytes.items c.self.inside.table c.put_all.new.table (vec_capacity c.self.inside.spots) (vec_capacity c.self.inside.turns) (vec_capacity c.self.inside.made) c.self.invariant.0
-      c.args.user c.args.fresh c.args.wants.now c.put_all.new.made.items (rw c.start_plan.ensures at c.in-Ok.ensures.put))
-      c.in-Ok.ensures.put.bounded c.in-Ok.ensures.put.sound (rw c.copy_from.ensures at c.mark_all.ensures.marked),
-  omega (arith, c.self.invariant.2, c.mark_all.ensures.capacity),
+  rw c.swap.ensures.x_after c.in-Ok.ensures.laid,
+  rw c.swap.ensures.y_after c.self.invariant.1.laid.room,
   (rw (c.clear_all.ensures.value, c.deref.ensures.value) at c.clear_all.ensures.blank),
 )
 

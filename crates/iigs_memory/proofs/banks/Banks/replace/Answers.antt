@@ -1,5 +1,4 @@
-use Rattle.std.proofs.Common.{vec_capacity, arith, ◌∙◌}
-use Rattle.iigs_memory.proofs.Marked.{marked_of}
+use Rattle.std.proofs.Common.{vec_capacity, arith}
 use Rattle.iigs_memory.proofs.Puts.{PutFacts, reput_facts, put_within, put_store, put_zeros, put_keeps, reput_is, clear_overlay}
 use Rattle.iigs_memory.proofs.banks.Banks.replace.Goals as goal
 
@@ -18,8 +17,8 @@ invariant_of-self-2 c =
       put_store c.self.inside.map c.self.inside.bytes.items c.self.inside.table c.replace_block.new.table (vec_capacity c.self.inside.spots) (vec_capacity c.self.inside.turns) (vec_capacity c.self.inside.made) c.self.invariant.0
           c.args.h.slot (c.in-Ok.at, c.args.want.now.size) f.len f.bounded f.sound f.others f.is (vec_capacity c.replace_block.new.spots) (vec_capacity c.replace_block.new.turns)
           (omega (arith, c.self.invariant.0.spots_room, c.in-Ok.ensures.spots_capacity)) (omega (arith, c.self.invariant.0.turns_room, c.in-Ok.ensures.turns_capacity)),
-      marked_of c.self.inside.map c.replace_block.new.table c.mark_all.new.marks.items (f.len ∙ c.self.invariant.0.count) f.bounded f.sound c.mark_all.ensures.marked,
-      omega (arith, c.self.invariant.2, c.mark_all.ensures.capacity),
+      c.in-Ok.ensures.laid,
+      c.self.invariant.2,
       (rw (c.clear.ensures.value, c.offset.ensures.value, clear_overlay) at c.clear.ensures.blank),
     )
 
