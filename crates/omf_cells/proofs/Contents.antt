@@ -1,5 +1,5 @@
 -- What is kept of the segments beside their headers.
-use Rattle.std.proofs.Common.{◌≡◌, ℕ, zero, suc, ◌+◌, ◌<◌, ◌≤◌, true, false, eqb, List, [], ◌∷◌, ◌++◌, length, map, take, drop, get_or, Option, Some, None, refl, sym, ap, subst, ◌∙◌, arith, inl, inr}
+use Rattle.std.proofs.Common.{◌≡◌, ℕ, zero, suc, ◌+◌, ◌<◌, ◌≤◌, false, eqb, List, [], ◌∷◌, ◌++◌, length, map, take, drop, get_or, Option, Some, None, refl, sym, ap, subst, ◌∙◌, arith, inl, inr}
 use Rattle.std.specs.Prelude.{slice_get, option_map, if◌then◌else◌}
 use Rattle.std.specs.List.{flat_map, AllByRecursion}
 use Rattle.std.specs.Option.{option_or}
@@ -16,7 +16,7 @@ use Rattle.omf_records.specs.Segments.{shown}
 use Rattle.omf_cells.specs.declared.spots.Spot.{Spot}
 use Rattle.omf_cells.specs.declared.targets.Content.{Content}
 use Rattle.omf_cells.specs.Walk.{patches_from}
-use Rattle.omf_cells.specs.Content.{spread_from, spread, spread_all, last_at, shown_spots, AreBelow, AreRising, AreSpots, IsContent, AreContents}
+use Rattle.omf_cells.specs.Content.{spread_from, spread, spread_all, last_at, shown_spots, AreBelow, AreRuns, AreSpots, IsContent, AreContents}
 use Rattle.omf_cells.proofs.LoadViews.{found_from, found_from-next, Passed}
 
 -- ---- the patches of a segment
@@ -62,12 +62,12 @@ patches-below segments number most s spots none le is =
     let all : shown_spots spots ≡ spread_all (patch_list s) = is ∙ ap spread_all (sym (patch_list-from s)) in
     more-below s.fields.length most (shown_spots spots) le (subst (AreBelow s.fields.length) (sym all) (all-below segments s (patch_list s) (sound_patches segments number s none)))
 
--- the spots of a segment's patches in the order of their offsets
-pub ordered_spots : (s : Segment) (spots sorted : List Spot) → shown_spots spots ≡ spread_all (patches_from s s.records) → AreRising sorted
-    → ((k : ℕ) → last_at (shown_spots sorted) k ≡ last_at (shown_spots spots) k) → AreSpots (patch_list s) sorted
-ordered_spots s spots sorted is rise last =
+-- the spots of a segment's patches in runs
+pub ordered_spots : (s : Segment) (spots sorted : List Spot) (runs : List ℕ) → shown_spots spots ≡ spread_all (patches_from s s.records) → AreRuns runs sorted
+    → ((k : ℕ) → last_at (shown_spots sorted) k ≡ last_at (shown_spots spots) k) → AreSpots (patch_list s) sorted runs
+ordered_spots s spots sorted runs is are last =
     let all : shown_spots spots ≡ spread_all (patch_list s) = is ∙ ap spread_all (sym (patch_list-from s)) in
-    record { rise = rise; last = λ k. last k ∙ ap (λ l. last_at l k) all }
+    record { are = are; last = λ k. last k ∙ ap (λ l. last_at l k) all }
 
 -- ---- cells by what stands at an offset
 
@@ -101,8 +101,9 @@ below_by_last size (found ∷ founds) below =
       below_by_last size founds (λ k cell is. below k cell (ap (λ o. option_or o (if eqb found.0 k then Some found.1 else None)) is)),
     )
 
-pub spots-below : (segments : List Segment) (s : Segment) (patches : List Patch) (spots : List Spot) → AllByRecursion (IsPatch segments s) patches → AreSpots patches spots → AreBelow s.fields.length (shown_spots spots)
-spots-below segments s patches spots sound are =
+pub spots-below : (segments : List Segment) (s : Segment) (patches : List Patch) (spots : List Spot) (runs : List ℕ) → AllByRecursion (IsPatch segments s) patches → AreSpots patches spots runs
+    → AreBelow s.fields.length (shown_spots spots)
+spots-below segments s patches spots runs sound are =
     below_by_last s.fields.length (shown_spots spots) (λ k cell is. below_at s.fields.length (spread_all patches) k cell (all-below segments s patches sound) (sym (are.last k) ∙ is))
 
 -- ---- contents

@@ -2,6 +2,7 @@ pub mod Walks
 pub mod Splits
 pub mod PieceLists
 pub mod SpotLists
+pub mod RunLists
 pub mod Numbers
 pub mod PatchWalks
 pub mod SuperPatches

@@ -147,7 +147,7 @@ over_byte-map places (Some cell) b = refl
 
 -- the spots lie below LENGTH
 pub shown_below : (segments : List Segment) (number : ℕ) (v : SegmentView) (content : Content) → ShowsContent segments number v content → AreBelow v.header.length (shown_spots content.spots.items)
-shown_below segments number v content is = spots-below segments (shown v) (patch_list (shown v)) content.spots.items is.shows.sound.patches is.content'.spots
+shown_below segments number v content is = spots-below segments (shown v) (patch_list (shown v)) content.spots.items content.runs.items is.shows.sound.patches is.content'.spots
 
 -- the data with the spots over it is what stands in memory
 pub stands-spots : (segments : List Segment) (number : ℕ) (v : SegmentView) (content : Content) (places : ℕ → ℕ) (bytes out : List ℕ) → ShowsContent segments number v content

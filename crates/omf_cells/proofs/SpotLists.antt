@@ -13,7 +13,7 @@ use Rattle.std.proofs.lemmas.List.Sorted.{All-permutation, IsPermutation-sym}
 use Rattle.load_meaning.specs.Cells.{Cell, Part, Patch, parts_from, byte_of}
 use Rattle.load_meaning.specs.LayingLaws.{last_over}
 use Rattle.omf_cells.specs.declared.spots.Spot.{Spot}
-use Rattle.omf_cells.specs.Content.{spread_from, spread, spread_all, last_at, offset_of, end_of, part_of, spot_patch, spread_spot, shown_spots, AreBelow, AreApart, AreRising, IsSingle, with_cells}
+use Rattle.omf_cells.specs.Content.{spread_from, spread, spread_all, last_at, offset_of, end_of, part_of, spot_patch, spread_spot, shown_spots, AreApart, AreRising, IsSingle, with_cells}
 use Rattle.omf_cells.proofs.Splits.{get_there, in_order}
 
 -- ---- spreading
@@ -50,7 +50,7 @@ shown-singles (s ∷ spots) all = ap (λ l. l ++ shown_spots spots) (shown-singl
 
 -- ---- the last at an offset
 
-or_assoc : (a b c : Option Cell) → option_or (option_or a b) c ≡ option_or a (option_or b c)
+pub or_assoc : (a b c : Option Cell) → option_or (option_or a b) c ≡ option_or a (option_or b c)
 or_assoc None b c = refl
 or_assoc (Some x) b c = refl
 

@@ -70,6 +70,14 @@ left_fault start at bytes fault left e = by_back left.back left.run
 pub left_within : (start at : Reader) (bytes : List ℕ) → Left start at bytes → length bytes ≤ length (content start)
 left_within start at bytes left = omega (arith, ap length left.whole, length-append bytes (bytes_of left.back))
 
+-- where they are as many, they are all
+pub left_full : (start at : Reader) (bytes : List ℕ) → Left start at bytes → length (content start) ≤ length bytes → content start ≡ bytes
+left_full start at bytes left full = by_rest (bytes_of left.back) left.whole
+  where
+    by_rest : (rest : List ℕ) → content start ≡ bytes ++ rest → content start ≡ bytes
+    by_rest [] whole = whole ∙ append-nil bytes
+    by_rest (b ∷ rest) whole = absurd (omega (arith, ap length whole, length-append bytes (b ∷ rest), full))
+
 -- ---- places in lists
 
 -- an item of the second list

@@ -1,6 +1,6 @@
 -- What is kept of a segment beside its header: where its bytes stand in the file, and which of them patches give. No public
 -- clause cites this module.
-use Rattle.std.specs.Prelude.{◌≡◌, ◌⊎◌, ℕ, zero, suc, ◌+◌, ◌-◌, ◌<◌, ◌≤◌, ◌^◌, ◌==◌, nat_le, ◌||◌, if◌then◌else◌, List, [], ◌∷◌, ◌++◌, length, replicate, map, slice_get, slice_index, slice_set, Option, Some, None}
+use Rattle.std.specs.Prelude.{◌≡◌, ◌⊎◌, ℕ, zero, suc, ◌+◌, ◌-◌, ◌<◌, ◌≤◌, ◌^◌, ◌==◌, nat_le, ◌||◌, if◌then◌else◌, List, [], ◌∷◌, ◌++◌, length, take, drop, replicate, slice_get, slice_index, slice_set, Option, Some, None}
 use Rattle.std.specs.Option.{option_or}
 use Rattle.std.specs.List.{AllByRecursion}
 use Rattle.std.specs.List.Sorted.{IsNonDecreasingBy}
@@ -131,6 +131,11 @@ pub record AreRising (spots : List Spot) : Type 0 where
   pub starts : IsNonDecreasingBy offset_of spots
   pub ends : (i j : ℕ) (s t : Spot) → i < j → slice_get spots i ≡ Some s → slice_get spots j ≡ Some t → end_of s ≤ end_of t
 
+-- runs of so many spots, one behind another, in each of which no spot begins or ends before an earlier one
+abbrev pub AreRuns : List ℕ → List Spot → Type 0
+AreRuns [] spots = spots ≡ []
+AreRuns (n ∷ runs) spots = (n ≤ length spots) × AreRising (take n spots) × AreRuns runs (drop n spots)
+
 -- a spot of one byte
 abbrev pub IsSingle : Spot → Type 0
 IsSingle s = s.end ≡ suc s.first
@@ -140,9 +145,9 @@ pub record IsCut (old : List Spot) (founds : List (ℕ × Cell)) (new : List Spo
   pub shown' : shown_spots new ≡ shown_spots old ++ founds
   pub single : AllByRecursion IsSingle old → AllByRecursion IsSingle new
 
--- no spot begins or ends before an earlier one, and at each offset the last is that of the patches
-pub record AreSpots (patches : List Patch) (spots : List Spot) : Type 0 where
-  pub rise : AreRising spots
+-- the spots come in runs, and at each offset the last is that of the patches
+pub record AreSpots (patches : List Patch) (spots : List Spot) (runs : List ℕ) : Type 0 where
+  pub are : AreRuns runs spots
   pub last : (k : ℕ) → last_at (shown_spots spots) k ≡ last_at (spread_all patches) k
 
 -- the bytes with those that the cells stand for written over them, in order
@@ -155,7 +160,7 @@ with_cells places (found ∷ founds) bytes = with_cells places founds (slice_set
 -- what is kept of a segment that a view shows
 pub record IsContent (v : SegmentView) (content : Content) : Type 0 where
   pub pieces : HasPieces v content.pieces.items
-  pub spots : AreSpots (patch_list (shown v)) content.spots.items
+  pub spots : AreSpots (patch_list (shown v)) content.spots.items content.runs.items
 
 -- each view has its content
 abbrev pub AreContents : List SegmentView → List Content → Type 0

@@ -28,17 +28,23 @@ pub fn is_longer(records: Records, most: u32) -> bool
     }
 }
 
-/// Writes the bytes that the records put into the segment, and zeros behind them.
-pub fn write_body(records: Records, out: &mut [u8])
+/// Writes the bytes that the records put into the segment, and tells how many they are. Where they fill it, the records that are
+/// left aren't read.
+fn write_records(records: Records, out: &mut [u8]) -> usize
     requires body { IsBody records }
     requires fits { length (content records) ≤ length out.old }
-    ensures { out.new ≡ content records.entry ++ replicate (length out.old - length (content records.entry)) 0 }
+    ensures written { take result out.new ≡ content records.entry }
+    ensures size { result ≡ length (content records.entry) }
+    ensures same { length out.new ≡ length out.old }
 {
     let mut records = records;
     let mut at = 0;
     'records: loop {
+        if at == out.len() {
+            return at;
+        }
         match records.next() {
-            Ok(None) => break,
+            Ok(None) => return at,
             Ok(Some(found)) => {
                 write_content(&found.1, out, at);
                 at += content_size(&found.1) as usize;
@@ -46,6 +52,15 @@ pub fn write_body(records: Records, out: &mut [u8])
             Err(_) => unreachable!(),
         }
     }
+}
+
+/// Writes the bytes that the records put into the segment, and zeros behind them.
+pub fn write_body(records: Records, out: &mut [u8])
+    requires body { IsBody records }
+    requires fits { length (content records) ≤ length out.old }
+    ensures { out.new ≡ content records.entry ++ replicate (length out.old - length (content records.entry)) 0 }
+{
+    let at = write_records(records, out);
     fill_from(out, at);
 }
 

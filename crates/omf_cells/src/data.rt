@@ -18,12 +18,18 @@ pub fn data_u8(view: &SegmentView, pieces: &[Piece], at: u32) -> u8
     byte_at(pieces, at)
 }
 
-/// The bytes of the data from an offset on that stand together in the file. There may be none.
-pub fn data_from<'a>(view: &SegmentView<'a>, pieces: &[Piece<'a>], at: u32) -> &'a [u8]
+/// The bytes of the data from an offset on that stand together in the file, of which there may be none, and the place of their
+/// piece, which is tried first at the place `last`.
+pub fn data_from<'a>(
+    view: &SegmentView<'a>,
+    pieces: &[Piece<'a>],
+    last: usize,
+    at: u32,
+) -> (&'a [u8], usize)
     requires { HasPieces view.now pieces.now }
-    ensures { IsNear view.now at result.now }
+    ensures { IsNear view.now at result.0.now }
 {
-    bytes_from(pieces, at)
+    bytes_from(pieces, last, at)
 }
 
 /// The byte of the data there, where these bytes are those from an offset on that stand together.
@@ -58,7 +64,8 @@ pub fn data_u16(view: &SegmentView, pieces: &[Piece], at: u32) -> u16
     requires inside { at + 2 ≤ view.now.header.length }
     ensures { number_at 2 at (segment_bytes (shown view.now)) ≡ result }
 {
-    near_u16(data_from(view, pieces, at), view, pieces, at)
+    let (near, _) = data_from(view, pieces, 0, at);
+    near_u16(near, view, pieces, at)
 }
 
 /// The number in the four bytes of the data there.

@@ -99,7 +99,7 @@ impl<'a> LoadFile<'a> {
         if at >= view.header.length {
             return None;
         }
-        match spot_at(&content.spots, at) {
+        match spot_at(&content.spots, &content.runs, at) {
             Some(spot) => Some(Cell::Part {
                 file: 1,
                 segment: spot.segment,

@@ -58,7 +58,8 @@ fn add_piece<'a>(pieces: &mut Vec<Piece<'a>>, start: u32, rec: &Rec<'a>) -> Resu
     }
 }
 
-/// The pieces of the records, in order, which give at most `length` bytes.
+/// The pieces of the records, in order, which give at most `length` bytes. Where they give as many, the records that are left
+/// aren't read.
 pub fn pieces_of<'a>(
     alloc: Global,
     records: Records<'a>,
@@ -75,6 +76,9 @@ pub fn pieces_of<'a>(
     let mut pieces = Vec::new(alloc);
     let mut start = 0u64;
     'records: loop {
+        if start == u64::from(length) {
+            return Ok(pieces);
+        }
         match records.next() {
             Ok(None) => return Ok(pieces),
             Ok(Some(found)) => {
@@ -118,22 +122,37 @@ fn behind(bytes: &[u8], from: usize) -> &[u8]
     &bytes[from..]
 }
 
-/// The bytes from an offset on that the piece has which covers it; none where no piece does.
-pub fn bytes_from<'a>(pieces: &[Piece<'a>], at: u32) -> &'a [u8]
-    requires { IsNonDecreasingBy start_of pieces.now }
+/// The bytes from an offset on that the piece at a place has; none where it doesn't cover the offset, or isn't there.
+fn bytes_at<'a>(pieces: &[Piece<'a>], place: usize, at: u32) -> &'a [u8]
     ensures { (bytes : List ℕ) (n : ℕ) → ArePieces pieces.now bytes → n < length result.now → slice_get bytes (at + n) ≡ Some (slice_index result.now n) }
 {
-    let count = count_up_to(pieces, at);
-    if count == 0 {
+    let piece = match pieces.get(place) {
+        Some(piece) => piece,
+        None => return &[],
+    };
+    if at < piece.start {
         return &[];
     }
-    let piece = pieces[count - 1];
     let from = (at - piece.start) as usize;
     if from < piece.bytes.len() {
         behind(piece.bytes, from)
     } else {
         &[]
     }
+}
+
+/// The bytes from an offset on that the piece has which covers it, none where no piece does; and the place at which it was
+/// found. It is tried at the place `last` before it is searched for.
+pub fn bytes_from<'a>(pieces: &[Piece<'a>], last: usize, at: u32) -> (&'a [u8], usize)
+    requires { IsNonDecreasingBy start_of pieces.now }
+    ensures { (bytes : List ℕ) (n : ℕ) → ArePieces pieces.now bytes → n < length result.0.now → slice_get bytes (at + n) ≡ Some (slice_index result.0.now n) }
+{
+    let bytes = bytes_at(pieces, last, at);
+    if !bytes.is_empty() {
+        return (bytes, last);
+    }
+    let place = count_up_to(pieces, at).saturating_sub(1);
+    (bytes_at(pieces, place, at), place)
 }
 
 fn nth(bytes: &[u8], at: usize) -> Option<u8>

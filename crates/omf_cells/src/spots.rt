@@ -1,9 +1,9 @@
 //! The bytes of a segment that patches give.
 
-ghost use Rattle.std.specs.Prelude.{◌≡◌, ◌+◌, ◌-◌, ◌<◌, ◌≤◌, ◌/◌, ◌%◌, ◌^◌, ◌++◌, length, nat_lt, OnOk, option_map};
+ghost use Rattle.std.specs.Prelude.{◌≡◌, ◌+◌, ◌-◌, ◌<◌, ◌≤◌, ◌/◌, ◌^◌, ◌++◌, length, nat_lt, OnOk, option_map};
 ghost use Rattle.std.specs.List.Sorted.{IsNonDecreasingBy};
 ghost use Rattle.omf_format.specs.Value.{wrapped, shifted};
-ghost use Rattle.omf_cells.specs.Content.{IsSplit, patch_of, spread, offset_of, part_of, spread_spot, shown_spots, last_at, AreBelow, AreRising, with_cells};
+ghost use Rattle.omf_cells.specs.Content.{IsSplit, patch_of, spread, offset_of, part_of, spread_spot, shown_spots, last_at, AreBelow, AreRising, AreRuns, with_cells};
 ghost use Rattle.omf_cells.specs.Places.{address_in};
 
 use crate::places::Places;
@@ -76,8 +76,8 @@ fn count_up_to(spots: &[Spot], at: u32) -> usize
     spots.partition_point(|spot| spot.at <= at)
 }
 
-/// The byte at an offset that a spot gives, and that of the last where several do.
-pub fn spot_at(spots: &[Spot], at: u32) -> Option<Spot>
+/// The byte at an offset that a spot of a run gives, and that of the last where several do.
+fn spot_in(spots: &[Spot], at: u32) -> Option<Spot>
     requires { AreRising spots.now }
     ensures { option_map part_of result ≡ last_at (shown_spots spots.now) at }
 {
@@ -98,6 +98,21 @@ pub fn spot_at(spots: &[Spot], at: u32) -> Option<Spot>
     }
 }
 
+/// The byte at an offset that a spot gives, and that of the last where several do, where the spots come in runs of so many.
+pub fn spot_at(spots: &[Spot], runs: &[usize], at: u32) -> Option<Spot>
+    requires { AreRuns runs.now spots.now }
+    ensures { option_map part_of result ≡ last_at (shown_spots spots.now) at }
+{
+    let mut left = spots;
+    let mut found = None;
+    'runs: for count in runs {
+        let (run, behind) = left.split_at(*count);
+        found = spot_in(run, at).or(found);
+        left = behind;
+    }
+    found
+}
+
 /// The bits shifted left by so many, or right where the count is negative, with zeros coming in.
 fn shifted(bits: u32, count: i8) -> u32
     ensures { result ≡ shifted bits count }
@@ -110,20 +125,17 @@ fn shifted(bits: u32, count: i8) -> u32
     }
 }
 
-/// Byte `index` of a number, lowest first.
-fn number_byte(number: u32, index: u8) -> u8
-    ensures { result ≡ number / 256 ^ index % 256 }
+/// A number without so many of its bytes, lowest first.
+fn without_bytes(number: u32, count: u8) -> u32
+    ensures { result ≡ number / 256 ^ count }
 {
-    if index >= 4 {
-        return 0;
+    match count {
+        0 => number,
+        1 => number / 0x100,
+        2 => number / 0x1_0000,
+        3 => number / 0x100_0000,
+        _ => 0,
     }
-    let byte = match index {
-        0 => number % 0x100,
-        1 => number / 0x100 % 0x100,
-        2 => number / 0x1_0000 % 0x100,
-        _ => number / 0x100_0000,
-    };
-    byte as u8
 }
 
 /// The number that a spot has bytes of, where the segments lie at these addresses.
@@ -142,11 +154,12 @@ fn write_spot(spot: &Spot, places: &Places, out: &mut [u8])
     requires { AreBelow (length out.old) (spread_spot spot.now) }
     ensures { out.new ≡ with_cells (address_in places.now) (spread_spot spot.now) out.old }
 {
-    let number = number_of(spot, places);
+    let mut left = without_bytes(number_of(spot, places), spot.first);
     let mut at = spot.at as usize;
     let mut index = spot.first;
     'bytes: while index < spot.end {
-        out[at] = number_byte(number, index);
+        out[at] = (left % 0x100) as u8;
+        left /= 0x100;
         at += 1;
         index += 1;
     }

@@ -20,11 +20,13 @@ use load_meaning::{LoadCause, LoadFault};
 use omf_records::{Locations, Rec, Records, SegmentView};
 use std::alloc::{AllocError, Global};
 
-/// What is kept of a segment beside its header: its data, and the bytes that patches give, in the order of their offsets.
+/// What is kept of a segment beside its header: its data, and the bytes that patches give, in runs.
 #[derive(Debug, Drop)]
 pub struct Content<'a> {
     pub pieces: Vec<Piece<'a>>,
     pub spots: Vec<Spot>,
+    /// How many spots each run has, in which none begins or ends before an earlier one.
+    pub runs: Vec<usize>,
 }
 
 /// Whether an offset is below LENGTH of the segment with a number, from 1, and the segment isn't skipped.
@@ -66,18 +68,15 @@ fn is_dynamic(views: &Vec<SegmentView>, number: u16) -> bool
     }
 }
 
-/// Why a patch may not stand in a segment of these.
+/// Why a patch that lies in a segment of these may not stand there.
 #[tactic(auto, unfolding(load_meaning::specs::Loadable::patch_refusal))]
 fn refusal(patch: &Relocation, views: &Vec<SegmentView>, view: &SegmentView) -> Option<LoadCause>
+    requires inside { patch.now.location + patch.now.count ≤ view.now.header.length }
     ensures value { result ≡ patch_refusal (map shown views.now.items) (shown view.now) (patch_of patch.now) }
 
-    // The patch that may stand there is of this file, and lies in the segment.
+    // The patch that may stand there is of this file.
     ensures file { result ≡ None → patch.now.file ≡ 1 }
-    ensures short { result ≡ None → patch.now.location + patch.now.count < 2 ^ 32 }
 {
-    if is_outside(patch.location, patch.count, view.header.length) {
-        return Some(LoadCause::PatchOutside);
-    }
     if !(patch.file == 1 && is_kept(views, patch.segment)) {
         return Some(LoadCause::NoSuchTarget);
     }
@@ -85,6 +84,27 @@ fn refusal(patch: &Relocation, views: &Vec<SegmentView>, view: &SegmentView) -> 
         return Some(LoadCause::DynamicTarget);
     }
     None
+}
+
+/// Adds the bytes that a patch gives which lies in the segment, or tells why it may not stand there.
+fn take_inside(
+    patch: &Relocation,
+    views: &Vec<SegmentView>,
+    view: &SegmentView,
+    spots: &mut Vec<Spot>,
+) -> Result<Option<LoadCause>, AllocError>
+    requires inside { patch.now.location + patch.now.count ≤ view.now.header.length }
+    requires short { patch.now.location < 2 ^ 32 }
+    ensures value { IfOk result (λ cause. cause ≡ first_refusal (map shown views.now.items) (shown view.now) (patch_of patch.now ∷ [])) }
+    ensures spots { result ≡ Ok None → shown_spots spots.new.items ≡ shown_spots spots.old.items ++ spread_all (patch_of patch.now ∷ []) }
+{
+    match refusal(patch, views, view) {
+        Some(cause) => Ok(Some(cause)),
+        None => {
+            add_spot(spots, patch)?;
+            Ok(None)
+        }
+    }
 }
 
 /// Adds the bytes that a patch gives, or tells why it may not stand in the segment.
@@ -97,13 +117,10 @@ fn take(
     ensures value { IfOk result (λ cause. cause ≡ first_refusal (map shown views.now.items) (shown view.now) (patch_of patch.now ∷ [])) }
     ensures spots { result ≡ Ok None → shown_spots spots.new.items ≡ shown_spots spots.old.items ++ spread_all (patch_of patch.now ∷ []) }
 {
-    match refusal(patch, views, view) {
-        Some(cause) => Ok(Some(cause)),
-        None => {
-            add_spot(spots, patch)?;
-            Ok(None)
-        }
+    if is_outside(patch.location, patch.count, view.header.length) {
+        return Ok(Some(LoadCause::PatchOutside));
     }
+    take_inside(patch, views, view, spots)
 }
 
 /// How many bytes a patch of a SUPER of this type has.
@@ -135,13 +152,15 @@ fn super_segment(form: u8, at: u32, near: &[u8], view: &SegmentView, pieces: &[P
     }
 }
 
-/// The patch of a SUPER at a location.
-fn super_patch(form: u8, at: u32, view: &SegmentView, pieces: &[Piece]) -> Relocation
+/// The patch of a SUPER at a location. The bytes near it are those of the data from there on.
+fn super_patch(form: u8, at: u32, near: &[u8], view: &SegmentView, pieces: &[Piece]) -> Relocation
+    requires near { IsNear view.now at near.now }
     requires pieces { HasPieces view.now pieces.now }
     requires inside { at + super_count form ≤ view.now.header.length }
-    ensures { patch_of result ≡ super_patch (shown view.now) form at }
+    ensures is { patch_of result ≡ super_patch (shown view.now) form at }
+    ensures location { result.location ≡ at }
+    ensures count { result.count ≡ super_count form }
 {
-    let near = data_from(view, pieces, at);
     Relocation {
         location: u64::from(at),
         count: super_count(form),
@@ -152,13 +171,15 @@ fn super_patch(form: u8, at: u32, view: &SegmentView, pieces: &[Piece]) -> Reloc
     }
 }
 
-/// The same for the patch of a SUPER at a location. The data there is read only where the patch lies in the segment.
+/// The same for the patch of a SUPER at a location. The data there is read only where the patch lies in the segment, and tried
+/// first in the piece at the place `last`, which becomes that of the piece.
 fn take_at(
     form: u8,
     location: u64,
     views: &Vec<SegmentView>,
     view: &SegmentView,
     pieces: &[Piece],
+    last: &mut usize,
     spots: &mut Vec<Spot>,
 ) -> Result<Option<LoadCause>, AllocError>
     requires { HasPieces view.now pieces.now }
@@ -168,8 +189,11 @@ fn take_at(
     if is_outside(location, super_count(form), view.header.length) {
         return Ok(Some(LoadCause::PatchOutside));
     }
-    take(
-        &super_patch(form, location as u32, view, pieces),
+    let at = location as u32;
+    let (near, place) = data_from(view, pieces, *last, at);
+    *last = place;
+    take_inside(
+        &super_patch(form, at, near, view, pieces),
         views,
         view,
         spots,
@@ -190,14 +214,19 @@ fn take_super(
     ensures value { IfOk result (λ cause. cause ≡ first_refusal (map shown views.now.items) (shown view.now) (map (super_patch (shown view.now) form) (locations_left 0 0 bytes.now))) }
     ensures spots { result ≡ Ok None → shown_spots spots.new.items ≡ shown_spots spots.old.items ++ spread_all (map (super_patch (shown view.now) form) (locations_left 0 0 bytes.now)) }
 {
+    // Room for all of them. Where there isn't so much, it is asked for one by one.
+    let _ = spots.reserve(bytes.len());
     let mut locations = Locations::of(bytes);
+    let mut last = 0;
     'locations: loop {
         match locations.next() {
             None => return Ok(None),
-            Some(location) => match take_at(form, location, views, view, pieces, spots)? {
-                Some(cause) => return Ok(Some(cause)),
-                None => {}
-            },
+            Some(location) => {
+                match take_at(form, location, views, view, pieces, &mut last, spots)? {
+                    Some(cause) => return Ok(Some(cause)),
+                    None => {}
+                }
+            }
         }
     }
 }
@@ -361,8 +390,12 @@ fn content_of<'a>(
         Some(fault) => return Err(fault),
         None => {}
     }
-    let spots = in_order(alloc, spots)?;
-    Ok(Content { pieces, spots })
+    let (spots, runs) = in_order(alloc, spots)?;
+    Ok(Content {
+        pieces,
+        spots,
+        runs,
+    })
 }
 
 /// What is kept of each segment, or the first fault of phase 3, segment by segment.

@@ -1,4 +1,4 @@
-use Rattle.std.proofs.Common.{◌≡◌, List, length, map, sym, ap, ◌∙◌, arith}
+use Rattle.std.proofs.Common.{map, sym, ap, ◌∙◌, arith}
 use Rattle.std.proofs.lemmas.List.{length-map}
 use Rattle.omf_cells.specs.WrittenParts.{seen}
 use Rattle.omf_cells.proofs.FormLists.{below, step_is, size_is, end_is, start_is, start_size}

@@ -1,4 +1,4 @@
-use Rattle.std.proofs.Common.{arith, ◌+◌, ◌<◌}
+use Rattle.std.proofs.Common.{◌+◌}
 use Rattle.load_meaning.specs.Cells.{segment_bytes}
 use Rattle.omf_records.specs.Segments.{shown}
 use Rattle.omf_cells.proofs.Numbers.{byte_there}

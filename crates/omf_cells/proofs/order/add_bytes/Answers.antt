@@ -3,7 +3,7 @@ use mir.Syntax.{w8}
 use Rattle.std.proofs.lemmas.Int.{to_z-of_z}
 use Rattle.std.proofs.Common.{◌≡◌, ℕ, ℤ, zero, suc, ◌+◌, ◌-◌, ◌%◌, ◌^◌, List, [], ◌∷◌, ◌++◌, refl, sym, ap, subst, ◌∙◌, arith, append_assoc}
 use Rattle.std.specs.List.{AllByRecursion}
-use Rattle.load_meaning.specs.Cells.{Cell, Part, Patch}
+use Rattle.load_meaning.specs.Cells.{Part, Patch}
 use Rattle.omf_cells.specs.declared.spots.Spot.{Spot}
 use Rattle.omf_cells.specs.Content.{spot_patch, spread_from, spread_spot, shown_spots, AreBelow, IsSingle}
 use Rattle.omf_cells.proofs.SpotLists.{spread_next, shown-push, shown-single, singles-push}

@@ -1,4 +1,4 @@
-use Rattle.std.proofs.Common.{◌≡◌, ◌++◌, ◌^◌, [], drop}
+use Rattle.std.proofs.Common.{◌≡◌, ◌++◌, ◌^◌, drop}
 use Rattle.std.specs.List.{AllByRecursion}
 use Rattle.omf_cells.specs.Content.{shown_spots, AreBelow, IsSingle}
 use Rattle.omf_cells.proofs.order.bytes_of.Given as goal

@@ -1,33 +1,16 @@
-use Rattle.std.proofs.Common.{◌≡◌, List, [], sym, ap, subst, ◌∙◌}
-use Rattle.std.specs.List.{AllByRecursion}
-use Rattle.std.specs.List.Sorted.{IsPermutation, IsStableByKey}
-use Rattle.std.specs.Ordering.{nat_cmp}
+use Rattle.std.proofs.Common.{List, ℕ, sym, ap, subst, ◌∙◌, arith}
 use Rattle.omf_cells.specs.declared.spots.Spot.{Spot}
-use Rattle.omf_cells.specs.Content.{AreApart, offset_of, shown_spots, last_at, IsSingle}
-use Rattle.omf_cells.proofs.SpotLists.{apart_rise, last_at-apart, last_at-singles, singles_rise}
+use Rattle.omf_cells.specs.Content.{AreRuns, shown_spots, last_at}
+use Rattle.omf_cells.proofs.RunLists.{one_run}
 use Rattle.omf_cells.proofs.order.in_order.Goals as goal
 
-pub returns-then-are_apart-clause-rise : goal.returns-then-are_apart-clause-rise
-returns-then-are_apart-clause-rise c = apart_rise c.args.spots.items (subst AreApart c.deref.ensures.value (c.are_apart.ensures c.if-are_apart.true))
+pub returns-in-Some-clause-runs : goal.returns-in-Some-clause-runs
+returns-in-Some-clause-runs c = subst (AreRuns c.in-Some.runs.items) c.deref.ensures.value (rw c.in-Some.is at c.in_ok-runs.ensures)
 
-pub returns-then-are_apart-2-clause-rise : goal.returns-then-are_apart-2-clause-rise
-returns-then-are_apart-2-clause-rise c = apart_rise c.in_ok-whole.whole.items (subst AreApart c.deref-3.ensures.value (c.are_apart-2.ensures c.if-are_apart-2.true))
-
-pub returns-then-are_apart-2-clause-last : goal.returns-then-are_apart-2-clause-last
-returns-then-are_apart-2-clause-last c = λ k.
-    last_at-apart c.args.spots.items c.in_ok-whole.whole.items k
-    (subst (λ (l : List Spot). IsPermutation l c.in_ok-whole.whole.items) c.deref-2.ensures.value c.in_ok-whole.ensures.permutation)
-    (subst AreApart c.deref-3.ensures.value (c.are_apart-2.ensures c.if-are_apart-2.true))
-
-pub returns-clause-rise : goal.returns-clause-rise
-returns-clause-rise c =
-    singles_rise c.in_ok-bytes.bytes.items c.in_ok-bytes-2.bytes.items (c.in_ok-bytes.ensures.single tt)
-    (subst (λ (l : List Spot). IsPermutation l c.in_ok-bytes-2.bytes.items) c.deref-5.ensures.value c.in_ok-bytes-2.ensures.permutation)
-    c.in_ok-bytes-2.ensures.rise
+pub returns-clause-runs : goal.returns-clause-runs
+returns-clause-runs c =
+    let sorted = c.in_ok-sorted.sorted in
+    subst (λ (l : List ℕ). AreRuns l sorted.items) (sym c.in_ok-runs-2.ensures) (one_run sorted.items c.len.result (omega (arith, c.len.ensures, sorted.ok)) c.in_ok-sorted.ensures.rise)
 
 pub returns-clause-last : goal.returns-clause-last
-returns-clause-last c = λ k.
-    last_at-singles c.in_ok-bytes.bytes.items c.in_ok-bytes-2.bytes.items k (c.in_ok-bytes.ensures.single tt)
-    (subst (λ (l : List Spot). IsPermutation l c.in_ok-bytes-2.bytes.items) c.deref-5.ensures.value c.in_ok-bytes-2.ensures.permutation)
-    (subst (λ (l : List Spot). IsStableByKey offset_of nat_cmp l c.in_ok-bytes-2.bytes.items) c.deref-5.ensures.value c.in_ok-bytes-2.ensures.stable)
-    ∙ ap (λ l. last_at l k) (c.in_ok-bytes.ensures.shown' ∙ ap shown_spots c.deref-4.ensures.value)
+returns-clause-last c = λ k. c.in_ok-sorted.ensures.last k ∙ ap (λ (l : List Spot). last_at (shown_spots l) k) c.deref-2.ensures.value

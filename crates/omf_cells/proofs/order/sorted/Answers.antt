@@ -1,4 +1,4 @@
-use Rattle.std.proofs.Common.{◌≡◌, List, subst, rules}
+use Rattle.std.proofs.Common.{List, subst, rules}
 use Rattle.std.specs.List.Sorted.{IsStableByKey}
 use Rattle.std.specs.Ordering.{nat_cmp}
 use Rattle.std.proofs.lemmas.List.Sorted.{IsNonDecreasingBy-from_sort, answers_always}

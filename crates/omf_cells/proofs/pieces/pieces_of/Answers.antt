@@ -5,7 +5,7 @@ use Rattle.omf_format.specs.Reading.{Reader}
 use Rattle.omf_records.specs.View.{view}
 use Rattle.omf_cells.specs.declared.pieces.Piece.{Piece}
 use Rattle.omf_cells.specs.Content.{ArePieces}
-use Rattle.omf_cells.proofs.Walks.{Left, left_all, left_more, left_none, left_fault, left_within}
+use Rattle.omf_cells.proofs.Walks.{Left, left_all, left_more, left_none, left_full, left_fault, left_within}
 use Rattle.omf_cells.proofs.PieceLists.{no_pieces}
 use Rattle.omf_cells.proofs.pieces.pieces_of.Goals as goal
 
@@ -16,6 +16,12 @@ records-init c = record {
   size = refl;
   are = subst (λ (l : List Piece). ArePieces l []) (sym c.new-pieces.ensures.items) no_pieces;
 }
+
+pub returns-then-start-from-clause-are : goal.returns-then-start-from-clause-are
+returns-then-start-from-clause-are c =
+    let so_far = c.records.invariant in
+    let whole = left_full c.args.records c.records.records so_far.so_far so_far.left (omega (arith, so_far.size, c.requires.fits, c.if-start-from.true, c.from.ensures)) in
+    subst (ArePieces c.records.pieces.items) (sym whole) so_far.are
 
 pub returns-in-Ok-None-clause-are : goal.returns-in-Ok-None-clause-are
 returns-in-Ok-None-clause-are c =

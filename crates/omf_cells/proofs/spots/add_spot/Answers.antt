@@ -2,7 +2,7 @@ use mir.Val.{to_z, of_z}
 use mir.Syntax.{w8}
 use Rattle.std.proofs.lemmas.Int.{to_z-of_z}
 use Rattle.std.proofs.Common.{◌≡◌, ℕ, ℤ, ◌-◌, List, ◌++◌, sym, ap, ◌∙◌, arith}
-use Rattle.load_meaning.specs.Cells.{Cell, Patch}
+use Rattle.load_meaning.specs.Cells.{Cell}
 use Rattle.omf_cells.specs.declared.spots.Spot.{Spot}
 use Rattle.omf_cells.specs.Content.{patch_of, spread_from, spread_spot, spread, shown_spots}
 use Rattle.omf_cells.proofs.SpotLists.{shown-push}

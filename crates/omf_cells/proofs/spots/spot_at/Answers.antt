@@ -1,76 +1,34 @@
-use mir.Val.{to_z, of_z}
-use mir.Syntax.{w8}
-use Rattle.std.proofs.lemmas.Int.{to_z-of_z}
-use Rattle.std.proofs.Common.{◌≡◌, ℕ, ℤ, ◌+◌, ◌-◌, ◌<◌, ◌≤◌, List, length, get_or, Some, None, sym, ap, subst, ◌∙◌, arith, inl, inr}
-use Rattle.std.specs.Prelude.{slice_get, pos}
-use Rattle.std.proofs.lemmas.Bool.{cases_lt}
-use Rattle.load_meaning.specs.Cells.{Part}
+use Rattle.std.proofs.Common.{◌≡◌, ◌+◌, List, Option, take, drop, get_or, sym, ap, subst, ◌∙◌}
+use Rattle.std.specs.Prelude.{option_map}
+use Rattle.std.specs.Option.{option_or}
 use Rattle.omf_cells.specs.declared.spots.Spot.{Spot}
-use Rattle.omf_cells.specs.Content.{IsSplit, AreRising, offset_of, shown_spots, last_at}
-use Rattle.omf_cells.proofs.Splits.{get_there}
-use Rattle.omf_cells.proofs.SpotLists.{each_place, none_over, last_over_it, Covers, cell_in}
+use Rattle.omf_cells.specs.Content.{part_of, shown_spots, last_at, AreRising, AreRuns}
+use Rattle.omf_cells.proofs.RunLists.{next_run, last_run, run_passed}
 use Rattle.omf_cells.proofs.spots.spot_at.Goals as goal
 
-abbrev no_spot : Spot
-no_spot = record { at = 0; offset = 0; segment = 0; shift = pos 0; first = 0; end = 0 }
+pub split_at-requires : goal.split_at-requires
+split_at-requires c = (next_run c.args.runs.now c.runs.count-index c.runs.left.now c.runs-test.true c.runs.invariant.are).0
 
-pub returns-then-count-eq0 : goal.returns-then-count-eq0
-returns-then-count-eq0 c =
-    sym (none_over c.args.spots.now c.args.at (each_place (λ s. Covers c.args.at s → ⊥) c.args.spots.now
-    (λ i s is over. let behind = c.count_up_to-count.ensures.split.behind i s (omega (arith, c.if-count-eq0.true)) is in omega (arith, behind, over.0))))
+pub spot_in-requires : goal.spot_in-requires
+spot_in-requires c = subst AreRising (sym c.split_at.ensures.front) (next_run c.args.runs.now c.runs.count-index c.runs.left.now c.runs-test.true c.runs.invariant.are).1
 
-some_spot : (s t : Spot) → Some s ≡ Some t → s ≡ t
-some_spot s t e = cc
+pub runs-preserved : goal.runs-preserved
+runs-preserved c =
+    let left = c.runs.left.now in
+    let at = c.args.at in
+    let n = get_or c.args.runs.now c.runs.count-index 0 in
+    let whole = last_at (shown_spots c.args.spots.now) at in
+    let here : option_map part_of c.spot_in.result ≡ last_at (shown_spots (take n left)) at = c.spot_in.ensures ∙ ap (λ (l : List Spot). last_at (shown_spots l) at) c.split_at.ensures.front in
+    record {
+      are = subst (AreRuns (drop (c.runs.count-index + 1) c.args.runs.now)) (sym c.split_at.ensures.back) (next_run c.args.runs.now c.runs.count-index left c.runs-test.true c.runs.invariant.are).2;
+      whole =
+          ap (λ (l : List Spot). option_or (last_at (shown_spots l) at) (option_map part_of c.or-found.result)) c.split_at.ensures.back
+          ∙ ap (λ (o : Option Spot). option_or (last_at (shown_spots (drop n left)) at) (option_map part_of o)) c.or-found.ensures
+          ∙ run_passed left n at c.runs.found c.spot_in.result here
+          ∙ c.runs.invariant.whole;
+    }
 
--- the last spot that begins at an offset or before it
-module _ (spots : List Spot) (at count : ℕ) (split : IsSplit offset_of spots at count) (bound : count ≤ length spots) (some : 0 < count) where
-  abbrev pub last : Spot
-  last = get_or spots (count - 1) no_spot
-
-  there : slice_get spots (count - 1) ≡ Some last
-  there = get_there spots (count - 1) no_spot (omega (arith, bound, some))
-
-  low : last.at ≤ at
-  low = split.before (count - 1) last (omega (arith, some)) there
-
-  none_behind : (j : ℕ) (t : Spot) → count - 1 < j → slice_get spots j ≡ Some t → Covers at t → ⊥
-  none_behind j t lt is over = let behind = split.behind j t (omega (arith, lt)) is in omega (arith, behind, over.0)
-
-  -- where it reaches the offset, it gives the cell there
-  pub found_there : at - last.at < last.end - last.first → last_at (shown_spots spots) at ≡ Some (cell_in last at)
-  found_there lt = last_over_it spots at (count - 1) last there (low, omega (arith, lt, low)) none_behind
-
-  -- and else none does
-  pub none_there : last.end - last.first ≤ at - last.at → AreRising spots → last_at (shown_spots spots) at ≡ None
-  none_there le rising = none_over spots at (each_place (λ s. Covers at s → ⊥) spots (λ i s is over. elim (cases_lt i (count - 1)) [
-    | inl before ↦ let ends = rising.ends i (count - 1) s last before is there in omega (arith, ends, over.1, le, low)
-    | inr behind ↦ elim (cases_lt (count - 1) i) [
-      | inl after ↦ none_behind i s after is over
-      | inr same ↦
-          let here : i ≡ count - 1 = omega (arith, behind, same) in
-          let eq : s ≡ last = some_spot s last (sym is ∙ ap (slice_get spots) here ∙ there) in
-          let over' : Covers at last = subst (Covers at) eq over in
-          omega (arith, over'.1, le, low)
-    ]
-  ]))
-
-pub overflow_add-result : goal.overflow_add-result
-overflow_add-result c = omega (arith, c.if-passed-from.true, c.from.ensures, c.size_of.ensures.small)
-
-pub returns-then-passed-from : goal.returns-then-passed-from
-returns-then-passed-from c =
-    let spots = c.args.spots.now in
-    let count = c.count_up_to-count.result in
-    let split = c.count_up_to-count.ensures.split in
-    let bound = c.count_up_to-count.ensures.bound in
-    let some : 0 < count = omega (arith, c.if-count-eq0.false) in
-    let spot = last spots c.args.at count split bound some in
-    let shift : to_z w8 (of_z w8 spot.shift) ≡ spot.shift = grind (arith, to_z-of_z) in
-    ap (λ (z : ℤ). Some (Part 1 spot.segment spot.offset z (spot.first + (c.args.at - spot.at)))) shift
-    ∙ sym (found_there spots c.args.at count split bound some (omega (arith, c.if-passed-from.true, c.from.ensures, c.size_of.ensures.value)))
-
-pub returns-else-passed-from : goal.returns-else-passed-from
-returns-else-passed-from c =
-    let count = c.count_up_to-count.result in
-    sym (none_there c.args.spots.now c.args.at count c.count_up_to-count.ensures.split c.count_up_to-count.ensures.bound (omega (arith, c.if-count-eq0.false))
-    (omega (arith, c.if-passed-from.false, c.from.ensures, c.size_of.ensures.value)) c.requires)
+pub returns : goal.returns
+returns c =
+    let none = last_run c.args.runs.now c.runs.count-index c.runs.left.now c.runs-test.false c.runs.invariant.are in
+    sym (ap (λ (l : List Spot). option_or (last_at (shown_spots l) c.args.at) (option_map part_of c.runs.found)) none) ∙ c.runs.invariant.whole

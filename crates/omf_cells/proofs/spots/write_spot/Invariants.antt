@@ -1,4 +1,5 @@
-use Rattle.std.proofs.Common.{◌≡◌, ◌+◌, ◌-◌, ◌≤◌, length}
+use Rattle.std.proofs.Common.{◌≡◌, ◌+◌, ◌-◌, ◌/◌, ◌^◌, ◌≤◌, length}
+use Rattle.omf_format.specs.Value.{wrapped, shifted}
 use Rattle.omf_cells.specs.Content.{spot_patch, spread_from, spread_spot, AreBelow, with_cells}
 use Rattle.omf_cells.specs.Places.{address_in}
 use Rattle.omf_cells.proofs.spots.write_spot.Given as goal
@@ -8,6 +9,7 @@ abbrev pub invariant-bytes : goal.invariant-bytes
 invariant-bytes l = record {
   at : l.at ≡ l.spot.at + (l.index - l.spot.first);
   from : l.spot.first ≤ l.index;
+  left : l.left ≡ shifted (wrapped (address_in l.places l.spot.segment + l.spot.offset)) l.spot.shift / 256 ^ l.index;
   below : AreBelow (length l.out) (spread_from (spot_patch l.spot) l.at l.index (l.spot.end - l.index));
   whole : with_cells (address_in l.places) (spread_from (spot_patch l.spot) l.at l.index (l.spot.end - l.index)) l.out ≡ with_cells (address_in l.places) (spread_spot l.spot) l.initial.out;
 }

@@ -59,8 +59,8 @@ returns-clause-ok c =
       none_of c.args.number (map shown c.args.views.now.items) (shown v) c.records-2.result _ (ap records_of c.records-2.ensures) c.in_ok-fault.ensures.value c.in-None.is,
       record {
         pieces = has_pieces c.args.number v c.records.result c.in_ok-pieces.pieces.items c.requires.sized c.records.ensures c.in_ok-pieces.ensures.short c.in_ok-pieces.ensures.are;
-        spots = ordered_spots (shown v) c.take_records.new.spots.items _
+        spots = ordered_spots (shown v) c.take_records.new.spots.items _ _
             (given_of (shown v) c.records-2.result _ c.take_records.new.spots.items (ap records_of c.records-2.ensures) c.new-spots.ensures.items (c.in_ok-fault.ensures.spots (ap (λ o. Ok o) c.in-None.is)))
-            c.in_ok-spots.ensures.rise c.in_ok-spots.ensures.last;
+            c.in_ok-spots.ensures.runs c.in_ok-spots.ensures.last;
       },
     )

@@ -1,6 +1,6 @@
 use Rattle.std.proofs.Common.{◌≡◌, ℕ, List, length, take}
 use Rattle.omf_cells.proofs.Walks.{Left}
-use Rattle.omf_cells.proofs.body.write_body.Given as goal
+use Rattle.omf_cells.proofs.body.write_records.Given as goal
 
 -- the bytes so far were written
 abbrev pub invariant-records : goal.invariant-records
