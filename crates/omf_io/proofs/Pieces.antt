@@ -1,19 +1,9 @@
 -- Reads one after the other.
-use Rattle.std.proofs.Common.{◌≡◌, ℕ, ◌+◌, ◌≤◌, List, ◌++◌, length, take, Option, None, Some, Result, Ok, Err, true, false, MatchResult, IfOk, IfSome, sym, ap, ◌∙◌, subst, length-take-le, arith}
+use Rattle.std.proofs.Common.{◌≡◌, ℕ, ◌≤◌, List, ◌++◌, length, take, Option, None, Some, Result, Ok, Err, true, false, MatchResult, IfOk, IfSome, sym, ap, ◌∙◌, subst, arith}
 use Rattle.std.specs.Result.{is_ok}
-use Rattle.std.proofs.Math.Seq.{take-append-add, take-append-le}
+use Rattle.std.proofs.Math.Seq.{take-append-le}
 use Rattle.std.proofs.lemmas.List.{take-take}
-use Rattle.std.proofs.KnownBytes.{Consumes-trans}
 use Rattle.std.specs.Io.KnownBytes.{Consumes}
-
--- the first `at` places of a buffer hold what was read before, and a read puts n bytes behind them
-pub Consumes-further : (a b c : Option (List ℕ)) (at n : ℕ) (buffer piece rest : List ℕ) → at ≤ length buffer → n ≤ length piece
-    → Consumes a b (take at buffer) → Consumes b c (take n piece) → Consumes a c (take (at + n) (take at buffer ++ (piece ++ rest)))
-Consumes-further a b c at n buffer piece rest within fits before read =
-    let front = take at buffer in
-    let joined : take (at + n) (front ++ (piece ++ rest)) ≡ front ++ take n piece =
-    ap (λ k. take (k + n) (front ++ (piece ++ rest))) (sym (length-take-le at buffer within)) ∙ take-append-add front (piece ++ rest) n ∙ ap (λ l. front ++ l) (take-append-le n piece rest fits) in
-    subst (Consumes a c) (sym joined) (Consumes-trans a b c _ _ before read)
 
 -- what was read first, and then all that was left, is all
 pub Consumes-rest : (a b : Option (List ℕ)) (first all : List ℕ) → Consumes a b first → IfSome b (λ rest. all ≡ first ++ rest) → IfSome a (λ left. all ≡ left)

@@ -8,6 +8,9 @@ use crate::{MAX_FILE, ReadFault};
 use std::alloc::Global;
 use std::io::{self, Error, ErrorKind, Read, Write};
 
+/// How many bytes are read at once: so few that they are still near the processor when they are copied.
+const PIECE: usize = 0x1_0000;
+
 /// Why a stream that was there gave no bytes.
 fn stream_fault(error: Error) -> ReadFault
     ensures { (result ≡ ReadFault.Failed) ⊎ (result ≡ ReadFault.Memory) }
@@ -38,10 +41,8 @@ pub fn read_whole<R: Read + Drop>(alloc: Global, reader: R, told: u64) -> Result
 {
     // One byte more than there are leaves room to find the end.
     let room = told.min(MAX_FILE as u64) as usize + 1;
-    let mut bytes = vec![in alloc; 0; room]?;
     let mut front = reader.take(MAX_FILE as u64 + 1);
-    let filled = fill(&mut front, &mut bytes).map_err(stream_fault)?;
-    bytes.truncate(filled);
+    let mut bytes = front_of(alloc, &mut front, room).map_err(stream_fault)?;
     front.read_to_end(&mut bytes).map_err(stream_fault)?;
     if bytes.len() > MAX_FILE {
         return Err(ReadFault::TooLong);
@@ -49,20 +50,20 @@ pub fn read_whole<R: Read + Drop>(alloc: Global, reader: R, told: u64) -> Result
     Ok(bytes)
 }
 
-/// Reads into a buffer until it is full or a read gives nothing. Returns how many bytes it holds.
-fn fill<R: Read>(reader: &mut R, buffer: &mut [u8]) -> io::Result<usize>
-    ensures within { IfOk result (λ count. count ≤ length buffer.new) }
-    ensures bytes { IfOk result (λ count. Consumes (R.remaining reader.old) (R.remaining reader.new) (take count buffer.new)) }
+/// Reads piece by piece until there are so many bytes, for which room is taken at once, or a read gives nothing.
+fn front_of<R: Read>(alloc: Global, reader: &mut R, room: usize) -> io::Result<Vec<u8>>
+    ensures { IfOk result (λ bytes. Consumes (R.remaining reader.old) (R.remaining reader.new) bytes.items) }
 {
-    let mut filled = 0;
-    while filled < buffer.len() {
-        let count = read_piece(reader, &mut buffer[filled..])?;
+    let mut bytes = Vec::with_capacity(alloc, room)?;
+    let mut piece = vec![in alloc; 0; room.min(PIECE)]?;
+    'pieces: while bytes.len() < room {
+        let count = read_piece(reader, &mut piece)?;
         if count == 0 {
             break;
         }
-        filled += count;
+        bytes.extend_from_slice(&piece[..count])?;
     }
-    Ok(filled)
+    Ok(bytes)
 }
 
 /// One read, which gives nothing where a signal interrupts it.
