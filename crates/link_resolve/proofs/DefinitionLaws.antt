@@ -1,7 +1,8 @@
 -- Tables of definitions, and one more definition.
 use Rattle.std.proofs.Common.{◌≡◌, ℕ, suc, ◌+◌, ◌≤◌, Bool, true, false, List, [], ◌∷◌, ◌++◌, length, map, Option, Some, None, refl, sym, ap, subst, ◌∙◌, append_assoc, arith}
 use Rattle.std.specs.Prelude.{filter, slice_get, option_map, if◌then◌else◌}
-use Rattle.std.specs.List.{flat_map}
+use Rattle.std.specs.List.{flat_map, AllByRecursion}
+use Rattle.std.proofs.lemmas.Bool.{ne_eqb}
 use Rattle.std.proofs.lemmas.List.{map-append, length-map, append-nil}
 use Rattle.std.proofs.lemmas.Option.{slice_get-map}
 use Rattle.std.proofs.lemmas.Grind.{flat_map-append}
@@ -25,7 +26,7 @@ use Rattle.link_resolve.specs.declared.definitions.Definitions.{Definitions}
 use Rattle.link_resolve.specs.declared.definitions.Origin.{Origin}
 use Rattle.link_resolve.specs.Names.{Named, Row, Indexes, is_row, seen_of, outcome}
 use Rattle.link_resolve.specs.Coming.{Coming, Walks}
-use Rattle.link_resolve.specs.Definitions.{ToldDefinition, definition_of, told_definition, key_of_found, is_found, numbered, local_under, local_rows, AreDefinitions, Sees, IsOf, founds_in}
+use Rattle.link_resolve.specs.Definitions.{ToldDefinition, definition_of, told_definition, key_of_found, is_found, numbered, local_under, local_rows, AreDefinitions, Sees, IsElsewhere, IsOf, founds_in}
 use Rattle.link_resolve.proofs.Grown.{grows}
 
 -- ---- look-ups
@@ -62,38 +63,42 @@ got fs table number answer are is = is ∙ ap (λ (l : List ToldDefinition). sli
 
 -- ---- what segments have for themselves
 
-nothing_seen : (rows : List Row) → seen_of rows ≡ Nothing → rows ≡ []
-nothing_seen [] e = refl
-nothing_seen (r ∷ []) e = absurd cc
-nothing_seen (r ∷ r' ∷ rows) e = absurd cc
+-- no row tells this place
+abbrev Apart : ℕ → List Row → Type 0
+Apart place rows = AllByRecursion (λ row. row.1 ≡ place → ⊥) rows
 
-append_none : {A : Type 0} → (xs ys : List A) → xs ++ ys ≡ [] → ys ≡ []
-append_none [] ys e = e
-append_none (x ∷ xs) ys e = absurd cc
+apart_seen : (place : ℕ) (rows : List Row) → IsElsewhere place (seen_of rows) → Apart place rows
+apart_seen place [] apart = tt
+apart_seen place (r ∷ []) apart = (apart, tt)
+apart_seen place (r ∷ r' ∷ rows) apart = absurd apart
 
-first_none : {A : Type 0} → (x : A) (xs : List A) → x ∷ xs ≡ [] → ⊥
-first_none x xs e = cc
+apart_back : (place : ℕ) (xs ys : List Row) → Apart place (xs ++ ys) → Apart place ys
+apart_back place [] ys apart = apart
+apart_back place (x ∷ xs) ys apart = apart_back place xs ys apart.1
 
 abbrev all_key : List ℕ → Named
 all_key name = record { step = Everyone; name = name }
 
-no_local_rows : (fs : List Found) (name : List ℕ) (place : ℕ) → filter (is_row (all_key name)) (local_rows fs) ≡ [] → filter (sees (Within place)) (filter (λ f. bytes_eq name f.definition.name) fs) ≡ []
+no_local_rows : (fs : List Found) (name : List ℕ) (place : ℕ) → Apart place (filter (is_row (all_key name)) (local_rows fs)) → filter (sees (Within place)) (filter (λ f. bytes_eq name f.definition.name) fs) ≡ []
 no_local_rows [] name place none = refl
-no_local_rows (f ∷ fs) name place none = settle (step_of f) refl (bytes_eq name f.definition.name) refl both (no_local_rows fs name place (append_none (filter (is_row (all_key name)) (local_under (step_of f) f.definition.name)) (filter (is_row (all_key name)) (local_rows fs)) both))
+no_local_rows (f ∷ fs) name place none = settle (step_of f) refl (bytes_eq name f.definition.name) refl both (no_local_rows fs name place (apart_back place (filter (is_row (all_key name)) (local_under (step_of f) f.definition.name)) others both))
   where
     here : List Row
     here = local_under (step_of f) f.definition.name
 
+    others : List Row
+    others = filter (is_row (all_key name)) (local_rows fs)
+
     rest : List Found
     rest = filter (λ g. bytes_eq name g.definition.name) fs
 
-    both : filter (is_row (all_key name)) here ++ filter (is_row (all_key name)) (local_rows fs) ≡ []
-    both = sym (filter-append (is_row (all_key name)) here (local_rows fs)) ∙ ap (filter (is_row (all_key name))) (sym (flat_map-cons (λ (g : Found). local_under (step_of g) g.definition.name) f fs)) ∙ none
+    both : Apart place (filter (is_row (all_key name)) here ++ others)
+    both = subst (Apart place) (ap (filter (is_row (all_key name))) (flat_map-cons (λ (g : Found). local_under (step_of g) g.definition.name) f fs) ∙ filter-append (is_row (all_key name)) here (local_rows fs)) none
 
     unseen : (t : Step) → step_of f ≡ t → is_step (Within place) t ≡ false → filter (sees (Within place)) rest ≡ [] → filter (sees (Within place)) (f ∷ rest) ≡ []
     unseen t is apart again = ap (λ (u : Bool). if u then f ∷ filter (sees (Within place)) rest else filter (sees (Within place)) rest) (ap (is_step (Within place)) is ∙ apart) ∙ again
 
-    settle : (t : Step) → step_of f ≡ t → (b : Bool) → bytes_eq name f.definition.name ≡ b → filter (is_row (all_key name)) here ++ filter (is_row (all_key name)) (local_rows fs) ≡ [] → filter (sees (Within place)) rest ≡ []
+    settle : (t : Step) → step_of f ≡ t → (b : Bool) → bytes_eq name f.definition.name ≡ b → Apart place (filter (is_row (all_key name)) here ++ others) → filter (sees (Within place)) rest ≡ []
         → filter (sees (Within place)) (if bytes_eq name f.definition.name then f ∷ rest else rest) ≡ []
     settle t is false e none again = ap (λ (b : Bool). filter (sees (Within place)) (if b then f ∷ rest else rest)) e ∙ again
     settle (OfUnit file from) is true e none again = ap (λ (b : Bool). filter (sees (Within place)) (if b then f ∷ rest else rest)) e ∙ unseen (OfUnit file from) is refl again
@@ -101,13 +106,15 @@ no_local_rows (f ∷ fs) name place none = settle (step_of f) refl (bytes_eq nam
     settle (Within p) is true e none again =
         let row : filter (is_row (all_key name)) here ≡ (all_key f.definition.name, p) ∷ [] =
         ap (λ (u : Step). filter (is_row (all_key name)) (local_under u f.definition.name)) is ∙ ap (λ (b : Bool). if b then (all_key f.definition.name, p) ∷ [] else []) e in
-        absurd (first_none (all_key f.definition.name, p) (filter (is_row (all_key name)) (local_rows fs)) (sym (ap (λ (l : List Row). l ++ filter (is_row (all_key name)) (local_rows fs)) row) ∙ none))
+        let apart : Apart place ((all_key f.definition.name, p) ∷ others) = subst (λ (l : List Row). Apart place (l ++ others)) row none in
+        ap (λ (b : Bool). filter (sees (Within place)) (if b then f ∷ rest else rest)) e ∙ unseen (Within p) is (ne_eqb place p (λ same. apart.0 (sym same))) again
 
--- a name that no segment has for itself is found in none
-pub no_local : (fs : List Found) (table : Definitions) (name : List ℕ) (o : Outcome) → AreDefinitions fs table → ((rows : List Row) → Indexes rows table.locals → o ≡ outcome rows (all_key name)) → o ≡ Nothing
-    → (place : ℕ) → filter (sees (Within place)) (named name fs) ≡ []
+-- a segment has none of a name for itself that none has, or another alone
+pub seen_elsewhere : (fs : List Found) (table : Definitions) (name : List ℕ) (o : Outcome) (place : ℕ) → AreDefinitions fs table → ((rows : List Row) → Indexes rows table.locals → o ≡ outcome rows (all_key name)) → IsElsewhere place o
+    → filter (sees (Within place)) (named name fs) ≡ []
 unfolding named
-no_local fs table name o are looks nothing place = no_local_rows fs name place (nothing_seen (filter (is_row (all_key name)) (local_rows fs)) (sym (looks (local_rows fs) are.locals) ∙ nothing))
+seen_elsewhere fs table name o place are looks apart =
+    no_local_rows fs name place (apart_seen place (filter (is_row (all_key name)) (local_rows fs)) (subst (IsElsewhere place) (looks (local_rows fs) are.locals) apart))
 
 -- ---- one more
 

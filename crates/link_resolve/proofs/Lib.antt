@@ -15,6 +15,7 @@ pub mod UseLaws
 pub mod UseTables
 pub mod SearchLaws
 pub mod LinkedLaws
+pub mod UsingLaws
 pub mod TitleLaws
 pub mod ResolvingLaws
 pub mod FileRefusals

@@ -1,11 +1,12 @@
 -- One more member of the linked list.
 use Rattle.std.proofs.Common.{◌≡◌, ℕ, zero, suc, ◌+◌, ◌-◌, ◌≤◌, ◌<◌, Bool, true, false, Option, None, List, [], ◌∷◌, ◌++◌, length, map, drop, Some, refl, sym, ap, subst, ◌∙◌, append_assoc, append-nil, arith}
-use Rattle.std.specs.Prelude.{slice_get, option_map, nat_eq, if◌then◌else◌}
+use Rattle.std.specs.Prelude.{slice_get, option_map, nat_eq, ◌&&◌, ◌||◌, if◌then◌else◌}
 use Rattle.std.specs.List.{flat_map}
 use Rattle.std.specs.Borrow.{Bor}
+use Rattle.std.specs.Map.{lookup}
 use Rattle.std.proofs.Math.Seq.{drop-append_seam}
 use Rattle.std.proofs.lemmas.List.{map-append, length-map}
-use Rattle.std.proofs.lemmas.Bool.{eqb-true}
+use Rattle.std.proofs.lemmas.Bool.{eqb-true, eq-eqb}
 use Rattle.std.proofs.lemmas.Option.{slice_get-map, slice_get_within, slice_get_past}
 use Rattle.std.proofs.lemmas.List.Concat.{flat_map-cons}
 use Rattle.omf_format.specs.File.{Segment}
@@ -19,7 +20,7 @@ use Rattle.link_resolve.specs.declared.linked.Linked.{Linked}
 use Rattle.link_resolve.specs.Names.{Indexes}
 use Rattle.link_resolve.specs.Definitions.{AreDefinitions, IsOf, founds_in}
 use Rattle.link_resolve.specs.Uses.{told_use, at_place, HaveShortNames}
-use Rattle.link_resolve.specs.Linked.{names_of, usings_at, usings_in, origin_of, place_rows, Holds, GainsTitle, OriginOf, member_at}
+use Rattle.link_resolve.specs.Linked.{title_of_data, title_in, name_at, names_of, usings_at, is_among, has_using, usings_in, origin_of, place_rows, Holds, GainsTitle, OriginOf, member_at}
 
 -- ---- lists
 
@@ -84,39 +85,67 @@ other_place [] m (suc k) other = refl
 other_place (x ∷ list) m zero other = refl
 other_place (x ∷ list) m (suc k) other = other_place list m k (λ e. other (ap suc e))
 
+at_end : (list : List Member) (m : Member) (place other : ℕ) → place ≡ 1 + length list → nat_eq place other ≡ true → (member_at list other ≡ None) × (member_at (list ++ m ∷ []) other ≡ Some m)
+at_end list m place other at e =
+    let there : other ≡ suc (length list) = sym (eqb-true place other e) ∙ omega (arith, at) in
+    (ap (member_at list) there ∙ slice_get_past list (length list) (omega arith), ap (member_at (list ++ m ∷ [])) there ∙ end_place list m)
+
+before_end : (list : List Member) (m : Member) (place other : ℕ) → place ≡ 1 + length list → nat_eq place other ≡ false → member_at list other ≡ member_at (list ++ m ∷ []) other
+before_end list m place zero at e = refl
+before_end list m place (suc k) at e = sym (other_place list m k (λ same. let clash : true ≡ false = sym (eq-eqb place (suc k) (omega (arith, same, at))) ∙ e in cc))
+
 usings_more : (list : List Member) (m : Member) (old new : Linked) (names : List (List ℕ)) (place : ℕ) → Holds list old → place ≡ 1 + length list → names ≡ usings_of m.segment
     → (usings_at old.usings place ≡ [] → (other : ℕ) → usings_at new.usings other ≡ (if nat_eq place other then names else usings_at old.usings other))
     → (other : ℕ) → usings_at new.usings other ≡ usings_in (member_at (list ++ m ∷ []) other)
 usings_more list m old new names place holds at are more other = more none other ∙ settle (nat_eq place other) refl
   where
-    end : place ≡ suc (length list)
-    end = omega (arith, at)
-
     none : usings_at old.usings place ≡ []
-    none = holds.usings place ∙ ap (λ (n : ℕ). usings_in (member_at list n)) end ∙ ap usings_in (slice_get_past list (length list) (omega arith))
-
-    before : (n : ℕ) → (n ≡ place → ⊥) → member_at list n ≡ member_at (list ++ m ∷ []) n
-    before zero ne = refl
-    before (suc k) ne = sym (other_place list m k (λ e. ne (omega (arith, e, at))))
-
-    eq_self : (n : ℕ) → nat_eq n n ≡ true
-    eq_self n = grind (arith)
-
-    two : nat_eq place other ≡ true → nat_eq place other ≡ false → ⊥
-    two a b = let clash : true ≡ false = sym a ∙ b in cc
+    none = holds.usings place ∙ ap usings_in (at_end list m place place at (eq-eqb place place refl)).0
 
     settle : (b : Bool) → nat_eq place other ≡ b → (if b then names else usings_at old.usings other) ≡ usings_in (member_at (list ++ m ∷ []) other)
-    settle true e = are ∙ sym (ap (λ (n : ℕ). usings_in (member_at (list ++ m ∷ []) n)) (sym (eqb-true place other e) ∙ end) ∙ ap usings_in (end_place list m))
-    settle false e = holds.usings other ∙ ap usings_in (before other (λ same. let clash : nat_eq place other ≡ true = ap (nat_eq place) same ∙ eq_self place in absurd (two clash e)))
+    settle true e = are ∙ sym (ap usings_in (at_end list m place other at e).1)
+    settle false e = holds.usings other ∙ ap usings_in (before_end list m place other at e)
+
+-- the same of the name of a data segment
+names_more : (list : List Member) (m : Member) (old new : Linked) (title : Option (List ℕ)) (place : ℕ) → Holds list old → place ≡ 1 + length list → title ≡ title_of_data m.segment
+    → (name_at old.names place ≡ None → (other : ℕ) → name_at new.names other ≡ (if nat_eq place other then title else name_at old.names other))
+    → (other : ℕ) → name_at new.names other ≡ title_in (member_at (list ++ m ∷ []) other)
+names_more list m old new title place holds at is more other = more none other ∙ settle (nat_eq place other) refl
+  where
+    none : name_at old.names place ≡ None
+    none = holds.names place ∙ ap title_in (at_end list m place place at (eq-eqb place place refl)).0
+
+    settle : (b : Bool) → nat_eq place other ≡ b → (if b then title else name_at old.names other) ≡ title_in (member_at (list ++ m ∷ []) other)
+    settle true e = is ∙ sym (ap title_in (at_end list m place other at e).1)
+    settle false e = holds.names other ∙ ap title_in (before_end list m place other at e)
+
+-- and of the names of USING one by one
+each_more : (list : List Member) (m : Member) (old new : Linked) (names : List (List ℕ)) (place : ℕ) → Holds list old → place ≡ 1 + length list → names ≡ usings_of m.segment
+    → ((other : ℕ) (name : List ℕ) → has_using new.usings other name ≡ ((nat_eq place other && is_among name names) || has_using old.usings other name))
+    → (other : ℕ) (name : List ℕ) → has_using new.usings other name ≡ is_among name (usings_in (member_at (list ++ m ∷ []) other))
+each_more list m old new names place holds at are more other name = more other name ∙ settle (nat_eq place other) refl
+  where
+    or_none : (b : Bool) → (b || false) ≡ b
+    or_none true = refl
+    or_none false = refl
+
+    settle : (b : Bool) → nat_eq place other ≡ b → ((b && is_among name names) || has_using old.usings other name) ≡ is_among name (usings_in (member_at (list ++ m ∷ []) other))
+    settle true e =
+        let end = at_end list m place other at e in
+        ap (λ (b : Bool). is_among name names || b) (holds.each other name ∙ ap (λ (o : Option Member). is_among name (usings_in o)) end.0)
+        ∙ or_none (is_among name names) ∙ ap (is_among name) are ∙ sym (ap (λ (o : Option Member). is_among name (usings_in o)) end.1)
+    settle false e = holds.each other name ∙ ap (λ (o : Option Member). is_among name (usings_in o)) (before_end list m place other at e)
 
 pub held_more : (list : List Member) (m : Member) (old new : Linked) (s : Segment) (origin : Origin) (names : List (List ℕ)) (place : ℕ)
     → IsOf m origin → m.segment ≡ s → Holds list old → place ≡ length old.members.items + 1 → new.members.items ≡ old.members.items ++ origin ∷ []
+    → (name_at old.names place ≡ None → (other : ℕ) → name_at new.names other ≡ (if nat_eq place other then title_of_data s else name_at old.names other))
     → ((fs : List Found) (n : Member) → IsOf n origin → AreDefinitions fs old.definitions → AreDefinitions (fs ++ founds_in place n (defined_in s)) new.definitions)
     → GainsTitle old.titles new.titles origin place (data_title_of s)
     → new.uses ≡ old.uses ++ at_place place (uses_of s) → (HaveShortNames old.uses → HaveShortNames new.uses) → names ≡ usings_of s
-    → (usings_at old.usings place ≡ [] → (other : ℕ) → usings_at new.usings other ≡ (if nat_eq place other then names else usings_at old.usings other)) → Holds (list ++ m ∷ []) new
+    → (usings_at old.usings place ≡ [] → (other : ℕ) → usings_at new.usings other ≡ (if nat_eq place other then names else usings_at old.usings other))
+    → ((other : ℕ) (n : List ℕ) → has_using new.usings other n ≡ ((nat_eq place other && is_among n names) || has_using old.usings other n)) → Holds (list ++ m ∷ []) new
 unfolding entries data_titles asked
-held_more list m old new s origin names place of same holds place_is members defines titles uses short are usings =
+held_more list m old new s origin names place of same holds place_is members titled defines titles uses short are usings each =
     let at : place ≡ 1 + length list = omega (arith, place_is, count_is list old holds) in
     let same_origin : origin ≡ origin_of m =
     ap (λ (n : ℕ). from_there n origin.segment origin.from) (sym of.0) ∙ ap (λ (n : ℕ). from_there m.file n origin.from) (sym of.1) ∙ ap (λ (n : ℕ). from_there m.file m.number n) (sym of.2) in
@@ -131,7 +160,9 @@ held_more list m old new s origin names place of same holds place_is members def
     record {
       members =
           members ∙ ap (λ (l : List Origin). l ++ origin ∷ []) holds.members ∙ ap (λ (o : Origin). map origin_of list ++ o ∷ []) same_origin ∙ sym (map-append origin_of list (m ∷ []));
+      names = names_more list m old new (title_of_data s) place holds at (ap title_of_data (sym same)) titled;
       usings = usings_more list m old new names place holds at (are ∙ ap usings_of (sym same)) usings;
+      each = each_more list m old new names place holds at (are ∙ ap usings_of (sym same)) each;
       definitions = subst (λ (l : List Found). AreDefinitions l new.definitions) all_entries (defines (entries_from defined_in 1 list) m of holds.definitions);
       titles = subst (λ (l : List Found). Indexes (place_rows l) new.titles) all_titles (titles (entries_from data_title_of 1 list) m of holds.titles);
       uses =
@@ -144,13 +175,17 @@ held_more list m old new s origin names place of same holds place_is members def
       short = short holds.short;
     }
 
-pub held_none : (new : Linked) → new.members.items ≡ [] → ((place : ℕ) → usings_at new.usings place ≡ []) → AreDefinitions [] new.definitions → Indexes [] new.titles → new.uses ≡ [] → Holds [] new
+pub held_none : (new : Linked) → new.members.items ≡ [] → new.names.entries ≡ [] → ((place : ℕ) → usings_at new.usings place ≡ []) → ((place : ℕ) (name : List ℕ) → has_using new.usings place name ≡ false) → AreDefinitions [] new.definitions → Indexes [] new.titles → new.uses ≡ [] → Holds [] new
 unfolding entries data_titles asked
-held_none new members usings definitions titles uses = record { members = members; usings = λ place. usings place ∙ none place; definitions = definitions; titles = titles; uses = uses; short = subst HaveShortNames (sym uses) tt }
+held_none new members names usings each definitions titles uses = record { members = members; names = λ place. ap (λ (es : List (ℕ × Bor (List ℕ))). option_map (λ (n : Bor (List ℕ)). n.now) (lookup (nat_eq place) es)) names ∙ untitled place; usings = λ place. usings place ∙ none place; each = λ place name. each place name ∙ ap (is_among name) (none place); definitions = definitions; titles = titles; uses = uses; short = subst HaveShortNames (sym uses) tt }
   where
     none : (place : ℕ) → [] ≡ usings_in (member_at [] place)
     none zero = refl
     none (suc k) = refl
+
+    untitled : (place : ℕ) → None ≡ title_in (member_at [] place)
+    untitled zero = refl
+    untitled (suc k) = refl
 
 some_same : (a b : Origin) → Some a ≡ Some b → a ≡ b
 some_same a b e = cc
@@ -172,6 +207,12 @@ usings_is list kept place m holds some at =
     let p = place_as place some in
     let less : p.0 ≡ place - 1 = omega (arith, p.1) in
     holds.usings place ∙ ap (λ (n : ℕ). usings_in (member_at list n)) p.1 ∙ ap usings_in (ap (slice_get list) less ∙ at)
+
+pub each_is : (list : List Member) (kept : Linked) (place : ℕ) (m : Member) (name : List ℕ) → Holds list kept → 0 < place → slice_get list (place - 1) ≡ Some m → has_using kept.usings place name ≡ is_among name (usings_of m.segment)
+each_is list kept place m name holds some at =
+    let p = place_as place some in
+    let less : p.0 ≡ place - 1 = omega (arith, p.1) in
+    holds.each place name ∙ ap (λ (n : ℕ). is_among name (usings_in (member_at list n))) p.1 ∙ ap (λ (o : Option Member). is_among name (usings_in o)) (ap (slice_get list) less ∙ at)
 
 pub origin_some : (list : List Member) (kept : Linked) (place : ℕ) (x : Origin) → Holds list kept → 0 < place → slice_get kept.members.items (place - 1) ≡ Some x → OriginOf (member_at list place) (Some x)
 origin_some list kept place x holds some there =

@@ -26,6 +26,7 @@ use Rattle.link_resolve.specs.Opening.{OpensNothing}
 use Rattle.link_resolve.specs.Wanted.{wanted_at, WantsNothing}
 use Rattle.link_resolve.specs.Definitions.{founds_in}
 use Rattle.link_resolve.proofs.NameTables.{bytes_same}
+use Rattle.link_resolve.proofs.SearchLaws.{no_place}
 use Rattle.link_resolve.proofs.LinkedLaws.{entries_from-snoc, asked_from-snoc, uses_at}
 
 -- ---- steps
@@ -160,11 +161,6 @@ title_stays list m d title stays u name n is = by_name (bytes_eq name d.name) re
     by_name false e =
         subst (λ (l : List Found). IsIn (only_place (decided (outer_steps u) l)) n) (sym (whole ∙ ap (λ (l : List Found). named name (data_titles list) ++ l) (one_named name f false e) ∙ append-nil (named name (data_titles list)))) is
 
-not_one : (found : List Found) (o : Outcome) → SeesPlace found o → ((n : ℕ) → o ≡ One n → ⊥) → only_place found ≡ []
-not_one [] o seen other = refl
-not_one (f ∷ []) o seen other = absurd (other seen.0 seen.1)
-not_one (f ∷ g ∷ more) o seen other = refl
-
 -- a member whose title is beside none or several, or hides none or several
 pub titled_opens : (list : List Member) (m : Member) (d : Definition) (private : Bool) (o : Outcome) → data_title_of m.segment ≡ d ∷ [] → d.scope ≡ outer_scope private
     → (private ≡ true → SeesPlace (finds_data list m d.name) o) → (private ≡ false → SeesPlace (filter (sees Everyone) (named d.name (data_titles list))) o)
@@ -172,10 +168,10 @@ pub titled_opens : (list : List Member) (m : Member) (d : Definition) (private :
 unfolding finds_data
 titled_opens list m d true o title scope own every other =
     title_stays list m d title (λ u n is. unit_stays u m (record { place = 1 + length list; member = m; definition = d }) (named d.name (data_titles list)) n refl scope
-    (not_one (decided (outer_steps m) (named d.name (data_titles list))) o (own refl) other) is)
+    (no_place (decided (outer_steps m) (named d.name (data_titles list))) o (own refl) other) is)
 titled_opens list m d false o title scope own every other =
     title_stays list m d title (λ u n is. all_stays u (record { place = 1 + length list; member = m; definition = d }) (named d.name (data_titles list)) n scope
-    (not_one (filter (sees Everyone) (named d.name (data_titles list))) o (every refl) other) is)
+    (no_place (filter (sees Everyone) (named d.name (data_titles list))) o (every refl) other) is)
 
 -- ---- names
 

@@ -72,7 +72,7 @@ step_some T s steps xs o seen some = settle (filter (sees s) xs) seen
     settle (f ∷ []) e = e
     settle (f ∷ g ∷ more) e = e
 
-or_else-nil : (xs : List Found) → or_else xs [] ≡ xs
+pub or_else-nil : (xs : List Found) → or_else xs [] ≡ xs
 or_else-nil [] = refl
 or_else-nil (f ∷ xs) = refl
 
@@ -162,26 +162,28 @@ steps_for-cons list m name names =
     ap (map Within) (flat_map-cons (λ (n : List ℕ). only_place (finds_data list m n)) name names)
     ∙ map-append Within (only_place (finds_data list m name)) (used_places list m names)
 
+-- none, or several, are at no place
+pub no_place : (found : List Found) (o : Outcome) → SeesPlace found o → ((n : ℕ) → o ≡ One n → ⊥) → only_place found ≡ []
+no_place [] o e none = refl
+no_place (f ∷ []) o e none = absurd (none e.0 e.1)
+no_place (f ∷ g ∷ more) o e none = refl
+
 -- a name that finds none, or several, gives no step
 pub no_step : (list : List Member) (m : Member) (name : List ℕ) (names : List (List ℕ)) (o : Outcome) → SeesPlace (finds_data list m name) o → ((n : ℕ) → o ≡ One n → ⊥) → steps_for list m (name ∷ names) ≡ steps_for list m names
-no_step list m name names o seen none = steps_for-cons list m name names ∙ ap (λ (ps : List ℕ). map Within ps ++ steps_for list m names) (settle (finds_data list m name) seen)
-  where
-    settle : (found : List Found) → SeesPlace found o → only_place found ≡ []
-    settle [] e = refl
-    settle (f ∷ []) e = absurd (none e.0 e.1)
-    settle (f ∷ g ∷ more) e = refl
+no_step list m name names o seen none = steps_for-cons list m name names ∙ ap (λ (ps : List ℕ). map Within ps ++ steps_for list m names) (no_place (finds_data list m name) o seen none)
 
--- one that finds one gives that one's
-pub one_step : (list : List Member) (m : Member) (name : List ℕ) (names : List (List ℕ)) (n : ℕ) → SeesPlace (finds_data list m name) (One n) → steps_for list m (name ∷ names) ≡ Within n ∷ steps_for list m names
-one_step list m name names n seen = steps_for-cons list m name names ∙ ap (λ (ps : List ℕ). map Within ps ++ steps_for list m names) (settle (finds_data list m name) seen)
+-- one thing that was found is at its place
+pub one_place : (found : List Found) (n : ℕ) → SeesPlace found (One n) → only_place found ≡ n ∷ []
+one_place [] n e = absurd cc
+one_place (f ∷ []) n e = ap (λ (k : ℕ). k ∷ []) (sym (same_number n e.0 e.1 ∙ e.2))
   where
     same_number : (a b : ℕ) → One a ≡ One b → a ≡ b
     same_number a b e = cc
+one_place (f ∷ g ∷ more) n e = let clash = e.1 in absurd cc
 
-    settle : (found : List Found) → SeesPlace found (One n) → only_place found ≡ n ∷ []
-    settle [] e = absurd cc
-    settle (f ∷ []) e = ap (λ (k : ℕ). k ∷ []) (sym (same_number n e.0 e.1 ∙ e.2))
-    settle (f ∷ g ∷ more) e = let clash = e.1 in absurd cc
+-- one that finds one gives that one's
+pub one_step : (list : List Member) (m : Member) (name : List ℕ) (names : List (List ℕ)) (n : ℕ) → SeesPlace (finds_data list m name) (One n) → steps_for list m (name ∷ names) ≡ Within n ∷ steps_for list m names
+one_step list m name names n seen = steps_for-cons list m name names ∙ ap (λ (ps : List ℕ). map Within ps ++ steps_for list m names) (one_place (finds_data list m name) n seen)
 
 -- what a search for a USING name answered
 pub told_titles : (list : List Member) (m : Member) (name : List ℕ) (answer o : Outcome) → answer ≡ o → SeesPlace (finds_data list m name) answer → SeesPlace (finds_data list m name) o

@@ -54,6 +54,12 @@ Seen Tells (f ∷ g ∷ more) answer = (number : ℕ) × (answer ≡ Several num
 abbrev pub Sees : List Found → List Found → Outcome → Type 0
 Sees all found answer = Seen (λ f number. slice_get all number ≡ Some f) found answer
 
+-- of the places that an answer tells, this isn't one: it tells none, or another alone
+abbrev pub IsElsewhere : ℕ → Outcome → Type 0
+IsElsewhere place Nothing = Unit {0}
+IsElsewhere place (One other) = other ≡ place → ⊥
+IsElsewhere place (Several first) = ⊥
+
 -- the member comes from there
 abbrev pub IsOf : Member → Origin → Type 0
 IsOf m origin = (m.file ≡ origin.file) × (m.number ≡ origin.segment) × (m.from ≡ origin.from)

@@ -1,8 +1,11 @@
 -- What is kept of the linked list.
-pub use Rattle.link_resolve.specs.Usings.{names_of, usings_at}
-use Rattle.std.specs.Prelude.{◌≡◌, ℕ, zero, suc, ◌++◌, List, [], Option, Some, None, map, drop, slice_get}
+pub use Rattle.link_resolve.specs.Usings.{names_of, usings_at, is_among, has_using}
+use Rattle.std.specs.Prelude.{◌≡◌, ℕ, zero, suc, ◌++◌, List, [], Option, Some, None, map, drop, slice_get, option_map, nat_eq, if◌then◌else◌}
 use Rattle.std.specs.List.{flat_map}
-use Rattle.link_meaning.specs.Member.{Member}
+use Rattle.std.specs.Borrow.{Bor}
+use Rattle.indexmap.specs.IndexMap.{IndexMap, get}
+use Rattle.omf_format.specs.File.{Segment}
+use Rattle.link_meaning.specs.Member.{Member, is_data}
 use Rattle.link_meaning.specs.Defines.{Definition}
 use Rattle.link_meaning.specs.Uses.{Use, data_name, usings_of}
 use Rattle.link_meaning.specs.Search.{Found, entries, data_titles, only_place, finds_data}
@@ -44,10 +47,25 @@ abbrev pub usings_in : Option Member → List (List ℕ)
 usings_in None = []
 usings_in (Some m) = usings_of m.segment
 
+-- the name of a data segment
+abbrev pub title_of_data : Segment → Option (List ℕ)
+title_of_data s = if is_data s then Some s.fields.name else None
+
+-- that of a member, if there is one
+abbrev pub title_in : Option Member → Option (List ℕ)
+title_in None = None
+title_in (Some m) = title_of_data m.segment
+
+-- the name that is kept of the data segment at a place
+abbrev pub name_at : {S : Type 0} → IndexMap ℕ (Bor (List ℕ)) S → ℕ → Option (List ℕ)
+name_at names place = option_map (λ name. name.now) (get nat_eq names place)
+
 -- this is the list
 pub record Holds (list : List Member) (kept : Linked) : Type 0 where
   pub members : kept.members.items ≡ map origin_of list
+  pub names : (place : ℕ) → name_at kept.names place ≡ title_in (member_at list place)
   pub usings : (place : ℕ) → usings_at kept.usings place ≡ usings_in (member_at list place)
+  pub each : (place : ℕ) (name : List ℕ) → has_using kept.usings place name ≡ is_among name (usings_in (member_at list place))
   pub definitions : AreDefinitions (entries list) kept.definitions
   pub titles : Indexes (place_rows (data_titles list)) kept.titles
   pub uses : kept.uses ≡ map told_use (asked list)

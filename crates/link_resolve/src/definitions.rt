@@ -1,6 +1,6 @@
 //! What the members of the linked list define.
 
-ghost use Rattle.std.specs.Prelude.{◌≡◌, ◌<◌, ◌^◌, ◌++◌, ◌∷◌, [], List, ℕ, false, OnOk, filter, slice_get, option_map};
+ghost use Rattle.std.specs.Prelude.{◌≡◌, ◌<◌, ◌^◌, ◌++◌, ◌∷◌, [], List, ℕ, OnOk, filter, slice_get, option_map};
 ghost use Rattle.std.specs.List.{flat_map};
 ghost use Rattle.omf_records.specs.Segments.{IsSound, shown};
 ghost use Rattle.omf_records.specs.View.{view};
@@ -10,7 +10,7 @@ ghost use Rattle.link_meaning.specs.Defines.{scope_of, title_of, defined_by, def
 ghost use Rattle.link_meaning.specs.declared.search.Step.TheVariants.{Within};
 ghost use Rattle.link_meaning.specs.Search.{Found, named, sees, step_for};
 ghost use Rattle.link_resolve.specs.Names.{Row, Indexes, key_of};
-ghost use Rattle.link_resolve.specs.Definitions.{AreDefinitions, Sees, IsOf, local_under, is_found, key_of_found, told_definition, founds_in};
+ghost use Rattle.link_resolve.specs.Definitions.{AreDefinitions, Sees, IsElsewhere, IsOf, local_under, is_found, key_of_found, told_definition, founds_in};
 ghost use Rattle.link_resolve.specs.Listed.{definition_of};
 
 use crate::listed::Listed;
@@ -73,19 +73,14 @@ impl<'a> Definitions<'a> {
         self.names.look(key)
     }
 
-    /// Whether any segment has the name for itself.
-    pub fn has_local(&self, name: &[u8]) -> bool
-        ensures { (fs : List Found) → AreDefinitions fs self.now → result ≡ false → (place : ℕ) → filter (sees (Within place)) (named name.now fs) ≡ [] }
+    /// The members whose segments have the name for themselves, by their places in the list, each as often as it has it.
+    pub fn holders(&self, name: &[u8]) -> Outcome
+        ensures { (fs : List Found) (place : ℕ) → AreDefinitions fs self.now → IsElsewhere place result → filter (sees (Within place)) (named name.now fs) ≡ [] }
     {
-        let key = Key {
+        self.locals.look(Key {
             step: Step::Everyone,
             name,
-        };
-        match self.locals.look(key) {
-            Outcome::Nothing => false,
-            Outcome::One(_) => true,
-            Outcome::Several(_) => true,
-        }
+        })
     }
 
     /// The definition with this number, from 0.

@@ -1,6 +1,7 @@
 //! The linked list: its members, what they define and use, and what their names find.
 
-ghost use Rattle.std.specs.Prelude.{◌≡◌, ◌+◌, ◌-◌, ◌<◌, ◌≤◌, ◌^◌, ◌++◌, ◌∷◌, [], List, ℕ, Some, length, map, slice_get, filter, OnOk, IfOk, IsNone, MatchOption, ◌⊎◌, option_map};
+ghost use Rattle.std.specs.Prelude.{◌≡◌, ◌+◌, ◌-◌, ◌<◌, ◌≤◌, ◌^◌, ◌++◌, ◌∷◌, [], List, ℕ, Some, None, length, map, nat_eq, if◌then◌else◌, slice_get, filter, OnOk, IfOk, IsNone, MatchOption, ◌⊎◌, option_map};
+ghost use Rattle.std.specs.List.{list_any};
 ghost use Rattle.omf_records.specs.Segments.{IsSound, shown};
 ghost use Rattle.link_meaning.specs.Sizes.{body_size};
 ghost use Rattle.link_meaning.specs.Member.{Member, Offer};
@@ -16,7 +17,7 @@ ghost use Rattle.link_resolve.specs.Listed.{definition_of};
 ghost use Rattle.link_resolve.specs.Uses.{use_of};
 ghost use Rattle.link_resolve.specs.Offers.{AreOffers, IsRow};
 ghost use Rattle.link_resolve.specs.Wanted.{WantsNothing, IsWanted};
-ghost use Rattle.link_resolve.specs.Linked.{Holds, GainsTitle, SeesPlace, names_of, usings_from, used_places};
+ghost use Rattle.link_resolve.specs.Linked.{Holds, GainsTitle, SeesPlace, title_of_data, title_in, name_at, names_of, usings_from, used_places};
 ghost use Rattle.link_meaning.specs.declared.search.Step.TheVariants.{Within, Everyone};
 ghost use Rattle.std.specs.Prelude.{false, true};
 ghost use Rattle.link_meaning.specs.LinkedList.{Asked};
@@ -29,6 +30,7 @@ use crate::offers::Offers;
 use crate::segname::title;
 use crate::uses::{Use, Uses, add_uses};
 use crate::usings::Usings;
+use indexmap::IndexMap;
 use link_meaning::{LinkCause, Step, Want};
 use omf_records::SegmentView;
 use std::alloc::{AllocError, Global};
@@ -37,6 +39,8 @@ use std::alloc::{AllocError, Global};
 #[derive(Drop)]
 pub struct Linked<'a> {
     members: Vec<Origin>,
+    /// The names of data segments, by their places in the list.
+    names: IndexMap<usize, &'a [u8]>,
     usings: Usings<'a>,
     definitions: Definitions<'a>,
     titles: Names<'a>,
@@ -62,6 +66,22 @@ fn add_data_title<'a>(
     }
     let step = outer_step(segment.header.kind.is_private(), origin);
     titles.add(Key { step, name }, place as usize)
+}
+
+/// Keeps a data segment's SEGNAME by the member's place.
+fn add_data_name<'a>(
+    names: &mut IndexMap<usize, &'a [u8]>,
+    segment: &SegmentView<'a>,
+    place: u32,
+) -> Result<(), AllocError>
+    requires { IsSound segment.now }
+    ensures { OnOk result (name_at names.old place ≡ None
+        → (other : ℕ) → name_at names.new other ≡ (if nat_eq place other then title_of_data (shown segment.now) else name_at names.old other)) }
+{
+    if segment.header.kind.form() == 0x01 {
+        names.insert(place as usize, title(segment))?;
+    }
+    Ok(())
 }
 
 /// Adds the name of a use, where it is one of USING.
@@ -96,6 +116,7 @@ impl<'a> Linked<'a> {
     {
         Linked {
             members: Vec::new(alloc),
+            names: IndexMap::new(alloc),
             usings: Usings::new(alloc),
             definitions: Definitions::new(alloc),
             titles: Names::new(alloc),
@@ -193,6 +214,7 @@ impl<'a> Linked<'a> {
         add_uses(&mut self.uses, segment, place)?;
         let names = usings_in(alloc, &self.uses, before)?;
         self.usings.add(place, names)?;
+        add_data_name(&mut self.names, segment, place)?;
         self.members.push(origin)?;
         Ok(())
     }
@@ -256,18 +278,59 @@ impl<'a> Linked<'a> {
         Outcome::Nothing
     }
 
-    /// What a name finds in the first data segment that has it, of those that the member at this place names by USING.
+    /// The name of the data segment at a place of the list, from 1.
+    fn data_name(&self, place: usize) -> Option<&'a [u8]>
+        ensures { (list : List Member) → Holds list self.now → option_map (λ name. name.now) result ≡ title_in (member_at list place) }
+    {
+        match self.names.get(&place) {
+            Some(name) => Some(*name),
+            None => None,
+        }
+    }
+
+    /// Whether the member at a place finds by USING the data segment at another: it names that one's name, which finds it alone.
+    fn uses_data(&self, place: u32, origin: Origin, other: usize) -> bool
+        requires { 0 < place }
+        ensures { (list : List Member) (m : Member) → Holds list self.now → slice_get list (place - 1) ≡ Some m → IsOf m origin
+            → result ≡ list_any (nat_eq other) (used_places list m (usings_of m.segment)) }
+    {
+        match self.data_name(other) {
+            None => false,
+            Some(name) => {
+                if !self.usings.has(place, name) {
+                    return false;
+                }
+                match self.find_data(origin, name) {
+                    Outcome::Nothing => false,
+                    Outcome::One(found) => other == found,
+                    Outcome::Several(_) => false,
+                }
+            }
+        }
+    }
+
+    /// What a name finds in the first data segment that has it, of those that the member at this place names by USING. Where only
+    /// one segment has the name, that is all there is to look at, however many are named.
     fn find_by_usings(&self, place: u32, origin: Origin, name: &[u8]) -> Outcome
         requires { 0 < place }
         ensures { (list : List Member) (m : Member) → Holds list self.now → slice_get list (place - 1) ≡ Some m → IsOf m origin
             → Sees (entries list) (decided (map Within (used_places list m (usings_of m.segment))) (named name.now (entries list))) result }
     {
-        if !self.definitions.has_local(name) {
-            return Outcome::Nothing;
-        }
-        match self.usings.of(place) {
-            Some(usings) => self.find_used(origin, usings, name),
-            None => Outcome::Nothing,
+        match self.definitions.holders(name) {
+            Outcome::Nothing => Outcome::Nothing,
+            Outcome::One(data) => {
+                if !self.uses_data(place, origin, data) {
+                    return Outcome::Nothing;
+                }
+                self.definitions.look(Key {
+                    step: Step::Within(data),
+                    name,
+                })
+            }
+            Outcome::Several(_) => match self.usings.of(place) {
+                Some(usings) => self.find_used(origin, usings, name),
+                None => Outcome::Nothing,
+            },
         }
     }
 
