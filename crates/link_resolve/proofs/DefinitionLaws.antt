@@ -20,7 +20,7 @@ use Rattle.link_meaning.specs.Search.{Found, step_for, step_of, is_step, sees, n
 use Rattle.link_meaning.specs.declared.search.Step.{Step}
 use Rattle.link_meaning.specs.declared.search.Step.TheVariants.{Within, OfUnit, Everyone}
 use Rattle.link_resolve.specs.declared.names.Outcome.{Outcome}
-use Rattle.link_resolve.specs.declared.names.Outcome.TheVariants.{Nothing, One, Several}
+use Rattle.link_resolve.specs.declared.names.Outcome.TheVariants.{One, Several}
 use Rattle.link_resolve.specs.declared.definitions.Definition as kept
 use Rattle.link_resolve.specs.declared.definitions.Definitions.{Definitions}
 use Rattle.link_resolve.specs.declared.definitions.Origin.{Origin}

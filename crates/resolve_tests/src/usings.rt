@@ -13,6 +13,13 @@ const DATA_BODY: usize = 60;
 /// The bytes of a data segment with one LOCAL.
 const DATA_SIZE: usize = 72;
 
+/// KIND of a segment of code, of one of data, and of one of data that is private.
+const CODE: u16 = 0;
+
+const DATA: u16 = 1;
+
+const PRIVATE_DATA: u16 = 0x4001;
+
 /// The records of names that the segments have.
 const USING: u8 = 0xE4;
 
@@ -36,18 +43,26 @@ fn name_of(letter: u8, number: u16) -> [u8; 5] {
     ]
 }
 
-/// A data segment D of a number, which has L of this number for itself.
-fn data_segment(number: u16) -> [u8; DATA_SIZE] {
+/// A segment D of a number, which has L of a number for itself.
+#[derive(Clone, Copy)]
+struct Part {
+    title: u16,
+    label: u16,
+    kind: u16,
+}
+
+/// The bytes of such a segment.
+fn segment_of(part: &Part) -> [u8; DATA_SIZE] {
     let mut bytes = [0; DATA_SIZE];
     bytes[..54].copy_from_slice(&BARE[..54]);
     bytes[0] = DATA_SIZE as u8;
-    bytes[0x14] = 1;
+    bytes[0x14..0x16].copy_from_slice(&part.kind.to_le_bytes());
     bytes[0x2A] = DATA_BODY as u8;
     bytes[54] = 5;
-    bytes[55..60].copy_from_slice(&name_of(b'D', number));
+    bytes[55..60].copy_from_slice(&name_of(b'D', part.title));
     bytes[60] = LOCAL;
     bytes[61] = 5;
-    bytes[62..67].copy_from_slice(&name_of(b'L', number));
+    bytes[62..67].copy_from_slice(&name_of(b'L', part.label));
     bytes[69] = b'N';
     bytes
 }
@@ -63,7 +78,12 @@ fn add_names(bytes: &mut Vec<u8>, code: u8, letter: u8, count: u16) -> Result<()
 
 /// An object file of a segment that names so many data segments by USING and uses as many names of a letter, and of the first
 /// of these data segments.
-fn using_file(alloc: Global, count: u16, letter: u8, defined: u16) -> Result<Vec<u8>, AllocError> {
+fn using_files(
+    alloc: Global,
+    count: u16,
+    letter: u8,
+    defined: u16,
+) -> Result<Vec<Vec<u8>>, AllocError> {
     let mut bytes = Vec::new(alloc);
     let size = ROOT_BODY as u32 + 14 * u32::from(count) + 1;
     bytes.extend_from_slice(&size.to_le_bytes())?;
@@ -72,24 +92,163 @@ fn using_file(alloc: Global, count: u16, letter: u8, defined: u16) -> Result<Vec
     add_names(&mut bytes, STRONG, letter, count)?;
     bytes.push(0)?;
     for number in 0..defined {
-        bytes.extend_from_slice(&data_segment(number))?;
+        bytes.extend_from_slice(&segment_of(&Part {
+            title: number,
+            label: number,
+            kind: DATA,
+        }))?;
     }
-    Ok(bytes)
+    let mut files = Vec::new(alloc);
+    files.push(bytes)?;
+    Ok(files)
 }
 
-/// The place of the member whose definition a name finds in the first member of a file, or why the file isn't resolved.
-fn found(alloc: Global, file: Vec<u8>, name: &[u8]) -> Result<Option<u32>, (LinkCause, Spot)> {
-    let mut inputs = Vec::new(alloc);
-    if inputs.push(file).is_err() {
+/// An object file of a segment that has these numbers of D in USING, and one of others.
+fn files_of(
+    alloc: Global,
+    usings: &[u16],
+    parts: &[Part],
+    others: &[Part],
+) -> Result<Vec<Vec<u8>>, AllocError> {
+    let mut bytes = Vec::new(alloc);
+    let size = ROOT_BODY as u32 + 7 * usings.len() as u32 + 1;
+    bytes.extend_from_slice(&size.to_le_bytes())?;
+    bytes.extend_from_slice(&BARE[4..ROOT_BODY])?;
+    for number in usings {
+        bytes.extend_from_slice(&[USING, 5])?;
+        bytes.extend_from_slice(&name_of(b'D', *number))?;
+    }
+    bytes.push(0)?;
+    for part in parts {
+        bytes.extend_from_slice(&segment_of(part))?;
+    }
+    let mut more = Vec::new(alloc);
+    for part in others {
+        more.extend_from_slice(&segment_of(part))?;
+    }
+    let mut files = Vec::new(alloc);
+    files.push(bytes)?;
+    if !others.is_empty() {
+        files.push(more)?;
+    }
+    Ok(files)
+}
+
+/// The place of the member whose definition a name finds in the first member of files, or why they aren't resolved.
+fn found(
+    alloc: Global,
+    files: &Vec<Vec<u8>>,
+    name: &[u8],
+) -> Result<Option<u32>, (LinkCause, Spot)> {
+    if !are_few(files) {
         return Ok(None);
     }
-    if !are_few(&inputs) {
-        return Ok(None);
-    }
-    match resolve(alloc, &inputs) {
+    match resolve(alloc, files) {
         Ok(program) => Ok(program.symbol(1, name).map(|found| found.member)),
         Err(fault) => Err((fault.cause, fault.spot)),
     }
+}
+
+/// The place of the member whose L of a number is found by these numbers of D.
+fn found_by(
+    alloc: Global,
+    usings: &[u16],
+    parts: &[Part],
+    others: &[Part],
+    label: u16,
+) -> Result<Option<u32>, (LinkCause, Spot)> {
+    let Ok(files) = files_of(alloc, usings, parts, others) else {
+        return Ok(None);
+    };
+    found(alloc, &files, &name_of(b'L', label))
+}
+
+fn numbered(title: u16, label: u16, kind: u16) -> Part {
+    Part { title, label, kind }
+}
+
+#[test]
+fn using_names_are_looked_for_in_order(rt: HostRuntime) {
+    let alloc = rt.alloc();
+    let parts = [
+        numbered(1, 1, DATA),
+        numbered(2, 2, DATA),
+        numbered(3, 2, DATA),
+        numbered(4, 2, CODE),
+        numbered(5, 5, CODE),
+        numbered(5, 6, DATA),
+    ];
+    for (usings, label, want) in [
+        // One data segment has the label, named or not.
+        ([1, 2, 3], 1, Some(2)),
+        ([3, 2, 1], 1, Some(2)),
+        ([1, 1, 1], 1, Some(2)),
+        ([2, 3, 2], 1, None),
+        // Several have it: the first name of USING decides that finds one of them.
+        ([1, 2, 3], 2, Some(3)),
+        ([1, 3, 2], 2, Some(4)),
+        ([3, 3, 1], 2, Some(4)),
+        ([1, 1, 1], 2, None),
+        // None has it.
+        ([1, 2, 3], 9, None),
+        // A segment of code has the name of a data segment, and a label of its own.
+        ([5, 1, 1], 6, Some(7)),
+        ([5, 1, 1], 5, None),
+    ] {
+        assert_eq!(rt;
+            found_by(alloc, &usings, &parts, &[], label),
+            Ok(want),
+            "{usings:?} {label}"
+        );
+    }
+}
+
+#[test]
+fn using_finds_one_of_a_name(rt: HostRuntime) {
+    let alloc = rt.alloc();
+    // The private one of the unit hides the public one.
+    let both = [numbered(1, 1, DATA), numbered(1, 2, PRIVATE_DATA)];
+    assert_eq!(rt; found_by(alloc, &[1], &both, &[], 1), Ok(None));
+    assert_eq!(rt; found_by(alloc, &[1], &both, &[], 2), Ok(Some(3)));
+    assert_eq!(rt;
+        found_by(
+            alloc,
+            &[1],
+            &[numbered(1, 2, PRIVATE_DATA)],
+            &[numbered(1, 1, DATA)],
+            1
+        ),
+        Ok(None)
+    );
+    assert_eq!(rt;
+        found_by(
+            alloc,
+            &[1],
+            &[numbered(1, 2, PRIVATE_DATA)],
+            &[numbered(1, 1, DATA)],
+            2
+        ),
+        Ok(Some(2))
+    );
+    // Another unit's private one isn't seen.
+    assert_eq!(rt; found_by(alloc, &[1], &[], &both, 1), Ok(Some(2)));
+    assert_eq!(rt; found_by(alloc, &[1], &[], &both, 2), Ok(None));
+    // Of two public ones none is found.
+    let spot = Spot {
+        file: 1,
+        segment: 1,
+        at: ROOT_BODY as u32,
+    };
+    assert_eq!(rt;
+        found_by(
+            alloc,
+            &[1],
+            &[numbered(1, 1, DATA)],
+            &[numbered(1, 2, DATA)],
+            1
+        ),
+        Err((LinkCause::Duplicate, spot))
+    );
 }
 
 #[test]
@@ -102,7 +261,7 @@ fn many_are_named_by_using(rt: HostRuntime) {
         (2000, b'D', 2000, name_of(b'D', 1999), Ok(Some(2001))),
         (2000, b'D', 2000, name_of(b'L', 2000), Ok(None)),
         // Each use is of the own name of another data segment.
-        (200, b'L', 200, name_of(b'L', 199), Ok(Some(201))),
+        (2000, b'L', 2000, name_of(b'L', 1999), Ok(Some(2001))),
         // The last data segment isn't there, or no name of a letter is.
         (2000, b'D', 1999, name_of(b'L', 0), Err(55 + 7 * 1999)),
         (2000, b'M', 2000, name_of(b'L', 0), Err(55 + 7 * 2000)),
@@ -117,8 +276,8 @@ fn many_are_named_by_using(rt: HostRuntime) {
                 },
             )
         });
-        let file = using_file(alloc, count, letter, defined);
-        let told = file.map(|file| found(alloc, file, &name));
+        let files = using_files(alloc, count, letter, defined);
+        let told = files.map(|files| found(alloc, &files, &name));
         assert_eq!(rt; told, Ok(want), "{count} {defined}");
     }
 }

@@ -1,4 +1,4 @@
-use Rattle.std.proofs.Common.{◌≡◌, ◌&&◌, ◌||◌, ℕ, ◌<◌, Bool, List, [], true, length, take, get_or, nat_eq, ap, ◌∙◌, arith}
+use Rattle.std.proofs.Common.{◌&&◌, ℕ, ◌<◌, Bool, List, [], true, length, get_or, nat_eq, ap, ◌∙◌, arith}
 use Rattle.std.specs.Prelude.{if◌then◌else◌}
 use Rattle.std.specs.Borrow.{Bor}
 use Rattle.std.specs.Str.{bytes_eq}
