@@ -1,12 +1,10 @@
 //! What the members of the linked list define.
 
-ghost use Rattle.std.specs.Prelude.{◌≡◌, ◌<◌, ◌^◌, ◌++◌, ◌∷◌, [], List, ℕ, OnOk, filter, slice_get, option_map};
-ghost use Rattle.std.specs.List.{flat_map};
+ghost use Rattle.std.specs.Prelude.{◌≡◌, ◌++◌, ◌∷◌, [], List, ℕ, OnOk, filter, slice_get, option_map};
 ghost use Rattle.omf_records.specs.Segments.{IsSound, shown};
 ghost use Rattle.omf_records.specs.View.{view};
-ghost use Rattle.link_meaning.specs.Sizes.{located, body_size};
 ghost use Rattle.link_meaning.specs.Member.{Member};
-ghost use Rattle.link_meaning.specs.Defines.{scope_of, title_of, defined_by, defined_in};
+ghost use Rattle.link_meaning.specs.Defines.{scope_of, title_of, defined_by};
 ghost use Rattle.link_meaning.specs.declared.search.Step.TheVariants.{Within};
 ghost use Rattle.link_meaning.specs.Search.{Found, named, sees, step_for};
 ghost use Rattle.link_resolve.specs.Names.{Row, Indexes, key_of};
@@ -15,9 +13,7 @@ ghost use Rattle.link_resolve.specs.Listed.{definition_of};
 
 use crate::listed::Listed;
 use crate::names::{Key, Names, Outcome};
-use crate::reading::next_record;
 use crate::segname::title;
-use crate::sizes::size_at;
 use link_meaning::Step;
 use omf_records::{Rec, SegmentView};
 use std::alloc::{AllocError, Global};
@@ -100,23 +96,8 @@ impl<'a> Definitions<'a> {
         self.items.push(definition)
     }
 
-    /// Adds what a segment defines that is the member at this place of the list.
-    pub fn add(
-        &mut self,
-        segment: &SegmentView<'a>,
-        origin: Origin,
-        place: u32,
-    ) -> Result<(), AllocError>
-        requires sound { IsSound segment.now }
-        requires short { body_size (shown segment.now) < 2 ^ 32 }
-        ensures { OnOk result ((fs : List Found) (m : Member) → IsOf m origin → AreDefinitions fs self.old
-            → AreDefinitions (fs ++ founds_in place m (defined_in (shown segment.now))) self.new) }
-    {
-        self.add_title(segment, origin, place)?;
-        self.add_records(segment, origin, place)
-    }
-
-    fn add_title(
+    /// Adds the SEGNAME of the member at this place of the list, where it has one.
+    pub fn add_title(
         &mut self,
         segment: &SegmentView<'a>,
         origin: Origin,
@@ -141,31 +122,8 @@ impl<'a> Definitions<'a> {
         self.push(Key { step, name }, definition)
     }
 
-    fn add_records(
-        &mut self,
-        segment: &SegmentView<'a>,
-        origin: Origin,
-        place: u32,
-    ) -> Result<(), AllocError>
-        requires sound { IsSound segment.now }
-        requires short { body_size (shown segment.now) < 2 ^ 32 }
-        ensures { OnOk result ((fs : List Found) (m : Member) → IsOf m origin → AreDefinitions fs self.old
-            → AreDefinitions (fs ++ founds_in place m (flat_map (λ r. defined_by r.at r.location r.content) (located (shown segment.now)))) self.new) }
-    {
-        let mut records = segment.records();
-        let mut location = 0;
-        'walk: loop {
-            match next_record(&mut records) {
-                None => return Ok(()),
-                Some((_, rec)) => {
-                    self.add_record(&rec, location, origin, place)?;
-                    location = (u64::from(location) + size_at(&rec, location)) as u32;
-                }
-            }
-        }
-    }
-
-    fn add_record(
+    /// Adds what a record defines.
+    pub fn add_record(
         &mut self,
         rec: &Rec<'a>,
         location: u32,

@@ -2,6 +2,7 @@
 //! linked list find (GS/OS Reference, appendix F; the order of search is this project's own).
 #![tactic(auto)]
 
+mod body;
 mod bytes;
 mod checks;
 mod definitions;

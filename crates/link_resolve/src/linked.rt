@@ -24,11 +24,12 @@ ghost use Rattle.link_meaning.specs.LinkedList.{Asked};
 ghost use Rattle.link_resolve.specs.Linked.{OriginOf, member_at};
 ghost use Rattle.link_resolve.specs.Opening.{OpensNothing};
 
+use crate::body::add_body;
 use crate::definitions::{Definition, Definitions, Origin, outer_step};
 use crate::names::{Key, Names, Outcome};
 use crate::offers::Offers;
 use crate::segname::title;
-use crate::uses::{Use, Uses, add_uses};
+use crate::uses::{Use, Uses};
 use crate::usings::Usings;
 use indexmap::IndexMap;
 use link_meaning::{LinkCause, Step, Want};
@@ -209,9 +210,15 @@ impl<'a> Linked<'a> {
     {
         let place = self.members.as_slice().len() as u32 + 1;
         let before = self.uses.count();
-        self.definitions.add(segment, origin, place)?;
+        self.definitions.add_title(segment, origin, place)?;
         add_data_title(&mut self.titles, segment, origin, place)?;
-        add_uses(&mut self.uses, segment, place)?;
+        add_body(
+            &mut self.definitions,
+            &mut self.uses,
+            segment,
+            origin,
+            place,
+        )?;
         let names = usings_in(alloc, &self.uses, before)?;
         self.usings.add(place, names)?;
         add_data_name(&mut self.names, segment, place)?;

@@ -3,15 +3,13 @@
 ghost use Rattle.std.specs.Prelude.{◌≡◌, ◌<◌, ◌++◌, ◌∷◌, [], Some, length, slice_get, OnOk};
 ghost use Rattle.omf_format.specs.Expression.{IsExpression, terms_in};
 ghost use Rattle.omf_expr.specs.View as terms;
-ghost use Rattle.omf_records.specs.Segments.{IsSound, shown};
 ghost use Rattle.omf_records.specs.View.{view};
-ghost use Rattle.link_meaning.specs.Uses.{used_by_term, used_in_text, used_by, uses_of};
+ghost use Rattle.link_meaning.specs.Uses.{used_by_term, used_in_text, used_by};
 ghost use Rattle.link_resolve.specs.Uses.{use_of, at_place, HasSpelling, HaveShortNames, IsShortTerm};
 
-use crate::reading::next_record;
 use link_meaning::Want;
 use omf_expr::{Expr, Term, Terms};
-use omf_records::{Rec, SegmentView};
+use omf_records::Rec;
 use std::alloc::{AllocError, Global};
 use std::marker::Model;
 
@@ -160,7 +158,7 @@ fn add_terms<'a>(
 }
 
 /// The uses of a record.
-fn add_record<'a>(
+pub fn add_record<'a>(
     uses: &mut Uses<'a>,
     rec: &Rec<'a>,
     lab_len: u8,
@@ -198,25 +196,4 @@ fn add_record<'a>(
         place,
     })?;
     Ok(())
-}
-
-/// The uses of a segment that is the member at this place of the list, in record order.
-#[tactic(auto, unfolding(link_meaning::specs::Uses::uses_of))]
-pub fn add_uses<'a>(
-    uses: &mut Uses<'a>,
-    segment: &SegmentView<'a>,
-    place: u32,
-) -> Result<(), AllocError>
-    requires { IsSound segment.now }
-    ensures gave { OnOk result (uses.new ≡ uses.old ++ at_place place (uses_of (shown segment.now))) }
-    ensures short { OnOk result (HaveShortNames uses.old → HaveShortNames uses.new) }
-{
-    let lab_len = segment.header.lab_len;
-    let mut records = segment.records();
-    'walk: loop {
-        match next_record(&mut records) {
-            None => return Ok(()),
-            Some((at, rec)) => add_record(uses, &rec, lab_len, at, place)?,
-        }
-    }
 }

@@ -3,13 +3,15 @@ use Rattle.std.specs.List.{flat_map}
 use Rattle.omf_records.specs.Segments.{shown}
 use Rattle.link_meaning.specs.Uses.{used_by}
 use Rattle.link_resolve.specs.Uses.{at_place, HaveShortNames}
+use Rattle.link_resolve.proofs.DefinitionLaws.{Defining}
 use Rattle.link_resolve.proofs.UseLaws.{Using}
-use Rattle.link_resolve.proofs.uses.add_uses.Given as goal
+use Rattle.link_resolve.proofs.body.add_body.Given as goal
 
--- the uses so far, and those of the records that are left
+-- the definitions and uses of the records so far, and those of the records that are left
 abbrev pub invariant-walk : goal.invariant-walk
 invariant-walk l =
-    Using (λ found. used_by l.lab_len found.0 found.1) l.place l.lab_len
+    Defining (shown l.fn.segment).records l.records l.location l.initial.definitions l.definitions l.origin l.place
+    × Using (λ found. used_by l.lab_len found.0 found.1) l.place l.lab_len
     (l.initial.uses ++ at_place l.place (flat_map (λ found. used_by l.lab_len found.0 found.1) (shown l.fn.segment).records))
     l.records l.uses
     × (HaveShortNames l.initial.uses → HaveShortNames l.uses)
