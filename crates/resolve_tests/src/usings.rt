@@ -111,7 +111,10 @@ fn files_of(
     others: &[Part],
 ) -> Result<Vec<Vec<u8>>, AllocError> {
     let mut bytes = Vec::new(alloc);
-    let size = ROOT_BODY as u32 + 7 * usings.len() as u32 + 1;
+    let mut size = ROOT_BODY as u32 + 1;
+    for _ in usings {
+        size = size.wrapping_add(7);
+    }
     bytes.extend_from_slice(&size.to_le_bytes())?;
     bytes.extend_from_slice(&BARE[4..ROOT_BODY])?;
     for number in usings {
