@@ -7,6 +7,7 @@ pub mod EmptyTables
 pub mod ComingLaws
 pub mod Grown
 pub mod FirstLeft
+pub mod Sized
 pub mod SegmentsLeft
 pub mod SegmentName
 pub mod ListedLaws
