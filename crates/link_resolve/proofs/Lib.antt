@@ -1,6 +1,5 @@
 pub mod Lists
 pub mod OnOks
-pub mod Spelled
 pub mod ShortNames
 pub mod NameTables
 pub mod EmptyTables
