@@ -21,3 +21,4 @@ pub mod Shorts
 pub mod WholeName
 pub mod Templates
 pub mod Plans
+pub mod Heads

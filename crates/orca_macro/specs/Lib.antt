@@ -14,3 +14,4 @@ pub mod Letters
 pub mod Short
 pub mod Template
 pub mod Plan
+pub mod Head

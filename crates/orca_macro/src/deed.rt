@@ -2,7 +2,7 @@
 
 ghost use Rattle.std.specs.Prelude.{◌≡◌, ◌==◌, ◌≤◌, ◌<◌, nat_lt, [], List, ℕ, ℤ, length, take, drop, pos, int_le, codes, slice_get, Some, None, Ok, Err, IfOk, IfErr, IfSome, OnOk, MatchOption, IsTrue, false};
 ghost use Rattle.omf_format.specs.Value.{signed};
-ghost use Rattle.macro_meaning.specs.Deed.{earlier, both, or_bad, first_time, declaring, settable, setting, printed, printed_answer, middle_from, middle_of, go_if, going, going_to, counting, noted, noting, IsBranchIf, IsMiddle, IsNote, IsSetting, IsDone, resting, calling, calling_at, begins_definition, IsDeed, IsStatement, IsDoneBy, IsShort, cut};
+ghost use Rattle.macro_meaning.specs.Deed.{earlier, both, or_bad, first_time, declaring, settable, setting, printed, printed_answer, middle_from, middle_of, go_if, going, going_to, counting, noted, noting, IsBranchIf, IsMiddle, IsNote, IsSetting, IsDone, resting, calling_if, calling_at, begins_definition, IsDeed, IsStatement, IsDoneBy, IsShort, cut};
 ghost use Rattle.macro_meaning.specs.Statements.{symbol_name, target_name};
 ghost use Rattle.macro_meaning.specs.Substitution.{first_passes};
 ghost use Rattle.macro_meaning.specs.Pieces.{pieces, quoted, joined};
@@ -10,8 +10,9 @@ ghost use Rattle.orca_macro.specs.View.{values, symbols_of, texts_of};
 ghost use Rattle.orca_macro.specs.DeedView.{deed, where_};
 ghost use Rattle.orca_macro.specs.Parts.{definition};
 ghost use Rattle.orca_macro.specs.Plan.{Fits, FitsLine, IsPlain, known};
+ghost use Rattle.orca_macro.specs.Head.{HasFields, HasHead, MayHaveHead, BeginsSo};
 ghost use Rattle.orca_macro.specs.Template.{HasParts};
-ghost use Rattle.orca_meaning.specs.Line.{HaveFields, three_fields, is_comment};
+ghost use Rattle.orca_meaning.specs.Line.{HaveFields, part, three_fields, is_comment};
 ghost use Rattle.orca_meaning.specs.Characters.{folded};
 ghost use Rattle.macro_meaning.specs.Definition.{first_named};
 ghost use Rattle.macro_meaning.specs.Condition.{Answer, IsCondition};
@@ -20,6 +21,7 @@ ghost use Rattle.orca_text.specs.View.{line};
 use crate::call::{bound, names_count};
 use crate::condition::{condition, number};
 use crate::definitions::Definition;
+use crate::head::Head;
 use crate::names::{is_operation, is_sequence, is_target, statement_of, symbol_name, target_name};
 use crate::pieces::{Piece, joined, pieces, quoted, two_pieces};
 use crate::plan::{Known, Plan};
@@ -32,7 +34,7 @@ use crate::symbols::{
 use crate::template::{Part, filled};
 use macro_meaning::{Declaration, Kind, MacroCause, Statement};
 use omf_base::Name;
-use orca_text::{SourceLine, folded, is_comment, label_in, part, three_fields};
+use orca_text::{SourceLine, folded, is_comment, label_in, operand_behind, part, three_fields};
 use std::alloc::{AllocError, Global};
 
 /// What a visited line does.
@@ -541,6 +543,33 @@ fn named<'a>(
     Ok(program.named(asked.bytes()))
 }
 
+/// A call of this macro, or a line that is given, where it doesn't count yet.
+fn called(
+    alloc: Global,
+    at: Standing<'_>,
+    text: &[u8],
+    place: usize,
+    found: &Definition,
+    label: &[u8],
+    operand: &[u8],
+) -> Result<Deed, AllocError>
+    requires text { length text.now ≤ 255 }
+    requires label { length label.now ≤ 255 }
+    requires operand { length operand.now ≤ 255 }
+    ensures { IfOk result (λ d. deed d ≡ calling_if (where_ at.entry).root text.now place (Some (definition found.now)) label.now operand.now) }
+{
+    if found.behind >= at.root {
+        return Ok(Deed::Gives(name(alloc, text)?));
+    }
+    if names_count(&found.model) {
+        return Ok(Deed::Fails(MacroCause::BadSetting));
+    }
+    match bound(alloc, &found.model, label, operand)? {
+        Some(symbols) => Ok(Deed::Calls(place, symbols)),
+        None => Ok(Deed::Fails(MacroCause::BadArguments)),
+    }
+}
+
 /// A call of a macro, or a line that is given.
 fn calling(
     alloc: Global,
@@ -557,18 +586,9 @@ fn calling(
     ensures { IfOk result (λ d. deed d ≡ calling_at (where_ at.entry).definitions (where_ at.entry).root text.now
         (first_named (folded operation.now) (where_ at.entry).definitions) label.now operand.now) }
 {
-    let Some((place, found)) = named(alloc, at.program, operation)? else {
-        return Ok(Deed::Gives(name(alloc, text)?));
-    };
-    if found.behind >= at.root {
-        return Ok(Deed::Gives(name(alloc, text)?));
-    }
-    if names_count(&found.model) {
-        return Ok(Deed::Fails(MacroCause::BadSetting));
-    }
-    match bound(alloc, &found.model, label, operand)? {
-        Some(symbols) => Ok(Deed::Calls(place, symbols)),
-        None => Ok(Deed::Fails(MacroCause::BadArguments)),
+    match named(alloc, at.program, operation)? {
+        Some((place, found)) => called(alloc, at, text, place, found, label, operand),
+        None => Ok(Deed::Gives(name(alloc, text)?)),
     }
 }
 
@@ -649,6 +669,77 @@ fn written(
     statement(alloc, at, rest)
 }
 
+/// A call of the macro that a head names, or a line that is given.
+fn headed_call(
+    alloc: Global,
+    at: Standing<'_>,
+    text: &[u8],
+    head: &Head,
+) -> Result<Deed, AllocError>
+    requires text { length text.now ≤ 255 }
+    requires head { HasFields head.now text.now }
+    ensures { IfOk result (λ d. deed d ≡ calling_at (where_ at.entry).definitions (where_ at.entry).root text.now
+        (first_named head.now.operation (where_ at.entry).definitions) (take head.now.label text.now) (part text.now (three_fields text.now).operand)) }
+{
+    match at.program.named(head.operation.bytes()) {
+        Some((place, found)) => {
+            let operand = operand_behind(text, head.end);
+            called(alloc, at, text, place, found, head.label_in(text), operand)
+        }
+        None => Ok(Deed::Gives(name(alloc, text)?)),
+    }
+}
+
+/// What a line does that has a head, behind its sequence symbol.
+#[tactic(auto, using(crate::proofs::Heads::statement_ok, crate::proofs::Heads::call_ok))]
+fn headed_statement(
+    alloc: Global,
+    at: Standing<'_>,
+    text: &[u8],
+    head: &Head,
+) -> Result<Deed, AllocError>
+    requires text { length text.now ≤ 255 }
+    requires head { HasFields head.now text.now }
+    ensures { IfOk result (λ d. IsStatement (where_ at.entry) text.now (three_fields text.now) (deed d)) }
+{
+    match head.statement {
+        Some(statement) => {
+            let operand = operand_behind(text, head.end);
+            done(
+                alloc,
+                at.values,
+                statement,
+                text,
+                head.label_in(text),
+                operand,
+            )
+        }
+        None => headed_call(alloc, at, text, head),
+    }
+}
+
+/// What a line does that has a head.
+#[tactic(auto, using(crate::proofs::Heads::after_cut, crate::proofs::Heads::behind_has))]
+fn headed(
+    alloc: Global,
+    at: Standing<'_>,
+    of: &SourceLine,
+    text: &[u8],
+    head: &Head,
+) -> Result<Deed, AllocError>
+    requires fields { HaveFields of.now.text (line of.now).fields }
+    requires head { HasHead head.now text.now }
+    ensures { IfOk result (λ d. IsShort (where_ at.entry) (line of.now) (nat_lt 255 (length text.now)) text.now (deed d)) }
+{
+    if text.len() > 255 {
+        return Ok(Deed::Fails(MacroCause::LineTooLong));
+    }
+    if begins_definition(at, of) {
+        return Ok(Deed::Rests);
+    }
+    headed_statement(alloc, at, head.behind_sequence(text), head)
+}
+
 /// What a visited line does. The buffer takes its text, so that not each line takes memory anew.
 pub(crate) fn deed_of(
     alloc: Global,
@@ -701,23 +792,44 @@ fn known_deed(
     }
 }
 
+/// What a line with its text in place does, of whose front something may be known.
+fn with_head(
+    alloc: Global,
+    at: Standing<'_>,
+    of: &SourceLine,
+    text: &[u8],
+    head: &Option<Head>,
+) -> Result<Deed, AllocError>
+    requires fields { HaveFields of.now.text (line of.now).fields }
+    requires head { MayHaveHead head.now text.now }
+    ensures { IfOk result (λ d. IsShort (where_ at.entry) (line of.now) (nat_lt 255 (length text.now)) text.now (deed d)) }
+{
+    match head {
+        Some(head) => headed(alloc, at, of, text, head),
+        None => written(alloc, at, of, text),
+    }
+}
+
 /// What a line with these parts does. The buffer takes its text, so that not each line takes memory anew.
+#[tactic(auto, using(crate::proofs::Heads::begins_so))]
 fn parted(
     alloc: Global,
     at: Standing<'_>,
     of: &SourceLine,
     parts: &[Part],
+    head: &Option<Head>,
     buffer: &mut Vec<u8>,
 ) -> Result<Deed, AllocError>
     requires fields { HaveFields of.now.text (line of.now).fields }
     requires other { is_comment of.now.text ≡ false }
     requires parts { HasParts (line of.now) parts.now }
+    requires head { BeginsSo parts.now head.now }
     ensures { IfOk result (λ d. IsDeed (where_ at.entry) (line of.now) (deed d)) }
 {
     let taken = std::mem::replace(buffer, Vec::new(alloc));
     match filled(at.values, parts, taken)? {
         Some(text) => {
-            let found = written(alloc, at, of, text.as_slice())?;
+            let found = with_head(alloc, at, of, text.as_slice(), head)?;
             *buffer = text;
             Ok(found)
         }
@@ -741,6 +853,6 @@ pub(crate) fn planned(
     match plan {
         Plan::Comment => Ok(Deed::Rests),
         Plan::Plain(said) => known_deed(alloc, at, of, said),
-        Plan::Parts(parts) => parted(alloc, at, of, parts.as_slice(), buffer),
+        Plan::Parts(parts, head) => parted(alloc, at, of, parts.as_slice(), head, buffer),
     }
 }

@@ -8,6 +8,7 @@ mod deed;
 mod definitions;
 mod expansion;
 mod frames;
+mod head;
 mod held;
 mod model_line;
 mod names;

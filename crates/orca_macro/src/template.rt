@@ -1,11 +1,11 @@
 //! Lines that are parted once into what is copied and the symbols whose texts come between (ORCA/M reference manual, "Symbolic parameters").
 
-ghost use Rattle.std.specs.Prelude.{◌≡◌, ◌≤◌, ◌+◌, [], List, ℕ, length, take, Option, Some, None, IfOk, OnOk, MatchOption};
+ghost use Rattle.std.specs.Prelude.{◌≡◌, ◌≤◌, ◌+◌, [], List, ℕ, length, take, Option, Some, None, IfOk, IfSome, OnOk, MatchOption};
 ghost use Rattle.macro_meaning.specs.Substitution.{in_place, with_front, name_length};
 ghost use Rattle.macro_meaning.specs.Symbol.{text_of};
 ghost use Rattle.orca_meaning.specs.Characters as characters;
 ghost use Rattle.orca_meaning.specs.Line.{HaveFields};
-ghost use Rattle.orca_macro.specs.Template.{HasParts, followed, part_text, placed, more_of, with_more, join};
+ghost use Rattle.orca_macro.specs.Template.{HasParts, BeginWith, followed, part_text, placed, more_of, with_more, join};
 ghost use Rattle.orca_macro.specs.View.{naming, values};
 ghost use Rattle.orca_text.specs.View.{line};
 
@@ -144,6 +144,23 @@ pub(crate) fn parts_of(alloc: Global, of: &SourceLine) -> Result<Vec<Part>, Allo
         let (_, others) = behind.split_at(more);
         left = others;
     }
+}
+
+/// The bytes with which all begins that comes of parts.
+#[tactic(auto, using(crate::proofs::Templates::needs_more, crate::proofs::Templates::begins_plain))]
+pub(crate) fn plain_front(parts: &[Part]) -> Option<&[u8]>
+    ensures short { IfSome result (λ front. length front.now ≤ 255) }
+    ensures front { IfSome result (λ front. BeginWith parts.now front.now) }
+{
+    let mut left = parts;
+    'parts: while let Some((first, others)) = left.split_first() {
+        match first {
+            Part::Plain(bytes) => return Some(bytes.bytes()),
+            Part::Need(_) => left = others,
+            Part::Put(_) => return None,
+        }
+    }
+    None
 }
 
 /// What comes of a part, if its symbol is declared.
