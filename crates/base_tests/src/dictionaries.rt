@@ -1,7 +1,9 @@
-// What no clause says: that the definitions are those of the field, and that memory is enough.
+// Dictionaries of libraries. What no clause says: that the definitions are those of the field, and that memory is enough.
 ghost use Rattle.std.specs.Prelude.{◌<◌, ◌^◌, length, IfOk};
 
-use crate::{DictFault, LibCause, LibFault, Member, Row, make_library, read_dictionary};
+use lib_dict::{
+    DictFault, Dictionary, LibCause, LibFault, Member, Row, make_library, read_dictionary,
+};
 use omf_base::{Name, NameFault, Spot};
 use omf_format::{FileCause, FileFault};
 use std::alloc::{AllocError, Global};
@@ -69,21 +71,46 @@ fn put(bytes: &mut [u8], changes: &[(usize, u8)]) {
     }
 }
 
+// The calls as the tests make them. They promise nothing, so a test's proof is as short as the test.
+fn read(alloc: Global, bytes: &[u8]) -> Result<Dictionary<'_>, DictFault> {
+    read_dictionary(alloc, bytes)
+}
+
+fn fault(alloc: Global, bytes: &[u8]) -> Option<DictFault> {
+    read(alloc, bytes).err()
+}
+
+fn count<'a>(dictionary: &Dictionary<'a>) -> u32 {
+    dictionary.count()
+}
+
+fn row<'a>(dictionary: &Dictionary<'a>, place: u32) -> Option<Row<'a>> {
+    dictionary.row(place)
+}
+
 /// The fault of that library with bytes changed at displacements.
 fn fault_of(alloc: Global, changes: &[(usize, u8)]) -> Option<DictFault> {
     let mut bytes = library();
     put(&mut bytes, changes);
-    read_dictionary(alloc, &bytes).err()
+    fault(alloc, &bytes)
+}
+
+/// The fault of a row or of the dictionary that stands there, if there is one.
+fn bad(at: Option<u32>) -> Option<DictFault> {
+    match at {
+        Some(at) => Some(DictFault::BadLibrary(at)),
+        None => None,
+    }
 }
 
 #[test]
 fn the_rows_of_a_library(rt: HostRuntime) {
     let bytes = library();
-    let dictionary = match read_dictionary(rt.alloc(), &bytes) {
+    let dictionary = match read(rt.alloc(), &bytes) {
         Ok(dictionary) => dictionary,
         Err(fault) => panic!(rt; "{fault:?}"),
     };
-    assert_eq!(rt; dictionary.count(), 7);
+    assert_eq!(rt; count(&dictionary), 7);
     let wanted: [(u32, &[u8], u16, bool, u32); 7] = [
         (0, b"MAIN", 1, false, 196),
         (1, b"G", 1, false, 196),
@@ -94,119 +121,93 @@ fn the_rows_of_a_library(rt: HostRuntime) {
         (6, b"Q", 2, true, 363),
     ];
     for (place, name, file, private, at) in wanted {
-        let row = Row {
+        let want = Row {
             name,
             file,
             private,
             at,
         };
-        assert_eq!(rt; dictionary.row(place), Some(row), "row {place}");
+        assert_eq!(rt; row(&dictionary, place), Some(want), "row {place}");
     }
-    assert_eq!(rt; dictionary.row(7), None);
+    assert_eq!(rt; row(&dictionary, 7), None);
 }
 
 #[test]
 fn a_false_dictionary_has_its_place(rt: HostRuntime) {
-    let alloc = rt.alloc();
-    assert_eq!(rt; fault_of(alloc, &[]), None);
-
-    // The first row: no name starts there, no file has the number, MAIN isn't private, no segment starts there, and the
-    // dictionary itself does.
-    for changes in [
-        [(86, 1), (86, 1)],
-        [(90, 3), (90, 3)],
-        [(90, 0), (90, 0)],
-        [(92, 1), (92, 1)],
-        [(93, 1), (93, 1)],
-        [(94, 0xC5), (94, 0xC5)],
-        [(94, 0), (94, 0)],
-    ] {
-        assert_eq!(rt; fault_of(alloc, &changes), Some(DictFault::BadLibrary(86)));
-    }
-
-    // The fourth row: G of the segment without a name is private. Every flag but 0 says so.
-    assert_eq!(rt;
-        fault_of(alloc, &[(128, 0)]),
-        Some(DictFault::BadLibrary(122))
-    );
-    assert_eq!(rt; fault_of(alloc, &[(128, 2)]), None);
-    assert_eq!(rt; fault_of(alloc, &[(128, 0), (129, 1)]), None);
-
-    // Of two false rows the first is told.
-    assert_eq!(rt;
-        fault_of(alloc, &[(98, 1), (158, 1)]),
-        Some(DictFault::BadLibrary(98))
-    );
-
-    // A 0 before the end, a name that runs over, a last record that isn't an LCONST, and a name that runs over there.
-    for (at, value) in [(70, 0), (72, 0x40), (170, 0x18), (193, 2)] {
-        assert_eq!(rt;
-            fault_of(alloc, &[(at, value)]),
-            Some(DictFault::BadLibrary(0)),
-            "at {at}"
-        );
+    let rows: [(&[(usize, u8)], Option<u32>); 16] = [
+        (&[], None),
+        // The first row: no name starts there, no file has the number, MAIN isn't private, no segment starts there, and the
+        // dictionary itself does.
+        (&[(86, 1)], Some(86)),
+        (&[(90, 3)], Some(86)),
+        (&[(90, 0)], Some(86)),
+        (&[(92, 1)], Some(86)),
+        (&[(93, 1)], Some(86)),
+        (&[(94, 0xC5)], Some(86)),
+        (&[(94, 0)], Some(86)),
+        // The fourth row: G of the segment without a name is private. Every flag but 0 says so.
+        (&[(128, 0)], Some(122)),
+        (&[(128, 2)], None),
+        (&[(128, 0), (129, 1)], None),
+        // Of two false rows the first is told.
+        (&[(98, 1), (158, 1)], Some(98)),
+        // A 0 before the end, a name that runs over, a last record that isn't an LCONST, and a name that runs over there.
+        (&[(70, 0)], Some(0)),
+        (&[(72, 0x40)], Some(0)),
+        (&[(170, 0x18)], Some(0)),
+        (&[(193, 2)], Some(0)),
+    ];
+    for (changes, at) in rows {
+        assert_eq!(rt; fault_of(rt.alloc(), changes), bad(at), "{changes:?}");
     }
 }
 
 #[test]
 fn each_cause_of_a_false_dictionary(rt: HostRuntime) {
-    let alloc = rt.alloc();
-
-    // No 0 behind the files, a row of 11 bytes, a fourth LCONST, and one record fewer: the dictionary is to blame.
-    let no_end: &[(usize, u8)] = &[(79, 3)];
-    let short_row: &[(usize, u8)] = &[(82, 83), (169, 0xF2), (170, 21), (171, 0), (174, 0)];
-    let fourth: &[(usize, u8)] = &[
-        (171, 15),
-        (190, 0xF2),
-        (191, 0),
-        (192, 0),
-        (193, 0),
-        (194, 0),
+    let rows: [(&[(usize, u8)], Option<u32>); 9] = [
+        // No 0 behind the files, a row of 11 bytes, a fourth LCONST, and one record fewer: the dictionary is to blame.
+        (&[(79, 3)], Some(0)),
+        (
+            &[(82, 83), (169, 0xF2), (170, 21), (171, 0), (174, 0)],
+            Some(0),
+        ),
+        (
+            &[
+                (171, 15),
+                (190, 0xF2),
+                (191, 0),
+                (192, 0),
+                (193, 0),
+                (194, 0),
+            ],
+            Some(0),
+        ),
+        (&[(170, 0)], Some(0)),
+        // A name that is a LOCAL there, or an EQU, and a name that isn't there: the second row is to blame.
+        (&[(181, 0x4C)], Some(98)),
+        (&[(181, 0x45)], Some(98)),
+        (&[(181, 0x5A)], Some(98)),
+        // A segment behind the dictionary that is a dictionary too: its first row is to blame.
+        (&[(383, 8)], Some(134)),
+        // LENGTH isn't looked at.
+        (&[(8, 0)], None),
     ];
-    let third_missing: &[(usize, u8)] = &[(170, 0)];
-    for changes in [no_end, short_row, fourth, third_missing] {
-        assert_eq!(rt; fault_of(alloc, changes), Some(DictFault::BadLibrary(0)));
+    for (changes, at) in rows {
+        assert_eq!(rt; fault_of(rt.alloc(), changes), bad(at), "{changes:?}");
     }
-
-    // A name that is a LOCAL there, or an EQU, and a name that isn't there: the second row is to blame.
-    for name in [0x4C, 0x45, 0x5A] {
-        assert_eq!(rt;
-            fault_of(alloc, &[(181, name)]),
-            Some(DictFault::BadLibrary(98)),
-            "the name {name}"
-        );
-    }
-
-    // A segment behind the dictionary that is a dictionary too: its first row is to blame.
-    assert_eq!(rt;
-        fault_of(alloc, &[(383, 8)]),
-        Some(DictFault::BadLibrary(134))
-    );
-
-    // LENGTH isn't looked at.
-    assert_eq!(rt; fault_of(alloc, &[(8, 0)]), None);
 }
 
 #[test]
 fn what_is_no_library(rt: HostRuntime) {
     let alloc = rt.alloc();
-    assert_eq!(rt;
-        read_dictionary(alloc, &MAIN).err(),
-        Some(DictFault::NotLibrary)
-    );
-    assert_eq!(rt;
-        read_dictionary(alloc, &[]).err(),
-        Some(DictFault::NotLibrary)
-    );
+    assert_eq!(rt; fault(alloc, &MAIN), Some(DictFault::NotLibrary));
+    assert_eq!(rt; fault(alloc, &[]), Some(DictFault::NotLibrary));
     let cut = FileFault {
         cause: FileCause::Truncated,
         segment: 1,
         at: 43,
     };
-    assert_eq!(rt;
-        read_dictionary(alloc, &DICTIONARY[..43]).err(),
-        Some(DictFault::File(cut))
-    );
+    assert_eq!(rt; fault(alloc, &DICTIONARY[..43]), Some(DictFault::File(cut)));
 }
 
 /// A file with a name.
@@ -245,17 +246,29 @@ fn outcome(alloc: Global, a: &[u8], bb: &[u8]) -> Result<Result<Vec<u8>, LibFaul
     Ok(made(alloc, first, second)?)
 }
 
+/// How a library that isn't made is told: the fault, where it is one of the files.
+fn told(made: Result<Result<Vec<u8>, LibFault>, NameFault>) -> Option<LibFault> {
+    match made {
+        Ok(made) => made.err(),
+        Err(_) => None,
+    }
+}
+
+/// Whether a library is made of these bytes.
+fn is_made(made: Result<Result<Vec<u8>, LibFault>, NameFault>, bytes: &[u8]) -> bool {
+    match made {
+        Ok(Ok(made)) => made.as_slice() == bytes,
+        _ => false,
+    }
+}
+
 #[test]
 fn a_library_is_made(rt: HostRuntime) {
     let alloc = rt.alloc();
     let mut second = [0; 167];
     second[..65].copy_from_slice(&OTHER);
     second[65..].copy_from_slice(&MAIN);
-    match outcome(alloc, &MAIN, &second) {
-        Ok(Ok(bytes)) => assert!(rt; bytes.as_slice() == library().as_slice()),
-        Ok(Err(fault)) => panic!(rt; "{fault:?}"),
-        Err(fault) => panic!(rt; "{fault:?}"),
-    }
+    assert!(rt; is_made(outcome(alloc, &MAIN, &second), &library()));
     let cut = LibFault {
         cause: LibCause::Truncated,
         spot: Spot {
@@ -264,10 +277,7 @@ fn a_library_is_made(rt: HostRuntime) {
             at: 43,
         },
     };
-    match outcome(alloc, &MAIN[..43], &MAIN) {
-        Ok(answer) => assert_eq!(rt; answer.err(), Some(cut)),
-        Err(fault) => panic!(rt; "{fault:?}"),
-    }
+    assert_eq!(rt; told(outcome(alloc, &MAIN[..43], &MAIN)), Some(cut));
 }
 
 /// The library of one file.
@@ -293,14 +303,7 @@ fn a_row_that_is_one_byte_off(rt: HostRuntime) {
     let mut bytes = [0; 167];
     bytes[..101].copy_from_slice(&ONE_ROW);
     bytes[101..].copy_from_slice(&PLAIN);
-    match alone(alloc, &PLAIN) {
-        Ok(Ok(made)) => assert!(rt; made.as_slice() == bytes.as_slice()),
-        Ok(Err(fault)) => panic!(rt; "{fault:?}"),
-        Err(fault) => panic!(rt; "{fault:?}"),
-    }
+    assert!(rt; is_made(alone(alloc, &PLAIN), &bytes));
     put(&mut bytes, &[(0x59, 0x66)]);
-    assert_eq!(rt;
-        read_dictionary(alloc, &bytes).err(),
-        Some(DictFault::BadLibrary(0x51))
-    );
+    assert_eq!(rt; fault(alloc, &bytes), Some(DictFault::BadLibrary(0x51)));
 }

@@ -15,21 +15,19 @@ const HEADER: [u8; 57] = [
     0x20, 0x20, 0x20, 1, 0x41, 0,
 ];
 
-/// The fault of the header with bytes changed at displacements.
-fn fault(alloc: Global, changes: &[(usize, u8)]) -> Option<HeaderFault> {
-    let mut bytes = HEADER;
-    for (at, value) in changes {
-        if let Some(byte) = bytes.get_mut(*at) {
-            *byte = *value;
-        }
-    }
-    read_header(alloc, &bytes).err()
+// The calls as the tests make them. They promise nothing, so a test's proof is as short as the test.
+fn read(alloc: Global, bytes: &[u8]) -> Result<Header, HeaderFault> {
+    read_header(alloc, bytes)
+}
+
+fn fault(alloc: Global, bytes: &[u8]) -> Option<HeaderFault> {
+    read(alloc, bytes).err()
 }
 
 #[test]
 fn the_first_check_is_told(rt: HostRuntime) {
     let alloc = rt.alloc();
-    assert_eq!(rt; fault(alloc, &[]), None);
+    assert_eq!(rt; fault(alloc, &HEADER), None);
 
     // Each check breaks after the one before it, from the last to the first.
     let breaks = [
@@ -48,9 +46,9 @@ fn the_first_check_is_told(rt: HostRuntime) {
         if let Some(byte) = bytes.get_mut(at) {
             *byte = value;
         }
-        assert_eq!(rt; read_header(alloc, &bytes).err(), Some(want));
+        assert_eq!(rt; fault(alloc, &bytes), Some(want));
     }
-    let cut = read_header(alloc, &HEADER[..43]).err();
+    let cut = fault(alloc, &HEADER[..43]);
     assert_eq!(rt; cut, Some(HeaderFault::Truncated(43)));
 }
 
@@ -63,13 +61,25 @@ fn names_follow_lab_len(rt: HostRuntime) -> Result<(), Fail> {
     bytes[0x0D] = 2;
     bytes[0x36] = 0x41;
     bytes[0x37] = 0x20;
-    let header = read_header(alloc, &bytes)?;
+    let header = read(alloc, &bytes)?;
     assert_eq!(rt; header.name.bytes(), b"A".as_slice());
     assert_eq!(rt; header.load_name.as_slice(), b"LOAD      ".as_slice());
     assert_eq!(rt; header.org, 0x04030201);
     assert_eq!(rt; header.seg_num, 0x0A09);
     assert_eq!(rt; header.entry, 0x0E0D0C0B);
     Ok(())
+}
+
+fn attributes(kind: &Kind) -> [bool; 7] {
+    [
+        kind.is_dynamic(),
+        kind.is_private(),
+        kind.avoids_special(),
+        kind.is_absolute_bank(),
+        kind.is_reload(),
+        kind.is_skip(),
+        kind.is_bank_relative(),
+    ]
 }
 
 #[test]
@@ -86,16 +96,7 @@ fn attributes_have_their_bits(rt: HostRuntime) {
         (0x20FF, [false; 7]),
     ] {
         let kind = Kind { bits };
-        let found = [
-            kind.is_dynamic(),
-            kind.is_private(),
-            kind.avoids_special(),
-            kind.is_absolute_bank(),
-            kind.is_reload(),
-            kind.is_skip(),
-            kind.is_bank_relative(),
-        ];
-        assert_eq!(rt; found, want, "{bits}");
+        assert_eq!(rt; attributes(&kind), want, "{bits}");
         assert_eq!(rt; kind.is_static(), !kind.is_dynamic());
         assert_eq!(rt; u16::from(kind.form()), bits % 32);
     }
@@ -115,13 +116,13 @@ fn alignment_is_a_page_or_a_bank(rt: HostRuntime) -> Result<(), Fail> {
         let mut bytes = HEADER;
         bytes[0x1C..0x1F].copy_from_slice(&align);
         bytes[0x1F] = 0;
-        let header = read_header(alloc, &bytes)?;
+        let header = read(alloc, &bytes)?;
         assert_eq!(rt; header.alignment(), want);
         assert!(rt; header.stays_in_bank());
     }
     let mut bytes = HEADER;
     bytes[0x12] = 0;
-    let header = read_header(alloc, &bytes)?;
+    let header = read(alloc, &bytes)?;
     assert!(rt; !header.stays_in_bank());
     Ok(())
 }
@@ -149,11 +150,15 @@ fn made(alloc: Global) -> Result<Header, NameFault>
     })
 }
 
+/// The header as it is written in front of a body of so many bytes.
+fn written(alloc: Global, body: u32) -> Result<Result<Vec<u8>, WriteHeaderFault>, NameFault> {
+    let header = made(alloc)?;
+    Ok(write_header(alloc, &header, body))
+}
+
 #[test]
 fn a_written_header_is_the_one_that_was_read(rt: HostRuntime) -> Result<(), Fail> {
-    let alloc = rt.alloc();
-    let header = made(alloc)?;
-    let written = write_header(alloc, &header, 1);
+    let written = written(rt.alloc(), 1)?;
     assert_eq!(rt;
         written.map(|bytes| bytes.as_slice() == &HEADER[..56]),
         Ok(true)
@@ -163,13 +168,13 @@ fn a_written_header_is_the_one_that_was_read(rt: HostRuntime) -> Result<(), Fail
 
 #[test]
 fn a_segment_above_the_limit_is_too_long(rt: HostRuntime) -> Result<(), Fail> {
-    let alloc = rt.alloc();
-    let header = made(alloc)?;
     let longest = 16_777_216 - 56;
-    assert!(rt; write_header(alloc, &header, longest).is_ok());
-    let longer = write_header(alloc, &header, longest + 1).err();
-    assert_eq!(rt; longer, Some(WriteHeaderFault::TooLong));
-    let whole = write_header(alloc, &header, 16_777_216).err();
-    assert_eq!(rt; whole, Some(WriteHeaderFault::TooLong));
+    for (body, want) in [
+        (longest, None),
+        (longest + 1, Some(WriteHeaderFault::TooLong)),
+        (16_777_216, Some(WriteHeaderFault::TooLong)),
+    ] {
+        assert_eq!(rt; written(rt.alloc(), body)?.err(), want, "{body}");
+    }
     Ok(())
 }

@@ -1,7 +1,7 @@
 use Rattle.std.proofs.Common.{◌<◌, ◌^◌, length, All, sym, subst, arith}
 use Rattle.std.proofs.lemmas.List.Elements.{All-nil, All-push}
 use Rattle.lib_dict.specs.declared.member.Member.{Member}
-use Rattle.lib_dict.proofs.tests.made.Goals as goal
+use Rattle.base_tests.proofs.dictionaries.made.Goals as goal
 
 abbrev IsShort : Member → Type 0
 IsShort m = length m.bytes.items < 2 ^ 32

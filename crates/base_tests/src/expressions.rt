@@ -1,11 +1,16 @@
-// What no clause says: that the definitions are those of the field, and that memory is enough.
+// Expressions. What no clause says: that the definitions are those of the field, and that memory is enough.
 mod wanted;
 
 ghost use Rattle.std.specs.Prelude.{Some, None, if◌then◌else◌};
 ghost use Rattle.std.specs.Str.{bytes_eq};
+ghost use Rattle.omf_format.specs.Expression.{IsTerm};
+ghost use Rattle.omf_expr.specs.View.{view};
 ghost use Rattle.omf_format.specs.declared.value.Value.TheVariants as value;
 
-use crate::{Env, Expr, ExprFault, Term, Value, ValueFault, evaluate, put_term};
+use omf_expr::{
+    Env, Expr, ExprFault, ExprPutFault, Term, Terms, Value, ValueFault, evaluate, put_term,
+};
+use std::alloc::Global;
 use std::test::Fail;
 use wanted::{OF_ONE, OF_TWO, SHIFTS, VALUES};
 
@@ -231,21 +236,45 @@ fn the_first_faulty_term_decides(rt: HostRuntime) {
     }
 }
 
+/// The text of a term.
+fn written(alloc: Global, term: &Term) -> Result<Vec<u8>, ExprPutFault>
+    requires { IsTerm 0 (view term.now) }
+{
+    let mut text = Vec::new(alloc);
+    put_term(&mut text, term)?;
+    Ok(text)
+}
+
+/// So many constants 1, and then so many additions.
+fn sum_of(alloc: Global, constants: u32, additions: u32) -> Result<Vec<u8>, Fail> {
+    let constant = written(alloc, &Term::Constant(1))?;
+    let addition = written(alloc, &Term::Operator(0x01))?;
+    let mut text = Vec::new(alloc);
+    for _ in 0..constants {
+        text.extend_from_slice(&constant)?;
+    }
+    for _ in 0..additions {
+        text.extend_from_slice(&addition)?;
+    }
+    Ok(text)
+}
+
+/// The bytes of the expression at the front of the text.
+fn front(alloc: Global, text: &[u8]) -> Result<Vec<u8>, Fail> {
+    let expr = Expr::of(text, 0)?;
+    Ok(expr.bytes().to_vec(alloc)?)
+}
+
 #[test]
 fn sixty_four_values_may_be_pending(rt: HostRuntime) -> Result<(), Fail> {
-    let mut text = Vec::new(rt.alloc());
-    for _ in 0..64 {
-        put_term(&mut text, &Term::Constant(1))?;
-    }
-    let mut deeper = text.clone()?;
-    for _ in 0..63 {
-        put_term(&mut text, &Term::Operator(0x01))?;
-    }
+    let alloc = rt.alloc();
+    let mut text = sum_of(alloc, 64, 63)?;
     text.push(0x00)?;
     assert_eq!(rt; value_of(&text, 0), Ok(Ok(Value::Fixed(64))));
-    assert_eq!(rt; Expr::of(&text, 0)?.bytes(), text.as_slice());
+    assert_eq!(rt; front(alloc, &text)?.as_slice(), text.as_slice());
 
-    put_term(&mut deeper, &Term::Location)?;
+    let mut deeper = sum_of(alloc, 64, 0)?;
+    deeper.extend_from_slice(&written(alloc, &Term::Location)?)?;
     assert_eq!(rt; value_of(&deeper, 0), Err(ExprFault::TooDeep(320)));
     Ok(())
 }
@@ -259,11 +288,13 @@ fn terms_are_written(rt: HostRuntime) -> Result<(), Fail> {
         (Term::Operator(0x15), b"\x15"),
         (Term::Named(0x82, b"A B"), b"\x82\x03A B"),
     ] {
-        let mut text = Vec::new(rt.alloc());
-        put_term(&mut text, &term)?;
-        assert_eq!(rt; text.as_slice(), want);
+        assert_eq!(rt; written(rt.alloc(), &term)?.as_slice(), want);
     }
     Ok(())
+}
+
+fn next<'a>(terms: &mut Terms<'a>) -> Option<(usize, Term<'a>)> {
+    terms.next()
 }
 
 #[test]
@@ -271,15 +302,15 @@ fn terms_come_with_their_displacements(rt: HostRuntime) -> Result<(), Fail> {
     let expr = Expr::of(b"\x80\x83A \x81\x05\0\0\0\x01\x02\0", 2)?;
     let mut terms = expr.terms();
     for want in [
-        (0, Term::Location),
-        (1, Term::Named(0x83, b"A")),
-        (4, Term::Constant(5)),
-        (9, Term::Operator(0x01)),
-        (10, Term::Operator(0x02)),
+        Some((0, Term::Location)),
+        Some((1, Term::Named(0x83, b"A"))),
+        Some((4, Term::Constant(5))),
+        Some((9, Term::Operator(0x01))),
+        Some((10, Term::Operator(0x02))),
+        None,
+        None,
     ] {
-        assert_eq!(rt; terms.next(), Some(want));
+        assert_eq!(rt; next(&mut terms), want);
     }
-    assert_eq!(rt; terms.next(), None);
-    assert_eq!(rt; terms.next(), None);
     Ok(())
 }
