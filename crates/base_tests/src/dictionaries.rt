@@ -1,6 +1,7 @@
 // Dictionaries of libraries. What no clause says: that the definitions are those of the field, and that memory is enough.
 ghost use Rattle.std.specs.Prelude.{◌<◌, ◌^◌, length, IfOk};
 
+use crate::asserting::same;
 use lib_dict::{
     DictFault, Dictionary, LibCause, LibFault, Member, Row, make_library, read_dictionary,
 };
@@ -110,7 +111,7 @@ fn the_rows_of_a_library(rt: HostRuntime) {
         Ok(dictionary) => dictionary,
         Err(fault) => panic!(rt; "{fault:?}"),
     };
-    assert_eq!(rt; count(&dictionary), 7);
+    same(&rt, count(&dictionary), 7);
     let wanted: [(u32, &[u8], u16, bool, u32); 7] = [
         (0, b"MAIN", 1, false, 196),
         (1, b"G", 1, false, 196),
@@ -129,85 +130,93 @@ fn the_rows_of_a_library(rt: HostRuntime) {
         };
         assert_eq!(rt; row(&dictionary, place), Some(want), "row {place}");
     }
-    assert_eq!(rt; row(&dictionary, 7), None);
+    same(&rt, row(&dictionary, 7), None);
 }
+
+/// Changes of that library, each with the place that is told.
+static FALSE_ROWS: [(&[(usize, u8)], Option<u32>); 16] = [
+    (&[], None),
+    // The first row: no name starts there, no file has the number, MAIN isn't private, no segment starts there, and the
+    // dictionary itself does.
+    (&[(86, 1)], Some(86)),
+    (&[(90, 3)], Some(86)),
+    (&[(90, 0)], Some(86)),
+    (&[(92, 1)], Some(86)),
+    (&[(93, 1)], Some(86)),
+    (&[(94, 0xC5)], Some(86)),
+    (&[(94, 0)], Some(86)),
+    // The fourth row: G of the segment without a name is private. Every flag but 0 says so.
+    (&[(128, 0)], Some(122)),
+    (&[(128, 2)], None),
+    (&[(128, 0), (129, 1)], None),
+    // Of two false rows the first is told.
+    (&[(98, 1), (158, 1)], Some(98)),
+    // A 0 before the end, a name that runs over, a last record that isn't an LCONST, and a name that runs over there.
+    (&[(70, 0)], Some(0)),
+    (&[(72, 0x40)], Some(0)),
+    (&[(170, 0x18)], Some(0)),
+    (&[(193, 2)], Some(0)),
+];
 
 #[test]
 fn a_false_dictionary_has_its_place(rt: HostRuntime) {
-    let rows: [(&[(usize, u8)], Option<u32>); 16] = [
-        (&[], None),
-        // The first row: no name starts there, no file has the number, MAIN isn't private, no segment starts there, and the
-        // dictionary itself does.
-        (&[(86, 1)], Some(86)),
-        (&[(90, 3)], Some(86)),
-        (&[(90, 0)], Some(86)),
-        (&[(92, 1)], Some(86)),
-        (&[(93, 1)], Some(86)),
-        (&[(94, 0xC5)], Some(86)),
-        (&[(94, 0)], Some(86)),
-        // The fourth row: G of the segment without a name is private. Every flag but 0 says so.
-        (&[(128, 0)], Some(122)),
-        (&[(128, 2)], None),
-        (&[(128, 0), (129, 1)], None),
-        // Of two false rows the first is told.
-        (&[(98, 1), (158, 1)], Some(98)),
-        // A 0 before the end, a name that runs over, a last record that isn't an LCONST, and a name that runs over there.
-        (&[(70, 0)], Some(0)),
-        (&[(72, 0x40)], Some(0)),
-        (&[(170, 0x18)], Some(0)),
-        (&[(193, 2)], Some(0)),
-    ];
-    for (changes, at) in rows {
-        assert_eq!(rt; fault_of(rt.alloc(), changes), bad(at), "{changes:?}");
+    for (changes, at) in &FALSE_ROWS {
+        assert_eq!(rt; fault_of(rt.alloc(), changes), bad(*at), "{changes:?}");
     }
 }
 
+/// More of them.
+static FALSE_PARTS: [(&[(usize, u8)], Option<u32>); 9] = [
+    // No 0 behind the files, a row of 11 bytes, a fourth LCONST, and one record fewer: the dictionary is to blame.
+    (&[(79, 3)], Some(0)),
+    (
+        &[(82, 83), (169, 0xF2), (170, 21), (171, 0), (174, 0)],
+        Some(0),
+    ),
+    (
+        &[
+            (171, 15),
+            (190, 0xF2),
+            (191, 0),
+            (192, 0),
+            (193, 0),
+            (194, 0),
+        ],
+        Some(0),
+    ),
+    (&[(170, 0)], Some(0)),
+    // A name that is a LOCAL there, or an EQU, and a name that isn't there: the second row is to blame.
+    (&[(181, 0x4C)], Some(98)),
+    (&[(181, 0x45)], Some(98)),
+    (&[(181, 0x5A)], Some(98)),
+    // A segment behind the dictionary that is a dictionary too: its first row is to blame.
+    (&[(383, 8)], Some(134)),
+    // LENGTH isn't looked at.
+    (&[(8, 0)], None),
+];
+
 #[test]
 fn each_cause_of_a_false_dictionary(rt: HostRuntime) {
-    let rows: [(&[(usize, u8)], Option<u32>); 9] = [
-        // No 0 behind the files, a row of 11 bytes, a fourth LCONST, and one record fewer: the dictionary is to blame.
-        (&[(79, 3)], Some(0)),
-        (
-            &[(82, 83), (169, 0xF2), (170, 21), (171, 0), (174, 0)],
-            Some(0),
-        ),
-        (
-            &[
-                (171, 15),
-                (190, 0xF2),
-                (191, 0),
-                (192, 0),
-                (193, 0),
-                (194, 0),
-            ],
-            Some(0),
-        ),
-        (&[(170, 0)], Some(0)),
-        // A name that is a LOCAL there, or an EQU, and a name that isn't there: the second row is to blame.
-        (&[(181, 0x4C)], Some(98)),
-        (&[(181, 0x45)], Some(98)),
-        (&[(181, 0x5A)], Some(98)),
-        // A segment behind the dictionary that is a dictionary too: its first row is to blame.
-        (&[(383, 8)], Some(134)),
-        // LENGTH isn't looked at.
-        (&[(8, 0)], None),
-    ];
-    for (changes, at) in rows {
-        assert_eq!(rt; fault_of(rt.alloc(), changes), bad(at), "{changes:?}");
+    for (changes, at) in &FALSE_PARTS {
+        assert_eq!(rt; fault_of(rt.alloc(), changes), bad(*at), "{changes:?}");
     }
 }
 
 #[test]
 fn what_is_no_library(rt: HostRuntime) {
     let alloc = rt.alloc();
-    assert_eq!(rt; fault(alloc, &MAIN), Some(DictFault::NotLibrary));
-    assert_eq!(rt; fault(alloc, &[]), Some(DictFault::NotLibrary));
+    same(&rt, fault(alloc, &MAIN), Some(DictFault::NotLibrary));
+    same(&rt, fault(alloc, &[]), Some(DictFault::NotLibrary));
     let cut = FileFault {
         cause: FileCause::Truncated,
         segment: 1,
         at: 43,
     };
-    assert_eq!(rt; fault(alloc, &DICTIONARY[..43]), Some(DictFault::File(cut)));
+    same(
+        &rt,
+        fault(alloc, &DICTIONARY[..43]),
+        Some(DictFault::File(cut)),
+    );
 }
 
 /// A file with a name.
@@ -277,7 +286,7 @@ fn a_library_is_made(rt: HostRuntime) {
             at: 43,
         },
     };
-    assert_eq!(rt; told(outcome(alloc, &MAIN[..43], &MAIN)), Some(cut));
+    same(&rt, told(outcome(alloc, &MAIN[..43], &MAIN)), Some(cut));
 }
 
 /// The library of one file.
@@ -305,5 +314,5 @@ fn a_row_that_is_one_byte_off(rt: HostRuntime) {
     bytes[101..].copy_from_slice(&PLAIN);
     assert!(rt; is_made(alone(alloc, &PLAIN), &bytes));
     put(&mut bytes, &[(0x59, 0x66)]);
-    assert_eq!(rt; fault(alloc, &bytes), Some(DictFault::BadLibrary(0x51)));
+    same(&rt, fault(alloc, &bytes), Some(DictFault::BadLibrary(0x51)));
 }

@@ -7,6 +7,7 @@ ghost use Rattle.omf_format.specs.Expression.{IsTerm};
 ghost use Rattle.omf_expr.specs.View.{view};
 ghost use Rattle.omf_format.specs.declared.value.Value.TheVariants as value;
 
+use crate::asserting::same;
 use omf_expr::{
     Env, Expr, ExprFault, ExprPutFault, Term, Terms, Value, ValueFault, evaluate, put_term,
 };
@@ -270,12 +271,12 @@ fn sixty_four_values_may_be_pending(rt: HostRuntime) -> Result<(), Fail> {
     let alloc = rt.alloc();
     let mut text = sum_of(alloc, 64, 63)?;
     text.push(0x00)?;
-    assert_eq!(rt; value_of(&text, 0), Ok(Ok(Value::Fixed(64))));
-    assert_eq!(rt; front(alloc, &text)?.as_slice(), text.as_slice());
+    same(&rt, value_of(&text, 0), Ok(Ok(Value::Fixed(64))));
+    same(&rt, front(alloc, &text)?.as_slice(), text.as_slice());
 
     let mut deeper = sum_of(alloc, 64, 0)?;
     deeper.extend_from_slice(&written(alloc, &Term::Location)?)?;
-    assert_eq!(rt; value_of(&deeper, 0), Err(ExprFault::TooDeep(320)));
+    same(&rt, value_of(&deeper, 0), Err(ExprFault::TooDeep(320)));
     Ok(())
 }
 
@@ -288,7 +289,7 @@ fn terms_are_written(rt: HostRuntime) -> Result<(), Fail> {
         (Term::Operator(0x15), b"\x15"),
         (Term::Named(0x82, b"A B"), b"\x82\x03A B"),
     ] {
-        assert_eq!(rt; written(rt.alloc(), &term)?.as_slice(), want);
+        same(&rt, written(rt.alloc(), &term)?.as_slice(), want);
     }
     Ok(())
 }
@@ -310,7 +311,7 @@ fn terms_come_with_their_displacements(rt: HostRuntime) -> Result<(), Fail> {
         None,
         None,
     ] {
-        assert_eq!(rt; next(&mut terms), want);
+        same(&rt, next(&mut terms), want);
     }
     Ok(())
 }

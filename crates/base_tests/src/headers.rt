@@ -3,6 +3,7 @@ ghost use Rattle.std.specs.Prelude.{IfOk};
 ghost use Rattle.omf_format.specs.Header.{IsWritable};
 ghost use Rattle.omf_header.specs.View.{fields};
 
+use crate::asserting::same;
 use omf_base::{Name, NameFault};
 use omf_header::{Field, Header, HeaderFault, Kind, WriteHeaderFault, read_header, write_header};
 use std::alloc::Global;
@@ -27,7 +28,7 @@ fn fault(alloc: Global, bytes: &[u8]) -> Option<HeaderFault> {
 #[test]
 fn the_first_check_is_told(rt: HostRuntime) {
     let alloc = rt.alloc();
-    assert_eq!(rt; fault(alloc, &HEADER), None);
+    same(&rt, fault(alloc, &HEADER), None);
 
     // Each check breaks after the one before it, from the last to the first.
     let breaks = [
@@ -46,10 +47,10 @@ fn the_first_check_is_told(rt: HostRuntime) {
         if let Some(byte) = bytes.get_mut(at) {
             *byte = value;
         }
-        assert_eq!(rt; fault(alloc, &bytes), Some(want));
+        same(&rt, fault(alloc, &bytes), Some(want));
     }
     let cut = fault(alloc, &HEADER[..43]);
-    assert_eq!(rt; cut, Some(HeaderFault::Truncated(43)));
+    same(&rt, cut, Some(HeaderFault::Truncated(43)));
 }
 
 #[test]
@@ -62,11 +63,11 @@ fn names_follow_lab_len(rt: HostRuntime) -> Result<(), Fail> {
     bytes[0x36] = 0x41;
     bytes[0x37] = 0x20;
     let header = read(alloc, &bytes)?;
-    assert_eq!(rt; header.name.bytes(), b"A".as_slice());
-    assert_eq!(rt; header.load_name.as_slice(), b"LOAD      ".as_slice());
-    assert_eq!(rt; header.org, 0x04030201);
-    assert_eq!(rt; header.seg_num, 0x0A09);
-    assert_eq!(rt; header.entry, 0x0E0D0C0B);
+    same(&rt, header.name.bytes(), b"A".as_slice());
+    same(&rt, header.load_name.as_slice(), b"LOAD      ".as_slice());
+    same(&rt, header.org, 0x04030201);
+    same(&rt, header.seg_num, 0x0A09);
+    same(&rt, header.entry, 0x0E0D0C0B);
     Ok(())
 }
 
@@ -97,8 +98,8 @@ fn attributes_have_their_bits(rt: HostRuntime) {
     ] {
         let kind = Kind { bits };
         assert_eq!(rt; attributes(&kind), want, "{bits}");
-        assert_eq!(rt; kind.is_static(), !kind.is_dynamic());
-        assert_eq!(rt; u16::from(kind.form()), bits % 32);
+        same(&rt, kind.is_static(), !kind.is_dynamic());
+        same(&rt, u16::from(kind.form()), bits % 32);
     }
 }
 
@@ -117,7 +118,7 @@ fn alignment_is_a_page_or_a_bank(rt: HostRuntime) -> Result<(), Fail> {
         bytes[0x1C..0x1F].copy_from_slice(&align);
         bytes[0x1F] = 0;
         let header = read(alloc, &bytes)?;
-        assert_eq!(rt; header.alignment(), want);
+        same(&rt, header.alignment(), want);
         assert!(rt; header.stays_in_bank());
     }
     let mut bytes = HEADER;
@@ -159,11 +160,17 @@ fn written(alloc: Global, body: u32) -> Result<Result<Vec<u8>, WriteHeaderFault>
 #[test]
 fn a_written_header_is_the_one_that_was_read(rt: HostRuntime) -> Result<(), Fail> {
     let written = written(rt.alloc(), 1)?;
-    assert_eq!(rt;
+    same(
+        &rt,
         written.map(|bytes| bytes.as_slice() == &HEADER[..56]),
-        Ok(true)
+        Ok(true),
     );
     Ok(())
+}
+
+/// Why it isn't written, if it isn't.
+fn write_fault(alloc: Global, body: u32) -> Result<Option<WriteHeaderFault>, NameFault> {
+    Ok(written(alloc, body)?.err())
 }
 
 #[test]
@@ -174,7 +181,7 @@ fn a_segment_above_the_limit_is_too_long(rt: HostRuntime) -> Result<(), Fail> {
         (longest + 1, Some(WriteHeaderFault::TooLong)),
         (16_777_216, Some(WriteHeaderFault::TooLong)),
     ] {
-        assert_eq!(rt; written(rt.alloc(), body)?.err(), want, "{body}");
+        same(&rt, write_fault(rt.alloc(), body)?, want);
     }
     Ok(())
 }

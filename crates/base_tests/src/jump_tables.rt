@@ -1,4 +1,5 @@
 // Jump tables, and their entries as they are read and set.
+use crate::asserting::same;
 use jump_table::{Entry, Table, TableFault, read_entry, set_loaded, set_unloaded, set_user};
 use std::alloc::Global;
 use std::test::Fail;
@@ -21,9 +22,9 @@ fn segment_bytes(alloc: Global, table: &Table) -> Result<Vec<u8>, TableFault> {
 fn a_table_of_two_targets(rt: HostRuntime) -> Result<(), Fail> {
     let mut table = Table::new(rt.alloc());
     for (segment, offset, place) in [(3, 0x1234, 18), (0x102, 0x89AB_CDEF, 32), (3, 0x1234, 18)] {
-        assert_eq!(rt; entry(&mut table, 1, segment, offset), Ok(place));
+        same(&rt, entry(&mut table, 1, segment, offset), Ok(place));
     }
-    assert_eq!(rt; count(&table), 2);
+    same(&rt, count(&table), 2);
     let bytes = segment_bytes(rt.alloc(), &table)?;
     let want: [u8; 40] = [
         0, 0, 0, 0, 0, 0, 0, 0, // before the entries
@@ -31,7 +32,7 @@ fn a_table_of_two_targets(rt: HostRuntime) -> Result<(), Fail> {
         0, 0, 1, 0, 2, 1, 0xEF, 0xCD, 0xAB, 0x89, 0x22, 0x00, 0xF0, 0xE1, // the second
         0, 0, 0, 0, // behind them
     ];
-    assert_eq!(rt; bytes.as_slice(), want.as_slice());
+    same(&rt, bytes.as_slice(), want.as_slice());
     Ok(())
 }
 
@@ -40,7 +41,7 @@ fn a_table_of_two_targets(rt: HostRuntime) -> Result<(), Fail> {
 fn a_table_has_4680_targets(rt: HostRuntime) -> Result<(), Fail> {
     let mut table = Table::new(rt.alloc());
     for offset in 0..4680u32 {
-        assert_eq!(rt; entry(&mut table, 1, 2, offset), Ok(18 + 14 * offset));
+        same(&rt, entry(&mut table, 1, 2, offset), Ok(18 + 14 * offset));
     }
     for (segment, offset, want) in [
         (2, 4679, Ok(65524)),
@@ -48,10 +49,10 @@ fn a_table_has_4680_targets(rt: HostRuntime) -> Result<(), Fail> {
         (3, 0, Err(TableFault::TooMany)),
         (2, 0, Ok(18)),
     ] {
-        assert_eq!(rt; entry(&mut table, 1, segment, offset), want);
+        same(&rt, entry(&mut table, 1, segment, offset), want);
     }
-    assert_eq!(rt; count(&table), 4680);
-    assert_eq!(rt; segment_bytes(rt.alloc(), &table)?.len(), 65532);
+    same(&rt, count(&table), 4680);
+    same(&rt, segment_bytes(rt.alloc(), &table)?.len(), 65532);
     Ok(())
 }
 
@@ -102,10 +103,10 @@ fn entries_are_read_and_set(rt: HostRuntime) {
         loaded: Some(0x02_1234),
         ..entry
     };
-    assert_eq!(rt; read(&UNLOADED, 1), Some(entry));
-    assert_eq!(rt; loaded(&UNLOADED), LOADED);
-    assert_eq!(rt; read(&LOADED, 1), Some(there));
-    assert_eq!(rt; unloaded(&LOADED), AGAIN);
+    same(&rt, read(&UNLOADED, 1), Some(entry));
+    same(&rt, loaded(&UNLOADED), LOADED);
+    same(&rt, read(&LOADED, 1), Some(there));
+    same(&rt, unloaded(&LOADED), AGAIN);
 }
 
 #[test]

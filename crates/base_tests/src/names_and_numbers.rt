@@ -1,4 +1,5 @@
 // Names, lines and numbers. What no clause says: that memory is enough, and that the digits and the byte order are those of the field.
+use crate::asserting::same;
 use omf_base::{Line, LineFault, Name, NameFault, Spot, number_at};
 use std::alloc::{AllocError, Global};
 use std::test::Fail;
@@ -31,9 +32,9 @@ fn bytes_of(alloc: Global, line: &Line) -> Result<Vec<u8>, AllocError> {
 fn a_name_has_at_most_255_bytes(rt: HostRuntime) -> Result<(), Fail> {
     let alloc = rt.alloc();
     let bytes = [0xE9; 256];
-    assert_eq!(rt; name(alloc, &bytes).err(), Some(NameFault::TooLong));
-    assert_eq!(rt; name(alloc, &bytes[..255])?.as_slice(), &bytes[..255]);
-    assert_eq!(rt; name(alloc, b"")?.len(), 0);
+    same(&rt, name(alloc, &bytes).err(), Some(NameFault::TooLong));
+    same(&rt, name(alloc, &bytes[..255])?.as_slice(), &bytes[..255]);
+    same(&rt, name(alloc, b"")?.len(), 0);
     assert!(rt; are_same(alloc, b"MAIN", b"MAIN")?);
     assert!(rt; !are_same(alloc, b"MAIN", b"MAIN ")?);
     Ok(())
@@ -57,10 +58,10 @@ fn a_line_is_its_pieces(rt: HostRuntime) -> Result<(), Fail> {
     let alloc = rt.alloc();
     let mut line = pieces(alloc)?;
     let before = bytes_of(alloc, &line)?;
-    assert_eq!(rt; before.as_slice(), b"at 0000002B7".as_slice());
+    same(&rt, before.as_slice(), b"at 0000002B7".as_slice());
     put(&mut line, &[0x0A, 0xFF])?;
     let after = bytes_of(alloc, &line)?;
-    assert_eq!(rt; after.as_slice(), b"at 0000002B7\n\xFF".as_slice());
+    same(&rt, after.as_slice(), b"at 0000002B7\n\xFF".as_slice());
     Ok(())
 }
 
@@ -90,7 +91,7 @@ fn numbers_print_as_digits(rt: HostRuntime) -> Result<(), Fail> {
         (0xFFFFFFFF, Some(1), "FFFFFFFF"),
     ] {
         let found = digits(rt.alloc(), value, least)?;
-        assert_eq!(rt; found.as_slice(), want.as_bytes());
+        same(&rt, found.as_slice(), want.as_bytes());
     }
     Ok(())
 }
@@ -101,8 +102,8 @@ fn number(bytes: &[u8], at: usize, width: usize) -> Option<u32> {
 
 #[test]
 fn numbers_stand_lowest_byte_first(rt: HostRuntime) {
-    assert_eq!(rt; number(&[1, 2], 1, 2), None);
-    assert_eq!(rt; number(&[1, 2], 0, 2), Some(513));
+    same(&rt, number(&[1, 2], 1, 2), None);
+    same(&rt, number(&[1, 2], 0, 2), Some(513));
     let bytes = [0x12, 0x34, 0x56, 0x78, 0x9A];
     for (at, width, want) in [
         (4, 1, Some(0x9A)),
