@@ -3,7 +3,7 @@
 use omf_cli::Status;
 use std::alloc::Global;
 use std::test::Fail;
-use tool_runner::{OBJECT, changed, ends, run, run_failing};
+use tool_runner::{OBJECT, changed, ends, links, run, run_failing, says};
 
 /// `A` in the load segment `ONE` holds the distance of `B`, which stands in `TWO`.
 const APART: [u8; 126] = [
@@ -153,25 +153,18 @@ fn programs_are_linked(rt: HostRuntime) -> Result<(), Fail> {
         (&RING, "refused Circular A 1 1 00000038\n", None),
         (&CALLS_ITSELF, "", Some(&CALLS_ITSELF_FILE)),
     ] {
-        let run = run(alloc, "link out obj", &[("obj", object)])?;
         let status = match output {
             Some(_) => Status::Done,
             None => Status::Refused,
         };
-        assert!(rt; ends(&run, status, line.as_bytes(), output), "{line}");
+        let linked = links(alloc, object, status, line.as_bytes(), output)?;
+        assert!(rt; linked, "{line}");
     }
 
     // What stands in memory of the calls.
-    let held: [(&str, &[u8]); 2] = [
-        (
-            "s",
-            b"banks 02\nload prog\nbytes 1001 1 0 D\nbytes 1001 3 8 2\n",
-        ),
-        ("prog", &CALLS_FILE),
-    ];
-    let loaded = run(alloc, "run s", &held)?;
+    let script = b"banks 02\nload prog\nbytes 1001 1 0 D\nbytes 1001 3 8 2\n";
     let text = b"ok\nuser 1001 entry 020000\n22 1F 00 02 22 1F 00 02 22 2D 00 02 6B\n01 10\n";
-    assert!(rt; ends(&loaded, Status::Done, text, None));
+    assert!(rt; says(alloc, script, &CALLS_FILE, Status::Done, text)?);
     Ok(())
 }
 
@@ -180,7 +173,7 @@ fn library_of(alloc: Global, path: &str, object: &[u8]) -> Result<Vec<u8>, Fail>
     let mut words = String::from_str(alloc, "lib out ")?;
     words.push_str(path)?;
     let run = run(alloc, words.as_str(), &[(path, object)])?;
-    match run.files.get("out") {
+    match run.output() {
         Some(bytes) => Ok(bytes.to_vec(alloc)?),
         None => Err(Fail::new("no library was made")),
     }
@@ -235,19 +228,22 @@ fn the_first_that_has_a_name_gives_it(rt: HostRuntime) -> Result<(), Fail> {
     Ok(())
 }
 
+/// Whether the branch over 127 bytes is linked to its distance.
+fn branch_is_linked(alloc: Global) -> Result<bool, Fail> {
+    let most = run(alloc, "link out obj", &[("obj", &BRANCH)])?;
+    match most.output() {
+        Some(file) => Ok(file.get(0x3C..0x3E) == Some(&[0x80, 0x7F])),
+        None => Ok(false),
+    }
+}
+
 #[test]
 fn a_branch_reaches_127_bytes(rt: HostRuntime) -> Result<(), Fail> {
     let alloc = rt.alloc();
-    let most = run(alloc, "link out obj", &[("obj", &BRANCH)])?;
-    let front = match most.files.get("out") {
-        Some(file) => file.get(0x3C..0x3E) == Some(&[0x80, 0x7F]),
-        None => false,
-    };
-    assert!(rt; front);
+    assert!(rt; branch_is_linked(alloc)?);
     let object = changed(alloc, &BRANCH, &[(8, 131), (0x45, 128)])?;
     let line = b"refused DoesNotFit 1 1 0000003A\n";
-    let more = run(alloc, "link out obj", &[("obj", &object)])?;
-    assert!(rt; ends(&more, Status::Refused, line, None));
+    assert!(rt; links(alloc, &object, Status::Refused, line, None)?);
     Ok(())
 }
 
@@ -331,11 +327,8 @@ fn failures_of_link_are_told(rt: HostRuntime) -> Result<(), Fail> {
         ),
     ] {
         let run = run_failing(alloc, words, &held, &[file], &[text])?;
-        assert!(rt;
-            ends(&run, status, line.as_bytes(), output),
-            "{words} {file} {text}"
-        );
-        assert_eq!(rt; run.files.asked(), reads);
+        let told = ends(&run, status, line.as_bytes(), output) && run.reads == reads;
+        assert!(rt; told, "{words} {file} {text}");
     }
     Ok(())
 }
@@ -349,21 +342,27 @@ fn many(alloc: Global, inputs: u32) -> Result<String, Fail> {
     Ok(words)
 }
 
+/// Whether 255 inputs are linked to a file of this size, and each read once.
+fn most_are_linked(alloc: Global, held: &[(&str, &[u8])], size: usize) -> Result<bool, Fail> {
+    let most = run(alloc, many(alloc, 255)?.as_str(), held)?;
+    match most.output() {
+        Some(file) => Ok(file.len() == size && most.reads == 255),
+        None => Ok(false),
+    }
+}
+
+/// Whether 256 inputs are no form of words, and none is read.
+fn more_are_refused(alloc: Global, held: &[(&str, &[u8])]) -> Result<bool, Fail> {
+    let more = run(alloc, many(alloc, 256)?.as_str(), held)?;
+    let usage = b"usage: omf asm, link, lib, dump, run or stress\n";
+    Ok(ends(&more, Status::Usage, usage, None) && more.reads == 0)
+}
+
 #[test]
 fn up_to_255_files_are_linked(rt: HostRuntime) -> Result<(), Fail> {
     let alloc = rt.alloc();
     let held: [(&str, &[u8]); 1] = [("a", &OBJECT)];
-    let words = many(alloc, 255)?;
-    let most = run(alloc, words.as_str(), &held)?;
-    let size = match most.files.get("out") {
-        Some(file) => file.len(),
-        None => 0,
-    };
-    assert_eq!(rt; (size, most.files.asked()), (2096, 255));
-    let words = many(alloc, 256)?;
-    let more = run(alloc, words.as_str(), &held)?;
-    let usage = b"usage: omf asm, link, lib, dump, run or stress\n";
-    assert!(rt; ends(&more, Status::Usage, usage, None));
-    assert_eq!(rt; more.files.asked(), 0);
+    assert!(rt; most_are_linked(alloc, &held, 2096)?);
+    assert!(rt; more_are_refused(alloc, &held)?);
     Ok(())
 }

@@ -2,7 +2,7 @@
 use omf_cli::Status;
 use std::alloc::{AllocError, Global};
 use std::test::Fail;
-use tool_runner::{LOAD_FILE, OBJECT, changed, dumps, ends, run_failing};
+use tool_runner::{LOAD_FILE, OBJECT, changed, dumps, ends, run_failing, sized};
 
 /// The listing of the load file.
 const LISTING: &[u8] =
@@ -31,49 +31,39 @@ fn segments_and_records_are_listed(rt: HostRuntime) -> Result<(), Fail> {
 }
 
 /// Whether a change of the object is told with this line alone.
-fn told(alloc: Global, changes: &[(usize, u8)], line: &[u8]) -> Result<bool, Fail> {
-    let object = changed(alloc, &OBJECT, changes)?;
-    dumps(alloc, &object, Status::Refused, line)
+fn told(alloc: Global, at: usize, value: u8, line: &str) -> Result<bool, Fail> {
+    let object = changed(alloc, &OBJECT, &[(at, value)])?;
+    dumps(alloc, &object, Status::Refused, line.as_bytes())
+}
+
+/// The object twice, the second one with an unknown code.
+fn two(alloc: Global) -> Result<Vec<u8>, Fail> {
+    let mut two = OBJECT.to_vec(alloc)?;
+    two.extend_from_slice(&changed(alloc, &OBJECT, &[(0x3C, 0xFA)])?)?;
+    Ok(two)
 }
 
 #[test]
 fn the_first_fault_is_told(rt: HostRuntime) -> Result<(), Fail> {
     let alloc = rt.alloc();
-    assert!(rt;
-        dumps(
-            alloc,
-            &OBJECT[..43],
-            Status::Refused,
-            b"refused Truncated 1 1 0000002B\n"
-        )?
-    );
+    let cut = b"refused Truncated 1 1 0000002B\n";
+    assert!(rt; dumps(alloc, &OBJECT[..43], Status::Refused, cut)?);
 
     // NUMLEN, a DISPNAME of $2B, RESSPC above LENGTH, an unknown code, a constant that runs past the segment, no END.
-    assert!(rt; told(alloc, &[(0x0E, 2)], b"refused Unsupported 1 1 0000000E\n")?);
-    assert!(rt; told(alloc, &[(0x28, 0x2B)], b"refused BadHeader 1 1 00000028\n")?);
-    assert!(rt; told(alloc, &[(0x04, 9)], b"refused BadHeader 1 1 00000004\n")?);
-    assert!(rt;
-        told(
-            alloc,
-            &[(0x3C, 0xFA)],
-            b"refused Unsupported 1 1 0000003C\n"
-        )?
-    );
-    assert!(rt; told(alloc, &[(0x38, 0xDF)], b"refused Truncated 1 1 00000042\n")?);
-    assert!(rt; told(alloc, &[(0x41, 1)], b"refused Truncated 1 1 00000042\n")?);
+    for (at, value, line) in [
+        (0x0E, 2, "refused Unsupported 1 1 0000000E\n"),
+        (0x28, 0x2B, "refused BadHeader 1 1 00000028\n"),
+        (0x04, 9, "refused BadHeader 1 1 00000004\n"),
+        (0x3C, 0xFA, "refused Unsupported 1 1 0000003C\n"),
+        (0x38, 0xDF, "refused Truncated 1 1 00000042\n"),
+        (0x41, 1, "refused Truncated 1 1 00000042\n"),
+    ] {
+        assert!(rt; told(alloc, at, value, line)?, "{at}");
+    }
 
     // In the second segment.
-    let mut two = OBJECT.to_vec(alloc)?;
-    let other = changed(alloc, &OBJECT, &[(0x3C, 0xFA)])?;
-    two.extend_from_slice(&other)?;
-    assert!(rt;
-        dumps(
-            alloc,
-            &two,
-            Status::Refused,
-            b"refused Unsupported 1 2 0000007E\n"
-        )?
-    );
+    let second = b"refused Unsupported 1 2 0000007E\n";
+    assert!(rt; dumps(alloc, &two(alloc)?, Status::Refused, second)?);
     Ok(())
 }
 
@@ -81,19 +71,13 @@ fn the_first_fault_is_told(rt: HostRuntime) -> Result<(), Fail> {
 fn with_body(alloc: Global, body: &[u8]) -> Result<Vec<u8>, Fail> {
     let mut file = OBJECT[..0x38].to_vec(alloc)?;
     file.extend_from_slice(body)?;
-    let size = u32::try_from(file.len())?.to_le_bytes();
-    for place in 0..4 {
-        if let Some(byte) = file.get_mut(place) {
-            *byte = size[place];
-        }
-    }
-    Ok(file)
+    sized(alloc, &file)
 }
 
 /// Whether the object with another body is told with this line alone.
-fn body_told(alloc: Global, body: &[u8], line: &[u8]) -> Result<bool, Fail> {
+fn body_told(alloc: Global, body: &[u8], line: &str) -> Result<bool, Fail> {
     let object = with_body(alloc, body)?;
-    dumps(alloc, &object, Status::Refused, line)
+    dumps(alloc, &object, Status::Refused, line.as_bytes())
 }
 
 #[test]
@@ -127,36 +111,37 @@ fn deep_expression(alloc: Global) -> Result<Vec<u8>, AllocError> {
     Ok(body)
 }
 
+const BAD: &str = "refused BadRecord 1 1 00000038\n";
+
+const UNREAD: &str = "refused Unsupported 1 1 00000038\n";
+
+/// Bodies, each with the line that tells its fault.
+static BAD_VALUES: [(&[u8], &str); 11] = [
+    (b"\xF2\xFF\xFF\xFF\xFF", "refused Truncated 1 1 0000003D\n"),
+    // A count of 5 and of 0, a shift of 32, an empty name.
+    (b"\xEB\x05\0\0", BAD),
+    (b"\xEC\0\x80\0\0", BAD),
+    (b"\xF5\x02\x20\0\0\0\0\0", BAD),
+    (b"\xE4\0\0", BAD),
+    // A backward ORG, a SUPER of type 3 and of type 38.
+    (b"\xE1\xFF\xFF\xFF\xFF\0", UNREAD),
+    (b"\xE1\0\0\0\x80\0", UNREAD),
+    (b"\xF7\x01\0\0\0\x03\0", UNREAD),
+    (b"\xF7\x01\0\0\0\x26\0", UNREAD),
+    // A SUPER with a subrecord that is cut, and one of length 0.
+    (b"\xF7\x03\0\0\0\0\x05\x01\0", BAD),
+    (b"\xF7\0\0\0\0\0\0", BAD),
+];
+
 #[test]
 fn bad_values_are_told(rt: HostRuntime) -> Result<(), Fail> {
     let alloc = rt.alloc();
-    let bad = b"refused BadRecord 1 1 00000038\n";
-    let unread = b"refused Unsupported 1 1 00000038\n";
-    assert!(rt;
-        body_told(
-            alloc,
-            b"\xF2\xFF\xFF\xFF\xFF",
-            b"refused Truncated 1 1 0000003D\n"
-        )?
-    );
+    for (body, line) in &BAD_VALUES {
+        assert!(rt; body_told(alloc, body, line)?, "{body:?}");
+    }
 
-    // A count of 5 and of 0, a 65th pending value, a shift of 32, an empty name.
-    assert!(rt; body_told(alloc, b"\xEB\x05\0\0", bad)?);
-    assert!(rt; body_told(alloc, b"\xEC\0\x80\0\0", bad)?);
-    let deep = deep_expression(alloc)?;
-    assert!(rt; body_told(alloc, &deep, bad)?);
-    assert!(rt; body_told(alloc, b"\xF5\x02\x20\0\0\0\0\0", bad)?);
-    assert!(rt; body_told(alloc, b"\xE4\0\0", bad)?);
-
-    // A backward ORG, a SUPER of type 3 and of type 38.
-    assert!(rt; body_told(alloc, b"\xE1\xFF\xFF\xFF\xFF\0", unread)?);
-    assert!(rt; body_told(alloc, b"\xE1\0\0\0\x80\0", unread)?);
-    assert!(rt; body_told(alloc, b"\xF7\x01\0\0\0\x03\0", unread)?);
-    assert!(rt; body_told(alloc, b"\xF7\x01\0\0\0\x26\0", unread)?);
-
-    // A SUPER with a subrecord that is cut, and one of length 0.
-    assert!(rt; body_told(alloc, b"\xF7\x03\0\0\0\0\x05\x01\0", bad)?);
-    assert!(rt; body_told(alloc, b"\xF7\0\0\0\0\0\0", bad)?);
+    // A 65th pending value.
+    assert!(rt; body_told(alloc, &deep_expression(alloc)?, BAD)?);
     Ok(())
 }
 
@@ -165,30 +150,20 @@ fn the_first_bad_field_is_told(rt: HostRuntime) -> Result<(), Fail> {
     let alloc = rt.alloc();
 
     // A bad count before a cut, a cut before a bad shift, a bad name before a cut expression.
-    assert!(rt; body_told(alloc, b"\xE2\x07", b"refused BadRecord 1 1 00000038\n")?);
-    assert!(rt; body_told(alloc, b"\xE2\x02", b"refused Truncated 1 1 0000003A\n")?);
-    assert!(rt; body_told(alloc, b"\xE7\0", b"refused BadRecord 1 1 00000038\n")?);
-    assert!(rt;
-        body_told(
-            alloc,
+    let bodies: [(&[u8], &str); 6] = [
+        (b"\xE2\x07", BAD),
+        (b"\xE2\x02", "refused Truncated 1 1 0000003A\n"),
+        (b"\xE7\0", BAD),
+        (
             b"\xE7\x01Q\0\0N\0\x81\x05",
-            b"refused Truncated 1 1 00000041\n"
-        )?
-    );
-    assert!(rt;
-        body_told(
-            alloc,
-            b"\xF7\x05\0\0\0\x03",
-            b"refused Unsupported 1 1 00000038\n"
-        )?
-    );
-    assert!(rt;
-        body_told(
-            alloc,
-            b"\xF7\x05\0\0\0\x02",
-            b"refused Truncated 1 1 0000003E\n"
-        )?
-    );
+            "refused Truncated 1 1 00000041\n",
+        ),
+        (b"\xF7\x05\0\0\0\x03", UNREAD),
+        (b"\xF7\x05\0\0\0\x02", "refused Truncated 1 1 0000003E\n"),
+    ];
+    for (body, line) in bodies {
+        assert!(rt; body_told(alloc, body, line)?, "{body:?}");
+    }
     Ok(())
 }
 

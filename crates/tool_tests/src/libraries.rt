@@ -31,14 +31,14 @@ fn library() -> [u8; 167] {
 
 /// Whether a run wrote nothing and ended with this status and this text, after so many reads.
 fn stops(run: &Outcome, status: Status, text: &[u8], reads: u64) -> bool {
-    ends(run, status, text, None) && run.files.asked() == reads
+    ends(run, status, text, None) && run.reads == reads
 }
 
 #[test]
 fn a_library_is_written(rt: HostRuntime) -> Result<(), Fail> {
     let run = run(rt.alloc(), "lib out a", &[("a", &OBJECT)])?;
     assert!(rt; ends(&run, Status::Done, b"", Some(&library())));
-    assert_eq!(rt; (run.files.asked(), run.files.faults()), (1, 0));
+    assert_eq!(rt; (run.reads, run.store_faults), (1, 0));
     Ok(())
 }
 
@@ -127,7 +127,7 @@ fn a_library_has_a_limit(rt: HostRuntime) -> Result<(), Fail> {
     let most = object_of(alloc, 16_777_216 - 87)?;
     let fits = run(alloc, "lib out a", &[("a", &most)])?;
     assert!(rt; fits.status == Status::Done);
-    let size = fits.files.get("out").map(|bytes| bytes.len());
+    let size = fits.output().map(|bytes| bytes.len());
     assert_eq!(rt; size, Some(16_777_216));
     let more = object_of(alloc, 16_777_216 - 86)?;
     let long = run(alloc, "lib out a", &[("a", &more)])?;
@@ -146,17 +146,34 @@ fn fails(alloc: Global, words: &str, file: u32, text: u32) -> Result<Outcome, Fa
     )
 }
 
+/// Whether a run of these words in which these calls fail stops so.
+fn fails_so(
+    alloc: Global,
+    words: &str,
+    file: u32,
+    text: u32,
+    status: Status,
+    printed: &str,
+    reads: u64,
+) -> Result<bool, Fail> {
+    let run = fails(alloc, words, file, text)?;
+    Ok(stops(&run, status, printed.as_bytes(), reads))
+}
+
 #[test]
 fn failures_of_lib_are_told(rt: HostRuntime) -> Result<(), Fail> {
     let alloc = rt.alloc();
-    let first = fails(alloc, "lib out a b", 1, 2)?;
-    assert!(rt; stops(&first, Status::CannotRead, b"cannot read a\n", 1));
-    let second = fails(alloc, "lib out a b", 2, 2)?;
-    assert!(rt; stops(&second, Status::CannotRead, b"cannot read b\n", 2));
-    let absent = fails(alloc, "lib out a nofile b", 9, 9)?;
-    assert!(rt; stops(&absent, Status::CannotRead, b"cannot read nofile\n", 2));
-    let unprinted = fails(alloc, "lib out a nofile b", 9, 1)?;
-    assert!(rt; stops(&unprinted, Status::CannotPrint, b"cannot re", 2));
+    let both = "lib out a b";
+    let absent = "lib out a nofile b";
+    for (words, file, text, status, printed, reads) in [
+        (both, 1, 2, Status::CannotRead, "cannot read a\n", 1),
+        (both, 2, 2, Status::CannotRead, "cannot read b\n", 2),
+        (absent, 9, 9, Status::CannotRead, "cannot read nofile\n", 2),
+        (absent, 9, 1, Status::CannotPrint, "cannot re", 2),
+    ] {
+        let told = fails_so(alloc, words, file, text, status, printed, reads)?;
+        assert!(rt; told, "{words} {file} {text}");
+    }
     Ok(())
 }
 

@@ -31,27 +31,35 @@ fn plain_objects_are_linked(rt: HostRuntime) -> Result<(), Fail> {
     Ok(())
 }
 
-#[test]
-fn what_the_format_leaves_open_is_passed_over(rt: HostRuntime) -> Result<(), Fail> {
-    let alloc = rt.alloc();
-
-    // One byte at $21, and four before the names.
+/// The object with one byte at $21, and four before the names.
+fn padded(alloc: Global) -> Result<Vec<u8>, Fail> {
     let front = changed(
         alloc,
         &OBJECT,
         &[(0x00, 0x46), (0x21, 1), (0x28, 0x30), (0x2A, 0x3C)],
     )?;
-    let mut padded = Vec::new(alloc);
-    padded.extend_from_slice(&front[..front.len().min(0x2C)])?;
+    let mut padded = front[..front.len().min(0x2C)].to_vec(alloc)?;
     padded.extend_from_slice(&[0; 4])?;
     padded.extend_from_slice(&OBJECT[0x2C..])?;
-    assert!(rt; links(alloc, &padded, Status::Done, b"", Some(&LOAD_FILE))?);
-    let zeros = changed(
+    Ok(padded)
+}
+
+/// The object under KIND $90E1, with zeros alone.
+fn zeros(alloc: Global) -> Result<Vec<u8>, Fail> {
+    changed(
         alloc,
         &OBJECT,
         &[(0x14, 0xE1), (0x15, 0x90), (0x39, 0), (0x3A, 0), (0x3B, 0)],
-    )?;
-    assert!(rt; links(alloc, &zeros, Status::Done, b"", Some(&ZEROS))?);
+    )
+}
+
+#[test]
+fn what_the_format_leaves_open_is_passed_over(rt: HostRuntime) -> Result<(), Fail> {
+    let alloc = rt.alloc();
+    let padded = links(alloc, &padded(alloc)?, Status::Done, b"", Some(&LOAD_FILE))?;
+    assert!(rt; padded);
+    let zeros = links(alloc, &zeros(alloc)?, Status::Done, b"", Some(&ZEROS))?;
+    assert!(rt; zeros);
     Ok(())
 }
 
@@ -94,7 +102,7 @@ fn load_names_part_load_segments(rt: HostRuntime) -> Result<(), Fail> {
 /// $10000, an unknown type, NUMSEX, DISPNAME, BYTECNT, DISPDATA, RESSPC above LENGTH, a jump table, a pathname segment, a
 /// dictionary that is none, a wrong LENGTH, a wrong RESSPC, a LENGTH that no record makes up, an ALIGN in a segment without
 /// one, a cut record, no END.
-const BREAKS: [(usize, u8, &[u8]); 18] = [
+static BREAKS: [(usize, u8, &[u8]); 18] = [
     (0x0E, 2, b"refused Unsupported 1 1 0000000E\n"),
     (0x0F, 1, b"refused Truncated 1 1 00000042\n"),
     (0x10, 1, b"refused BadHeader 1 1 00000010\n"),
@@ -115,28 +123,36 @@ const BREAKS: [(usize, u8, &[u8]); 18] = [
     (0x41, 1, b"refused Truncated 1 1 00000042\n"),
 ];
 
+/// Whether the object with bytes changed is refused with this line.
+fn is_refused(alloc: Global, changes: &[(usize, u8)], line: &[u8]) -> Result<bool, Fail> {
+    let object = changed(alloc, &OBJECT, changes)?;
+    links(alloc, &object, Status::Refused, line, None)
+}
+
 #[test]
 fn each_broken_rule_is_refused(rt: HostRuntime) -> Result<(), Fail> {
     let alloc = rt.alloc();
-    for (at, value, line) in BREAKS {
-        let object = changed(alloc, &OBJECT, &[(at, value)])?;
-        assert!(rt; links(alloc, &object, Status::Refused, line, None)?);
+    for (at, value, line) in &BREAKS {
+        assert!(rt; is_refused(alloc, &[(*at, *value)], line)?, "{at}");
     }
 
     // A BANKSIZE of 7 for 8 bytes.
-    let object = changed(alloc, &OBJECT, &[(0x10, 7), (0x12, 0)])?;
     let line = b"refused SegmentTooLong 1 1 00000000\n";
-    assert!(rt; links(alloc, &object, Status::Refused, line, None)?);
+    assert!(rt; is_refused(alloc, &[(0x10, 7), (0x12, 0)], line)?);
     Ok(())
+}
+
+/// Whether the load file of the object has a change of the object.
+fn is_kept(alloc: Global, at: usize) -> Result<bool, Fail> {
+    let object = changed(alloc, &OBJECT, &[(at, 1)])?;
+    let file = changed(alloc, &LOAD_FILE, &[(at, 1)])?;
+    links(alloc, &object, Status::Done, b"", Some(&file))
 }
 
 #[test]
 fn the_place_that_is_asked_for_is_kept(rt: HostRuntime) -> Result<(), Fail> {
-    let alloc = rt.alloc();
     for at in [0x18, 0x1C] {
-        let object = changed(alloc, &OBJECT, &[(at, 1)])?;
-        let file = changed(alloc, &LOAD_FILE, &[(at, 1)])?;
-        assert!(rt; links(alloc, &object, Status::Done, b"", Some(&file))?);
+        assert!(rt; is_kept(rt.alloc(), at)?, "{at}");
     }
     Ok(())
 }
@@ -154,25 +170,26 @@ fn fails(
     Ok(ends(&run, status, printed, output))
 }
 
+/// Whether a file that isn't there is told.
+fn absent_is_told(alloc: Global) -> Result<bool, Fail> {
+    let absent = run(alloc, "link out nofile", &[("obj", &OBJECT)])?;
+    Ok(ends(&absent, Status::CannotRead, b"cannot read nofile\n", None))
+}
+
 #[test]
 fn failures_are_told(rt: HostRuntime) -> Result<(), Fail> {
     let alloc = rt.alloc();
-    let half = &LOAD_FILE[..32];
-    assert!(rt; fails(alloc, 1, 2, Status::CannotRead, b"cannot read obj\n", None)?);
-    assert!(rt;
-        fails(
-            alloc,
-            2,
-            2,
-            Status::CannotWrite,
-            b"cannot write out\n",
-            Some(half)
-        )?
-    );
-    assert!(rt; fails(alloc, 3, 1, Status::Done, b"", Some(&LOAD_FILE))?);
-    assert!(rt; fails(alloc, 1, 1, Status::CannotPrint, b"cannot r", None)?);
-    assert!(rt; fails(alloc, 2, 1, Status::CannotPrint, b"cannot w", Some(half))?);
-    let absent = run(alloc, "link out nofile", &[("obj", &OBJECT)])?;
-    assert!(rt; ends(&absent, Status::CannotRead, b"cannot read nofile\n", None));
+    let half = Some(&LOAD_FILE[..32]);
+    for (file, text, status, printed, output) in [
+        (1, 2, Status::CannotRead, "cannot read obj\n", None),
+        (2, 2, Status::CannotWrite, "cannot write out\n", half),
+        (3, 1, Status::Done, "", Some(&LOAD_FILE as &[u8])),
+        (1, 1, Status::CannotPrint, "cannot r", None),
+        (2, 1, Status::CannotPrint, "cannot w", half),
+    ] {
+        let told = fails(alloc, file, text, status, printed.as_bytes(), output)?;
+        assert!(rt; told, "{file} {text}");
+    }
+    assert!(rt; absent_is_told(alloc)?);
     Ok(())
 }

@@ -7,7 +7,7 @@ use std::test::Fail;
 const CONTENT: usize = 0x3C;
 
 /// Sources, and how the first load segment begins.
-const BEGINS: [(&str, &[u8]); 2] = [
+static BEGINS: [(&str, &[u8]); 2] = [
     // A distance within a load segment, and a branch 127 bytes forward.
     (
         "A START\n DC I2'B-A'\n END\nB START\n RTS\n END\n",
@@ -17,7 +17,7 @@ const BEGINS: [(&str, &[u8]); 2] = [
 ];
 
 /// Sources, and the line with which they aren't linked.
-const REFUSED: [(&str, &str); 6] = [
+static REFUSED: [(&str, &str); 6] = [
     // The same distance between two load segments; branches 128 bytes forward and 129 back.
     (
         "A START ONE\n DC I2'B-A'\n END\nB START TWO\n RTS\n END\n",
@@ -46,13 +46,18 @@ const REFUSED: [(&str, &str); 6] = [
     ),
 ];
 
+/// Whether the first load segment of a source begins so.
+fn begins(alloc: Global, source: &str, bytes: &[u8]) -> Result<bool, Fail> {
+    let file = program(alloc, source, "")?;
+    let end = CONTENT.saturating_add(bytes.len());
+    Ok(file.get(CONTENT..end) == Some(bytes))
+}
+
 #[test]
 fn sources_are_linked(rt: HostRuntime) -> Result<(), Fail> {
     let alloc = rt.alloc();
-    for (source, bytes) in BEGINS {
-        let file = program(alloc, source, "")?;
-        let end = CONTENT.saturating_add(bytes.len());
-        assert!(rt; file.get(CONTENT..end) == Some(bytes), "{source}");
+    for (source, bytes) in &BEGINS {
+        assert!(rt; begins(alloc, source, bytes)?, "{source}");
     }
 
     // A branch 128 bytes back is the last instruction: behind it stand a patch's or END's zero.
@@ -69,7 +74,7 @@ fn sources_are_linked(rt: HostRuntime) -> Result<(), Fail> {
 #[test]
 fn sources_are_not_linked(rt: HostRuntime) -> Result<(), Fail> {
     let alloc = rt.alloc();
-    for (source, line) in REFUSED {
+    for (source, line) in &REFUSED {
         assert!(rt; link_refuses(alloc, source, line)?, "{source}");
     }
     Ok(())

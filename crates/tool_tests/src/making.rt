@@ -7,7 +7,7 @@ use tool_runner::{ends, run};
 /// What a run of these words wrote to `out`.
 fn made(alloc: Global, words: &str, held: &[(&str, &[u8])]) -> Result<Vec<u8>, Fail> {
     let run = run(alloc, words, held)?;
-    match run.files.get("out") {
+    match run.output() {
         Some(bytes) => Ok(bytes.to_vec(alloc)?),
         None => Err(Fail::new("nothing was written")),
     }

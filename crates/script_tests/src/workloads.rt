@@ -6,19 +6,37 @@ use std::test::Fail;
 use sys_loader::Loader;
 use tool_runner::{Outcome, run_whole, words_of};
 
-/// A run over a store that holds one file, and whose first call would fail.
-fn stress(alloc: Global, words: &str, text: &[u32]) -> Result<(Outcome, Option<Loader>), Fail> {
+/// A run over a store that holds one file, and whose first call would fail; of the loader that was handed out the sum of its first segments,
+/// and whether it has one more.
+fn stress(
+    alloc: Global,
+    words: &str,
+    text: &[u32],
+    segments: u16,
+) -> Result<(Outcome, Option<(u32, bool)>), Fail> {
     let words = words_of(alloc, words)?;
-    run_whole(alloc, &words, &[("prog", b"kept")], &[1], text)
+    let (run, last) = run_whole(alloc, &words, &[("prog", b"kept")], &[1], text)?;
+    match last {
+        Some(loader) => Ok((
+            run,
+            Some((sum_of(&loader, segments), has_more(&loader, segments))),
+        )),
+        None => Ok((run, None)),
+    }
+}
+
+/// Whether a user has more segments than so many.
+fn has_more(loader: &Loader, segments: u16) -> bool {
+    loader.info(0x1001, segments.wrapping_add(1)).is_ok()
 }
 
 /// Whether it ended so, and the store is as it was.
 fn ends(run: &Outcome, status: Status, text: &[u8]) -> bool {
     run.status == status
-        && run.out.bytes() == text
-        && run.files.get("prog") == Some(b"kept".as_slice())
-        && run.files.asked() == 0
-        && run.files.faults() == 0
+        && run.text.as_slice() == text
+        && run.kept
+        && run.reads == 0
+        && run.store_faults == 0
 }
 
 /// The sum of the bytes of a user's active segments among the first ones.
@@ -39,17 +57,10 @@ fn sum_of(loader: &Loader, count: u16) -> u32 {
 // The loader that ran it is handed out, and its segments have the sum that was printed.
 #[test]
 fn one_segment_is_called(rt: HostRuntime) -> Result<(), Fail> {
-    let alloc = rt.alloc();
     let line = b"segments 3 entries 1 entered 5 refused 2 sum 00000D68\n";
-    let (run, last) = stress(alloc, "stress 1 0", &[])?;
+    let (run, last) = stress(rt.alloc(), "stress 1 0", &[], 3)?;
     assert!(rt; ends(&run, Status::Done, line));
-    match last {
-        Some(loader) => {
-            assert!(rt; sum_of(&loader, 3) == 0xD68);
-            assert!(rt; loader.info(0x1001, 4).is_err());
-        }
-        None => return Err(Fail::new("no loader was handed out")),
-    }
+    assert_eq!(rt; last, Some((0xD68, false)));
     Ok(())
 }
 
@@ -59,7 +70,7 @@ fn many_segments_are_called_twice(rt: HostRuntime) -> Result<(), Fail> {
     let alloc = rt.alloc();
     let line = b"segments 66 entries 64 entered 261 refused 56 sum 0027FC59\n";
     for words in ["stress 64 1", "stress 064 0000000001"] {
-        let (run, last) = stress(alloc, words, &[])?;
+        let (run, last) = stress(alloc, words, &[], 0)?;
         assert!(rt; ends(&run, Status::Done, line));
         assert!(rt; last.is_some());
     }
@@ -69,10 +80,10 @@ fn many_segments_are_called_twice(rt: HostRuntime) -> Result<(), Fail> {
 #[test]
 fn a_line_that_is_not_printed(rt: HostRuntime) -> Result<(), Fail> {
     let alloc = rt.alloc();
-    let (run, last) = stress(alloc, "stress 1 0", &[1])?;
+    let (run, last) = stress(alloc, "stress 1 0", &[1], 0)?;
     assert!(rt; run.status == Status::CannotPrint);
     assert!(rt;
-        b"segments 3 entries 1 entered 5 refused 2 sum 00000D68\n".starts_with(run.out.bytes())
+        b"segments 3 entries 1 entered 5 refused 2 sum 00000D68\n".starts_with(run.text.as_slice())
     );
     assert!(rt; last.is_none());
     Ok(())

@@ -9,7 +9,7 @@ use omf_expr::Expr;
 use omf_records::{Locations, PutFault, Rec, put_record};
 use std::alloc::Global;
 use std::test::Fail;
-use tool_runner::{block, dumps};
+use tool_runner::{block, dumps, sized};
 
 /// Every record under LABLEN 0.
 const COUNTED: [u8; 233] = [
@@ -80,18 +80,6 @@ fn every_record_is_listed(rt: HostRuntime) -> Result<(), Fail> {
     Ok(())
 }
 
-/// The bytes with this number in the place of BYTECNT.
-fn with_size(alloc: Global, bytes: &[u8]) -> Result<Vec<u8>, Fail> {
-    let mut file = bytes.to_vec(alloc)?;
-    let size = u32::try_from(bytes.len())?.to_le_bytes();
-    for place in 0..4 {
-        if let Some(byte) = file.get_mut(place) {
-            *byte = size[place];
-        }
-    }
-    Ok(file)
-}
-
 /// Whether each front of a file is refused as cut, once as it is, and once as a whole segment: there the header's names are
 /// cut by the segment's end as long as the body doesn't begin.
 fn fronts_are_cut(alloc: Global, file: &[u8], body: usize) -> Result<bool, Fail> {
@@ -102,7 +90,7 @@ fn fronts_are_cut(alloc: Global, file: &[u8], body: usize) -> Result<bool, Fail>
             return Ok(false);
         }
         if n >= 44 {
-            let whole = with_size(alloc, front)?;
+            let whole = sized(alloc, front)?;
             let line = if n < body {
                 "refused BadHeader 1 1 0000002A\n"
             } else {

@@ -10,7 +10,7 @@ const USAGE: &[u8] = b"usage: omf asm, link, lib, dump, run or stress\n";
 /// Whether these words, which stand with spaces between them, print the usage and read nothing.
 fn is_usage(alloc: Global, words: &str) -> Result<bool, Fail> {
     let run = run(alloc, words, &[("obj", &OBJECT), ("s", b"")])?;
-    Ok(ends(&run, Status::Usage, USAGE, None) && run.files.asked() == 0)
+    Ok(ends(&run, Status::Usage, USAGE, None) && run.reads == 0)
 }
 
 #[test]
@@ -46,8 +46,15 @@ fn other_words_print_the_usage(rt: HostRuntime) -> Result<(), Fail> {
     // No words at all.
     let none = run_list(alloc, &Vec::new(alloc), &[("obj", &OBJECT)], &[], &[])?;
     assert!(rt; ends(&none, Status::Usage, USAGE, None));
-    assert_eq!(rt; none.files.asked(), 0);
+    assert_eq!(rt; none.reads, 0);
     Ok(())
+}
+
+/// Whether these words say that a file can't be read, after it was asked for once.
+fn is_not_read(alloc: Global, words: &str, file: &[u8]) -> Result<bool, Fail> {
+    let run = run(alloc, words, &[("obj", file)])?;
+    let told = ends(&run, Status::CannotRead, b"cannot read obj\n", None);
+    Ok(told && run.reads == 1 && run.store_faults == 0)
 }
 
 // A file of one byte above the limit isn't read, whatever asks for it.
@@ -56,12 +63,7 @@ fn a_file_above_the_limit_is_not_read(rt: HostRuntime) -> Result<(), Fail> {
     let alloc = rt.alloc();
     let long = vec![in alloc; 0; MAX_FILE + 1]?;
     for words in ["link out obj", "dump obj", "run obj"] {
-        let run = run(alloc, words, &[("obj", &long)])?;
-        assert!(rt;
-            ends(&run, Status::CannotRead, b"cannot read obj\n", None),
-            "{words}"
-        );
-        assert_eq!(rt; (run.files.asked(), run.files.faults()), (1, 0), "{words}");
+        assert!(rt; is_not_read(alloc, words, &long)?, "{words}");
     }
     Ok(())
 }

@@ -20,7 +20,7 @@ fn other_numbers_are_no_workload(rt: HostRuntime) -> Result<(), Fail> {
         let run = run(alloc, words, &[])?;
         assert!(rt; run.status == Status::Usage);
         assert!(rt;
-            run.out.bytes() == b"usage: omf asm, link, lib, dump, run or stress\n".as_slice()
+            run.text.as_slice() == b"usage: omf asm, link, lib, dump, run or stress\n".as_slice()
         );
     }
     Ok(())

@@ -1,6 +1,6 @@
 use Rattle.std.proofs.Common.{[], ◌∷◌, refl, arith}
 use Rattle.omf_format.specs.Super.{Passed, Located}
-use Rattle.dump_tests.proofs.every_record.put_short_patches.Goals as goal
+use Rattle.tool_tests.proofs.every_record.put_short_patches.Goals as goal
 
 -- two pages are passed over, and the next one has two locations
 pub put_record-requires-3 : goal.put_record-requires-3
