@@ -168,17 +168,24 @@ fn a_changed_header_is_told(rt: HostRuntime) -> Result<(), Fail> {
     Ok(())
 }
 
+/// Whether the dynamic segment comes to its place where the file is another one by then, and has these bytes.
+fn is_loaded(alloc: Global, later: &[u8], bytes: &[u8]) -> Result<bool, Fail> {
+    let mut files = MemoryFiles::new(alloc, Vec::new(alloc));
+    let mut loader = loaded(alloc, &mut files)?;
+    files.set("p", later)?;
+    Ok(comes(&mut loader, &mut files) == Ok(PLACE) && has(&loader, bytes))
+}
+
+fn has(loader: &Loader, bytes: &[u8]) -> bool {
+    loader.bytes(0x1001, 2, 0, 2) == Ok(bytes)
+}
+
 // What isn't kept of a file may be another: here a byte of the dynamic segment.
 #[test]
 fn another_body_is_loaded(rt: HostRuntime) -> Result<(), Fail> {
     let alloc = rt.alloc();
     let later = changed(alloc, &program(alloc)?, &[(0x7A, 0xE8)])?;
-    let mut files = MemoryFiles::new(alloc, Vec::new(alloc));
-    let mut loader = loaded(alloc, &mut files)?;
-    files.set("p", &later)?;
-    assert!(rt; comes(&mut loader, &mut files) == Ok(PLACE));
-    let bytes: &[u8] = &[0xE8, 0x6B];
-    assert!(rt; loader.bytes(0x1001, 2, 0, 2) == Ok(bytes));
+    assert!(rt; is_loaded(alloc, &later, &[0xE8, 0x6B])?);
     Ok(())
 }
 

@@ -1,7 +1,7 @@
 // The calls of a loader that take memory. A test has all memory, so here each call succeeds; `tools/refuse-calls` runs this test again with one
 // allocation refused after the other. A call that is refused then changes nothing, and made again it succeeds.
 use crate::changed_files::put;
-use omf_io::MemoryFiles;
+use omf_io::{MemoryFiles, WriteFault};
 use std::alloc::{AllocError, Global};
 use std::test::Fail;
 use sys_loader::{Info, Loader, LoaderFault};
@@ -97,12 +97,35 @@ fn answers(loader: &mut Loader, files: &mut MemoryFiles, call: Call, address: u3
     }
 }
 
+// The other calls as the test makes them. They promise nothing, so its proof is as short as the test.
+fn loader_of_bank_0(alloc: Global) -> Option<Loader> {
+    Loader::new(alloc, &[0]).ok()
+}
+
+fn put_file(files: &mut MemoryFiles, path: &str, bytes: &[u8]) -> Result<(), WriteFault> {
+    files.set(path, bytes)
+}
+
+/// Whether the dynamic segment is poked and let go.
+fn is_let_go(loader: &mut Loader) -> bool {
+    loader.poke(0x1001, 2, 0, 0x55) == Ok(()) && loader.unload_segment(0x1001, 2) == Ok(())
+}
+
+/// Whether so many blocks are purged.
+fn is_purged(loader: &mut Loader, count: u32) -> bool {
+    loader.purge(0x1001) == Ok(count)
+}
+
+fn is_shut_down(loader: &mut Loader) -> bool {
+    loader.shut_down(0x1001, true) == Ok(())
+}
+
 #[test]
 fn a_refused_call_changes_nothing(rt: HostRuntime) -> Result<(), Fail> {
     let alloc = rt.alloc();
     let mut files = MemoryFiles::new(alloc, Vec::new(alloc));
-    files.set("p", &program(alloc)?)?;
-    let Ok(mut loader) = Loader::new(alloc, &[0]) else {
+    put_file(&mut files, "p", &program(alloc)?)?;
+    let Some(mut loader) = loader_of_bank_0(alloc) else {
         return Err(AllocError.into());
     };
 
@@ -110,17 +133,16 @@ fn a_refused_call_changes_nothing(rt: HostRuntime) -> Result<(), Fail> {
     // purged; the program begins anew where it was.
     assert!(rt; answers(&mut loader, &mut files, Call::Load, 0x800));
     assert!(rt; answers(&mut loader, &mut files, Call::LoadSegment, 0x81E));
-    assert!(rt; loader.poke(0x1001, 2, 0, 0x55) == Ok(()));
-    assert!(rt; loader.unload_segment(0x1001, 2) == Ok(()));
-    assert!(rt; loader.purge(0x1001) == Ok(1));
+    assert!(rt; is_let_go(&mut loader));
+    assert!(rt; is_purged(&mut loader, 1));
     assert!(rt; answers(&mut loader, &mut files, Call::Jsl, 0x81F));
     assert!(rt; sum(&loader, 2, 2) == Some(0xEA * 2 + 0x6B));
-    assert!(rt; loader.shut_down(0x1001, true) == Ok(()));
-    assert!(rt; loader.purge(0x1001) == Ok(3));
+    assert!(rt; is_shut_down(&mut loader));
+    assert!(rt; is_purged(&mut loader, 3));
     assert!(rt; answers(&mut loader, &mut files, Call::Restart, 0x800));
     assert!(rt; sum(&loader, 1, 4) == Some(0x22 * 8 + 0x16 * 4 + 0x08 * 2));
 
     // Where this is refused, each allocation before it was.
-    files.set("end", b"")?;
+    put_file(&mut files, "end", b"")?;
     Ok(())
 }
