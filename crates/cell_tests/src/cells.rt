@@ -1,6 +1,6 @@
 // What no clause says: that the definitions are those of the field, and that memory is enough.
-use crate::files::{cells, read};
-use omf_cells::{Cell, LoadCause, LoadFault, LoadFile, read_load};
+use crate::files::{cells, fault_in, read};
+use omf_cells::{Cell, LoadCause, LoadFault, LoadFile};
 use std::alloc::Global;
 use std::test::Fail;
 
@@ -26,7 +26,7 @@ fn put(bytes: &mut [u8], changes: &[(usize, u8)]) {
 fn fault_of_one(alloc: Global, changes: &[(usize, u8)]) -> Option<LoadFault> {
     let mut bytes = ONE;
     put(&mut bytes, changes);
-    read_load(alloc, &bytes).err()
+    fault_in(alloc, &bytes)
 }
 
 /// The fault of a file of two such segments, numbered in order, with bytes changed at displacements.
@@ -36,7 +36,7 @@ fn fault_of_two(alloc: Global, changes: &[(usize, u8)]) -> Option<LoadFault> {
     bytes[SECOND..].copy_from_slice(&ONE);
     bytes[SECOND + 0x22] = 2;
     put(&mut bytes, changes);
-    read_load(alloc, &bytes).err()
+    fault_in(alloc, &bytes)
 }
 
 fn fault(cause: LoadCause, segment: u32, at: u32) -> Option<LoadFault> {
@@ -46,9 +46,9 @@ fn fault(cause: LoadCause, segment: u32, at: u32) -> Option<LoadFault> {
 #[test]
 fn each_fault_has_its_place(rt: HostRuntime) {
     let alloc = rt.alloc();
-    let empty = read_load(alloc, &[]).err();
+    let empty = fault_in(alloc, &[]);
     assert_eq!(rt; empty, fault(LoadCause::NotLoadFile, 0, 0));
-    let cut = read_load(alloc, &ONE[..43]).err();
+    let cut = fault_in(alloc, &ONE[..43]);
     assert_eq!(rt; cut, fault(LoadCause::Truncated, 1, 0x2B));
     assert_eq!(rt; fault_of_one(alloc, &[]), None);
 
@@ -80,25 +80,36 @@ fn each_fault_has_its_place(rt: HostRuntime) {
 #[test]
 fn phases_come_one_behind_another(rt: HostRuntime) {
     let alloc = rt.alloc();
-    assert_eq!(rt; fault_of_two(alloc, &[]), None);
-    let second = fault_of_two(alloc, &[(SECOND + 0x22, 1)]);
-    assert_eq!(rt; second, fault(LoadCause::Sequence, 2, 64));
+    let rows: [(&[(usize, u8)], Option<LoadFault>); 6] = [
+        (&[], None),
+        (&[(SECOND + 0x22, 1)], fault(LoadCause::Sequence, 2, 64)),
+        // Too much data in the first segment comes before the number of the second.
+        (
+            &[(0x04, 0), (0x08, 2), (SECOND + 0x22, 1)],
+            fault(LoadCause::DataTooLong, 1, 0),
+        ),
+        // A type or record of the second segment comes before either.
+        (
+            &[(0x22, 9), (SECOND + 0x14, 0x08)],
+            fault(LoadCause::NotLoadFile, 2, 64),
+        ),
+        (
+            &[(0x22, 9), (SECOND + 0x37, 0xFB)],
+            fault(LoadCause::Unsupported, 2, 64 + 0x37),
+        ),
+        // The first segment's type comes before the second one's header.
+        (
+            &[(0x14, 0x04), (SECOND + 0x0F, 3)],
+            fault(LoadCause::Unsupported, 1, 0),
+        ),
+    ];
+    for (changes, want) in rows {
+        assert_eq!(rt; fault_of_two(alloc, changes), want, "{changes:?}");
+    }
 
-    // Too much data in the first segment comes before the number of the second.
-    let first = fault_of_two(alloc, &[(0x04, 0), (0x08, 2), (SECOND + 0x22, 1)]);
-    assert_eq!(rt; first, fault(LoadCause::DataTooLong, 1, 0));
-
-    // A type or record of the second segment comes before either, and a number before too much data of one segment.
-    let kind = fault_of_two(alloc, &[(0x22, 9), (SECOND + 0x14, 0x08)]);
-    assert_eq!(rt; kind, fault(LoadCause::NotLoadFile, 2, 64));
-    let code = fault_of_two(alloc, &[(0x22, 9), (SECOND + 0x37, 0xFB)]);
-    assert_eq!(rt; code, fault(LoadCause::Unsupported, 2, 64 + 0x37));
+    // A number comes before too much data of one segment.
     let both = fault_of_one(alloc, &[(0x22, 9), (0x04, 0), (0x08, 2)]);
     assert_eq!(rt; both, fault(LoadCause::Sequence, 1, 0));
-
-    // The first segment's type comes before the second one's header.
-    let early = fault_of_two(alloc, &[(0x14, 0x04), (SECOND + 0x0F, 3)]);
-    assert_eq!(rt; early, fault(LoadCause::Unsupported, 1, 0));
 }
 
 #[test]
@@ -117,7 +128,7 @@ fn express_load_is_not_read(rt: HostRuntime) {
     ] {
         bytes[54..65].copy_from_slice(name);
         bytes[0x14] = kind;
-        assert_eq!(rt; read_load(alloc, &bytes).err(), want);
+        assert_eq!(rt; fault_in(alloc, &bytes), want);
     }
 }
 
@@ -209,7 +220,7 @@ fn fault_of_entry(
     bytes[BEHIND..].copy_from_slice(&ONE);
     put(&mut bytes, &[(0x00, 65), (BEHIND + 0x22, 2)]);
     put(&mut bytes, changes);
-    read_load(alloc, &bytes).err()
+    fault_in(alloc, &bytes)
 }
 
 #[test]

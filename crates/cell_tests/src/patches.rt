@@ -105,18 +105,23 @@ fn dynamic_and_skipped_targets(rt: HostRuntime) -> Result<(), Fail> {
     let none = fault(LoadCause::NoSuchTarget, 1, PATCH);
 
     // cRELOC, and cINTERSEG of segments 1 and 2. $80 is dynamic, and $02 is skipped.
-    let own = [0xF5, 1, 0, 0, 0, 0, 0];
-    let same = [0xF6, 1, 0, 0, 0, 1, 0, 0];
-    let other = [0xF6, 1, 0, 0, 0, 2, 0, 0];
-    assert_eq!(rt; fault_of_two(alloc, &own, 0x80, 0x80, 2)?, None);
-    assert_eq!(rt; fault_of_two(alloc, &same, 0x80, 0x80, 2)?, None);
-    assert_eq!(rt; fault_of_two(alloc, &other, 0x80, 0x00, 2)?, None);
-    assert_eq!(rt; fault_of_two(alloc, &other, 0x00, 0x80, 2)?, dynamic);
-    assert_eq!(rt; fault_of_two(alloc, &other, 0x80, 0x80, 2)?, dynamic);
-    assert_eq!(rt; fault_of_two(alloc, &own, 0x02, 0x00, 2)?, none);
-    assert_eq!(rt; fault_of_two(alloc, &same, 0x02, 0x00, 2)?, none);
-    assert_eq!(rt; fault_of_two(alloc, &other, 0x00, 0x02, 2)?, none);
-    assert_eq!(rt; fault_of_two(alloc, &other, 0x00, 0x82, 2)?, none);
+    let own: &[u8] = &[0xF5, 1, 0, 0, 0, 0, 0];
+    let same: &[u8] = &[0xF6, 1, 0, 0, 0, 1, 0, 0];
+    let other: &[u8] = &[0xF6, 1, 0, 0, 0, 2, 0, 0];
+    for (patch, first, second, want) in [
+        (own, 0x80, 0x80, None),
+        (same, 0x80, 0x80, None),
+        (other, 0x80, 0x00, None),
+        (other, 0x00, 0x80, dynamic),
+        (other, 0x80, 0x80, dynamic),
+        (own, 0x02, 0x00, none),
+        (same, 0x02, 0x00, none),
+        (other, 0x00, 0x02, none),
+        (other, 0x00, 0x82, none),
+    ] {
+        let found = fault_of_two(alloc, patch, first, second, 2)?;
+        assert_eq!(rt; found, want, "{first} {second}");
+    }
     Ok(())
 }
 
@@ -125,21 +130,24 @@ fn each_patch_before_the_next(rt: HostRuntime) -> Result<(), Fail> {
     let alloc = rt.alloc();
 
     // cINTERSEG of segment 2 and then one past LENGTH; the two in the other order; one past LENGTH of segment 9.
-    let near = [0xF6, 1, 0, 0, 0, 2, 0, 0, 0xF6, 1, 0, 8, 0, 1, 0, 0];
-    let far = [0xF6, 1, 0, 8, 0, 1, 0, 0, 0xF6, 1, 0, 0, 0, 2, 0, 0];
-    let both = [0xF6, 1, 0, 8, 0, 9, 0, 0];
+    let near: &[u8] = &[0xF6, 1, 0, 0, 0, 2, 0, 0, 0xF6, 1, 0, 8, 0, 1, 0, 0];
+    let far: &[u8] = &[0xF6, 1, 0, 8, 0, 1, 0, 0, 0xF6, 1, 0, 0, 0, 2, 0, 0];
+    let both: &[u8] = &[0xF6, 1, 0, 8, 0, 9, 0, 0];
     let outside = fault(LoadCause::PatchOutside, 1, PATCH);
+    let behind = fault(LoadCause::PatchOutside, 1, PATCH + 8);
     let dynamic = fault(LoadCause::DynamicTarget, 1, PATCH);
-    assert_eq!(rt; fault_of_two(alloc, &near, 0x00, 0x80, 2)?, dynamic);
-    assert_eq!(rt; fault_of_two(alloc, &far, 0x00, 0x80, 2)?, outside);
-    assert_eq!(rt; fault_of_two(alloc, &both, 0x00, 0x80, 2)?, outside);
-    assert_eq!(rt;
-        fault_of_two(alloc, &near, 0x00, 0x00, 2)?,
-        fault(LoadCause::PatchOutside, 1, PATCH + 8)
-    );
+    for (patches, second, want) in [
+        (near, 0x80, dynamic),
+        (far, 0x80, outside),
+        (both, 0x80, outside),
+        (near, 0x00, behind),
+    ] {
+        let found = fault_of_two(alloc, patches, 0x00, second, 2)?;
+        assert_eq!(rt; found, want, "{patches:?}");
+    }
 
     // The numbers of all segments come before any patch.
-    let number = fault_of_two(alloc, &far, 0x00, 0x80, 3)?;
+    let number = fault_of_two(alloc, far, 0x00, 0x80, 3)?;
     assert_eq!(rt; number, fault(LoadCause::Sequence, 2, 0x37 + 13 + 17));
     Ok(())
 }
@@ -208,39 +216,47 @@ fn file_of_types(alloc: Global) -> Result<Vec<u8>, Fail> {
     Ok(file)
 }
 
+/// Whether three cells from an offset on are the first two parts of a place, shifted so, and the byte 3.
+fn is_low_part(
+    alloc: Global,
+    file: &[u8],
+    from: u32,
+    segment: u16,
+    shift: i8,
+) -> Result<bool, Fail> {
+    let found = cells(alloc, file, 1, from, 3)?;
+    let wanted = [
+        part(segment, 0x201, shift, 0),
+        part(segment, 0x201, shift, 1),
+        Some(Cell::Byte(3)),
+    ];
+    Ok(found.as_slice() == wanted.as_slice())
+}
+
+/// Whether three cells from an offset on are the parts of a place.
+fn is_whole_part(alloc: Global, file: &[u8], from: u32, segment: u16) -> Result<bool, Fail> {
+    let found = cells(alloc, file, 1, from, 3)?;
+    let wanted = [
+        part(segment, 0x201, 0, 0),
+        part(segment, 0x201, 0, 1),
+        part(segment, 0x201, 0, 2),
+    ];
+    Ok(found.as_slice() == wanted.as_slice())
+}
+
 #[test]
 fn each_type_of_super_is_read(rt: HostRuntime) -> Result<(), Fail> {
     let alloc = rt.alloc();
     let file = file_of_types(alloc)?;
-    let near = cells(alloc, &file, 1, 0, 9)?;
-    let wanted = [
-        part(1, 0x201, 0, 0),
-        part(1, 0x201, 0, 1),
-        Some(Cell::Byte(3)),
-        part(1, 0x201, 0, 0),
-        part(1, 0x201, 0, 1),
-        part(1, 0x201, 0, 2),
-        part(3, 0x201, 0, 0),
-        part(3, 0x201, 0, 1),
-        part(3, 0x201, 0, 2),
-    ];
-    assert_eq!(rt; near.as_slice(), wanted.as_slice());
+    assert!(rt; is_low_part(alloc, &file, 0, 1, 0)?);
+    assert!(rt; is_whole_part(alloc, &file, 3, 1)?);
+    assert!(rt; is_whole_part(alloc, &file, 6, 3)?);
     for segment in 1..13u16 {
         let at = u32::from(segment).wrapping_mul(3);
-        let whole = [
-            part(segment, 0x201, 0, 0),
-            part(segment, 0x201, 0, 1),
-            Some(Cell::Byte(3)),
-        ];
-        let low = cells(alloc, &file, 1, at.wrapping_add(6), 3)?;
-        assert_eq!(rt; low.as_slice(), whole.as_slice());
-        let bank = [
-            part(segment, 0x201, -16, 0),
-            part(segment, 0x201, -16, 1),
-            Some(Cell::Byte(3)),
-        ];
-        let high = cells(alloc, &file, 1, at.wrapping_add(42), 3)?;
-        assert_eq!(rt; high.as_slice(), bank.as_slice());
+        let low = is_low_part(alloc, &file, at.wrapping_add(6), segment, 0)?;
+        assert!(rt; low, "{segment}");
+        let high = is_low_part(alloc, &file, at.wrapping_add(42), segment, -16)?;
+        assert!(rt; high, "{segment}");
     }
     Ok(())
 }
@@ -309,19 +325,27 @@ fn places_are_added_before_the_shift(rt: HostRuntime) -> Result<(), Fail> {
     Ok(())
 }
 
-#[test]
-fn places_are_set_one_by_one(rt: HostRuntime) -> Result<(), Fail> {
-    let alloc = rt.alloc();
-    assert_eq!(rt; fault_in(alloc, &[]), fault(LoadCause::NotLoadFile, 0, 0));
+/// What stands at places 0 to 3 of places for two segments, before and after the second one is set.
+fn seen(alloc: Global) -> Result<[[Option<u32>; 4]; 2], Fail> {
     let mut places = match Places::new(alloc, 2) {
         Ok(places) => places,
         Err(PlacesFault::Memory) => return Err(Fail::new("memory is ample")),
     };
-    assert_eq!(rt; places.get(1), None);
+    let before = all_of(&places);
     places.set(2, Some(7));
-    assert_eq!(rt; places.get(2), Some(7));
-    assert_eq!(rt; places.get(1), None);
-    assert_eq!(rt; places.get(0), None);
-    assert_eq!(rt; places.get(3), None);
+    Ok([before, all_of(&places)])
+}
+
+fn all_of(places: &Places) -> [Option<u32>; 4] {
+    [places.get(0), places.get(1), places.get(2), places.get(3)]
+}
+
+#[test]
+fn places_are_set_one_by_one(rt: HostRuntime) -> Result<(), Fail> {
+    let alloc = rt.alloc();
+    assert_eq!(rt; fault_in(alloc, &[]), fault(LoadCause::NotLoadFile, 0, 0));
+    let [before, after] = seen(alloc)?;
+    assert_eq!(rt; before, [None; 4]);
+    assert_eq!(rt; after, [None, None, Some(7), None]);
     Ok(())
 }

@@ -196,21 +196,17 @@ fn gap(alloc: Global, pages: u32) -> Result<Vec<u8>, Fail> {
 #[test]
 fn pages_are_passed_over(rt: HostRuntime) -> Result<(), Fail> {
     let alloc = rt.alloc();
-    assert_eq!(rt; gap(alloc, 0)?.as_slice(), [0, 0, 0, 0].as_slice());
-    assert_eq!(rt; gap(alloc, 1)?.as_slice(), [0, 0, 0x81, 0, 0].as_slice());
-    assert_eq!(rt; gap(alloc, 127)?.as_slice(), [0, 0, 0xFF, 0, 0].as_slice());
-    assert_eq!(rt;
-        gap(alloc, 128)?.as_slice(),
-        [0, 0, 0xFF, 0x81, 0, 0].as_slice()
-    );
-    assert_eq!(rt;
-        gap(alloc, 129)?.as_slice(),
-        [0, 0, 0xFF, 0x82, 0, 0].as_slice()
-    );
-    assert_eq!(rt;
-        gap(alloc, 254)?.as_slice(),
-        [0, 0, 0xFF, 0xFF, 0, 0].as_slice()
-    );
+    let rows: [(u32, &[u8]); 6] = [
+        (0, &[0, 0, 0, 0]),
+        (1, &[0, 0, 0x81, 0, 0]),
+        (127, &[0, 0, 0xFF, 0, 0]),
+        (128, &[0, 0, 0xFF, 0x81, 0, 0]),
+        (129, &[0, 0, 0xFF, 0x82, 0, 0]),
+        (254, &[0, 0, 0xFF, 0xFF, 0, 0]),
+    ];
+    for (pages, want) in rows {
+        assert_eq!(rt; gap(alloc, pages)?.as_slice(), want, "{pages}");
+    }
     Ok(())
 }
 
