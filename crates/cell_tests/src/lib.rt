@@ -6,6 +6,8 @@ mod cells;
 #[cfg(test)]
 mod files;
 #[cfg(test)]
+mod order;
+#[cfg(test)]
 mod patches;
 #[cfg(test)]
 mod tables;
