@@ -342,6 +342,19 @@ fn has_fault(
     Ok(())
 }
 
+/// A source of three parts has this fault.
+fn has_fault_between(
+    rt: &impl Abort,
+    alloc: Global,
+    front: &str,
+    text: &str,
+    behind: &str,
+    want: Option<MacroFault>,
+) -> Result<(), AllocError> {
+    let source = between(alloc, front, text, behind)?;
+    has_fault(rt, alloc, &[], source.as_str(), want)
+}
+
 /// Macro files, sources, and the causes, files and lines of their faults.
 static FAULTS: [(&str, &str, MacroCause, u32, u32); 27] = [
     ("", " AGO .X\n", MacroCause::NoSequenceSymbol, 0, 1),
@@ -482,42 +495,25 @@ fn limits_are_reached_and_not_passed(rt: HostRuntime) -> Result<(), Fail> {
     let alloc = rt.alloc();
     let front = " LCLC &A\n&A SETC '";
     let name = repeated(alloc, "x", 125)?;
-    let short = between(alloc, front, name.as_str(), "'\n &A&A\n")?;
-    has_fault(&rt, alloc, &[], short.as_str(), None)?;
-    let long = between(alloc, front, name.as_str(), "'\n    &A.x&A\n")?;
-    has_fault(&rt, alloc, &[], long.as_str(), None)?;
-    let longer = between(alloc, front, name.as_str(), "'\n    &A.xx&A\n")?;
-    has_fault(
-        &rt,
-        alloc,
-        &[],
-        longer.as_str(),
-        fault(MacroCause::LineTooLong, 0, 3),
-    )?;
-    let branches = " LCLA &I\n.A ANOP\n&I SETA &I+1\n AIF &I<";
-    has_fault(
-        &rt,
-        alloc,
-        &[],
-        between(alloc, branches, "256", ",.A\n")?.as_str(),
-        None,
-    )?;
-    has_fault(
-        &rt,
-        alloc,
-        &[],
-        between(alloc, branches, "257", ",.A\n")?.as_str(),
-        fault(MacroCause::Counter, 0, 4),
-    )?;
+    let name = name.as_str();
+    has_fault_between(&rt, alloc, front, name, "'\n &A&A\n", None)?;
+    has_fault_between(&rt, alloc, front, name, "'\n    &A.x&A\n", None)?;
+    let long = fault(MacroCause::LineTooLong, 0, 3);
+    has_fault_between(&rt, alloc, front, name, "'\n    &A.xx&A\n", long)?;
+    Ok(())
+}
+
+#[test]
+fn counters_and_depths_have_limits(rt: HostRuntime) -> Result<(), Fail> {
+    let alloc = rt.alloc();
+    let front = " LCLA &I\n.A ANOP\n&I SETA &I+1\n AIF &I<";
+    has_fault_between(&rt, alloc, front, "256", ",.A\n", None)?;
+    let spent = fault(MacroCause::Counter, 0, 4);
+    has_fault_between(&rt, alloc, front, "257", ",.A\n", spent)?;
     let nested = " MACRO\n R &N\n LCLA &M\n&M SETA &N-1\n AIF &M=0,.E\n R &M\n.E ANOP\n MEND\n";
     has_fault(&rt, alloc, &[nested], " R 32\n", None)?;
-    has_fault(
-        &rt,
-        alloc,
-        &[nested],
-        " R 33\n",
-        fault(MacroCause::TooNested, 1, 6),
-    )?;
+    let deep = fault(MacroCause::TooNested, 1, 6);
+    has_fault(&rt, alloc, &[nested], " R 33\n", deep)?;
     Ok(())
 }
 
@@ -525,15 +521,10 @@ fn limits_are_reached_and_not_passed(rt: HostRuntime) -> Result<(), Fail> {
 fn a_source_of_its_most_lines_is_read(rt: HostRuntime) -> Result<(), Fail> {
     let alloc = rt.alloc();
     let most = repeated(alloc, "\n", 65536)?;
-    has_fault(&rt, alloc, &[], most.as_str(), None)?;
-    let more = between(alloc, most.as_str(), "\n", "")?;
-    has_fault(
-        &rt,
-        alloc,
-        &[],
-        more.as_str(),
-        fault(MacroCause::TooManyLines, 0, 65537),
-    )?;
+    let most = most.as_str();
+    has_fault_between(&rt, alloc, most, "", "", None)?;
+    let more = fault(MacroCause::TooManyLines, 0, 65537);
+    has_fault_between(&rt, alloc, most, "\n", "", more)?;
     Ok(())
 }
 
@@ -542,15 +533,15 @@ fn a_million_lines_are_visited(rt: HostRuntime) -> Result<(), Fail> {
     let alloc = rt.alloc();
     // Two lines, then three visits a pass, and the lines behind the loop.
     let front = " ACTR 600000\n LCLA &I\n.A ANOP\n&I SETA &I+1\n AIF &I<";
-    let most = between(alloc, front, "333332", ",.A\n ANOP\n ANOP\n")?;
-    has_fault(&rt, alloc, &[], most.as_str(), None)?;
-    let more = between(alloc, front, "333332", ",.A\n ANOP\n ANOP\n ANOP\n")?;
-    has_fault(
+    has_fault_between(&rt, alloc, front, "333332", ",.A\n ANOP\n ANOP\n", None)?;
+    let more = fault(MacroCause::TooManyLines, 0, 8);
+    has_fault_between(
         &rt,
         alloc,
-        &[],
-        more.as_str(),
-        fault(MacroCause::TooManyLines, 0, 8),
+        front,
+        "333332",
+        ",.A\n ANOP\n ANOP\n ANOP\n",
+        more,
     )?;
     Ok(())
 }
