@@ -15,3 +15,4 @@ pub mod Short
 pub mod Template
 pub mod Plan
 pub mod Head
+pub mod Words

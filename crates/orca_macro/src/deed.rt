@@ -22,7 +22,7 @@ use crate::call::{bound, names_count};
 use crate::condition::{condition, number};
 use crate::definitions::Definition;
 use crate::head::Head;
-use crate::names::{is_operation, is_sequence, is_target, statement_of, symbol_name, target_name};
+use crate::names::{is_operation, is_sequence, is_target, statement_of};
 use crate::pieces::{Piece, joined, pieces, quoted, two_pieces};
 use crate::plan::{Known, Plan};
 use crate::program::Program;
@@ -32,6 +32,7 @@ use crate::symbols::{
     signed_decimal,
 };
 use crate::template::{Part, filled};
+use crate::word::{Word, symbol_word, target_word};
 use macro_meaning::{Declaration, Kind, MacroCause, Statement};
 use omf_base::Name;
 use orca_text::{SourceLine, folded, is_comment, label_in, operand_behind, part, three_fields};
@@ -39,17 +40,17 @@ use std::alloc::{AllocError, Global};
 
 /// What a visited line does.
 #[derive(Drop)]
-pub(crate) enum Deed {
+pub(crate) enum Deed<'a> {
     /// Nothing.
     Rests,
     /// It gives a line.
-    Gives(Name),
+    Gives(Word<'a>),
     /// It declares a symbol.
-    Declares(Name, Declaration),
+    Declares(Word<'a>, Declaration),
     /// It sets a symbol to a text.
-    Sets(Name, Kind, Name),
+    Sets(Word<'a>, Kind, Name),
     /// It branches to a sequence symbol.
-    Goes(Name),
+    Goes(Word<'a>),
     /// It sets the counter.
     Counts(u32),
     /// It ends its expansion.
@@ -111,8 +112,8 @@ fn or_bad<A: Drop>(found: Option<A>) -> Result<A, MacroCause>
 }
 
 /// The first declaration of a name in its expansion.
-fn first_time(texts: &Texts, declaration: Declaration, name: Name) -> Deed
-    ensures { deed result ≡ first_time name declaration (texts_of texts.now name) }
+fn first_time<'a>(texts: &Texts, declaration: Declaration, name: Word<'a>) -> Deed<'a>
+    ensures { deed result ≡ first_time name.entry declaration (texts_of texts.now name.entry) }
 {
     match declaration {
         Declaration::Local(_) => Deed::Declares(name, declaration),
@@ -130,8 +131,8 @@ fn first_time(texts: &Texts, declaration: Declaration, name: Name) -> Deed
 
 /// A declaration of a symbol.
 #[tactic(auto, unfolding(macro_meaning::specs::Deed::declaring))]
-fn declaring(of: Values<'_>, declaration: Declaration, named: Option<Name>) -> Deed
-    ensures { deed result ≡ declaring (values of.entry) declaration named }
+fn declaring<'a>(of: Values<'_>, declaration: Declaration, named: Option<Word<'a>>) -> Deed<'a>
+    ensures { deed result ≡ declaring (values of.entry) declaration named.entry }
 {
     let Some(name) = named else {
         return Deed::Fails(MacroCause::BadSetting);
@@ -152,8 +153,8 @@ fn declaring(of: Values<'_>, declaration: Declaration, named: Option<Name>) -> D
 
 /// The symbol of this kind that a label names.
 #[tactic(auto, unfolding(macro_meaning::specs::Deed::settable))]
-fn settable(of: Values<'_>, kind: Kind, named: Option<Name>) -> Result<Name, MacroCause>
-    ensures { result ≡ settable (values of.entry) kind named }
+fn settable<'a>(of: Values<'_>, kind: Kind, named: Option<Word<'a>>) -> Result<Word<'a>, MacroCause>
+    ensures { result ≡ settable (values of.entry) kind named.entry }
 {
     let Some(name) = named else {
         return Err(MacroCause::BadSetting);
@@ -174,17 +175,17 @@ fn settable(of: Values<'_>, kind: Kind, named: Option<Name>) -> Result<Name, Mac
 
 /// The symbol in the label is set to a text.
 #[tactic(auto, unfolding(macro_meaning::specs::Deed::setting))]
-fn setting(
+fn setting<'a>(
     alloc: Global,
     of: Values<'_>,
     kind: Kind,
-    label: &[u8],
+    label: &'a [u8],
     text: Result<Name, MacroCause>,
-) -> Result<Deed, AllocError>
+) -> Result<Deed<'a>, AllocError>
     requires { length label.now ≤ 255 }
     ensures { IfOk result (λ d. deed d ≡ setting (values of.entry) kind label.now text) }
 {
-    let named = symbol_name(alloc, label)?;
+    let named = symbol_word(alloc, label)?;
     match both(settable(of, kind, named), text) {
         Ok((name, text)) => Ok(Deed::Sets(name, kind, text)),
         Err(cause) => Ok(Deed::Fails(cause)),
@@ -225,13 +226,13 @@ fn printed_answer(
 }
 
 /// SETA, SETB or SETC.
-fn set(
+fn set<'a>(
     alloc: Global,
     of: Values<'_>,
     kind: Kind,
-    label: &[u8],
+    label: &'a [u8],
     operand: &[u8],
-) -> Result<Deed, AllocError>
+) -> Result<Deed<'a>, AllocError>
     requires label { length label.now ≤ 255 }
     requires operand { length operand.now ≤ 255 }
     ensures { IfOk result (λ d. IsSetting (values of.entry) kind label.now operand.now (deed d)) }
@@ -247,13 +248,13 @@ fn set(
 }
 
 /// SETA or SETB.
-fn set_number(
+fn set_number<'a>(
     alloc: Global,
     of: Values<'_>,
     kind: Kind,
-    label: &[u8],
+    label: &'a [u8],
     operand: &[u8],
-) -> Result<Deed, AllocError>
+) -> Result<Deed<'a>, AllocError>
     requires label { length label.now ≤ 255 }
     requires operand { length operand.now ≤ 255 }
     ensures { IfOk result (λ d. (answer : Answer)
@@ -328,13 +329,13 @@ fn middle_from(
 
 /// AMID of a text, a place and a count.
 #[tactic(auto, using(crate::proofs::Both::second_fault))]
-fn middle_with(
+fn middle_with<'a>(
     alloc: Global,
     of: Values<'_>,
-    label: &[u8],
+    label: &'a [u8],
     text: &[u8],
     numbers: Result<(u32, u32), MacroCause>,
-) -> Result<Deed, AllocError>
+) -> Result<Deed<'a>, AllocError>
     requires label { length label.now ≤ 255 }
     requires text { length text.now ≤ 255 }
     ensures { IfOk result (λ d. deed d ≡ setting (values of.entry) Kind.Text label.now (middle_of (both (or_bad (quoted text.now)) numbers))) }
@@ -352,12 +353,12 @@ fn middle_with(
 }
 
 /// AMID.
-fn middle(
+fn middle<'a>(
     alloc: Global,
     of: Values<'_>,
-    label: &[u8],
+    label: &'a [u8],
     operands: &[Piece<'_>],
-) -> Result<Deed, AllocError>
+) -> Result<Deed<'a>, AllocError>
     requires { length label.now ≤ 255 }
     ensures { IfOk result (λ d. IsMiddle (values of.entry) label.now operands.now (deed d)) }
 {
@@ -383,7 +384,7 @@ fn is_zero(answer: Result<u32, MacroCause>) -> bool
 
 /// AIF.
 #[tactic(auto, using(crate::proofs::Both::two_branch, crate::proofs::Both::no_branch, crate::proofs::Both::not_two))]
-fn branch_if(alloc: Global, of: Values<'_>, operand: &[u8]) -> Result<Deed, AllocError>
+fn branch_if<'a>(alloc: Global, of: Values<'_>, operand: &'a [u8]) -> Result<Deed<'a>, AllocError>
     requires { length operand.now ≤ 255 }
     ensures { IfOk result (λ d. IsBranchIf (values of.entry) (pieces 0x2C operand.now) (deed d)) }
 {
@@ -396,13 +397,13 @@ fn branch_if(alloc: Global, of: Values<'_>, operand: &[u8]) -> Result<Deed, Allo
             return Ok(Deed::Rests);
         }
     }
-    let target = target_name(alloc, target)?;
+    let target = target_word(alloc, target)?;
     Ok(going(both(answer, or_bad(target))))
 }
 
 /// A branch where the value isn't 0.
-fn going(asked: Result<(u32, Name), MacroCause>) -> Deed
-    ensures { deed result ≡ going asked }
+fn going<'a>(asked: Result<(u32, Word<'a>), MacroCause>) -> Deed<'a>
+    ensures { deed result ≡ going asked.entry }
 {
     match asked {
         Ok((n, name)) => {
@@ -416,8 +417,8 @@ fn going(asked: Result<(u32, Name), MacroCause>) -> Deed
 }
 
 /// A branch.
-fn going_to(target: Option<Name>) -> Deed
-    ensures { deed result ≡ going_to target }
+fn going_to<'a>(target: Option<Word<'a>>) -> Deed<'a>
+    ensures { deed result ≡ going_to target.entry }
 {
     match target {
         Some(name) => Deed::Goes(name),
@@ -426,7 +427,7 @@ fn going_to(target: Option<Name>) -> Deed
 }
 
 /// ACTR.
-fn counting(answer: Result<u32, MacroCause>) -> Deed
+fn counting<'a>(answer: Result<u32, MacroCause>) -> Deed<'a>
     ensures { deed result ≡ counting answer }
 {
     match answer {
@@ -436,7 +437,7 @@ fn counting(answer: Result<u32, MacroCause>) -> Deed
 }
 
 /// A note of this severity.
-fn noted(n: u32) -> Deed
+fn noted<'a>(n: u32) -> Deed<'a>
     ensures { deed result ≡ noted n }
 {
     if n.cast_signed() >= 8 {
@@ -447,7 +448,7 @@ fn noted(n: u32) -> Deed
 
 /// MNOTE of a text and a severity.
 #[tactic(auto, using(crate::proofs::Both::second_fault))]
-fn noting(text: &[u8], answer: Result<u32, MacroCause>) -> Deed
+fn noting<'a>(text: &[u8], answer: Result<u32, MacroCause>) -> Deed<'a>
     ensures { deed result ≡ noting (both (or_bad (quoted text.now)) answer) }
 {
     match answer {
@@ -460,7 +461,7 @@ fn noting(text: &[u8], answer: Result<u32, MacroCause>) -> Deed
 }
 
 /// MNOTE.
-fn note(alloc: Global, of: Values<'_>, operands: &[Piece<'_>]) -> Result<Deed, AllocError>
+fn note<'a>(alloc: Global, of: Values<'_>, operands: &[Piece<'_>]) -> Result<Deed<'a>, AllocError>
     ensures { IfOk result (λ d. IsNote (values of.entry) operands.now (deed d)) }
 {
     match operands {
@@ -473,25 +474,25 @@ fn note(alloc: Global, of: Values<'_>, operands: &[Piece<'_>]) -> Result<Deed, A
 }
 
 /// ANOP, or no operation.
-fn resting(alloc: Global, label: &[u8], text: &[u8]) -> Result<Deed, AllocError>
+fn resting<'a>(label: &[u8], text: &'a [u8]) -> Deed<'a>
     requires { length text.now ≤ 255 }
-    ensures { IfOk result (λ d. deed d ≡ resting label.now text.now) }
+    ensures { deed result ≡ resting label.now text.now }
 {
     if label.is_empty() {
-        return Ok(Deed::Rests);
+        return Deed::Rests;
     }
-    Ok(Deed::Gives(name(alloc, text)?))
+    Deed::Gives(Word::lent(text))
 }
 
 /// A statement of conditional assembly.
-fn done(
+fn done<'a>(
     alloc: Global,
     of: Values<'_>,
     statement: Statement,
-    text: &[u8],
-    label: &[u8],
-    operand: &[u8],
-) -> Result<Deed, AllocError>
+    text: &'a [u8],
+    label: &'a [u8],
+    operand: &'a [u8],
+) -> Result<Deed<'a>, AllocError>
     requires text { length text.now ≤ 255 }
     requires label { length label.now ≤ 255 }
     requires operand { length operand.now ≤ 255 }
@@ -499,7 +500,7 @@ fn done(
 {
     match statement {
         Statement::Declare(declaration) => {
-            let named = symbol_name(alloc, operand)?;
+            let named = symbol_word(alloc, operand)?;
             Ok(declaring(of, declaration, named))
         }
         Statement::Set(kind) => set(alloc, of, kind, label, operand),
@@ -509,20 +510,20 @@ fn done(
         }
         Statement::BranchIf => branch_if(alloc, of, operand),
         Statement::Branch => {
-            let target = target_name(alloc, operand)?;
+            let target = target_word(alloc, operand)?;
             Ok(going_to(target))
         }
         Statement::Count => {
             let answer = number(alloc, of, operand)?;
             Ok(counting(answer))
         }
-        Statement::Nothing => resting(alloc, label, text),
+        Statement::Nothing => Ok(resting(label, text)),
         Statement::Leave => Ok(Deed::Leaves),
         Statement::Note => {
             let operands = pieces(alloc, b',', operand)?;
             note(alloc, of, operands.as_slice())
         }
-        Statement::Define => Ok(Deed::Gives(name(alloc, text)?)),
+        Statement::Define => Ok(Deed::Gives(Word::lent(text))),
     }
 }
 
@@ -544,22 +545,22 @@ fn named<'a>(
 }
 
 /// A call of this macro, or a line that is given, where it doesn't count yet.
-fn called(
+fn called<'a>(
     alloc: Global,
     at: Standing<'_>,
-    text: &[u8],
+    text: &'a [u8],
     place: usize,
     found: &Definition,
     label: &[u8],
     operand: &[u8],
-) -> Result<Deed, AllocError>
+) -> Result<Deed<'a>, AllocError>
     requires text { length text.now ≤ 255 }
     requires label { length label.now ≤ 255 }
     requires operand { length operand.now ≤ 255 }
     ensures { IfOk result (λ d. deed d ≡ calling_if (where_ at.entry).root text.now place (Some (definition found.now)) label.now operand.now) }
 {
     if found.behind >= at.root {
-        return Ok(Deed::Gives(name(alloc, text)?));
+        return Ok(Deed::Gives(Word::lent(text)));
     }
     if names_count(&found.model) {
         return Ok(Deed::Fails(MacroCause::BadSetting));
@@ -571,14 +572,14 @@ fn called(
 }
 
 /// A call of a macro, or a line that is given.
-fn calling(
+fn calling<'a>(
     alloc: Global,
     at: Standing<'_>,
-    text: &[u8],
+    text: &'a [u8],
     operation: &[u8],
     label: &[u8],
     operand: &[u8],
-) -> Result<Deed, AllocError>
+) -> Result<Deed<'a>, AllocError>
     requires text { length text.now ≤ 255 }
     requires operation { length operation.now ≤ 255 }
     requires label { length label.now ≤ 255 }
@@ -588,12 +589,12 @@ fn calling(
 {
     match named(alloc, at.program, operation)? {
         Some((place, found)) => called(alloc, at, text, place, found, label, operand),
-        None => Ok(Deed::Gives(name(alloc, text)?)),
+        None => Ok(Deed::Gives(Word::lent(text))),
     }
 }
 
 /// A line with the texts in place, behind its sequence symbol, that isn't a comment.
-fn statement(alloc: Global, at: Standing<'_>, text: &[u8]) -> Result<Deed, AllocError>
+fn statement<'a>(alloc: Global, at: Standing<'_>, text: &'a [u8]) -> Result<Deed<'a>, AllocError>
     requires { length text.now ≤ 255 }
     ensures { IfOk result (λ d. IsStatement (where_ at.entry) text.now (three_fields text.now) (deed d)) }
 {
@@ -647,12 +648,12 @@ fn begins_definition(at: Standing<'_>, of: &SourceLine) -> bool
 }
 
 /// What a line does, with the texts in place.
-fn written(
+fn written<'a>(
     alloc: Global,
     at: Standing<'_>,
     of: &SourceLine,
-    text: &[u8],
-) -> Result<Deed, AllocError>
+    text: &'a [u8],
+) -> Result<Deed<'a>, AllocError>
     requires { HaveFields of.now.text (line of.now).fields }
     ensures { IfOk result (λ d. IsShort (where_ at.entry) (line of.now) (nat_lt 255 (length text.now)) text.now (deed d)) }
 {
@@ -670,12 +671,12 @@ fn written(
 }
 
 /// A call of the macro that a head names, or a line that is given.
-fn headed_call(
+fn headed_call<'a>(
     alloc: Global,
     at: Standing<'_>,
-    text: &[u8],
+    text: &'a [u8],
     head: &Head,
-) -> Result<Deed, AllocError>
+) -> Result<Deed<'a>, AllocError>
     requires text { length text.now ≤ 255 }
     requires head { HasFields head.now text.now }
     ensures { IfOk result (λ d. deed d ≡ calling_at (where_ at.entry).definitions (where_ at.entry).root text.now
@@ -686,18 +687,18 @@ fn headed_call(
             let operand = operand_behind(text, head.end);
             called(alloc, at, text, place, found, head.label_in(text), operand)
         }
-        None => Ok(Deed::Gives(name(alloc, text)?)),
+        None => Ok(Deed::Gives(Word::lent(text))),
     }
 }
 
 /// What a line does that has a head, behind its sequence symbol.
 #[tactic(auto, using(crate::proofs::Heads::statement_ok, crate::proofs::Heads::call_ok))]
-fn headed_statement(
+fn headed_statement<'a>(
     alloc: Global,
     at: Standing<'_>,
-    text: &[u8],
+    text: &'a [u8],
     head: &Head,
-) -> Result<Deed, AllocError>
+) -> Result<Deed<'a>, AllocError>
     requires text { length text.now ≤ 255 }
     requires head { HasFields head.now text.now }
     ensures { IfOk result (λ d. IsStatement (where_ at.entry) text.now (three_fields text.now) (deed d)) }
@@ -720,13 +721,13 @@ fn headed_statement(
 
 /// What a line does that has a head.
 #[tactic(auto, using(crate::proofs::Heads::after_cut, crate::proofs::Heads::behind_has))]
-fn headed(
+fn headed<'a>(
     alloc: Global,
     at: Standing<'_>,
     of: &SourceLine,
-    text: &[u8],
+    text: &'a [u8],
     head: &Head,
-) -> Result<Deed, AllocError>
+) -> Result<Deed<'a>, AllocError>
     requires fields { HaveFields of.now.text (line of.now).fields }
     requires head { HasHead head.now text.now }
     ensures { IfOk result (λ d. IsShort (where_ at.entry) (line of.now) (nat_lt 255 (length text.now)) text.now (deed d)) }
@@ -741,12 +742,12 @@ fn headed(
 }
 
 /// What a visited line does. The buffer takes its text, so that not each line takes memory anew.
-pub(crate) fn deed_of(
+pub(crate) fn deed_of<'a>(
     alloc: Global,
     at: Standing<'_>,
-    of: &SourceLine,
-    buffer: &mut Vec<u8>,
-) -> Result<Deed, AllocError>
+    of: &'a SourceLine,
+    buffer: &'a mut Vec<u8>,
+) -> Result<Deed<'a>, AllocError>
     requires { HaveFields of.now.text (line of.now).fields }
     ensures { IfOk result (λ d. IsDeed (where_ at.entry) (line of.now) (deed d)) }
 {
@@ -760,9 +761,8 @@ pub(crate) fn deed_of(
     let taken = std::mem::replace(buffer, Vec::new(alloc));
     match shown(alloc, at.values, of, taken)? {
         Some(text) => {
-            let found = written(alloc, at, of, text.as_slice())?;
             *buffer = text;
-            Ok(found)
+            written(alloc, at, of, buffer.as_slice())
         }
         None => Ok(Deed::Fails(MacroCause::NoSuchSymbol)),
     }
@@ -770,12 +770,12 @@ pub(crate) fn deed_of(
 
 /// What a line without `&` does.
 #[tactic(auto, using(crate::proofs::Plans::always))]
-fn known_deed(
+fn known_deed<'a>(
     alloc: Global,
     at: Standing<'_>,
-    of: &SourceLine,
-    said: &Known,
-) -> Result<Deed, AllocError>
+    of: &'a SourceLine,
+    said: &'a Known,
+) -> Result<Deed<'a>, AllocError>
     requires fields { HaveFields of.now.text (line of.now).fields }
     requires plain { IsPlain (line of.now) }
     requires known { FitsLine (line of.now) (known said.now) }
@@ -784,22 +784,19 @@ fn known_deed(
     match said {
         Known::Rests => Ok(Deed::Rests),
         Known::Leaves => Ok(Deed::Leaves),
-        Known::Goes(target) => {
-            let target = name(alloc, target.bytes())?;
-            Ok(Deed::Goes(target))
-        }
+        Known::Goes(target) => Ok(Deed::Goes(Word::lent(target.bytes()))),
         Known::Open => written(alloc, at, of, of.text.bytes()),
     }
 }
 
 /// What a line with its text in place does, of whose front something may be known.
-fn with_head(
+fn with_head<'a>(
     alloc: Global,
     at: Standing<'_>,
     of: &SourceLine,
-    text: &[u8],
+    text: &'a [u8],
     head: &Option<Head>,
-) -> Result<Deed, AllocError>
+) -> Result<Deed<'a>, AllocError>
     requires fields { HaveFields of.now.text (line of.now).fields }
     requires head { MayHaveHead head.now text.now }
     ensures { IfOk result (λ d. IsShort (where_ at.entry) (line of.now) (nat_lt 255 (length text.now)) text.now (deed d)) }
@@ -812,14 +809,14 @@ fn with_head(
 
 /// What a line with these parts does. The buffer takes its text, so that not each line takes memory anew.
 #[tactic(auto, using(crate::proofs::Heads::begins_so))]
-fn parted(
+fn parted<'a>(
     alloc: Global,
     at: Standing<'_>,
     of: &SourceLine,
     parts: &[Part],
     head: &Option<Head>,
-    buffer: &mut Vec<u8>,
-) -> Result<Deed, AllocError>
+    buffer: &'a mut Vec<u8>,
+) -> Result<Deed<'a>, AllocError>
     requires fields { HaveFields of.now.text (line of.now).fields }
     requires other { is_comment of.now.text ≡ false }
     requires parts { HasParts (line of.now) parts.now }
@@ -829,9 +826,8 @@ fn parted(
     let taken = std::mem::replace(buffer, Vec::new(alloc));
     match filled(at.values, parts, taken)? {
         Some(text) => {
-            let found = with_head(alloc, at, of, text.as_slice(), head)?;
             *buffer = text;
-            Ok(found)
+            with_head(alloc, at, of, buffer.as_slice(), head)
         }
         None => Ok(Deed::Fails(MacroCause::NoSuchSymbol)),
     }
@@ -839,13 +835,13 @@ fn parted(
 
 /// What a visited line does, of which something is known.
 #[tactic(auto, using(crate::proofs::Plans::comment_rests))]
-pub(crate) fn planned(
+pub(crate) fn planned<'a>(
     alloc: Global,
     at: Standing<'_>,
-    of: &SourceLine,
-    plan: &Plan,
-    buffer: &mut Vec<u8>,
-) -> Result<Deed, AllocError>
+    of: &'a SourceLine,
+    plan: &'a Plan,
+    buffer: &'a mut Vec<u8>,
+) -> Result<Deed<'a>, AllocError>
     requires fields { HaveFields of.now.text (line of.now).fields }
     requires plan { Fits (line of.now) plan.now }
     ensures { IfOk result (λ d. IsDeed (where_ at.entry) (line of.now) (deed d)) }

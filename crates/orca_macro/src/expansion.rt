@@ -176,15 +176,15 @@ fn plan_for<'a>(program: &'a Program, state: &State, of: &SourceLine) -> Option<
 }
 
 /// What a line does.
-fn deed_at(
+fn deed_at<'a>(
     alloc: Global,
     program: &Program,
     state: &State,
     root: u32,
-    of: &SourceLine,
-    plan: Option<&Plan>,
-    buffer: &mut Vec<u8>,
-) -> Result<Deed, AllocError>
+    of: &'a SourceLine,
+    plan: Option<&'a Plan>,
+    buffer: &'a mut Vec<u8>,
+) -> Result<Deed<'a>, AllocError>
     requires fields { HaveFields of.now.text (line of.now).fields }
     requires plan { IfSome plan (λ p. Fits (line of.now) p.now) }
     ensures { IfOk result (λ d. (before : List Visit) (v : Visit) → StandsIn before v state.now → root ≡ root_by v.caller v.root (line of.now).number
@@ -207,7 +207,7 @@ fn deed_at(
 }
 
 /// The line that a deed gives, behind others.
-fn give(alloc: Global, out: &mut Lines, of: &SourceLine, given: &Deed) -> Result<(), AllocError>
+fn give(alloc: Global, out: &mut Lines, of: &SourceLine, given: &Deed<'_>) -> Result<(), AllocError>
     requires { length out.old + 1 < 2 ^ 32 }
     ensures lines { OnOk result (out.new ≡ out.old ++ given_by (line of.now) (deed given.now)) }
     ensures few { OnOk result (length out.new ≤ length out.old + 1) }

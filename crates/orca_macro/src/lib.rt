@@ -19,6 +19,7 @@ mod substitution;
 mod symbols;
 mod template;
 mod visits;
+mod word;
 
 pub use expansion::expand;
 pub use macro_meaning::{MacroCause, MacroFault};

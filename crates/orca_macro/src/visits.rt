@@ -243,12 +243,12 @@ pub(crate) fn step(
     program: &Program,
     state: &mut State,
     root: u32,
-    of: Deed,
+    of: Deed<'_>,
 ) -> Result<Outcome, AllocError>
     requires line { state.old.scope.line + 1 < 2 ^ 32 }
     requires calls { state.old.calls + 1 < 2 ^ 32 }
     ensures moves { IfOk result (λ outcome. (before : List Visit) (v : Visit) (line : meaning.Line) → StandsIn before v state.old → root ≡ root_by v.caller v.root line.number
-        → MovesIn (move_of program.now before v line (deed of)) (before ++ v ∷ []) line outcome state.new) }
+        → MovesIn (move_of program.now before v line (deed of.entry)) (before ++ v ∷ []) line outcome state.new) }
     ensures calls { IfOk result (λ outcome. state.new.calls ≤ state.old.calls + 1) }
 {
     match of {
