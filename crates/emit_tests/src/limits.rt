@@ -9,7 +9,7 @@ use std::alloc::{AllocError, Global};
 /// A segment of one byte of a number, and one behind it in the same load segment, of which each has two bytes of its header changed; the
 /// cause with which they are refused, and the place. An ORG of the second; a BANKSIZE of 1; both; a dictionary behind the first segment;
 /// a jump table; a RESSPC that LENGTH doesn't count, and that before an ORG, and in the first segment before the type of the second.
-static PAIRS: [([(usize, u8); 2], [(usize, u8); 2], LinkCause, u32, u32); 8] = [
+const PAIRS: [([(usize, u8); 2], [(usize, u8); 2], LinkCause, u32, u32); 8] = [
     (
         [SAME, SAME],
         [(0x18, 1), SAME],
@@ -84,10 +84,13 @@ fn pair_of(
 #[test]
 fn headers_are_refused_in_order(rt: HostRuntime) {
     let alloc = rt.alloc();
-    for (first, second, cause, segment, place) in &PAIRS {
-        let told = fault_of(linked(alloc, pair_of(alloc, first, second)));
-        let want = Some(fault(alloc, *cause, b"", *segment, *place));
-        assert_eq!(rt; told, want, "{first:?} {second:?}");
+    for (first, second, cause, segment, place) in PAIRS {
+        let told = fault_of(linked(alloc, pair_of(alloc, &first, &second)));
+        assert_eq!(rt;
+            told,
+            Some(fault(alloc, cause, b"", segment, place)),
+            "{first:?} {second:?}"
+        );
     }
 }
 
