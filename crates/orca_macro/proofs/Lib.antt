@@ -1,3 +1,4 @@
+pub mod CountName
 pub mod Maps
 pub mod Parted
 pub mod Fronts

@@ -183,11 +183,16 @@ fn bind_label(
 }
 
 /// The label, bound to the label parameter.
-fn label_bound(alloc: Global, parameter: &Option<Name>, label: &[u8]) -> Result<Symbols, AllocError>
+fn label_bound(
+    alloc: Global,
+    parameter: &Option<Name>,
+    label: &[u8],
+    spare: Symbols,
+) -> Result<Symbols, AllocError>
     requires { length label.now ≤ 255 }
     ensures { IfOk result (λ s. symbols_of s ≡ label_bound parameter.now label.now) }
 {
-    let mut symbols = Symbols::new(alloc);
+    let mut symbols = spare.emptied();
     let Some(parameter) = parameter else {
         return Ok(symbols);
     };
@@ -210,20 +215,21 @@ fn arguments<'a>(alloc: Global, operand: &'a [u8]) -> Result<Vec<Piece<'a>>, All
     pieces(alloc, b',', operand)
 }
 
-/// The symbols with which an expansion begins, where the operands fit.
+/// The symbols with which an expansion begins, where the operands fit. They stand in the memory of the spare ones.
 #[tactic(auto, unfolding(macro_meaning::specs::Call::bound), using(crate::proofs::Binds::bound_none))]
 pub(crate) fn bound(
     alloc: Global,
     of: &ModelLine,
     label: &[u8],
     operand: &[u8],
+    spare: Symbols,
 ) -> Result<Option<Symbols>, AllocError>
     requires label { length label.now ≤ 255 }
     requires operand { length operand.now ≤ 255 }
     ensures { IfOk result (λ found. MatchOption found (bound (model of.now) label.now operand.now ≡ None)
         (λ s. bound (model of.now) label.now operand.now ≡ Some (symbols_of s))) }
 {
-    let mut symbols = label_bound(alloc, &of.label, label)?;
+    let mut symbols = label_bound(alloc, &of.label, label, spare)?;
     let operands = arguments(alloc, operand)?;
     if !bind_all(
         alloc,

@@ -553,6 +553,7 @@ fn called<'a>(
     found: &Definition,
     label: &[u8],
     operand: &[u8],
+    spare: &mut Symbols,
 ) -> Result<Deed<'a>, AllocError>
     requires text { length text.now ≤ 255 }
     requires label { length label.now ≤ 255 }
@@ -565,7 +566,8 @@ fn called<'a>(
     if names_count(&found.model) {
         return Ok(Deed::Fails(MacroCause::BadSetting));
     }
-    match bound(alloc, &found.model, label, operand)? {
+    let taken = std::mem::replace(spare, Symbols::new(alloc));
+    match bound(alloc, &found.model, label, operand, taken)? {
         Some(symbols) => Ok(Deed::Calls(place, symbols)),
         None => Ok(Deed::Fails(MacroCause::BadArguments)),
     }
@@ -579,6 +581,7 @@ fn calling<'a>(
     operation: &[u8],
     label: &[u8],
     operand: &[u8],
+    spare: &mut Symbols,
 ) -> Result<Deed<'a>, AllocError>
     requires text { length text.now ≤ 255 }
     requires operation { length operation.now ≤ 255 }
@@ -588,13 +591,18 @@ fn calling<'a>(
         (first_named (folded operation.now) (where_ at.entry).definitions) label.now operand.now) }
 {
     match named(alloc, at.program, operation)? {
-        Some((place, found)) => called(alloc, at, text, place, found, label, operand),
+        Some((place, found)) => called(alloc, at, text, place, found, label, operand, spare),
         None => Ok(Deed::Gives(Word::lent(text))),
     }
 }
 
 /// A line with the texts in place, behind its sequence symbol, that isn't a comment.
-fn statement<'a>(alloc: Global, at: Standing<'_>, text: &'a [u8]) -> Result<Deed<'a>, AllocError>
+fn statement<'a>(
+    alloc: Global,
+    at: Standing<'_>,
+    text: &'a [u8],
+    spare: &mut Symbols,
+) -> Result<Deed<'a>, AllocError>
     requires { length text.now ≤ 255 }
     ensures { IfOk result (λ d. IsStatement (where_ at.entry) text.now (three_fields text.now) (deed d)) }
 {
@@ -607,7 +615,7 @@ fn statement<'a>(alloc: Global, at: Standing<'_>, text: &'a [u8]) -> Result<Deed
     }
     match statement_of(operation) {
         Some(found) => done(alloc, at.values, found, text, label, operand),
-        None => calling(alloc, at, text, operation, label, operand),
+        None => calling(alloc, at, text, operation, label, operand, spare),
     }
 }
 
@@ -653,6 +661,7 @@ fn written<'a>(
     at: Standing<'_>,
     of: &SourceLine,
     text: &'a [u8],
+    spare: &mut Symbols,
 ) -> Result<Deed<'a>, AllocError>
     requires { HaveFields of.now.text (line of.now).fields }
     ensures { IfOk result (λ d. IsShort (where_ at.entry) (line of.now) (nat_lt 255 (length text.now)) text.now (deed d)) }
@@ -667,7 +676,7 @@ fn written<'a>(
     if is_comment(rest) {
         return Ok(Deed::Rests);
     }
-    statement(alloc, at, rest)
+    statement(alloc, at, rest, spare)
 }
 
 /// A call of the macro that a head names, or a line that is given.
@@ -676,6 +685,7 @@ fn headed_call<'a>(
     at: Standing<'_>,
     text: &'a [u8],
     head: &Head,
+    spare: &mut Symbols,
 ) -> Result<Deed<'a>, AllocError>
     requires text { length text.now ≤ 255 }
     requires head { HasFields head.now text.now }
@@ -685,7 +695,16 @@ fn headed_call<'a>(
     match at.program.named(head.operation.bytes()) {
         Some((place, found)) => {
             let operand = operand_behind(text, head.end);
-            called(alloc, at, text, place, found, head.label_in(text), operand)
+            called(
+                alloc,
+                at,
+                text,
+                place,
+                found,
+                head.label_in(text),
+                operand,
+                spare,
+            )
         }
         None => Ok(Deed::Gives(Word::lent(text))),
     }
@@ -698,6 +717,7 @@ fn headed_statement<'a>(
     at: Standing<'_>,
     text: &'a [u8],
     head: &Head,
+    spare: &mut Symbols,
 ) -> Result<Deed<'a>, AllocError>
     requires text { length text.now ≤ 255 }
     requires head { HasFields head.now text.now }
@@ -715,7 +735,7 @@ fn headed_statement<'a>(
                 operand,
             )
         }
-        None => headed_call(alloc, at, text, head),
+        None => headed_call(alloc, at, text, head, spare),
     }
 }
 
@@ -727,6 +747,7 @@ fn headed<'a>(
     of: &SourceLine,
     text: &'a [u8],
     head: &Head,
+    spare: &mut Symbols,
 ) -> Result<Deed<'a>, AllocError>
     requires fields { HaveFields of.now.text (line of.now).fields }
     requires head { HasHead head.now text.now }
@@ -738,7 +759,7 @@ fn headed<'a>(
     if begins_definition(at, of) {
         return Ok(Deed::Rests);
     }
-    headed_statement(alloc, at, head.behind_sequence(text), head)
+    headed_statement(alloc, at, head.behind_sequence(text), head, spare)
 }
 
 /// What a visited line does. The buffer takes its text, so that not each line takes memory anew.
@@ -747,6 +768,7 @@ pub(crate) fn deed_of<'a>(
     at: Standing<'_>,
     of: &'a SourceLine,
     buffer: &'a mut Vec<u8>,
+    spare: &mut Symbols,
 ) -> Result<Deed<'a>, AllocError>
     requires { HaveFields of.now.text (line of.now).fields }
     ensures { IfOk result (λ d. IsDeed (where_ at.entry) (line of.now) (deed d)) }
@@ -756,13 +778,13 @@ pub(crate) fn deed_of<'a>(
         return Ok(Deed::Rests);
     }
     if is_plain(text) {
-        return written(alloc, at, of, text);
+        return written(alloc, at, of, text, spare);
     }
     let taken = std::mem::replace(buffer, Vec::new(alloc));
     match shown(alloc, at.values, of, taken)? {
         Some(text) => {
             *buffer = text;
-            written(alloc, at, of, buffer.as_slice())
+            written(alloc, at, of, buffer.as_slice(), spare)
         }
         None => Ok(Deed::Fails(MacroCause::NoSuchSymbol)),
     }
@@ -775,6 +797,7 @@ fn known_deed<'a>(
     at: Standing<'_>,
     of: &'a SourceLine,
     said: &'a Known,
+    spare: &mut Symbols,
 ) -> Result<Deed<'a>, AllocError>
     requires fields { HaveFields of.now.text (line of.now).fields }
     requires plain { IsPlain (line of.now) }
@@ -785,7 +808,7 @@ fn known_deed<'a>(
         Known::Rests => Ok(Deed::Rests),
         Known::Leaves => Ok(Deed::Leaves),
         Known::Goes(target) => Ok(Deed::Goes(Word::lent(target.bytes()))),
-        Known::Open => written(alloc, at, of, of.text.bytes()),
+        Known::Open => written(alloc, at, of, of.text.bytes(), spare),
     }
 }
 
@@ -796,14 +819,15 @@ fn with_head<'a>(
     of: &SourceLine,
     text: &'a [u8],
     head: &Option<Head>,
+    spare: &mut Symbols,
 ) -> Result<Deed<'a>, AllocError>
     requires fields { HaveFields of.now.text (line of.now).fields }
     requires head { MayHaveHead head.now text.now }
     ensures { IfOk result (λ d. IsShort (where_ at.entry) (line of.now) (nat_lt 255 (length text.now)) text.now (deed d)) }
 {
     match head {
-        Some(head) => headed(alloc, at, of, text, head),
-        None => written(alloc, at, of, text),
+        Some(head) => headed(alloc, at, of, text, head, spare),
+        None => written(alloc, at, of, text, spare),
     }
 }
 
@@ -816,6 +840,7 @@ fn parted<'a>(
     parts: &[Part],
     head: &Option<Head>,
     buffer: &'a mut Vec<u8>,
+    spare: &mut Symbols,
 ) -> Result<Deed<'a>, AllocError>
     requires fields { HaveFields of.now.text (line of.now).fields }
     requires other { is_comment of.now.text ≡ false }
@@ -827,7 +852,7 @@ fn parted<'a>(
     match filled(at.values, parts, taken)? {
         Some(text) => {
             *buffer = text;
-            with_head(alloc, at, of, buffer.as_slice(), head)
+            with_head(alloc, at, of, buffer.as_slice(), head, spare)
         }
         None => Ok(Deed::Fails(MacroCause::NoSuchSymbol)),
     }
@@ -841,6 +866,7 @@ pub(crate) fn planned<'a>(
     of: &'a SourceLine,
     plan: &'a Plan,
     buffer: &'a mut Vec<u8>,
+    spare: &mut Symbols,
 ) -> Result<Deed<'a>, AllocError>
     requires fields { HaveFields of.now.text (line of.now).fields }
     requires plan { Fits (line of.now) plan.now }
@@ -848,7 +874,7 @@ pub(crate) fn planned<'a>(
 {
     match plan {
         Plan::Comment => Ok(Deed::Rests),
-        Plan::Plain(said) => known_deed(alloc, at, of, said),
-        Plan::Parts(parts, head) => parted(alloc, at, of, parts.as_slice(), head, buffer),
+        Plan::Plain(said) => known_deed(alloc, at, of, said, spare),
+        Plan::Parts(parts, head) => parted(alloc, at, of, parts.as_slice(), head, buffer, spare),
     }
 }

@@ -145,10 +145,11 @@ pub(crate) struct Values<'a> {
 }
 
 /// Whether a name is SYSCNT.
+#[tactic(auto, using(crate::proofs::CountName::other_length))]
 pub(crate) fn is_count(name: &[u8]) -> bool
     ensures { result ≡ is_count name.now }
 {
-    b"SYSCNT".as_slice() == name
+    name.len() == 6 && b"SYSCNT".as_slice() == name
 }
 
 impl Symbols {
@@ -159,6 +160,15 @@ impl Symbols {
         Symbols {
             map: IndexMap::new(alloc),
         }
+    }
+
+    /// None, in the memory of these.
+    pub(crate) fn emptied(self) -> Symbols
+        ensures { symbols_of result ≡ no_symbols }
+    {
+        let mut symbols = self;
+        symbols.map.clear();
+        symbols
     }
 
     /// What a name stands for.

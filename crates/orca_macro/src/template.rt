@@ -194,7 +194,9 @@ pub(crate) fn filled(
         let Some(text) = part_text(of, first) else {
             return Ok(None);
         };
-        out.extend_from_slice(text)?;
+        if !text.is_empty() {
+            out.extend_from_slice(text)?;
+        }
         left = behind;
     }
     Ok(Some(out))
