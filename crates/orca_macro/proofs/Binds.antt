@@ -1,6 +1,6 @@
 -- Operands that are bound one behind another.
-use Rattle.std.proofs.Common.{◌≡◌, ◌≤◌, ◌+◌, ℕ, Bool, true, false, cond, List, [], ◌∷◌, length, length-drop, take, drop, Option, Some, None, refl, sym, ap, ◌∙◌, arith}
-use Rattle.std.specs.Prelude.{slice_get, bytes_eq}
+use Rattle.std.proofs.Common.{◌≡◌, ◌≤◌, ◌+◌, ℕ, Bool, true, false, cond, List, [], ◌∷◌, length, length-drop, take, drop, Option, Some, None, refl, sym, ap, subst, ◌∙◌, arith}
+use Rattle.std.specs.Prelude.{slice_get, bytes_eq, is_none}
 use Rattle.std.specs.Cmp.Lexicographic.{bytes_decides}
 use Rattle.macro_meaning.specs.declared.statements.Kind.TheVariants.{Text}
 use Rattle.macro_meaning.specs.Symbol.{Symbol, Own, Symbols, with_name}
@@ -9,13 +9,15 @@ use Rattle.std.specs.List.{prefix_len}
 use Rattle.orca_meaning.specs.Characters.{is_name_start, is_name_byte, folded}
 use Rattle.orca_meaning.specs.Token.{name_at}
 use Rattle.macro_meaning.specs.Definition.{listed, Model}
+use Rattle.orca_macro.specs.Calling.{IsOnce}
 use Rattle.orca_macro.proofs.Parted.{drop_next, drop_all}
 
-pub once : (name text : List ℕ) (old new : Symbols) → old name ≡ None → new ≡ with_name name (Own Text text) old → bound_once name text old ≡ Some new
-once name text old new none is = rw none (ap (λ (s : Symbols). Some s) (sym is))
-
-pub twice : (name text : List ℕ) (old : Symbols) (s : Symbol) → old name ≡ Some s → bound_once name text old ≡ None
-twice name text old s is = rw is refl
+pub once : (fresh : Bool) (name text : List ℕ) (old new : Symbols) → new ≡ with_name name (Own Text text) old → fresh ≡ is_none (old name) → IsOnce fresh name text old new
+once fresh name text old new is test = subst (λ (b : Bool). IsOnce b name text old new) (sym test) (by_old (old name) refl)
+  where
+    by_old : (o : Option Symbol) → old name ≡ o → IsOnce (is_none o) name text old new
+    by_old None none = rw none (ap (λ (s : Symbols). Some s) (sym is))
+    by_old (Some s) some = rw some refl
 
 -- what follows on one operand
 after_bound : List (List ℕ) → ℕ → List (List ℕ) → Option Symbols → Option Symbols

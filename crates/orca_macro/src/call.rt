@@ -97,7 +97,7 @@ fn binding<'a>(
 }
 
 /// Binds a parameter once: whether it wasn't bound before.
-#[tactic(auto, using(crate::proofs::Binds::once, crate::proofs::Binds::twice))]
+#[tactic(auto, using(crate::proofs::Binds::once))]
 fn bind_once(
     alloc: Global,
     symbols: &mut Symbols,
@@ -107,12 +107,8 @@ fn bind_once(
     requires { length text.now ≤ 255 }
     ensures { IfOk result (λ fresh. IsOnce fresh parameter.now text.now (symbols_of symbols.old) (symbols_of symbols.new)) }
 {
-    if let Some(_) = symbols.get(parameter) {
-        return Ok(false);
-    }
     let text = name(alloc, text)?;
-    symbols.add(alloc, parameter, Symbol::Own(Kind::Text, text))?;
-    Ok(true)
+    symbols.add_new(alloc, parameter, Symbol::Own(Kind::Text, text))
 }
 
 /// Binds all operands in order: whether each can be bound.
