@@ -1,6 +1,6 @@
 //! Maps by name.
 
-ghost use Rattle.std.specs.Prelude.{◌≡◌, ℕ, List, Some, bytes_eq, OnOk, MatchOption, if◌then◌else◌, None, option_copied};
+ghost use Rattle.std.specs.Prelude.{◌≡◌, ℕ, List, Some, bytes_eq, is_none, IfOk, OnOk, MatchOption, if◌then◌else◌, None, option_copied};
 ghost use Rattle.orca_macro.specs.Held.{held};
 
 use indexmap::IndexMap;
@@ -21,19 +21,20 @@ fn renew<V: Drop>(map: &mut IndexMap<Vec<u8>, V>, name: &[u8], value: V) -> Opti
     }
 }
 
-/// Gives a name a value, whether it has one or not.
+/// Gives a name a value, whether it has one or not: whether it had none.
 #[tactic(auto, using(crate::proofs::Maps::updated))]
 pub(crate) fn insert<V: Drop>(
     alloc: Global,
     map: &mut IndexMap<Vec<u8>, V>,
     name: &[u8],
     value: V,
-) -> Result<(), AllocError>
+) -> Result<bool, AllocError>
     ensures ok { OnOk result ((q : List ℕ) → held map.new q ≡ (if bytes_eq name.now q then Some value else held map.old q)) }
+    ensures fresh { IfOk result (λ fresh. fresh ≡ is_none (held map.old name.now)) }
 {
     let key = Vec::from_slice(alloc, name)?;
     match map.insert(key, value) {
-        Ok(_) => Ok(()),
+        Ok(old) => Ok(old.is_none()),
         Err(_) => Err(AllocError),
     }
 }
@@ -49,7 +50,10 @@ pub(crate) fn put<V: Drop>(
 {
     match renew(map, name, value) {
         None => Ok(()),
-        Some(back) => insert(alloc, map, name, back),
+        Some(back) => {
+            insert(alloc, map, name, back)?;
+            Ok(())
+        }
     }
 }
 

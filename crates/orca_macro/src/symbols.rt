@@ -1,6 +1,6 @@
 //! Symbols, and the texts for which they stand (ORCA/M reference manual, "Symbolic parameters").
 
-ghost use Rattle.std.specs.Prelude.{◌≡◌, ◌+◌, ◌<◌, ◌≤◌, ◌^◌, [], List, ℕ, length, bytes_eq, Some, None, IfOk, IfSome, OnOk, MatchOption, IsTrue, if◌then◌else◌, option_map};
+ghost use Rattle.std.specs.Prelude.{◌≡◌, ◌+◌, ◌<◌, ◌≤◌, ◌^◌, [], List, ℕ, length, bytes_eq, Some, None, IfOk, IfSome, OnOk, MatchOption, is_none, IsTrue, if◌then◌else◌, option_map};
 ghost use Rattle.macro_meaning.specs.Symbol.{text_of, decimal, signed_decimal, kind_of, declaration_of, is_kind, is_declaration, first_text, is_count, with_name};
 ghost use Rattle.macro_meaning.specs.Call.{no_symbols};
 ghost use Rattle.macro_meaning.specs.Visit.{no_texts};
@@ -187,8 +187,22 @@ impl Symbols {
     ) -> Result<(), AllocError>
         ensures { OnOk result (symbols_of self.new ≡ with_name name.now (symbol value) (symbols_of self.old)) }
     {
+        self.add_new(alloc, name, value)?;
+        Ok(())
+    }
+
+    /// The same: whether the name had no symbol yet.
+    pub(crate) fn add_new(
+        &mut self,
+        alloc: Global,
+        name: &[u8],
+        value: Symbol,
+    ) -> Result<bool, AllocError>
+        ensures ok { OnOk result (symbols_of self.new ≡ with_name name.now (symbol value) (symbols_of self.old)) }
+        ensures fresh { IfOk result (λ fresh. fresh ≡ is_none (symbols_of self.old name.now)) }
+    {
         match insert(alloc, &mut self.map, name, value) {
-            Ok(()) => Ok(()),
+            Ok(fresh) => Ok(fresh),
             Err(_) => Err(AllocError),
         }
     }
