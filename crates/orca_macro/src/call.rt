@@ -12,7 +12,8 @@ ghost use Rattle.orca_macro.specs.View.{symbols_of};
 
 use crate::model_line::ModelLine;
 use crate::pieces::{Piece, piece_at, pieces};
-use crate::symbols::{Symbol, Symbols, is_count, name};
+use crate::symbols::{Symbol, Symbols, is_count};
+use crate::text::Text;
 use macro_meaning::Kind;
 use omf_base::Name;
 use orca_text::{behind_byte, name_at};
@@ -110,7 +111,7 @@ fn bind_once(
     if let Some(_) = symbols.get(parameter) {
         return Ok(false);
     }
-    let text = name(alloc, text)?;
+    let text = Text::of(alloc, text)?;
     symbols.add(alloc, parameter, Symbol::Own(Kind::Text, text))?;
     Ok(true)
 }
@@ -150,7 +151,7 @@ fn bind_missing(alloc: Global, parameter: &Name, symbols: &mut Symbols) -> Resul
     if let Some(_) = symbols.get(parameter.bytes()) {
         return Ok(());
     }
-    let text = name(alloc, b"")?;
+    let text = Text::of(alloc, b"")?;
     symbols.add(alloc, parameter.bytes(), Symbol::Own(Kind::Text, text))
 }
 
@@ -194,7 +195,7 @@ fn label_bound(alloc: Global, parameter: &Option<Name>, label: &[u8]) -> Result<
     if label.is_empty() {
         return Ok(symbols);
     }
-    let text = name(alloc, label)?;
+    let text = Text::of(alloc, label)?;
     symbols.add(alloc, parameter.bytes(), Symbol::Own(Kind::Text, text))?;
     Ok(symbols)
 }

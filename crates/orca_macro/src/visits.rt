@@ -15,8 +15,8 @@ use crate::deed::Deed;
 use crate::frames::{Frames, Scope, State};
 use crate::program::Program;
 use crate::symbols::{Calls, SharedText, Symbol, Symbols, Texts, first_text};
+use crate::text::Text;
 use macro_meaning::{Declaration, Kind, MacroCause};
-use omf_base::Name;
 use orca_text::SourceLine;
 use std::alloc::{AllocError, Global};
 
@@ -76,7 +76,7 @@ fn assign(
     texts: &mut Texts,
     name: &[u8],
     kind: Kind,
-    text: Name,
+    text: Text,
 ) -> Result<(), AllocError>
     ensures { OnOk result (IsAssigned name.now kind text (symbols_of symbols.old name.now) (symbols_of symbols.old) (symbols_of symbols.new) (texts_of texts.old) (texts_of texts.new)) }
 {
@@ -219,7 +219,7 @@ fn assigned(
     state: &mut State,
     name: &[u8],
     kind: Kind,
-    text: Name,
+    text: Text,
 ) -> Result<Outcome, AllocError>
     requires { state.old.scope.line + 1 < 2 ^ 32 }
     ensures moves { IfOk result (λ outcome. (before : List Visit) (v : Visit) (line : meaning.Line) → StandsIn before v state.old
