@@ -4,6 +4,7 @@ ghost use Rattle.std.specs.Prelude.{◌≡◌, ◌+◌, ◌<◌, ◌≤◌, ◌^
 ghost use Rattle.macro_meaning.specs.Symbol.{text_of, decimal, signed_decimal, kind_of, declaration_of, is_kind, is_declaration, first_text, is_count, with_name};
 ghost use Rattle.macro_meaning.specs.Call.{no_symbols};
 ghost use Rattle.macro_meaning.specs.Visit.{no_texts};
+ghost use Rattle.orca_macro.specs.Changes.{IsRenewed, IsRenewedIn};
 ghost use Rattle.orca_macro.specs.Held.{held};
 ghost use Rattle.orca_macro.specs.View.{symbol, shared_text, symbols_of, texts_of, values};
 
@@ -139,6 +140,19 @@ pub(crate) fn is_count(name: &[u8]) -> bool
     b"SYSCNT".as_slice() == name
 }
 
+/// Gives a symbol of its own another text. The text of a shared one is handed back.
+fn renew(slot: &mut Symbol, kind: Kind, text: Text) -> Option<Text>
+    ensures { IsRenewed kind text (symbol slot.old) (symbol slot.new) result }
+{
+    match slot {
+        Symbol::Own(_, _) => {
+            *slot = Symbol::Own(kind, text);
+            None
+        }
+        Symbol::Common(_) => Some(text),
+    }
+}
+
 impl Symbols {
     /// None.
     pub(crate) fn new(alloc: Global) -> Symbols
@@ -171,18 +185,13 @@ impl Symbols {
         }
     }
 
-    /// Gives a name that mostly has a symbol another one.
-    pub(crate) fn set(
-        &mut self,
-        alloc: Global,
-        name: &[u8],
-        value: Symbol,
-    ) -> Result<(), AllocError>
-        ensures { OnOk result (symbols_of self.new ≡ with_name name.now (symbol value) (symbols_of self.old)) }
+    /// Gives a symbol of its own another text. The text of a shared one is handed back.
+    pub(crate) fn renew(&mut self, name: &[u8], kind: Kind, text: Text) -> Option<Text>
+        ensures { IsRenewedIn name.now kind text (symbols_of self.old name.now) (symbols_of self.old) (symbols_of self.new) result }
     {
-        match put(alloc, &mut self.map, name, value) {
-            Ok(()) => Ok(()),
-            Err(_) => Err(AllocError),
+        match self.map.get_mut(name) {
+            Some(slot) => renew(slot, kind, text),
+            None => None,
         }
     }
 }

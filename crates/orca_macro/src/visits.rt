@@ -70,6 +70,7 @@ fn declare(
 }
 
 /// Sets a symbol to a text.
+#[tactic(auto, using(crate::proofs::Renewals::assigned_own, crate::proofs::Renewals::assigned_common))]
 fn assign(
     alloc: Global,
     symbols: &mut Symbols,
@@ -80,9 +81,8 @@ fn assign(
 ) -> Result<(), AllocError>
     ensures { OnOk result (IsAssigned name.now kind text (symbols_of symbols.old name.now) (symbols_of symbols.old) (symbols_of symbols.new) (texts_of texts.old) (texts_of texts.new)) }
 {
-    match symbols.get(name) {
-        Some(Symbol::Own(_, _)) => symbols.set(alloc, name, Symbol::Own(kind, text)),
-        Some(Symbol::Common(_)) => texts.set(alloc, name, SharedText { kind, text }),
+    match symbols.renew(name, kind, text) {
+        Some(text) => texts.set(alloc, name, SharedText { kind, text }),
         None => Ok(()),
     }
 }
