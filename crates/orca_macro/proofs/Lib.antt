@@ -23,3 +23,4 @@ pub mod WholeName
 pub mod Templates
 pub mod Plans
 pub mod Heads
+pub mod Renewals

@@ -16,3 +16,4 @@ pub mod Template
 pub mod Plan
 pub mod Head
 pub mod Words
+pub mod Kept

@@ -14,7 +14,8 @@ ghost use Rattle.orca_macro.specs.View.{symbols_of};
 
 use crate::model_line::ModelLine;
 use crate::pieces::first_piece;
-use crate::symbols::{Symbol, Symbols, is_count, name};
+use crate::symbols::{Symbol, Symbols, is_count};
+use crate::text::Text;
 use macro_meaning::Kind;
 use omf_base::Name;
 use orca_text::{behind_byte, is_name_start, is_spelled, name_len};
@@ -116,7 +117,7 @@ fn bind_once(
     requires { length text.now ≤ 255 }
     ensures { IfOk result (λ fresh. IsOnce fresh parameter.now text.now (symbols_of symbols.old) (symbols_of symbols.new)) }
 {
-    let text = name(alloc, text)?;
+    let text = Text::of(alloc, text)?;
     symbols.add_new(alloc, parameter, Symbol::Own(Kind::Text, text))
 }
 
@@ -178,7 +179,7 @@ fn bind_missing(alloc: Global, parameter: &Name, symbols: &mut Symbols) -> Resul
     if let Some(_) = symbols.get(parameter.bytes()) {
         return Ok(());
     }
-    let text = name(alloc, b"")?;
+    let text = Text::of(alloc, b"")?;
     symbols.add(alloc, parameter.bytes(), Symbol::Own(Kind::Text, text))
 }
 
@@ -231,7 +232,7 @@ fn label_bound(
     if label.is_empty() {
         return Ok(symbols);
     }
-    let text = name(alloc, label)?;
+    let text = Text::of(alloc, label)?;
     symbols.add(alloc, parameter.bytes(), Symbol::Own(Kind::Text, text))?;
     Ok(symbols)
 }

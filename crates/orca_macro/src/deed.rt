@@ -28,13 +28,13 @@ use crate::plan::{Known, Plan};
 use crate::program::Program;
 use crate::substitution::{is_folded, is_plain, shown};
 use crate::symbols::{
-    Symbols, Texts, Values, declaration_of, is_count, is_declaration, is_kind, kind_of, name,
+    Symbols, Texts, Values, declaration_of, is_count, is_declaration, is_kind, kind_of,
     signed_decimal,
 };
 use crate::template::{Part, filled};
+use crate::text::Text;
 use crate::word::{Word, symbol_word, target_word};
 use macro_meaning::{Declaration, Kind, MacroCause, Statement};
-use omf_base::Name;
 use orca_text::{SourceLine, folded, is_comment, label_in, operand_behind, part, three_fields};
 use std::alloc::{AllocError, Global};
 
@@ -48,7 +48,7 @@ pub(crate) enum Deed<'a> {
     /// It declares a symbol.
     Declares(Word<'a>, Declaration),
     /// It sets a symbol to a text.
-    Sets(Word<'a>, Kind, Name),
+    Sets(Word<'a>, Kind, Text),
     /// It branches to a sequence symbol.
     Goes(Word<'a>),
     /// It sets the counter.
@@ -180,7 +180,7 @@ fn setting<'a>(
     of: Values<'_>,
     kind: Kind,
     label: &'a [u8],
-    text: Result<Name, MacroCause>,
+    text: Result<Text, MacroCause>,
 ) -> Result<Deed<'a>, AllocError>
     requires { length label.now ≤ 255 }
     ensures { IfOk result (λ d. deed d ≡ setting (values of.entry) kind label.now text) }
@@ -193,15 +193,15 @@ fn setting<'a>(
 }
 
 /// A number as SETA and SETB print it.
-fn printed(alloc: Global, kind: Kind, n: u32) -> Result<Name, AllocError>
+fn printed(alloc: Global, kind: Kind, n: u32) -> Result<Text, AllocError>
     ensures { IfOk result (λ v. v ≡ printed kind n) }
 {
     match kind {
         Kind::Flag => {
             if n == 0 {
-                return name(alloc, b"0");
+                return Text::of(alloc, b"0");
             }
-            name(alloc, b"1")
+            Text::of(alloc, b"1")
         }
         Kind::Number => signed_decimal(alloc, n.cast_signed()),
         Kind::Text => signed_decimal(alloc, n.cast_signed()),
@@ -213,7 +213,7 @@ fn printed_answer(
     alloc: Global,
     kind: Kind,
     answer: Result<u32, MacroCause>,
-) -> Result<Result<Name, MacroCause>, AllocError>
+) -> Result<Result<Text, MacroCause>, AllocError>
     ensures { IfOk result (λ v. v ≡ printed_answer kind answer) }
 {
     match answer {
@@ -268,13 +268,13 @@ fn set_number<'a>(
 
 /// Texts in quotes, joined.
 #[tactic(auto, using(crate::proofs::Texts::joined_fits))]
-fn joined_text(alloc: Global, operand: &[u8]) -> Result<Result<Name, MacroCause>, AllocError>
+fn joined_text(alloc: Global, operand: &[u8]) -> Result<Result<Text, MacroCause>, AllocError>
     requires { length operand.now ≤ 255 }
     ensures { IfOk result (λ text. text ≡ or_bad (joined (pieces 0x2B operand.now))) }
 {
     let found = pieces(alloc, b'+', operand)?;
     match joined(alloc, found.as_slice())? {
-        Some(text) => Ok(Ok(Name::from_vec(text))),
+        Some(text) => Ok(Ok(Text::from_vec(text))),
         None => Ok(Err(MacroCause::BadSetting)),
     }
 }
@@ -312,7 +312,7 @@ fn middle_from(
     text: &[u8],
     start: i32,
     count: i32,
-) -> Result<Result<Name, MacroCause>, AllocError>
+) -> Result<Result<Text, MacroCause>, AllocError>
     requires { length text.now ≤ 255 }
     ensures { IfOk result (λ found. found ≡ middle_from text.now start count) }
 {
@@ -323,7 +323,7 @@ fn middle_from(
         return Ok(Err(MacroCause::BadSetting));
     }
     let behind = behind_first(text, start.unsigned_abs() as usize - 1);
-    let found = name(alloc, front_of(behind, count.unsigned_abs() as usize))?;
+    let found = Text::of(alloc, front_of(behind, count.unsigned_abs() as usize))?;
     Ok(Ok(found))
 }
 

@@ -18,6 +18,7 @@ mod program;
 mod substitution;
 mod symbols;
 mod template;
+mod text;
 mod visits;
 mod word;
 

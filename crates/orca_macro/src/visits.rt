@@ -15,8 +15,8 @@ use crate::deed::Deed;
 use crate::frames::{Frames, Scope, State};
 use crate::program::Program;
 use crate::symbols::{Calls, SharedText, Symbol, Symbols, Texts, first_text};
+use crate::text::Text;
 use macro_meaning::{Declaration, Kind, MacroCause};
-use omf_base::Name;
 use orca_text::SourceLine;
 use std::alloc::{AllocError, Global};
 
@@ -70,19 +70,19 @@ fn declare(
 }
 
 /// Sets a symbol to a text.
+#[tactic(auto, using(crate::proofs::Renewals::assigned_own, crate::proofs::Renewals::assigned_common))]
 fn assign(
     alloc: Global,
     symbols: &mut Symbols,
     texts: &mut Texts,
     name: &[u8],
     kind: Kind,
-    text: Name,
+    text: Text,
 ) -> Result<(), AllocError>
     ensures { OnOk result (IsAssigned name.now kind text (symbols_of symbols.old name.now) (symbols_of symbols.old) (symbols_of symbols.new) (texts_of texts.old) (texts_of texts.new)) }
 {
-    match symbols.get(name) {
-        Some(Symbol::Own(_, _)) => symbols.set(alloc, name, Symbol::Own(kind, text)),
-        Some(Symbol::Common(_)) => texts.set(alloc, name, SharedText { kind, text }),
+    match symbols.renew(name, kind, text) {
+        Some(text) => texts.set(alloc, name, SharedText { kind, text }),
         None => Ok(()),
     }
 }
@@ -221,7 +221,7 @@ fn assigned(
     state: &mut State,
     name: &[u8],
     kind: Kind,
-    text: Name,
+    text: Text,
     spare: &mut Symbols,
 ) -> Result<Outcome, AllocError>
     requires { state.old.scope.line + 1 < 2 ^ 32 }
