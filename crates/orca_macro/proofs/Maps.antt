@@ -1,6 +1,6 @@
 -- What a map has for a name once it was changed.
-use Rattle.std.proofs.Common.{◌≡◌, ℕ, Bool, true, false, cond, List, Option, Some, None, refl, sym, ap, subst, ◌∙◌}
-use Rattle.std.specs.Prelude.{bytes_eq, is_some, is_none, not}
+use Rattle.std.proofs.Common.{◌≡◌, ℕ, Bool, true, false, cond, List, Option, Some, None, refl, sym, ap, subst, ◌∙◌, ◌+◌, drop}
+use Rattle.std.specs.Prelude.{bytes_eq, is_some, is_none, not, slice_get}
 use Rattle.std.specs.Global.{Vec}
 use Rattle.std.specs.Cmp.Lexicographic.{bytes_decides, nat_list_eq_equiv}
 use Rattle.std.specs.Map.{IsKeyTest, AreApart, KeepsOthers, lookup}
@@ -9,6 +9,7 @@ use Rattle.std.specs.Option.{option_map}
 use Rattle.std.proofs.Math.Path.{fun_ext}
 use Rattle.macro_meaning.specs.Symbol.{with_name}
 use Rattle.orca_macro.specs.Held.{held}
+use Rattle.orca_macro.proofs.Parted.{drop_next}
 
 apart : (bs cs ks : List ℕ) → bytes_eq bs cs ≡ false → bytes_eq bs ks ≡ true → bytes_eq cs ks ≡ false
 apart bs cs ks n y = nat_list_eq_equiv.symm cs ks ∙ sym (nat_list_eq_equiv.congr bs ks cs y) ∙ n
@@ -52,3 +53,11 @@ seen_new f (Some value) fresh is = is
 -- a map without entries
 pub empty_held : {V S : Type 0} (m : IndexMap (Vec ℕ) V S) → IsEmpty m → (q : List ℕ) → held m q ≡ None
 empty_held m none q = ap (λ es. lookup (λ k. bytes_eq q k.items) es) none
+
+-- a name that isn't that of this entry stands behind it, if anywhere
+pub passed : {V S : Type 0} (name : List ℕ) (m : IndexMap (Vec ℕ) V S) (at : ℕ) (key : Vec ℕ) (value : V) → Some (key, value) ≡ slice_get m.entries at → bytes_eq name key.items ≡ false
+    → lookup (λ k. bytes_eq name k.items) (drop at m.entries) ≡ held m name → lookup (λ k. bytes_eq name k.items) (drop (at + 1) m.entries) ≡ held m name
+passed {V = V} name m at key value is other so =
+    let asked : List (Vec ℕ × V) → Option V = lookup (λ k. bytes_eq name k.items) in
+    let rest = drop (at + 1) m.entries in
+    sym (ap asked (drop_next m.entries at (key, value) (sym is)) ∙ ap (λ (b : Bool). cond b (Some value) (asked rest)) other) ∙ so

@@ -57,9 +57,41 @@ pub(crate) fn put<V: Drop>(
     }
 }
 
+/// Up to how many names are looked through one by one.
+const FEW: usize = 8;
+
+/// Whether two names are the same. Most that differ do so in their first bytes.
+fn is_same(name: &[u8], other: &[u8]) -> bool
+    ensures { result ≡ bytes_eq name.now other.now }
+{
+    let Some((first, behind)) = name.split_first() else {
+        return other.is_empty();
+    };
+    let Some((second, rest)) = other.split_first() else {
+        return false;
+    };
+    *first == *second && behind == rest
+}
+
+/// The value of a name in a map that has few.
+fn look_through<'a, V>(map: &'a IndexMap<Vec<u8>, V>, name: &[u8]) -> Option<&'a V>
+    ensures { option_copied result ≡ held map.now name.now }
+{
+    'names: for at in 0..map.len() {
+        let (key, value) = map.get_index(at)?;
+        if is_same(name, key.as_slice()) {
+            return Some(value);
+        }
+    }
+    None
+}
+
 /// The value of a name.
 pub(crate) fn look<'a, V>(map: &'a IndexMap<Vec<u8>, V>, name: &[u8]) -> Option<&'a V>
     ensures { option_copied result ≡ held map.now name.now }
 {
+    if map.len() <= FEW {
+        return look_through(map, name);
+    }
     map.get(name)
 }
