@@ -145,6 +145,11 @@ fill_next text_of parts left behind first text old new is text_is push so =
     ap (λ (n : List ℕ). with_front n (followed text_of behind (Some []))) push ∙ front_more old text (followed text_of behind (Some []))
     ∙ ap (λ (o : Option (List ℕ)). with_front old (join o (followed text_of behind (Some [])))) (sym text_is) ∙ ap (λ (l : List Part). with_front old (followed text_of l (Some []))) (sym is) ∙ so
 
+pub fill_empty : (text_of : List ℕ → Option (List ℕ)) (parts left behind : List Part) (first : Part) (text out : List ℕ) → left ≡ first ∷ behind → part_text text_of first ≡ Some text → text ≡ []
+    → with_front out (followed text_of left (Some [])) ≡ followed text_of parts (Some []) → with_front out (followed text_of behind (Some [])) ≡ followed text_of parts (Some [])
+fill_empty text_of parts left behind first text out is text_is empty =
+    fill_next text_of parts left behind first text out out is text_is (sym (ap (λ (t : List ℕ). out ++ t) empty ∙ append-nil out))
+
 pub fill_none : (text_of : List ℕ → Option (List ℕ)) (parts left behind : List Part) (first : Part) (old : List ℕ) → left ≡ first ∷ behind → part_text text_of first ≡ None
     → with_front old (followed text_of left (Some [])) ≡ followed text_of parts (Some []) → followed text_of parts (Some []) ≡ None
 fill_none text_of parts left behind first old is none so =

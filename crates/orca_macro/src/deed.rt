@@ -31,7 +31,7 @@ use crate::symbols::{
     Symbols, Texts, Values, declaration_of, is_count, is_declaration, is_kind, kind_of,
     signed_decimal,
 };
-use crate::template::{Part, filled};
+use crate::template::{Part, fill};
 use crate::text::Text;
 use crate::word::{Word, symbol_word, target_word};
 use macro_meaning::{Declaration, Kind, MacroCause, Statement};
@@ -848,14 +848,10 @@ fn parted<'a>(
     requires head { BeginsSo parts.now head.now }
     ensures { IfOk result (λ d. IsDeed (where_ at.entry) (line of.now) (deed d)) }
 {
-    let taken = std::mem::replace(buffer, Vec::new(alloc));
-    match filled(at.values, parts, taken)? {
-        Some(text) => {
-            *buffer = text;
-            with_head(alloc, at, of, buffer.as_slice(), head, spare)
-        }
-        None => Ok(Deed::Fails(MacroCause::NoSuchSymbol)),
+    if !fill(at.values, parts, buffer)? {
+        return Ok(Deed::Fails(MacroCause::NoSuchSymbol));
     }
+    with_head(alloc, at, of, buffer.as_slice(), head, spare)
 }
 
 /// What a visited line does, of which something is known.

@@ -86,6 +86,14 @@ fn look_through<'a, V>(map: &'a IndexMap<Vec<u8>, V>, name: &[u8]) -> Option<&'a
     None
 }
 
+/// The value of a name in a map that has many.
+#[inline(never)]
+fn look_up<'a, V>(map: &'a IndexMap<Vec<u8>, V>, name: &[u8]) -> Option<&'a V>
+    ensures { option_copied result ≡ held map.now name.now }
+{
+    map.get(name)
+}
+
 /// The value of a name.
 pub(crate) fn look<'a, V>(map: &'a IndexMap<Vec<u8>, V>, name: &[u8]) -> Option<&'a V>
     ensures { option_copied result ≡ held map.now name.now }
@@ -93,5 +101,5 @@ pub(crate) fn look<'a, V>(map: &'a IndexMap<Vec<u8>, V>, name: &[u8]) -> Option<
     if map.len() <= FEW {
         return look_through(map, name);
     }
-    map.get(name)
+    look_up(map, name)
 }

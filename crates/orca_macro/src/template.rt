@@ -1,6 +1,6 @@
 //! Lines that are parted once into what is copied and the symbols whose texts come between (ORCA/M reference manual, "Symbolic parameters").
 
-ghost use Rattle.std.specs.Prelude.{◌≡◌, ◌≤◌, ◌+◌, [], List, ℕ, length, take, Option, Some, None, IfOk, IfSome, OnOk, MatchOption};
+ghost use Rattle.std.specs.Prelude.{◌≡◌, ◌≤◌, ◌+◌, [], List, ℕ, length, take, Option, Some, None, IsTrue, false, IfOk, IfSome, OnOk, MatchOption};
 ghost use Rattle.macro_meaning.specs.Substitution.{in_place, with_front, name_length};
 ghost use Rattle.macro_meaning.specs.Symbol.{text_of};
 ghost use Rattle.orca_meaning.specs.Characters as characters;
@@ -177,27 +177,22 @@ fn part_text<'a>(of: Values<'a>, part: &'a Part) -> Option<&'a [u8]>
     }
 }
 
-/// What comes of parts; none where a symbol isn't declared. It stands in the buffer, whose own bytes are gone.
-#[tactic(auto, using(crate::proofs::Templates::fill_start, crate::proofs::Templates::fill_next, crate::proofs::Templates::fill_none, crate::proofs::Templates::fill_end))]
-pub(crate) fn filled(
-    of: Values<'_>,
-    parts: &[Part],
-    buffer: Vec<u8>,
-) -> Result<Option<Vec<u8>>, AllocError>
-    ensures { IfOk result (λ found. MatchOption found (followed (text_of (values of.entry)) parts.now (Some []) ≡ None)
-        (λ v. followed (text_of (values of.entry)) parts.now (Some []) ≡ Some v.items)) }
+/// Puts what comes of parts into a buffer, whose own bytes are gone: whether all their symbols are declared.
+#[tactic(auto, using(crate::proofs::Templates::fill_start, crate::proofs::Templates::fill_next, crate::proofs::Templates::fill_empty, crate::proofs::Templates::fill_none, crate::proofs::Templates::fill_end))]
+pub(crate) fn fill(of: Values<'_>, parts: &[Part], out: &mut Vec<u8>) -> Result<bool, AllocError>
+    ensures text { IfOk result (λ found. IsTrue found → followed (text_of (values of.entry)) parts.now (Some []) ≡ Some out.new.items) }
+    ensures missing { IfOk result (λ found. found ≡ false → followed (text_of (values of.entry)) parts.now (Some []) ≡ None) }
 {
-    let mut out = buffer;
     out.clear();
     let mut left = parts;
     'parts: while let Some((first, behind)) = left.split_first() {
         let Some(text) = part_text(of, first) else {
-            return Ok(None);
+            return Ok(false);
         };
         if !text.is_empty() {
             out.extend_from_slice(text)?;
         }
         left = behind;
     }
-    Ok(Some(out))
+    Ok(true)
 }
