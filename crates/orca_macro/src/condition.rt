@@ -169,6 +169,7 @@ fn joined_numbers(operator: Operator, a: u32, b: u32) -> Option<u32>
 
 /// The value of a text that is a number, or two or three with operators between them. None says nothing.
 #[tactic(auto, using(crate::proofs::Shorts::one_number, crate::proofs::Shorts::two_numbers, crate::proofs::Shorts::three_numbers))]
+#[inline(always)]
 fn short_value(text: &[u8]) -> Option<u32>
     ensures { IfSome result (λ n. HasNumber text.now n) }
 {
@@ -184,6 +185,7 @@ fn short_value(text: &[u8]) -> Option<u32>
 }
 
 /// The value of the formula that a text of at most 255 bytes is, or what is wrong with it.
+#[inline(always)]
 pub(crate) fn number(
     alloc: Global,
     of: Values<'_>,
@@ -269,6 +271,7 @@ fn comparison(text: &[u8]) -> Option<bool>
 }
 
 /// The value of a condition of at most 255 bytes: a comparison of two texts, or a formula.
+#[inline(always)]
 pub(crate) fn condition(
     alloc: Global,
     of: Values<'_>,

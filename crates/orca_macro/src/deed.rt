@@ -83,6 +83,7 @@ fn earlier(cause: MacroCause, other: MacroCause) -> MacroCause
 }
 
 /// Two answers, or the earlier of their faults.
+#[inline(always)]
 fn both<A: Drop, B: Drop>(
     a: Result<A, MacroCause>,
     b: Result<B, MacroCause>,
@@ -153,6 +154,7 @@ fn declaring<'a>(of: Values<'_>, declaration: Declaration, named: Option<Word<'a
 
 /// The symbol of this kind that a label names.
 #[tactic(auto, unfolding(macro_meaning::specs::Deed::settable))]
+#[inline(always)]
 fn settable<'a>(of: Values<'_>, kind: Kind, named: Option<Word<'a>>) -> Result<Word<'a>, MacroCause>
     ensures { result ≡ settable (values of.entry) kind named.entry }
 {
@@ -175,6 +177,7 @@ fn settable<'a>(of: Values<'_>, kind: Kind, named: Option<Word<'a>>) -> Result<W
 
 /// The symbol in the label is set to a text.
 #[tactic(auto, unfolding(macro_meaning::specs::Deed::setting))]
+#[inline(always)]
 fn setting<'a>(
     alloc: Global,
     of: Values<'_>,
@@ -248,6 +251,7 @@ fn set<'a>(
 }
 
 /// SETA or SETB.
+#[inline(always)]
 fn set_number<'a>(
     alloc: Global,
     of: Values<'_>,

@@ -61,6 +61,7 @@ pub(crate) fn put<V: Drop>(
 const FEW: usize = 8;
 
 /// Whether two names are the same. Most that differ do so in their first bytes.
+#[inline(always)]
 fn is_same(name: &[u8], other: &[u8]) -> bool
     ensures { result ≡ bytes_eq name.now other.now }
 {
@@ -74,6 +75,7 @@ fn is_same(name: &[u8], other: &[u8]) -> bool
 }
 
 /// The value of a name in a map that has few.
+#[inline(always)]
 fn look_through<'a, V>(map: &'a IndexMap<Vec<u8>, V>, name: &[u8]) -> Option<&'a V>
     ensures { option_copied result ≡ held map.now name.now }
 {
@@ -95,6 +97,7 @@ fn look_up<'a, V>(map: &'a IndexMap<Vec<u8>, V>, name: &[u8]) -> Option<&'a V>
 }
 
 /// The value of a name.
+#[inline(always)]
 pub(crate) fn look<'a, V>(map: &'a IndexMap<Vec<u8>, V>, name: &[u8]) -> Option<&'a V>
     ensures { option_copied result ≡ held map.now name.now }
 {

@@ -174,6 +174,7 @@ impl Symbols {
     }
 
     /// What a name stands for.
+    #[inline(always)]
     pub(crate) fn get(&self, name: &[u8]) -> Option<&Symbol>
         ensures { MatchOption result (symbols_of self.now name.now ≡ None) (λ s. symbols_of self.now name.now ≡ Some (symbol s.now)) }
     {
@@ -267,6 +268,7 @@ fn common_text<'a>(texts: &'a Texts, name: &[u8]) -> Option<&'a [u8]>
 
 /// The text of a symbol in upper case, if it is declared.
 #[tactic(auto, unfolding(macro_meaning::specs::Symbol::text_of))]
+#[inline(always)]
 pub(crate) fn text_of<'a>(of: Values<'a>, name: &[u8]) -> Option<&'a [u8]>
     ensures text { MatchOption result (text_of (values of.entry) name.now ≡ None) (λ t. text_of (values of.entry) name.now ≡ Some t.now) }
     ensures short { IfSome result (λ t. length t.now ≤ 255) }

@@ -74,6 +74,7 @@ fn folded_word<'a>(alloc: Global, bytes: &'a [u8]) -> Result<Word<'a>, AllocErro
 
 /// The name that a text is, in upper case.
 #[tactic(auto, using(crate::proofs::WholeName::some_name, crate::proofs::WholeName::none_name))]
+#[inline(always)]
 fn whole_word<'a>(alloc: Global, text: &'a [u8]) -> Result<Option<Word<'a>>, AllocError>
     requires { length text.now ≤ 255 }
     ensures { IfOk result (λ word. word ≡ whole (name_at text.now)) }
@@ -87,6 +88,7 @@ fn whole_word<'a>(alloc: Global, text: &'a [u8]) -> Result<Option<Word<'a>>, All
 
 /// The name of a symbol, where the text is `&NAME` and nothing else.
 #[tactic(auto, unfolding(orca_meaning::specs::Token::symbol_at))]
+#[inline(always)]
 pub(crate) fn symbol_word<'a>(alloc: Global, text: &'a [u8]) -> Result<Option<Word<'a>>, AllocError>
     requires { length text.now ≤ 255 }
     ensures { IfOk result (λ word. word ≡ symbol_name text.now) }
@@ -98,6 +100,7 @@ pub(crate) fn symbol_word<'a>(alloc: Global, text: &'a [u8]) -> Result<Option<Wo
 }
 
 /// The name of a sequence symbol, where the text is `.NAME` and nothing else.
+#[inline(always)]
 fn sequence_word<'a>(alloc: Global, text: &'a [u8]) -> Result<Option<Word<'a>>, AllocError>
     requires { length text.now ≤ 255 }
     ensures { IfOk result (λ word. word ≡ sequence_name text.now) }
@@ -109,6 +112,7 @@ fn sequence_word<'a>(alloc: Global, text: &'a [u8]) -> Result<Option<Word<'a>>, 
 }
 
 /// Where a branch goes: a sequence symbol, maybe behind a `^`.
+#[inline(always)]
 pub(crate) fn target_word<'a>(alloc: Global, text: &'a [u8]) -> Result<Option<Word<'a>>, AllocError>
     requires { length text.now ≤ 255 }
     ensures { IfOk result (λ word. word ≡ target_name text.now) }
