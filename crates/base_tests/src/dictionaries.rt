@@ -74,6 +74,10 @@ fn put(bytes: &mut [u8], changes: &[(usize, u8)]) {
 
 // The calls as the tests make them. They promise nothing, so a test's proof is as short as the test.
 fn read(alloc: Global, bytes: &[u8]) -> Result<Dictionary<'_>, DictFault> {
+    // No file is as long.
+    if bytes.len() > 0x100_0000 {
+        return Err(DictFault::Memory);
+    }
     read_dictionary(alloc, bytes)
 }
 

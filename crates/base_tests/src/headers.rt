@@ -18,6 +18,10 @@ const HEADER: [u8; 57] = [
 
 // The calls as the tests make them. They promise nothing, so a test's proof is as short as the test.
 fn read(alloc: Global, bytes: &[u8]) -> Result<Header, HeaderFault> {
+    // No file is as long.
+    if bytes.len() > 0x100_0000 {
+        return Err(HeaderFault::Memory);
+    }
     read_header(alloc, bytes)
 }
 

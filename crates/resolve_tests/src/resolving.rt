@@ -7,6 +7,7 @@ use link_meaning::{LinkCause, LinkFault};
 use link_resolve::{LinkMember, Program, are_few, read_segments, resolve};
 use omf_base::Spot;
 use std::alloc::{AllocError, Global};
+use std::process::Abort;
 
 /// An object file of one code segment A: 3 bytes, and DS 5.
 const ONE: [u8; 66] = [
@@ -211,31 +212,31 @@ fn a_list_has_its_places(rt: HostRuntime) {
     }
 }
 
+/// Linking these files is told so.
+fn is_told(rt: &impl Abort, alloc: Global, files: &[&[u8]], want: Told) {
+    assert_eq!(rt; told(alloc, files), want, "{}", files.len());
+}
+
 #[test]
 fn phases_have_an_order(rt: HostRuntime) {
-    let rows: [(&[&[u8]], Told); 8] = [
-        (&[&ONE[..43]], Err((LinkCause::Truncated, 1, 1, 0x2B))),
-        (&[&[]], Err((LinkCause::Empty, 0, 0, 0))),
-        (&[&LIBRARY_B], Err((LinkCause::Empty, 0, 0, 0))),
-        // A later member asks for an address; a name that isn't there comes first, and a file that isn't read before.
-        (&[&PLACED, &ASKING], Err((LinkCause::OrgConflict, 2, 1, 0))),
-        (&[&ASKING, &PLACED], Ok(None)),
-        (
-            &[&PLACED, &ASKING, &USER],
-            Err((LinkCause::Unresolved, 3, 1, 0x38)),
-        ),
-        (
-            &[&PLACED, &ASKING, &USER, &ONE[..43]],
-            Err((LinkCause::Truncated, 4, 1, 0x2B)),
-        ),
-        (
-            &[&DATA, &LIBRARY_D],
-            Err((LinkCause::Duplicate, 1, 1, 0x38)),
-        ),
-    ];
-    for (files, want) in rows {
-        assert_eq!(rt; told(rt.alloc(), files), want, "{}", files.len());
-    }
+    let alloc = rt.alloc();
+    let truncated = Err((LinkCause::Truncated, 1, 1, 0x2B));
+    let empty = Err((LinkCause::Empty, 0, 0, 0));
+    is_told(&rt, alloc, &[&ONE[..43]], truncated);
+    is_told(&rt, alloc, &[&[]], empty);
+    is_told(&rt, alloc, &[&LIBRARY_B], empty);
+
+    // A later member asks for an address; a name that isn't there comes first, and a file that isn't read before.
+    let conflict = Err((LinkCause::OrgConflict, 2, 1, 0));
+    let unresolved = Err((LinkCause::Unresolved, 3, 1, 0x38));
+    let late = Err((LinkCause::Truncated, 4, 1, 0x2B));
+    is_told(&rt, alloc, &[&PLACED, &ASKING], conflict);
+    is_told(&rt, alloc, &[&ASKING, &PLACED], Ok(None));
+    is_told(&rt, alloc, &[&PLACED, &ASKING, &USER], unresolved);
+    is_told(&rt, alloc, &[&PLACED, &ASKING, &USER, &ONE[..43]], late);
+
+    let twice = Err((LinkCause::Duplicate, 1, 1, 0x38));
+    is_told(&rt, alloc, &[&DATA, &LIBRARY_D], twice);
 }
 
 /// Two members of $8000 cells each in one load segment: LENGTH, and the count of DS.
