@@ -107,25 +107,47 @@ fn first_broken_link(alloc: Global, held: &[(&str, &[u8])]) -> Result<Option<&'s
     Ok(None)
 }
 
-/// The same over two objects, one of an equate, and those of two more equates with their libraries.
-fn first_broken_link_of(
-    alloc: Global,
-    main: &[u8],
-    calls: &[u8],
-    one: &[u8],
-) -> Result<Option<&'static str>, Fail> {
-    let two = object(alloc, "XB START\nX GEQU 2\n END\n")?;
-    let second = library(alloc, "b", &two)?;
-    let three = object(alloc, "XC START\nX GEQU 3\n END\n")?;
-    let third = library(alloc, "c", &three)?;
+/// Objects and libraries of which some define the same name.
+#[derive(Drop)]
+struct Sources {
+    main: Vec<u8>,
+    calls: Vec<u8>,
+    one: Vec<u8>,
+    two: Vec<u8>,
+    second: Vec<u8>,
+    third: Vec<u8>,
+}
+
+/// The library of an object that gives the name a value.
+fn library_of(alloc: Global, path: &str, source: &str) -> Result<Vec<u8>, Fail> {
+    let object = object(alloc, source)?;
+    library(alloc, path, &object)
+}
+
+/// They, as the tool makes them.
+fn made(alloc: Global) -> Result<Sources, Fail> {
+    let two = "XB START\nX GEQU 2\n END\n";
+    let three = "XC START\nX GEQU 3\n END\n";
+    Ok(Sources {
+        main: object(alloc, "M START\n DC I1'X'\n END\n")?,
+        calls: object(alloc, CALLS)?,
+        one: object(alloc, "XA START\nX GEQU 1\n END\n")?,
+        two: object(alloc, two)?,
+        second: library_of(alloc, "b", two)?,
+        third: library_of(alloc, "c", three)?,
+    })
+}
+
+/// The same over these files.
+fn first_broken_link_of(alloc: Global, of: &Sources) -> Result<Option<&'static str>, Fail> {
     let held: [(&str, &[u8]); 7] = [
         ("obj", &OBJECT),
-        ("m", main),
-        ("a", one),
-        ("b", &two),
-        ("lb", &second),
-        ("lc", &third),
-        ("calls", calls),
+        ("m", of.main.as_slice()),
+        ("a", of.one.as_slice()),
+        ("b", of.two.as_slice()),
+        ("lb", of.second.as_slice()),
+        ("lc", of.third.as_slice()),
+        ("calls", of.calls.as_slice()),
     ];
     first_broken_link(alloc, &held)
 }
@@ -133,10 +155,7 @@ fn first_broken_link_of(
 #[test]
 fn links_survive_failures(rt: HostRuntime) -> Result<(), Fail> {
     let alloc = rt.alloc();
-    let main = object(alloc, "M START\n DC I1'X'\n END\n")?;
-    let one = object(alloc, "XA START\nX GEQU 1\n END\n")?;
-    let calls = object(alloc, CALLS)?;
-    let broken = first_broken_link_of(alloc, &main, &calls, &one)?;
+    let broken = first_broken_link_of(alloc, &made(alloc)?)?;
     assert_eq!(rt; broken, None);
     Ok(())
 }
