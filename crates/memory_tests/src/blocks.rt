@@ -14,6 +14,10 @@ enum Step {
     Put(u32, u16, u8, Result<Handle, PlaceFault>),
     /// The same, locked.
     PutLocked(u32, u16, u8, Result<Handle, PlaceFault>),
+    /// Small blocks are placed, each in the next slot, in all slots but the last.
+    PutMany,
+    /// Three blocks are placed, all or none, the last of so many bytes; their handles stay where none is.
+    PutAll(u32, bool, Result<(), PlaceFault>, (Handle, Handle, Handle)),
     Replace(Handle, u32, Result<(), PlaceFault>),
     Free(Handle, Result<(), BlockFault>),
     Purge(u16, u32),
@@ -32,6 +36,9 @@ enum Step {
     Bytes(Handle, [u8; 4]),
     /// Which block has the byte at an address.
     Holder(u32, Option<Handle>),
+    User(Handle, u16),
+    /// Each call refuses a stale handle.
+    Stale(Handle),
 }
 
 // The first slots, and what they are under later generations.
@@ -130,6 +137,40 @@ fn put(
     Some(banks.place(&any(size), user, locked, level))
 }
 
+fn put_many(rt: &impl Abort, banks: &mut Banks) {
+    for slot in 0..4095u16 {
+        let h = Handle {
+            slot,
+            generation: 0,
+        };
+        let told = put(banks, 0x20, 0, false, 1);
+        same(rt, usize::from(slot), told, Some(Ok(h)));
+    }
+}
+
+fn place_all(
+    banks: &mut Banks,
+    last: u32,
+    locked: bool,
+    handles: &mut [Handle; 3],
+) -> Option<Result<(), PlaceFault>> {
+    if last == 0 {
+        return None;
+    }
+    let wants = [any(0x100), any(0x8000), any(last)];
+    Some(banks.place_all(7, locked, &wants, handles))
+}
+
+fn put_all(
+    banks: &mut Banks,
+    last: u32,
+    locked: bool,
+) -> (Option<Result<(), PlaceFault>>, [Handle; 3]) {
+    let mut handles = [NO_HANDLE; 3];
+    let told = place_all(banks, last, locked, &mut handles);
+    (told, handles)
+}
+
 fn replace(banks: &mut Banks, h: Handle, size: u32) -> Option<Result<(), PlaceFault>> {
     if size == 0 {
         return None;
@@ -183,12 +224,24 @@ fn stays(banks: &Banks, h: Handle) -> Result<(Option<u32>, u8, bool), BlockFault
     Ok((state.at, state.level, state.locked))
 }
 
+fn user(banks: &Banks, h: Handle) -> Result<u16, BlockFault> {
+    Ok(banks.state(h)?.user)
+}
+
 fn bytes(banks: &Banks, h: Handle) -> Result<&[u8], BlockFault> {
     banks.block(h)
 }
 
 fn holder(banks: &Banks, address: u32) -> Option<Handle> {
     banks.holder(address)
+}
+
+fn is_stale(rt: &impl Abort, banks: &mut Banks, n: usize, h: Handle) {
+    same(rt, n, lock(banks, h), Err(BlockFault::Stale));
+    same(rt, n, unlock(banks, h), Err(BlockFault::Stale));
+    same(rt, n, set_level(banks, h, 9), Err(BlockFault::Stale));
+    same(rt, n, free(banks, h), Err(BlockFault::Stale));
+    same(rt, n, at(banks, h), Err(BlockFault::Stale));
 }
 
 // A step that may change something.
@@ -200,6 +253,11 @@ fn change(rt: &impl Abort, banks: &mut Banks, n: usize, step: &Step) {
         Step::PutLocked(size, user, level, is) => {
             same(rt, n, put(banks, *size, *user, true, *level), Some(*is))
         }
+        Step::PutMany => put_many(rt, banks),
+        Step::PutAll(last, locked, is, (a, b, c)) => {
+            let told = put_all(banks, *last, *locked);
+            same(rt, n, told, (Some(*is), [*a, *b, *c]))
+        }
         Step::Replace(h, size, is) => same(rt, n, replace(banks, *h, *size), Some(*is)),
         Step::Free(h, is) => same(rt, n, free(banks, *h), *is),
         Step::Purge(user, count) => same(rt, n, purge(banks, *user), *count),
@@ -207,6 +265,7 @@ fn change(rt: &impl Abort, banks: &mut Banks, n: usize, step: &Step) {
         Step::Unlock(h, is) => same(rt, n, unlock(banks, *h), *is),
         Step::SetLevel(h, level, is) => same(rt, n, set_level(banks, *h, *level), *is),
         Step::Write(h, is) => same(rt, n, write(banks, *h), *is),
+        Step::Stale(h) => is_stale(rt, banks, n, *h),
         _ => tell(rt, banks, n, step),
     }
 }
@@ -221,6 +280,7 @@ fn tell(rt: &impl Abort, banks: &Banks, n: usize, step: &Step) {
             same(rt, n, stays(banks, *h), Ok((*first, *level, *locked)))
         }
         Step::Bytes(h, is) => same(rt, n, bytes(banks, *h), Ok(is.as_slice())),
+        Step::User(h, is) => same(rt, n, user(banks, *h), Ok(*is)),
         Step::Holder(address, is) => same(rt, n, holder(banks, *address), *is),
         _ => panic!(rt; "step {n} is no step"),
     }
@@ -361,22 +421,13 @@ fn a_block_of_level_0_stays(rt: HostRuntime) -> Result<(), Fail> {
     run(&rt, &[2], &LEVEL_0)
 }
 
-static STALE: [Handle; 5] = [SLOT_0_1, SLOT_1, SLOT_4095, SLOT_4096, SLOT_65535];
-
-// Each call refuses a stale handle.
-fn are_stale(rt: &impl Abort, banks: &mut Banks, handles: &[Handle]) {
-    for (n, h) in handles.iter().enumerate() {
-        same(rt, n, lock(banks, *h), Err(BlockFault::Stale));
-        same(rt, n, unlock(banks, *h), Err(BlockFault::Stale));
-        same(rt, n, set_level(banks, *h, 9), Err(BlockFault::Stale));
-        same(rt, n, free(banks, *h), Err(BlockFault::Stale));
-        same(rt, n, at(banks, *h), Err(BlockFault::Stale));
-    }
-}
-
-static ONE: [Step; 1] = [Step::Put(0x10000, 5, 3, Ok(SLOT_0))];
-
-static PURGED: [Step; 6] = [
+static REFUSED: [Step; 12] = [
+    Step::Put(0x10000, 5, 3, Ok(SLOT_0)),
+    Step::Stale(SLOT_0_1),
+    Step::Stale(SLOT_1),
+    Step::Stale(SLOT_4095),
+    Step::Stale(SLOT_4096),
+    Step::Stale(SLOT_65535),
     Step::Stays(SLOT_0, Some(0x02_0000), 3, false),
     Step::Purge(5, 1),
     Step::Lock(SLOT_0, Err(BlockFault::Empty)),
@@ -388,11 +439,7 @@ static PURGED: [Step; 6] = [
 // A purged block is empty for them; a handle of no slot of the table, of a free slot or of another generation is stale.
 #[test]
 fn empty_blocks_and_stale_handles_stay(rt: HostRuntime) -> Result<(), Fail> {
-    let mut banks = banks_of(rt.alloc(), &[2])?;
-    make_all(&rt, &mut banks, &ONE);
-    are_stale(&rt, &mut banks, &STALE);
-    make_all(&rt, &mut banks, &PURGED);
-    Ok(())
+    run(&rt, &[2], &REFUSED)
 }
 
 static LENT: [Step; 18] = [
@@ -519,94 +566,57 @@ static WANTS: [(Want, Option<u32>); 12] = [
     ),
 ];
 
-// Where a block is placed in three banks; nothing where it isn't wanted well.
-fn placed(alloc: Global, want: &Want) -> Result<Option<Option<u32>>, Fail> {
+// Where a block goes; nothing where it isn't wanted well.
+fn goes(banks: &mut Banks, want: &Want) -> Option<Result<Option<u32>, BlockFault>> {
     if !is_want(want) {
-        return Ok(None);
+        return None;
     }
-    let mut banks = banks_of(alloc, &[0x00, 0xE1, 0x02])?;
     match banks.place(want, 0, false, 0) {
-        Ok(h) => Ok(Some(banks.state(h)?.at)),
-        Err(_) => Ok(Some(None)),
+        Ok(h) => Some(at(banks, h)),
+        Err(_) => Some(Ok(None)),
     }
+}
+
+// The same in three banks.
+fn placed(alloc: Global, want: &Want) -> Result<Option<Result<Option<u32>, BlockFault>>, Fail> {
+    let mut banks = banks_of(alloc, &[0x00, 0xE1, 0x02])?;
+    Ok(goes(&mut banks, want))
 }
 
 // Worked out by hand for banks $00, $02 and $E1: one row a condition.
 #[test]
 fn wants_over_three_banks(rt: HostRuntime) -> Result<(), Fail> {
     for (n, (want, address)) in WANTS.iter().enumerate() {
-        same(&rt, n, placed(rt.alloc(), want)?, Some(*address));
+        same(&rt, n, placed(rt.alloc(), want)?, Some(Ok(*address)));
     }
     Ok(())
 }
 
-// Places three blocks, the last of so many bytes.
-fn put_all(
-    banks: &mut Banks,
-    locked: bool,
-    last: u32,
-    handles: &mut [Handle; 3],
-) -> Result<(), PlaceFault>
-    requires { 0 < last }
-{
-    let wants = [any(0x100), any(0x8000), any(last)];
-    banks.place_all(7, locked, &wants, handles)
-}
-
-// The first of several wants that has no room is told, and no handle.
-fn are_refused(rt: &impl Abort, banks: &mut Banks) {
-    let mut handles = [NO_HANDLE; 3];
-    let told = put_all(banks, false, 0x8000, &mut handles);
-    same(rt, 0, told, Err(PlaceFault::NoRoom(2)));
-    same(rt, 1, handles, [NO_HANDLE; 3]);
-}
-
-fn are_placed(rt: &impl Abort, banks: &mut Banks) {
-    let mut handles = [NO_HANDLE; 3];
-    same(rt, 2, put_all(banks, true, 0x7F00, &mut handles), Ok(()));
-    same(rt, 3, handles, [SLOT_0_1, SLOT_1, SLOT_2]);
-}
-
-fn user(banks: &Banks, h: Handle) -> Option<u16> {
-    Some(banks.state(h).ok()?.user)
-}
-
-static BEFORE_ALL: [Step; 1] = [Step::Put(0x10, 7, 1, Ok(SLOT_0))];
-
-static NONE_IS_PLACED: [Step; 2] = [Step::At(SLOT_0, Ok(Some(0x02_0000))), Step::Room(0xFFF0)];
-
-static ALL_ARE_PLACED: [Step; 3] = [
+static ALL_OR_NONE: [Step; 9] = [
+    Step::Put(0x10, 7, 1, Ok(SLOT_0)),
+    Step::PutAll(
+        0x8000,
+        false,
+        Err(PlaceFault::NoRoom(2)),
+        (NO_HANDLE, NO_HANDLE, NO_HANDLE),
+    ),
+    Step::At(SLOT_0, Ok(Some(0x02_0000))),
+    Step::Room(0xFFF0),
+    Step::PutAll(0x7F00, true, Ok(()), (SLOT_0_1, SLOT_1, SLOT_2)),
     Step::At(SLOT_0, Err(BlockFault::Stale)),
     Step::Stays(SLOT_2, Some(0x02_8100), 0, true),
+    Step::User(SLOT_2, 7),
     Step::Room(0),
 ];
 
 // Where one of several wants has no room, nothing changes.
 #[test]
 fn all_are_placed_or_none(rt: HostRuntime) -> Result<(), Fail> {
-    let mut banks = banks_of(rt.alloc(), &[2])?;
-    make_all(&rt, &mut banks, &BEFORE_ALL);
-    are_refused(&rt, &mut banks);
-    make_all(&rt, &mut banks, &NONE_IS_PLACED);
-    are_placed(&rt, &mut banks);
-    make_all(&rt, &mut banks, &ALL_ARE_PLACED);
-    same(&rt, 4, user(&banks, SLOT_2), Some(7));
-    Ok(())
+    run(&rt, &[2], &ALL_OR_NONE)
 }
 
-// All slots but the last are used.
-fn use_slots(rt: &impl Abort, banks: &mut Banks) {
-    for slot in 0..4095u16 {
-        let h = Handle {
-            slot,
-            generation: 0,
-        };
-        let told = put(banks, 0x20, 0, false, 1);
-        same(rt, usize::from(slot), told, Some(Ok(h)));
-    }
-}
-
-static LAST_SLOT: [Step; 7] = [
+static MANY: [Step; 8] = [
+    Step::PutMany,
     Step::Room(0x20),
     Step::Put(0x1000, 0, 0, Ok(SLOT_4095)),
     Step::At(SLOT_4095, Ok(Some(0x02_0000))),
@@ -619,10 +629,7 @@ static LAST_SLOT: [Step; 7] = [
 // All slots are used, and a large want purges what it needs and no more.
 #[test]
 fn many_blocks(rt: HostRuntime) -> Result<(), Fail> {
-    let mut banks = banks_of(rt.alloc(), &[2, 3])?;
-    use_slots(&rt, &mut banks);
-    make_all(&rt, &mut banks, &LAST_SLOT);
-    Ok(())
+    run(&rt, &[2, 3], &MANY)
 }
 
 static HOLDERS: [Step; 20] = [
@@ -733,15 +740,19 @@ fn comes_or_goes(
     }
 }
 
-// Some 200 blocks that come and go in mixed order. Each goes to the least gap, as a slow search finds it.
-#[test]
-fn blocks_come_and_go(rt: HostRuntime) -> Result<(), Fail> {
-    let mut banks = banks_of(rt.alloc(), &[2])?;
+fn come_and_go(rt: &impl Abort, banks: &mut Banks) {
     let mut there = [None; 400];
     let mut draw = 1u32;
     for n in 0..3000usize {
         draw = draw.wrapping_mul(1_103_515_245).wrapping_add(12_345);
-        comes_or_goes(&rt, &mut banks, n, &mut there, draw);
+        comes_or_goes(rt, banks, n, &mut there, draw);
     }
+}
+
+// Some 200 blocks that come and go in mixed order. Each goes to the least gap, as a slow search finds it.
+#[test]
+fn blocks_come_and_go(rt: HostRuntime) -> Result<(), Fail> {
+    let mut banks = banks_of(rt.alloc(), &[2])?;
+    come_and_go(&rt, &mut banks);
     Ok(())
 }

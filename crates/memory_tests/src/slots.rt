@@ -13,6 +13,10 @@ enum Step {
     /// The value of a handle is set.
     Change(Handle, u32, Result<(), Stale>),
     Left(u32),
+    /// All slots are taken, one after the other.
+    Fill,
+    /// The first slot is taken and released under each generation.
+    UseUp,
 }
 
 // The first slots, and what they are under later generations.
@@ -93,22 +97,6 @@ fn left(handles: &Handles<u32>) -> u32 {
     handles.left()
 }
 
-fn make(rt: &impl Abort, handles: &mut Handles<u32>, at: usize, step: &Step) {
-    match step {
-        Step::Take(value, is) => same(rt, at, take(handles, *value), *is),
-        Step::Release(h, is) => same(rt, at, release(handles, *h), *is),
-        Step::Look(h, is) => same(rt, at, look(handles, *h), *is),
-        Step::Change(h, later, is) => same(rt, at, change(handles, *h, *later), *is),
-        Step::Left(count) => same(rt, at, left(handles), *count),
-    }
-}
-
-fn make_all(rt: &impl Abort, handles: &mut Handles<u32>, steps: &[Step]) {
-    for (at, step) in steps.iter().enumerate() {
-        make(rt, handles, at, step);
-    }
-}
-
 // The value of a slot is its place.
 fn fill(rt: &impl Abort, handles: &mut Handles<u32>) {
     for slot in 0..4096u16 {
@@ -123,23 +111,7 @@ fn fill(rt: &impl Abort, handles: &mut Handles<u32>) {
     }
 }
 
-static FULL: [Step; 4] = [
-    Step::Take(7, Err(7)),
-    Step::Left(0),
-    Step::Look(SLOT_4096, Err(Stale)),
-    Step::Look(SLOT_65535, Err(Stale)),
-];
-
-// The 4,097th value has no slot and comes back.
-#[test]
-fn a_full_table_hands_the_value_back(rt: HostRuntime) -> Result<(), Fail> {
-    let mut handles = table(rt.alloc())?;
-    fill(&rt, &mut handles);
-    make_all(&rt, &mut handles, &FULL);
-    Ok(())
-}
-
-fn use_all_generations(rt: &impl Abort, handles: &mut Handles<u32>) {
+fn use_up(rt: &impl Abort, handles: &mut Handles<u32>) {
     for generation in 0..=255u8 {
         let value = u32::from(generation);
         let at = usize::from(generation);
@@ -153,7 +125,47 @@ fn use_all_generations(rt: &impl Abort, handles: &mut Handles<u32>) {
     }
 }
 
-static RETIRED: [Step; 3] = [
+fn make(rt: &impl Abort, handles: &mut Handles<u32>, at: usize, step: &Step) {
+    match step {
+        Step::Take(value, is) => same(rt, at, take(handles, *value), *is),
+        Step::Release(h, is) => same(rt, at, release(handles, *h), *is),
+        Step::Look(h, is) => same(rt, at, look(handles, *h), *is),
+        Step::Change(h, later, is) => same(rt, at, change(handles, *h, *later), *is),
+        Step::Left(count) => same(rt, at, left(handles), *count),
+        Step::Fill => fill(rt, handles),
+        Step::UseUp => use_up(rt, handles),
+    }
+}
+
+fn make_all(rt: &impl Abort, handles: &mut Handles<u32>, steps: &[Step]) {
+    for (at, step) in steps.iter().enumerate() {
+        make(rt, handles, at, step);
+    }
+}
+
+/// Makes the steps with a table.
+fn run(rt: &(impl Alloc<A = Global> + Abort), steps: &[Step]) -> Result<(), Fail> {
+    let mut handles = table(rt.alloc())?;
+    make_all(rt, &mut handles, steps);
+    Ok(())
+}
+
+static FULL: [Step; 5] = [
+    Step::Fill,
+    Step::Take(7, Err(7)),
+    Step::Left(0),
+    Step::Look(SLOT_4096, Err(Stale)),
+    Step::Look(SLOT_65535, Err(Stale)),
+];
+
+// The 4,097th value has no slot and comes back.
+#[test]
+fn a_full_table_hands_the_value_back(rt: HostRuntime) -> Result<(), Fail> {
+    run(&rt, &FULL)
+}
+
+static RETIRED: [Step; 4] = [
+    Step::UseUp,
     Step::Left(4095),
     Step::Take(9, Ok(SLOT_1)),
     Step::Look(SLOT_0_255, Err(Stale)),
@@ -162,10 +174,7 @@ static RETIRED: [Step; 3] = [
 // A slot is used under 256 handles and then left out.
 #[test]
 fn a_slot_is_retired_after_256_generations(rt: HostRuntime) -> Result<(), Fail> {
-    let mut handles = table(rt.alloc())?;
-    use_all_generations(&rt, &mut handles);
-    make_all(&rt, &mut handles, &RETIRED);
-    Ok(())
+    run(&rt, &RETIRED)
 }
 
 static TAKES: [Step; 16] = [
@@ -190,9 +199,7 @@ static TAKES: [Step; 16] = [
 // Worked out by hand: the lowest slot is taken again, under the next generation, and the old handle reaches nothing.
 #[test]
 fn takes_releases_and_looks(rt: HostRuntime) -> Result<(), Fail> {
-    let mut handles = table(rt.alloc())?;
-    make_all(&rt, &mut handles, &TAKES);
-    Ok(())
+    run(&rt, &TAKES)
 }
 
 static DIGITS: [(u16, u8, &str); 3] = [
@@ -208,12 +215,12 @@ fn is_printed(alloc: Global, h: Handle, text: &str) -> Result<bool, Fail> {
 
 #[test]
 fn prints_six_digits(rt: HostRuntime) -> Result<(), Fail> {
-    for (slot, generation, text) in &DIGITS {
+    for (n, (slot, generation, text)) in DIGITS.iter().enumerate() {
         let h = Handle {
             slot: *slot,
             generation: *generation,
         };
-        assert!(rt; is_printed(rt.alloc(), h, text)?, "{text}");
+        same(&rt, n, is_printed(rt.alloc(), h, text)?, true);
     }
     Ok(())
 }
