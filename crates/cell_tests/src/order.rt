@@ -1,9 +1,11 @@
 //! Patches over the same places, and patches whose places fall, against cells and bytes that were worked out apart from this
 //! code.
 
+use crate::asserting::same_all;
 use crate::files::{cells, file_of_one, patched};
 use omf_cells::Cell;
 use std::alloc::Global;
+use std::process::Abort;
 use std::test::Fail;
 
 /// A byte of a place in the first segment.
@@ -40,12 +42,11 @@ fn a_later_super_counts(rt: HostRuntime) -> Result<(), Fail> {
         part(0x0605, 0, 2),
         Some(Cell::Byte(8)),
     ];
-    assert_eq!(rt; cells(alloc, &file, 1, 0, 8)?.as_slice(), wanted.as_slice());
+    same_all(&rt, cells(alloc, &file, 1, 0, 8)?, &wanted);
 
     // At $F10000 the first two bytes are $00F1, and the third is that of $F10201 and of $F10605.
     let bytes = patched(alloc, &file, 1, 0x00F1_0000, 0)?;
-    let want = [0xF1, 0, 0xF1, 4, 0xF1, 0, 0xF1, 8];
-    assert_eq!(rt; bytes.as_slice(), want.as_slice());
+    same_all(&rt, bytes, &[0xF1, 0, 0xF1, 4, 0xF1, 0, 0xF1, 8]);
     Ok(())
 }
 
@@ -61,30 +62,47 @@ fn file_that_falls(alloc: Global) -> Result<Vec<u8>, Fail> {
     file_of_one(alloc, 81, &body)
 }
 
+/// Ends the test where the two cells from this place on aren't the last two bytes of a place: over its first one the next patch has
+/// its third.
+fn has_its_last_two(
+    rt: &impl Abort,
+    alloc: Global,
+    file: &[u8],
+    at: u32,
+    offset: u32,
+) -> Result<(), Fail> {
+    let told = cells(alloc, file, 1, at, 2)?;
+    same_all(rt, told, &[part(offset, 0, 1), part(offset, 0, 2)]);
+    Ok(())
+}
+
+/// The bytes of the places where the segment lies at $30000: $31000 up to $31027.
+fn bytes_that_fall(alloc: Global) -> Result<Vec<u8>, Fail> {
+    let mut bytes = vec![in alloc; 0x27]?;
+    for _ in 0..40u8 {
+        bytes.extend_from_slice(&[0x10, 3])?;
+    }
+    Ok(bytes)
+}
+
 #[test]
 fn places_may_fall(rt: HostRuntime) -> Result<(), Fail> {
     let alloc = rt.alloc();
     let file = file_that_falls(alloc)?;
-    let first = [part(0x1027, 0, 0)];
-    assert_eq!(rt; cells(alloc, &file, 1, 0, 1)?.as_slice(), first.as_slice());
-
-    // Each patch has its last two bytes: over its first one the next patch has its third.
+    same_all(&rt, cells(alloc, &file, 1, 0, 1)?, &[part(0x1027, 0, 0)]);
     let mut at = 81u32;
     for offset in 0x1000..0x1028u32 {
         at = at.wrapping_sub(2);
-        let wanted = [part(offset, 0, 1), part(offset, 0, 2)];
-        assert_eq!(rt;
-            cells(alloc, &file, 1, at, 2)?.as_slice(),
-            wanted.as_slice()
-        );
+        has_its_last_two(&rt, alloc, &file, at, offset)?;
     }
+    Ok(())
+}
 
-    // At $30000 they are $31000 up to $31027.
-    let bytes = patched(alloc, &file, 1, 0x0003_0000, 0)?;
-    let mut want = vec![in alloc; 0x27]?;
-    for _ in 0..40u8 {
-        want.extend_from_slice(&[0x10, 3])?;
-    }
-    assert_eq!(rt; bytes.as_slice(), want.as_slice());
+#[test]
+fn places_that_fall_are_patched(rt: HostRuntime) -> Result<(), Fail> {
+    let alloc = rt.alloc();
+    let file = file_that_falls(alloc)?;
+    let want = bytes_that_fall(alloc)?;
+    same_all(&rt, patched(alloc, &file, 1, 0x0003_0000, 0)?, &want);
     Ok(())
 }
