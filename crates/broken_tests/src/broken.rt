@@ -3,7 +3,7 @@ use crate::making::{library, object};
 use omf_cli::Status;
 use std::alloc::Global;
 use std::test::Fail;
-use tool_runner::{Front, OBJECT, changed, code, dumps, ends, one, run, says};
+use tool_runner::{Front, OBJECT, changed, code, dumps, ends, one, run, says, sized};
 
 /// Where the object's body begins.
 const BODY: usize = 0x38;
@@ -13,12 +13,6 @@ fn with_body(alloc: Global, body: &[u8]) -> Result<Vec<u8>, Fail> {
     let mut file = OBJECT[..BODY].to_vec(alloc)?;
     file.extend_from_slice(body)?;
     sized(alloc, &file)
-}
-
-/// A file of one segment whose BYTECNT is the file's length.
-fn sized(alloc: Global, file: &[u8]) -> Result<Vec<u8>, Fail> {
-    let [a, b, c, d] = u32::try_from(file.len())?.to_le_bytes();
-    changed(alloc, file, &[(0, a), (1, b), (2, c), (3, d)])
 }
 
 /// An EXPR of 65 constants and 64 additions: the 65th constant would be a 65th pending value.
@@ -32,47 +26,56 @@ fn deep_expression(alloc: Global) -> Result<Vec<u8>, Fail> {
     Ok(body)
 }
 
-// DISPNAME in front of the names' least place, and RESSPC above LENGTH.
+/// Whether the object with another body is told with this line.
+fn body_is_told(alloc: Global, body: &[u8], line: &[u8]) -> Result<bool, Fail> {
+    let file = with_body(alloc, body)?;
+    dumps(alloc, &file, Status::Refused, line)
+}
+
+/// Whether the object with one byte changed is told with this line.
+fn change_is_told(alloc: Global, at: usize, value: u8, line: &[u8]) -> Result<bool, Fail> {
+    let file = changed(alloc, &OBJECT, &[(at, value)])?;
+    dumps(alloc, &file, Status::Refused, line)
+}
+
+/// Bodies, each with its line: a constant that runs past the segment, which ends at $3D; a count of 5; an ORG backward; a SUPER of
+/// type 3; a SUPER whose count says six locations, where its length leaves one.
+static BODIES: [(&[u8], &[u8]); 5] = [
+    (b"\xF2\xFF\xFF\xFF\xFF", b"refused Truncated 1 1 0000003D\n"),
+    (b"\xEB\x05\0\0", b"refused BadRecord 1 1 00000038\n"),
+    (
+        b"\xE1\xFF\xFF\xFF\xFF\0",
+        b"refused Unsupported 1 1 00000038\n",
+    ),
+    (
+        b"\xF7\x01\0\0\0\x03\0",
+        b"refused Unsupported 1 1 00000038\n",
+    ),
+    (
+        b"\xF7\x03\0\0\0\0\x05\x01\0",
+        b"refused BadRecord 1 1 00000038\n",
+    ),
+];
+
 #[test]
 fn broken_objects_are_told(rt: HostRuntime) -> Result<(), Fail> {
     let alloc = rt.alloc();
-    let fields: [(usize, u8, &[u8]); 2] = [
+
+    // DISPNAME in front of the names' least place, and RESSPC above LENGTH.
+    for (at, value, line) in [
         (0x28, 0x2B, b"refused BadHeader 1 1 00000028\n"),
         (0x04, 9, b"refused BadHeader 1 1 00000004\n"),
-    ];
-    for (at, value, line) in fields {
-        let file = changed(alloc, &OBJECT, &[(at, value)])?;
-        assert!(rt; dumps(alloc, &file, Status::Refused, line)?, "{at}");
+    ] {
+        assert!(rt; change_is_told(alloc, at, value, line)?, "{at}");
+    }
+    for (body, line) in &BODIES {
+        assert!(rt; body_is_told(alloc, body, line)?, "{}", body.len());
     }
 
-    // A constant that runs past the segment, which ends at $3D; a count of 5; an expression with a 65th pending value; an ORG
-    // backward; a SUPER of type 3; a SUPER whose count says six locations, where its length leaves one.
+    // An expression with a 65th pending value.
     let deep = deep_expression(alloc)?;
-    let bodies: [(&[u8], &[u8]); 6] = [
-        (b"\xF2\xFF\xFF\xFF\xFF", b"refused Truncated 1 1 0000003D\n"),
-        (b"\xEB\x05\0\0", b"refused BadRecord 1 1 00000038\n"),
-        (&deep, b"refused BadRecord 1 1 00000038\n"),
-        (
-            b"\xE1\xFF\xFF\xFF\xFF\0",
-            b"refused Unsupported 1 1 00000038\n",
-        ),
-        (
-            b"\xF7\x01\0\0\0\x03\0",
-            b"refused Unsupported 1 1 00000038\n",
-        ),
-        (
-            b"\xF7\x03\0\0\0\0\x05\x01\0",
-            b"refused BadRecord 1 1 00000038\n",
-        ),
-    ];
-    for (body, line) in bodies {
-        let file = with_body(alloc, body)?;
-        assert!(rt;
-            dumps(alloc, &file, Status::Refused, line)?,
-            "{}",
-            body.len()
-        );
-    }
+    let line = b"refused BadRecord 1 1 00000038\n";
+    assert!(rt; body_is_told(alloc, &deep, line)?);
     Ok(())
 }
 
@@ -90,29 +93,41 @@ fn far_patch(alloc: Global) -> Result<Vec<u8>, Fail> {
     sized(alloc, &file)
 }
 
+/// Whether a sum of 32 bits isn't taken for the location.
+fn far_patch_is_told(alloc: Global) -> Result<bool, Fail> {
+    let script = b"banks 02\nload prog\n";
+    let told = b"ok\nrefused BadFile PatchOutside 0001 0000003C\n";
+    says(alloc, script, &far_patch(alloc)?, Status::Done, told)
+}
+
+/// Whether a link of one file is refused with this line.
+fn link_is_refused(alloc: Global, file: &[u8], line: &[u8]) -> Result<bool, Fail> {
+    let linked = run(alloc, "link out file", &[("file", file)])?;
+    Ok(ends(&linked, Status::Refused, line, None))
+}
+
+/// A library whose only row says that its segment starts one byte further on than it does. The row stands behind the header of $41
+/// bytes, a record of 5 + 6 and the head of the next; its displacement is its last field.
+fn false_library(alloc: Global) -> Result<Vec<u8>, Fail> {
+    let library = library(alloc, "a", &OBJECT)?;
+    if library.get(0x59) != Some(&0x65) {
+        return Err(Fail::new("the row says where the segment starts"));
+    }
+    changed(alloc, &library, &[(0x59, 0x66)])
+}
+
 #[test]
 fn broken_links_and_loads_are_told(rt: HostRuntime) -> Result<(), Fail> {
     let alloc = rt.alloc();
+    assert!(rt; far_patch_is_told(alloc)?);
 
-    // A sum of 32 bits would take the location for 0.
-    let far = far_patch(alloc)?;
-    let script = b"banks 02\nload prog\n";
-    let told = b"ok\nrefused BadFile PatchOutside 0001 0000003C\n";
-    assert!(rt; says(alloc, script, &far, Status::Done, told)?);
-
-    // The only row of a library says that its segment starts one byte further on than it does. The row stands behind the header of $41
-    // bytes, a record of 5 + 6 and the head of the next; its displacement is its last field.
-    let library = library(alloc, "a", &OBJECT)?;
-    assert!(rt; library.get(0x59) == Some(&0x65));
-    let false_row = changed(alloc, &library, &[(0x59, 0x66)])?;
-    let linked = run(alloc, "link out lib", &[("lib", &false_row)])?;
+    let false_row = false_library(alloc)?;
     let told = b"refused BadLibrary 1 1 00000051\n";
-    assert!(rt; ends(&linked, Status::Refused, told, None));
+    assert!(rt; link_is_refused(alloc, &false_row, told)?);
 
     // A ring of three equates: the first one is told.
     let ring = object(alloc, "M START\nA EQU B\nB EQU C\nC EQU A\n END\n")?;
-    let linked = run(alloc, "link out obj", &[("obj", &ring)])?;
     let told = b"refused Circular A 1 1 00000038\n";
-    assert!(rt; ends(&linked, Status::Refused, told, None));
+    assert!(rt; link_is_refused(alloc, &ring, told)?);
     Ok(())
 }

@@ -9,15 +9,6 @@ use tool_runner::{OBJECT, Outcome, ends, run, run_failing, run_script, words_of}
 /// More calls than any run here makes.
 const MOST: u32 = 32;
 
-/// Whether the inputs are as they were.
-fn are_kept(run: &Outcome, held: &[(&str, &[u8])]) -> bool {
-    let mut kept = true;
-    for (path, bytes) in held {
-        kept = kept && run.files.get(path) == Some(*bytes);
-    }
-    kept
-}
-
 /// The line that says of a path that it can't be read.
 fn unread(alloc: Global, path: &str) -> Result<Vec<u8>, Fail> {
     let mut line = b"cannot read ".to_vec(alloc)?;
@@ -28,7 +19,7 @@ fn unread(alloc: Global, path: &str) -> Result<Vec<u8>, Fail> {
 
 /// Whether a run that couldn't write says so, and left a front of these bytes.
 fn is_unwritten(run: &Outcome, whole: &[u8]) -> bool {
-    match run.files.get("out") {
+    match run.output() {
         Some(front) => {
             whole.starts_with(front)
                 && ends(run, Status::CannotWrite, b"cannot write out\n", Some(front))
@@ -46,15 +37,15 @@ fn link_stops(
     call: u32,
     whole: &Outcome,
 ) -> Result<bool, Fail> {
-    let output = whole.files.get("out");
+    let output = whole.output();
     let at = (call as usize).saturating_add(1);
     match (words.get(at), output) {
         (Some(path), _) => {
             let line = unread(alloc, path.as_str())?;
-            Ok(ends(run, Status::CannotRead, &line, None) && run.files.asked() == call as u64)
+            Ok(ends(run, Status::CannotRead, &line, None) && run.reads == call as u64)
         }
         (None, Some(bytes)) if at == words.len() => Ok(is_unwritten(run, bytes)),
-        _ => Ok(run.files.faults() == 0 && ends(run, whole.status, whole.out.bytes(), output)),
+        _ => Ok(run.store_faults == 0 && ends(run, whole.status, &whole.text, output)),
     }
 }
 
@@ -63,16 +54,16 @@ fn link_stops(
 fn link_survives(alloc: Global, words: &str, held: &[(&str, &[u8])]) -> Result<bool, Fail> {
     let whole = run(alloc, words, held)?;
     let list = words_of(alloc, words)?;
-    let mut calls = whole.files.asked();
+    let mut calls = whole.reads;
     if whole.status == Status::Done {
         calls = calls.saturating_add(1);
     }
     for call in 1..MOST {
         let run = run_failing(alloc, words, held, &[call], &[])?;
-        if !(link_stops(alloc, &list, &run, call, &whole)? && are_kept(&run, held)) {
+        if !(link_stops(alloc, &list, &run, call, &whole)? && run.kept) {
             return Ok(false);
         }
-        if run.files.faults() == 0 {
+        if run.store_faults == 0 {
             return Ok(call as u64 == calls.saturating_add(1));
         }
     }
@@ -84,53 +75,93 @@ fn link_survives(alloc: Global, words: &str, held: &[(&str, &[u8])]) -> Result<b
 fn link_is_cut(alloc: Global, words: &str, held: &[(&str, &[u8])]) -> Result<bool, Fail> {
     let whole = run(alloc, words, held)?;
     let run = run_failing(alloc, words, held, &[], &[1])?;
-    let (line, text) = (whole.out.bytes(), run.out.bytes());
+    let (line, text) = (whole.text.as_slice(), run.text.as_slice());
     let cut = if line.is_empty() {
-        run.status == whole.status && run.out.faults() == 0
+        run.status == whole.status && run.sink_faults == 0
     } else {
-        run.status == Status::CannotPrint && run.out.faults() == 1 && text.len() < line.len()
+        run.status == Status::CannotPrint && run.sink_faults == 1 && text.len() < line.len()
     };
-    let output = whole.files.get("out");
-    Ok(cut && line.starts_with(text) && run.files.get("out") == output && are_kept(&run, held))
+    let output = whole.output();
+    Ok(cut && line.starts_with(text) && run.output() == output && run.kept)
+}
+
+/// The words of links, and how each ends while nothing fails.
+static LINKS: [(&str, Status); 7] = [
+    ("link out obj", Status::Done),
+    ("link out m a lb lc", Status::Done),
+    ("link out m lb lc", Status::Done),
+    ("link out m lc lb", Status::Done),
+    ("link out m", Status::Refused),
+    ("link out m a b", Status::Refused),
+    ("link out calls", Status::Done),
+];
+
+/// The words of the first of these links that doesn't end as it has to.
+fn first_broken_link(alloc: Global, held: &[(&str, &[u8])]) -> Result<Option<&'static str>, Fail> {
+    for (words, status) in &LINKS {
+        let ended = run(alloc, words, held)?.status == *status;
+        if !(ended && link_survives(alloc, words, held)? && link_is_cut(alloc, words, held)?) {
+            return Ok(Some(*words));
+        }
+    }
+    Ok(None)
+}
+
+/// Objects and libraries of which some define the same name.
+#[derive(Drop)]
+struct Sources {
+    main: Vec<u8>,
+    calls: Vec<u8>,
+    one: Vec<u8>,
+    two: Vec<u8>,
+    second: Vec<u8>,
+    third: Vec<u8>,
+}
+
+/// The library of an object that gives the name a value.
+fn library_of(alloc: Global, path: &str, source: &str) -> Result<Vec<u8>, Fail> {
+    let object = object(alloc, source)?;
+    library(alloc, path, &object)
+}
+
+/// They, as the tool makes them.
+fn made(alloc: Global) -> Result<Sources, Fail> {
+    let two = "XB START\nX GEQU 2\n END\n";
+    let three = "XC START\nX GEQU 3\n END\n";
+    Ok(Sources {
+        main: object(alloc, "M START\n DC I1'X'\n END\n")?,
+        calls: object(alloc, CALLS)?,
+        one: object(alloc, "XA START\nX GEQU 1\n END\n")?,
+        two: object(alloc, two)?,
+        second: library_of(alloc, "b", two)?,
+        third: library_of(alloc, "c", three)?,
+    })
+}
+
+/// The same over these files.
+fn first_broken_link_of(alloc: Global, of: &Sources) -> Result<Option<&'static str>, Fail> {
+    let held: [(&str, &[u8]); 7] = [
+        ("obj", &OBJECT),
+        ("m", of.main.as_slice()),
+        ("a", of.one.as_slice()),
+        ("b", of.two.as_slice()),
+        ("lb", of.second.as_slice()),
+        ("lc", of.third.as_slice()),
+        ("calls", of.calls.as_slice()),
+    ];
+    first_broken_link(alloc, &held)
 }
 
 #[test]
 fn links_survive_failures(rt: HostRuntime) -> Result<(), Fail> {
     let alloc = rt.alloc();
-    let main = object(alloc, "M START\n DC I1'X'\n END\n")?;
-    let one = object(alloc, "XA START\nX GEQU 1\n END\n")?;
-    let two = object(alloc, "XB START\nX GEQU 2\n END\n")?;
-    let three = object(alloc, "XC START\nX GEQU 3\n END\n")?;
-    let second = library(alloc, "b", &two)?;
-    let third = library(alloc, "c", &three)?;
-    let calls = object(alloc, CALLS)?;
-    let held: [(&str, &[u8]); 7] = [
-        ("obj", &OBJECT),
-        ("m", &main),
-        ("a", &one),
-        ("b", &two),
-        ("lb", &second),
-        ("lc", &third),
-        ("calls", &calls),
-    ];
-    for (words, status) in [
-        ("link out obj", Status::Done),
-        ("link out m a lb lc", Status::Done),
-        ("link out m lb lc", Status::Done),
-        ("link out m lc lb", Status::Done),
-        ("link out m", Status::Refused),
-        ("link out m a b", Status::Refused),
-        ("link out calls", Status::Done),
-    ] {
-        assert!(rt; run(alloc, words, &held)?.status == status, "{words}");
-        assert!(rt; link_survives(alloc, words, &held)?, "{words}");
-        assert!(rt; link_is_cut(alloc, words, &held)?, "{words}");
-    }
+    let broken = first_broken_link_of(alloc, &made(alloc)?)?;
+    assert_eq!(rt; broken, None);
     Ok(())
 }
 
 /// A segment that is called comes, and goes.
-const COMES: [&str; 12] = [
+static COMES: [&str; 12] = [
     "banks 02",
     "load prog",
     "info 1001 2",
@@ -146,7 +177,7 @@ const COMES: [&str; 12] = [
 ];
 
 /// It keeps what was poked while it is idle, and forgets it once it was purged.
-const STAYS: [&str; 12] = [
+static STAYS: [&str; 12] = [
     "banks 02",
     "load prog",
     "jsl 1001 1 0",
@@ -162,7 +193,7 @@ const STAYS: [&str; 12] = [
 ];
 
 /// A program rests, loses a segment, and is loaded anew.
-const RESTS: [&str; 11] = [
+static RESTS: [&str; 11] = [
     "banks 02",
     "load prog",
     "jsl 1001 1 0",
@@ -203,9 +234,9 @@ fn reader(
 ) -> Result<Option<(usize, Vec<u8>)>, Fail> {
     for place in 0..commands.len() {
         let through = front(alloc, commands, place.saturating_add(1), program)?;
-        if through.files.asked() >= call as u64 {
+        if through.reads >= call as u64 {
             let before = front(alloc, commands, place, program)?;
-            return Ok(Some((place, before.out.bytes().to_vec(alloc)?)));
+            return Ok(Some((place, before.text.to_vec(alloc)?)));
         }
     }
     Ok(None)
@@ -222,7 +253,7 @@ fn replies_unread(
 ) -> Result<Vec<u8>, Fail> {
     let script = script_of(alloc, commands, commands.len(), place)?;
     let others = run_script(alloc, &script, program, &[], &[])?;
-    let Some(behind) = others.out.bytes().get(before.len()..) else {
+    let Some(behind) = others.text.get(before.len()..) else {
         return Err(Fail::new("the replies are short"));
     };
     let mut text = before.to_vec(alloc)?;
@@ -246,19 +277,14 @@ fn script_reads(
     match reader(alloc, commands, call, program)? {
         Some((place, before)) => {
             let text = replies_unread(alloc, commands, place, &before, program)?;
-            Ok(run.files.faults() == 1 && ends(run, Status::Done, &text, None))
+            Ok(run.store_faults == 1 && ends(run, Status::Done, &text, None))
         }
         None => {
             let whole = front(alloc, commands, commands.len(), program)?;
-            let text = whole.out.bytes();
-            Ok(run.files.faults() == 0 && ends(run, Status::Done, text, None))
+            let text = whole.text.as_slice();
+            Ok(run.store_faults == 0 && ends(run, Status::Done, text, None))
         }
     }
-}
-
-/// Whether the script and the program are as they were.
-fn stays(run: &Outcome, script: &[u8], program: &[u8]) -> bool {
-    run.files.get("s") == Some(script) && run.files.get("prog") == Some(program)
 }
 
 /// Whether a script ended as it has to, whichever call of the store fails.
@@ -267,11 +293,11 @@ fn script_survives(alloc: Global, commands: &[&str], program: &[u8]) -> Result<b
     let whole = run_script(alloc, &script, program, &[], &[])?;
     for call in 1..MOST {
         let run = run_script(alloc, &script, program, &[call], &[])?;
-        if !(script_reads(alloc, commands, program, call, &run)? && stays(&run, &script, program)) {
+        if !(script_reads(alloc, commands, program, call, &run)? && run.kept) {
             return Ok(false);
         }
-        if run.files.faults() == 0 {
-            return Ok(call as u64 == whole.files.asked().saturating_add(1));
+        if run.store_faults == 0 {
+            return Ok(call as u64 == whole.reads.saturating_add(1));
         }
     }
     Ok(false)
@@ -289,13 +315,13 @@ fn script_is_cut(
     let place = call as usize;
     let before = front(alloc, commands, place.saturating_sub(1), program)?;
     let through = front(alloc, commands, place, program)?;
-    let text = run.out.bytes();
+    let text = run.text.as_slice();
     Ok(
         run.status == Status::CannotPrint
-            && text.starts_with(before.out.bytes())
-            && through.out.bytes().starts_with(text)
-            && text.len() < through.out.bytes().len()
-            && run.files.asked() == through.files.asked(),
+            && text.starts_with(before.text.as_slice())
+            && through.text.starts_with(text)
+            && text.len() < through.text.len()
+            && run.reads == through.reads,
     )
 }
 
@@ -305,36 +331,52 @@ fn script_prints(alloc: Global, commands: &[&str], program: &[u8]) -> Result<boo
     let whole = run_script(alloc, &script, program, &[], &[])?;
     for call in 1..MOST {
         let run = run_script(alloc, &script, program, &[], &[call])?;
-        if run.out.faults() == 0 {
+        if run.sink_faults == 0 {
             return Ok(
                 call as usize == commands.len().saturating_add(1)
-                    && ends(&run, Status::Done, whole.out.bytes(), None)
-                    && stays(&run, &script, program),
+                    && ends(&run, Status::Done, &whole.text, None)
+                    && run.kept,
             );
         }
-        if !(script_is_cut(alloc, commands, program, call, &run)?
-            && stays(&run, &script, program))
-        {
+        if !(script_is_cut(alloc, commands, program, call, &run)? && run.kept) {
             return Ok(false);
         }
     }
     Ok(false)
 }
 
+/// The load file of the calls.
+fn program_of_calls(alloc: Global) -> Result<Vec<u8>, Fail> {
+    let calls = object(alloc, CALLS)?;
+    let linked = run(alloc, "link out obj", &[("obj", &calls)])?;
+    written(alloc, &linked)
+}
+
+/// Whether a script ends with this reply, and as it has to where a call fails.
+fn script_holds(
+    alloc: Global,
+    commands: &[&str],
+    last: &str,
+    program: &[u8],
+) -> Result<bool, Fail> {
+    let whole = front(alloc, commands, commands.len(), program)?;
+    Ok(
+        whole.text.ends_with(last.as_bytes())
+            && script_survives(alloc, commands, program)?
+            && script_prints(alloc, commands, program)?,
+    )
+}
+
 #[test]
 fn scripts_survive_failures(rt: HostRuntime) -> Result<(), Fail> {
     let alloc = rt.alloc();
-    let linked = run(alloc, "link out obj", &[("obj", &object(alloc, CALLS)?)])?;
-    let program = written(alloc, &linked)?;
+    let program = program_of_calls(alloc)?;
     for (commands, last) in [
         (&COMES as &[&str], "0000FFC7\n"),
         (&STAYS, "EA\n"),
         (&RESTS, "refused Running\n"),
     ] {
-        let whole = front(alloc, commands, commands.len(), &program)?;
-        assert!(rt; whole.out.bytes().ends_with(last.as_bytes()), "{last}");
-        assert!(rt; script_survives(alloc, commands, &program)?, "{last}");
-        assert!(rt; script_prints(alloc, commands, &program)?, "{last}");
+        assert!(rt; script_holds(alloc, commands, last, &program)?, "{last}");
     }
     Ok(())
 }

@@ -5,7 +5,7 @@ use tool_runner::{Outcome, run};
 
 /// What a run wrote to `out`.
 pub(crate) fn written(alloc: Global, run: &Outcome) -> Result<Vec<u8>, Fail> {
-    match run.files.get("out") {
+    match run.output() {
         Some(bytes) => Ok(bytes.to_vec(alloc)?),
         None => Err(Fail::new("nothing was written")),
     }

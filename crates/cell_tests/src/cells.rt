@@ -1,7 +1,9 @@
 // What no clause says: that the definitions are those of the field, and that memory is enough.
-use crate::files::{cells, read};
-use omf_cells::{Cell, LoadCause, LoadFault, LoadFile, read_load};
+use crate::asserting::{same, same_all};
+use crate::files::{cells, fault_in, read};
+use omf_cells::{Cell, LoadCause, LoadFault, LoadFile};
 use std::alloc::Global;
+use std::process::Abort;
 use std::test::Fail;
 
 /// A load file of one code segment: 3 bytes and then 5 zeros.
@@ -26,7 +28,7 @@ fn put(bytes: &mut [u8], changes: &[(usize, u8)]) {
 fn fault_of_one(alloc: Global, changes: &[(usize, u8)]) -> Option<LoadFault> {
     let mut bytes = ONE;
     put(&mut bytes, changes);
-    read_load(alloc, &bytes).err()
+    fault_in(alloc, &bytes)
 }
 
 /// The fault of a file of two such segments, numbered in order, with bytes changed at displacements.
@@ -36,110 +38,143 @@ fn fault_of_two(alloc: Global, changes: &[(usize, u8)]) -> Option<LoadFault> {
     bytes[SECOND..].copy_from_slice(&ONE);
     bytes[SECOND + 0x22] = 2;
     put(&mut bytes, changes);
-    read_load(alloc, &bytes).err()
+    fault_in(alloc, &bytes)
 }
 
 fn fault(cause: LoadCause, segment: u32, at: u32) -> Option<LoadFault> {
     Some(LoadFault { cause, segment, at })
 }
 
+// DISPNAME, VERSION, the types, a code that no record has, an ALIGN, a cRELOC with a CONST behind it that is cut off, an LEXPR
+// without an operand, and the length of the LCONST.
+static CHANGED: [(usize, u8, LoadCause, u32); 11] = [
+    (0x28, 0x2B, LoadCause::BadHeader, 0x28),
+    (0x0F, 3, LoadCause::Unsupported, 0x0F),
+    (0x14, 0x02, LoadCause::BadTable, 8),
+    (0x14, 0x04, LoadCause::Unsupported, 0),
+    (0x14, 0x08, LoadCause::NotLoadFile, 0),
+    (0x37, 0xFB, LoadCause::Unsupported, 0x37),
+    (0x37, 0xE0, LoadCause::NotLoadFile, 0x37),
+    (0x37, 0xF5, LoadCause::Truncated, 0x40),
+    (0x37, 0xF3, LoadCause::BadRecord, 0x37),
+    (0x38, 0x09, LoadCause::Truncated, 0x40),
+    (0x22, 0x02, LoadCause::Sequence, 0),
+];
+
 #[test]
 fn each_fault_has_its_place(rt: HostRuntime) {
     let alloc = rt.alloc();
-    let empty = read_load(alloc, &[]).err();
-    assert_eq!(rt; empty, fault(LoadCause::NotLoadFile, 0, 0));
-    let cut = read_load(alloc, &ONE[..43]).err();
-    assert_eq!(rt; cut, fault(LoadCause::Truncated, 1, 0x2B));
-    assert_eq!(rt; fault_of_one(alloc, &[]), None);
-
-    // DISPNAME, VERSION, the types, a code that no record has, an ALIGN, a cRELOC with a CONST behind it that is cut off,
-    // an LEXPR without an operand, and the length of the LCONST.
-    for (at, value, cause, place) in [
-        (0x28, 0x2B, LoadCause::BadHeader, 0x28),
-        (0x0F, 3, LoadCause::Unsupported, 0x0F),
-        (0x14, 0x02, LoadCause::BadTable, 8),
-        (0x14, 0x04, LoadCause::Unsupported, 0),
-        (0x14, 0x08, LoadCause::NotLoadFile, 0),
-        (0x37, 0xFB, LoadCause::Unsupported, 0x37),
-        (0x37, 0xE0, LoadCause::NotLoadFile, 0x37),
-        (0x37, 0xF5, LoadCause::Truncated, 0x40),
-        (0x37, 0xF3, LoadCause::BadRecord, 0x37),
-        (0x38, 0x09, LoadCause::Truncated, 0x40),
-        (0x22, 0x02, LoadCause::Sequence, 0),
-    ] {
-        assert_eq!(rt; fault_of_one(alloc, &[(at, value)]), fault(cause, 1, place));
+    same(
+        &rt,
+        fault_in(alloc, &[]),
+        fault(LoadCause::NotLoadFile, 0, 0),
+    );
+    same(
+        &rt,
+        fault_in(alloc, &ONE[..43]),
+        fault(LoadCause::Truncated, 1, 0x2B),
+    );
+    same(&rt, fault_of_one(alloc, &[]), None);
+    for (at, value, cause, place) in &CHANGED {
+        same(
+            &rt,
+            fault_of_one(alloc, &[(*at, *value)]),
+            fault(*cause, 1, *place),
+        );
     }
+}
+
+#[test]
+fn data_fits_its_length(rt: HostRuntime) {
+    let alloc = rt.alloc();
 
     // LENGTH 2 without RESSPC has no room for 3 bytes, and LENGTH 3 has.
     let long = fault_of_one(alloc, &[(0x04, 0), (0x08, 2)]);
-    assert_eq!(rt; long, fault(LoadCause::DataTooLong, 1, 0));
+    same(&rt, long, fault(LoadCause::DataTooLong, 1, 0));
     let full = fault_of_one(alloc, &[(0x04, 0), (0x08, 3)]);
-    assert_eq!(rt; full, None);
+    same(&rt, full, None);
+}
+
+/// Ends the test where two segments with these changes don't have this fault.
+fn is_refused(rt: &impl Abort, alloc: Global, changes: &[(usize, u8)], want: Option<LoadFault>) {
+    assert_eq!(rt; fault_of_two(alloc, changes), want, "{changes:?}");
 }
 
 #[test]
 fn phases_come_one_behind_another(rt: HostRuntime) {
     let alloc = rt.alloc();
-    assert_eq!(rt; fault_of_two(alloc, &[]), None);
-    let second = fault_of_two(alloc, &[(SECOND + 0x22, 1)]);
-    assert_eq!(rt; second, fault(LoadCause::Sequence, 2, 64));
+    is_refused(&rt, alloc, &[], None);
+    let second = fault(LoadCause::Sequence, 2, 64);
+    is_refused(&rt, alloc, &[(SECOND + 0x22, 1)], second);
 
     // Too much data in the first segment comes before the number of the second.
-    let first = fault_of_two(alloc, &[(0x04, 0), (0x08, 2), (SECOND + 0x22, 1)]);
-    assert_eq!(rt; first, fault(LoadCause::DataTooLong, 1, 0));
+    let long = fault(LoadCause::DataTooLong, 1, 0);
+    is_refused(
+        &rt,
+        alloc,
+        &[(0x04, 0), (0x08, 2), (SECOND + 0x22, 1)],
+        long,
+    );
 
-    // A type or record of the second segment comes before either, and a number before too much data of one segment.
-    let kind = fault_of_two(alloc, &[(0x22, 9), (SECOND + 0x14, 0x08)]);
-    assert_eq!(rt; kind, fault(LoadCause::NotLoadFile, 2, 64));
-    let code = fault_of_two(alloc, &[(0x22, 9), (SECOND + 0x37, 0xFB)]);
-    assert_eq!(rt; code, fault(LoadCause::Unsupported, 2, 64 + 0x37));
-    let both = fault_of_one(alloc, &[(0x22, 9), (0x04, 0), (0x08, 2)]);
-    assert_eq!(rt; both, fault(LoadCause::Sequence, 1, 0));
+    // A type or record of the second segment comes before either.
+    let kind = fault(LoadCause::NotLoadFile, 2, 64);
+    is_refused(&rt, alloc, &[(0x22, 9), (SECOND + 0x14, 0x08)], kind);
+    let record = fault(LoadCause::Unsupported, 2, 64 + 0x37);
+    is_refused(&rt, alloc, &[(0x22, 9), (SECOND + 0x37, 0xFB)], record);
 
     // The first segment's type comes before the second one's header.
-    let early = fault_of_two(alloc, &[(0x14, 0x04), (SECOND + 0x0F, 3)]);
-    assert_eq!(rt; early, fault(LoadCause::Unsupported, 1, 0));
+    let first = fault(LoadCause::Unsupported, 1, 0);
+    is_refused(&rt, alloc, &[(0x14, 0x04), (SECOND + 0x0F, 3)], first);
+
+    // A number comes before too much data of one segment.
+    let both = fault_of_one(alloc, &[(0x22, 9), (0x04, 0), (0x08, 2)]);
+    same(&rt, both, fault(LoadCause::Sequence, 1, 0));
+}
+
+/// The fault of a file whose segment has a name and a low byte of KIND. The name is that of LABLEN 11 at DISPNAME + 10, and the
+/// body, one END, stands behind it.
+fn fault_of_name(alloc: Global, name: &[u8; 11], kind: u8) -> Option<LoadFault> {
+    let mut bytes = [0; 66];
+    bytes[..54].copy_from_slice(&ONE[..54]);
+    bytes[54..65].copy_from_slice(name);
+    put(
+        &mut bytes,
+        &[(0x00, 66), (0x0D, 11), (0x14, kind), (0x2A, 65)],
+    );
+    fault_in(alloc, &bytes)
 }
 
 #[test]
 fn express_load_is_not_read(rt: HostRuntime) {
-    // The name is that of LABLEN 11 at DISPNAME + 10, and the body, one END, stands behind it.
     let alloc = rt.alloc();
-    let mut bytes = [0; 66];
-    bytes[..54].copy_from_slice(&ONE[..54]);
-    put(&mut bytes, &[(0x00, 66), (0x0D, 11), (0x2A, 65)]);
-    for (name, kind, want) in [
-        (b"ExpressLoad", 0x00, fault(LoadCause::Unsupported, 1, 0)),
-        (b"~ExpressLoa", 0x00, None),
-        (b"expressload", 0x00, None),
-        (b"ExpressLoad", 0x08, fault(LoadCause::Unsupported, 1, 0)),
-        (b"expressload", 0x08, fault(LoadCause::NotLoadFile, 1, 0)),
-    ] {
-        bytes[54..65].copy_from_slice(name);
-        bytes[0x14] = kind;
-        assert_eq!(rt; read_load(alloc, &bytes).err(), want);
-    }
+    let unsupported = fault(LoadCause::Unsupported, 1, 0);
+    same(&rt, fault_of_name(alloc, b"ExpressLoad", 0x00), unsupported);
+    same(&rt, fault_of_name(alloc, b"~ExpressLoa", 0x00), None);
+    same(&rt, fault_of_name(alloc, b"expressload", 0x00), None);
+    same(&rt, fault_of_name(alloc, b"ExpressLoad", 0x08), unsupported);
+    let dictionary = fault(LoadCause::NotLoadFile, 1, 0);
+    same(&rt, fault_of_name(alloc, b"expressload", 0x08), dictionary);
 }
+
+/// The cells of the data, and none behind them.
+static CELLS: [Option<Cell>; 9] = [
+    Some(Cell::Byte(0xA9)),
+    Some(Cell::Byte(0x01)),
+    Some(Cell::Byte(0x60)),
+    Some(Cell::Byte(0)),
+    Some(Cell::Byte(0)),
+    Some(Cell::Byte(0)),
+    Some(Cell::Byte(0)),
+    Some(Cell::Byte(0)),
+    None,
+];
 
 #[test]
 fn cells_are_bytes_and_zeros(rt: HostRuntime) -> Result<(), Fail> {
     let alloc = rt.alloc();
-    let zero = Some(Cell::Byte(0));
-    let want = [
-        Some(Cell::Byte(0xA9)),
-        Some(Cell::Byte(0x01)),
-        Some(Cell::Byte(0x60)),
-        zero,
-        zero,
-        zero,
-        zero,
-        zero,
-        None,
-    ];
-    assert_eq!(rt; cells(alloc, &ONE, 1, 0, 9)?.as_slice(), want.as_slice());
-    let none = [None];
-    assert_eq!(rt; cells(alloc, &ONE, 0, 0, 1)?.as_slice(), none.as_slice());
-    assert_eq!(rt; cells(alloc, &ONE, 2, 0, 1)?.as_slice(), none.as_slice());
+    same_all(&rt, cells(alloc, &ONE, 1, 0, 9)?, &CELLS);
+    same_all(&rt, cells(alloc, &ONE, 0, 0, 1)?, &[None]);
+    same_all(&rt, cells(alloc, &ONE, 2, 0, 1)?, &[None]);
     Ok(())
 }
 
@@ -160,10 +195,10 @@ fn segments_have_headers(rt: HostRuntime) -> Result<(), Fail> {
     let Ok(load) = read(rt.alloc(), &ONE) else {
         return Err(Fail::new("the file is read"));
     };
-    assert_eq!(rt; count(&load), 1);
-    assert_eq!(rt; length_of(&load, 1), Some(8));
-    assert_eq!(rt; length_of(&load, 0), None);
-    assert_eq!(rt; length_of(&load, 2), None);
+    same(&rt, count(&load), 1);
+    same(&rt, length_of(&load, 1), Some(8));
+    same(&rt, length_of(&load, 0), None);
+    same(&rt, length_of(&load, 2), None);
     Ok(())
 }
 
@@ -187,8 +222,11 @@ fn data_is_written_as_a_whole(rt: HostRuntime) -> Result<(), Fail> {
     let Ok(load) = read(alloc, &ONE) else {
         return Err(Fail::new("the file is read"));
     };
-    let want = [0xA9, 0x01, 0x60, 0, 0, 0, 0, 0];
-    assert_eq!(rt; data_of(alloc, &load)?.as_slice(), want.as_slice());
+    same_all(
+        &rt,
+        data_of(alloc, &load)?,
+        &[0xA9, 0x01, 0x60, 0, 0, 0, 0, 0],
+    );
     Ok(())
 }
 
@@ -209,7 +247,7 @@ fn fault_of_entry(
     bytes[BEHIND..].copy_from_slice(&ONE);
     put(&mut bytes, &[(0x00, 65), (BEHIND + 0x22, 2)]);
     put(&mut bytes, changes);
-    read_load(alloc, &bytes).err()
+    fault_in(alloc, &bytes)
 }
 
 #[test]
@@ -218,23 +256,19 @@ fn entries_name_places(rt: HostRuntime) {
     let none = fault(LoadCause::NoSuchTarget, 1, 0x37);
 
     // Each segment has 8 bytes. A dynamic one is named like another, and a skipped one isn't.
-    let skipped = [(BEHIND + 0x15, 0x02)];
-    let dynamic = [(BEHIND + 0x15, 0x80)];
-    for (segment, offset, changes, want) in [
-        (1, 7, &[] as &[(usize, u8)], None),
-        (2, 7, &[], None),
-        (1, 8, &[], none),
-        (2, 8, &[], none),
-        (0, 0, &[], none),
-        (3, 0, &[], none),
-        (2, 0, &skipped, none),
-        (2, 0, &dynamic, None),
-        (1, 0, &[(0x15, 0x02)], none),
-    ] {
-        assert_eq!(rt; fault_of_entry(alloc, segment, offset, changes), want);
-    }
+    same(&rt, fault_of_entry(alloc, 1, 7, &[]), None);
+    same(&rt, fault_of_entry(alloc, 2, 7, &[]), None);
+    same(&rt, fault_of_entry(alloc, 1, 8, &[]), none);
+    same(&rt, fault_of_entry(alloc, 2, 8, &[]), none);
+    same(&rt, fault_of_entry(alloc, 0, 0, &[]), none);
+    same(&rt, fault_of_entry(alloc, 3, 0, &[]), none);
+    let skipped = (BEHIND + 0x15, 0x02);
+    same(&rt, fault_of_entry(alloc, 2, 0, &[skipped]), none);
+    let dynamic = (BEHIND + 0x15, 0x80);
+    same(&rt, fault_of_entry(alloc, 2, 0, &[dynamic]), None);
+    same(&rt, fault_of_entry(alloc, 1, 0, &[(0x15, 0x02)]), none);
 
     // The numbers of all segments come before the places.
     let number = fault_of_entry(alloc, 3, 0, &[(BEHIND + 0x22, 1)]);
-    assert_eq!(rt; number, fault(LoadCause::Sequence, 2, 65));
+    same(&rt, number, fault(LoadCause::Sequence, 2, 65));
 }

@@ -2,9 +2,13 @@
 #![tactic(auto)]
 
 #[cfg(test)]
+mod asserting;
+#[cfg(test)]
 mod cells;
 #[cfg(test)]
 mod files;
+#[cfg(test)]
+mod order;
 #[cfg(test)]
 mod patches;
 #[cfg(test)]

@@ -1,8 +1,10 @@
 //! Jump tables of load files.
 
+use crate::asserting::same;
 use crate::files::{add, fault_in, put_all, read};
 use omf_cells::{LoadCause, LoadFault, LoadFile, Target};
 use std::alloc::Global;
+use std::process::Abort;
 use std::test::Fail;
 
 /// The records of a table of one entry, which leads to offset 2 of segment 2.
@@ -51,53 +53,73 @@ fn bad_table(segment: u32, at: u32) -> Option<LoadFault> {
     })
 }
 
+/// Dynamic, skipped, two wrong LENGTHs, the user ID, the file, a segment that is none, one that isn't there, the table itself, a
+/// static one, an offset at LENGTH and one far behind it, each byte of the code, and a called segment that is static or skipped.
+static FLAWS: [(usize, u8, u32); 21] = [
+    (0x15, 0x80, 0),
+    (0x15, 0x02, 0),
+    (0x08, 27, 27),
+    (0x08, 40, 24),
+    (DATA + 8, 1, 8),
+    (DATA + 9, 1, 8),
+    (DATA + 10, 2, 10),
+    (DATA + 11, 1, 10),
+    (DATA + 12, 0, 12),
+    (DATA + 12, 4, 12),
+    (DATA + 12, 1, 12),
+    (DATA + 12, 3, 12),
+    (DATA + 13, 1, 12),
+    (DATA + 14, 8, 14),
+    (DATA + 17, 1, 14),
+    (DATA + 18, 0x5C, 18),
+    (DATA + 19, 1, 18),
+    (DATA + 20, 0xF1, 18),
+    (DATA + 21, 0, 18),
+    (CALLED + 0x15, 0x00, 12),
+    (CALLED + 0x15, 0x82, 12),
+];
+
+/// Ends the test where a table with one byte changed has no flaw at this place.
+fn has_flaw(rt: &impl Abort, alloc: Global, at: usize, value: u8, place: u32) -> Result<(), Fail> {
+    same(rt, flaw(alloc, at, value)?, Some(place));
+    Ok(())
+}
+
+/// Ends the test where a table whose byte at this place is 1 has no flaw there.
+fn is_zero(rt: &impl Abort, alloc: Global, place: u8) -> Result<(), Fail> {
+    let at = DATA.wrapping_add(usize::from(place));
+    has_flaw(rt, alloc, at, 1, u32::from(place))
+}
+
+#[test]
+fn a_table_has_zeros_before_and_behind(rt: HostRuntime) -> Result<(), Fail> {
+    let alloc = rt.alloc();
+    for place in 0..8u8 {
+        is_zero(&rt, alloc, place)?;
+    }
+    for place in 22..26u8 {
+        is_zero(&rt, alloc, place)?;
+    }
+    Ok(())
+}
+
+/// The fault of a table with one byte changed.
+fn fault_of_table(alloc: Global, at: usize, value: u8) -> Result<Option<LoadFault>, Fail> {
+    let file = file_of_table(alloc, at, value)?;
+    Ok(fault_in(alloc, &file))
+}
+
 #[test]
 fn each_field_of_a_table(rt: HostRuntime) -> Result<(), Fail> {
     let alloc = rt.alloc();
-
-    // Each of the zeros before and behind.
-    for place in 0..8u8 {
-        let at = DATA.wrapping_add(usize::from(place));
-        assert_eq!(rt; flaw(alloc, at, 1)?, Some(u32::from(place)));
+    for (at, value, place) in &FLAWS {
+        has_flaw(&rt, alloc, *at, *value, *place)?;
     }
-    for place in 22..26u8 {
-        let at = DATA.wrapping_add(usize::from(place));
-        assert_eq!(rt; flaw(alloc, at, 1)?, Some(u32::from(place)));
-    }
-
-    // Dynamic, skipped, two wrong LENGTHs, the user ID, the file, a segment that is none, one that isn't there, the table
-    // itself, a static one, an offset at LENGTH and one far behind it, each byte of the code, and a called segment that is
-    // static or skipped.
-    for (at, value, place) in [
-        (0x15, 0x80, 0),
-        (0x15, 0x02, 0),
-        (0x08, 27, 27),
-        (0x08, 40, 24),
-        (DATA + 8, 1, 8),
-        (DATA + 9, 1, 8),
-        (DATA + 10, 2, 10),
-        (DATA + 11, 1, 10),
-        (DATA + 12, 0, 12),
-        (DATA + 12, 4, 12),
-        (DATA + 12, 1, 12),
-        (DATA + 12, 3, 12),
-        (DATA + 13, 1, 12),
-        (DATA + 14, 8, 14),
-        (DATA + 17, 1, 14),
-        (DATA + 18, 0x5C, 18),
-        (DATA + 19, 1, 18),
-        (DATA + 20, 0xF1, 18),
-        (DATA + 21, 0, 18),
-        (CALLED + 0x15, 0x00, 12),
-        (CALLED + 0x15, 0x82, 12),
-    ] {
-        assert_eq!(rt; flaw(alloc, at, value)?, Some(place));
-    }
-    assert_eq!(rt; fault_in(alloc, &file_of_table(alloc, DATA + 14, 7)?), None);
+    same(&rt, fault_of_table(alloc, DATA + 14, 7)?, None);
 
     // A second table is refused at its start, whatever it is.
-    let second = file_of_table(alloc, CALLED + 56 + 0x14, 0x02)?;
-    assert_eq!(rt; fault_in(alloc, &second), bad_table(3, 0));
+    let second = fault_of_table(alloc, CALLED + 56 + 0x14, 0x02)?;
+    same(&rt, second, bad_table(3, 0));
     Ok(())
 }
 
@@ -114,30 +136,48 @@ fn fault_of_empty(
     Ok(fault_in(alloc, &file))
 }
 
+// A cRELOC, and SUPERs with one location and with none.
+const RELOC: [u8; 8] = [0xF5, 1, 0, 0, 0, 0, 0, 0];
+
+const ONE: [u8; 9] = [0xF7, 3, 0, 0, 0, 0, 0, 0, 0];
+
+const NONE: [u8; 8] = [0xF7, 2, 0, 0, 0, 0, 0x81, 0];
+
 #[test]
 fn a_table_has_no_patch(rt: HostRuntime) -> Result<(), Fail> {
     let alloc = rt.alloc();
-
-    // A cRELOC, and SUPERs with one location and with none.
-    let reloc = [0xF5, 1, 0, 0, 0, 0, 0, 0];
-    let one = [0xF7, 3, 0, 0, 0, 0, 0, 0, 0];
-    let none = [0xF7, 2, 0, 0, 0, 0, 0x81, 0];
-    assert_eq!(rt; fault_of_empty(alloc, 12, 0x00, &[0])?, None);
-    assert_eq!(rt; fault_of_empty(alloc, 12, 0x00, &none)?, None);
-    assert_eq!(rt; fault_of_empty(alloc, 12, 0x00, &reloc)?, bad_table(2, 0));
-    assert_eq!(rt; fault_of_empty(alloc, 12, 0x00, &one)?, bad_table(2, 0));
-
-    // A patch comes before the size, and its own faults before both.
-    assert_eq!(rt; fault_of_empty(alloc, 13, 0x00, &[0])?, bad_table(2, 13));
-    assert_eq!(rt; fault_of_empty(alloc, 13, 0x00, &reloc)?, bad_table(2, 0));
-    assert_eq!(rt;
-        fault_of_empty(alloc, 0, 0x00, &reloc)?,
-        Some(LoadFault {
-            cause: LoadCause::PatchOutside,
-            segment: 2,
-            at: 56 + 0x37,
-        })
+    same(&rt, fault_of_empty(alloc, 12, 0x00, &[0])?, None);
+    same(&rt, fault_of_empty(alloc, 12, 0x00, &NONE)?, None);
+    same(
+        &rt,
+        fault_of_empty(alloc, 12, 0x00, &RELOC)?,
+        bad_table(2, 0),
     );
+    same(&rt, fault_of_empty(alloc, 12, 0x00, &ONE)?, bad_table(2, 0));
+    Ok(())
+}
+
+#[test]
+fn a_patch_comes_before_the_size(rt: HostRuntime) -> Result<(), Fail> {
+    let alloc = rt.alloc();
+    same(
+        &rt,
+        fault_of_empty(alloc, 13, 0x00, &[0])?,
+        bad_table(2, 13),
+    );
+    same(
+        &rt,
+        fault_of_empty(alloc, 13, 0x00, &RELOC)?,
+        bad_table(2, 0),
+    );
+
+    // Its own faults come before both.
+    let outside = LoadFault {
+        cause: LoadCause::PatchOutside,
+        segment: 2,
+        at: 56 + 0x37,
+    };
+    same(&rt, fault_of_empty(alloc, 0, 0x00, &RELOC)?, Some(outside));
     Ok(())
 }
 
@@ -170,6 +210,15 @@ fn table(load: &LoadFile) -> Option<u32> {
     load.table()
 }
 
+/// An offset in segment 2.
+fn called(offset: u32) -> Option<Target> {
+    Some(Target {
+        file: 1,
+        segment: 2,
+        offset,
+    })
+}
+
 #[test]
 fn entries_lead_to_targets(rt: HostRuntime) -> Result<(), Fail> {
     let alloc = rt.alloc();
@@ -177,17 +226,12 @@ fn entries_lead_to_targets(rt: HostRuntime) -> Result<(), Fail> {
     let Ok(load) = read(alloc, &file) else {
         return Err(Fail::new("the file is read"));
     };
-    assert_eq!(rt; table(&load), Some(1));
-    assert_eq!(rt; target_count(&load), 4680);
-    for offset in [0, 1, 4679] {
-        let wanted = Target {
-            file: 1,
-            segment: 2,
-            offset,
-        };
-        assert_eq!(rt; target(&load, offset), Some(wanted));
-    }
-    assert_eq!(rt; target(&load, 4680), None);
+    same(&rt, table(&load), Some(1));
+    same(&rt, target_count(&load), 4680);
+    same(&rt, target(&load, 0), called(0));
+    same(&rt, target(&load, 1), called(1));
+    same(&rt, target(&load, 4679), called(4679));
+    same(&rt, target(&load, 4680), None);
     Ok(())
 }
 
@@ -199,8 +243,8 @@ fn a_file_without_a_table(rt: HostRuntime) -> Result<(), Fail> {
     let Ok(load) = read(alloc, &file) else {
         return Err(Fail::new("the file is read"));
     };
-    assert_eq!(rt; table(&load), None);
-    assert_eq!(rt; target_count(&load), 0);
-    assert_eq!(rt; target(&load, 0), None);
+    same(&rt, table(&load), None);
+    same(&rt, target_count(&load), 0);
+    same(&rt, target(&load, 0), None);
     Ok(())
 }

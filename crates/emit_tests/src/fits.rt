@@ -1,7 +1,7 @@
 //! What fits into its record and what doesn't, row by row at its borders, and which of two faults is told. Each row is a segment's
 //! records, and the body or the fault that is expected of them.
 use crate::objects::{SAME, fault, fault_of, linked, object_of};
-use link_meaning::LinkCause;
+use link_meaning::{LinkCause, LinkFault};
 use std::alloc::Global;
 
 /// Where a load segment's body begins.
@@ -23,7 +23,7 @@ fn gives(alloc: Global, change: (usize, u8), cells: u32, records: &[u8], body: &
 
 /// The records of a segment, the number of its cells, and the body of its load segment, which is the first of three and has the jump
 /// table behind it.
-const FITS: [(&[u8], u8, &[u8]); 38] = [
+static FITS: [(&[u8], u8, &[u8]); 38] = [
     // Numbers, each at the greatest that fits; EXPR drops what is above.
     (
         &[0xEB, 1, 0x81, 0xFF, 1, 0, 0, 0],
@@ -238,7 +238,7 @@ const FITS: [(&[u8], u8, &[u8]); 38] = [
 ];
 
 /// The records of a segment, the number of its cells, the cause with which it is refused, the name that is told, and the place.
-const REFUSED: [(&[u8], u8, LinkCause, &[u8], u32); 53] = [
+static REFUSED: [(&[u8], u8, LinkCause, &[u8], u32); 53] = [
     // Numbers, each the least that doesn't fit; a number is no distance.
     (
         &[0xEC, 1, 0x81, 0, 1, 0, 0, 0],
@@ -656,8 +656,8 @@ const REFUSED: [(&[u8], u8, LinkCause, &[u8], u32); 53] = [
 #[test]
 fn values_fit(rt: HostRuntime) {
     let alloc = rt.alloc();
-    for (records, cells, body) in FITS {
-        let fits = gives(alloc, SAME, u32::from(cells), records, body);
+    for (records, cells, body) in &FITS {
+        let fits = gives(alloc, SAME, u32::from(*cells), records, body);
         assert!(rt; fits, "{records:?}");
     }
 
@@ -669,25 +669,23 @@ fn values_fit(rt: HostRuntime) {
     assert!(rt; gives(alloc, (0x15, 0x80), 4, call, body));
 }
 
+/// Why a member of so many cells with these records isn't linked.
+fn fault_in(alloc: Global, change: (usize, u8), cells: u8, records: &[u8]) -> Option<LinkFault> {
+    fault_of(linked(alloc, object_of(alloc, change, u32::from(cells), records)))
+}
+
 #[test]
 fn values_are_refused(rt: HostRuntime) {
     let alloc = rt.alloc();
-    for (records, cells, cause, name, place) in REFUSED {
-        let object = object_of(alloc, SAME, u32::from(cells), records);
-        let told = fault_of(linked(alloc, object));
-        assert_eq!(rt;
-            told,
-            Some(fault(alloc, cause, name, 1, place)),
-            "{records:?}"
-        );
+    for (records, cells, cause, name, place) in &REFUSED {
+        let told = fault_in(alloc, SAME, *cells, records);
+        let want = Some(fault(alloc, *cause, name, 1, *place));
+        assert_eq!(rt; told, want, "{records:?}");
     }
 
     // BEXPR of a place, where BANKSIZE is 0.
     let near = &[0xED, 2, 0x83, 1, 0x4D, 0];
-    let object = object_of(alloc, (0x12, 0), 2, near);
-    let told = fault_of(linked(alloc, object));
-    assert_eq!(rt;
-        told,
-        Some(fault(alloc, LinkCause::DoesNotFit, b"", 1, 0x38))
-    );
+    let told = fault_in(alloc, (0x12, 0), 2, near);
+    let want = Some(fault(alloc, LinkCause::DoesNotFit, b"", 1, 0x38));
+    assert_eq!(rt; told, want);
 }

@@ -4,8 +4,6 @@
 
 mod law;
 mod table;
-#[cfg(test)]
-mod tests;
 
 pub use iigs_meaning::{Content, Handle, Slot, Stale};
 pub use law::dead_stay_dead;

@@ -9,6 +9,3 @@ pub use entry::{put_entry, read_entry, set_loaded, set_unloaded, set_user};
 pub use laws::entries_are_read_in_one_way;
 pub use load_meaning::{Entry, Target};
 pub use table::{MOST_ENTRIES, Table, TableFault};
-
-#[cfg(test)]
-mod tests;

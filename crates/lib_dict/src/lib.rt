@@ -17,8 +17,6 @@ mod parts;
 mod reading;
 mod record_forms;
 mod rows;
-#[cfg(test)]
-mod tests;
 mod texts;
 
 pub use dictionary::{Dictionary, Row};

@@ -22,7 +22,7 @@ pub first_here : (align : ℕ) (all : List (ℕ × Record)) (at after : Reader) 
 first_here align all at after found cause f w e =
     sym (f.whole ∙ ap (records_fault align) w.1 ∙ ap (λ (o : Option LinkCause). option_or (option_map (with_place found.0) o) (records_fault align w.0)) e)
 
-pub first_more : (align : ℕ) (all : List (ℕ × Record)) (at after : Reader) (found : ℕ × Record) (f : FirstLeft align all at) → Walks after f.back (Some found)
+unfoldable pub first_more : (align : ℕ) (all : List (ℕ × Record)) (at after : Reader) (found : ℕ × Record) (f : FirstLeft align all at) → Walks after f.back (Some found)
     → record_fault align found.1 ≡ None → FirstLeft align all after
 first_more align all at after found f w e = record {
   back = w.0;

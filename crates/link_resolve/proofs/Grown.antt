@@ -20,10 +20,10 @@ pub grows : (at : ℕ) (founds : List (ℕ × Record)) → at ≤ place_behind a
 grows at [] = omega arith
 grows at (found ∷ founds) = omega (arith, grows (at + size_at at found.1) founds)
 
-abbrev nothing : Option ℕ
+abbrev pub nothing : Option ℕ
 nothing = None
 
-abbrev choice : ℕ → Bool → Option ℕ
+abbrev pub choice : ℕ → Bool → Option ℕ
 choice n b = if b then Some n else None
 
 pub fits_32 : (n size : ℕ) → n ≡ size → size < 2 ^ 32 → Some size ≡ in_32_bits n

@@ -1,12 +1,12 @@
 pub mod Lists
 pub mod OnOks
-pub mod Spelled
 pub mod ShortNames
 pub mod NameTables
 pub mod EmptyTables
 pub mod ComingLaws
 pub mod Grown
 pub mod FirstLeft
+pub mod Sized
 pub mod SegmentsLeft
 pub mod SegmentName
 pub mod ListedLaws

@@ -8,7 +8,7 @@ use Rattle.link_meaning.specs.First.{first_some}
 use Rattle.link_meaning.specs.Member.{Member, Offer}
 use Rattle.link_meaning.specs.Uses.{Use}
 use Rattle.link_meaning.specs.Search.{Found}
-use Rattle.link_meaning.specs.LinkedList.{Asked, asked, unless_found, wanted_by, wanted}
+use Rattle.link_meaning.specs.LinkedList.{Asked, asked, row_for, found_for, unless_found, wanted_by, wanted}
 use Rattle.link_resolve.specs.declared.names.Outcome.{Outcome}
 use Rattle.link_resolve.specs.declared.names.Outcome.TheVariants.{Nothing, One, Several}
 use Rattle.link_resolve.specs.declared.uses.Use as kept
@@ -76,3 +76,21 @@ unfolding wanted
 wanted_none os list table k holds past so_far =
     let size : length (asked list) ≡ length table.uses = sym (length-map (asked list) told_use) ∙ sym (ap length holds.uses) in
     sym (ap (first_some (wanted_at os list)) (take_past (asked list) k (omega (arith, size, past)))) ∙ so_far
+
+-- where there are no rows, no use wants anything
+nothing_found : (found : List Found) → unless_found found None ≡ None
+nothing_found [] = refl
+nothing_found (f ∷ found) = refl
+
+no_row_wanted : (list : List Member) (a : Asked) → wanted_at [] list a ≡ None
+unfolding row_for
+no_row_wanted list a = nothing_found (found_for list a.place a.member a.use')
+
+none_wanted : (list : List Member) (items : List Asked) → first_some (wanted_at [] list) items ≡ None
+none_wanted list [] = refl
+none_wanted list (a ∷ items) = ap (λ (o : Option Member). option_or o (first_some (wanted_at [] list) items)) (no_row_wanted list a) ∙ none_wanted list items
+
+pub wanted_without_rows : (os : List Offer) (list : List Member) → length os ≡ 0 → wanted os list ≡ None
+unfolding wanted
+wanted_without_rows [] list none = none_wanted list (asked list)
+wanted_without_rows (o ∷ os) list none = absurd (omega (arith, none))

@@ -1,14 +1,16 @@
 //! What the segments of an input may have.
 
-ghost use Rattle.std.specs.Prelude.{◌≡◌, option_map};
+ghost use Rattle.std.specs.Prelude.{◌≡◌, Some, None, option_map, IfOk, IfErr};
 ghost use Rattle.omf_format.specs.Header.{alignment_of};
 ghost use Rattle.omf_header.specs.View.{fields};
 ghost use Rattle.omf_records.specs.Segments.{IsSound, shown};
 ghost use Rattle.omf_records.specs.View.{view};
+ghost use Rattle.link_meaning.specs.Sizes.{body_size};
 ghost use Rattle.link_meaning.specs.LinkFaults.{type_fault, record_fault, records_fault, length_fault, segment_fault, segments_fault};
+ghost use Rattle.link_resolve.specs.Sizes.{in_32_bits};
 
 use crate::reading::next_record;
-use crate::sizes::body_size;
+use crate::sizes::size_behind;
 use link_meaning::LinkCause;
 use omf_header::Header;
 use omf_records::{Rec, SegmentList, SegmentView};
@@ -55,31 +57,35 @@ fn record_fault(rec: &Rec, align: u32) -> Option<LinkCause>
     }
 }
 
-/// The first of a segment's records that it may not have, with its displacement.
-fn records_fault(segment: &SegmentView) -> Option<(LinkCause, u32)>
+/// How many cells a segment's records give, where that number has 32 bits. Otherwise the first of them that it may not have,
+/// with its displacement.
+fn records_size(segment: &SegmentView) -> Result<Option<u32>, (LinkCause, u32)>
     requires { IsSound segment.now }
-    ensures { result ≡ records_fault (alignment_of segment.now.header.align) (shown segment.now).records }
+    ensures sound { IfOk result (λ _. records_fault (alignment_of segment.now.header.align) (shown segment.now).records ≡ None) }
+    ensures size { IfOk result (λ size. size ≡ in_32_bits (body_size (shown segment.now))) }
+    ensures fault { IfErr result (λ found. records_fault (alignment_of segment.now.header.align) (shown segment.now).records ≡ Some found) }
 {
     let align = segment.header.alignment();
     let mut records = segment.records();
+    let mut size = Some(0);
     'walk: loop {
         match next_record(&mut records) {
-            None => return None,
+            None => return Ok(size),
             Some((at, rec)) => match record_fault(&rec, align) {
-                Some(cause) => return Some((cause, at)),
-                None => {}
+                Some(cause) => return Err((cause, at)),
+                None => size = size_behind(size, &rec),
             },
         }
     }
 }
 
 /// LENGTH counts the cells of the records and RESSPC.
-fn length_fault(segment: &SegmentView) -> Option<(LinkCause, u32)>
-    requires { IsSound segment.now }
+fn length_fault(segment: &SegmentView, size: Option<u32>) -> Option<(LinkCause, u32)>
+    requires { size ≡ in_32_bits (body_size (shown segment.now)) }
     ensures { result ≡ length_fault (shown segment.now) }
 {
     let length = u64::from(segment.header.length);
-    match body_size(segment) {
+    match size {
         Some(size) if u64::from(size) + u64::from(segment.header.res_spc) == length => None,
         _ => Some((LinkCause::BadLength, segment.start)),
     }
@@ -93,9 +99,9 @@ fn segment_fault(segment: &SegmentView, first: bool) -> Option<(LinkCause, u32)>
 {
     match type_fault(&segment.header, first) {
         Some(cause) => Some((cause, segment.start)),
-        None => match records_fault(segment) {
-            Some(found) => Some(found),
-            None => length_fault(segment),
+        None => match records_size(segment) {
+            Err(found) => Some(found),
+            Ok(size) => length_fault(segment, size),
         },
     }
 }

@@ -10,8 +10,5 @@ pub fn expression_of(bytes: &[u8], lab_len: u8) -> Expr<'_>
     requires { IsExpression lab_len bytes.now }
     ensures { result ≡ record { text = bytes.now; lab_len = lab_len } }
 {
-    match Expr::of(bytes, lab_len) {
-        Ok(expr) => expr,
-        Err(_) => unreachable!(),
-    }
+    Expr::spelled(bytes, lab_len)
 }

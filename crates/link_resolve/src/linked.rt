@@ -406,6 +406,9 @@ impl<'a> Linked<'a> {
         ensures { (list : List Member) (os : List Offer) → Holds list self.now → AreOffers os offers.now → WantsNothing os list from
             → IsWanted os list result }
     {
+        if offers.count() == 0 {
+            return None;
+        }
         let mut number = from;
         'uses: while number < self.uses.count() {
             let used = self.uses.get(number);

@@ -50,6 +50,7 @@ impl<'a> Names<'a> {
     }
 
     /// What a step finds under a name.
+    #[inline(always)]
     pub fn look(&self, key: Key) -> Outcome
         ensures { (rows : List Row) → Indexes rows self.now → result ≡ outcome rows (key_of key.entry) }
     {
@@ -61,6 +62,7 @@ impl<'a> Names<'a> {
     }
 
     /// What all see under a name.
+    #[inline(always)]
     fn look_public(&self, name: &[u8]) -> Outcome
         ensures { result ≡ found_or (kept_under Everyone name.now self.now) }
     {
@@ -74,6 +76,7 @@ impl<'a> Names<'a> {
     }
 
     /// What lies under a key among those that not all see.
+    #[inline(always)]
     fn look_other(&self, key: Key) -> Outcome
         ensures { result ≡ found_or (get_by (λ k. is_key (key_of key.entry) (key_of k)) self.now.others) }
     {

@@ -1,6 +1,6 @@
 //! How many cells records give.
 
-ghost use Rattle.std.specs.Prelude.{◌≡◌, ◌+◌, ◌<◌, ◌^◌};
+ghost use Rattle.std.specs.Prelude.{◌≡◌, ◌+◌, ◌<◌, ◌^◌, ℕ};
 ghost use Rattle.link_meaning.specs.Sizes.{padding, size_at, body_size};
 ghost use Rattle.link_resolve.specs.Sizes.{in_32_bits};
 ghost use Rattle.omf_records.specs.Segments.{IsSound, shown};
@@ -43,6 +43,22 @@ pub fn size_at(rec: &Rec, location: u32) -> u64
         | Rec::Label { .. }
         | Rec::Equate { .. }
         | Rec::Entry { .. } => 0,
+    }
+}
+
+/// How many cells there are with a record behind so many, where these numbers have 32 bits.
+pub fn size_behind(size: Option<u32>, rec: &Rec) -> Option<u32>
+    ensures { (n : ℕ) → size ≡ in_32_bits n → result ≡ in_32_bits (n + size_at n (view rec.now)) }
+{
+    match size {
+        None => None,
+        Some(size) => {
+            let next = u64::from(size) + size_at(rec, size);
+            if next > u64::from(u32::MAX) {
+                return None;
+            }
+            Some(next as u32)
+        }
     }
 }
 

@@ -130,10 +130,7 @@ fn terms_of(expr: &[u8], lab_len: u8) -> Terms<'_>
     requires { IsExpression lab_len expr.now }
     ensures { result ≡ terms_in lab_len 0 expr.now }
 {
-    match Expr::of(expr, lab_len) {
-        Ok(expr) => expr.terms(),
-        Err(_) => unreachable!(),
-    }
+    Expr::spelled(expr, lab_len).terms()
 }
 
 /// The uses of an expression, in the order of its terms.

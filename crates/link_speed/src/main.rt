@@ -1,6 +1,7 @@
 //! Reads files and resolves them as inputs of the linker, for `bench/link`.
 #![tactic(auto)]
 
+use link_meaning::LinkFault;
 use link_resolve::{Program, are_few, resolve};
 use omf_io::{Files, HostFiles};
 use std::alloc::{AllocError, Global};
@@ -20,14 +21,33 @@ fn read_all(rt: &HostRuntime, paths: &[String]) -> Result<Result<Vec<Vec<u8>>, u
     Ok(Ok(inputs))
 }
 
-/// Looks up the first name of each member there; how many have a definition.
-fn count_titles(program: &Program) -> u32 {
+/// The files resolved, where they are few. It promises nothing, as what follows it, so that their callers' proofs are short.
+fn resolved(alloc: Global, inputs: &Vec<Vec<u8>>) -> Option<Result<Program<'_>, LinkFault>> {
+    if !are_few(inputs) {
+        return None;
+    }
+    Some(resolve(alloc, inputs))
+}
+
+/// Whether the first name of a member is looked up there with a definition.
+fn has_title(program: &Program, place: u32) -> bool {
+    match program.view(place) {
+        Some(view) => program.symbol(place, view.header.name.bytes()).is_some(),
+        None => false,
+    }
+}
+
+/// How many members there are, and how many load segments.
+fn sizes(program: &Program) -> (u32, u32) {
+    (program.members(), program.load_count())
+}
+
+/// How many of so many members have a definition of their first name.
+fn count_titles(program: &Program, members: u32) -> u32 {
     let mut count = 0u32;
-    for place in 1..=program.members() {
-        if let Some(view) = program.view(place) {
-            if program.symbol(place, view.header.name.bytes()).is_some() {
-                count = count.wrapping_add(1);
-            }
+    for place in 1..=members {
+        if has_title(program, place) {
+            count = count.wrapping_add(1);
         }
     }
     count
@@ -35,17 +55,14 @@ fn count_titles(program: &Program) -> u32 {
 
 /// Prints what the files resolve to.
 fn resolve_all(rt: &HostRuntime, inputs: &Vec<Vec<u8>>) -> io::Result<()> {
-    if !are_few(inputs) {
-        return println!(rt; "too long");
-    }
-    match resolve(rt.alloc(), inputs) {
-        Ok(program) => println!(rt;
-            "members {} loads {} titles {}",
-            program.members(),
-            program.load_count(),
-            count_titles(&program)
-        ),
-        Err(fault) => println!(rt;
+    match resolved(rt.alloc(), inputs) {
+        None => println!(rt; "too long"),
+        Some(Ok(program)) => {
+            let (members, loads) = sizes(&program);
+            let titles = count_titles(&program, members);
+            println!(rt; "members {members} loads {loads} titles {titles}")
+        }
+        Some(Err(fault)) => println!(rt;
             "refused {:?} {} {} {}",
             fault.cause, fault.spot.file, fault.spot.segment, fault.spot.at
         ),

@@ -1,6 +1,9 @@
 // Dynamic segments over a file that changes. Facts and displacements are written by hand from the format.
-use omf_io::MemoryFiles;
-use std::alloc::Global;
+use crate::asserting::same;
+use crate::programs::{CODE, DYNAMIC, EMPTY_CODE, TABLE, file_of};
+use omf_io::{MemoryFiles, WriteFault};
+use std::alloc::{AllocError, Global};
+use std::process::Abort;
 use std::test::Fail;
 use sys_loader::{Facts, Loader, LoaderFault};
 
@@ -19,74 +22,52 @@ const FIRST: Facts = Facts {
 /// Where the dynamic segment comes: behind the code and the table.
 const PLACE: u32 = 0x81B;
 
-/// Appends a segment with this KIND, LENGTH and body, whose name is empty and which stays in a bank.
-pub(crate) fn put(
-    out: &mut Vec<u8>,
-    number: u8,
-    kind: [u8; 2],
-    length: u8,
-    body: &[u8],
-) -> Result<(), Fail> {
-    if body.len() > 200 {
-        return Err(Fail::new("the body is too long"));
-    }
-    out.extend_from_slice(&[(0x37 + body.len()) as u8, 0, 0, 0, 0, 0, 0, 0])?;
-    out.extend_from_slice(&[length, 0, 0, 0, 0, 0, 4, 2, 0, 0, 1, 0])?;
-    out.extend_from_slice(&kind)?;
-    out.extend_from_slice(&[0; 12])?;
-    out.extend_from_slice(&[number, 0, 0, 0, 0, 0, 0x2C, 0, 0x37, 0])?;
-    out.extend_from_slice(b"          \0")?;
-    out.extend_from_slice(body)?;
-    Ok(())
-}
-
-/// Code, a dynamic segment, and a table with an entry for it.
-fn program(alloc: Global) -> Result<Vec<u8>, Fail> {
-    let mut file = Vec::new(alloc);
-    put(&mut file, 1, [0, 0], 1, &[0xF2, 1, 0, 0, 0, 0x60, 0])?;
-    put(
-        &mut file,
-        2,
-        [0, 0x80],
-        2,
-        &[0xF2, 2, 0, 0, 0, 0xEA, 0x6B, 0],
-    )?;
-    put(
-        &mut file,
-        3,
-        [2, 0],
-        26,
-        &[
-            0xF2, 26, 0, 0, 0, 0, 0, 0, 0, 0, 0, 0, 0, // zeros
-            0, 0, 1, 0, 2, 0, 1, 0, 0, 0, 0x22, 0, 0xF0, 0xE1, 0, 0, 0, 0, // the entry
-            0,
-        ],
-    )?;
-    Ok(file)
-}
-
 /// How long the program is before its table.
 const BEFORE_TABLE: usize = 0x7D;
 
-/// Bytes changed at displacements.
-fn changed(alloc: Global, bytes: &[u8], changes: &[(usize, u8)]) -> Result<Vec<u8>, Fail> {
-    let mut bytes = bytes.to_vec(alloc)?;
+/// Code, a dynamic segment, and a table with an entry for it, with bytes changed at displacements.
+fn program(alloc: Global, changes: &[(usize, u8)]) -> Result<Vec<u8>, AllocError> {
+    changed(alloc, &[&CODE, &DYNAMIC, &TABLE], changes)
+}
+
+/// A file of these segments, with bytes changed at displacements.
+fn changed(
+    alloc: Global,
+    segments: &[&[u8]],
+    changes: &[(usize, u8)],
+) -> Result<Vec<u8>, AllocError> {
+    let mut file = file_of(alloc, segments)?;
+    change(file.as_mut_slice(), changes);
+    Ok(file)
+}
+
+fn change(bytes: &mut [u8], changes: &[(usize, u8)]) {
     for (at, value) in changes {
         if let Some(byte) = bytes.get_mut(*at) {
             *byte = *value;
         }
     }
-    Ok(bytes)
 }
 
-/// A loader with the program at `p`.
-fn loaded(alloc: Global, files: &mut MemoryFiles) -> Result<Loader, Fail> {
-    files.set("p", &program(alloc)?)?;
-    let Ok(mut loader) = Loader::new(alloc, &[2, 0]) else {
-        return Err(Fail::new("the banks are refused"));
-    };
+// The calls as the tests make them. They promise nothing, so a test's proof is as short as the test.
+fn files_of(alloc: Global, failing: Vec<u32>) -> MemoryFiles {
+    MemoryFiles::new(alloc, failing)
+}
+
+fn put(files: &mut MemoryFiles, bytes: &[u8]) -> Result<(), WriteFault> {
+    files.set("p", bytes)
+}
+
+fn loader_of(alloc: Global) -> Result<Loader, Fail> {
+    match Loader::new(alloc, &[2, 0]) {
+        Ok(loader) => Ok(loader),
+        Err(_) => Err(Fail::new("the banks are refused")),
+    }
+}
+
+fn load(loader: &mut Loader, files: &mut MemoryFiles) -> Result<(), Fail> {
     match loader.load(files, "p") {
-        Ok(_) => Ok(loader),
+        Ok(_) => Ok(()),
         Err(_) => Err(Fail::new("the program isn't loaded")),
     }
 }
@@ -96,24 +77,89 @@ fn comes(loader: &mut Loader, files: &mut MemoryFiles) -> Result<u32, LoaderFaul
     loader.load_segment(files, 0x1001, 2)
 }
 
-/// The same where the file is another one by then.
-fn answer(alloc: Global, later: &[u8]) -> Result<Result<u32, LoaderFault>, Fail> {
-    let mut files = MemoryFiles::new(alloc, Vec::new(alloc));
-    let mut loader = loaded(alloc, &mut files)?;
-    files.set("p", later)?;
-    Ok(comes(&mut loader, &mut files))
+fn counts(files: &MemoryFiles) -> (u64, u64) {
+    (files.faults(), files.asked())
 }
 
-/// Whether the file is refused with these facts.
-fn is_changed(alloc: Global, later: &[u8], kept: Facts, found: Facts) -> Result<bool, Fail> {
-    Ok(answer(alloc, later)? == Err(LoaderFault::Changed { kept, found }))
+/// Loads the program.
+fn start(alloc: Global, loader: &mut Loader, files: &mut MemoryFiles) -> Result<(), Fail> {
+    put(files, program(alloc, &[])?.as_slice())?;
+    load(loader, files)
 }
 
-/// Whether the file is refused for a fault in the segment with a number.
-fn is_bad(alloc: Global, later: &[u8], segment: u32) -> Result<bool, Fail> {
+/// What is answered for the dynamic segment: where it comes, and its two bytes.
+type Answer = Result<(u32, [u8; 2]), LoaderFault>;
+
+fn answered(loader: &mut Loader, files: &mut MemoryFiles) -> Answer {
+    let place = comes(loader, files)?;
+    match loader.bytes(0x1001, 2, 0, 2)? {
+        [first, second] => Ok((place, [*first, *second])),
+        _ => Err(LoaderFault::OutOfSegment),
+    }
+}
+
+/// The answer where the file is another one by then.
+fn answered_later(
+    alloc: Global,
+    loader: &mut Loader,
+    files: &mut MemoryFiles,
+    later: &[u8],
+) -> Result<Answer, Fail> {
+    start(alloc, loader, files)?;
+    put(files, later)?;
+    Ok(answered(loader, files))
+}
+
+fn answer_of(alloc: Global, loader: &mut Loader, later: &[u8]) -> Result<Answer, Fail> {
+    let mut files = files_of(alloc, Vec::new(alloc));
+    answered_later(alloc, loader, &mut files, later)
+}
+
+fn answer(alloc: Global, later: &[u8]) -> Result<Answer, Fail> {
+    let mut loader = loader_of(alloc)?;
+    answer_of(alloc, &mut loader, later)
+}
+
+/// The same where the program's bytes are changed.
+fn answer_to(alloc: Global, changes: &[(usize, u8)]) -> Result<Answer, Fail> {
+    answer(alloc, program(alloc, changes)?.as_slice())
+}
+
+/// This is answered where the program's bytes are changed.
+fn answers(
+    rt: &(impl Alloc<A = Global> + Abort),
+    n: usize,
+    changes: &[(usize, u8)],
+    want: Answer,
+) -> Result<(), Fail> {
+    same(rt, n, answer_to(rt.alloc(), changes)?, want);
+    Ok(())
+}
+
+/// This is answered where the file has these segments, with bytes changed.
+fn answers_to(
+    rt: &(impl Alloc<A = Global> + Abort),
+    n: usize,
+    segments: &[&[u8]],
+    changes: &[(usize, u8)],
+    want: Answer,
+) -> Result<(), Fail> {
+    let alloc = rt.alloc();
+    let later = changed(alloc, segments, changes)?;
+    same(rt, n, answer(alloc, later.as_slice())?, want);
+    Ok(())
+}
+
+/// The file is refused with these facts.
+fn is_changed(kept: Facts, found: Facts) -> Answer {
+    Err(LoaderFault::Changed { kept, found })
+}
+
+/// The number of the segment that has a fault, where the file is refused for one.
+fn bad_segment(alloc: Global, later: &[u8]) -> Result<Option<u32>, Fail> {
     match answer(alloc, later)? {
-        Err(LoaderFault::BadFile(fault)) => Ok(fault.segment == segment),
-        _ => Ok(false),
+        Err(LoaderFault::BadFile(fault)) => Ok(Some(fault.segment)),
+        _ => Ok(None),
     }
 }
 
@@ -131,39 +177,37 @@ fn many(count: u32) -> Facts {
     }
 }
 
+static HEADERS: [(&[(usize, u8)], Facts); 6] = [
+    (&[(4, 1), (8, 2)], Facts { length: 2, ..FIRST }),
+    (&[(0x14, 1)], Facts { kind: 1, ..FIRST }),
+    (
+        &[(0x12, 0)],
+        Facts {
+            bank_size: 0,
+            ..FIRST
+        },
+    ),
+    (
+        &[(0x1A, 2)],
+        Facts {
+            org: 0x2_0000,
+            ..FIRST
+        },
+    ),
+    (
+        &[(0x1D, 1)],
+        Facts {
+            align: 0x100,
+            ..FIRST
+        },
+    ),
+    (&[(0x24, 1)], Facts { entry: 1, ..FIRST }),
+];
+
 #[test]
 fn a_changed_header_is_told(rt: HostRuntime) -> Result<(), Fail> {
-    let alloc = rt.alloc();
-    let program = program(alloc)?;
-    let changes: [(&[(usize, u8)], Facts); 6] = [
-        (&[(4, 1), (8, 2)], Facts { length: 2, ..FIRST }),
-        (&[(0x14, 1)], Facts { kind: 1, ..FIRST }),
-        (
-            &[(0x12, 0)],
-            Facts {
-                bank_size: 0,
-                ..FIRST
-            },
-        ),
-        (
-            &[(0x1A, 2)],
-            Facts {
-                org: 0x2_0000,
-                ..FIRST
-            },
-        ),
-        (
-            &[(0x1D, 1)],
-            Facts {
-                align: 0x100,
-                ..FIRST
-            },
-        ),
-        (&[(0x24, 1)], Facts { entry: 1, ..FIRST }),
-    ];
-    for (change, found) in changes {
-        let later = changed(alloc, &program, change)?;
-        assert!(rt; is_changed(alloc, &later, FIRST, found)?);
+    for (n, (changes, found)) in HEADERS.iter().enumerate() {
+        answers(&rt, n, changes, is_changed(FIRST, *found))?;
     }
     Ok(())
 }
@@ -171,64 +215,61 @@ fn a_changed_header_is_told(rt: HostRuntime) -> Result<(), Fail> {
 // What isn't kept of a file may be another: here a byte of the dynamic segment.
 #[test]
 fn another_body_is_loaded(rt: HostRuntime) -> Result<(), Fail> {
-    let alloc = rt.alloc();
-    let later = changed(alloc, &program(alloc)?, &[(0x7A, 0xE8)])?;
-    let mut files = MemoryFiles::new(alloc, Vec::new(alloc));
-    let mut loader = loaded(alloc, &mut files)?;
-    files.set("p", &later)?;
-    assert!(rt; comes(&mut loader, &mut files) == Ok(PLACE));
-    let bytes: &[u8] = &[0xE8, 0x6B];
-    assert!(rt; loader.bytes(0x1001, 2, 0, 2) == Ok(bytes));
-    Ok(())
+    answers(&rt, 0, &[(0x7A, 0xE8)], Ok((PLACE, [0xE8, 0x6B])))
 }
 
 #[test]
 fn a_changed_number_of_segments_is_told(rt: HostRuntime) -> Result<(), Fail> {
-    let alloc = rt.alloc();
-    let mut longer = program(alloc)?;
-    let Some(front) = longer.as_slice().get(..BEFORE_TABLE) else {
-        return Err(Fail::new("the program is short"));
-    };
-    let shorter = front.to_vec(alloc)?;
-    assert!(rt; is_changed(alloc, &shorter, many(3), many(2))?);
-    put(&mut longer, 4, [0, 0], 0, &[0])?;
-    assert!(rt; is_changed(alloc, &longer, many(3), many(4))?);
+    let fewer = is_changed(many(3), many(2));
+    answers_to(&rt, 0, &[&CODE, &DYNAMIC], &[], fewer)?;
+    let more = is_changed(many(3), many(4));
+    answers_to(&rt, 1, &[&CODE, &DYNAMIC, &TABLE, &EMPTY_CODE], &[], more)
+}
 
-    // A segment that differs comes first.
-    let both = changed(alloc, &shorter, &[(0x24, 1)])?;
+#[test]
+fn a_changed_header_comes_before_the_number_of_segments(rt: HostRuntime) -> Result<(), Fail> {
     let found = Facts {
         count: 2,
         entry: 1,
         ..FIRST
     };
-    assert!(rt; is_changed(alloc, &both, FIRST, found)?);
-    Ok(())
+    let both = is_changed(FIRST, found);
+    answers_to(&rt, 0, &[&CODE, &DYNAMIC], &[(0x24, 1)], both)
 }
 
 // The file is no load file any more: that comes before what has changed in it.
 #[test]
 fn a_bad_file_is_told_before_a_change(rt: HostRuntime) -> Result<(), Fail> {
     let alloc = rt.alloc();
-    let later = changed(
-        alloc,
-        &program(alloc)?,
-        &[(0x24, 1), (BEFORE_TABLE + 0xF, 7)],
-    )?;
-    assert!(rt; is_bad(alloc, &later, 3)?);
-    assert!(rt; is_bad(alloc, &[], 0)?);
+    let later = program(alloc, &[(0x24, 1), (BEFORE_TABLE + 0xF, 7)])?;
+    same(&rt, 0, bad_segment(alloc, later.as_slice())?, Some(3));
+    same(&rt, 1, bad_segment(alloc, &[])?, Some(0));
     Ok(())
+}
+
+fn second_read_fails(
+    rt: &(impl Alloc<A = Global> + Abort),
+    loader: &mut Loader,
+    files: &mut MemoryFiles,
+) -> Result<(), Fail> {
+    start(rt.alloc(), loader, files)?;
+    same(rt, 0, comes(loader, files), Err(LoaderFault::CannotRead));
+    same(rt, 1, counts(files), (1, 2));
+    same(rt, 2, comes(loader, files), Ok(PLACE));
+    same(rt, 3, comes(loader, files), Ok(PLACE));
+    same(rt, 4, counts(files), (1, 3));
+    Ok(())
+}
+
+fn reads(rt: &(impl Alloc<A = Global> + Abort), loader: &mut Loader) -> Result<(), Fail> {
+    let alloc = rt.alloc();
+    let mut files = files_of(alloc, vec![in alloc; 2]?);
+    second_read_fails(rt, loader, &mut files)
 }
 
 // The second read fails, and the next one doesn't. A segment that is there isn't read again.
 #[test]
 fn a_read_that_fails_is_told(rt: HostRuntime) -> Result<(), Fail> {
-    let alloc = rt.alloc();
-    let mut files = MemoryFiles::new(alloc, vec![in alloc; 2]?);
-    let mut loader = loaded(alloc, &mut files)?;
-    assert!(rt; comes(&mut loader, &mut files) == Err(LoaderFault::CannotRead));
-    assert!(rt; (files.faults(), files.asked()) == (1, 2));
-    assert!(rt; comes(&mut loader, &mut files) == Ok(PLACE));
-    assert!(rt; comes(&mut loader, &mut files) == Ok(PLACE));
-    assert!(rt; (files.faults(), files.asked()) == (1, 3));
-    Ok(())
+    let mut loader = loader_of(rt.alloc())?;
+    reads(&rt, &mut loader)
 }

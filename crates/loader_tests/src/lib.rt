@@ -2,6 +2,10 @@
 #![tactic(auto)]
 
 #[cfg(test)]
+mod asserting;
+#[cfg(test)]
 mod changed_files;
+#[cfg(test)]
+mod programs;
 #[cfg(test)]
 mod refused_memory;

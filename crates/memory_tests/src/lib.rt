@@ -1,5 +1,9 @@
-//! Tests of memory of banks.
+//! Tests of slots with generations and of memory of banks.
 #![tactic(auto)]
 
 #[cfg(test)]
+mod asserting;
+#[cfg(test)]
 mod blocks;
+#[cfg(test)]
+mod slots;

@@ -18,6 +18,3 @@ pub use number::number_at;
 pub use split::split_line;
 pub use spot::Spot;
 pub use trailing::without_trailing;
-
-#[cfg(test)]
-mod tests;

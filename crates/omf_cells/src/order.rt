@@ -129,6 +129,15 @@ fn one_run(alloc: Global, count: usize) -> Result<Vec<usize>, AllocError>
     Ok(runs)
 }
 
+/// The same spots, in no more memory than they need.
+fn fitted(spots: Vec<Spot>) -> Vec<Spot>
+    ensures { result.items ≡ spots.items }
+{
+    let mut spots = spots;
+    spots.shrink_to_fit();
+    spots
+}
+
 /// The same bytes in runs, and how many spots each run has. They stand as they were where these runs are few, and else in the
 /// order of their offsets.
 pub fn in_order(alloc: Global, spots: Vec<Spot>) -> Result<(Vec<Spot>, Vec<usize>), AllocError>
@@ -136,6 +145,8 @@ pub fn in_order(alloc: Global, spots: Vec<Spot>) -> Result<(Vec<Spot>, Vec<usize
     ensures runs { IfOk result (λ kept. AreRuns kept.1.items kept.0.items) }
     ensures last { IfOk result (λ kept. (k : ℕ) → last_at (shown_spots kept.0.items) k ≡ last_at (shown_spots spots.items) k) }
 {
+    // Before the runs take memory, so that they take what this gives back.
+    let spots = fitted(spots);
     match runs_of(alloc, &spots)? {
         Some(runs) => return Ok((spots, runs)),
         None => {}

@@ -50,6 +50,14 @@ impl<'a> Expr<'a> {
         }
     }
 
+    /// The expression that bytes spell. They aren't read again.
+    pub fn spelled(bytes: &'a [u8], lab_len: u8) -> Expr<'a>
+        requires { IsExpression lab_len bytes.now }
+        ensures { result ≡ record { text = bytes.now; lab_len = lab_len } }
+    {
+        Expr { bytes, lab_len }
+    }
+
     /// The bytes of the expression, the $00 at their end included.
     pub fn bytes(&self) -> &'a [u8]
         ensures value { result.now ≡ self.now.text }

@@ -23,6 +23,3 @@ pub use omf_format::{ExprFault, Value, ValueFault};
 pub use term::Term;
 pub use terms::Terms;
 pub use writing::{ExprPutFault, put_term};
-
-#[cfg(test)]
-mod tests;

@@ -1,3 +1,4 @@
+pub mod CountName
 pub mod Maps
 pub mod Parted
 pub mod Fronts
@@ -21,3 +22,5 @@ pub mod Shorts
 pub mod WholeName
 pub mod Templates
 pub mod Plans
+pub mod Heads
+pub mod Renewals

@@ -1,9 +1,7 @@
 -- Pieces from the front on, and quotes that close.
-use Rattle.std.proofs.Common.{◌≡◌, ◌≢◌, ℕ, zero, suc, ◌+◌, ◌<◌, ◌≤◌, Bool, true, false, cond, eqb, ltb, List, [], ◌∷◌, ◌++◌, length, take, drop, map, Option, Some, None, refl, sym, ap, subst, ◌∙◌, append_assoc, append-nil, length-drop, arith}
+use Rattle.std.proofs.Common.{◌≡◌, ℕ, zero, suc, ◌+◌, ◌<◌, ◌≤◌, Bool, true, false, cond, eqb, ltb, List, [], ◌∷◌, ◌++◌, length, take, drop, Option, Some, None, refl, sym, ap, subst, ◌∙◌, append_assoc, append-nil, length-drop, arith}
 use Rattle.std.specs.Prelude.{position, slice_get}
 use Rattle.std.specs.List.{position_or_len}
-use Rattle.std.proofs.lemmas.Bool.{ltb-false, ltb-true}
-use Rattle.std.proofs.lemmas.List.Sums.{prefix_len-le-length}
 use Rattle.orca_meaning.specs.Quotes.{quote_behind}
 use Rattle.macro_meaning.specs.Pieces.{parts, open_behind, with_byte, pieces_from, pieces, closed_at, quoted, appended, joined}
 use Rattle.orca_macro.specs.Piece.{piece_len, AreNotTwo}
@@ -142,7 +140,7 @@ take_all (y ∷ l) (suc i) end = ap (λ (r : List ℕ). y ∷ r) (take_all l i (
 first_piece : (separator k : ℕ) (text : List ℕ) → k ≡ piece_len separator None 0 text → pieces separator text ≡ take k text ∷ after_first separator (drop k text)
 first_piece separator k text k_is = front separator None 0 text ∙ ap (λ (j : ℕ). take j text ∷ after_first separator (drop j text)) (sym k_is)
 
-and_more : (separator : ℕ) (text first second : List ℕ) (byte k : ℕ) → k ≡ piece_len separator None 0 text → first ≡ take k text → drop k text ≡ byte ∷ second
+pub and_more : (separator : ℕ) (text first second : List ℕ) (byte k : ℕ) → k ≡ piece_len separator None 0 text → first ≡ take k text → drop k text ≡ byte ∷ second
     → pieces separator text ≡ first ∷ pieces separator second
 unfolding after_first
 and_more separator text first second byte k k_is first_is rest =
@@ -156,15 +154,17 @@ two_are separator text first second byte k j k_is first_is rest j_is all =
     first_piece separator j second j_is ∙ ap (λ (l : List ℕ). take j second ∷ after_first separator l) (drop_all second j all) ∙ ap (λ (l : List ℕ). l ∷ []) (take_all second j all) in
     and_more separator text first second byte k k_is first_is rest ∙ ap (λ (l : List (List ℕ)). first ∷ l) single
 
-pub one_alone : (separator : ℕ) (text : List ℕ) (k : ℕ) → k ≡ piece_len separator None 0 text → length (drop k text) ≡ 0 → AreNotTwo (pieces separator text)
+pub alone : (separator : ℕ) (text first : List ℕ) (k : ℕ) → k ≡ piece_len separator None 0 text → first ≡ take k text → length (drop k text) ≡ 0 → pieces separator text ≡ first ∷ []
 unfolding after_first
-one_alone separator text k k_is none =
-    let single : pieces separator text ≡ take k text ∷ [] = first_piece separator k text k_is ∙ ap (λ (l : List ℕ). take k text ∷ after_first separator l) (nothing (drop k text) none) in
-    subst AreNotTwo (sym single) tt
+alone separator text first k k_is first_is none =
+    first_piece separator k text k_is ∙ ap (λ (l : List ℕ). take k text ∷ after_first separator l) (nothing (drop k text) none) ∙ ap (λ (l : List ℕ). l ∷ []) (sym first_is)
   where
     nothing : (l : List ℕ) → length l ≡ 0 → l ≡ []
     nothing [] e = refl
     nothing (x ∷ l) e = absurd (omega (arith, e))
+
+pub one_alone : (separator : ℕ) (text : List ℕ) (k : ℕ) → k ≡ piece_len separator None 0 text → length (drop k text) ≡ 0 → AreNotTwo (pieces separator text)
+one_alone separator text k k_is none = subst AreNotTwo (sym (alone separator text (take k text) k k_is refl none)) tt
 
 pub three_are : (separator : ℕ) (text first second : List ℕ) (byte k j : ℕ) → k ≡ piece_len separator None 0 text → first ≡ take k text → drop k text ≡ byte ∷ second
     → j ≡ piece_len separator None 0 second → j < length second → AreNotTwo (pieces separator text)

@@ -20,3 +20,13 @@ pub two_numbers : (text : List ℕ) (operator : Operator) (a b n : ℕ) → a < 
 unfolding answer_of operand_value
 two_numbers text operator a b n small_a small_b means value =
     record { is = λ values. Formula (Binary (operator_code operator) (Leaf (Constant a)) (Leaf (Constant b))) means (rw (lt-leb (2 ^ 32) a small_a, lt-leb (2 ^ 32) b small_b, value) refl) }
+
+pub three_numbers : (text : List ℕ) (operator second : Operator) (a b c m n : ℕ) → a < 2 ^ 32 → b < 2 ^ 32 → c < 2 ^ 32
+    → MeansAt Symbols text (Binary (operator_code operator) (Leaf (Constant a)) (Binary (operator_code second) (Leaf (Constant b)) (Leaf (Constant c)))) []
+    → apply_two (operator_code second) (Fixed b) (Fixed c) ≡ Ok (Fixed m) → apply_two (operator_code operator) (Fixed a) (Fixed m) ≡ Ok (Fixed n) → HasNumber text n
+unfolding answer_of operand_value
+three_numbers text operator second a b c m n small_a small_b small_c means inner value =
+    record {
+      is = λ values. Formula (Binary (operator_code operator) (Leaf (Constant a)) (Binary (operator_code second) (Leaf (Constant b)) (Leaf (Constant c)))) means
+          (rw (lt-leb (2 ^ 32) a small_a, lt-leb (2 ^ 32) b small_b, lt-leb (2 ^ 32) c small_c, inner, value) refl);
+    }

@@ -1,17 +1,10 @@
 -- Numbers in decimal digits.
-use Rattle.std.proofs.Common.{◌≡◌, ℕ, zero, suc, ◌+◌, ◌*◌, ◌<◌, ◌≤◌, ◌^◌, List, length, map, refl, sym, ap, subst, ◌∙◌, arith}
-use Rattle.std.specs.Fmt.{digits}
-use Rattle.std.specs.Int.Digits.{digits_of}
-use Rattle.std.proofs.lemmas.Int.Digits.{length-digits_of-le}
-use Rattle.std.proofs.lemmas.Fmt.{decimal-digits_of}
-use Rattle.std.proofs.lemmas.List.{length-map}
-use Rattle.macro_meaning.specs.Symbol.{decimal}
+use Rattle.std.proofs.Common.{◌≡◌, ℕ, sym, ap, refl, add-one}
+use Rattle.std.specs.Prelude.{ℤ, pos, negsuc, ◌∷◌}
+use Rattle.std.specs.Fmt as std
+use Rattle.macro_meaning.specs.Symbol.{decimal, signed_decimal}
 
--- a number of 32 bits has at most ten digits
-pub decimal_short : (n : ℕ) → n < 2 ^ 32 → length (decimal n) ≤ 10
-unfolding digits
-decimal_short zero fits = let one : length (decimal 0) ≡ 1 = refl in omega (arith, one)
-decimal_short (suc k) fits =
-    let same = decimal-digits_of (suc k) (omega arith) (omega (arith, fits)) in
-    let few : length (digits_of 10 (suc k)) ≤ 10 = length-digits_of-le 10 10 (suc k) (omega arith) (omega (arith, fits)) in
-    omega (arith, few, ap length same, length-map (digits_of 10 (suc k)) (λ d. 48 + d))
+-- a signed number is printed as everywhere
+pub same_digits : (z : ℤ) → std.signed_decimal z ≡ signed_decimal z
+same_digits (pos n) = refl
+same_digits (negsuc n) = ap (λ (m : ℕ). 0x2D ∷ decimal m) (sym (add-one n))

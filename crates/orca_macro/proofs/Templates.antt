@@ -1,11 +1,12 @@
 -- Parts of a line.
 use Rattle.std.proofs.Common.{◌≡◌, ℕ, zero, suc, ◌+◌, ◌-◌, ◌≤◌, Bool, true, false, cond, eqb, take, drop, subst, length-drop, List, [], ◌∷◌, ◌++◌, Option, Some, None, refl, sym, ap, ◌∙◌, length, arith, append_assoc, append-nil}
+use Rattle.std.proofs.Math.Seq.{drop-append_seam}
 use Rattle.std.proofs.lemmas.Bool.{eqb-true}
 use Rattle.orca_meaning.specs.Characters.{is_letter, is_name_start, folded}
 use Rattle.orca_meaning.specs.Line.{Line}
 use Rattle.macro_meaning.specs.Substitution.{Naming, Replaced, Named, Declared, with_front, in_place, substituted, first_passes, name_length, taken_length, naming_at}
 use Rattle.orca_macro.specs.Plain.{plain_len}
-use Rattle.orca_macro.specs.Template.{where_some, part_text, join, followed, HasParts, placed, more_of, with_more}
+use Rattle.orca_macro.specs.Template.{where_some, part_text, join, followed, HasParts, BeginWith, placed, more_of, with_more}
 use Rattle.orca_macro.specs.declared.template.Part.{Part}
 use Rattle.orca_macro.specs.declared.template.Part.TheVariants.{Plain, Put, Need}
 use Rattle.orca_macro.specs.declared.template.Place.{Place}
@@ -144,6 +145,11 @@ fill_next text_of parts left behind first text old new is text_is push so =
     ap (λ (n : List ℕ). with_front n (followed text_of behind (Some []))) push ∙ front_more old text (followed text_of behind (Some []))
     ∙ ap (λ (o : Option (List ℕ)). with_front old (join o (followed text_of behind (Some [])))) (sym text_is) ∙ ap (λ (l : List Part). with_front old (followed text_of l (Some []))) (sym is) ∙ so
 
+pub fill_empty : (text_of : List ℕ → Option (List ℕ)) (parts left behind : List Part) (first : Part) (text out : List ℕ) → left ≡ first ∷ behind → part_text text_of first ≡ Some text → text ≡ []
+    → with_front out (followed text_of left (Some [])) ≡ followed text_of parts (Some []) → with_front out (followed text_of behind (Some [])) ≡ followed text_of parts (Some [])
+fill_empty text_of parts left behind first text out is text_is empty =
+    fill_next text_of parts left behind first text out out is text_is (sym (ap (λ (t : List ℕ). out ++ t) empty ∙ append-nil out))
+
 pub fill_none : (text_of : List ℕ → Option (List ℕ)) (parts left behind : List Part) (first : Part) (old : List ℕ) → left ≡ first ∷ behind → part_text text_of first ≡ None
     → with_front old (followed text_of left (Some [])) ≡ followed text_of parts (Some []) → followed text_of parts (Some []) ≡ None
 fill_none text_of parts left behind first old is none so =
@@ -153,3 +159,33 @@ pub fill_end : (text_of : List ℕ → Option (List ℕ)) (parts left : List Par
     → with_front out (followed text_of left (Some [])) ≡ followed text_of parts (Some []) → followed text_of parts (Some []) ≡ Some out
 fill_end text_of parts [] out none so = sym so ∙ ap (λ (t : List ℕ). Some t) (append-nil out)
 fill_end text_of parts (first ∷ left) out none so = absurd (omega (arith, none))
+
+-- ---- with what all begins that comes of parts
+
+-- what comes of the parts comes of those that are left
+pub record Leads (parts left : List Part) : Type 0 where
+  pub is : (text_of : List ℕ → Option (List ℕ)) (text : List ℕ) → followed text_of parts (Some []) ≡ Some text → followed text_of left (Some []) ≡ Some text
+
+pub needs_more : (parts left others : List Part) (name : List ℕ) → left ≡ Need name ∷ others → Leads parts left → Leads parts others
+needs_more parts left others name left_is leads = record {
+  is = λ text_of text are. by (text_of name) (followed text_of others (Some [])) text (subst (λ (ps : List Part). followed text_of ps (Some []) ≡ Some text) left_is (leads.is text_of text are));
+}
+  where
+    by : (asked tail : Option (List ℕ)) (text : List ℕ) → join (where_some [] asked) tail ≡ Some text → tail ≡ Some text
+    by None tail text is = absurd cc
+    by (Some t) None text is = absurd cc
+    by (Some t) (Some u) text is = is
+
+some_is : (a b : List ℕ) → ◌≡◌ {A = Option (List ℕ)} (Some a) (Some b) → a ≡ b
+some_is a b e = cc
+
+pub begins_plain : (parts left others : List Part) (bytes front : List ℕ) → left ≡ Plain bytes ∷ others → front ≡ bytes → Leads parts left → BeginWith parts front
+begins_plain parts left others bytes front left_is front_is leads = subst (BeginWith parts) (sym front_is) (record {
+  is = λ text_of text are. by (followed text_of others (Some [])) text (subst (λ (ps : List Part). followed text_of ps (Some []) ≡ Some text) left_is (leads.is text_of text are));
+})
+  where
+    by : (tail : Option (List ℕ)) (text : List ℕ) → with_front bytes tail ≡ Some text → text ≡ bytes ++ drop (length bytes) text
+    by None text is = absurd cc
+    by (Some u) text is =
+        let same : bytes ++ u ≡ text = some_is (bytes ++ u) text is in
+        subst (λ (x : List ℕ). x ≡ bytes ++ drop (length bytes) x) same (ap (λ (r : List ℕ). bytes ++ r) (sym (drop-append_seam bytes u)))

@@ -1,8 +1,9 @@
 -- A text that is a name.
-use Rattle.std.proofs.Common.{◌≡◌, ℕ, zero, suc, ◌≤◌, ◌-◌, Bool, true, false, cond, eqb, List, [], ◌∷◌, length, take, drop, Some, None, refl, sym, ap, ◌∙◌, length-drop, arith}
+use Rattle.std.proofs.Common.{◌≡◌, ℕ, zero, suc, ◌≤◌, ◌-◌, Bool, true, false, cond, eqb, List, [], ◌∷◌, ◌++◌, length, take, drop, Option, Some, None, refl, sym, ap, ◌∙◌, length-drop, append-nil, arith}
 use Rattle.std.specs.Prelude.{◌&&◌, is_some}
 use Rattle.std.specs.List.{prefix_len}
 use Rattle.std.proofs.lemmas.Bool.{eq-eqb, ne_eqb}
+use Rattle.std.proofs.lemmas.List.{take-append-drop}
 use Rattle.std.proofs.lemmas.List.Sums.{prefix_len-le-length}
 use Rattle.orca_meaning.specs.Characters.{is_name_start, is_name_byte, folded}
 use Rattle.orca_meaning.specs.Token.{name_at}
@@ -33,3 +34,32 @@ unfolding name_at
 no_start text first others starts is test other =
     let no_name : is_name_start first ≡ false = sym test ∙ other in
     rw (other, is, no_name) refl
+
+some_whole : (byte n : ℕ) (behind rest : List ℕ) → rest ≡ drop n behind → is_some (whole (Some (folded (byte ∷ take n behind), rest))) ≡ true
+    → whole (Some (folded (byte ∷ take n behind), rest)) ≡ Some (folded (byte ∷ behind))
+some_whole byte n behind [] none some =
+    ap (λ (t : List ℕ). Some (folded (byte ∷ t))) (sym (append-nil (take n behind)) ∙ ap (λ (r : List ℕ). take n behind ++ r) none ∙ take-append-drop n behind)
+some_whole byte n behind (x ∷ rest) none some = absurd cc
+
+name_is : (text : List ℕ) → is_some (whole (name_at text)) ≡ true → whole (name_at text) ≡ Some (folded text)
+unfolding name_at
+name_is [] some = absurd cc
+name_is (byte ∷ behind) some = by_start (is_name_start byte) some
+  where
+    n : ℕ
+    n = prefix_len is_name_byte behind
+
+    by_start : (b : Bool) → is_some (whole (cond b (Some (folded (byte ∷ take n behind), drop n behind)) None)) ≡ true
+        → whole (cond b (Some (folded (byte ∷ take n behind), drop n behind)) None) ≡ Some (folded (byte ∷ behind))
+    by_start true so = some_whole byte n behind (drop n behind) refl so
+    by_start false so = absurd cc
+
+pub some_name : (text word : List ℕ) (b : Bool) → b ≡ is_some (whole (name_at text)) → b ≡ true → word ≡ folded text → Some word ≡ whole (name_at text)
+some_name text word b test so word_is = ap (λ (w : List ℕ). Some w) word_is ∙ sym (name_is text (sym test ∙ so))
+
+none_is : (found : Option (List ℕ)) → is_some found ≡ false → None ≡ found
+none_is None none = refl
+none_is (Some name) none = absurd cc
+
+pub none_name : (text : List ℕ) (b : Bool) → b ≡ is_some (whole (name_at text)) → b ≡ false → None ≡ whole (name_at text)
+none_name text b test other = none_is (whole (name_at text)) (sym test ∙ other)

@@ -1,5 +1,5 @@
 -- How bindings are seen.
-use Rattle.std.specs.Prelude.{◌≡◌, ℕ, Bool, true, false, List, Option, Some, None}
+use Rattle.std.specs.Prelude.{◌≡◌, ◌<◌, ℕ, Bool, true, false, List, Some, None, slice_get, is_some}
 use Rattle.macro_meaning.specs.Call as meaning
 use Rattle.macro_meaning.specs.Symbol.{Symbols}
 use Rattle.orca_macro.specs.declared.call.Bind.{Bind}
@@ -12,7 +12,6 @@ abbrev pub IsOnce : Bool → List ℕ → List ℕ → Symbols → Symbols → T
 IsOnce true name text old new = meaning.bound_once name text old ≡ Some new
 IsOnce false name text old new = meaning.bound_once name text old ≡ None
 
--- all were bound, or one couldn't be
-abbrev pub IsAll : Bool → Option Symbols → Symbols → Type 0
-IsAll true bound now = bound ≡ Some now
-IsAll false bound now = bound ≡ None
+-- all names before this place have a symbol
+abbrev pub AreBound : List (List ℕ) → ℕ → Symbols → Type 0
+AreBound names place symbols = (i : ℕ) (name : List ℕ) → i < place → slice_get names i ≡ Some name → is_some (symbols name) ≡ true

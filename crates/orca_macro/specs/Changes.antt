@@ -15,3 +15,14 @@ abbrev pub IsAssigned : List ℕ → Kind → List ℕ → Option Symbol → Sym
 IsAssigned name kind text None old new texts texts' = (new ≡ old) × (texts' ≡ texts)
 IsAssigned name kind text (Some (Own other was)) old new texts texts' = (new ≡ with_name name (Own kind text) old) × (texts' ≡ texts)
 IsAssigned name kind text (Some (Common other)) old new texts texts' = (new ≡ old) × (texts' ≡ with_name name (kind, text) texts)
+
+-- what a setting makes of a symbol, and the text that it hands back
+abbrev pub IsRenewed : Kind → List ℕ → Symbol → Symbol → Option (List ℕ) → Type 0
+IsRenewed kind text (Own other was) new back = (new ≡ Own kind text) × (back ≡ None)
+IsRenewed kind text (Common other) new back = (new ≡ Common other) × (back ≡ Some text)
+
+-- the same of all symbols, by what the name stands for
+abbrev pub IsRenewedIn : List ℕ → Kind → List ℕ → Option Symbol → Symbols → Symbols → Option (List ℕ) → Type 0
+IsRenewedIn name kind text None old new back = (new ≡ old) × (back ≡ None)
+IsRenewedIn name kind text (Some (Own other was)) old new back = (new ≡ with_name name (Own kind text) old) × (back ≡ None)
+IsRenewedIn name kind text (Some (Common other)) old new back = (new ≡ old) × (back ≡ Some text)

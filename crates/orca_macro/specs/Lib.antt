@@ -14,3 +14,6 @@ pub mod Letters
 pub mod Short
 pub mod Template
 pub mod Plan
+pub mod Head
+pub mod Words
+pub mod Kept

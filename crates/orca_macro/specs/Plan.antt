@@ -5,6 +5,7 @@ use Rattle.macro_meaning.specs.Deed.{Setting, IsDeed, IsDone, IsStatement}
 use Rattle.macro_meaning.specs.Symbol.{Values}
 use Rattle.macro_meaning.specs.declared.statements.Statement.{Statement}
 use Rattle.orca_meaning.specs.Line.{Line, three_fields, is_comment}
+use Rattle.orca_macro.specs.Head.{BeginsSo}
 use Rattle.orca_macro.specs.Plain.{plain_len}
 use Rattle.orca_macro.specs.Template.{HasParts}
 use Rattle.orca_macro.specs.declared.plan.Known.{Known}
@@ -51,7 +52,7 @@ IsPlain line = (is_comment line.text ≡ false) × (plain_len line.text ≡ leng
 abbrev pub Fits : Line → Plan → Type 0
 Fits line Comment = is_comment line.text ≡ true
 Fits line (Plain deed) = IsPlain line × FitsLine line (known deed)
-Fits line (Parts parts) = (is_comment line.text ≡ false) × HasParts line parts.items
+Fits line (Parts parts head) = (is_comment line.text ≡ false) × HasParts line parts.items × BeginsSo parts.items head
 
 -- the plan fits the line at a place
 pub record FitsAt (lines : List Line) (at : ℕ) (plan : Plan) : Type 0 where

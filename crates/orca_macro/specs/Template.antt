@@ -1,5 +1,5 @@
 -- Lines that are parted into what is copied and the symbols whose texts come between.
-use Rattle.std.specs.Prelude.{◌≡◌, ℕ, List, [], ◌∷◌, Option, Some, None}
+use Rattle.std.specs.Prelude.{◌≡◌, ℕ, List, [], ◌∷◌, ◌++◌, length, drop, Option, Some, None}
 use Rattle.macro_meaning.specs.Substitution.{naming_at, substituted, with_front}
 use Rattle.orca_meaning.specs.Line.{Line}
 use Rattle.orca_macro.specs.declared.template.Part.{Part}
@@ -45,3 +45,7 @@ more_of (Asked name) = 0
 abbrev pub with_more : ℕ → Option (List ℕ) → Option (List ℕ × ℕ)
 with_more more None = None
 with_more more (Some text) = Some (text, more)
+
+-- all that comes of the parts begins with these bytes
+pub record BeginWith (parts : List Part) (front : List ℕ) : Type 0 where
+  pub is : (text_of : List ℕ → Option (List ℕ)) (text : List ℕ) → followed text_of parts (Some []) ≡ Some text → text ≡ front ++ drop (length front) text

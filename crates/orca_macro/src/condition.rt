@@ -167,19 +167,25 @@ fn joined_numbers(operator: Operator, a: u32, b: u32) -> Option<u32>
     }
 }
 
-/// The value of a text that is a number, or two with an operator between them. None says nothing.
-#[tactic(auto, using(crate::proofs::Shorts::one_number, crate::proofs::Shorts::two_numbers))]
+/// The value of a text that is a number, or two or three with operators between them. None says nothing.
+#[tactic(auto, using(crate::proofs::Shorts::one_number, crate::proofs::Shorts::two_numbers, crate::proofs::Shorts::three_numbers))]
+#[inline(always)]
 fn short_value(text: &[u8]) -> Option<u32>
     ensures { IfSome result (λ n. HasNumber text.now n) }
 {
     match short_formula(text) {
         Some(ShortFormula::One(n)) => Some(n),
         Some(ShortFormula::Two(operator, a, b)) => joined_numbers(operator, a, b),
+        Some(ShortFormula::Three(operator, a, second, b, c)) => match joined_numbers(second, b, c) {
+            Some(n) => joined_numbers(operator, a, n),
+            None => None,
+        },
         None => None,
     }
 }
 
 /// The value of the formula that a text of at most 255 bytes is, or what is wrong with it.
+#[inline(always)]
 pub(crate) fn number(
     alloc: Global,
     of: Values<'_>,
@@ -265,6 +271,7 @@ fn comparison(text: &[u8]) -> Option<bool>
 }
 
 /// The value of a condition of at most 255 bytes: a comparison of two texts, or a formula.
+#[inline(always)]
 pub(crate) fn condition(
     alloc: Global,
     of: Values<'_>,

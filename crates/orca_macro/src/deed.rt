@@ -2,7 +2,7 @@
 
 ghost use Rattle.std.specs.Prelude.{◌≡◌, ◌==◌, ◌≤◌, ◌<◌, nat_lt, [], List, ℕ, ℤ, length, take, drop, pos, int_le, codes, slice_get, Some, None, Ok, Err, IfOk, IfErr, IfSome, OnOk, MatchOption, IsTrue, false};
 ghost use Rattle.omf_format.specs.Value.{signed};
-ghost use Rattle.macro_meaning.specs.Deed.{earlier, both, or_bad, first_time, declaring, settable, setting, printed, printed_answer, middle_from, middle_of, go_if, going, going_to, counting, noted, noting, IsBranchIf, IsMiddle, IsNote, IsSetting, IsDone, resting, calling, calling_at, begins_definition, IsDeed, IsStatement, IsDoneBy, IsShort, cut};
+ghost use Rattle.macro_meaning.specs.Deed.{earlier, both, or_bad, first_time, declaring, settable, setting, printed, printed_answer, middle_from, middle_of, go_if, going, going_to, counting, noted, noting, IsBranchIf, IsMiddle, IsNote, IsSetting, IsDone, resting, calling_if, calling_at, begins_definition, IsDeed, IsStatement, IsDoneBy, IsShort, cut};
 ghost use Rattle.macro_meaning.specs.Statements.{symbol_name, target_name};
 ghost use Rattle.macro_meaning.specs.Substitution.{first_passes};
 ghost use Rattle.macro_meaning.specs.Pieces.{pieces, quoted, joined};
@@ -10,8 +10,9 @@ ghost use Rattle.orca_macro.specs.View.{values, symbols_of, texts_of};
 ghost use Rattle.orca_macro.specs.DeedView.{deed, where_};
 ghost use Rattle.orca_macro.specs.Parts.{definition};
 ghost use Rattle.orca_macro.specs.Plan.{Fits, FitsLine, IsPlain, known};
+ghost use Rattle.orca_macro.specs.Head.{HasFields, HasHead, MayHaveHead, BeginsSo};
 ghost use Rattle.orca_macro.specs.Template.{HasParts};
-ghost use Rattle.orca_meaning.specs.Line.{HaveFields, three_fields, is_comment};
+ghost use Rattle.orca_meaning.specs.Line.{HaveFields, part, three_fields, is_comment};
 ghost use Rattle.orca_meaning.specs.Characters.{folded};
 ghost use Rattle.macro_meaning.specs.Definition.{first_named};
 ghost use Rattle.macro_meaning.specs.Condition.{Answer, IsCondition};
@@ -20,34 +21,36 @@ ghost use Rattle.orca_text.specs.View.{line};
 use crate::call::{bound, names_count};
 use crate::condition::{condition, number};
 use crate::definitions::Definition;
-use crate::names::{is_operation, is_sequence, is_target, statement_of, symbol_name, target_name};
+use crate::head::Head;
+use crate::names::{is_operation, is_sequence, is_target, statement_of};
 use crate::pieces::{Piece, joined, pieces, quoted, two_pieces};
 use crate::plan::{Known, Plan};
 use crate::program::Program;
 use crate::substitution::{is_folded, is_plain, shown};
 use crate::symbols::{
-    Symbols, Texts, Values, declaration_of, is_count, is_declaration, is_kind, kind_of, name,
+    Symbols, Texts, Values, declaration_of, is_count, is_declaration, is_kind, kind_of,
     signed_decimal,
 };
-use crate::template::{Part, filled};
+use crate::template::{Part, fill};
+use crate::text::Text;
+use crate::word::{Word, symbol_word, target_word};
 use macro_meaning::{Declaration, Kind, MacroCause, Statement};
-use omf_base::Name;
-use orca_text::{SourceLine, folded, is_comment, label_in, part, three_fields};
+use orca_text::{SourceLine, folded, is_comment, label_in, operand_behind, part, three_fields};
 use std::alloc::{AllocError, Global};
 
 /// What a visited line does.
 #[derive(Drop)]
-pub(crate) enum Deed {
+pub(crate) enum Deed<'a> {
     /// Nothing.
     Rests,
     /// It gives a line.
-    Gives(Name),
+    Gives(Word<'a>),
     /// It declares a symbol.
-    Declares(Name, Declaration),
+    Declares(Word<'a>, Declaration),
     /// It sets a symbol to a text.
-    Sets(Name, Kind, Name),
+    Sets(Word<'a>, Kind, Text),
     /// It branches to a sequence symbol.
-    Goes(Name),
+    Goes(Word<'a>),
     /// It sets the counter.
     Counts(u32),
     /// It ends its expansion.
@@ -80,6 +83,7 @@ fn earlier(cause: MacroCause, other: MacroCause) -> MacroCause
 }
 
 /// Two answers, or the earlier of their faults.
+#[inline(always)]
 fn both<A: Drop, B: Drop>(
     a: Result<A, MacroCause>,
     b: Result<B, MacroCause>,
@@ -109,8 +113,8 @@ fn or_bad<A: Drop>(found: Option<A>) -> Result<A, MacroCause>
 }
 
 /// The first declaration of a name in its expansion.
-fn first_time(texts: &Texts, declaration: Declaration, name: Name) -> Deed
-    ensures { deed result ≡ first_time name declaration (texts_of texts.now name) }
+fn first_time<'a>(texts: &Texts, declaration: Declaration, name: Word<'a>) -> Deed<'a>
+    ensures { deed result ≡ first_time name.entry declaration (texts_of texts.now name.entry) }
 {
     match declaration {
         Declaration::Local(_) => Deed::Declares(name, declaration),
@@ -128,8 +132,8 @@ fn first_time(texts: &Texts, declaration: Declaration, name: Name) -> Deed
 
 /// A declaration of a symbol.
 #[tactic(auto, unfolding(macro_meaning::specs::Deed::declaring))]
-fn declaring(of: Values<'_>, declaration: Declaration, named: Option<Name>) -> Deed
-    ensures { deed result ≡ declaring (values of.entry) declaration named }
+fn declaring<'a>(of: Values<'_>, declaration: Declaration, named: Option<Word<'a>>) -> Deed<'a>
+    ensures { deed result ≡ declaring (values of.entry) declaration named.entry }
 {
     let Some(name) = named else {
         return Deed::Fails(MacroCause::BadSetting);
@@ -150,8 +154,9 @@ fn declaring(of: Values<'_>, declaration: Declaration, named: Option<Name>) -> D
 
 /// The symbol of this kind that a label names.
 #[tactic(auto, unfolding(macro_meaning::specs::Deed::settable))]
-fn settable(of: Values<'_>, kind: Kind, named: Option<Name>) -> Result<Name, MacroCause>
-    ensures { result ≡ settable (values of.entry) kind named }
+#[inline(always)]
+fn settable<'a>(of: Values<'_>, kind: Kind, named: Option<Word<'a>>) -> Result<Word<'a>, MacroCause>
+    ensures { result ≡ settable (values of.entry) kind named.entry }
 {
     let Some(name) = named else {
         return Err(MacroCause::BadSetting);
@@ -172,17 +177,18 @@ fn settable(of: Values<'_>, kind: Kind, named: Option<Name>) -> Result<Name, Mac
 
 /// The symbol in the label is set to a text.
 #[tactic(auto, unfolding(macro_meaning::specs::Deed::setting))]
-fn setting(
+#[inline(always)]
+fn setting<'a>(
     alloc: Global,
     of: Values<'_>,
     kind: Kind,
-    label: &[u8],
-    text: Result<Name, MacroCause>,
-) -> Result<Deed, AllocError>
+    label: &'a [u8],
+    text: Result<Text, MacroCause>,
+) -> Result<Deed<'a>, AllocError>
     requires { length label.now ≤ 255 }
     ensures { IfOk result (λ d. deed d ≡ setting (values of.entry) kind label.now text) }
 {
-    let named = symbol_name(alloc, label)?;
+    let named = symbol_word(alloc, label)?;
     match both(settable(of, kind, named), text) {
         Ok((name, text)) => Ok(Deed::Sets(name, kind, text)),
         Err(cause) => Ok(Deed::Fails(cause)),
@@ -190,15 +196,15 @@ fn setting(
 }
 
 /// A number as SETA and SETB print it.
-fn printed(alloc: Global, kind: Kind, n: u32) -> Result<Name, AllocError>
+fn printed(alloc: Global, kind: Kind, n: u32) -> Result<Text, AllocError>
     ensures { IfOk result (λ v. v ≡ printed kind n) }
 {
     match kind {
         Kind::Flag => {
             if n == 0 {
-                return name(alloc, b"0");
+                return Text::of(alloc, b"0");
             }
-            name(alloc, b"1")
+            Text::of(alloc, b"1")
         }
         Kind::Number => signed_decimal(alloc, n.cast_signed()),
         Kind::Text => signed_decimal(alloc, n.cast_signed()),
@@ -210,7 +216,7 @@ fn printed_answer(
     alloc: Global,
     kind: Kind,
     answer: Result<u32, MacroCause>,
-) -> Result<Result<Name, MacroCause>, AllocError>
+) -> Result<Result<Text, MacroCause>, AllocError>
     ensures { IfOk result (λ v. v ≡ printed_answer kind answer) }
 {
     match answer {
@@ -223,13 +229,13 @@ fn printed_answer(
 }
 
 /// SETA, SETB or SETC.
-fn set(
+fn set<'a>(
     alloc: Global,
     of: Values<'_>,
     kind: Kind,
-    label: &[u8],
+    label: &'a [u8],
     operand: &[u8],
-) -> Result<Deed, AllocError>
+) -> Result<Deed<'a>, AllocError>
     requires label { length label.now ≤ 255 }
     requires operand { length operand.now ≤ 255 }
     ensures { IfOk result (λ d. IsSetting (values of.entry) kind label.now operand.now (deed d)) }
@@ -245,13 +251,14 @@ fn set(
 }
 
 /// SETA or SETB.
-fn set_number(
+#[inline(always)]
+fn set_number<'a>(
     alloc: Global,
     of: Values<'_>,
     kind: Kind,
-    label: &[u8],
+    label: &'a [u8],
     operand: &[u8],
-) -> Result<Deed, AllocError>
+) -> Result<Deed<'a>, AllocError>
     requires label { length label.now ≤ 255 }
     requires operand { length operand.now ≤ 255 }
     ensures { IfOk result (λ d. (answer : Answer)
@@ -265,13 +272,13 @@ fn set_number(
 
 /// Texts in quotes, joined.
 #[tactic(auto, using(crate::proofs::Texts::joined_fits))]
-fn joined_text(alloc: Global, operand: &[u8]) -> Result<Result<Name, MacroCause>, AllocError>
+fn joined_text(alloc: Global, operand: &[u8]) -> Result<Result<Text, MacroCause>, AllocError>
     requires { length operand.now ≤ 255 }
     ensures { IfOk result (λ text. text ≡ or_bad (joined (pieces 0x2B operand.now))) }
 {
     let found = pieces(alloc, b'+', operand)?;
     match joined(alloc, found.as_slice())? {
-        Some(text) => Ok(Ok(Name::from_vec(text))),
+        Some(text) => Ok(Ok(Text::from_vec(text))),
         None => Ok(Err(MacroCause::BadSetting)),
     }
 }
@@ -309,7 +316,7 @@ fn middle_from(
     text: &[u8],
     start: i32,
     count: i32,
-) -> Result<Result<Name, MacroCause>, AllocError>
+) -> Result<Result<Text, MacroCause>, AllocError>
     requires { length text.now ≤ 255 }
     ensures { IfOk result (λ found. found ≡ middle_from text.now start count) }
 {
@@ -320,19 +327,19 @@ fn middle_from(
         return Ok(Err(MacroCause::BadSetting));
     }
     let behind = behind_first(text, start.unsigned_abs() as usize - 1);
-    let found = name(alloc, front_of(behind, count.unsigned_abs() as usize))?;
+    let found = Text::of(alloc, front_of(behind, count.unsigned_abs() as usize))?;
     Ok(Ok(found))
 }
 
 /// AMID of a text, a place and a count.
 #[tactic(auto, using(crate::proofs::Both::second_fault))]
-fn middle_with(
+fn middle_with<'a>(
     alloc: Global,
     of: Values<'_>,
-    label: &[u8],
+    label: &'a [u8],
     text: &[u8],
     numbers: Result<(u32, u32), MacroCause>,
-) -> Result<Deed, AllocError>
+) -> Result<Deed<'a>, AllocError>
     requires label { length label.now ≤ 255 }
     requires text { length text.now ≤ 255 }
     ensures { IfOk result (λ d. deed d ≡ setting (values of.entry) Kind.Text label.now (middle_of (both (or_bad (quoted text.now)) numbers))) }
@@ -350,12 +357,12 @@ fn middle_with(
 }
 
 /// AMID.
-fn middle(
+fn middle<'a>(
     alloc: Global,
     of: Values<'_>,
-    label: &[u8],
+    label: &'a [u8],
     operands: &[Piece<'_>],
-) -> Result<Deed, AllocError>
+) -> Result<Deed<'a>, AllocError>
     requires { length label.now ≤ 255 }
     ensures { IfOk result (λ d. IsMiddle (values of.entry) label.now operands.now (deed d)) }
 {
@@ -381,7 +388,7 @@ fn is_zero(answer: Result<u32, MacroCause>) -> bool
 
 /// AIF.
 #[tactic(auto, using(crate::proofs::Both::two_branch, crate::proofs::Both::no_branch, crate::proofs::Both::not_two))]
-fn branch_if(alloc: Global, of: Values<'_>, operand: &[u8]) -> Result<Deed, AllocError>
+fn branch_if<'a>(alloc: Global, of: Values<'_>, operand: &'a [u8]) -> Result<Deed<'a>, AllocError>
     requires { length operand.now ≤ 255 }
     ensures { IfOk result (λ d. IsBranchIf (values of.entry) (pieces 0x2C operand.now) (deed d)) }
 {
@@ -394,13 +401,13 @@ fn branch_if(alloc: Global, of: Values<'_>, operand: &[u8]) -> Result<Deed, Allo
             return Ok(Deed::Rests);
         }
     }
-    let target = target_name(alloc, target)?;
+    let target = target_word(alloc, target)?;
     Ok(going(both(answer, or_bad(target))))
 }
 
 /// A branch where the value isn't 0.
-fn going(asked: Result<(u32, Name), MacroCause>) -> Deed
-    ensures { deed result ≡ going asked }
+fn going<'a>(asked: Result<(u32, Word<'a>), MacroCause>) -> Deed<'a>
+    ensures { deed result ≡ going asked.entry }
 {
     match asked {
         Ok((n, name)) => {
@@ -414,8 +421,8 @@ fn going(asked: Result<(u32, Name), MacroCause>) -> Deed
 }
 
 /// A branch.
-fn going_to(target: Option<Name>) -> Deed
-    ensures { deed result ≡ going_to target }
+fn going_to<'a>(target: Option<Word<'a>>) -> Deed<'a>
+    ensures { deed result ≡ going_to target.entry }
 {
     match target {
         Some(name) => Deed::Goes(name),
@@ -424,7 +431,7 @@ fn going_to(target: Option<Name>) -> Deed
 }
 
 /// ACTR.
-fn counting(answer: Result<u32, MacroCause>) -> Deed
+fn counting<'a>(answer: Result<u32, MacroCause>) -> Deed<'a>
     ensures { deed result ≡ counting answer }
 {
     match answer {
@@ -434,7 +441,7 @@ fn counting(answer: Result<u32, MacroCause>) -> Deed
 }
 
 /// A note of this severity.
-fn noted(n: u32) -> Deed
+fn noted<'a>(n: u32) -> Deed<'a>
     ensures { deed result ≡ noted n }
 {
     if n.cast_signed() >= 8 {
@@ -445,7 +452,7 @@ fn noted(n: u32) -> Deed
 
 /// MNOTE of a text and a severity.
 #[tactic(auto, using(crate::proofs::Both::second_fault))]
-fn noting(text: &[u8], answer: Result<u32, MacroCause>) -> Deed
+fn noting<'a>(text: &[u8], answer: Result<u32, MacroCause>) -> Deed<'a>
     ensures { deed result ≡ noting (both (or_bad (quoted text.now)) answer) }
 {
     match answer {
@@ -458,7 +465,7 @@ fn noting(text: &[u8], answer: Result<u32, MacroCause>) -> Deed
 }
 
 /// MNOTE.
-fn note(alloc: Global, of: Values<'_>, operands: &[Piece<'_>]) -> Result<Deed, AllocError>
+fn note<'a>(alloc: Global, of: Values<'_>, operands: &[Piece<'_>]) -> Result<Deed<'a>, AllocError>
     ensures { IfOk result (λ d. IsNote (values of.entry) operands.now (deed d)) }
 {
     match operands {
@@ -471,25 +478,25 @@ fn note(alloc: Global, of: Values<'_>, operands: &[Piece<'_>]) -> Result<Deed, A
 }
 
 /// ANOP, or no operation.
-fn resting(alloc: Global, label: &[u8], text: &[u8]) -> Result<Deed, AllocError>
+fn resting<'a>(label: &[u8], text: &'a [u8]) -> Deed<'a>
     requires { length text.now ≤ 255 }
-    ensures { IfOk result (λ d. deed d ≡ resting label.now text.now) }
+    ensures { deed result ≡ resting label.now text.now }
 {
     if label.is_empty() {
-        return Ok(Deed::Rests);
+        return Deed::Rests;
     }
-    Ok(Deed::Gives(name(alloc, text)?))
+    Deed::Gives(Word::lent(text))
 }
 
 /// A statement of conditional assembly.
-fn done(
+fn done<'a>(
     alloc: Global,
     of: Values<'_>,
     statement: Statement,
-    text: &[u8],
-    label: &[u8],
-    operand: &[u8],
-) -> Result<Deed, AllocError>
+    text: &'a [u8],
+    label: &'a [u8],
+    operand: &'a [u8],
+) -> Result<Deed<'a>, AllocError>
     requires text { length text.now ≤ 255 }
     requires label { length label.now ≤ 255 }
     requires operand { length operand.now ≤ 255 }
@@ -497,7 +504,7 @@ fn done(
 {
     match statement {
         Statement::Declare(declaration) => {
-            let named = symbol_name(alloc, operand)?;
+            let named = symbol_word(alloc, operand)?;
             Ok(declaring(of, declaration, named))
         }
         Statement::Set(kind) => set(alloc, of, kind, label, operand),
@@ -507,20 +514,20 @@ fn done(
         }
         Statement::BranchIf => branch_if(alloc, of, operand),
         Statement::Branch => {
-            let target = target_name(alloc, operand)?;
+            let target = target_word(alloc, operand)?;
             Ok(going_to(target))
         }
         Statement::Count => {
             let answer = number(alloc, of, operand)?;
             Ok(counting(answer))
         }
-        Statement::Nothing => resting(alloc, label, text),
+        Statement::Nothing => Ok(resting(label, text)),
         Statement::Leave => Ok(Deed::Leaves),
         Statement::Note => {
             let operands = pieces(alloc, b',', operand)?;
             note(alloc, of, operands.as_slice())
         }
-        Statement::Define => Ok(Deed::Gives(name(alloc, text)?)),
+        Statement::Define => Ok(Deed::Gives(Word::lent(text))),
     }
 }
 
@@ -541,15 +548,45 @@ fn named<'a>(
     Ok(program.named(asked.bytes()))
 }
 
-/// A call of a macro, or a line that is given.
-fn calling(
+/// A call of this macro, or a line that is given, where it doesn't count yet.
+fn called<'a>(
     alloc: Global,
     at: Standing<'_>,
-    text: &[u8],
+    text: &'a [u8],
+    place: usize,
+    found: &Definition,
+    label: &[u8],
+    operand: &[u8],
+    spare: &mut Symbols,
+) -> Result<Deed<'a>, AllocError>
+    requires text { length text.now ≤ 255 }
+    requires label { length label.now ≤ 255 }
+    requires operand { length operand.now ≤ 255 }
+    ensures { IfOk result (λ d. deed d ≡ calling_if (where_ at.entry).root text.now place (Some (definition found.now)) label.now operand.now) }
+{
+    if found.behind >= at.root {
+        return Ok(Deed::Gives(Word::lent(text)));
+    }
+    if names_count(&found.model) {
+        return Ok(Deed::Fails(MacroCause::BadSetting));
+    }
+    let taken = std::mem::replace(spare, Symbols::new(alloc));
+    match bound(alloc, &found.model, label, operand, taken)? {
+        Some(symbols) => Ok(Deed::Calls(place, symbols)),
+        None => Ok(Deed::Fails(MacroCause::BadArguments)),
+    }
+}
+
+/// A call of a macro, or a line that is given.
+fn calling<'a>(
+    alloc: Global,
+    at: Standing<'_>,
+    text: &'a [u8],
     operation: &[u8],
     label: &[u8],
     operand: &[u8],
-) -> Result<Deed, AllocError>
+    spare: &mut Symbols,
+) -> Result<Deed<'a>, AllocError>
     requires text { length text.now ≤ 255 }
     requires operation { length operation.now ≤ 255 }
     requires label { length label.now ≤ 255 }
@@ -557,23 +594,19 @@ fn calling(
     ensures { IfOk result (λ d. deed d ≡ calling_at (where_ at.entry).definitions (where_ at.entry).root text.now
         (first_named (folded operation.now) (where_ at.entry).definitions) label.now operand.now) }
 {
-    let Some((place, found)) = named(alloc, at.program, operation)? else {
-        return Ok(Deed::Gives(name(alloc, text)?));
-    };
-    if found.behind >= at.root {
-        return Ok(Deed::Gives(name(alloc, text)?));
-    }
-    if names_count(&found.model) {
-        return Ok(Deed::Fails(MacroCause::BadSetting));
-    }
-    match bound(alloc, &found.model, label, operand)? {
-        Some(symbols) => Ok(Deed::Calls(place, symbols)),
-        None => Ok(Deed::Fails(MacroCause::BadArguments)),
+    match named(alloc, at.program, operation)? {
+        Some((place, found)) => called(alloc, at, text, place, found, label, operand, spare),
+        None => Ok(Deed::Gives(Word::lent(text))),
     }
 }
 
 /// A line with the texts in place, behind its sequence symbol, that isn't a comment.
-fn statement(alloc: Global, at: Standing<'_>, text: &[u8]) -> Result<Deed, AllocError>
+fn statement<'a>(
+    alloc: Global,
+    at: Standing<'_>,
+    text: &'a [u8],
+    spare: &mut Symbols,
+) -> Result<Deed<'a>, AllocError>
     requires { length text.now ≤ 255 }
     ensures { IfOk result (λ d. IsStatement (where_ at.entry) text.now (three_fields text.now) (deed d)) }
 {
@@ -586,7 +619,7 @@ fn statement(alloc: Global, at: Standing<'_>, text: &[u8]) -> Result<Deed, Alloc
     }
     match statement_of(operation) {
         Some(found) => done(alloc, at.values, found, text, label, operand),
-        None => calling(alloc, at, text, operation, label, operand),
+        None => calling(alloc, at, text, operation, label, operand, spare),
     }
 }
 
@@ -627,12 +660,13 @@ fn begins_definition(at: Standing<'_>, of: &SourceLine) -> bool
 }
 
 /// What a line does, with the texts in place.
-fn written(
+fn written<'a>(
     alloc: Global,
     at: Standing<'_>,
     of: &SourceLine,
-    text: &[u8],
-) -> Result<Deed, AllocError>
+    text: &'a [u8],
+    spare: &mut Symbols,
+) -> Result<Deed<'a>, AllocError>
     requires { HaveFields of.now.text (line of.now).fields }
     ensures { IfOk result (λ d. IsShort (where_ at.entry) (line of.now) (nat_lt 255 (length text.now)) text.now (deed d)) }
 {
@@ -646,16 +680,100 @@ fn written(
     if is_comment(rest) {
         return Ok(Deed::Rests);
     }
-    statement(alloc, at, rest)
+    statement(alloc, at, rest, spare)
 }
 
-/// What a visited line does. The buffer takes its text, so that not each line takes memory anew.
-pub(crate) fn deed_of(
+/// A call of the macro that a head names, or a line that is given.
+fn headed_call<'a>(
+    alloc: Global,
+    at: Standing<'_>,
+    text: &'a [u8],
+    head: &Head,
+    spare: &mut Symbols,
+) -> Result<Deed<'a>, AllocError>
+    requires text { length text.now ≤ 255 }
+    requires head { HasFields head.now text.now }
+    ensures { IfOk result (λ d. deed d ≡ calling_at (where_ at.entry).definitions (where_ at.entry).root text.now
+        (first_named head.now.operation (where_ at.entry).definitions) (take head.now.label text.now) (part text.now (three_fields text.now).operand)) }
+{
+    match at.program.named(head.operation.bytes()) {
+        Some((place, found)) => {
+            let operand = operand_behind(text, head.end);
+            called(
+                alloc,
+                at,
+                text,
+                place,
+                found,
+                head.label_in(text),
+                operand,
+                spare,
+            )
+        }
+        None => Ok(Deed::Gives(Word::lent(text))),
+    }
+}
+
+/// What a line does that has a head, behind its sequence symbol.
+#[tactic(auto, using(crate::proofs::Heads::statement_ok, crate::proofs::Heads::call_ok))]
+fn headed_statement<'a>(
+    alloc: Global,
+    at: Standing<'_>,
+    text: &'a [u8],
+    head: &Head,
+    spare: &mut Symbols,
+) -> Result<Deed<'a>, AllocError>
+    requires text { length text.now ≤ 255 }
+    requires head { HasFields head.now text.now }
+    ensures { IfOk result (λ d. IsStatement (where_ at.entry) text.now (three_fields text.now) (deed d)) }
+{
+    match head.statement {
+        Some(statement) => {
+            let operand = operand_behind(text, head.end);
+            done(
+                alloc,
+                at.values,
+                statement,
+                text,
+                head.label_in(text),
+                operand,
+            )
+        }
+        None => headed_call(alloc, at, text, head, spare),
+    }
+}
+
+/// What a line does that has a head.
+#[tactic(auto, using(crate::proofs::Heads::after_cut, crate::proofs::Heads::behind_has))]
+fn headed<'a>(
     alloc: Global,
     at: Standing<'_>,
     of: &SourceLine,
-    buffer: &mut Vec<u8>,
-) -> Result<Deed, AllocError>
+    text: &'a [u8],
+    head: &Head,
+    spare: &mut Symbols,
+) -> Result<Deed<'a>, AllocError>
+    requires fields { HaveFields of.now.text (line of.now).fields }
+    requires head { HasHead head.now text.now }
+    ensures { IfOk result (λ d. IsShort (where_ at.entry) (line of.now) (nat_lt 255 (length text.now)) text.now (deed d)) }
+{
+    if text.len() > 255 {
+        return Ok(Deed::Fails(MacroCause::LineTooLong));
+    }
+    if begins_definition(at, of) {
+        return Ok(Deed::Rests);
+    }
+    headed_statement(alloc, at, head.behind_sequence(text), head, spare)
+}
+
+/// What a visited line does. The buffer takes its text, so that not each line takes memory anew.
+pub(crate) fn deed_of<'a>(
+    alloc: Global,
+    at: Standing<'_>,
+    of: &'a SourceLine,
+    buffer: &'a mut Vec<u8>,
+    spare: &mut Symbols,
+) -> Result<Deed<'a>, AllocError>
     requires { HaveFields of.now.text (line of.now).fields }
     ensures { IfOk result (λ d. IsDeed (where_ at.entry) (line of.now) (deed d)) }
 {
@@ -664,14 +782,13 @@ pub(crate) fn deed_of(
         return Ok(Deed::Rests);
     }
     if is_plain(text) {
-        return written(alloc, at, of, text);
+        return written(alloc, at, of, text, spare);
     }
     let taken = std::mem::replace(buffer, Vec::new(alloc));
     match shown(alloc, at.values, of, taken)? {
         Some(text) => {
-            let found = written(alloc, at, of, text.as_slice())?;
             *buffer = text;
-            Ok(found)
+            written(alloc, at, of, buffer.as_slice(), spare)
         }
         None => Ok(Deed::Fails(MacroCause::NoSuchSymbol)),
     }
@@ -679,12 +796,13 @@ pub(crate) fn deed_of(
 
 /// What a line without `&` does.
 #[tactic(auto, using(crate::proofs::Plans::always))]
-fn known_deed(
+fn known_deed<'a>(
     alloc: Global,
     at: Standing<'_>,
-    of: &SourceLine,
-    said: &Known,
-) -> Result<Deed, AllocError>
+    of: &'a SourceLine,
+    said: &'a Known,
+    spare: &mut Symbols,
+) -> Result<Deed<'a>, AllocError>
     requires fields { HaveFields of.now.text (line of.now).fields }
     requires plain { IsPlain (line of.now) }
     requires known { FitsLine (line of.now) (known said.now) }
@@ -693,54 +811,70 @@ fn known_deed(
     match said {
         Known::Rests => Ok(Deed::Rests),
         Known::Leaves => Ok(Deed::Leaves),
-        Known::Goes(target) => {
-            let target = name(alloc, target.bytes())?;
-            Ok(Deed::Goes(target))
-        }
-        Known::Open => written(alloc, at, of, of.text.bytes()),
+        Known::Goes(target) => Ok(Deed::Goes(Word::lent(target.bytes()))),
+        Known::Open => written(alloc, at, of, of.text.bytes(), spare),
+    }
+}
+
+/// What a line with its text in place does, of whose front something may be known.
+fn with_head<'a>(
+    alloc: Global,
+    at: Standing<'_>,
+    of: &SourceLine,
+    text: &'a [u8],
+    head: &Option<Head>,
+    spare: &mut Symbols,
+) -> Result<Deed<'a>, AllocError>
+    requires fields { HaveFields of.now.text (line of.now).fields }
+    requires head { MayHaveHead head.now text.now }
+    ensures { IfOk result (λ d. IsShort (where_ at.entry) (line of.now) (nat_lt 255 (length text.now)) text.now (deed d)) }
+{
+    match head {
+        Some(head) => headed(alloc, at, of, text, head, spare),
+        None => written(alloc, at, of, text, spare),
     }
 }
 
 /// What a line with these parts does. The buffer takes its text, so that not each line takes memory anew.
-fn parted(
+#[tactic(auto, using(crate::proofs::Heads::begins_so))]
+fn parted<'a>(
     alloc: Global,
     at: Standing<'_>,
     of: &SourceLine,
     parts: &[Part],
-    buffer: &mut Vec<u8>,
-) -> Result<Deed, AllocError>
+    head: &Option<Head>,
+    buffer: &'a mut Vec<u8>,
+    spare: &mut Symbols,
+) -> Result<Deed<'a>, AllocError>
     requires fields { HaveFields of.now.text (line of.now).fields }
     requires other { is_comment of.now.text ≡ false }
     requires parts { HasParts (line of.now) parts.now }
+    requires head { BeginsSo parts.now head.now }
     ensures { IfOk result (λ d. IsDeed (where_ at.entry) (line of.now) (deed d)) }
 {
-    let taken = std::mem::replace(buffer, Vec::new(alloc));
-    match filled(at.values, parts, taken)? {
-        Some(text) => {
-            let found = written(alloc, at, of, text.as_slice())?;
-            *buffer = text;
-            Ok(found)
-        }
-        None => Ok(Deed::Fails(MacroCause::NoSuchSymbol)),
+    if !fill(at.values, parts, buffer)? {
+        return Ok(Deed::Fails(MacroCause::NoSuchSymbol));
     }
+    with_head(alloc, at, of, buffer.as_slice(), head, spare)
 }
 
 /// What a visited line does, of which something is known.
 #[tactic(auto, using(crate::proofs::Plans::comment_rests))]
-pub(crate) fn planned(
+pub(crate) fn planned<'a>(
     alloc: Global,
     at: Standing<'_>,
-    of: &SourceLine,
-    plan: &Plan,
-    buffer: &mut Vec<u8>,
-) -> Result<Deed, AllocError>
+    of: &'a SourceLine,
+    plan: &'a Plan,
+    buffer: &'a mut Vec<u8>,
+    spare: &mut Symbols,
+) -> Result<Deed<'a>, AllocError>
     requires fields { HaveFields of.now.text (line of.now).fields }
     requires plan { Fits (line of.now) plan.now }
     ensures { IfOk result (λ d. IsDeed (where_ at.entry) (line of.now) (deed d)) }
 {
     match plan {
         Plan::Comment => Ok(Deed::Rests),
-        Plan::Plain(said) => known_deed(alloc, at, of, said),
-        Plan::Parts(parts) => parted(alloc, at, of, parts.as_slice(), buffer),
+        Plan::Plain(said) => known_deed(alloc, at, of, said, spare),
+        Plan::Parts(parts, head) => parted(alloc, at, of, parts.as_slice(), head, buffer, spare),
     }
 }

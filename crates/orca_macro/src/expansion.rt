@@ -20,7 +20,7 @@ use crate::definitions::{Definition, fault_at, scan_file};
 use crate::frames::State;
 use crate::plan::Plan;
 use crate::program::Program;
-use crate::symbols::Values;
+use crate::symbols::{Symbols, Values};
 use crate::visits::{Outcome, step};
 use macro_meaning::{MacroCause, MacroFault};
 use orca_text::{Lines, SourceLine, TextCause, TextFault, read_lines};
@@ -166,25 +166,17 @@ fn root_of(state: &State, number: u32) -> u32
     state.scope.root
 }
 
-/// What is known of the line that is visited.
-#[tactic(auto, using(crate::proofs::Plans::fits_here))]
-fn plan_for<'a>(program: &'a Program, state: &State, of: &SourceLine) -> Option<&'a Plan>
-    requires { line_at program.now state.now.scope.place state.now.scope.line ≡ Some (line of.now) }
-    ensures { IfSome result (λ plan. Fits (line of.now) plan.now) }
-{
-    program.plan(state.scope.place, state.scope.line)
-}
-
 /// What a line does.
-fn deed_at(
+fn deed_at<'a>(
     alloc: Global,
     program: &Program,
     state: &State,
     root: u32,
-    of: &SourceLine,
-    plan: Option<&Plan>,
-    buffer: &mut Vec<u8>,
-) -> Result<Deed, AllocError>
+    of: &'a SourceLine,
+    plan: Option<&'a Plan>,
+    buffer: &'a mut Vec<u8>,
+    spare: &mut Symbols,
+) -> Result<Deed<'a>, AllocError>
     requires fields { HaveFields of.now.text (line of.now).fields }
     requires plan { IfSome plan (λ p. Fits (line of.now) p.now) }
     ensures { IfOk result (λ d. (before : List Visit) (v : Visit) → StandsIn before v state.now → root ≡ root_by v.caller v.root (line of.now).number
@@ -201,13 +193,13 @@ fn deed_at(
         },
     };
     match plan {
-        Some(plan) => planned(alloc, at, of, plan, buffer),
-        None => deed_of(alloc, at, of, buffer),
+        Some(plan) => planned(alloc, at, of, plan, buffer, spare),
+        None => deed_of(alloc, at, of, buffer, spare),
     }
 }
 
 /// The line that a deed gives, behind others.
-fn give(alloc: Global, out: &mut Lines, of: &SourceLine, given: &Deed) -> Result<(), AllocError>
+fn give(alloc: Global, out: &mut Lines, of: &SourceLine, given: &Deed<'_>) -> Result<(), AllocError>
     requires { length out.old + 1 < 2 ^ 32 }
     ensures lines { OnOk result (out.new ≡ out.old ++ given_by (line of.now) (deed given.now)) }
     ensures few { OnOk result (length out.new ≤ length out.old + 1) }
@@ -233,6 +225,7 @@ fn visit(
     of: &SourceLine,
     plan: Option<&Plan>,
     buffer: &mut Vec<u8>,
+    spare: &mut Symbols,
     out: &mut Lines,
 ) -> Result<Outcome, AllocError>
     requires fields { HaveFields of.now.text (line of.now).fields }
@@ -246,9 +239,9 @@ fn visit(
     ensures few { IfOk result (λ outcome. length out.new ≤ length out.old + 1) }
 {
     let root = root_of(state, of.line);
-    let found = deed_at(alloc, program, state, root, of, plan, buffer)?;
+    let found = deed_at(alloc, program, state, root, of, plan, buffer, spare)?;
     give(alloc, out, of, &found)?;
-    let outcome = step(alloc, program, state, root, found)?;
+    let outcome = step(alloc, program, state, root, found, spare)?;
     Ok(outcome)
 }
 
@@ -259,16 +252,16 @@ fn visit_all(alloc: Global, program: &Program) -> Result<Result<Lines, MacroFaul
 {
     let mut out = Lines::new(alloc);
     let mut buffer = Vec::new(alloc);
+    let mut spare = Symbols::new(alloc);
     let mut state = State::new(alloc)?;
     let mut count: u32 = 0;
     'visits: loop {
-        let Some(line) = program.line(state.scope.place, state.scope.line) else {
+        let Some((line, plan)) = program.visited(state.scope.place, state.scope.line) else {
             return Ok(Ok(out));
         };
         if count == MOST_VISITS {
             return Ok(Err(fault_at(line, MacroCause::TooManyLines)));
         }
-        let plan = plan_for(program, &state, line);
         let outcome = visit(
             alloc,
             program,
@@ -276,6 +269,7 @@ fn visit_all(alloc: Global, program: &Program) -> Result<Result<Lines, MacroFaul
             line,
             plan,
             &mut buffer,
+            &mut spare,
             &mut out,
         )?;
         match outcome {

@@ -8,6 +8,7 @@ mod deed;
 mod definitions;
 mod expansion;
 mod frames;
+mod head;
 mod held;
 mod model_line;
 mod names;
@@ -17,7 +18,9 @@ mod program;
 mod substitution;
 mod symbols;
 mod template;
+mod text;
 mod visits;
+mod word;
 
 pub use expansion::expand;
 pub use macro_meaning::{MacroCause, MacroFault};

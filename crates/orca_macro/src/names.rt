@@ -179,7 +179,7 @@ pub(crate) fn sequence_name(alloc: Global, text: &[u8]) -> Result<Option<Name>, 
 
 /// Whether a text is a name.
 #[tactic(auto, using(crate::proofs::WholeName::whole_name, crate::proofs::WholeName::no_bytes, crate::proofs::WholeName::no_start))]
-fn is_name(text: &[u8]) -> bool
+pub(crate) fn is_name(text: &[u8]) -> bool
     ensures { result ≡ is_some (whole (Rattle.orca_meaning.specs.Token.name_at text.now)) }
 {
     let Some((first, others)) = text.split_first() else {

@@ -1,8 +1,8 @@
 //! Texts parted by commas or plus signs, and texts in quotes.
 
-ghost use Rattle.std.specs.Prelude.{◌≡◌, ◌≤◌, ◌<◌, ◌+◌, ◌^◌, ◌∷◌, [], List, ℕ, map, length, take, drop, position, nat_eq, slice_get, Some, None, IfOk, IfSome, MatchOption};
+ghost use Rattle.std.specs.Prelude.{◌≡◌, ◌≤◌, ◌<◌, ◌+◌, ◌^◌, ◌∷◌, [], List, ℕ, map, length, take, drop, position, nat_eq, slice_get, Some, None, IfOk, IfSome, MatchOption, option_copied};
 ghost use Rattle.macro_meaning.specs.Pieces.{open_behind, parts, pieces, closed_at, quoted_at, quoted, joined, appended};
-ghost use Rattle.orca_macro.specs.Piece.{piece_len, AreNotTwo};
+ghost use Rattle.orca_macro.specs.Piece.{piece_len, more_pieces, AreNotTwo};
 
 use orca_text::quote_behind;
 use std::alloc::{AllocError, Global};
@@ -106,6 +106,21 @@ pub(crate) fn pieces<'a>(
             return Ok(found);
         };
         left = others;
+    }
+}
+
+/// The first piece, and the text behind its separator, if there is one.
+#[tactic(auto, using(crate::proofs::Parted::and_more, crate::proofs::Parted::alone))]
+pub(crate) fn first_piece(separator: u8, text: &[u8]) -> (&[u8], Option<&[u8]>)
+    requires { length text.now ≤ 255 }
+    ensures short { length result.0.now ≤ 255 }
+    ensures behind { IfSome result.1 (λ rest. length rest.now < length text.now) }
+    ensures pieces { pieces separator text.now ≡ result.0.now ∷ more_pieces separator (option_copied result.1) }
+{
+    let (first, behind) = text.split_at(piece_len(separator, text));
+    match behind.split_first() {
+        Some((_, rest)) => (first, Some(rest)),
+        None => (first, None),
     }
 }
 

@@ -2,15 +2,17 @@
 
 ghost use Rattle.std.specs.Prelude.{◌≡◌, ◌≤◌, ◌==◌, List, ℕ, length, true, false, IfOk};
 ghost use Rattle.orca_meaning.specs.Line.{HaveFields, is_comment};
+ghost use Rattle.orca_macro.specs.Head.{BeginsSo};
 ghost use Rattle.orca_macro.specs.Plain.{plain_len};
 ghost use Rattle.orca_macro.specs.Plan.{known, FitsDone, FitsStatement, FitsLine, Fits};
 ghost use Rattle.orca_text.specs.View.{line};
 
 use crate::deed::cut;
 use crate::definitions::operation_is;
+use crate::head::{Head, head_of};
 use crate::names::{statement_of, target_name};
 use crate::substitution::is_plain;
-use crate::template::{Part, parts_of};
+use crate::template::{Part, parts_of, plain_front};
 use macro_meaning::Statement;
 use omf_base::Name;
 use orca_text::{SourceLine, is_comment, part, three_fields};
@@ -36,8 +38,8 @@ pub(crate) enum Plan {
     Comment,
     /// No `&` stands in it.
     Plain(Known),
-    /// Its parts.
-    Parts(Vec<Part>),
+    /// Its parts, and what is known of its front.
+    Parts(Vec<Part>, Option<Head>),
 }
 
 /// What a statement does.
@@ -112,6 +114,17 @@ fn known_of(alloc: Global, of: &SourceLine, text: &[u8]) -> Result<Known, AllocE
     known_of_statement(alloc, rest)
 }
 
+/// What is known of the front of a line with these parts.
+#[tactic(auto, using(crate::proofs::Heads::heads_begin, crate::proofs::Heads::no_head))]
+fn head_in(alloc: Global, parts: &[Part]) -> Result<Option<Head>, AllocError>
+    ensures { IfOk result (λ head. BeginsSo parts.now head) }
+{
+    match plain_front(parts) {
+        Some(front) => head_of(alloc, front),
+        None => Ok(None),
+    }
+}
+
 /// What is known of a line.
 #[tactic(auto, using(crate::proofs::Plans::plain_fits))]
 pub(crate) fn plan_of(alloc: Global, of: &SourceLine) -> Result<Plan, AllocError>
@@ -127,5 +140,6 @@ pub(crate) fn plan_of(alloc: Global, of: &SourceLine) -> Result<Plan, AllocError
         return Ok(Plan::Plain(known));
     }
     let parts = parts_of(alloc, of)?;
-    Ok(Plan::Parts(parts))
+    let head = head_in(alloc, parts.as_slice())?;
+    Ok(Plan::Parts(parts, head))
 }

@@ -6,7 +6,7 @@ ghost use Rattle.macro_meaning.specs.Visit.{line_at, body_of, no_body, target_of
 ghost use Rattle.orca_meaning.specs.Line.{HaveFields};
 ghost use Rattle.orca_macro.specs.Held.{held};
 ghost use Rattle.orca_macro.specs.Parts.{definition};
-ghost use Rattle.orca_macro.specs.Plan.{FitsAt};
+ghost use Rattle.orca_macro.specs.Plan.{Fits};
 ghost use Rattle.orca_text.specs.View.{line};
 
 use crate::body::Body;
@@ -141,12 +141,23 @@ impl Program {
         }
     }
 
-    /// What is known of a line of the macro at a place, or of the source.
-    pub(crate) fn plan(&self, place: Option<usize>, at: u32) -> Option<&Plan>
-        ensures { IfSome result (λ plan. FitsAt (body_of self.now place).lines at plan.now) }
+    /// A line of the macro at a place, or of the source, and what is known of it.
+    #[tactic(auto, using(crate::proofs::Plans::fits_here))]
+    pub(crate) fn visited(
+        &self,
+        place: Option<usize>,
+        at: u32,
+    ) -> Option<(&SourceLine, Option<&Plan>)>
+        ensures line { MatchOption result (line_at self.now place at ≡ None) (λ found. line_at self.now place at ≡ Some (line found.0.now)) }
+        ensures fields { IfSome result (λ found. HaveFields found.0.now.text (line found.0.now).fields) }
+        ensures bound { IfSome result (λ _. at + 1 < 2 ^ 32) }
+        ensures plan { IfSome result (λ found. IfSome found.1 (λ plan. Fits (line found.0.now) plan.now)) }
     {
         match self.body(place) {
-            Some(body) => body.plan(at),
+            Some(body) => match body.line(at) {
+                Some(found) => Some((found, body.plan(at))),
+                None => None,
+            },
             None => None,
         }
     }

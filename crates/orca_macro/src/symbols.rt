@@ -1,33 +1,36 @@
 //! Symbols, and the texts for which they stand (ORCA/M reference manual, "Symbolic parameters").
 
-ghost use Rattle.std.specs.Prelude.{◌≡◌, ◌+◌, ◌<◌, ◌≤◌, ◌^◌, [], List, ℕ, length, bytes_eq, Some, None, IfOk, IfSome, OnOk, MatchOption, IsTrue, if◌then◌else◌, option_map};
+ghost use Rattle.std.specs.Prelude.{◌≡◌, ◌+◌, ◌<◌, ◌≤◌, ◌^◌, [], List, ℕ, length, bytes_eq, Some, None, IfOk, IfSome, OnOk, MatchOption, is_none, IsTrue, if◌then◌else◌, option_map};
 ghost use Rattle.macro_meaning.specs.Symbol.{text_of, decimal, signed_decimal, kind_of, declaration_of, is_kind, is_declaration, first_text, is_count, with_name};
 ghost use Rattle.macro_meaning.specs.Call.{no_symbols};
 ghost use Rattle.macro_meaning.specs.Visit.{no_texts};
+ghost use Rattle.orca_macro.specs.Changes.{IsRenewed, IsRenewedIn};
 ghost use Rattle.orca_macro.specs.Held.{held};
 ghost use Rattle.orca_macro.specs.View.{symbol, shared_text, symbols_of, texts_of, values};
 
 use crate::held::{insert, look, put};
+use crate::text::Text;
 use indexmap::IndexMap;
+use itoa::Buffer;
 use macro_meaning::{Declaration, Kind};
-use omf_base::{Line, Name, NameFault};
+use omf_base::{Name, NameFault};
 use std::alloc::{AllocError, Global};
 use std::marker::Model;
 
 /// A symbol of an expansion.
-#[derive(Debug, Drop)]
+#[derive(Drop)]
 pub(crate) enum Symbol {
     /// Its own, with its text.
-    Own(Kind, Name),
+    Own(Kind, Text),
     /// One that all expansions share.
     Common(Kind),
 }
 
 /// The text of a shared symbol.
-#[derive(Debug, Drop)]
+#[derive(Drop)]
 pub(crate) struct SharedText {
     pub(crate) kind: Kind,
-    pub(crate) text: Name,
+    pub(crate) text: Text,
 }
 
 /// The symbols of an expansion by name.
@@ -46,7 +49,7 @@ pub(crate) struct Texts {
 #[derive(Drop)]
 pub(crate) struct Calls {
     count: u32,
-    digits: Name,
+    digits: Text,
 }
 
 impl Model for Calls {
@@ -73,34 +76,20 @@ pub(crate) fn name(alloc: Global, bytes: &[u8]) -> Result<Name, AllocError>
 }
 
 /// A number in decimal digits.
-#[tactic(auto, using(crate::proofs::Signed::decimal_short))]
-fn decimal(alloc: Global, n: u32) -> Result<Name, AllocError>
+fn decimal(alloc: Global, n: u32) -> Result<Text, AllocError>
     ensures { IfOk result (λ v. v ≡ decimal n) }
 {
-    let mut line = Line::new(alloc);
-    match line.dec(n) {
-        Ok(()) => Ok(Name::from_vec(line.into_bytes())),
-        Err(_) => Err(AllocError),
-    }
+    let mut buffer = Buffer::new();
+    Text::of(alloc, buffer.format(n).as_bytes())
 }
 
 /// A signed number in decimal digits.
-#[tactic(auto, using(crate::proofs::Signed::decimal_short))]
-pub(crate) fn signed_decimal(alloc: Global, z: i32) -> Result<Name, AllocError>
+#[tactic(auto, using(crate::proofs::Signed::same_digits))]
+pub(crate) fn signed_decimal(alloc: Global, z: i32) -> Result<Text, AllocError>
     ensures { IfOk result (λ v. v ≡ signed_decimal z) }
 {
-    if z >= 0 {
-        return decimal(alloc, z.unsigned_abs());
-    }
-    let mut line = Line::new(alloc);
-    match line.text("-") {
-        Ok(()) => {}
-        Err(_) => return Err(AllocError),
-    }
-    match line.dec(z.unsigned_abs()) {
-        Ok(()) => Ok(Name::from_vec(line.into_bytes())),
-        Err(_) => Err(AllocError),
-    }
+    let mut buffer = Buffer::new();
+    Text::of(alloc, buffer.format(z).as_bytes())
 }
 
 impl Calls {
@@ -145,10 +134,24 @@ pub(crate) struct Values<'a> {
 }
 
 /// Whether a name is SYSCNT.
+#[tactic(auto, using(crate::proofs::CountName::other_length))]
 pub(crate) fn is_count(name: &[u8]) -> bool
     ensures { result ≡ is_count name.now }
 {
-    b"SYSCNT".as_slice() == name
+    name.len() == 6 && b"SYSCNT".as_slice() == name
+}
+
+/// Gives a symbol of its own another text. The text of a shared one is handed back.
+fn renew(slot: &mut Symbol, kind: Kind, text: Text) -> Option<Text>
+    ensures { IsRenewed kind text (symbol slot.old) (symbol slot.new) result }
+{
+    match slot {
+        Symbol::Own(_, _) => {
+            *slot = Symbol::Own(kind, text);
+            None
+        }
+        Symbol::Common(_) => Some(text),
+    }
 }
 
 impl Symbols {
@@ -161,7 +164,17 @@ impl Symbols {
         }
     }
 
+    /// None, in the memory of these.
+    pub(crate) fn emptied(self) -> Symbols
+        ensures { symbols_of result ≡ no_symbols }
+    {
+        let mut symbols = self;
+        symbols.map.clear();
+        symbols
+    }
+
     /// What a name stands for.
+    #[inline(always)]
     pub(crate) fn get(&self, name: &[u8]) -> Option<&Symbol>
         ensures { MatchOption result (symbols_of self.now name.now ≡ None) (λ s. symbols_of self.now name.now ≡ Some (symbol s.now)) }
     {
@@ -177,24 +190,33 @@ impl Symbols {
     ) -> Result<(), AllocError>
         ensures { OnOk result (symbols_of self.new ≡ with_name name.now (symbol value) (symbols_of self.old)) }
     {
-        match insert(alloc, &mut self.map, name, value) {
-            Ok(()) => Ok(()),
-            Err(_) => Err(AllocError),
-        }
+        self.add_new(alloc, name, value)?;
+        Ok(())
     }
 
-    /// Gives a name that mostly has a symbol another one.
-    pub(crate) fn set(
+    /// The same: whether the name had no symbol yet.
+    pub(crate) fn add_new(
         &mut self,
         alloc: Global,
         name: &[u8],
         value: Symbol,
-    ) -> Result<(), AllocError>
-        ensures { OnOk result (symbols_of self.new ≡ with_name name.now (symbol value) (symbols_of self.old)) }
+    ) -> Result<bool, AllocError>
+        ensures ok { OnOk result (symbols_of self.new ≡ with_name name.now (symbol value) (symbols_of self.old)) }
+        ensures fresh { IfOk result (λ fresh. fresh ≡ is_none (symbols_of self.old name.now)) }
     {
-        match put(alloc, &mut self.map, name, value) {
-            Ok(()) => Ok(()),
+        match insert(alloc, &mut self.map, name, value) {
+            Ok(fresh) => Ok(fresh),
             Err(_) => Err(AllocError),
+        }
+    }
+
+    /// Gives a symbol of its own another text. The text of a shared one is handed back.
+    pub(crate) fn renew(&mut self, name: &[u8], kind: Kind, text: Text) -> Option<Text>
+        ensures { IsRenewedIn name.now kind text (symbols_of self.old name.now) (symbols_of self.old) (symbols_of self.new) result }
+    {
+        match self.map.get_mut(name) {
+            Some(slot) => renew(slot, kind, text),
+            None => None,
         }
     }
 }
@@ -246,6 +268,7 @@ fn common_text<'a>(texts: &'a Texts, name: &[u8]) -> Option<&'a [u8]>
 
 /// The text of a symbol in upper case, if it is declared.
 #[tactic(auto, unfolding(macro_meaning::specs::Symbol::text_of))]
+#[inline(always)]
 pub(crate) fn text_of<'a>(of: Values<'a>, name: &[u8]) -> Option<&'a [u8]>
     ensures text { MatchOption result (text_of (values of.entry) name.now ≡ None) (λ t. text_of (values of.entry) name.now ≡ Some t.now) }
     ensures short { IfSome result (λ t. length t.now ≤ 255) }
@@ -308,12 +331,12 @@ pub(crate) fn is_declaration(declaration: Declaration, other: Declaration) -> bo
 }
 
 /// What a symbol holds at first.
-pub(crate) fn first_text(alloc: Global, kind: Kind) -> Result<Name, AllocError>
+pub(crate) fn first_text(alloc: Global, kind: Kind) -> Result<Text, AllocError>
     ensures { IfOk result (λ v. v ≡ first_text kind) }
 {
     match kind {
-        Kind::Number => name(alloc, b"0"),
-        Kind::Flag => name(alloc, b"0"),
-        Kind::Text => name(alloc, b""),
+        Kind::Number => Text::of(alloc, b"0"),
+        Kind::Flag => Text::of(alloc, b"0"),
+        Kind::Text => Text::of(alloc, b""),
     }
 }

@@ -1,11 +1,11 @@
 //! Lines that are parted once into what is copied and the symbols whose texts come between (ORCA/M reference manual, "Symbolic parameters").
 
-ghost use Rattle.std.specs.Prelude.{◌≡◌, ◌≤◌, ◌+◌, [], List, ℕ, length, take, Option, Some, None, IfOk, OnOk, MatchOption};
+ghost use Rattle.std.specs.Prelude.{◌≡◌, ◌≤◌, ◌+◌, [], List, ℕ, length, take, Option, Some, None, IsTrue, false, IfOk, IfSome, OnOk, MatchOption};
 ghost use Rattle.macro_meaning.specs.Substitution.{in_place, with_front, name_length};
 ghost use Rattle.macro_meaning.specs.Symbol.{text_of};
 ghost use Rattle.orca_meaning.specs.Characters as characters;
 ghost use Rattle.orca_meaning.specs.Line.{HaveFields};
-ghost use Rattle.orca_macro.specs.Template.{HasParts, followed, part_text, placed, more_of, with_more, join};
+ghost use Rattle.orca_macro.specs.Template.{HasParts, BeginWith, followed, part_text, placed, more_of, with_more, join};
 ghost use Rattle.orca_macro.specs.View.{naming, values};
 ghost use Rattle.orca_text.specs.View.{line};
 
@@ -146,6 +146,23 @@ pub(crate) fn parts_of(alloc: Global, of: &SourceLine) -> Result<Vec<Part>, Allo
     }
 }
 
+/// The bytes with which all begins that comes of parts.
+#[tactic(auto, using(crate::proofs::Templates::needs_more, crate::proofs::Templates::begins_plain))]
+pub(crate) fn plain_front(parts: &[Part]) -> Option<&[u8]>
+    ensures short { IfSome result (λ front. length front.now ≤ 255) }
+    ensures front { IfSome result (λ front. BeginWith parts.now front.now) }
+{
+    let mut left = parts;
+    'parts: while let Some((first, others)) = left.split_first() {
+        match first {
+            Part::Plain(bytes) => return Some(bytes.bytes()),
+            Part::Need(_) => left = others,
+            Part::Put(_) => return None,
+        }
+    }
+    None
+}
+
 /// What comes of a part, if its symbol is declared.
 fn part_text<'a>(of: Values<'a>, part: &'a Part) -> Option<&'a [u8]>
     ensures { MatchOption result (part_text (text_of (values of.entry)) part.now ≡ None) (λ t. part_text (text_of (values of.entry)) part.now ≡ Some t.now) }
@@ -160,25 +177,22 @@ fn part_text<'a>(of: Values<'a>, part: &'a Part) -> Option<&'a [u8]>
     }
 }
 
-/// What comes of parts; none where a symbol isn't declared. It stands in the buffer, whose own bytes are gone.
-#[tactic(auto, using(crate::proofs::Templates::fill_start, crate::proofs::Templates::fill_next, crate::proofs::Templates::fill_none, crate::proofs::Templates::fill_end))]
-pub(crate) fn filled(
-    of: Values<'_>,
-    parts: &[Part],
-    buffer: Vec<u8>,
-) -> Result<Option<Vec<u8>>, AllocError>
-    ensures { IfOk result (λ found. MatchOption found (followed (text_of (values of.entry)) parts.now (Some []) ≡ None)
-        (λ v. followed (text_of (values of.entry)) parts.now (Some []) ≡ Some v.items)) }
+/// Puts what comes of parts into a buffer, whose own bytes are gone: whether all their symbols are declared.
+#[tactic(auto, using(crate::proofs::Templates::fill_start, crate::proofs::Templates::fill_next, crate::proofs::Templates::fill_empty, crate::proofs::Templates::fill_none, crate::proofs::Templates::fill_end))]
+pub(crate) fn fill(of: Values<'_>, parts: &[Part], out: &mut Vec<u8>) -> Result<bool, AllocError>
+    ensures text { IfOk result (λ found. IsTrue found → followed (text_of (values of.entry)) parts.now (Some []) ≡ Some out.new.items) }
+    ensures missing { IfOk result (λ found. found ≡ false → followed (text_of (values of.entry)) parts.now (Some []) ≡ None) }
 {
-    let mut out = buffer;
     out.clear();
     let mut left = parts;
     'parts: while let Some((first, behind)) = left.split_first() {
         let Some(text) = part_text(of, first) else {
-            return Ok(None);
+            return Ok(false);
         };
-        out.extend_from_slice(text)?;
+        if !text.is_empty() {
+            out.extend_from_slice(text)?;
+        }
         left = behind;
     }
-    Ok(Some(out))
+    Ok(true)
 }

@@ -15,8 +15,8 @@ use crate::deed::Deed;
 use crate::frames::{Frames, Scope, State};
 use crate::program::Program;
 use crate::symbols::{Calls, SharedText, Symbol, Symbols, Texts, first_text};
+use crate::text::Text;
 use macro_meaning::{Declaration, Kind, MacroCause};
-use omf_base::Name;
 use orca_text::SourceLine;
 use std::alloc::{AllocError, Global};
 
@@ -70,19 +70,19 @@ fn declare(
 }
 
 /// Sets a symbol to a text.
+#[tactic(auto, using(crate::proofs::Renewals::assigned_own, crate::proofs::Renewals::assigned_common))]
 fn assign(
     alloc: Global,
     symbols: &mut Symbols,
     texts: &mut Texts,
     name: &[u8],
     kind: Kind,
-    text: Name,
+    text: Text,
 ) -> Result<(), AllocError>
     ensures { OnOk result (IsAssigned name.now kind text (symbols_of symbols.old name.now) (symbols_of symbols.old) (symbols_of symbols.new) (texts_of texts.old) (texts_of texts.new)) }
 {
-    match symbols.get(name) {
-        Some(Symbol::Own(_, _)) => symbols.set(alloc, name, Symbol::Own(kind, text)),
-        Some(Symbol::Common(_)) => texts.set(alloc, name, SharedText { kind, text }),
+    match symbols.renew(name, kind, text) {
+        Some(text) => texts.set(alloc, name, SharedText { kind, text }),
         None => Ok(()),
     }
 }
@@ -103,14 +103,15 @@ fn returned(program: &Program, frames: &mut Frames) -> Option<Scope>
     None
 }
 
-/// What is behind an expansion.
-fn leave(program: &Program, now: &mut Scope, frames: &mut Frames) -> Outcome
+/// What is behind an expansion. Its symbols become the spare ones.
+fn leave(program: &Program, now: &mut Scope, frames: &mut Frames, spare: &mut Symbols) -> Outcome
     ensures { (before : List Visit) (v last : Visit) (line : meaning.Line) (texts : SharedTexts) (calls : ℕ) → Stands before v (frame now.old) (stack_of frames.old) texts calls
         → MovesTo (returned program.now before v v.depth v.caller) (before ++ last ∷ []) line result (frame now.new) (stack_of frames.new) texts calls }
 {
     match returned(program, frames) {
         Some(scope) => {
-            *now = scope;
+            let gone = std::mem::replace(now, scope);
+            *spare = gone.symbols;
             Outcome::Goes
         }
         None => Outcome::Ends,
@@ -118,7 +119,7 @@ fn leave(program: &Program, now: &mut Scope, frames: &mut Frames) -> Outcome
 }
 
 /// The next line, or what is behind the expansion.
-fn onward(program: &Program, now: &mut Scope, frames: &mut Frames) -> Outcome
+fn onward(program: &Program, now: &mut Scope, frames: &mut Frames, spare: &mut Symbols) -> Outcome
     requires { now.old.line + 1 < 2 ^ 32 }
     ensures { (before : List Visit) (v last : Visit) (line : meaning.Line) (texts : SharedTexts) (calls : ℕ) → Stands before v (frame now.old) (stack_of frames.old) texts calls
         → MovesTo (next_line program.now before v) (before ++ last ∷ []) line result (frame now.new) (stack_of frames.new) texts calls }
@@ -128,7 +129,7 @@ fn onward(program: &Program, now: &mut Scope, frames: &mut Frames) -> Outcome
             now.line += 1;
             Outcome::Goes
         }
-        None => leave(program, now, frames),
+        None => leave(program, now, frames, spare),
     }
 }
 
@@ -196,6 +197,7 @@ fn declared(
     state: &mut State,
     name: &[u8],
     declaration: Declaration,
+    spare: &mut Symbols,
 ) -> Result<Outcome, AllocError>
     requires { state.old.scope.line + 1 < 2 ^ 32 }
     ensures moves { IfOk result (λ outcome. (before : List Visit) (v : Visit) (line : meaning.Line) → StandsIn before v state.old
@@ -209,7 +211,7 @@ fn declared(
         name,
         declaration,
     )?;
-    Ok(onward(program, &mut state.scope, &mut state.frames))
+    Ok(onward(program, &mut state.scope, &mut state.frames, spare))
 }
 
 /// A setting, and the next line.
@@ -219,7 +221,8 @@ fn assigned(
     state: &mut State,
     name: &[u8],
     kind: Kind,
-    text: Name,
+    text: Text,
+    spare: &mut Symbols,
 ) -> Result<Outcome, AllocError>
     requires { state.old.scope.line + 1 < 2 ^ 32 }
     ensures moves { IfOk result (λ outcome. (before : List Visit) (v : Visit) (line : meaning.Line) → StandsIn before v state.old
@@ -234,7 +237,7 @@ fn assigned(
         kind,
         text,
     )?;
-    Ok(onward(program, &mut state.scope, &mut state.frames))
+    Ok(onward(program, &mut state.scope, &mut state.frames, spare))
 }
 
 /// Carries out what a line does.
@@ -243,27 +246,36 @@ pub(crate) fn step(
     program: &Program,
     state: &mut State,
     root: u32,
-    of: Deed,
+    of: Deed<'_>,
+    spare: &mut Symbols,
 ) -> Result<Outcome, AllocError>
     requires line { state.old.scope.line + 1 < 2 ^ 32 }
     requires calls { state.old.calls + 1 < 2 ^ 32 }
     ensures moves { IfOk result (λ outcome. (before : List Visit) (v : Visit) (line : meaning.Line) → StandsIn before v state.old → root ≡ root_by v.caller v.root line.number
-        → MovesIn (move_of program.now before v line (deed of)) (before ++ v ∷ []) line outcome state.new) }
+        → MovesIn (move_of program.now before v line (deed of.entry)) (before ++ v ∷ []) line outcome state.new) }
     ensures calls { IfOk result (λ outcome. state.new.calls ≤ state.old.calls + 1) }
 {
     match of {
-        Deed::Rests => Ok(onward(program, &mut state.scope, &mut state.frames)),
-        Deed::Gives(_) => Ok(onward(program, &mut state.scope, &mut state.frames)),
+        Deed::Rests => Ok(onward(program, &mut state.scope, &mut state.frames, spare)),
+        Deed::Gives(_) => Ok(onward(program, &mut state.scope, &mut state.frames, spare)),
         Deed::Declares(name, declaration) => {
-            declared(alloc, program, state, name.bytes(), declaration)
+            declared(alloc, program, state, name.bytes(), declaration, spare)
         }
-        Deed::Sets(name, kind, text) => assigned(alloc, program, state, name.bytes(), kind, text),
+        Deed::Sets(name, kind, text) => assigned(
+            alloc,
+            program,
+            state,
+            name.bytes(),
+            kind,
+            text,
+            spare,
+        ),
         Deed::Goes(name) => Ok(branch(program, &mut state.scope, name.bytes())),
         Deed::Counts(n) => {
             state.scope.counter = n;
-            Ok(onward(program, &mut state.scope, &mut state.frames))
+            Ok(onward(program, &mut state.scope, &mut state.frames, spare))
         }
-        Deed::Leaves => Ok(leave(program, &mut state.scope, &mut state.frames)),
+        Deed::Leaves => Ok(leave(program, &mut state.scope, &mut state.frames, spare)),
         Deed::Calls(place, symbols) => call(alloc, program, state, root, place, symbols),
         Deed::Fails(cause) => Ok(Outcome::Stops(cause)),
     }

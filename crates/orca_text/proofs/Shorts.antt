@@ -74,3 +74,20 @@ two_mean text operator a b rest behind last first between second none =
       stands = record { formed = (omega arith, positive operator, tt, tt); spelled = (rest, first, (behind, between, (last, second, nothing last none))); ends = refl };
       means = refl;
     }
+
+pub three_mean : (text : List ℕ) (operator second : Operator) (a b c : ℕ) (rest behind last more end : List ℕ) → operand_token_at Symbols text ≡ Some (Value (Number a), rest)
+    → operator_token_at rest ≡ Some (Between operator, behind) → operand_token_at Symbols behind ≡ Some (Value (Number b), last)
+    → operator_token_at last ≡ Some (Between second, more) → operand_token_at Symbols more ≡ Some (Value (Number c), end) → eqb (length end) 0 ≡ true
+    → operator_level second < operator_level operator
+    → MeansAt Symbols text (Binary (operator_code operator) (Leaf (Constant a)) (Binary (operator_code second) (Leaf (Constant b)) (Leaf (Constant c)))) []
+unfolding operator_at spelled_at
+three_mean text operator second a b c rest behind last more end first between number between_too third none closer =
+    record {
+      formula = Joined operator (Single (Number a)) (Joined second (Single (Number b)) (Single (Number c)));
+      stands = record {
+        formed = (omega arith, closer, tt, (omega arith, positive second, tt, tt));
+        spelled = (rest, first, (behind, between, (last, number, (more, between_too, (end, third, nothing end none)))));
+        ends = refl;
+      };
+      means = refl;
+    }

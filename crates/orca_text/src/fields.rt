@@ -152,6 +152,19 @@ pub fn three_fields(text: &[u8]) -> Fields
     }
 }
 
+/// The third field of a line whose operation ends at a place.
+#[tactic(auto, using(crate::proofs::Places::operand_is))]
+pub fn operand_behind(text: &[u8], end: usize) -> &[u8]
+    requires { (three_fields text.now).operation.to ≡ end }
+    ensures value { result.now ≡ part text.now (three_fields text.now).operand }
+    ensures bound { length result.now ≤ length text.now }
+{
+    let behind = from(text, end);
+    let (_, third) = behind.split_at(ink_in(behind));
+    let (operand, _) = third.split_at(blank_outside(third));
+    operand
+}
+
 /// What begins in column 1 of a line, up to the first blank.
 #[tactic(auto, using(crate::proofs::Places::label_is))]
 pub fn label_in(text: &[u8]) -> &[u8]

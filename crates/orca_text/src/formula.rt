@@ -20,7 +20,7 @@ use orca_meaning::{Operands, Operator, Sign};
 use std::alloc::{AllocError, Global};
 
 /// The level of an operator between two operands.
-fn level(operator: Operator) -> u8
+pub(crate) fn level(operator: Operator) -> u8
     ensures { result ≡ operator_level operator }
 {
     match operator {

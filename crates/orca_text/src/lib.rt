@@ -15,7 +15,7 @@ mod short;
 mod tokens;
 mod waiting;
 
-pub use fields::{Fields, is_comment, label_in, part, quote_behind, three_fields};
+pub use fields::{Fields, is_comment, label_in, operand_behind, part, quote_behind, three_fields};
 pub use formula::{FormulaAt, formula_at};
 pub use formula_term::{Formula, FormulaTerm};
 pub use line::SourceLine;

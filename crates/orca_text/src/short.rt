@@ -1,22 +1,25 @@
-//! Formulas of one or two numbers, as most conditions and settings have them once the texts are in place.
+//! Formulas of one to three numbers, as most conditions and settings have them once the texts are in place.
 
 ghost use Rattle.std.specs.Prelude.{◌≡◌, ◌<◌, ◌^◌, [], Some, IfSome};
 ghost use Rattle.orca_meaning.specs.Formula.{MeansAt};
 ghost use Rattle.orca_meaning.specs.Token.{Value, Number, Between, operand_token_at, operator_token_at};
 ghost use Rattle.orca_text.specs.Short.{tree_of};
 
+use crate::formula::level;
 use crate::operand_tokens::{OperatorToken, behind_byte, operator_token};
 use crate::operator_tokens::sign_at;
 use crate::tokens::number_at;
 use orca_meaning::{Operands, Operator};
 
-/// A formula of one number, or of two.
+/// A formula of one number, of two, or of three.
 #[derive(Clone, Copy, Debug)]
 pub enum ShortFormula {
     /// A number.
     One(u32),
     /// An operator between two numbers.
     Two(Operator, u32, u32),
+    /// An operator between a number and two, which another operator binds closer.
+    Three(Operator, u32, Operator, u32, u32),
 }
 
 /// The number at the front where an operand is expected, and what stands behind it. None where another token stands there,
@@ -49,9 +52,9 @@ fn operator_behind(text: &[u8]) -> Option<(Operator, &[u8])>
     }
 }
 
-/// The formula that the whole text is, where it is one number, or two with an operator between them. None says nothing: the
-/// text may still be a formula.
-#[tactic(auto, using(crate::proofs::Shorts::one_means, crate::proofs::Shorts::two_mean))]
+/// The formula that the whole text is, where it is one number, two with an operator between them, or three of which the last
+/// two are bound closer. None says nothing: the text may still be a formula.
+#[tactic(auto, using(crate::proofs::Shorts::one_means, crate::proofs::Shorts::two_mean, crate::proofs::Shorts::three_mean))]
 pub fn short_formula(text: &[u8]) -> Option<ShortFormula>
     ensures { IfSome result (λ f. MeansAt Operands.Symbols text.now (tree_of f) []) }
 {
@@ -69,6 +72,15 @@ pub fn short_formula(text: &[u8]) -> Option<ShortFormula>
     };
     if last.is_empty() {
         return Some(ShortFormula::Two(operator, a, b));
+    }
+    let Some((second, more)) = operator_behind(last) else {
+        return None;
+    };
+    let Some((c, end)) = number_token(more) else {
+        return None;
+    };
+    if end.is_empty() && level(second) < level(operator) {
+        return Some(ShortFormula::Three(operator, a, second, b, c));
     }
     None
 }

@@ -7,6 +7,7 @@ use link_meaning::{LinkCause, LinkFault};
 use link_resolve::{LinkMember, Program, are_few, read_segments, resolve};
 use omf_base::Spot;
 use std::alloc::{AllocError, Global};
+use std::process::Abort;
 
 /// An object file of one code segment A: 3 bytes, and DS 5.
 const ONE: [u8; 66] = [
@@ -106,137 +107,136 @@ fn owned(alloc: Global, files: &[&[u8]]) -> Result<Vec<Vec<u8>>, AllocError> {
     Ok(inputs)
 }
 
+/// The files resolved, where they are few.
+fn resolved(alloc: Global, inputs: &Vec<Vec<u8>>) -> Option<Result<Program<'_>, LinkFault>> {
+    if !are_few(inputs) {
+        return None;
+    }
+    Some(resolve(alloc, inputs))
+}
+
 /// The value of the equate that X is in the first member of a program.
 fn value_of(program: &Program) -> Option<u8> {
     let found = program.symbol(1, b"X")?;
     found.expr?.get(1).copied()
 }
 
-/// What X is in the first member of the files, or why they aren't resolved, in two bytes: the cause, and the place of the fault.
-fn told(alloc: Global, files: &[&[u8]]) -> Result<Option<u8>, (LinkCause, Spot)> {
+fn member_of(program: &Program, place: u32) -> Option<LinkMember> {
+    program.member(place)
+}
+
+/// LENGTH and ALIGN of a load segment of a program.
+fn size_of(program: &Program, number: u32) -> Option<(u32, u32)> {
+    let header = program.load_header(number)?;
+    Some((header.length, header.align))
+}
+
+/// What X is in the first member, in a byte, or why files aren't resolved: the cause, and the place of the fault as file, segment and
+/// displacement.
+type Told = Result<Option<u8>, (LinkCause, u32, u32, u32)>;
+
+/// What becomes of the files.
+fn told(alloc: Global, files: &[&[u8]]) -> Told {
     let Ok(inputs) = owned(alloc, files) else {
         return Ok(None);
     };
-    if !are_few(&inputs) {
-        return Ok(None);
-    }
-    match resolve(alloc, &inputs) {
-        Ok(program) => Ok(value_of(&program)),
-        Err(fault) => Err((fault.cause, fault.spot)),
+    match resolved(alloc, &inputs) {
+        Some(Ok(program)) => Ok(value_of(&program)),
+        Some(Err(LinkFault { cause, spot, .. })) => Err((cause, spot.file, spot.segment, spot.at)),
+        None => Ok(None),
     }
 }
 
 /// The member at a place of the list of files.
 fn member(alloc: Global, files: &[&[u8]], place: u32) -> Option<LinkMember> {
     let inputs = owned(alloc, files).ok()?;
-    if !are_few(&inputs) {
-        return None;
-    }
-    resolve(alloc, &inputs).ok()?.member(place)
+    let program = resolved(alloc, &inputs)?.ok()?;
+    member_of(&program, place)
 }
 
 /// LENGTH and ALIGN of a load segment of files.
 fn size(alloc: Global, files: &[&[u8]], number: u32) -> Option<(u32, u32)> {
     let inputs = owned(alloc, files).ok()?;
-    if !are_few(&inputs) {
-        return None;
-    }
-    let program = resolve(alloc, &inputs).ok()?;
-    let header = program.load_header(number)?;
-    Some((header.length, header.align))
-}
-
-fn refused(
-    cause: LinkCause,
-    file: u32,
-    segment: u32,
-    at: u32,
-) -> Result<Option<u8>, (LinkCause, Spot)> {
-    Err((cause, Spot { file, segment, at }))
-}
-
-fn stands(file: u32, segment: u32, load_segment: u16, offset: u32) -> Option<LinkMember> {
-    Some(LinkMember {
-        file,
-        segment,
-        load_segment,
-        offset,
-    })
+    let program = resolved(alloc, &inputs)?.ok()?;
+    size_of(&program, number)
 }
 
 #[test]
 fn names_are_found_in_order(rt: HostRuntime) {
-    let alloc = rt.alloc();
-    assert_eq!(rt;
-        told(alloc, &[&USER, &EQUATE_A, &LIBRARY_B, &LIBRARY_C]),
-        Ok(Some(1))
-    );
-    assert_eq!(rt; told(alloc, &[&USER, &LIBRARY_B, &LIBRARY_C]), Ok(Some(2)));
-    assert_eq!(rt; told(alloc, &[&USER, &LIBRARY_C, &LIBRARY_B]), Ok(Some(3)));
-    assert_eq!(rt;
-        told(alloc, &[&USER]),
-        refused(LinkCause::Unresolved, 1, 1, 0x38)
-    );
-    assert_eq!(rt;
-        told(alloc, &[&USER, &EQUATE_A, &EQUATE_B]),
-        refused(LinkCause::Duplicate, 1, 1, 0x38)
-    );
-    assert_eq!(rt; told(alloc, &[&EQUATE_A, &EQUATE_B]), Ok(Some(1)));
-    assert_eq!(rt;
-        told(alloc, &[&WEAK, &EQUATE_A, &EQUATE_B]),
-        refused(LinkCause::Duplicate, 1, 1, 0x38)
-    );
-    assert_eq!(rt; told(alloc, &[&WEAK, &LIBRARY_B]), Ok(None));
+    let rows: [(&[&[u8]], Told); 8] = [
+        (&[&USER, &EQUATE_A, &LIBRARY_B, &LIBRARY_C], Ok(Some(1))),
+        (&[&USER, &LIBRARY_B, &LIBRARY_C], Ok(Some(2))),
+        (&[&USER, &LIBRARY_C, &LIBRARY_B], Ok(Some(3))),
+        (&[&USER], Err((LinkCause::Unresolved, 1, 1, 0x38))),
+        (
+            &[&USER, &EQUATE_A, &EQUATE_B],
+            Err((LinkCause::Duplicate, 1, 1, 0x38)),
+        ),
+        (&[&EQUATE_A, &EQUATE_B], Ok(Some(1))),
+        (
+            &[&WEAK, &EQUATE_A, &EQUATE_B],
+            Err((LinkCause::Duplicate, 1, 1, 0x38)),
+        ),
+        (&[&WEAK, &LIBRARY_B], Ok(None)),
+    ];
+    for (files, want) in rows {
+        assert_eq!(rt; told(rt.alloc(), files), want, "{}", files.len());
+    }
 }
 
 #[test]
 fn a_list_has_its_places(rt: HostRuntime) {
     let alloc = rt.alloc();
     let files: [&[u8]; 6] = [&PLACED, &BEHIND, &WEAK, &USER, &LIBRARY_Y, &LIBRARY_B];
-    assert_eq!(rt; member(alloc, &files, 1), stands(1, 1, 1, 0));
-    assert_eq!(rt; member(alloc, &files, 2), stands(2, 1, 1, 3));
-    assert_eq!(rt; member(alloc, &files, 3), stands(2, 2, 2, 0));
-    assert_eq!(rt; member(alloc, &files, 4), stands(3, 1, 3, 0));
-    assert_eq!(rt; member(alloc, &files, 5), stands(4, 1, 3, 1));
-    assert_eq!(rt; member(alloc, &files, 6), stands(5, 2, 1, 8));
-    assert_eq!(rt; member(alloc, &files, 7), stands(6, 2, 3, 2));
-    assert_eq!(rt; member(alloc, &files, 8), stands(5, 3, 2, 0x100));
+    for (place, file, segment, load_segment, offset) in [
+        (1, 1, 1, 1, 0),
+        (2, 2, 1, 1, 3),
+        (3, 2, 2, 2, 0),
+        (4, 3, 1, 3, 0),
+        (5, 4, 1, 3, 1),
+        (6, 5, 2, 1, 8),
+        (7, 6, 2, 3, 2),
+        (8, 5, 3, 2, 0x100),
+    ] {
+        let want = LinkMember {
+            file,
+            segment,
+            load_segment,
+            offset,
+        };
+        assert_eq!(rt; member(alloc, &files, place), Some(want), "{place}");
+    }
     assert_eq!(rt; member(alloc, &files, 9), None);
-    assert_eq!(rt; size(alloc, &files, 1), Some((9, 0x100)));
-    assert_eq!(rt; size(alloc, &files, 2), Some((0x102, 0x80)));
+    for (number, want) in [(1, (9, 0x100)), (2, (0x102, 0x80))] {
+        assert_eq!(rt; size(alloc, &files, number), Some(want), "{number}");
+    }
+}
+
+/// Linking these files is told so.
+fn is_told(rt: &impl Abort, alloc: Global, files: &[&[u8]], want: Told) {
+    assert_eq!(rt; told(alloc, files), want, "{}", files.len());
 }
 
 #[test]
 fn phases_have_an_order(rt: HostRuntime) {
     let alloc = rt.alloc();
-    assert_eq!(rt;
-        told(alloc, &[&ONE[..43]]),
-        refused(LinkCause::Truncated, 1, 1, 0x2B)
-    );
-    assert_eq!(rt; told(alloc, &[&[]]), refused(LinkCause::Empty, 0, 0, 0));
-    assert_eq!(rt;
-        told(alloc, &[&LIBRARY_B]),
-        refused(LinkCause::Empty, 0, 0, 0)
-    );
+    let truncated = Err((LinkCause::Truncated, 1, 1, 0x2B));
+    let empty = Err((LinkCause::Empty, 0, 0, 0));
+    is_told(&rt, alloc, &[&ONE[..43]], truncated);
+    is_told(&rt, alloc, &[&[]], empty);
+    is_told(&rt, alloc, &[&LIBRARY_B], empty);
 
     // A later member asks for an address; a name that isn't there comes first, and a file that isn't read before.
-    assert_eq!(rt;
-        told(alloc, &[&PLACED, &ASKING]),
-        refused(LinkCause::OrgConflict, 2, 1, 0)
-    );
-    assert_eq!(rt; told(alloc, &[&ASKING, &PLACED]), Ok(None));
-    assert_eq!(rt;
-        told(alloc, &[&PLACED, &ASKING, &USER]),
-        refused(LinkCause::Unresolved, 3, 1, 0x38)
-    );
-    assert_eq!(rt;
-        told(alloc, &[&PLACED, &ASKING, &USER, &ONE[..43]]),
-        refused(LinkCause::Truncated, 4, 1, 0x2B)
-    );
-    assert_eq!(rt;
-        told(alloc, &[&DATA, &LIBRARY_D]),
-        refused(LinkCause::Duplicate, 1, 1, 0x38)
-    );
+    let conflict = Err((LinkCause::OrgConflict, 2, 1, 0));
+    let unresolved = Err((LinkCause::Unresolved, 3, 1, 0x38));
+    let late = Err((LinkCause::Truncated, 4, 1, 0x2B));
+    is_told(&rt, alloc, &[&PLACED, &ASKING], conflict);
+    is_told(&rt, alloc, &[&ASKING, &PLACED], Ok(None));
+    is_told(&rt, alloc, &[&PLACED, &ASKING, &USER], unresolved);
+    is_told(&rt, alloc, &[&PLACED, &ASKING, &USER, &ONE[..43]], late);
+
+    let twice = Err((LinkCause::Duplicate, 1, 1, 0x38));
+    is_told(&rt, alloc, &[&DATA, &LIBRARY_D], twice);
 }
 
 /// Two members of $8000 cells each in one load segment: LENGTH, and the count of DS.
@@ -252,7 +252,7 @@ const HALVES: [(usize, u8); 8] = [
 ];
 
 /// What becomes of these two members with further changes.
-fn told_of_halves(alloc: Global, changes: &[(usize, u8)]) -> Result<Option<u8>, (LinkCause, Spot)> {
+fn told_of_halves(alloc: Global, changes: &[(usize, u8)]) -> Told {
     let mut bytes = two(&HALVES);
     put(&mut bytes, changes);
     told(alloc, &[&bytes])
@@ -276,7 +276,7 @@ fn many_loads(alloc: Global, count: u8) -> Result<Vec<u8>, AllocError> {
 }
 
 /// What becomes of them.
-fn told_of_many(alloc: Global, count: u8) -> Result<Option<u8>, (LinkCause, Spot)> {
+fn told_of_many(alloc: Global, count: u8) -> Told {
     let Ok(bytes) = many_loads(alloc, count) else {
         return Ok(Some(0));
     };
@@ -295,31 +295,28 @@ fn load_segments_have_limits(rt: HostRuntime) {
 
     // $10000 bytes in a bank are enough, $10001 too many; an address of the second member comes before.
     assert_eq!(rt; size_of_halves(alloc), Some((0x10000, 0)));
-    assert_eq!(rt;
-        told_of_halves(alloc, &[(SECOND + 8, 1), (SECOND + 0x3D, 0xFE)]),
-        refused(LinkCause::SegmentTooLong, 1, 1, 0)
-    );
-    assert_eq!(rt;
-        told_of_halves(
-            alloc,
-            &[(SECOND + 8, 1), (SECOND + 0x3D, 0xFE), (SECOND + 0x18, 2)]
+    let longer: [(&[(usize, u8)], Told); 2] = [
+        (
+            &[(SECOND + 8, 1), (SECOND + 0x3D, 0xFE)],
+            Err((LinkCause::SegmentTooLong, 1, 1, 0)),
         ),
-        refused(LinkCause::OrgConflict, 1, 2, 66)
-    );
+        (
+            &[(SECOND + 8, 1), (SECOND + 0x3D, 0xFE), (SECOND + 0x18, 2)],
+            Err((LinkCause::OrgConflict, 1, 2, 66)),
+        ),
+    ];
+    for (changes, want) in longer {
+        assert_eq!(rt; told_of_halves(alloc, changes), want);
+    }
 
     // 254 load segments are enough, and the 255th is one too many.
     assert_eq!(rt; size_of_many(alloc, 254, 254), Some((0, 0)));
-    assert_eq!(rt;
-        told_of_many(alloc, 255),
-        refused(LinkCause::TooManySegments, 1, 255, 254 * 56)
-    );
+    let want = Err((LinkCause::TooManySegments, 1, 255, 254 * 56));
+    assert_eq!(rt; told_of_many(alloc, 255), want);
 }
 
 /// What X is in a file that uses it, where the library of XB has bytes changed at displacements.
-fn told_of_library(
-    alloc: Global,
-    changes: &[(usize, u8)],
-) -> Result<Option<u8>, (LinkCause, Spot)> {
+fn told_of_library(alloc: Global, changes: &[(usize, u8)]) -> Told {
     let mut library = LIBRARY_B;
     put(&mut library, changes);
     told(alloc, &[&USER, &library])
@@ -328,54 +325,49 @@ fn told_of_library(
 #[test]
 fn rows_serve_their_own(rt: HostRuntime) {
     let alloc = rt.alloc();
+    let rows: [(&[(usize, u8)], Told); 3] = [
+        // The first row's segment starts elsewhere; the second row's file isn't one of the library's.
+        (&[(0x4F, 0x6B)], Err((LinkCause::BadLibrary, 2, 1, 0x47))),
+        (&[(0x58, 1)], Err((LinkCause::BadLibrary, 2, 1, 0x53))),
+        // X is private to a file of the library.
+        (
+            &[(0x59, 1), (0xA9, 1)],
+            Err((LinkCause::Unresolved, 1, 1, 0x38)),
+        ),
+    ];
+    for (changes, want) in rows {
+        assert_eq!(rt; told_of_library(alloc, changes), want);
+    }
 
-    // The first row's segment starts elsewhere; the second row's file isn't one of the library's.
-    assert_eq!(rt;
-        told_of_library(alloc, &[(0x4F, 0x6B)]),
-        refused(LinkCause::BadLibrary, 2, 1, 0x47)
-    );
-    assert_eq!(rt;
-        told_of_library(alloc, &[(0x58, 1)]),
-        refused(LinkCause::BadLibrary, 2, 1, 0x53)
-    );
-
-    // X is private to a file of the library; Z to another file of it.
-    assert_eq!(rt;
-        told_of_library(alloc, &[(0x59, 1), (0xA9, 1)]),
-        refused(LinkCause::Unresolved, 1, 1, 0x38)
-    );
+    // Z is private to another file of it.
     assert_eq!(rt; told(alloc, &[&BEHIND, &LIBRARY_Y]), Ok(None));
-    assert_eq!(rt;
-        told(alloc, &[&BEHIND, &LIBRARY_P]),
-        refused(LinkCause::Unresolved, 2, 2, 0xCB)
-    );
+    let want = Err((LinkCause::Unresolved, 2, 2, 0xCB));
+    assert_eq!(rt; told(alloc, &[&BEHIND, &LIBRARY_P]), want);
 }
 
 #[test]
 fn first_of_two_faults(rt: HostRuntime) {
-    let alloc = rt.alloc();
-    assert_eq!(rt;
-        told(alloc, &[&USER, &BEHIND]),
-        refused(LinkCause::Unresolved, 1, 1, 0x38)
-    );
-    assert_eq!(rt;
-        told(alloc, &[&BEHIND, &USER]),
-        refused(LinkCause::Unresolved, 1, 2, 0x77)
-    );
-    assert_eq!(rt;
-        told(alloc, &[&BEHIND, &WEAK, &EQUATE_A, &EQUATE_B]),
-        refused(LinkCause::Unresolved, 1, 2, 0x77)
-    );
-    assert_eq!(rt;
-        told(alloc, &[&WEAK, &EQUATE_A, &BEHIND, &EQUATE_B]),
-        refused(LinkCause::Duplicate, 1, 1, 0x38)
-    );
-    assert_eq!(rt;
-        told(alloc, &[&ONE[..43], &ONE[..65]]),
-        refused(LinkCause::Truncated, 1, 1, 0x2B)
-    );
-    assert_eq!(rt;
-        told(alloc, &[&ONE[..65], &ONE[..43]]),
-        refused(LinkCause::Truncated, 1, 1, 0x41)
-    );
+    let rows: [(&[&[u8]], Told); 6] = [
+        (&[&USER, &BEHIND], Err((LinkCause::Unresolved, 1, 1, 0x38))),
+        (&[&BEHIND, &USER], Err((LinkCause::Unresolved, 1, 2, 0x77))),
+        (
+            &[&BEHIND, &WEAK, &EQUATE_A, &EQUATE_B],
+            Err((LinkCause::Unresolved, 1, 2, 0x77)),
+        ),
+        (
+            &[&WEAK, &EQUATE_A, &BEHIND, &EQUATE_B],
+            Err((LinkCause::Duplicate, 1, 1, 0x38)),
+        ),
+        (
+            &[&ONE[..43], &ONE[..65]],
+            Err((LinkCause::Truncated, 1, 1, 0x2B)),
+        ),
+        (
+            &[&ONE[..65], &ONE[..43]],
+            Err((LinkCause::Truncated, 1, 1, 0x41)),
+        ),
+    ];
+    for (files, want) in rows {
+        assert_eq!(rt; told(rt.alloc(), files), want, "{}", files.len());
+    }
 }

@@ -1,5 +1,7 @@
-//! Tests of lines and operands of assembly source.
+//! Tests of lines and operands of assembly source, and of instructions as bytes.
 #![tactic(auto)]
 
+#[cfg(test)]
+mod instructions;
 #[cfg(test)]
 mod reading;

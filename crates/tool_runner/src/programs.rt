@@ -62,6 +62,18 @@ pub fn one(alloc: Global, front: Front, body: &[u8]) -> Result<Vec<u8>, Fail> {
     Ok(file)
 }
 
+/// A program that has room alone in a bank.
+pub fn big_program(alloc: Global) -> Result<Vec<u8>, Fail> {
+    one(
+        alloc,
+        Front {
+            length: [0, 0xC0, 0, 0],
+            ..code(1, 0)
+        },
+        &[0xF1, 0, 0xC0, 0, 0, 0],
+    )
+}
+
 /// A program of six segments: code with patches to the others, data, a dynamic one, a jump table of one entry, a skipped
 /// one, and a direct page and stack.
 pub fn program(alloc: Global) -> Result<Vec<u8>, Fail> {

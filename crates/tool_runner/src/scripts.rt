@@ -1,5 +1,6 @@
 //! Scripts of loader commands, run by the tool.
 
+use crate::programs::program;
 use crate::runs::{Outcome, ends, run_failing, run_whole, words_of};
 use omf_cli::Status;
 use std::alloc::Global;
@@ -54,7 +55,27 @@ pub fn says(
     Ok(ends(&run, status, text, None))
 }
 
-/// Whether a script over a file at `prog` is run to its end with these replies.
-pub fn replies(alloc: Global, script: &[u8], program: &[u8], text: &[u8]) -> Result<bool, Fail> {
-    says(alloc, script, program, Status::Done, text)
+/// The place of the first script of a list that isn't run to its end with its replies, over a file at `prog`.
+pub fn first_unlike(
+    alloc: Global,
+    program: &[u8],
+    runs: &[(&str, &str)],
+) -> Result<Option<usize>, Fail> {
+    for (place, (script, text)) in runs.iter().enumerate() {
+        if !says(
+            alloc,
+            script.as_bytes(),
+            program,
+            Status::Done,
+            text.as_bytes(),
+        )? {
+            return Ok(Some(place));
+        }
+    }
+    Ok(None)
+}
+
+/// The same over the program of six segments.
+pub fn first_unlike_of_six(alloc: Global, runs: &[(&str, &str)]) -> Result<Option<usize>, Fail> {
+    first_unlike(alloc, &program(alloc)?, runs)
 }

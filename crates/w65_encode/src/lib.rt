@@ -8,8 +8,6 @@ ghost use Rattle.orca_meaning.specs.Matrix.{matrix, opcode_of};
 
 mod lengths;
 mod matrix;
-#[cfg(test)]
-mod tests;
 
 pub use orca_meaning::{Mnemonic, Mode};
 

@@ -13,4 +13,7 @@ returns-clause-runs c =
     subst (λ (l : List ℕ). AreRuns l sorted.items) (sym c.in_ok-runs-2.ensures) (one_run sorted.items c.len.result (omega (arith, c.len.ensures, sorted.ok)) c.in_ok-sorted.ensures.rise)
 
 pub returns-clause-last : goal.returns-clause-last
-returns-clause-last c = λ k. c.in_ok-sorted.ensures.last k ∙ ap (λ (l : List Spot). last_at (shown_spots l) k) c.deref-2.ensures.value
+returns-clause-last c = λ k.
+    c.in_ok-sorted.ensures.last k
+    ∙ ap (λ (l : List Spot). last_at (shown_spots l) k) c.deref-2.ensures.value
+    ∙ ap (λ (l : List Spot). last_at (shown_spots l) k) c.fitted-spots.ensures

@@ -6,28 +6,28 @@ pub visits-init : goal.visits-init
 visits-init c = starts c.args.program.now c.in_ok-state.state c.new-out.result c.in_ok-state.ensures.scope c.in_ok-state.ensures.frames c.in_ok-state.ensures.texts c.in_ok-state.ensures.calls c.new-out.ensures
 
 pub returns-in_default : goal.returns-in_default
-returns-in_default c = finished c.args.program.now c.visits.state c.visits.count c.visits.out c.visits.invariant (rw c.in_default.is at c.line.ensures.line)
+returns-in_default c = finished c.args.program.now c.visits.state c.visits.count c.visits.out c.visits.invariant (rw c.in_default.is at c.visited.ensures.line)
 
 pub returns-then-count-eq-MOST_VISITS : goal.returns-then-count-eq-MOST_VISITS
-returns-then-count-eq-MOST_VISITS c = full c.args.program.now c.visits.state c.visits.count c.visits.out (line c.in-Some.line.now) _ c.visits.invariant c.in-Some.ensures.line c.if-count-eq-MOST_VISITS.true c.fault_at.ensures
+returns-then-count-eq-MOST_VISITS c = full c.args.program.now c.visits.state c.visits.count c.visits.out (line c.in-Some.line.now) _ c.visits.invariant (rw c.in-Some.is at c.visited.ensures.line) c.if-count-eq-MOST_VISITS.true c.fault_at.ensures
 
 pub returns-in-Ends : goal.returns-in-Ends
 returns-in-Ends c =
     let u = c.visits.invariant in
-    let visited = c.in_ok-outcome.ensures.visited u.before u.v u.stands (here_line c.args.program.now c.visits.state c.visits.count c.visits.out u (line c.in-Some.line.now) c.in-Some.ensures.line)
+    let visited = c.in_ok-outcome.ensures.visited u.before u.v u.stands (here_line c.args.program.now c.visits.state c.visits.count c.visits.out u (line c.in-Some.line.now) (rw c.in-Some.is at c.visited.ensures.line))
     (not_full c.args.program.now c.visits.state c.visits.count c.visits.out u c.if-count-eq-MOST_VISITS.false) in
     ended c.args.program.now c.visits.state c.visit.new.state c.visits.count c.visits.out c.visit.new.out (line c.in-Some.line.now) u (rw c.in-Ends.is at visited)
 
 pub returns-in-Stops : goal.returns-in-Stops
 returns-in-Stops c =
     let u = c.visits.invariant in
-    let visited = c.in_ok-outcome.ensures.visited u.before u.v u.stands (here_line c.args.program.now c.visits.state c.visits.count c.visits.out u (line c.in-Some.line.now) c.in-Some.ensures.line)
+    let visited = c.in_ok-outcome.ensures.visited u.before u.v u.stands (here_line c.args.program.now c.visits.state c.visits.count c.visits.out u (line c.in-Some.line.now) (rw c.in-Some.is at c.visited.ensures.line))
     (not_full c.args.program.now c.visits.state c.visits.count c.visits.out u c.if-count-eq-MOST_VISITS.false) in
     stopped c.args.program.now c.visits.state c.visit.new.state c.visits.count c.visits.out c.visit.new.out (line c.in-Some.line.now) c.in-Stops.cause _ u (rw c.in-Stops.is at visited) c.fault_at-in-Stops.ensures
 
 pub visits-preserved : goal.visits-preserved
 visits-preserved c =
     let u = c.visits.invariant in
-    let visited = c.in_ok-outcome.ensures.visited u.before u.v u.stands (here_line c.args.program.now c.visits.state c.visits.count c.visits.out u (line c.in-Some.line.now) c.in-Some.ensures.line)
+    let visited = c.in_ok-outcome.ensures.visited u.before u.v u.stands (here_line c.args.program.now c.visits.state c.visits.count c.visits.out u (line c.in-Some.line.now) (rw c.in-Some.is at c.visited.ensures.line))
     (not_full c.args.program.now c.visits.state c.visits.count c.visits.out u c.if-count-eq-MOST_VISITS.false) in
     goes c.args.program.now c.visits.state c.visit.new.state c.visits.count c.visits.out c.visit.new.out (line c.in-Some.line.now) u c.if-count-eq-MOST_VISITS.false c.in_ok-outcome.ensures.calls c.in_ok-outcome.ensures.few (rw c.in-Goes.is at visited)

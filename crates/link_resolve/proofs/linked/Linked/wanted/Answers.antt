@@ -1,6 +1,8 @@
-use Rattle.std.proofs.Common.{◌≤◌, length, Some, None, arith}
+use Rattle.std.proofs.Common.{◌≤◌, length, Some, None, ap, arith}
+use Rattle.std.proofs.lemmas.List.{length-map}
+use Rattle.link_resolve.specs.Offers.{told_origin}
 use Rattle.link_resolve.proofs.ResolvingLaws.{use_is, place_within}
-use Rattle.link_resolve.proofs.WantedLaws.{wants_so, wants_next, wanted_here, wanted_none}
+use Rattle.link_resolve.proofs.WantedLaws.{wants_so, wants_next, wanted_here, wanted_none, wanted_without_rows}
 use Rattle.link_resolve.proofs.linked.Linked.wanted.Goals as goal
 
 pub row_wanted-requires-clause-positive : goal.row_wanted-requires-clause-positive
@@ -34,3 +36,7 @@ returns c = λ list os holds are none.
     let kept = c.args.self.now in
     let past : length kept.uses ≤ c.uses.number = omega (arith, c.uses-test.false, c.count.ensures) in
     wanted_none os list kept c.uses.number holds past (c.uses.invariant list os holds are none)
+
+pub returns-then-count-eq0 : goal.returns-then-count-eq0
+returns-then-count-eq0 c = λ list os holds are none.
+    wanted_without_rows os list (omega (arith, length-map os told_origin, ap length are.origins, c.if-count-eq0.true, c.count.ensures))

@@ -1,0 +1,8 @@
+// How a test ends where what is told isn't what is wanted.
+use std::fmt::Debug;
+use std::process::Abort;
+
+/// Ends the test where the two aren't equal. It promises nothing, and an assertion of a test's own would be dearer to prove.
+pub(crate) fn same<T: Debug + PartialEq + Drop>(rt: &impl Abort, told: T, want: T) {
+    assert_eq!(rt; told, want);
+}

@@ -1,0 +1,322 @@
+// Dictionaries of libraries. What no clause says: that the definitions are those of the field, and that memory is enough.
+ghost use Rattle.std.specs.Prelude.{◌<◌, ◌^◌, length, IfOk};
+
+use crate::asserting::same;
+use lib_dict::{
+    DictFault, Dictionary, LibCause, LibFault, Member, Row, make_library, read_dictionary,
+};
+use omf_base::{Name, NameFault, Spot};
+use omf_format::{FileCause, FileFault};
+use std::alloc::{AllocError, Global};
+
+/// A segment MAIN with a GLOBAL G, a private GEQU Q, a LOCAL and an EQU: put together by hand.
+const MAIN: [u8; 102] = [
+    0x66, 0, 0, 0, 0, 0, 0, 0, 1, 0, 0, 0, 0, 0, 4, 2, 0, 0, 1, 0, 0, 0, 0, 0, 0, 0, 0, 0, 0, 0, 0,
+    0, 0, 0, 1, 0, 0, 0, 0, 0, 0x2C, 0, 0x3B, 0, 0x20, 0x20, 0x20, 0x20, 0x20, 0x20, 0x20, 0x20,
+    0x20, 0x20, 4, 0x4D, 0x41, 0x49, 0x4E, 1, 0xEA, 0xE6, 1, 0x47, 1, 0, 0x4E, 0, 0xE7, 1, 0x51, 0,
+    0, 0x47, 1, 0x81, 5, 0, 0, 0, 0, 0xEF, 1, 0x4C, 1, 0, 0x4E, 0, 0xF0, 1, 0x45, 0, 0, 0x47, 0,
+    0x81, 5, 0, 0, 0, 0, 0,
+];
+
+/// A private segment without a name, with a private GLOBAL G.
+const OTHER: [u8; 65] = [
+    0x41, 0, 0, 0, 0, 0, 0, 0, 1, 0, 0, 0, 0, 0, 4, 2, 0, 0, 1, 0, 0, 0x40, 0, 0, 0, 0, 0, 0, 0, 0,
+    0, 0, 0, 0, 1, 0, 0, 0, 0, 0, 0x2C, 0, 0x37, 0, 0x20, 0x20, 0x20, 0x20, 0x20, 0x20, 0x20, 0x20,
+    0x20, 0x20, 0, 0xE6, 1, 0x47, 0, 0, 0x4E, 1, 1, 0x60, 0,
+];
+
+/// The dictionary of the files `a`, which is MAIN, and `bb`, which is OTHER and MAIN: the file numbers at $41, the rows at $51
+/// and the names at $AA.
+const DICTIONARY: [u8; 196] = [
+    0xC4, 0, 0, 0, 0, 0, 0, 0, 0x73, 0, 0, 0, 0, 0, 4, 2, 0, 0, 0, 0, 8, 0, 0, 0, 0, 0, 0, 0, 0, 0,
+    0, 0, 0, 0, 1, 0, 0, 0, 0, 0, 0x2C, 0, 0x41, 0, 0x20, 0x20, 0x20, 0x20, 0x20, 0x20, 0x20, 0x20,
+    0x20, 0x20, 0x0A, 0x44, 0x49, 0x43, 0x54, 0x49, 0x4F, 0x4E, 0x41, 0x52, 0x59, 0xF2, 0x0B, 0, 0,
+    0, 1, 0, 1, 0x61, 2, 0, 2, 0x62, 0x62, 0, 0, 0xF2, 0x54, 0, 0, 0, 0, 0, 0, 0, 1, 0, 0, 0, 0xC4,
+    0, 0, 0, 5, 0, 0, 0, 1, 0, 0, 0, 0xC4, 0, 0, 0, 7, 0, 0, 0, 1, 0, 1, 0, 0xC4, 0, 0, 0, 9, 0, 0,
+    0, 2, 0, 1, 0, 0x2A, 1, 0, 0, 0x0B, 0, 0, 0, 2, 0, 0, 0, 0x6B, 1, 0, 0, 0x10, 0, 0, 0, 2, 0, 0,
+    0, 0x6B, 1, 0, 0, 0x12, 0, 0, 0, 2, 0, 1, 0, 0x6B, 1, 0, 0, 0xF2, 0x14, 0, 0, 0, 4, 0x4D, 0x41,
+    0x49, 0x4E, 1, 0x47, 1, 0x51, 1, 0x47, 4, 0x4D, 0x41, 0x49, 0x4E, 1, 0x47, 1, 0x51, 0,
+];
+
+/// An object file of one segment A, of three bytes and five zeros.
+const PLAIN: [u8; 66] = [
+    0x42, 0, 0, 0, 0, 0, 0, 0, 8, 0, 0, 0, 0, 0, 4, 2, 0, 0, 1, 0, 0, 0, 0, 0, 0, 0, 0, 0, 0, 0, 0,
+    0, 0, 0, 1, 0, 0, 0, 0, 0, 0x2C, 0, 0x38, 0, 0x20, 0x20, 0x20, 0x20, 0x20, 0x20, 0x20, 0x20,
+    0x20, 0x20, 1, 0x41, 3, 0xA9, 1, 0x60, 0xF1, 5, 0, 0, 0, 0,
+];
+
+/// The dictionary of the file `a`, which is that: its only row stands at $51, and says that A starts at $65.
+const ONE_ROW: [u8; 101] = [
+    0x65, 0, 0, 0, 0, 0, 0, 0, 0x14, 0, 0, 0, 0, 0, 4, 2, 0, 0, 0, 0, 8, 0, 0, 0, 0, 0, 0, 0, 0, 0,
+    0, 0, 0, 0, 1, 0, 0, 0, 0, 0, 0x2C, 0, 0x41, 0, 0x20, 0x20, 0x20, 0x20, 0x20, 0x20, 0x20, 0x20,
+    0x20, 0x20, 0x0A, 0x44, 0x49, 0x43, 0x54, 0x49, 0x4F, 0x4E, 0x41, 0x52, 0x59, 0xF2, 6, 0, 0, 0,
+    1, 0, 1, 0x61, 0, 0, 0xF2, 0x0C, 0, 0, 0, 0, 0, 0, 0, 1, 0, 0, 0, 0x65, 0, 0, 0, 0xF2, 2, 0, 0,
+    0, 1, 0x41, 0,
+];
+
+/// The library of those two files.
+fn library() -> [u8; 465] {
+    let mut bytes = [0; 465];
+    bytes[..196].copy_from_slice(&DICTIONARY);
+    bytes[196..298].copy_from_slice(&MAIN);
+    bytes[298..363].copy_from_slice(&OTHER);
+    bytes[363..].copy_from_slice(&MAIN);
+    bytes
+}
+
+fn put(bytes: &mut [u8], changes: &[(usize, u8)]) {
+    for (at, value) in changes {
+        if let Some(byte) = bytes.get_mut(*at) {
+            *byte = *value;
+        }
+    }
+}
+
+// The calls as the tests make them. They promise nothing, so a test's proof is as short as the test.
+fn read(alloc: Global, bytes: &[u8]) -> Result<Dictionary<'_>, DictFault> {
+    // No file is as long.
+    if bytes.len() > 0x100_0000 {
+        return Err(DictFault::Memory);
+    }
+    read_dictionary(alloc, bytes)
+}
+
+fn fault(alloc: Global, bytes: &[u8]) -> Option<DictFault> {
+    read(alloc, bytes).err()
+}
+
+fn count<'a>(dictionary: &Dictionary<'a>) -> u32 {
+    dictionary.count()
+}
+
+fn row<'a>(dictionary: &Dictionary<'a>, place: u32) -> Option<Row<'a>> {
+    dictionary.row(place)
+}
+
+/// The fault of that library with bytes changed at displacements.
+fn fault_of(alloc: Global, changes: &[(usize, u8)]) -> Option<DictFault> {
+    let mut bytes = library();
+    put(&mut bytes, changes);
+    fault(alloc, &bytes)
+}
+
+/// The fault of a row or of the dictionary that stands there, if there is one.
+fn bad(at: Option<u32>) -> Option<DictFault> {
+    match at {
+        Some(at) => Some(DictFault::BadLibrary(at)),
+        None => None,
+    }
+}
+
+#[test]
+fn the_rows_of_a_library(rt: HostRuntime) {
+    let bytes = library();
+    let dictionary = match read(rt.alloc(), &bytes) {
+        Ok(dictionary) => dictionary,
+        Err(fault) => panic!(rt; "{fault:?}"),
+    };
+    same(&rt, count(&dictionary), 7);
+    let wanted: [(u32, &[u8], u16, bool, u32); 7] = [
+        (0, b"MAIN", 1, false, 196),
+        (1, b"G", 1, false, 196),
+        (2, b"Q", 1, true, 196),
+        (3, b"G", 2, true, 298),
+        (4, b"MAIN", 2, false, 363),
+        (5, b"G", 2, false, 363),
+        (6, b"Q", 2, true, 363),
+    ];
+    for (place, name, file, private, at) in wanted {
+        let want = Row {
+            name,
+            file,
+            private,
+            at,
+        };
+        assert_eq!(rt; row(&dictionary, place), Some(want), "row {place}");
+    }
+    same(&rt, row(&dictionary, 7), None);
+}
+
+/// Changes of that library, each with the place that is told.
+static FALSE_ROWS: [(&[(usize, u8)], Option<u32>); 16] = [
+    (&[], None),
+    // The first row: no name starts there, no file has the number, MAIN isn't private, no segment starts there, and the
+    // dictionary itself does.
+    (&[(86, 1)], Some(86)),
+    (&[(90, 3)], Some(86)),
+    (&[(90, 0)], Some(86)),
+    (&[(92, 1)], Some(86)),
+    (&[(93, 1)], Some(86)),
+    (&[(94, 0xC5)], Some(86)),
+    (&[(94, 0)], Some(86)),
+    // The fourth row: G of the segment without a name is private. Every flag but 0 says so.
+    (&[(128, 0)], Some(122)),
+    (&[(128, 2)], None),
+    (&[(128, 0), (129, 1)], None),
+    // Of two false rows the first is told.
+    (&[(98, 1), (158, 1)], Some(98)),
+    // A 0 before the end, a name that runs over, a last record that isn't an LCONST, and a name that runs over there.
+    (&[(70, 0)], Some(0)),
+    (&[(72, 0x40)], Some(0)),
+    (&[(170, 0x18)], Some(0)),
+    (&[(193, 2)], Some(0)),
+];
+
+#[test]
+fn a_false_dictionary_has_its_place(rt: HostRuntime) {
+    for (changes, at) in &FALSE_ROWS {
+        assert_eq!(rt; fault_of(rt.alloc(), changes), bad(*at), "{changes:?}");
+    }
+}
+
+/// More of them.
+static FALSE_PARTS: [(&[(usize, u8)], Option<u32>); 9] = [
+    // No 0 behind the files, a row of 11 bytes, a fourth LCONST, and one record fewer: the dictionary is to blame.
+    (&[(79, 3)], Some(0)),
+    (
+        &[(82, 83), (169, 0xF2), (170, 21), (171, 0), (174, 0)],
+        Some(0),
+    ),
+    (
+        &[
+            (171, 15),
+            (190, 0xF2),
+            (191, 0),
+            (192, 0),
+            (193, 0),
+            (194, 0),
+        ],
+        Some(0),
+    ),
+    (&[(170, 0)], Some(0)),
+    // A name that is a LOCAL there, or an EQU, and a name that isn't there: the second row is to blame.
+    (&[(181, 0x4C)], Some(98)),
+    (&[(181, 0x45)], Some(98)),
+    (&[(181, 0x5A)], Some(98)),
+    // A segment behind the dictionary that is a dictionary too: its first row is to blame.
+    (&[(383, 8)], Some(134)),
+    // LENGTH isn't looked at.
+    (&[(8, 0)], None),
+];
+
+#[test]
+fn each_cause_of_a_false_dictionary(rt: HostRuntime) {
+    for (changes, at) in &FALSE_PARTS {
+        assert_eq!(rt; fault_of(rt.alloc(), changes), bad(*at), "{changes:?}");
+    }
+}
+
+#[test]
+fn what_is_no_library(rt: HostRuntime) {
+    let alloc = rt.alloc();
+    same(&rt, fault(alloc, &MAIN), Some(DictFault::NotLibrary));
+    same(&rt, fault(alloc, &[]), Some(DictFault::NotLibrary));
+    let cut = FileFault {
+        cause: FileCause::Truncated,
+        segment: 1,
+        at: 43,
+    };
+    same(
+        &rt,
+        fault(alloc, &DICTIONARY[..43]),
+        Some(DictFault::File(cut)),
+    );
+}
+
+/// A file with a name.
+fn member(alloc: Global, name: &[u8], bytes: &[u8]) -> Result<Member, NameFault>
+    requires { length bytes.now < 2 ^ 32 }
+    ensures { IfOk result (λ member. length member.bytes.items < 2 ^ 32) }
+{
+    Ok(Member {
+        name: Name::of(alloc, name)?,
+        bytes: Vec::from_slice(alloc, bytes)?,
+    })
+}
+
+/// The library of two files.
+fn made(
+    alloc: Global,
+    first: Member,
+    second: Member,
+) -> Result<Result<Vec<u8>, LibFault>, AllocError>
+    requires first { length first.bytes.items < 2 ^ 32 }
+    requires second { length second.bytes.items < 2 ^ 32 }
+{
+    let mut members = Vec::new(alloc);
+    members.push(first)?;
+    members.push(second)?;
+    Ok(make_library(alloc, &members))
+}
+
+/// The library of the files `a` and `bb`, or the fault.
+fn outcome(alloc: Global, a: &[u8], bb: &[u8]) -> Result<Result<Vec<u8>, LibFault>, NameFault>
+    requires a { length a.now < 2 ^ 32 }
+    requires bb { length bb.now < 2 ^ 32 }
+{
+    let first = member(alloc, b"a", a)?;
+    let second = member(alloc, b"bb", bb)?;
+    Ok(made(alloc, first, second)?)
+}
+
+/// How a library that isn't made is told: the fault, where it is one of the files.
+fn told(made: Result<Result<Vec<u8>, LibFault>, NameFault>) -> Option<LibFault> {
+    match made {
+        Ok(made) => made.err(),
+        Err(_) => None,
+    }
+}
+
+/// Whether a library is made of these bytes.
+fn is_made(made: Result<Result<Vec<u8>, LibFault>, NameFault>, bytes: &[u8]) -> bool {
+    match made {
+        Ok(Ok(made)) => made.as_slice() == bytes,
+        _ => false,
+    }
+}
+
+#[test]
+fn a_library_is_made(rt: HostRuntime) {
+    let alloc = rt.alloc();
+    let mut second = [0; 167];
+    second[..65].copy_from_slice(&OTHER);
+    second[65..].copy_from_slice(&MAIN);
+    assert!(rt; is_made(outcome(alloc, &MAIN, &second), &library()));
+    let cut = LibFault {
+        cause: LibCause::Truncated,
+        spot: Spot {
+            file: 1,
+            segment: 1,
+            at: 43,
+        },
+    };
+    same(&rt, told(outcome(alloc, &MAIN[..43], &MAIN)), Some(cut));
+}
+
+/// The library of one file.
+fn made_of(alloc: Global, first: Member) -> Result<Result<Vec<u8>, LibFault>, AllocError>
+    requires { length first.bytes.items < 2 ^ 32 }
+{
+    let mut members = Vec::new(alloc);
+    members.push(first)?;
+    Ok(make_library(alloc, &members))
+}
+
+/// The library of the file `a` alone, or the fault.
+fn alone(alloc: Global, a: &[u8]) -> Result<Result<Vec<u8>, LibFault>, NameFault>
+    requires { length a.now < 2 ^ 32 }
+{
+    let first = member(alloc, b"a", a)?;
+    Ok(made_of(alloc, first)?)
+}
+
+#[test]
+fn a_row_that_is_one_byte_off(rt: HostRuntime) {
+    let alloc = rt.alloc();
+    let mut bytes = [0; 167];
+    bytes[..101].copy_from_slice(&ONE_ROW);
+    bytes[101..].copy_from_slice(&PLAIN);
+    assert!(rt; is_made(alone(alloc, &PLAIN), &bytes));
+    put(&mut bytes, &[(0x59, 0x66)]);
+    same(&rt, fault(alloc, &bytes), Some(DictFault::BadLibrary(0x51)));
+}

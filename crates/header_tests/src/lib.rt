@@ -1,5 +1,0 @@
-//! Tests of headers.
-#![tactic(auto)]
-
-#[cfg(test)]
-mod headers;

@@ -1,9 +1,0 @@
-use Rattle.std.proofs.Common.{◌≡◌, length}
-use Rattle.macro_meaning.specs.Call.{is_among}
-use Rattle.orca_macro.proofs.call.same_among.Given as goal
-
-abbrev pub invariant-names : goal.invariant-names
-invariant-names l = is_among l.left l.name ≡ is_among l.names l.name
-
-abbrev pub decreases-names : goal.decreases-names
-decreases-names l = length l.left

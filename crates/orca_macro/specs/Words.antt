@@ -1,0 +1,6 @@
+-- Short texts that are lent or kept.
+use Rattle.std.specs.Prelude.{ℕ, List, Option, Some, None}
+
+abbrev pub word_of : Option (List ℕ) → List ℕ → List ℕ
+word_of None lent = lent
+word_of (Some name) lent = name

@@ -1,0 +1,69 @@
+//! Fronts of lines whose label and operation are known, whatever stands behind them.
+
+ghost use Rattle.std.specs.Prelude.{◌≡◌, ◌≤◌, length, take, drop, IfOk, IfSome};
+ghost use Rattle.orca_macro.specs.Head.{IsHead};
+
+use crate::deed::cut;
+use crate::names::statement_of;
+use macro_meaning::Statement;
+use omf_base::Name;
+use orca_text::{folded, is_comment, part, three_fields};
+use std::alloc::{AllocError, Global};
+
+/// The front of a line, with a blank behind its operation.
+#[derive(Debug, Drop)]
+pub(crate) struct Head {
+    /// How many bytes the sequence symbol in column 1 has, which is cut off.
+    pub(crate) sequence: usize,
+    /// Where the label ends behind the sequence symbol.
+    pub(crate) label: usize,
+    /// Where the operation ends behind the sequence symbol.
+    pub(crate) end: usize,
+    /// The operation in upper case.
+    pub(crate) operation: Name,
+    /// The statement that it is.
+    pub(crate) statement: Option<Statement>,
+}
+
+impl Head {
+    /// What stands behind the sequence symbol.
+    pub(crate) fn behind_sequence<'a>(&self, text: &'a [u8]) -> &'a [u8]
+        requires { self.now.sequence ≤ length text.now }
+        ensures value { result.now ≡ drop self.now.sequence text.now }
+        ensures bound { length result.now ≤ length text.now }
+    {
+        let (_, behind) = text.split_at(self.sequence);
+        behind
+    }
+
+    /// The label, in a text behind its sequence symbol.
+    pub(crate) fn label_in<'a>(&self, text: &'a [u8]) -> &'a [u8]
+        requires { self.now.label ≤ length text.now }
+        ensures value { result.now ≡ take self.now.label text.now }
+        ensures bound { length result.now ≤ length text.now }
+    {
+        let (label, _) = text.split_at(self.label);
+        label
+    }
+}
+
+/// The head that these bytes are, if they are one.
+#[tactic(auto, using(crate::proofs::Heads::head_is))]
+pub(crate) fn head_of(alloc: Global, front: &[u8]) -> Result<Option<Head>, AllocError>
+    requires { length front.now ≤ 255 }
+    ensures { IfOk result (λ head. IfSome head (λ h. IsHead h front.now)) }
+{
+    let text = cut(front);
+    let fields = three_fields(text);
+    let operation = part(text, fields.operation);
+    if is_comment(text) || operation.is_empty() || fields.operation.to as usize >= text.len() {
+        return Ok(None);
+    }
+    Ok(Some(Head {
+        sequence: front.len() - text.len(),
+        label: fields.label.to as usize,
+        end: fields.operation.to as usize,
+        operation: folded(alloc, operation)?,
+        statement: statement_of(operation),
+    }))
+}
