@@ -9,10 +9,10 @@ ghost use Rattle.macro_meaning.specs.Pieces.{pieces, quoted, joined};
 ghost use Rattle.orca_macro.specs.View.{values, symbols_of, texts_of};
 ghost use Rattle.orca_macro.specs.DeedView.{deed, where_};
 ghost use Rattle.orca_macro.specs.Parts.{definition};
-ghost use Rattle.orca_macro.specs.Plan.{Fits, FitsLine, IsPlain, known};
+ghost use Rattle.orca_macro.specs.Plan.{Fits, FitsLine, IsGiven, IsPlain, known};
 ghost use Rattle.orca_macro.specs.Head.{HasFields, HasHead, MayHaveHead, BeginsSo};
 ghost use Rattle.orca_macro.specs.Template.{HasParts};
-ghost use Rattle.orca_meaning.specs.Line.{HaveFields, part, three_fields, is_comment};
+ghost use Rattle.orca_meaning.specs.Line.{HaveFields, fields_of, part, three_fields, is_comment};
 ghost use Rattle.orca_meaning.specs.Characters.{folded};
 ghost use Rattle.macro_meaning.specs.Definition.{first_named};
 ghost use Rattle.macro_meaning.specs.Condition.{Answer, IsCondition};
@@ -20,7 +20,7 @@ ghost use Rattle.orca_text.specs.View.{line};
 
 use crate::call::{bound, names_count};
 use crate::condition::{condition, number};
-use crate::definitions::Definition;
+use crate::definitions::{Definition, operation_is};
 use crate::head::Head;
 use crate::names::{is_operation, is_sequence, is_target, statement_of};
 use crate::pieces::{Piece, joined, pieces, quoted, two_pieces};
@@ -624,6 +624,7 @@ fn statement<'a>(
 }
 
 /// Whether a dot stands at the front.
+#[inline(always)]
 fn begins_dot(text: &[u8]) -> bool
     ensures { result ≡ first_passes (λ byte. byte == 0x2E) text.now }
 {
@@ -681,6 +682,45 @@ fn written<'a>(
         return Ok(Deed::Rests);
     }
     statement(alloc, at, rest, spare)
+}
+
+/// Whether a line is given as it stands, whatever the symbols are: it is no comment, begins with no dot and has no `&`, and its
+/// operation is neither a statement of conditional assembly nor the name of a macro.
+#[tactic(auto, using(crate::proofs::Given::stays))]
+pub(crate) fn is_given(
+    alloc: Global,
+    program: &Program,
+    of: &SourceLine,
+) -> Result<bool, AllocError>
+    requires fields { HaveFields of.now.text (line of.now).fields }
+    requires own { (line of.now).fields ≡ fields_of of.now.text }
+    ensures { IfOk result (λ given. IsTrue given → IsGiven program.now.definitions (line of.now)) }
+{
+    let text = of.text.bytes();
+    if is_comment(text) {
+        return Ok(false);
+    }
+    if begins_dot(text) {
+        return Ok(false);
+    }
+    if !is_plain(text) {
+        return Ok(false);
+    }
+    let operation = of.part(of.operation);
+    if operation.is_empty() {
+        return Ok(false);
+    }
+    if operation_is(of, b"MACRO") {
+        return Ok(false);
+    }
+    match statement_of(operation) {
+        Some(_) => return Ok(false),
+        None => {}
+    }
+    match named(alloc, program, operation)? {
+        Some(_) => Ok(false),
+        None => Ok(true),
+    }
 }
 
 /// A call of the macro that a head names, or a line that is given.
