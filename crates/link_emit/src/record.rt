@@ -23,7 +23,7 @@ use omf_format::{Value, ValueFault};
 use omf_records::Rec;
 
 /// Where the records of a member go.
-#[derive(Clone, Copy, Debug, PartialEq, Eq)]
+#[derive(Clone, Copy)]
 pub struct Site {
     /// The number of the load segment that is the jump table, behind all others.
     pub table: u16,

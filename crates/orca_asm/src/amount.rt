@@ -17,7 +17,7 @@ use orca_text::FormulaTerm;
 use std::alloc::{AllocError, Global};
 
 /// What a formula is worth.
-#[derive(Clone, Copy, PartialEq, Eq, Debug)]
+#[derive(Clone, Copy)]
 pub(crate) enum Worth {
     /// A number.
     Number(u32),
@@ -175,7 +175,7 @@ fn number_of(of: Result<Value, ValueFault>) -> Worth
 }
 
 /// What a formula amounts to.
-#[derive(Debug, Drop)]
+#[derive(Drop)]
 pub(crate) enum Amount {
     /// A number.
     Known(u32),

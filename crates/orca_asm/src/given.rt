@@ -24,14 +24,14 @@ use omf_records::Rec;
 use std::alloc::{AllocError, Global};
 
 /// Pieces, which stand so often.
-#[derive(Debug, Drop)]
+#[derive(Drop)]
 pub(crate) struct Part {
     pub(crate) count: u32,
     pub(crate) pieces: Vec<Piece>,
 }
 
 /// What a statement gives: its parts one behind another.
-#[derive(Debug, Drop)]
+#[derive(Drop)]
 pub(crate) struct Given {
     pub(crate) parts: Vec<Part>,
 }

@@ -10,7 +10,7 @@ use asm_meaning::AsmCause;
 use orca_meaning::{Form, Mnemonic, Mode, Prefix};
 
 /// The widths of the registers.
-#[derive(Clone, Copy, PartialEq, Eq, Debug)]
+#[derive(Clone, Copy)]
 pub(crate) struct Widths {
     /// The accumulator has 16 bits.
     pub(crate) long_a: bool,
@@ -19,7 +19,7 @@ pub(crate) struct Widths {
 }
 
 /// What an operand is in the instruction.
-#[derive(Clone, Copy, PartialEq, Eq, Debug)]
+#[derive(Clone, Copy)]
 pub(crate) enum Kind {
     /// Nothing.
     Missing,

@@ -13,7 +13,7 @@ use omf_expr::{Term, put_term};
 use std::alloc::{AllocError, Global};
 
 /// Constant bytes, or a record of another kind.
-#[derive(Debug, Drop)]
+#[derive(Drop)]
 pub(crate) enum Piece {
     /// Constant bytes.
     Bytes(Vec<u8>),

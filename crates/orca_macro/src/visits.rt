@@ -21,7 +21,7 @@ use orca_text::SourceLine;
 use std::alloc::{AllocError, Global};
 
 /// How the visits go on.
-#[derive(Clone, Copy, Debug)]
+#[derive(Clone, Copy)]
 pub(crate) enum Outcome {
     Goes,
     Ends,

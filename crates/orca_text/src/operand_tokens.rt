@@ -16,7 +16,7 @@ use orca_meaning::{Operands, Operator, Sign};
 use std::alloc::{AllocError, Global};
 
 /// An operand of a formula.
-#[derive(Debug, Drop)]
+#[derive(Drop)]
 pub(crate) enum FormulaOperand {
     /// The location counter.
     Here,
@@ -33,7 +33,7 @@ pub(crate) enum FormulaOperand {
 }
 
 /// A token where an operand is expected.
-#[derive(Debug, Drop)]
+#[derive(Drop)]
 pub(crate) enum OperandToken {
     /// An operand.
     Value(FormulaOperand),
@@ -44,7 +44,7 @@ pub(crate) enum OperandToken {
 }
 
 /// A token behind an operand.
-#[derive(Clone, Copy, Debug)]
+#[derive(Clone, Copy)]
 pub(crate) enum OperatorToken {
     /// An operator between two.
     Between(Operator),
