@@ -341,11 +341,12 @@ any_nowhere lines at end same = sym (ap (list_any (operation_is (codes "MACRO"))
 all_plain : (lines : List Line) → list_any (operation_is (codes "MACRO")) lines ≡ false → parts_of None lines ≡ map Plain lines
 unfolding parts_of
 all_plain [] none = refl
-all_plain (l ∷ lines) none = by (operation_is (codes "MACRO") l) none
+all_plain (l ∷ lines) none = by (operation_is (codes "MACRO") l) none (all_plain lines)
   where
-    by : (b : Bool) → (b || list_any (operation_is (codes "MACRO")) lines) ≡ false → cond b (parts_of (Some (l, [])) lines) (Plain l ∷ parts_of None lines) ≡ Plain l ∷ map Plain lines
-    by true none = absurd cc
-    by false none = ap (λ (ps : List Part). Plain l ∷ ps) (all_plain lines none)
+    by : (b : Bool) → (b || list_any (operation_is (codes "MACRO")) lines) ≡ false → (list_any (operation_is (codes "MACRO")) lines ≡ false → parts_of None lines ≡ map Plain lines)
+        → cond b (parts_of (Some (l, [])) lines) (Plain l ∷ parts_of None lines) ≡ Plain l ∷ map Plain lines
+    by true none more = absurd cc
+    by false none more = ap (λ (ps : List Part). Plain l ∷ ps) (more none)
 
 plain_faultless : (lines : List Line) → first_part_fault (map Plain lines) ≡ None
 unfolding first_part_fault

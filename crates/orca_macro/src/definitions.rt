@@ -1,6 +1,6 @@
 //! Macro definitions of files (ORCA/M reference manual, "Macro definitions").
 
-ghost use Rattle.std.specs.Prelude.{◌≡◌, ◌≤◌, ◌<◌, ◌+◌, ◌-◌, ◌^◌, ◌∷◌, ◌++◌, [], List, ℕ, length, take, drop, map, slice_get, codes, Some, None, IfOk, IfErr, IfSome, OnOk, MatchOption, MatchResult, if◌then◌else◌};
+ghost use Rattle.std.specs.Prelude.{◌≡◌, ◌≤◌, ◌<◌, ◌+◌, ◌-◌, ◌^◌, ◌∷◌, ◌++◌, [], List, ℕ, length, take, drop, map, slice_get, codes, true, Some, None, IfOk, IfErr, IfSome, OnOk, MatchOption, MatchResult, if◌then◌else◌};
 ghost use Rattle.std.specs.List.{list_any};
 ghost use Rattle.orca_meaning.specs.Line.{HaveFields, fields_of};
 ghost use Rattle.orca_meaning.specs.Line as meaning;
@@ -273,7 +273,6 @@ fn begins_any(lines: &Lines) -> bool
 
 /// Adds the definitions of the source to others: the lines that are visited, or the first fault. No line is copied where none
 /// begins a definition.
-#[tactic(auto, using(crate::proofs::Scans::none_scanned))]
 pub(crate) fn scan_source(
     alloc: Global,
     lines: Lines,

@@ -1,3 +1,4 @@
+use Rattle.std.proofs.Common.{refl}
 use Rattle.macro_meaning.specs.Deed as meaning
 use Rattle.macro_meaning.specs.Visit.{given_by, move_of, setting_of}
 use Rattle.orca_text.specs.View.{line}
@@ -13,6 +14,6 @@ returns-clause-visited c = λ before v stands here few.
       given = given_by l (meaning.Gives l.text);
       move = move_of c.args.program.now before v l (meaning.Gives l.text);
       is = visit_is c.args.program.now before v l (meaning.Gives l.text) here few (c.requires.given.is (setting_of c.args.program.now v l.number) refl);
-      new_is = given_line l c.args.out.now c.copy.new.self c.requires.own c.in_ok.ensures.ok;
+      new_is = given_line l c.args.out.now c.copy.new.self c.requires.own c.in_ok-copy.ensures.ok;
       moves = moves_on c.args.program.now before v l _ _ _ _ _ (c.onward.ensures before v v l (texts_of c.args.state.now.texts) c.args.state.now.calls stands);
     }
