@@ -12,7 +12,7 @@ fn fault(cause: LoadCause, segment: u32, at: u32) -> Option<LoadFault> {
 }
 
 /// The LCONST of eight bytes.
-const DATA: [u8; 13] = [0xF2, 8, 0, 0, 0, 1, 2, 3, 4, 5, 6, 7, 8];
+static DATA: [u8; 13] = [0xF2, 8, 0, 0, 0, 1, 2, 3, 4, 5, 6, 7, 8];
 
 /// The displacement of the first record behind it in the first segment.
 const PATCH: u32 = 0x37 + 13;
@@ -116,11 +116,11 @@ fn fault_of_two(
 }
 
 /// cRELOC, and cINTERSEG of segments 1 and 2.
-const OWN: [u8; 7] = [0xF5, 1, 0, 0, 0, 0, 0];
+static OWN: [u8; 7] = [0xF5, 1, 0, 0, 0, 0, 0];
 
-const SAME: [u8; 8] = [0xF6, 1, 0, 0, 0, 1, 0, 0];
+static SAME: [u8; 8] = [0xF6, 1, 0, 0, 0, 1, 0, 0];
 
-const OTHER: [u8; 8] = [0xF6, 1, 0, 0, 0, 2, 0, 0];
+static OTHER: [u8; 8] = [0xF6, 1, 0, 0, 0, 2, 0, 0];
 
 /// A patch, the KINDs of two segments, and the cause with which it is refused. $80 is dynamic, and $02 is skipped.
 static KINDS: [(&[u8], u8, u8, Option<LoadCause>); 9] = [
