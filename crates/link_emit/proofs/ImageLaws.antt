@@ -1,8 +1,9 @@
 -- A header, a body and END are the text of a load segment.
-use Rattle.std.proofs.Common.{◌≡◌, ℕ, ◌+◌, ◌<◌, ◌≤◌, List, [], ◌∷◌, ◌++◌, length, map, Result, Ok, Err, sym, ap, subst, ◌∙◌, append_assoc, arith}
+use Rattle.std.proofs.Common.{◌≡◌, ℕ, ◌+◌, ◌<◌, ◌≤◌, List, [], ◌∷◌, ◌++◌, length, map, take, drop, replicate, Result, Ok, Err, sym, ap, subst, ◌∙◌, append_assoc, arith}
 use Rattle.std.specs.Prelude.{OnOk}
 use Rattle.std.specs.List.{flat_map}
-use Rattle.std.proofs.lemmas.List.{length-append, append-nil}
+use Rattle.std.proofs.Math.Seq.{take-append_seam, drop-append_seam}
+use Rattle.std.proofs.lemmas.List.{length-append, length-replicate, append-nil}
 use Rattle.std.proofs.lemmas.List.Concat.{flat_map-cons}
 use Rattle.omf_format.specs.Header.{Fields, header_bytes, IsWritable}
 use Rattle.omf_format.specs.WrittenHeader.{length-header}
@@ -129,3 +130,24 @@ none_left out all (h ∷ headers) contents none whole = absurd (omega (arith, no
 pub on_ok : {A E : Type 0} → (r : Result A E) (P Q : Type 0) → (P → Q) → OnOk r P → OnOk r Q
 on_ok (Ok x) P Q f p = f p
 on_ok (Err e) P Q f p = p
+
+-- ---- a header is written into the room before a body
+
+pub behind_size : (old body mid at whole : List ℕ) (n : ℕ) → at ≡ old → whole ≡ mid → mid ≡ old ++ replicate n 0 ++ body → length whole ≡ length at + n + length body
+behind_size old body mid at whole n at_is whole_is is =
+    omega (arith, ap length at_is, ap length whole_is, ap length is, length-append (old ++ replicate n 0) body, length-append old (replicate n 0), length-replicate {A = ℕ} n 0)
+
+pub closed : (old front body mid at new : List ℕ) (n : ℕ) → at ≡ old → mid ≡ old ++ replicate n 0 ++ body → length front ≡ n
+    → new ≡ take (length at) mid ++ front ++ drop (length at + length front) mid ++ 0 ∷ [] → new ≡ old ++ (front ++ (body ++ 0 ∷ []))
+closed old front body mid at new n at_is is size new_is =
+    let here : length at ≡ length old = ap length at_is in
+    let first : take (length at) mid ≡ old =
+    ap (take (length at)) (is ∙ append_assoc old (replicate n 0) body) ∙ ap (λ (k : ℕ). take k (old ++ (replicate n 0 ++ body))) here ∙ take-append_seam old (replicate n 0 ++ body) in
+    let there : length at + length front ≡ length (old ++ replicate n 0) = omega (arith, here, size, length-append old (replicate n 0), length-replicate {A = ℕ} n 0) in
+    let last : drop (length at + length front) mid ≡ body =
+    ap (drop (length at + length front)) is ∙ ap (λ (k : ℕ). drop k (old ++ replicate n 0 ++ body)) there ∙ drop-append_seam (old ++ replicate n 0) body in
+    new_is
+    ∙ ap (λ (l : List ℕ). l ++ front ++ drop (length at + length front) mid ++ 0 ∷ []) first
+    ∙ ap (λ (l : List ℕ). old ++ front ++ l ++ 0 ∷ []) last
+    ∙ append_assoc (old ++ front) body (0 ∷ [])
+    ∙ append_assoc old front (body ++ 0 ∷ [])

@@ -41,7 +41,27 @@ fn append_patch(patches: &mut Vec<Patch>, patch: Patch) -> Result<(), AllocError
     Ok(())
 }
 
+/// Room for so many bytes, where there is so much memory; where there isn't, it is taken as the bytes come.
+fn room_for(alloc: Global, count: usize) -> Vec<u8>
+    ensures { result.items ≡ [] }
+{
+    match Vec::with_capacity(alloc, count) {
+        Ok(room) => room,
+        Err(_) => Vec::new(alloc),
+    }
+}
+
 impl Content {
+    /// Without cells, with room for so many.
+    pub fn with_room(alloc: Global, count: usize) -> Content
+        ensures { HoldsCells [] result }
+    {
+        Content {
+            bytes: room_for(alloc, count),
+            patches: Vec::new(alloc),
+        }
+    }
+
     pub fn new(alloc: Global) -> Content
         ensures { HoldsCells [] result }
     {

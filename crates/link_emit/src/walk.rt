@@ -239,13 +239,23 @@ fn put_member(
     }
 }
 
-/// Load segments without cells, so many.
-fn no_contents(alloc: Global, count: usize) -> Result<Vec<Content>, AllocError>
-    ensures { IfOk result (λ contents. AreEmpty count contents.items) }
+/// How many cells a load segment has; 0 where there is none at the place.
+fn length_at(loads: &[Load], place: usize) -> usize {
+    match loads.get(place) {
+        Some(load) => load.length as usize,
+        None => 0,
+    }
+}
+
+/// As many contents without cells as there are load segments, each with room for its own.
+fn no_contents(alloc: Global, loads: &[Load]) -> Result<Vec<Content>, AllocError>
+    ensures { IfOk result (λ contents. AreEmpty (length loads.now) contents.items) }
 {
     let mut contents = Vec::new(alloc);
+    let count = loads.len();
     'loads: while contents.as_slice().len() < count {
-        contents.push(Content::new(alloc))?;
+        let place = contents.as_slice().len();
+        contents.push(Content::with_room(alloc, length_at(loads, place)))?;
     }
     Ok(contents)
 }
@@ -259,7 +269,7 @@ pub fn fill(alloc: Global, whole: &Whole, table: &mut Table) -> Result<Vec<Conte
     ensures ok { IfOk result (λ contents. IsFilled whole.now.program.now (rows_of (entries whole.now.program.now) whole.now.slots.now) table.new contents.items) }
     ensures err { IfErr result (λ fault. IsValueRefused whole.now.program.now (rows_of (entries whole.now.program.now) whole.now.slots.now) fault) }
 {
-    let mut contents = match no_contents(alloc, whole.loads.len()) {
+    let mut contents = match no_contents(alloc, whole.loads) {
         Ok(contents) => contents,
         Err(_) => return Err(memory_fault()),
     };

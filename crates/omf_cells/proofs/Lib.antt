@@ -21,4 +21,5 @@ pub mod LoadShows
 pub mod ReadSegments
 pub mod PageTexts
 pub mod KeptLaws
+pub mod DataLaws
 pub mod FormLists

@@ -36,7 +36,7 @@ pub use load::{LoadFile, patch_into};
 pub use load_meaning::{LoadCause, LoadFault, Target};
 pub use places::{Places, PlacesFault};
 pub use reading::read_load;
-pub use written::{Body, BodyFault, Patch, body_of};
+pub use written::{Body, BodyFault, Patch, body_of, put_body};
 pub use written_laws::{
     bodies_stand_for_their_cells, files_stand_for_their_cells, locations_are_read_again,
 };
