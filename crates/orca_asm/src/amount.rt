@@ -17,7 +17,7 @@ use orca_text::FormulaTerm;
 use std::alloc::{AllocError, Global};
 
 /// What a formula is worth.
-#[derive(Clone, Copy, PartialEq, Eq, Debug)]
+#[derive(Clone, Copy)]
 pub(crate) enum Worth {
     /// A number.
     Number(u32),
@@ -54,6 +54,7 @@ impl Env for Nowhere {
 }
 
 /// A term of an expression, with the value of a known constant in place of its name.
+#[inline(always)]
 fn with_value<'a>(known: Known<'_>, of: &'a FormulaTerm) -> Term<'a>
     ensures value { view result ≡ written_term (constants known.entry) (term of.now) }
     ensures fine { IsTerm 0 (term of.now) → IsTerm 0 (view result) }
@@ -75,6 +76,7 @@ fn with_value<'a>(known: Known<'_>, of: &'a FormulaTerm) -> Term<'a>
 }
 
 /// Whether a term is a number or an operator.
+#[inline(always)]
 fn is_number_term(of: Term<'_>) -> bool
     ensures { result ≡ is_number_term (view of.entry) }
 {
@@ -99,6 +101,7 @@ fn put(out: &mut Vec<u8>, of: Term<'_>) -> Result<(), AllocError>
 }
 
 /// Appends a term; in place of the location counter that counter less a number, unless that is 0.
+#[inline(always)]
 fn put_placed(out: &mut Vec<u8>, back: u8, of: Term<'_>) -> Result<(), AllocError>
     requires { IsTerm 0 (view of) }
     ensures { OnOk result (out.new.items ≡ out.old.items ++ terms_text 0 (written_terms back (view of.entry))) }
@@ -158,6 +161,7 @@ fn value_of(bytes: &[u8]) -> Worth
 }
 
 /// What a value is worth.
+#[inline(always)]
 fn number_of(of: Result<Value, ValueFault>) -> Worth
     ensures { worth_view result ≡ worth_of_value of }
 {
@@ -171,7 +175,7 @@ fn number_of(of: Result<Value, ValueFault>) -> Worth
 }
 
 /// What a formula amounts to.
-#[derive(Debug, Drop)]
+#[derive(Drop)]
 pub(crate) enum Amount {
     /// A number.
     Known(u32),

@@ -24,14 +24,14 @@ use omf_records::Rec;
 use std::alloc::{AllocError, Global};
 
 /// Pieces, which stand so often.
-#[derive(Debug, Drop)]
+#[derive(Drop)]
 pub(crate) struct Part {
     pub(crate) count: u32,
     pub(crate) pieces: Vec<Piece>,
 }
 
 /// What a statement gives: its parts one behind another.
-#[derive(Debug, Drop)]
+#[derive(Drop)]
 pub(crate) struct Given {
     pub(crate) parts: Vec<Part>,
 }
@@ -40,6 +40,7 @@ pub(crate) struct Given {
 const MOST_CELLS: u32 = 0x0100_0000;
 
 /// How many cells a piece gives, as far as 16,777,216.
+#[inline(always)]
 fn piece_cells(of: &Piece) -> u32
     ensures { result ≡ min (piece_size of.now) 0x1000000 }
 {
@@ -57,6 +58,7 @@ fn piece_cells(of: &Piece) -> u32
 }
 
 /// A number, as far as 16,777,216.
+#[inline(always)]
 fn capped(n: u32) -> u32
     ensures { result ≡ min n 0x1000000 }
 {
@@ -64,6 +66,7 @@ fn capped(n: u32) -> u32
 }
 
 /// How many cells pieces give, as far as 16,777,216.
+#[inline(always)]
 fn pieces_cells(pieces: &[Piece]) -> u32
     ensures { result ≡ min (pieces_size pieces.now) 0x1000000 }
 {
@@ -77,6 +80,7 @@ fn pieces_cells(pieces: &[Piece]) -> u32
 }
 
 /// How many cells a part gives, as far as 16,777,216.
+#[inline(always)]
 fn part_cells(part: &Part) -> u32
     ensures { result ≡ min (part.now.count * pieces_size part.now.pieces.items) 0x1000000 }
 {
@@ -89,6 +93,7 @@ fn part_cells(part: &Part) -> u32
 }
 
 /// How many cells parts give, as far as 16,777,216.
+#[inline(always)]
 fn parts_cells(parts: &[Part]) -> u32
     ensures { result ≡ min (parts_size parts.now) 0x1000000 }
 {
@@ -119,6 +124,7 @@ fn put_constant(out: &mut Text, bytes: &[u8]) -> Result<(), AllocError>
 }
 
 /// Appends the record of the constant bytes that wait for one, if there are any.
+#[inline(always)]
 fn flush(out: &mut Text, pending: &mut Vec<u8>) -> Result<(), AllocError>
     ensures text { OnOk result ((text : List ℕ) → kept_text out.old ≡ limited text → kept_text out.new ≡ limited (text ++ records_text (constant_records pending.old.items))) }
     ensures none { OnOk result (pending.new.items ≡ []) }
@@ -132,6 +138,7 @@ fn flush(out: &mut Text, pending: &mut Vec<u8>) -> Result<(), AllocError>
 }
 
 /// Appends an expression record.
+#[inline(always)]
 fn put_formula(
     out: &mut Text,
     pending: &mut Vec<u8>,
@@ -164,6 +171,7 @@ fn put_strong(out: &mut Text, pending: &mut Vec<u8>, name: &[u8]) -> Result<(), 
 }
 
 /// Appends a piece. Constant bytes wait for those behind them.
+#[inline(always)]
 fn put_piece(out: &mut Text, pending: &mut Vec<u8>, of: &Piece) -> Result<(), AllocError>
     requires { IsPlainPiece (piece of.now) }
     ensures { OnOk result ((whole : List ℕ) (rest : List meaning.Piece) → Wrote whole (kept_text out.old) pending.old.items (piece of.now ∷ rest) → Wrote whole (kept_text out.new) pending.new.items rest) }
@@ -190,6 +198,7 @@ fn put_piece(out: &mut Text, pending: &mut Vec<u8>, of: &Piece) -> Result<(), Al
 }
 
 /// Appends pieces.
+#[inline(always)]
 fn put_pieces(out: &mut Text, pending: &mut Vec<u8>, pieces: &[Piece]) -> Result<(), AllocError>
     requires { ArePlainPieces (map piece pieces.now) }
     ensures { OnOk result ((whole : List ℕ) (rest : List meaning.Piece) → Wrote whole (kept_text out.old) pending.old.items (map piece pieces.now ++ rest) → Wrote whole (kept_text out.new) pending.new.items rest) }
@@ -203,6 +212,7 @@ fn put_pieces(out: &mut Text, pending: &mut Vec<u8>, pieces: &[Piece]) -> Result
 }
 
 /// Appends the pieces of a part, so often.
+#[inline(always)]
 fn put_part(out: &mut Text, pending: &mut Vec<u8>, part: &Part) -> Result<(), AllocError>
     requires { ArePlainPieces (part_pieces part.now) }
     ensures { OnOk result ((whole : List ℕ) (rest : List meaning.Piece) → Wrote whole (kept_text out.old) pending.old.items (part_pieces part.now ++ rest) → Wrote whole (kept_text out.new) pending.new.items rest) }
@@ -251,6 +261,7 @@ impl Given {
 }
 
 /// Appends LOCAL for a label, if there is one: its length is at most $FFFF, and it isn't private.
+#[inline(always)]
 pub(crate) fn put_local(out: &mut Text, label: &Name, form: u8, size: u32) -> Result<(), AllocError>
     requires { IsLabelText label.now }
     ensures { OnOk result ((text : List ℕ) → kept_text out.old ≡ limited text → kept_text out.new ≡ limited (text ++ records_text (local_of label.now form size))) }
@@ -290,6 +301,7 @@ pub(crate) fn put_marked(
 }
 
 /// A statement's label and what it gives, or the first of their faults.
+#[inline(always)]
 pub(crate) fn labelled(
     label: Result<Name, AsmCause>,
     given: Result<Given, AsmCause>,

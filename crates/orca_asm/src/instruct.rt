@@ -35,6 +35,7 @@ use orca_text::{FormulaTerm, Operand};
 use std::alloc::{AllocError, Global};
 
 /// The opcode of a mnemonic in a mode.
+#[inline(always)]
 fn opcode_in(mnemonic: Mnemonic, mode: Mode) -> u8
     ensures { result ≡ opcode_in mnemonic mode }
 {
@@ -56,6 +57,7 @@ fn is_long_jump(mnemonic: Mnemonic) -> bool
 }
 
 /// The code of the record of an address of so many bytes.
+#[inline(always)]
 fn address_code(mnemonic: Mnemonic, bytes: u8) -> u8
     ensures { result ≡ address_code mnemonic bytes }
 {
@@ -72,6 +74,7 @@ fn address_code(mnemonic: Mnemonic, bytes: u8) -> u8
 }
 
 /// The record of an operand of so many bytes with this expression.
+#[inline(always)]
 fn operand_record(mnemonic: Mnemonic, of: Kind, width: u8, expr: Vec<u8>) -> Piece
     ensures { (tree : Tree) → expr.items ≡ expression_text tree → piece result ≡ Whole (operand_record mnemonic (kind of) width tree) }
 {
@@ -98,6 +101,7 @@ fn operand_record(mnemonic: Mnemonic, of: Kind, width: u8, expr: Vec<u8>) -> Pie
 }
 
 /// All bytes of an instruction whose operand is this number.
+#[inline(always)]
 pub(crate) fn with_number(
     alloc: Global,
     mnemonic: Mnemonic,
@@ -117,6 +121,7 @@ pub(crate) fn with_number(
 }
 
 /// The opcode, and the record of an operand with these terms.
+#[inline(always)]
 pub(crate) fn with_tree(
     alloc: Global,
     mnemonic: Mnemonic,
@@ -137,6 +142,7 @@ pub(crate) fn with_tree(
 }
 
 /// An instruction whose operand is a number, in this mode. A branch has its record for a constant too.
+#[inline(always)]
 pub(crate) fn with_known(
     alloc: Global,
     of: Widths,
@@ -157,6 +163,7 @@ pub(crate) fn with_known(
 }
 
 /// An instruction with one formula, which amounts to this, in one of the modes that it is offered, of which this is the first.
+#[inline(always)]
 pub(crate) fn with_amount(
     alloc: Global,
     of: Widths,

@@ -99,6 +99,7 @@ fn know_label(label: &Name)
 }
 
 /// A statement that gives pieces, with its label.
+#[inline(always)]
 fn give_statement(
     alloc: Global,
     kept: &mut Kept,

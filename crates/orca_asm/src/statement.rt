@@ -23,6 +23,7 @@ use orca_text::{Mnemonic, SourceLine, TextCause, behind_byte, read_operand};
 use std::alloc::{AllocError, Global};
 
 /// What gives these pieces once.
+#[inline(always)]
 fn given_once(
     alloc: Global,
     pieces: Result<Vec<Piece>, AsmCause>,

@@ -13,7 +13,7 @@ use std::alloc::{AllocError, Global};
 pub(crate) const MAX_FILE: usize = 16_777_216;
 
 /// Bytes, which are kept as long as they are no more than a file may have.
-#[derive(Debug, Drop)]
+#[derive(Drop)]
 pub(crate) struct Text {
     pub(crate) bytes: Vec<u8>,
     /// There were more, and none are kept.

@@ -6,6 +6,7 @@ mod call;
 mod condition;
 mod deed;
 mod definitions;
+mod doing;
 mod expansion;
 mod frames;
 mod head;

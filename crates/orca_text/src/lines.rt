@@ -66,6 +66,18 @@ impl Lines {
         Ok(())
     }
 
+    /// Appends a line as it stands. Its fields are those of its bytes, so they aren't looked for again.
+    pub fn copy(&mut self, alloc: Global, of: &SourceLine) -> Result<(), AllocError>
+        requires own { (line of.now).fields ≡ fields_of of.now.text }
+        requires room { length self.old + 1 < 2 ^ 32 }
+        ensures ok { OnOk result (self.new ≡ self.old ++ line of.now ∷ []) }
+        ensures err { OnErr result (self.new ≡ self.old) }
+    {
+        let line = of.copied(alloc)?;
+        self.lines.push(line)?;
+        Ok(())
+    }
+
     /// How many lines there are.
     pub fn count(&self) -> u32
         ensures { result ≡ length self.now }
@@ -77,6 +89,7 @@ impl Lines {
     pub fn get(&self, place: u32) -> Option<&SourceLine>
         ensures line { MatchOption result (length self.now ≤ place) (λ found. slice_get self.now place ≡ Some (line found.now)) }
         ensures fields { IfSome result (λ found. HaveFields found.now.text (line found.now).fields) }
+        ensures own { IfSome result (λ found. (line found.now).fields ≡ fields_of found.now.text) }
     {
         match self.at(place) {
             Some(found) => Some(found),

@@ -2,7 +2,7 @@ use Rattle.macro_meaning.specs.Visit.{given_by, move_of}
 use Rattle.orca_text.specs.View.{line}
 use Rattle.orca_macro.specs.DeedView.{deed}
 use Rattle.orca_macro.proofs.Runs.{visit_is}
-use Rattle.orca_macro.proofs.expansion.visit.Goals as goal
+use Rattle.orca_macro.proofs.expansion.carry_out.Goals as goal
 
 pub returns-clause-visited : goal.returns-clause-visited
 returns-clause-visited c = λ before v stands here few.
