@@ -1,12 +1,12 @@
 //! What a formula amounts to: a number, or the expression that is written (ORCA/M reference manual, "Expressions").
 
-ghost use Rattle.std.specs.Prelude.{◌≡◌, ◌≤◌, ◌<◌, ◌^◌, ◌++◌, ◌∷◌, ◌&&◌, [], List, ℕ, length, map, true, false, Some, None, Ok, Err, IfOk, OnOk, IsTrue};
+ghost use Rattle.std.specs.Prelude.{◌≡◌, ◌≤◌, ◌<◌, ◌^◌, ◌++◌, ◌∷◌, ◌&&◌, [], List, ℕ, length, map, true, false, Some, None, Ok, Err, IfOk, IfSome, OnOk, IsTrue};
 ghost use Rattle.std.specs.List.{list_all};
 ghost use Rattle.omf_format.specs.Expression.{AreTerms, IsTerm, term_text, terms_text, Tree, Spells};
 ghost use Rattle.omf_format.specs.Value.{value};
 ghost use Rattle.omf_expr.specs.View.{view};
 ghost use Rattle.asm_meaning.specs.Constant.{amount};
-ghost use Rattle.orca_asm.specs.AmountView.{with_terms, IsFormulaOf, amount_view, kept_answer, less_location, written_term, written_terms, all_written, is_number_term, are_numbers, worth_of_value, nowhere, worth_view};
+ghost use Rattle.orca_asm.specs.AmountView.{with_terms, IsFormulaOf, kept_view, amount_view, kept_answer, less_location, written_term, written_terms, all_written, is_number_term, are_numbers, worth_of_value, nowhere, worth_view};
 ghost use Rattle.orca_asm.specs.NamesView.{constants};
 ghost use Rattle.orca_text.specs.View.{term};
 
@@ -194,6 +194,30 @@ fn value_behind(out: &mut Vec<u8>) -> Result<Worth, AllocError>
     Ok(worth)
 }
 
+/// What a formula of one term amounts to, unless the term is an operator.
+#[tactic(auto, using(crate::proofs::Single::number_alone, crate::proofs::Single::open_alone))]
+#[inline(always)]
+fn amount_of_one(
+    alloc: Global,
+    known: Known<'_>,
+    back: u8,
+    only: &FormulaTerm,
+) -> Result<Option<Amount>, AllocError>
+    requires { IsTerm 0 (term only.now) }
+    ensures { IfOk result (λ found. IfSome found (λ a. (tree : Tree) → IsFormulaOf (term only.now ∷ []) tree → Ok (kept_view a) ≡ kept_answer back (amount (constants known.entry) tree))) }
+{
+    let of = with_value(known, only);
+    if let Term::Constant(n) = of {
+        return Ok(Some(Amount::Known(n)));
+    }
+    if is_number_term(of) {
+        return Ok(None);
+    }
+    let mut out = Vec::new(alloc);
+    put_placed(&mut out, back, of)?;
+    Ok(Some(Amount::Written(out)))
+}
+
 /// What a formula amounts to where these constants are known. In an instruction the location counter is written less a
 /// number, and elsewhere as it is (0).
 pub(crate) fn amount_of(
@@ -205,6 +229,11 @@ pub(crate) fn amount_of(
     requires { AreTerms 0 (map term terms.now) }
     ensures { IfOk result (λ answer. (tree : Tree) → IsFormulaOf (map term terms.now) tree → amount_view answer ≡ kept_answer back (amount (constants known.entry) tree)) }
 {
+    if let [only] = terms {
+        if let Some(amount) = amount_of_one(alloc, known, back, only)? {
+            return Ok(Ok(amount));
+        }
+    }
     let mut out = Vec::new(alloc);
     let all = put_terms(&mut out, known, back, terms)?;
     if !all {

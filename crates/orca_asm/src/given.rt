@@ -1,8 +1,8 @@
 //! What a statement gives: its cells, and the bytes of its records (GS/OS Reference, appendix F, "Segment body").
 
-ghost use Rattle.std.specs.Prelude.{◌≡◌, ◌≤◌, ◌<◌, ◌^◌, ◌*◌, ◌+◌, ◌++◌, ◌∷◌, [], List, ℕ, length, map, min, Ok, Err, OnOk};
+ghost use Rattle.std.specs.Prelude.{◌≡◌, ◌≤◌, ◌<◌, ◌^◌, ◌*◌, ◌+◌, ◌++◌, ◌∷◌, [], List, ℕ, length, map, min, Ok, Err, IfOk, OnOk};
 ghost use Rattle.asm_meaning.specs.Answer.{both};
-ghost use Rattle.asm_meaning.specs.Pieces.{length_at, constant_records};
+ghost use Rattle.asm_meaning.specs.Pieces.{length_at, constant_records, records_of};
 ghost use Rattle.asm_meaning.specs.Pieces as meaning;
 ghost use Rattle.asm_meaning.specs.Object.{records_text};
 ghost use Rattle.asm_meaning.specs.PieceLaws.{IsPlain, IsPlainPiece, ArePlainPieces};
@@ -16,6 +16,7 @@ ghost use Rattle.orca_asm.specs.TextView.{limited, kept_text};
 ghost use Rattle.orca_asm.specs.OperandView.{name_answer};
 
 use crate::causes::earlier;
+use crate::few::Few;
 use crate::piece::Piece;
 use crate::text::{MAX_FILE, Text};
 use asm_meaning::AsmCause;
@@ -30,10 +31,21 @@ pub(crate) struct Part {
     pub(crate) pieces: Vec<Piece>,
 }
 
-/// What a statement gives: its parts one behind another.
+/// What a statement gives.
 #[derive(Drop)]
-pub(crate) struct Given {
-    pub(crate) parts: Vec<Part>,
+pub(crate) enum Given {
+    /// Few constant bytes.
+    Bytes(Few),
+    /// An opcode, and the record of its operand: its code, its count of bytes, its distance, and the expression's bytes.
+    Operand {
+        opcode: u8,
+        code: u8,
+        count: u8,
+        n: u32,
+        expr: Vec<u8>,
+    },
+    /// Parts one behind another.
+    Parts(Vec<Part>),
 }
 
 /// More cells than a segment may have.
@@ -238,25 +250,66 @@ fn put_parts(out: &mut Text, pending: &mut Vec<u8>, parts: &[Part]) -> Result<()
     Ok(())
 }
 
+/// Appends the records of parts. Constant bytes that stand side by side are gathered in a buffer, which is empty before and behind.
+fn put_all_parts(out: &mut Text, pending: &mut Vec<u8>, parts: &[Part]) -> Result<(), AllocError>
+    requires plain { ArePlainPieces (all_pieces parts.now) }
+    requires none { pending.now.items ≡ [] }
+    ensures text { OnOk result ((text : List ℕ) → kept_text out.old ≡ limited text → kept_text out.new ≡ limited (text ++ records_text (records_of (all_pieces parts.now)))) }
+    ensures none { OnOk result (pending.new.items ≡ []) }
+{
+    put_parts(out, pending, parts)?;
+    flush(out, pending)?;
+    Ok(())
+}
+
+/// What gives these pieces once.
+pub(crate) fn given_once(alloc: Global, pieces: Vec<Piece>) -> Result<Given, AllocError>
+    ensures { IfOk result (λ given. given_pieces given ≡ map piece pieces.items) }
+{
+    let mut parts = Vec::with_capacity(alloc, 1)?;
+    parts.push(Part { count: 1, pieces })?;
+    Ok(Given::Parts(parts))
+}
+
+/// How many cells an opcode and an operand of so many bytes give.
+fn operand_cells(count: u8) -> u32
+    ensures value { result ≡ count + 1 }
+    ensures few { result ≤ 0x100 }
+{
+    u32::from(count) + 1
+}
+
 impl Given {
     /// How many cells it gives, as far as 16,777,216.
     #[tactic(auto, using(crate::proofs::Sizes::cells_are))]
     pub(crate) fn cells(&self) -> u32
         ensures { (at : ℕ) → result ≡ min (length_at at (given_records self.now)) 0x1000000 }
     {
-        parts_cells(self.parts.as_slice())
+        match self {
+            Given::Bytes(few) => u32::from(few.count),
+            Given::Operand { count, .. } => operand_cells(*count),
+            Given::Parts(parts) => parts_cells(parts.as_slice()),
+        }
     }
 
-    /// Appends its records. Constant bytes that stand side by side are gathered in a buffer, which is empty before and behind.
+    /// Appends its records. The buffer is empty before and behind.
     pub(crate) fn put(&self, out: &mut Text, pending: &mut Vec<u8>) -> Result<(), AllocError>
         requires plain { ArePlainPieces (given_pieces self.now) }
         requires none { pending.now.items ≡ [] }
         ensures text { OnOk result ((text : List ℕ) → kept_text out.old ≡ limited text → kept_text out.new ≡ limited (text ++ records_text (given_records self.now))) }
         ensures none { OnOk result (pending.new.items ≡ []) }
     {
-        put_parts(out, pending, self.parts.as_slice())?;
-        flush(out, pending)?;
-        Ok(())
+        match self {
+            Given::Bytes(few) => out.put_few(*few),
+            Given::Operand {
+                opcode,
+                code,
+                count,
+                n,
+                expr,
+            } => out.put_operand(*opcode, *code, *count, *n, expr.as_slice()),
+            Given::Parts(parts) => put_all_parts(out, pending, parts.as_slice()),
+        }
     }
 }
 
@@ -280,22 +333,24 @@ pub(crate) fn put_local(out: &mut Text, label: &Name, form: u8, size: u32) -> Re
     Ok(())
 }
 
-/// Appends LOCAL for a statement's label, and the statement's records.
+/// Appends LOCAL for a statement's label, and the statement's records, which give so many cells.
 pub(crate) fn put_marked(
     out: &mut Text,
     pending: &mut Vec<u8>,
     label: &Name,
     form: u8,
     given: &Given,
+    size: u32,
 ) -> Result<(), AllocError>
     requires label { IsLabelText label.now }
     requires plain { ArePlainPieces (given_pieces given.now) }
+    requires size { (at : ℕ) → size ≡ length_at at (given_records given.now) }
     requires none { pending.now.items ≡ [] }
     ensures text { OnOk result ((at : ℕ) (text : List ℕ) → kept_text out.old ≡ limited text
         → kept_text out.new ≡ limited (text ++ records_text (local_of label.now form (length_at at (given_records given.now)) ++ given_records given.now))) }
     ensures none { OnOk result (pending.new.items ≡ []) }
 {
-    put_local(out, label, form, given.cells())?;
+    put_local(out, label, form, size)?;
     given.put(out, pending)?;
     Ok(())
 }

@@ -350,8 +350,8 @@ fn first_of_two(mnemonic: Mnemonic, prefix: Prefix, modes: &[Mode]) -> Option<Mo
 {
     let mut left = modes;
     'modes: while let Some((mode, behind)) = left.split_first() {
-        if is_offered(mnemonic, prefix, *mode) {
-            if is_address(kind_of(*mode), 2) {
+        if is_address(kind_of(*mode), 2) {
+            if is_offered(mnemonic, prefix, *mode) {
                 return Some(*mode);
             }
         }
@@ -368,17 +368,23 @@ pub(crate) fn first_mode(mnemonic: Mnemonic, form: Form, prefix: Prefix) -> Opti
     first_offered(mnemonic, prefix, modes_of(form))
 }
 
-/// The mode of an operand that is this number, of which there is one.
+/// The mode of an operand that is this number, where the first one that is offered is this.
 #[tactic(auto, unfolding(asm_meaning::specs::Instruction::offered))]
 pub(crate) fn mode_of_number(
     of: Widths,
     mnemonic: Mnemonic,
     form: Form,
     prefix: Prefix,
+    first: Mode,
     n: u32,
 ) -> Result<Mode, AsmCause>
+    requires { find (λ m. true) (offered mnemonic form prefix) ≡ Some first }
     ensures { result ≡ mode_of_number (widths of) mnemonic prefix n (offered mnemonic form prefix) }
 {
+    let width = operand_bytes(of, mnemonic, first);
+    if holds(prefix, kind_of(first), width, n) {
+        return Ok(first);
+    }
     match first_holding(of, mnemonic, prefix, modes_of(form), n) {
         Some(mode) => Ok(mode),
         None => Err(AsmCause::DoesNotFit),

@@ -87,18 +87,6 @@ fn put_number(out: &mut Vec<u8>, width: u8, n: u32) -> Result<(), AllocError>
     out.extend_from_slice(&bytes[..width as usize])
 }
 
-/// An opcode, and the lowest bytes of a number, so many.
-#[inline(always)]
-pub(crate) fn bytes_of(alloc: Global, opcode: u8, width: u8, n: u32) -> Result<Vec<u8>, AllocError>
-    requires { width ≤ 4 }
-    ensures { IfOk result (λ v. v.items ≡ opcode ∷ little_bytes width n) }
-{
-    let mut out = Vec::with_capacity(alloc, 4)?;
-    out.push(opcode)?;
-    put_number(&mut out, width, n)?;
-    Ok(out)
-}
-
 /// The lowest bytes of a number, so many.
 pub(crate) fn number_bytes(alloc: Global, width: u8, n: u32) -> Result<Vec<u8>, AllocError>
     requires { width ≤ 4 }

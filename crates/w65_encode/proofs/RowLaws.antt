@@ -1,4 +1,4 @@
--- The opcodes of a mode, by a test that computes over the whole matrix.
+-- The opcodes of a mnemonic, by a test that computes over the whole matrix.
 use Rattle.std.proofs.Common.{◌≡◌, ℕ, zero, suc, ◌+◌, Bool, true, false, ◌&&◌, not, List, [], ◌∷◌, length, slice_get, get_or, ◌<◌, refl, ap, sym, ◌∙◌, Some, None, Option, nat_eq, arith, zero-add, inl, inr, position, subst, ◌≤◌}
 use Rattle.std.specs.Prelude.{◌||◌, ◌==◌}
 use Rattle.std.specs.List.{list_any, position_or_len}
@@ -15,32 +15,28 @@ use Rattle.orca_meaning.specs.declared.mnemonics.Mnemonic.{Mnemonic}
 use Rattle.orca_meaning.specs.declared.modes.Mode.{Mode}
 use Rattle.orca_meaning.specs.Matrix.{Instruction, is_instruction, matrix, opcode_of}
 use Rattle.orca_meaning.proofs.MatrixLemmas.{instruction_at, opcode_at, length-matrix}
-use Rattle.w65_encode.specs.Columns.{HasAll, is_answer}
-
--- whether each opcode of a mode, the first instruction's being k, is among these
-unfoldable pub are_in : Mode → List ℕ → ℕ → List Instruction → Bool
-are_in mode opcodes k [] = true
-are_in mode opcodes k (x ∷ xs) = (not (sameb mode_type.the_type x.1 mode) || list_any (λ opcode. k == opcode) opcodes) && are_in mode opcodes (suc k) xs
+use Rattle.w65_encode.specs.Row.{are_in, in_row, is_answer}
 
 -- what that test shows of an instruction further on
-in_at : (mode : Mode) (opcodes : List ℕ) (k : ℕ) (xs : List Instruction) → are_in mode opcodes k xs ≡ true → (i : ℕ) (m : Mnemonic) → slice_get xs i ≡ Some (m, mode) → list_any (λ opcode. k + i == opcode) opcodes ≡ true
+in_at : (mnemonic : Mnemonic) (row : List ℕ) (k : ℕ) (xs : List Instruction) → are_in mnemonic row k xs ≡ true → (i : ℕ) (mode : Mode) → slice_get xs i ≡ Some (mnemonic, mode) → (in_row row mode == k + i) ≡ true
 unfolding are_in
-in_at mode opcodes k [] h i m e = cc
-in_at mode opcodes k (y ∷ ys) h zero m e =
-    let is : y ≡ (m, mode) = cc in
-    let first = (and_parts (not (sameb mode_type.the_type y.1 mode) || list_any (λ opcode. k == opcode) opcodes) (are_in mode opcodes (suc k) ys) h).0 in
-    let own : sameb mode_type.the_type y.1 mode ≡ true = ap (λ (x : Instruction). sameb mode_type.the_type x.1 mode) is ∙ true_same mode_type.the_type mode mode refl in
+in_at mnemonic row k [] h i mode e = cc
+in_at mnemonic row k (y ∷ ys) h zero mode e =
+    let is : y ≡ (mnemonic, mode) = cc in
+    let first = (and_parts (not (sameb mnemonic_type.the_type y.0 mnemonic) || in_row row y.1 == k) (are_in mnemonic row (suc k) ys) h).0 in
+    let own : sameb mnemonic_type.the_type y.0 mnemonic ≡ true = ap (λ (x : Instruction). sameb mnemonic_type.the_type x.0 mnemonic) is ∙ true_same mnemonic_type.the_type mnemonic mnemonic refl in
+    let mode_is : y.1 ≡ mode = ap (λ (x : Instruction). x.1) is in
     let k0 : k ≡ k + 0 = omega arith in
-    rw (← k0) (rw own at first)
-in_at mode opcodes k (y ∷ ys) h (suc i) m e =
+    rw (← k0) (rw (own, mode_is) at first)
+in_at mnemonic row k (y ∷ ys) h (suc i) mode e =
     let place : suc k + i ≡ k + suc i = omega arith in
-    rw (← place) (in_at mode opcodes (suc k) ys (and_parts (not (sameb mode_type.the_type y.1 mode) || list_any (λ opcode. k == opcode) opcodes) (are_in mode opcodes (suc k) ys) h).1 i m e)
+    rw (← place) (in_at mnemonic row (suc k) ys (and_parts (not (sameb mnemonic_type.the_type y.0 mnemonic) || in_row row y.1 == k) (are_in mnemonic row (suc k) ys) h).1 i mode e)
 
--- a list that passes has all opcodes of the mode
-pub has_all : (mode : Mode) (opcodes : List ℕ) → are_in mode opcodes 0 matrix ≡ true → HasAll mode opcodes
-has_all mode opcodes h m k e =
-    let found = in_at mode opcodes 0 matrix h k m (instruction_at m mode k e) in
-    rw zero-add at found
+-- a row that passes has each opcode of the mnemonic
+has_all : (mnemonic : Mnemonic) (row : List ℕ) (mode : Mode) (k : ℕ) → are_in mnemonic row 0 matrix ≡ true → opcode_of mnemonic mode ≡ Some k → in_row row mode ≡ k
+has_all mnemonic row mode k h e =
+    let found = in_at mnemonic row 0 matrix h k mode (instruction_at mnemonic mode k e) in
+    eqb-true (in_row row mode) k (rw zero-add at found)
 
 -- a number is itself
 is_own : (k : ℕ) → (k == k) ≡ true
@@ -92,31 +88,24 @@ answers m n k d small = elim (cases_Bool (is_instruction m n (get_or matrix k d)
       | inr no_answer ↦ no_answer
     ]
 
--- a test that finds no place fails at each
-none_passes : {X : Type 0} (p : X → Bool) (xs : List X) (i : ℕ) (d : X) → position p xs ≡ None → i < length xs → p (get_or xs i d) ≡ false
-none_passes p xs i d e within =
-    let far : length xs ≤ position_or_len p xs = grind (arith, common_steps) in
-    fails_before_first p xs i d (omega (arith, far, within))
-
--- of the opcodes of a mode the first that is an answer is the answer
-pub found : (m : Mnemonic) (n : Mode) (opcodes : List ℕ) (place d : ℕ) → position (is_answer (opcode_of m n)) opcodes ≡ Some place → Some (get_or opcodes place d) ≡ opcode_of m n
+-- what passes as an answer is the answer
+pub found : (m : Mnemonic) (n : Mode) (k : ℕ) → is_answer (opcode_of m n) k ≡ true → Some k ≡ opcode_of m n
 unfolding is_answer
-found m n opcodes place d e = by_answer (opcode_of m n) (position-Some (is_answer (opcode_of m n)) opcodes place d e).1
+found m n k = by_answer (opcode_of m n)
   where
-    by_answer : (o : Option ℕ) → is_answer o (get_or opcodes place d) ≡ true → Some (get_or opcodes place d) ≡ o
+    by_answer : (o : Option ℕ) → is_answer o k ≡ true → Some k ≡ o
     by_answer None h = cc
-    by_answer (Some j) h = let same : j ≡ get_or opcodes place d = eqb-true j _ h in cc
+    by_answer (Some j) h = let same : j ≡ k = eqb-true j k h in cc
 
--- where none of them is an answer there is none
-pub not_found : (m : Mnemonic) (n : Mode) (opcodes : List ℕ) → HasAll n opcodes → position (is_answer (opcode_of m n)) opcodes ≡ None → opcode_of m n ≡ None
+-- where what the row has isn't the answer there is none
+pub not_found : (m : Mnemonic) (n : Mode) (row : List ℕ) → are_in m row 0 matrix ≡ true → is_answer (opcode_of m n) (in_row row n) ≡ false → None ≡ opcode_of m n
 unfolding is_answer
-not_found m n opcodes all e = by_answer (opcode_of m n) refl
+not_found m n row all = by_answer (opcode_of m n) refl
   where
-    by_answer : (o : Option ℕ) → opcode_of m n ≡ o → o ≡ None
-    by_answer None is = refl
-    by_answer (Some k) is =
-        let there = Contains-from_any eqb-true k opcodes (all m k is) in
-        let fails : is_answer (opcode_of m n) (get_or opcodes there.0 k) ≡ false = none_passes (is_answer (opcode_of m n)) opcodes there.0 k e there.1 in
-        let clash : (k == k) ≡ false = rw (is, there.2) at fails in
+    by_answer : (o : Option ℕ) → opcode_of m n ≡ o → is_answer o (in_row row n) ≡ false → None ≡ o
+    by_answer None is fails = refl
+    by_answer (Some k) is fails =
+        let there : in_row row n ≡ k = has_all m row n k all is in
         let own : (k == k) ≡ true = is_own k in
+        let clash : (k == k) ≡ false = rw there at fails in
         cc
