@@ -25,3 +25,4 @@ pub mod Plans
 pub mod Given
 pub mod Heads
 pub mod Renewals
+pub mod Sources

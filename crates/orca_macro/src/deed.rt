@@ -25,6 +25,7 @@ use crate::substitution::{is_folded, is_plain, shown};
 use crate::symbols::{Symbols, Values};
 use crate::template::{Part, fill};
 use crate::text::Text;
+use crate::untouched::is_untouched;
 use crate::word::Word;
 use macro_meaning::{Declaration, Kind, MacroCause, Statement};
 use orca_text::{SourceLine, folded, is_comment, label_in, operand_behind, part, three_fields};
@@ -158,7 +159,7 @@ fn statement<'a>(
 
 /// Whether a dot stands at the front.
 #[inline(always)]
-fn begins_dot(text: &[u8]) -> bool
+pub(crate) fn begins_dot(text: &[u8]) -> bool
     ensures { result ≡ first_passes (λ byte. byte == 0x2E) text.now }
 {
     match text.split_first() {
@@ -217,9 +218,9 @@ fn written<'a>(
     statement(alloc, at, rest, spare)
 }
 
-/// Whether a line is given as it stands, whatever the symbols are: it is no comment, begins with no dot and has no `&`, and its
-/// operation is neither a statement of conditional assembly nor the name of a macro.
-#[tactic(auto, using(crate::proofs::Given::stays))]
+/// Whether a line is given as it stands, whatever the symbols are: it is no comment, it is untouched, and its operation isn't
+/// the name of a macro.
+#[tactic(auto, using(crate::proofs::Given::given_unnamed))]
 pub(crate) fn is_given(
     alloc: Global,
     program: &Program,
@@ -229,28 +230,13 @@ pub(crate) fn is_given(
     requires own { (line of.now).fields ≡ fields_of of.now.text }
     ensures { IfOk result (λ given. IsTrue given → IsGiven program.now.definitions (line of.now)) }
 {
-    let text = of.text.bytes();
-    if is_comment(text) {
+    if is_comment(of.text.bytes()) {
         return Ok(false);
     }
-    if begins_dot(text) {
+    if !is_untouched(of) {
         return Ok(false);
     }
-    if !is_plain(text) {
-        return Ok(false);
-    }
-    let operation = of.part(of.operation);
-    if operation.is_empty() {
-        return Ok(false);
-    }
-    if operation_is(of, b"MACRO") {
-        return Ok(false);
-    }
-    match statement_of(operation) {
-        Some(_) => return Ok(false),
-        None => {}
-    }
-    match named(alloc, program, operation)? {
+    match named(alloc, program, of.part(of.operation))? {
         Some(_) => Ok(false),
         None => Ok(true),
     }

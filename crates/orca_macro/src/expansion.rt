@@ -21,13 +21,14 @@ use crate::frames::State;
 use crate::plan::Plan;
 use crate::program::Program;
 use crate::symbols::{Symbols, Values};
+use crate::untouched::are_untouched;
 use crate::visits::{Outcome, onward, step};
 use macro_meaning::{MacroCause, MacroFault};
 use orca_text::{Lines, SourceLine, TextCause, TextFault, read_lines};
 use std::alloc::{AllocError, Global};
 
 /// How many lines are visited at most.
-const MOST_VISITS: u32 = 1_000_000;
+pub(crate) const MOST_VISITS: u32 = 1_000_000;
 
 /// Memory ran out.
 fn no_memory() -> MacroFault
@@ -346,10 +347,16 @@ pub fn expand(alloc: Global, source: &[u8], macros: &Vec<Vec<u8>>) -> Result<Lin
         Ok(files) => files,
         Err(fault) => return Err(fault),
     };
-    let lines = match read_file(alloc, 0, source) {
+    let mut lines = match read_file(alloc, 0, source) {
         Ok(lines) => lines,
         Err(fault) => return Err(fault),
     };
+    if texts.is_empty() {
+        if are_untouched(&lines) {
+            lines.drop_comments();
+            return Ok(lines);
+        }
+    }
     let parts = files.as_slice();
     let program = match program_of(alloc, lines, parts) {
         Ok(Ok(program)) => program,

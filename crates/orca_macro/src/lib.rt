@@ -20,6 +20,7 @@ mod substitution;
 mod symbols;
 mod template;
 mod text;
+mod untouched;
 mod visits;
 mod word;
 

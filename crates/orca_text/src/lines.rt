@@ -1,12 +1,14 @@
 //! The lines of a source.
 
-ghost use Rattle.std.specs.Prelude.{◌≡◌, ◌+◌, ◌^◌, ◌≤◌, ◌<◌, [], ◌∷◌, ◌++◌, map, length, slice_get, Some, None, IfOk, IfErr, IfSome, OnOk, OnErr, MatchOption};
+ghost use Rattle.std.specs.Prelude.{◌≡◌, ◌+◌, ◌^◌, ◌≤◌, ◌<◌, [], ◌∷◌, ◌++◌, not, map, length, slice_get, Some, None, IfOk, IfErr, IfSome, OnOk, OnErr, MatchOption};
+ghost use Rattle.std.specs.List.{filter};
 ghost use Rattle.omf_format.specs.Lines.{lines_of};
-ghost use Rattle.orca_meaning.specs.Line.{line_of, line_fault, numbered, first_line_fault, fields_of, HaveFields};
+ghost use Rattle.orca_meaning.specs.Line.{line_of, line_fault, numbered, first_line_fault, fields_of, is_comment, HaveFields};
 ghost use Rattle.orca_text.specs.View.{line};
 ghost use Rattle.orca_text.specs.OwnFields.{HaveOwnFields};
 ghost use Rattle.orca_text.specs.Refusals.{IsRefused};
 
+use crate::fields::is_comment;
 use crate::line::SourceLine;
 use omf_base::split_line;
 use orca_meaning::{TextCause, TextFault};
@@ -76,6 +78,13 @@ impl Lines {
         let line = of.copied(alloc)?;
         self.lines.push(line)?;
         Ok(())
+    }
+
+    /// Drops the comments.
+    pub fn drop_comments(&mut self)
+        ensures { self.new ≡ filter (λ l. not (is_comment l.text)) self.old }
+    {
+        self.lines.retain(|of| !is_comment(of.text.bytes()));
     }
 
     /// How many lines there are.
