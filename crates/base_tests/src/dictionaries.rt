@@ -19,7 +19,7 @@ const MAIN: [u8; 102] = [
 ];
 
 /// A private segment without a name, with a private GLOBAL G.
-const OTHER: [u8; 65] = [
+static OTHER: [u8; 65] = [
     0x41, 0, 0, 0, 0, 0, 0, 0, 1, 0, 0, 0, 0, 0, 4, 2, 0, 0, 1, 0, 0, 0x40, 0, 0, 0, 0, 0, 0, 0, 0,
     0, 0, 0, 0, 1, 0, 0, 0, 0, 0, 0x2C, 0, 0x37, 0, 0x20, 0x20, 0x20, 0x20, 0x20, 0x20, 0x20, 0x20,
     0x20, 0x20, 0, 0xE6, 1, 0x47, 0, 0, 0x4E, 1, 1, 0x60, 0,
@@ -27,7 +27,7 @@ const OTHER: [u8; 65] = [
 
 /// The dictionary of the files `a`, which is MAIN, and `bb`, which is OTHER and MAIN: the file numbers at $41, the rows at $51
 /// and the names at $AA.
-const DICTIONARY: [u8; 196] = [
+static DICTIONARY: [u8; 196] = [
     0xC4, 0, 0, 0, 0, 0, 0, 0, 0x73, 0, 0, 0, 0, 0, 4, 2, 0, 0, 0, 0, 8, 0, 0, 0, 0, 0, 0, 0, 0, 0,
     0, 0, 0, 0, 1, 0, 0, 0, 0, 0, 0x2C, 0, 0x41, 0, 0x20, 0x20, 0x20, 0x20, 0x20, 0x20, 0x20, 0x20,
     0x20, 0x20, 0x0A, 0x44, 0x49, 0x43, 0x54, 0x49, 0x4F, 0x4E, 0x41, 0x52, 0x59, 0xF2, 0x0B, 0, 0,
@@ -39,14 +39,14 @@ const DICTIONARY: [u8; 196] = [
 ];
 
 /// An object file of one segment A, of three bytes and five zeros.
-const PLAIN: [u8; 66] = [
+static PLAIN: [u8; 66] = [
     0x42, 0, 0, 0, 0, 0, 0, 0, 8, 0, 0, 0, 0, 0, 4, 2, 0, 0, 1, 0, 0, 0, 0, 0, 0, 0, 0, 0, 0, 0, 0,
     0, 0, 0, 1, 0, 0, 0, 0, 0, 0x2C, 0, 0x38, 0, 0x20, 0x20, 0x20, 0x20, 0x20, 0x20, 0x20, 0x20,
     0x20, 0x20, 1, 0x41, 3, 0xA9, 1, 0x60, 0xF1, 5, 0, 0, 0, 0,
 ];
 
 /// The dictionary of the file `a`, which is that: its only row stands at $51, and says that A starts at $65.
-const ONE_ROW: [u8; 101] = [
+static ONE_ROW: [u8; 101] = [
     0x65, 0, 0, 0, 0, 0, 0, 0, 0x14, 0, 0, 0, 0, 0, 4, 2, 0, 0, 0, 0, 8, 0, 0, 0, 0, 0, 0, 0, 0, 0,
     0, 0, 0, 0, 1, 0, 0, 0, 0, 0, 0x2C, 0, 0x41, 0, 0x20, 0x20, 0x20, 0x20, 0x20, 0x20, 0x20, 0x20,
     0x20, 0x20, 0x0A, 0x44, 0x49, 0x43, 0x54, 0x49, 0x4F, 0x4E, 0x41, 0x52, 0x59, 0xF2, 6, 0, 0, 0,

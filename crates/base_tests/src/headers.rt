@@ -10,7 +10,7 @@ use std::alloc::Global;
 use std::test::Fail;
 
 /// The header of a code segment `A` of 16 bytes, with a body of one byte.
-const HEADER: [u8; 57] = [
+static HEADER: [u8; 57] = [
     0x39, 0, 0, 0, 2, 0, 0, 0, 0x10, 0, 0, 0, 0, 0, 4, 2, 0, 0, 1, 0, 0, 0, 0, 0, 1, 2, 3, 4, 5, 6,
     7, 8, 0, 0, 9, 10, 11, 12, 13, 14, 0x2C, 0, 0x38, 0, 0x4C, 0x4F, 0x41, 0x44, 0x20, 0x20, 0x20,
     0x20, 0x20, 0x20, 1, 0x41, 0,

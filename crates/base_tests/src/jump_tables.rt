@@ -57,17 +57,17 @@ fn a_table_has_4680_targets(rt: HostRuntime) -> Result<(), Fail> {
 }
 
 /// An entry between two bytes that is not loaded.
-const UNLOADED: [u8; 16] = [
+static UNLOADED: [u8; 16] = [
     7, 0x01, 0x10, 1, 0, 3, 0, 0x34, 0x12, 0, 0, 0x22, 0x00, 0xF0, 0xE1, 7,
 ];
 
 /// The same, loaded, of the next user.
-const LOADED: [u8; 16] = [
+static LOADED: [u8; 16] = [
     7, 0x02, 0x10, 1, 0, 3, 0, 0x34, 0x12, 0, 0, 0x5C, 0x34, 0x12, 0x02, 7,
 ];
 
 /// The same, not loaded again.
-const AGAIN: [u8; 16] = [
+static AGAIN: [u8; 16] = [
     7, 0x02, 0x10, 1, 0, 3, 0, 0x34, 0x12, 0, 0, 0x22, 0x00, 0xF0, 0xE1, 7,
 ];
 

@@ -7,7 +7,7 @@ use std::process::Abort;
 use std::test::Fail;
 
 /// A load file of one code segment: 3 bytes and then 5 zeros.
-const ONE: [u8; 64] = [
+static ONE: [u8; 64] = [
     0x40, 0, 0, 0, 5, 0, 0, 0, 8, 0, 0, 0, 0, 0, 4, 2, 0, 0, 1, 0, 0, 0, 0, 0, 0, 0, 0, 0, 0, 0, 0,
     0, 0, 0, 1, 0, 0, 0, 0, 0, 0x2C, 0, 0x37, 0, 0x20, 0x20, 0x20, 0x20, 0x20, 0x20, 0x20, 0x20,
     0x20, 0x20, 0, 0xF2, 3, 0, 0, 0, 0xA9, 0x01, 0x60, 0,

@@ -12,7 +12,7 @@ fn fault(cause: LoadCause, segment: u32, at: u32) -> Option<LoadFault> {
 }
 
 /// The LCONST of eight bytes.
-const DATA: [u8; 13] = [0xF2, 8, 0, 0, 0, 1, 2, 3, 4, 5, 6, 7, 8];
+static DATA: [u8; 13] = [0xF2, 8, 0, 0, 0, 1, 2, 3, 4, 5, 6, 7, 8];
 
 /// The displacement of the first record behind it in the first segment.
 const PATCH: u32 = 0x37 + 13;

@@ -8,7 +8,7 @@ use std::process::Abort;
 use std::test::Fail;
 
 /// The records of a table of one entry, which leads to offset 2 of segment 2.
-const BODY: [u8; 32] = [
+static BODY: [u8; 32] = [
     0xF2, 26, 0, 0, 0, 0, 0, 0, 0, 0, 0, 0, 0, 0, 0, 1, 0, 2, 0, 2, 0, 0, 0, 0x22, 0, 0xF0, 0xE1,
     0, 0, 0, 0, 0,
 ];
@@ -137,11 +137,11 @@ fn fault_of_empty(
 }
 
 // A cRELOC, and SUPERs with one location and with none.
-const RELOC: [u8; 8] = [0xF5, 1, 0, 0, 0, 0, 0, 0];
+static RELOC: [u8; 8] = [0xF5, 1, 0, 0, 0, 0, 0, 0];
 
-const ONE: [u8; 9] = [0xF7, 3, 0, 0, 0, 0, 0, 0, 0];
+static ONE: [u8; 9] = [0xF7, 3, 0, 0, 0, 0, 0, 0, 0];
 
-const NONE: [u8; 8] = [0xF7, 2, 0, 0, 0, 0, 0x81, 0];
+static NONE: [u8; 8] = [0xF7, 2, 0, 0, 0, 0, 0x81, 0];
 
 #[test]
 fn a_table_has_no_patch(rt: HostRuntime) -> Result<(), Fail> {

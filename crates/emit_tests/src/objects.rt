@@ -9,7 +9,7 @@ use std::alloc::{AllocError, Global};
 pub const BODY: u32 = 0x38;
 
 /// The header of a segment of no cell; its name is `M`, its load name ten spaces, its BANKSIZE $10000.
-const HEAD: [u8; 56] = [
+static HEAD: [u8; 56] = [
     0, 0, 0, 0, 0, 0, 0, 0, 0, 0, 0, 0, 0, 0, 4, 2, 0, 0, 1, 0, 0, 0, 0, 0, 0, 0, 0, 0, 0, 0, 0, 0,
     0, 0, 1, 0, 0, 0, 0, 0, 0x2C, 0, 0x38, 0, 0x20, 0x20, 0x20, 0x20, 0x20, 0x20, 0x20, 0x20, 0x20,
     0x20, 1, 0x4D,

@@ -11,7 +11,7 @@ use Rattle.link_meaning.specs.Fitting.{parts}
 use Rattle.link_meaning.specs.LinkedCells.{zeros}
 use Rattle.omf_cells.specs.declared.written.Patch as kept
 use Rattle.omf_cells.specs.WrittenParts.{seen}
-use Rattle.link_emit.specs.declared.content.Content.{Content}
+use Rattle.link_emit.specs.Holding.{Holding}
 use Rattle.link_emit.specs.Contents.{HoldsCells}
 use Rattle.link_meaning.specs.LinkWritten.{run_length, patch_at, patches_from, patches_of_cells, byte_under}
 
@@ -148,7 +148,7 @@ pub no_cells : patches_of_cells [] ≡ []
 unfolding patches_of_cells
 no_cells = refl
 
-pub grow_bytes : {A E : Type 0} → (r : Result A E) (old new : Content) (bytes : List ℕ) → OnOk r (new.bytes.items ≡ old.bytes.items ++ bytes) → new.patches.items ≡ old.patches.items
+pub grow_bytes : {A E : Type 0} → (r : Result A E) (old new : Holding) (bytes : List ℕ) → OnOk r (new.bytes ≡ old.bytes ++ bytes) → new.patches ≡ old.patches
     → OnOk r ((cells : List Cell) → HoldsCells cells old → HoldsCells (cells ++ map Byte bytes) new)
 grow_bytes (Ok x) old new bytes more same = λ cells holds. record {
   bytes' = more ∙ ap (λ (l : List ℕ). l ++ bytes) holds.bytes' ∙ sym (bytes_under cells bytes);
@@ -156,7 +156,7 @@ grow_bytes (Ok x) old new bytes more same = λ cells holds. record {
 }
 grow_bytes (Err e) old new bytes more same = tt
 
-pub grow_zeros : {A E : Type 0} → (r : Result A E) (old new : Content) (n : ℕ) → OnOk r (new.bytes.items ≡ old.bytes.items ++ replicate n 0) → new.patches.items ≡ old.patches.items
+pub grow_zeros : {A E : Type 0} → (r : Result A E) (old new : Holding) (n : ℕ) → OnOk r (new.bytes ≡ old.bytes ++ replicate n 0) → new.patches ≡ old.patches
     → OnOk r ((cells : List Cell) → HoldsCells cells old → HoldsCells (cells ++ zeros n) new)
 grow_zeros (Ok x) old new n more same = λ cells holds. record {
   bytes' = more ∙ ap (λ (l : List ℕ). l ++ replicate n 0) holds.bytes' ∙ sym (zeros_under cells n);
@@ -164,8 +164,8 @@ grow_zeros (Ok x) old new n more same = λ cells holds. record {
 }
 grow_zeros (Err e) old new n more same = tt
 
-pub grow_place : {A E : Type 0} → (r : Result A E) (old new : Content) (at count segment offset : ℕ) (shift : ℤ) → is_count count ≡ true → at ≡ length old.bytes.items
-    → OnOk r (new.bytes.items ≡ old.bytes.items ++ replicate count 0) → new.patches.items ≡ old.patches.items ++ record { at = at; count = count; shift = shift; segment = segment; offset = offset } ∷ []
+pub grow_place : {A E : Type 0} → (r : Result A E) (old new : Holding) (at count segment offset : ℕ) (shift : ℤ) → is_count count ≡ true → at ≡ length old.bytes
+    → OnOk r (new.bytes ≡ old.bytes ++ replicate count 0) → OnOk r (new.patches ≡ old.patches ++ record { at = at; count = count; shift = shift; segment = segment; offset = offset } ∷ [])
     → OnOk r ((cells : List Cell) → HoldsCells cells old → HoldsCells (cells ++ parts count segment offset shift) new)
 grow_place (Ok x) old new at count segment offset shift counts place more added = λ cells holds.
     let p : kept.Patch = record { at = at; count = count; shift = shift; segment = segment; offset = offset } in
@@ -173,7 +173,7 @@ grow_place (Ok x) old new at count segment offset shift counts place more added 
     record {
       bytes' = more ∙ ap (λ (l : List ℕ). l ++ replicate count 0) holds.bytes' ∙ sym (place_under cells count segment offset shift);
       patches' = ap (map seen) added
-          ∙ map-append seen old.patches.items (p ∷ [])
+          ∙ map-append seen old.patches (p ∷ [])
           ∙ ap (λ (l : List Patch). l ++ sized at 1 segment offset shift count ∷ []) holds.patches'
           ∙ ap (λ (n : ℕ). patches_of_cells cells ++ sized n 1 segment offset shift count ∷ []) behind
           ∙ sym (place_patches cells count segment offset shift counts);

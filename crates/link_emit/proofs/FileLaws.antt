@@ -13,7 +13,7 @@ use Rattle.load_meaning.specs.WrittenFile.{Image, image_text, file_text, table_f
 use Rattle.load_meaning.specs.WrittenTableLaws.{length-table_bytes}
 use Rattle.link_meaning.specs.LinkWritten.{byte_under, patches_of_cells, table_images}
 use Rattle.omf_cells.specs.WrittenParts.{seen}
-use Rattle.link_emit.specs.declared.content.Content.{Content}
+use Rattle.link_emit.specs.Holding.{Holding}
 use Rattle.link_emit.specs.Contents.{HoldsCells}
 use Rattle.link_emit.specs.Images.{with_space, image_in, IsReady}
 use Rattle.link_emit.proofs.ContentLaws.{bytes_under, bytes_patches}
@@ -90,12 +90,12 @@ table_len ts n few is =
     let all = table_bytes (map file_entry ts) in
     (is ∙ length-map all (λ (b : ℕ). Byte b), omega (arith, is, length-map all (λ (b : ℕ). Byte b), table_small ts few))
 
-module _ (number n : ℕ) (ts : List Target) (f : Fields) (content : Content) (fields' : f ≡ table_fields number n) (size : n ≡ length (table_bytes (map file_entry ts))) (few : length ts ≤ 4680)
+module _ (number n : ℕ) (ts : List Target) (f : Fields) (content : Holding) (fields' : f ≡ table_fields number n) (size : n ≡ length (table_bytes (map file_entry ts))) (few : length ts ≤ 4680)
     (holds : HoldsCells (map Byte (table_bytes (map file_entry ts))) content) where
-  own_bytes : content.bytes.items ≡ table_bytes (map file_entry ts)
+  own_bytes : content.bytes ≡ table_bytes (map file_entry ts)
   own_bytes = holds.bytes' ∙ table_under (table_bytes (map file_entry ts))
 
-  own_patches : map seen content.patches.items ≡ []
+  own_patches : map seen content.patches ≡ []
   own_patches = holds.patches' ∙ table_unpatched (table_bytes (map file_entry ts))
 
   pub table_ready : IsReady f content
@@ -104,14 +104,14 @@ module _ (number n : ℕ) (ts : List Target) (f : Fields) (content : Content) (f
     writable = table_writable number n;
     length' = size ∙ ap length (sym own_bytes);
     small = omega (arith, size, table_small ts few);
-    patches' = subst (λ (l : List Patch). AreWritten (length content.bytes.items) 0 l) (sym own_patches) tt;
+    patches' = subst (λ (l : List Patch). AreWritten (length content.bytes) 0 l) (sym own_patches) tt;
   })
 
   pub table_text : (length ts ≡ 0 → ⊥) → image_text (image_in f content) ≡ file_text (table_images number ts)
   unfolding table_image
   table_text some =
       ap (λ (g : Fields). image_text (image_in g content)) (fields' ∙ ap (table_fields number) size)
-      ∙ ap (λ (l : List ℕ). image_text (image (table_fields number (length (table_bytes (map file_entry ts)))) l (map seen content.patches.items))) own_bytes
+      ∙ ap (λ (l : List ℕ). image_text (image (table_fields number (length (table_bytes (map file_entry ts)))) l (map seen content.patches))) own_bytes
       ∙ ap (λ (l : List Patch). image_text (image (table_fields number (length (table_bytes (map file_entry ts)))) (table_bytes (map file_entry ts)) l)) own_patches
       ∙ by_targets ts some
     where

@@ -1,8 +1,9 @@
 -- A header, a body and END are the text of a load segment.
-use Rattle.std.proofs.Common.{◌≡◌, ℕ, ◌+◌, ◌<◌, ◌≤◌, List, [], ◌∷◌, ◌++◌, length, map, Result, Ok, Err, sym, ap, subst, ◌∙◌, append_assoc, arith}
-use Rattle.std.specs.Prelude.{OnOk}
+use Rattle.std.proofs.Common.{◌≡◌, ℕ, zero, suc, ◌+◌, ◌<◌, ◌≤◌, List, [], ◌∷◌, ◌++◌, length, map, take, drop, replicate, Option, Some, None, Result, Ok, Err, refl, sym, ap, subst, ◌∙◌, append_assoc, arith}
+use Rattle.std.specs.Prelude.{OnOk, slice_get}
 use Rattle.std.specs.List.{flat_map}
-use Rattle.std.proofs.lemmas.List.{length-append, append-nil}
+use Rattle.std.proofs.Math.Seq.{take-append_seam, drop-append_seam}
+use Rattle.std.proofs.lemmas.List.{length-append, length-drop, length-replicate, append-nil}
 use Rattle.std.proofs.lemmas.List.Concat.{flat_map-cons}
 use Rattle.omf_format.specs.Header.{Fields, header_bytes, IsWritable}
 use Rattle.omf_format.specs.WrittenHeader.{length-header}
@@ -15,7 +16,7 @@ use Rattle.omf_header.specs.View.{fields}
 use Rattle.omf_header.specs.declared.header.Header.{Header}
 use Rattle.omf_cells.specs.declared.written.Patch as kept
 use Rattle.omf_cells.specs.WrittenParts.{seen}
-use Rattle.link_emit.specs.declared.content.Content.{Content}
+use Rattle.link_emit.specs.Holding.{Holding}
 use Rattle.link_emit.specs.Images.{with_space, image_in, images_in, IsReady, AreReady}
 
 pub zeros_fit : (content : List ℕ) (patches : List Patch) → AreWritten (length content) 0 patches → zeros_behind (written_cells content patches) ≤ length content
@@ -90,7 +91,7 @@ ok_moved (Err e) new out x y same more = tt
 
 -- ---- one behind another
 
-pub one_image : (out new all : List ℕ) (headers more_headers : List Header) (contents more_contents : List Content) (h : Header) (content : Content) → headers ≡ h ∷ more_headers → contents ≡ content ∷ more_contents
+pub one_image : (out new all : List ℕ) (headers more_headers : List Header) (contents more_contents : List Holding) (h : Header) (content : Holding) → headers ≡ h ∷ more_headers → contents ≡ content ∷ more_contents
     → new ≡ out ++ image_text (image_in (fields h) content) → out ++ file_text (images_in headers contents) ≡ all → new ++ file_text (images_in more_headers more_contents) ≡ all
 unfolding file_text
 one_image out new all headers more_headers contents more_contents h content hs cs more whole =
@@ -98,12 +99,12 @@ one_image out new all headers more_headers contents more_contents h content hs c
     let rest = flat_map image_text (images_in more_headers more_contents) in
     let parts : flat_map image_text (images_in headers contents) ≡ first ++ rest =
     ap (λ (l : List Header). flat_map image_text (images_in l contents)) hs
-    ∙ ap (λ (l : List Content). flat_map image_text (images_in (h ∷ more_headers) l)) cs
+    ∙ ap (λ (l : List Holding). flat_map image_text (images_in (h ∷ more_headers) l)) cs
     ∙ flat_map-cons image_text (image_in (fields h) content) (images_in more_headers more_contents) in
     ap (λ (l : List ℕ). l ++ rest) more ∙ append_assoc out first rest ∙ ap (λ (l : List ℕ). out ++ l) (sym parts) ∙ whole
 
 -- where the first is too long all are
-pub long_image : (out all : List ℕ) (n : ℕ) (headers more_headers : List Header) (contents more_contents : List Content) (h : Header) (content : Content) → headers ≡ h ∷ more_headers → contents ≡ content ∷ more_contents
+pub long_image : (out all : List ℕ) (n : ℕ) (headers more_headers : List Header) (contents more_contents : List Holding) (h : Header) (content : Holding) → headers ≡ h ∷ more_headers → contents ≡ content ∷ more_contents
     → out ++ file_text (images_in headers contents) ≡ all → n < length out + length (image_text (image_in (fields h) content)) → n < length all
 unfolding file_text
 long_image out all n headers more_headers contents more_contents h content hs cs whole long =
@@ -111,21 +112,68 @@ long_image out all n headers more_headers contents more_contents h content hs cs
     let rest = flat_map image_text (images_in more_headers more_contents) in
     let parts : flat_map image_text (images_in headers contents) ≡ first ++ rest =
     ap (λ (l : List Header). flat_map image_text (images_in l contents)) hs
-    ∙ ap (λ (l : List Content). flat_map image_text (images_in (h ∷ more_headers) l)) cs
+    ∙ ap (λ (l : List Holding). flat_map image_text (images_in (h ∷ more_headers) l)) cs
     ∙ flat_map-cons image_text (image_in (fields h) content) (images_in more_headers more_contents) in
     omega (arith, long, ap length whole, length-append out (flat_map image_text (images_in headers contents)), ap length parts, length-append first rest)
 
-pub more_ready : (headers more_headers : List Header) (contents more_contents : List Content) (h : Header) (content : Content) → headers ≡ h ∷ more_headers → contents ≡ content ∷ more_contents
+pub more_ready : (headers more_headers : List Header) (contents more_contents : List Holding) (h : Header) (content : Holding) → headers ≡ h ∷ more_headers → contents ≡ content ∷ more_contents
     → AreReady headers contents → IsReady (fields h) content × AreReady more_headers more_contents
 more_ready headers more_headers contents more_contents h content hs cs ready =
-    subst (λ (l : List Content). AreReady (h ∷ more_headers) l) cs (subst (λ (l : List Header). AreReady l contents) hs ready)
+    subst (λ (l : List Holding). AreReady (h ∷ more_headers) l) cs (subst (λ (l : List Header). AreReady l contents) hs ready)
 
 -- behind the last nothing is left
-pub none_left : (out all : List ℕ) (headers : List Header) (contents : List Content) → length headers ≡ 0 → out ++ file_text (images_in headers contents) ≡ all → out ≡ all
+pub none_left : (out all : List ℕ) (headers : List Header) (contents : List Holding) (k : ℕ) → length headers ≤ k → out ++ file_text (images_in (drop k headers) contents) ≡ all → out ≡ all
 unfolding file_text
-none_left out all [] contents none whole = sym (append-nil out) ∙ whole
-none_left out all (h ∷ headers) contents none whole = absurd (omega (arith, none))
+none_left out all headers contents k none whole =
+    sym (append-nil out)
+    ∙ ap (λ (l : List Header). out ++ flat_map image_text (images_in l contents)) (sym (all_dropped headers k none))
+    ∙ whole
+  where
+    all_dropped : (l : List Header) (k : ℕ) → length l ≤ k → drop k l ≡ []
+    all_dropped [] zero le = refl
+    all_dropped [] (suc k) le = refl
+    all_dropped (h ∷ l) zero le = absurd (omega (arith, le))
+    all_dropped (h ∷ l) (suc k) le = all_dropped l k (omega (arith, le))
+
+-- what stands from a place on
+pub drop_next : {A : Type 0} (l : List A) (i : ℕ) (x : A) → slice_get l i ≡ Some x → drop i l ≡ x ∷ drop (i + 1) l
+drop_next {A = A} [] i x is = absurd cc
+drop_next {A = A} (y ∷ l) zero x is = let same : y ≡ x = cc in ap (λ (z : A). z ∷ l) same
+drop_next {A = A} (y ∷ l) (suc i) x is = let more : suc i + 1 ≡ suc (i + 1) = omega arith in rw more (drop_next l i x is)
+
+-- there are as many contents as headers
+pub ready_size : (headers : List Header) (contents : List Holding) (k : ℕ) → AreReady (drop k headers) (drop k contents) → k < length headers → length contents ≤ k → ⊥
+ready_size [] contents k ready less le = omega (arith, less)
+ready_size (h ∷ headers) [] zero ready less le = ready
+ready_size (h ∷ headers) [] (suc k) ready less le = not_empty (drop k headers) ready (omega (arith, length-drop k headers, less))
+  where
+    not_empty : (l : List Header) → AreReady l [] → 0 < length l → ⊥
+    not_empty [] ready some = omega (arith, some)
+    not_empty (h ∷ l) ready some = ready
+ready_size (h ∷ headers) (c ∷ contents) zero ready less le = omega (arith, le)
+ready_size (h ∷ headers) (c ∷ contents) (suc k) ready less le = ready_size headers contents k ready (omega (arith, less)) (omega (arith, le))
 
 pub on_ok : {A E : Type 0} → (r : Result A E) (P Q : Type 0) → (P → Q) → OnOk r P → OnOk r Q
 on_ok (Ok x) P Q f p = f p
 on_ok (Err e) P Q f p = p
+
+-- ---- a header is written into the room before a body
+
+pub behind_size : (old body mid at whole : List ℕ) (n : ℕ) → at ≡ old → whole ≡ mid → mid ≡ old ++ replicate n 0 ++ body → length whole ≡ length at + n + length body
+behind_size old body mid at whole n at_is whole_is is =
+    omega (arith, ap length at_is, ap length whole_is, ap length is, length-append (old ++ replicate n 0) body, length-append old (replicate n 0), length-replicate {A = ℕ} n 0)
+
+pub closed : (old front body mid at new : List ℕ) (n : ℕ) → at ≡ old → mid ≡ old ++ replicate n 0 ++ body → length front ≡ n
+    → new ≡ take (length at) mid ++ front ++ drop (length at + length front) mid ++ 0 ∷ [] → new ≡ old ++ (front ++ (body ++ 0 ∷ []))
+closed old front body mid at new n at_is is size new_is =
+    let here : length at ≡ length old = ap length at_is in
+    let first : take (length at) mid ≡ old =
+    ap (take (length at)) (is ∙ append_assoc old (replicate n 0) body) ∙ ap (λ (k : ℕ). take k (old ++ (replicate n 0 ++ body))) here ∙ take-append_seam old (replicate n 0 ++ body) in
+    let there : length at + length front ≡ length (old ++ replicate n 0) = omega (arith, here, size, length-append old (replicate n 0), length-replicate {A = ℕ} n 0) in
+    let last : drop (length at + length front) mid ≡ body =
+    ap (drop (length at + length front)) is ∙ ap (λ (k : ℕ). drop k (old ++ replicate n 0 ++ body)) there ∙ drop-append_seam (old ++ replicate n 0) body in
+    new_is
+    ∙ ap (λ (l : List ℕ). l ++ front ++ drop (length at + length front) mid ++ 0 ∷ []) first
+    ∙ ap (λ (l : List ℕ). old ++ front ++ l ++ 0 ∷ []) last
+    ∙ append_assoc (old ++ front) body (0 ∷ [])
+    ∙ append_assoc old front (body ++ 0 ∷ [])

@@ -1,6 +1,7 @@
 pub mod Coming
 pub mod FitLaws
 pub mod ContentLaws
+pub mod ContentBytes
 pub mod ImageLaws
 pub mod PutLaws
 pub mod FileLaws

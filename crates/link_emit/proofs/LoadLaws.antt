@@ -23,7 +23,7 @@ use Rattle.link_meaning.specs.ReadMembers.{IsRead, members_read, HasHeader, read
 use Rattle.link_meaning.specs.LinkWrittenLaws.{few_loads, short_loads, short_length, load_header_fits, in_at}
 use Rattle.link_meaning.specs.ValueFits.{all_sound}
 use Rattle.omf_cells.specs.WrittenParts.{seen}
-use Rattle.link_emit.specs.declared.content.Content.{Content}
+use Rattle.link_emit.specs.Holding.{Holding}
 use Rattle.link_emit.specs.Contents.{HoldsCells}
 use Rattle.link_emit.specs.Images.{image_in, images_in, IsReady, AreReady, HoldLinked, AreLoads}
 
@@ -32,10 +32,10 @@ use Rattle.link_emit.specs.Images.{image_in, images_in, IsReady, AreReady, HoldL
 abbrev image : Fields → List ℕ → List Patch → Image
 image f content patches = record { fields = f; content = content; patches = patches }
 
-image_same : (f : Fields) (cells : List Cell) (content : Content) → HoldsCells cells content → image_in f content ≡ image_of f cells
+image_same : (f : Fields) (cells : List Cell) (content : Holding) → HoldsCells cells content → image_in f content ≡ image_of f cells
 unfolding image_of
 image_same f cells content holds =
-    ap (λ (l : List ℕ). image f l (map seen content.patches.items)) holds.bytes' ∙ ap (image f (map byte_under cells)) holds.patches'
+    ap (λ (l : List ℕ). image f l (map seen content.patches)) holds.bytes' ∙ ap (image f (map byte_under cells)) holds.patches'
 
 heads : (f g : Fields) (fs gs : List Fields) → f ∷ fs ≡ g ∷ gs → f ≡ g
 heads f g fs gs e = cc
@@ -43,7 +43,7 @@ heads f g fs gs e = cc
 tails : (f g : Fields) (fs gs : List Fields) → f ∷ fs ≡ g ∷ gs → fs ≡ gs
 tails f g fs gs e = cc
 
-images_same : (list : List Member) (table : List Told) (number : ℕ) (xs : List (List ℕ)) (headers : List Header) (contents : List Content)
+images_same : (list : List Member) (table : List Told) (number : ℕ) (xs : List (List ℕ)) (headers : List Header) (contents : List Holding)
     → map fields headers ≡ headers_from list number xs → HoldLinked list table xs contents → images_in headers contents ≡ load_images list table number xs
 images_same list table number [] [] contents same hold = refl
 images_same list table number [] (h ∷ headers) contents same hold = absurd cc
@@ -69,7 +69,7 @@ pub headers_size : (list : List Member) (headers : List Header) → map fields h
 unfolding load_headers
 headers_size list headers same = sym (length-map headers (λ (h : Header). fields h)) ∙ ap length same ∙ length-headers_from list 1 (load_names list)
 
-pub written_same : (list : List Member) (table : List Told) (headers : List Header) (contents : List Content) (ts : List Target) → AreLoads list table headers contents → ts ≡ targets list table
+pub written_same : (list : List Member) (table : List Told) (headers : List Header) (contents : List Holding) (ts : List Target) → AreLoads list table headers contents → ts ≡ targets list table
     → file_text (images_in headers contents ++ table_images (length headers + 1) ts) ≡ written_file list table
 unfolding written_file images load_headers
 written_same list table headers contents ts are same =
@@ -79,22 +79,22 @@ written_same list table headers contents ts are same =
 
 -- ---- they can be written
 
-is_ready : (f : Fields) (cells : List Cell) (content : Content) → HasHeader f → f.version ≡ 2 → f.length ≡ length cells → f.length ≤ 0xFFFFFF → AreRuns cells → HoldsCells cells content → IsReady f content
+is_ready : (f : Fields) (cells : List Cell) (content : Holding) → HasHeader f → f.version ≡ 2 → f.length ≡ length cells → f.length ≤ 0xFFFFFF → AreRuns cells → HoldsCells cells content → IsReady f content
 is_ready f cells content header version size small runs holds = record {
   writable = record { version = version; banks = header.bank; listed = header.listed; spaced = omega arith };
   length' = size ∙ sym (length-map cells byte_under) ∙ ap length (sym holds.bytes');
   small = small;
-  patches' = subst (λ (l : List ℕ). AreWritten (length l) 0 (map seen content.patches.items)) (sym holds.bytes')
+  patches' = subst (λ (l : List ℕ). AreWritten (length l) 0 (map seen content.patches)) (sym holds.bytes')
       (subst (λ (l : List Patch). AreWritten (length (map byte_under cells)) 0 l) (sym holds.patches') (runs_written cells runs));
 }
 
-load_ready : (list : List Member) (table : List Told) (number : ℕ) (x : List ℕ) (content : Content) → HasHeader (load_fields list number x) → is_too_long (load_fields list number x) ≡ false
+load_ready : (list : List Member) (table : List Told) (number : ℕ) (x : List ℕ) (content : Holding) → HasHeader (load_fields list number x) → is_too_long (load_fields list number x) ≡ false
     → HasCells (load_length x list) (linked list table x) → HoldsCells (linked list table x) content → IsReady (load_fields list number x) content
 unfolding load_fields
 load_ready list table number x content header long has holds =
     is_ready (load_fields list number x) (linked list table x) content header refl (sym has.size') (short_length (load_fields list number x) long) has.runs holds
 
-all_ready : (list : List Member) (table : List Told) (number : ℕ) (xs : List (List ℕ)) (headers : List Header) (contents : List Content) → ((m : Member) → IsIn list m → HasHeader m.segment.fields)
+all_ready : (list : List Member) (table : List Told) (number : ℕ) (xs : List (List ℕ)) (headers : List Header) (contents : List Holding) → ((m : Member) → IsIn list m → HasHeader m.segment.fields)
     → MembersHave list table → ((x : List ℕ) → IsIn xs x → IsIn (load_names list) x) → AllByRecursion (λ f. is_too_long f ≡ false) (headers_from list number xs)
     → map fields headers ≡ headers_from list number xs → HoldLinked list table xs contents → AreReady headers contents
 all_ready list table number [] [] [] each have among short same hold = tt
@@ -110,7 +110,7 @@ all_ready list table number (x ∷ xs) (h ∷ headers) (content ∷ contents) ea
     )
 
 -- where each record gives its cells
-pub loads_ready : (files : List (List ℕ)) (list : List Member) (table : List Told) (headers : List Header) (contents : List Content) → AllByRecursion IsBytes files → IsResolved files list → IsTable list table
+pub loads_ready : (files : List (List ℕ)) (list : List Member) (table : List Told) (headers : List Header) (contents : List Holding) → AllByRecursion IsBytes files → IsResolved files list → IsTable list table
     → AreMade list table start (items list) → AreLoads list table headers contents → AreReady headers contents
 unfolding load_headers
 loads_ready files list table headers contents bytes resolved is_table are loads =

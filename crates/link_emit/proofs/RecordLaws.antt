@@ -13,7 +13,7 @@ use Rattle.link_meaning.specs.Layout.{load_headers, load_of, offset_of}
 use Rattle.link_meaning.specs.LinkValues.{Told, value_in}
 use Rattle.link_meaning.specs.LinkedCells.{State, Item, bank_of, table_number, frame_of, cells_before, made_by}
 use Rattle.link_meaning.specs.LinkWritten.{byte_under}
-use Rattle.link_emit.specs.declared.content.Content.{Content}
+use Rattle.link_emit.specs.Holding.{Holding, last_of}
 use Rattle.link_emit.specs.declared.fit.Formula as kept
 use Rattle.link_emit.specs.declared.fit.Load.{Load}
 use Rattle.link_emit.specs.declared.record.Site.{Site}
@@ -24,12 +24,7 @@ use Rattle.link_emit.specs.Records.{IsSite, StandsAt, PutsMade}
 
 -- ---- the last byte
 
-abbrev last_of : List ℕ → Option ℕ
-last_of [] = None
-last_of (b ∷ []) = Some b
-last_of (b ∷ d ∷ bytes) = last_of (d ∷ bytes)
-
-abbrev is_22 : Option ℕ → Bool
+abbrev pub is_22 : Option ℕ → Bool
 is_22 None = false
 is_22 (Some b) = eqb b 0x22
 
@@ -52,18 +47,6 @@ pub jsl_there : (front cells : List Cell) (bytes : List ℕ) → bytes ≡ map b
 jsl_there front [] bytes is more = absurd (omega (arith, more, ap length is, length-map (front ++ []) byte_under, length-append front []))
 jsl_there front (c ∷ cells) bytes is more =
     last_under (c ∷ cells) ∙ sym (ap is_22 (ap last_of (is ∙ map-append byte_under front (c ∷ cells)) ∙ last-append (map byte_under front) (byte_under c) (map byte_under cells)))
-
-pub jsl_nowhere : (front cells : List Cell) (bytes : List ℕ) → bytes ≡ map byte_under (front ++ cells) → length bytes ≤ length front → ends_in_jsl cells ≡ false
-jsl_nowhere front [] bytes is few = refl
-jsl_nowhere front (c ∷ cells) bytes is few = absurd (omega (arith, few, ap length is, length-map (front ++ c ∷ cells) byte_under, length-append front (c ∷ cells)))
-
--- it is where it is read
-pub last_read : (bytes : List ℕ) → 0 < length bytes → is_22 (last_of bytes) ≡ eqb (get_or bytes (length bytes - 1) 0) 0x22
-last_read [] some = absurd (omega (arith, some))
-last_read (b ∷ []) some = refl
-last_read (b ∷ d ∷ bytes) some =
-    let place : suc (length (d ∷ bytes) - 1) ≡ length (b ∷ d ∷ bytes) - 1 = omega arith in
-    last_read (d ∷ bytes) (omega arith) ∙ ap (λ (k : ℕ). eqb (get_or (b ∷ d ∷ bytes) k 0) 0x22) place
 
 -- ---- expressions
 
@@ -100,7 +83,7 @@ frame_is list i site location is here =
     ∙ ap (λ (n : ℕ). frame (load_of list i.member) (bank_of (load_headers list) (load_of list i.member)) (n + location)) is.offset'
     ∙ ap (λ (n : ℕ). frame (load_of list i.member) (bank_of (load_headers list) (load_of list i.member)) (offset_of list i.place i.member + n)) (sym here)
 
-module _ (list : List Member) (told : List Told) (state : State) (i : Item) (site : Site) (loads : List Load) (targets new : List Target) (front : List Cell) (location : ℕ) (before after : Content)
+module _ (list : List Member) (told : List Told) (state : State) (i : Item) (site : Site) (loads : List Load) (targets new : List Target) (front : List Cell) (location : ℕ) (before after : Holding)
     (stands : StandsAt list told state i site loads targets front location before) (formula : kept.Formula) (expr : List ℕ) (v : Value) (value : value_in list told i.place i.member i.here.location expr ≡ Ok v) where
   here : frame site.own site.bank_size (site.offset + location) ≡ frame_of list i
   here = frame_is list i site location stands.site' stands.location'
@@ -131,7 +114,7 @@ module _ (list : List Member) (told : List Told) (state : State) (i : Item) (sit
   value_unfit cause is = formula_unfit list told state i formula.code formula.count formula.n expr v cause value (same_fit (Err cause) is)
 
 -- what a record without an expression puts
-pub plain_put : (list : List Member) (told : List Told) (state : State) (i : Item) (site : Site) (loads : List Load) (targets : List Target) (front : List Cell) (location : ℕ) (before after : Content) (r : Record)
+pub plain_put : (list : List Member) (told : List Told) (state : State) (i : Item) (site : Site) (loads : List Load) (targets : List Target) (front : List Cell) (location : ℕ) (before after : Holding) (r : Record)
     → StandsAt list told state i site loads targets front location before → made_by list told state i r ≡ Ok (plain_cells i.here.location r, state.targets)
     → ((cells : List Cell) → HoldsCells cells before → HoldsCells (cells ++ plain_cells location r) after) → PutsMade (made_by list told state i r) (front ++ cells_before state i) targets after
 plain_put list told state i site loads targets front location before after r stands is puts = record {
@@ -142,7 +125,7 @@ plain_put list told state i site loads targets front location before after r sta
 }
 
 -- and an equate
-pub equate_put : (list : List Member) (told : List Told) (state : State) (i : Item) (site : Site) (loads : List Load) (targets : List Target) (front : List Cell) (location : ℕ) (content : Content) (r : Record)
+pub equate_put : (list : List Member) (told : List Told) (state : State) (i : Item) (site : Site) (loads : List Load) (targets : List Target) (front : List Cell) (location : ℕ) (content : Holding) (r : Record)
     → StandsAt list told state i site loads targets front location content → made_by list told state i r ≡ Ok ([], state.targets) → PutsMade (made_by list told state i r) (front ++ cells_before state i) targets content
 equate_put list told state i site loads targets front location content r stands is = record {
   gives = ([], state.targets);

@@ -33,7 +33,7 @@ use Rattle.link_meaning.specs.EmitFaults.{HasValueFault}
 use Rattle.link_meaning.specs.EmitFaultLaws.{made_none, fine_failed}
 use Rattle.link_resolve.specs.Coming.{Coming}
 use Rattle.link_resolve.specs.Reading.{memory_fault}
-use Rattle.link_emit.specs.declared.content.Content.{Content}
+use Rattle.link_emit.specs.Holding.{Holding}
 use Rattle.link_emit.specs.declared.fit.Load.{Load}
 use Rattle.link_emit.specs.declared.record.Site.{Site}
 use Rattle.link_emit.specs.declared.seat.Seat.{Seat}
@@ -54,7 +54,7 @@ module _ (list : List Member) (told : List Told) (front : List Member) (m : Memb
   place = length front + 1
 
   -- before the first record the member has no cells
-  pub puts_none : (back : List Member) (seat : Seat) (s : Segment) (targets : List Target) (before : List Cell) (content : Content) → Begins list told front m back seat s targets before content → Puts list told front m [] targets before content
+  pub puts_none : (back : List Member) (seat : Seat) (s : Segment) (targets : List Target) (before : List Cell) (content : Holding) → Begins list told front m back seat s targets before content → Puts list told front m [] targets before content
   unfolding place
   puts_none back seat s targets before content b =
       let none : cells_there (state_of list told front) (length front + 1) ≡ [] = none_before list told front m (one_located (0, End) 0) in
@@ -66,7 +66,7 @@ module _ (list : List Member) (told : List Told) (front : List Member) (m : Memb
       }
 
   -- a record that gave its cells
-  pub puts_more : (done : List (ℕ × Record)) (found : ℕ × Record) (old new : List Target) (before : List Cell) (content after : Content) → Puts list told front m done old before content
+  pub puts_more : (done : List (ℕ × Record)) (found : ℕ × Record) (old new : List Target) (before : List Cell) (content after : Holding) → Puts list told front m done old before content
       → PutsMade (made list told (behind list told front m done) (item (length front + 1) m (one_located found (place_behind 0 done)))) (before ++ cells_there (behind list told front m done) (length front + 1)) new after
       → Puts list told front m (done ++ found ∷ []) new before after
   unfolding made
@@ -88,7 +88,7 @@ module _ (list : List Member) (told : List Told) (front : List Member) (m : Memb
       }
 
   -- a record that gave none
-  pub unmade : (s : Segment) (done back : List (ℕ × Record)) (found : ℕ × Record) (targets : List Target) (before : List Cell) (content : Content) (cause : LinkCause) → m.segment ≡ s → s.records ≡ done ++ found ∷ back
+  pub unmade : (s : Segment) (done back : List (ℕ × Record)) (found : ℕ × Record) (targets : List Target) (before : List Cell) (content : Holding) (cause : LinkCause) → m.segment ≡ s → s.records ≡ done ++ found ∷ back
       → Puts list told front m done targets before content
       → made list told (behind list told front m done) (item (length front + 1) m (one_located found (place_behind 0 done))) ≡ Err cause → Unmade list told front m cause found.0
   unfolding located
@@ -111,7 +111,7 @@ module _ (list : List Member) (told : List Told) (front : List Member) (m : Memb
       }
 
   -- where a record stands
-  pub stands_at : (back : List Member) (seat : Seat) (s : Segment) (first targets : List Target) (before : List Cell) (begin content : Content) (done : List (ℕ × Record)) (found : ℕ × Record) (loads : List Load) (site : Site) (location : ℕ)
+  pub stands_at : (back : List Member) (seat : Seat) (s : Segment) (first targets : List Target) (before : List Cell) (begin content : Holding) (done : List (ℕ × Record)) (found : ℕ × Record) (loads : List Load) (site : Site) (location : ℕ)
       → Begins list told front m back seat s first before begin → Puts list told front m done targets before content → loads ≡ map told_load (load_headers list)
       → site.table ≡ table_number list → site.own ≡ seat.load_segment → site.bank_size ≡ bank_of (load_headers list) seat.load_segment → site.offset ≡ seat.offset → location ≡ place_behind 0 done
       → StandsAt list told (behind list told front m done) (item (length front + 1) m (one_located found (place_behind 0 done))) site loads targets before location content
@@ -131,11 +131,11 @@ module _ (list : List Member) (told : List Told) (front : List Member) (m : Memb
 
 -- ---- sizes
 
-pub holds_size : (cells : List Cell) (content : Content) → HoldsCells cells content → length content.bytes.items ≡ length cells
+pub holds_size : (cells : List Cell) (content : Holding) → HoldsCells cells content → length content.bytes ≡ length cells
 holds_size cells content holds = ap length holds.bytes' ∙ length-map cells byte_under
 
 -- a record ends within its load segment
-pub within_load : (list : List Member) → IsOfFiles list → (told : List Told) (front : List Member) (m : Member) (back : List Member) (seat : Seat) (s : Segment) (first : List Target) (before : List Cell) (begin : Content) (done rest : List (ℕ × Record)) (found : ℕ × Record)
+pub within_load : (list : List Member) → IsOfFiles list → (told : List Told) (front : List Member) (m : Member) (back : List Member) (seat : Seat) (s : Segment) (first : List Target) (before : List Cell) (begin : Holding) (done rest : List (ℕ × Record)) (found : ℕ × Record)
     → Begins list told front m back seat s first before begin → s.records ≡ done ++ found ∷ rest → seat.offset + (place_behind 0 done + size_at (place_behind 0 done) found.1) ≤ 0xFFFFFF
 unfolding body_size
 within_load list of told front m back seat s first before begin done rest found b parts =
@@ -148,10 +148,10 @@ within_load list of told front m back seat s first before begin done rest found 
 
 -- ---- one member
 
-module _ (list : List Member) (of : IsOfFiles list) (told : List Told) (front : List Member) (m : Member) (back : List Member) (seat : Seat) (s : Segment) (targets : List Target) (cells : List Cell) (content : Content)
+module _ (list : List Member) (of : IsOfFiles list) (told : List Told) (front : List Member) (m : Member) (back : List Member) (seat : Seat) (s : Segment) (targets : List Target) (cells : List Cell) (content : Holding)
     (stands : StandsBehind list told front m back seat s targets cells content) where
   -- zeros up to the member's offset
-  pub begins_there : (after : Content) → HoldsCells (cells ++ zeros (seat.offset - length cells)) after → Begins list told front m back seat s targets (cells ++ zeros (seat.offset - length cells)) after
+  pub begins_there : (after : Holding) → HoldsCells (cells ++ zeros (seat.offset - length cells)) after → Begins list told front m back seat s targets (cells ++ zeros (seat.offset - length cells)) after
   begins_there after holds = record {
     parts = stands.parts;
     place = stands.place;
@@ -163,7 +163,7 @@ module _ (list : List Member) (of : IsOfFiles list) (told : List Told) (front : 
   }
 
   -- and RESSPC zeros behind its records
-  pub puts_member : (new : List Target) (mid after : Content) → Puts list told front m s.records new (cells ++ zeros (seat.offset - length cells)) mid
+  pub puts_member : (new : List Target) (mid after : Holding) → Puts list told front m s.records new (cells ++ zeros (seat.offset - length cells)) mid
       → ((l : List Cell) → HoldsCells l mid → HoldsCells (l ++ zeros s.fields.res_spc) after) → PutsMember list told front m new cells after
   unfolding located body_size
   puts_member new mid after p put =
@@ -200,8 +200,8 @@ module _ (list : List Member) (of : IsOfFiles list) (told : List Told) (front : 
       body = ap (λ (t : Segment). place_behind 0 t.records) (sym stands.segment)
 
 -- RESSPC zeros fit behind its records
-pub room_behind : (list : List Member) → IsOfFiles list → (told : List Told) (front : List Member) (m : Member) (back : List Member) (seat : Seat) (s : Segment) (first new : List Target) (before : List Cell) (begin mid : Content)
-    → Begins list told front m back seat s first before begin → Puts list told front m s.records new before mid → length mid.bytes.items + s.fields.res_spc ≤ 0xFFFFFF
+pub room_behind : (list : List Member) → IsOfFiles list → (told : List Told) (front : List Member) (m : Member) (back : List Member) (seat : Seat) (s : Segment) (first new : List Target) (before : List Cell) (begin mid : Holding)
+    → Begins list told front m back seat s first before begin → Puts list told front m s.records new before mid → length mid.bytes + s.fields.res_spc ≤ 0xFFFFFF
 unfolding body_size
 room_behind list of told front m back seat s first new before begin mid b p =
     let end = end_of list of front m back b.parts in

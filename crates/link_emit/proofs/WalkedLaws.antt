@@ -27,7 +27,7 @@ use Rattle.link_meaning.specs.EmitFaults.{HasValueFault}
 use Rattle.link_meaning.specs.EmitFaultLaws.{made_none, fine_failed}
 use Rattle.link_meaning.specs.PlaceFits.{in_parts, name_there}
 use Rattle.link_resolve.specs.Reading.{memory_fault}
-use Rattle.link_emit.specs.declared.content.Content.{Content}
+use Rattle.link_emit.specs.Holding.{Holding}
 use Rattle.link_emit.specs.declared.seat.Seat.{Seat}
 use Rattle.link_emit.specs.Contents.{HoldsCells}
 use Rattle.link_emit.specs.Images.{HoldLinked}
@@ -103,7 +103,7 @@ module _ (list : List Member) (told : List Told) (front : List Member) (m : Memb
       end-append end (o ∷ xs) = end-append (cond (in_load x o) (aligned_from (alignment_of o.segment.fields.align) end + o.segment.fields.length) end) xs
 
   -- another load segment stays
-  other_holds : (x : List ℕ) (content : Content) → in_load x m ≡ false → HoldsBehind list told front x content → HoldsBehind list told (front ++ m ∷ []) x content
+  other_holds : (x : List ℕ) (content : Holding) → in_load x m ≡ false → HoldsBehind list told front x content → HoldsBehind list told (front ++ m ∷ []) x content
   other_holds x content other holds =
       let same : linked_behind list told x (front ++ m ∷ []) ≡ linked_behind list told x front =
       member_behind list told x front m ∙ ap (λ (b : Bool). cond b (linked_behind list told x front ++ zeros (offset_of list (length front + 1) m - length (linked_behind list told x front)) ++ member_cells list told (length front + 1) m) (linked_behind list told x front)) other in
@@ -113,7 +113,7 @@ module _ (list : List Member) (told : List Told) (front : List Member) (m : Memb
       }
 
   -- the member's own one grows
-  own_holds : (x : List ℕ) (content : Content) → in_load x m ≡ true → length (linked_behind list told x front) ≡ end_from 0 x front
+  own_holds : (x : List ℕ) (content : Holding) → in_load x m ≡ true → length (linked_behind list told x front) ≡ end_from 0 x front
       → offset_of list (length front + 1) m ≡ aligned_from (alignment_of m.segment.fields.align) (end_from 0 x front) → length (member_cells list told (length front + 1) m) ≡ m.segment.fields.length
       → HoldsCells (linked_behind list told x front ++ zeros (offset_of list (length front + 1) m - length (linked_behind list told x front)) ++ member_cells list told (length front + 1) m) content
       → HoldsBehind list told (front ++ m ∷ []) x content
@@ -130,13 +130,13 @@ module _ (list : List Member) (told : List Told) (front : List Member) (m : Memb
         size = omega (arith, ap length same, length-append (cells ++ gap) (member_cells list told (length front + 1) m), length-append cells gap, length-zeros (offset_of list (length front + 1) m - length cells), its, end, size, offset, le);
       }
 
-  others_hold : (xs : List (List ℕ)) (contents : List Content) → AllByRecursion (λ (y : List ℕ). bytes_eq y its_name ≡ false) xs → HoldBehind list told front xs contents → HoldBehind list told (front ++ m ∷ []) xs contents
+  others_hold : (xs : List (List ℕ)) (contents : List Holding) → AllByRecursion (λ (y : List ℕ). bytes_eq y its_name ≡ false) xs → HoldBehind list told front xs contents → HoldBehind list told (front ++ m ∷ []) xs contents
   others_hold [] [] all hold = tt
   others_hold [] (content ∷ contents) all hold = absurd hold
   others_hold (x ∷ xs) [] all hold = absurd hold
   others_hold (x ∷ xs) (content ∷ contents) all hold = (other_holds x content (bytes_other x its_name all.0) hold.0, others_hold xs contents all.1 hold.1)
 
-  pub hold_more : (xs : List (List ℕ)) (contents : List Content) (content : Content) → Apart xs → HoldBehind list told front xs contents
+  pub hold_more : (xs : List (List ℕ)) (contents : List Holding) (content : Holding) → Apart xs → HoldBehind list told front xs contents
       → ((x : List ℕ) → bytes_eq x its_name ≡ true → length (linked_behind list told x front) ≡ end_from 0 x front → HoldsBehind list told (front ++ m ∷ []) x content)
       → HoldBehind list told (front ++ m ∷ []) xs (slice_set contents (number_in xs its_name - 1) content)
   hold_more [] [] content apart hold own = tt
@@ -168,7 +168,7 @@ module _ (list : List Member) (told : List Told) (front : List Member) (m : Memb
 
 -- ---- at the start and at the end
 
-pub hold_none : (list : List Member) (told : List Told) (xs : List (List ℕ)) (contents : List Content) → length contents ≡ length xs → AllByRecursion (HoldsCells []) contents → HoldBehind list told [] xs contents
+pub hold_none : (list : List Member) (told : List Told) (xs : List (List ℕ)) (contents : List Holding) → length contents ≡ length xs → AllByRecursion (HoldsCells []) contents → HoldBehind list told [] xs contents
 hold_none list told [] [] size all = tt
 hold_none list told [] (c ∷ contents) size all = absurd (omega (arith, size))
 hold_none list told (x ∷ xs) [] size all = absurd (omega (arith, size))
@@ -176,13 +176,13 @@ hold_none list told (x ∷ xs) (c ∷ contents) size all =
     let none = none_behind list told x in
     (record { cells' = subst (λ (l : List Cell). HoldsCells l c) (sym none) all.0; size = ap length none }, hold_none list told xs contents (omega (arith, size)) all.1)
 
-pub hold_all : (list : List Member) (told : List Told) (xs : List (List ℕ)) (contents : List Content) → HoldBehind list told list xs contents → HoldLinked list told xs contents
+pub hold_all : (list : List Member) (told : List Told) (xs : List (List ℕ)) (contents : List Holding) → HoldBehind list told list xs contents → HoldLinked list told xs contents
 hold_all list told [] [] hold = tt
 hold_all list told [] (c ∷ contents) hold = absurd hold
 hold_all list told (x ∷ xs) [] hold = absurd hold
 hold_all list told (x ∷ xs) (c ∷ contents) hold = (subst (λ (l : List Cell). HoldsCells l c) (all_behind list told x) hold.0.cells', hold_all list told xs contents hold.1)
 
-pub walked_none : (list : List Member) (told : List Told) (contents : List Content) → AreEmpty (length (load_names list)) contents → IsWalkedTo list told 0 [] contents
+pub walked_none : (list : List Member) (told : List Told) (contents : List Holding) → AreEmpty (length (load_names list)) contents → IsWalkedTo list told 0 [] contents
 unfolding state_of
 walked_none list told contents empty = record {
   front = [];
@@ -192,7 +192,7 @@ walked_none list told contents empty = record {
   walked = record { made' = tt; targets' = refl; holds = hold_none list told (load_names list) contents empty.0 empty.1 };
 }
 
-pub walked_all : (list : List Member) (told : List Told) (count : ℕ) (targets : List Target) (contents : List Content) → IsWalkedTo list told count targets contents → length list ≤ count → IsFilled list told targets contents
+pub walked_all : (list : List Member) (told : List Told) (count : ℕ) (targets : List Target) (contents : List Holding) → IsWalkedTo list told count targets contents → length list ≤ count → IsFilled list told targets contents
 unfolding items
 walked_all list told count targets contents w past =
     let none : w.back ≡ [] = empty w.back (omega (arith, ap length w.parts, length-append w.front w.back, w.count', past)) in
@@ -220,13 +220,13 @@ number_there (y ∷ ys) x (inr more) = elim (cases_Bool (bytes_eq y x)) [
   | inr other ↦ rw other (omega (arith, number_there ys x more))
 ]
 
-hold_at : (list : List Member) (told : List Told) (front : List Member) (xs : List (List ℕ)) (contents : List Content) (x : List ℕ) (content : Content) → HoldBehind list told front xs contents → IsIn xs x
+hold_at : (list : List Member) (told : List Told) (front : List Member) (xs : List (List ℕ)) (contents : List Holding) (x : List ℕ) (content : Holding) → HoldBehind list told front xs contents → IsIn xs x
     → slice_get contents (number_in xs x - 1) ≡ Some content → HoldsBehind list told front x content
 hold_at list told front [] contents x content hold is at = absurd is
 hold_at list told front (y ∷ ys) [] x content hold is at = absurd hold
 hold_at list told front (y ∷ ys) (c ∷ contents) x content hold is at = by_test (bytes_eq y x) refl at is (λ more there. hold_at list told front ys contents x content hold.1 more there)
   where
-    same : (a b : Content) → Some a ≡ Some b → a ≡ b
+    same : (a b : Holding) → Some a ≡ Some b → a ≡ b
     same a b e = cc
 
     pos : (ys : List (List ℕ)) → 1 ≤ number_in ys x
@@ -246,13 +246,13 @@ hold_at list told front (y ∷ ys) (c ∷ contents) x content hold is at = by_te
     by_test false e there (inl is) go = absurd (true_false (sym (bytes_refl x) ∙ ap (λ (z : List ℕ). bytes_eq z x) (sym is) ∙ e))
     by_test false e there (inr more) go = go more (ap (slice_get (c ∷ contents)) (sym (down (number_in ys x) (pos ys))) ∙ there)
 
-length-hold : (list : List Member) (told : List Told) (front : List Member) (xs : List (List ℕ)) (contents : List Content) → HoldBehind list told front xs contents → length contents ≡ length xs
+length-hold : (list : List Member) (told : List Told) (front : List Member) (xs : List (List ℕ)) (contents : List Holding) → HoldBehind list told front xs contents → length contents ≡ length xs
 length-hold list told front [] [] hold = refl
 length-hold list told front [] (c ∷ contents) hold = absurd hold
 length-hold list told front (x ∷ xs) [] hold = absurd hold
 length-hold list told front (x ∷ xs) (c ∷ contents) hold = ap suc (length-hold list told front xs contents hold.1)
 
-module _ (list : List Member) (told : List Told) (count : ℕ) (targets : List Target) (contents : List Content) (w : IsWalkedTo list told count targets contents) (m : Member) (back : List Member) (seat : Seat) (s : Segment)
+module _ (list : List Member) (told : List Told) (count : ℕ) (targets : List Target) (contents : List Holding) (w : IsWalkedTo list told count targets contents) (m : Member) (back : List Member) (seat : Seat) (s : Segment)
     (back_is : w.back ≡ m ∷ back) (seat_place : seat.place ≡ count + 1) (is : IsSeat list m seat) (segment : m.segment ≡ s) where
   parts : list ≡ w.front ++ m ∷ back
   parts = w.parts ∙ ap (λ (l : List Member). w.front ++ l) back_is
@@ -277,7 +277,7 @@ module _ (list : List Member) (told : List Told) (count : ℕ) (targets : List T
   seat_offset = let n : seat.place ≡ length w.front + 1 = omega (arith, seat_place, w.count') in is.offset' ∙ ap (λ (k : ℕ). offset_of list k m) n
 
   -- and holds what the members before it gave
-  pub stands_behind : (content : Content) → slice_get contents (seat.load_segment - 1) ≡ Some content
+  pub stands_behind : (content : Holding) → slice_get contents (seat.load_segment - 1) ≡ Some content
       → StandsBehind list told w.front m back seat s targets (linked_behind list told m.segment.fields.load_name w.front) content
   unfolding load_of
   stands_behind content at =
@@ -295,7 +295,7 @@ module _ (list : List Member) (told : List Told) (count : ℕ) (targets : List T
       }
 
   -- one member more was walked
-  pub walked_more : (new : List Target) (content : Content) → PutsMember list told w.front m new (linked_behind list told m.segment.fields.load_name w.front) content
+  pub walked_more : (new : List Target) (content : Holding) → PutsMember list told w.front m new (linked_behind list told m.segment.fields.load_name w.front) content
       → IsWalkedTo list told (count + 1) new (slice_set contents (seat.load_segment - 1) content)
   unfolding load_of load_names state_of
   walked_more new content p = record {
@@ -367,7 +367,7 @@ load_some list m = some (load_names list) m.segment.fields.load_name
     some [] x = omega arith
     some (y ∷ ys) x = by_name (bytes_eq y x) (number_in ys x)
 
-pub next_walked : (list : List Member) (told : List Told) (count : ℕ) (targets : List Target) (contents : List Content) (w : IsWalkedTo list told count targets contents) → count < length list
+pub next_walked : (list : List Member) (told : List Told) (count : ℕ) (targets : List Target) (contents : List Holding) (w : IsWalkedTo list told count targets contents) → count < length list
     → (m : Member) × (back : List Member) × (w.back ≡ m ∷ back) × (member_at list (count + 1) ≡ Some m)
 next_walked list told count targets contents w less =
     let n = some w.back (omega (arith, ap length w.parts, length-append w.front w.back, w.count', less)) in

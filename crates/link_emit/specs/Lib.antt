@@ -1,3 +1,4 @@
+pub mod Holding
 pub mod Fits
 pub mod Contents
 pub mod Images

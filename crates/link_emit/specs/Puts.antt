@@ -8,7 +8,7 @@ use Rattle.load_meaning.specs.Table.{entry_place, with_target}
 use Rattle.link_meaning.specs.declared.fault.LinkCause.{LinkCause}
 use Rattle.link_meaning.specs.Fitting as meaning
 use Rattle.link_meaning.specs.Fitting.{target_of, entry_of, fitted, fit_cells, targets_behind}
-use Rattle.link_emit.specs.declared.content.Content.{Content}
+use Rattle.link_emit.specs.Holding.{Holding}
 use Rattle.link_emit.specs.declared.fit.Formula.{Formula}
 use Rattle.link_emit.specs.Contents.{HoldsCells}
 use Rattle.link_emit.specs.Fits.{with_room}
@@ -24,13 +24,13 @@ abbrev pub LacksRoom : List Target → ℕ → ℕ → LinkCause → Type 0
 LacksRoom targets segment offset cause = with_room targets (meaning.Entry segment offset) ≡ Err cause
 
 -- a fit's bytes were put, where the table is the load segment with this number
-pub record PutsFit (number count : ℕ) (old new : List Target) (fit : meaning.Fit) (before after : Content) : Type 0 where
+pub record PutsFit (number count : ℕ) (old new : List Target) (fit : meaning.Fit) (before after : Holding) : Type 0 where
   pub room : with_room old fit ≡ Ok fit
   pub targets' : new ≡ targets_behind old fit
   pub cells' : (cells : List Cell) → HoldsCells cells before → HoldsCells (cells ++ fit_cells number count new fit) after
 
 -- those of what the value became in the record
-pub record PutsValue (headers : List Fields) (frame : meaning.Frame) (behind : List Cell) (formula : Formula) (value : Value) (number : ℕ) (old new : List Target) (before after : Content) : Type 0 where
+pub record PutsValue (headers : List Fields) (frame : meaning.Frame) (behind : List Cell) (formula : Formula) (value : Value) (number : ℕ) (old new : List Target) (before after : Holding) : Type 0 where
   pub fit : meaning.Fit
   pub fits : fitted headers frame old behind formula.code formula.count formula.n value ≡ Ok fit
   pub targets' : new ≡ targets_behind old fit

@@ -11,7 +11,7 @@ use Rattle.omf_format.specs.declared.value.Value.{Value}
 use Rattle.omf_format.specs.declared.value.ValueFault.{ValueFault}
 use Rattle.link_meaning.specs.LinkValues.{Told, value_in}
 use Rattle.link_meaning.specs.LinkedCells.{State, Item, Made, bank_of, table_number, cells_before}
-use Rattle.link_emit.specs.declared.content.Content.{Content}
+use Rattle.link_emit.specs.Holding.{Holding}
 use Rattle.link_emit.specs.declared.fit.Load.{Load}
 use Rattle.link_emit.specs.declared.record.Site.{Site}
 use Rattle.link_emit.specs.Contents.{HoldsCells}
@@ -66,7 +66,7 @@ pub record IsSite (list : List Member) (place : ℕ) (m : Member) (site : Site) 
 
 -- a record of the member at a site stands at this location, behind what the records before it left: their targets, and the cells of
 -- the load segment, of which so many are in front of the member
-pub record StandsAt (list : List Member) (told : List Told) (state : State) (i : Item) (site : Site) (loads : List Load) (targets : List Target) (front : List Cell) (location : ℕ) (content : Content) : Type 0 where
+pub record StandsAt (list : List Member) (told : List Told) (state : State) (i : Item) (site : Site) (loads : List Load) (targets : List Target) (front : List Cell) (location : ℕ) (content : Holding) : Type 0 where
   pub loads' : loads ≡ map told_load (load_headers list)
   pub site' : IsSite list i.place i.member site
   pub location' : i.here.location ≡ location
@@ -75,7 +75,7 @@ pub record StandsAt (list : List Member) (told : List Told) (state : State) (i :
   pub holds : HoldsCells (front ++ cells_before state i) content
 
 -- these cells stand behind the others, and these are the targets then
-pub record PutsMade (made : Result Made LinkCause) (before : List Cell) (targets : List Target) (content : Content) : Type 0 where
+pub record PutsMade (made : Result Made LinkCause) (before : List Cell) (targets : List Target) (content : Holding) : Type 0 where
   pub gives : Made
   pub is : made ≡ Ok gives
   pub targets' : targets ≡ gives.1

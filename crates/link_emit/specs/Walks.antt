@@ -24,7 +24,7 @@ use Rattle.link_meaning.specs.EmitFaults.{HasValueFault}
 use Rattle.link_meaning.specs.LinkFaults.{spot_in}
 use Rattle.link_resolve.specs.Coming.{Coming}
 use Rattle.link_resolve.specs.Reading.{memory_fault}
-use Rattle.link_emit.specs.declared.content.Content.{Content}
+use Rattle.link_emit.specs.Holding.{Holding}
 use Rattle.link_emit.specs.declared.seat.Seat.{Seat}
 use Rattle.link_emit.specs.Contents.{HoldsCells}
 use Rattle.link_emit.specs.Images.{HoldLinked}
@@ -47,7 +47,7 @@ pub record IsWhole (list : List Member) (slots : List Slot) (loads : List Load) 
 
 -- a member of the list stands there, which has this segment; before its first record the load segment holds these cells, up to the
 -- member's offset, and these are the targets
-pub record Begins (list : List Member) (told : List Told) (front : List Member) (m : Member) (back : List Member) (seat : Seat) (s : Segment) (targets : List Target) (before : List Cell) (content : Content) : Type 0 where
+pub record Begins (list : List Member) (told : List Told) (front : List Member) (m : Member) (back : List Member) (seat : Seat) (s : Segment) (targets : List Target) (before : List Cell) (content : Holding) : Type 0 where
   pub parts : list ≡ front ++ m ∷ back
   pub place : seat.place ≡ length front + 1
   pub is : IsSeat list m seat
@@ -57,7 +57,7 @@ pub record Begins (list : List Member) (told : List Told) (front : List Member) 
   pub holds : HoldsCells before content
 
 -- some member does
-pub record HasBegun (list : List Member) (told : List Told) (seat : Seat) (s : Segment) (targets : List Target) (content : Content) : Type 0 where
+pub record HasBegun (list : List Member) (told : List Told) (seat : Seat) (s : Segment) (targets : List Target) (content : Holding) : Type 0 where
   pub front : List Member
   pub m : Member
   pub back : List Member
@@ -73,7 +73,7 @@ abbrev pub behind : List Member → List Told → List Member → Member → Lis
 behind list told front m done = state_from list told (state_of list told front) (map (item (length front + 1) m) (located_from 0 done))
 
 -- these records, the first of the member, gave their cells
-pub record Puts (list : List Member) (told : List Told) (front : List Member) (m : Member) (done : List (ℕ × Record)) (targets : List Target) (before : List Cell) (content : Content) : Type 0 where
+pub record Puts (list : List Member) (told : List Told) (front : List Member) (m : Member) (done : List (ℕ × Record)) (targets : List Target) (before : List Cell) (content : Holding) : Type 0 where
   pub made' : AreMade list told (state_of list told front) (map (item (length front + 1) m) (located_from 0 done))
   pub targets' : targets ≡ (behind list told front m done).targets
   pub size : length (cells_there (behind list told front m done) (length front + 1)) ≡ place_behind 0 done
@@ -100,7 +100,7 @@ pub record Unmade (list : List Member) (told : List Told) (front : List Member) 
 
 -- a member of the list stands there, which has this segment; its load segment holds these cells, those of the members before it, and
 -- these are the targets
-pub record StandsBehind (list : List Member) (told : List Told) (front : List Member) (m : Member) (back : List Member) (seat : Seat) (s : Segment) (targets : List Target) (cells : List Cell) (content : Content) : Type 0 where
+pub record StandsBehind (list : List Member) (told : List Told) (front : List Member) (m : Member) (back : List Member) (seat : Seat) (s : Segment) (targets : List Target) (cells : List Cell) (content : Holding) : Type 0 where
   pub parts : list ≡ front ++ m ∷ back
   pub place : seat.place ≡ length front + 1
   pub is : IsSeat list m seat
@@ -111,7 +111,7 @@ pub record StandsBehind (list : List Member) (told : List Told) (front : List Me
   pub holds : HoldsCells cells content
 
 -- some member does
-pub record HasStood (list : List Member) (told : List Told) (seat : Seat) (s : Segment) (targets : List Target) (content : Content) : Type 0 where
+pub record HasStood (list : List Member) (told : List Told) (seat : Seat) (s : Segment) (targets : List Target) (content : Holding) : Type 0 where
   pub front : List Member
   pub m : Member
   pub back : List Member
@@ -119,7 +119,7 @@ pub record HasStood (list : List Member) (told : List Told) (seat : Seat) (s : S
   pub stands : StandsBehind list told front m back seat s targets cells content
 
 -- the member gave its cells
-pub record PutsMember (list : List Member) (told : List Told) (front : List Member) (m : Member) (targets : List Target) (cells : List Cell) (content : Content) : Type 0 where
+pub record PutsMember (list : List Member) (told : List Told) (front : List Member) (m : Member) (targets : List Target) (cells : List Cell) (content : Holding) : Type 0 where
   pub made' : AreMade list told (state_of list told front) (own_items (length front + 1) m)
   pub targets' : targets ≡ (state_of list told (front ++ m ∷ [])).targets
   pub holds : HoldsCells (cells ++ zeros (offset_of list (length front + 1) m - length cells) ++ member_cells list told (length front + 1) m) content
@@ -132,25 +132,25 @@ IsToldAt m cause at fault = (fault ≡ memory_fault) ⊎ ((cause ≡ causes.Memo
 -- ---- the members
 
 -- the content holds the cells of the load segment with this load name behind the first members
-pub record HoldsBehind (list : List Member) (told : List Told) (front : List Member) (load_name : List ℕ) (content : Content) : Type 0 where
+pub record HoldsBehind (list : List Member) (told : List Told) (front : List Member) (load_name : List ℕ) (content : Holding) : Type 0 where
   pub cells' : HoldsCells (linked_behind list told load_name front) content
   pub size : length (linked_behind list told load_name front) ≡ end_from 0 load_name front
 
 -- so each does
-abbrev pub HoldBehind : List Member → List Told → List Member → List (List ℕ) → List Content → Type 0
+abbrev pub HoldBehind : List Member → List Told → List Member → List (List ℕ) → List Holding → Type 0
 HoldBehind list told front [] [] = Unit {0}
 HoldBehind list told front [] (content ∷ contents) = ⊥
 HoldBehind list told front (x ∷ xs) [] = ⊥
 HoldBehind list told front (x ∷ xs) (content ∷ contents) = HoldsBehind list told front x content × HoldBehind list told front xs contents
 
 -- the records of the first members gave their cells
-pub record IsWalked (list : List Member) (told : List Told) (front : List Member) (targets : List Target) (contents : List Content) : Type 0 where
+pub record IsWalked (list : List Member) (told : List Told) (front : List Member) (targets : List Target) (contents : List Holding) : Type 0 where
   pub made' : AreMade list told start (items_from 1 front)
   pub targets' : targets ≡ (state_of list told front).targets
   pub holds : HoldBehind list told front (load_names list) contents
 
 -- so those of so many members did
-pub record IsWalkedTo (list : List Member) (told : List Told) (count : ℕ) (targets : List Target) (contents : List Content) : Type 0 where
+pub record IsWalkedTo (list : List Member) (told : List Told) (count : ℕ) (targets : List Target) (contents : List Holding) : Type 0 where
   pub front : List Member
   pub back : List Member
   pub parts : list ≡ front ++ back
@@ -162,11 +162,11 @@ abbrev pub IsValueRefused : List Member → List Told → LinkFault → Type 0
 IsValueRefused list told fault = (fault ≡ memory_fault) ⊎ IsFirst (HasValueFault list told) (items list) fault
 
 -- so many load segments without cells
-abbrev pub AreEmpty : ℕ → List Content → Type 0
+abbrev pub AreEmpty : ℕ → List Holding → Type 0
 AreEmpty count contents = (length contents ≡ count) × AllByRecursion (HoldsCells []) contents
 
 -- all records gave their cells, and each content holds the linked cells of its load segment
-pub record IsFilled (list : List Member) (told : List Told) (targets : List Target) (contents : List Content) : Type 0 where
+pub record IsFilled (list : List Member) (told : List Told) (targets : List Target) (contents : List Holding) : Type 0 where
   pub made' : AreMade list told start (items list)
   pub targets' : targets ≡ linked.targets list told
   pub holds : HoldLinked list told (load_names list) contents

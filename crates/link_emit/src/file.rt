@@ -21,7 +21,7 @@ use omf_header::{Header, Kind};
 use std::alloc::Global;
 
 /// The content of the jump table's segment.
-fn table_content(alloc: Global, table: &Table) -> Result<Content, ImageFault>
+fn table_content<'a>(alloc: Global, table: &Table) -> Result<Content<'a>, ImageFault>
     ensures ok { IfOk result (λ content. HoldsCells (map Byte (table_bytes (map file_entry table.now))) content) }
     ensures memory_alone { IfErr result (λ fault. fault ≡ ImageFault.Memory) }
 {
@@ -82,7 +82,7 @@ fn put_table(alloc: Global, out: &mut Vec<u8>, number: u16, table: &Table) -> Re
 pub fn file_of(
     alloc: Global,
     headers: &[Header],
-    contents: &[Content],
+    contents: &[Content<'_>],
     table: &Table,
 ) -> Result<Vec<u8>, ImageFault>
     requires ready { AreReady headers.now contents.now }
@@ -108,7 +108,7 @@ pub fn file_of(
 pub fn write_linked(
     alloc: Global,
     headers: &[Header],
-    contents: &[Content],
+    contents: &[Content<'_>],
     table: &Table,
 ) -> Result<Vec<u8>, ImageFault>
     requires ready { AreReady headers.now contents.now }

@@ -22,7 +22,7 @@ const RELEXPR: u8 = 0xEE;
 const LEXPR: u8 = 0xF3;
 
 /// What a value becomes in its record.
-#[derive(Clone, Copy, Debug, PartialEq, Eq)]
+#[derive(Clone, Copy)]
 pub enum Fit {
     /// The low bytes of a number.
     Number(u32),
@@ -40,7 +40,7 @@ pub enum Fit {
 }
 
 /// What fitting asks of a load segment.
-#[derive(Clone, Copy, Debug, PartialEq, Eq)]
+#[derive(Clone, Copy)]
 pub struct Load {
     pub dynamic: bool,
     pub length: u32,
@@ -48,7 +48,7 @@ pub struct Load {
 }
 
 /// Where an expression record stands.
-#[derive(Clone, Copy, Debug, PartialEq, Eq)]
+#[derive(Clone, Copy)]
 pub struct Frame {
     /// Its load segment's number, from 1.
     pub own: u16,
@@ -59,7 +59,7 @@ pub struct Frame {
 }
 
 /// What an expression record asks for: its code, how many bytes it gives, and RELEXPR's displacement.
-#[derive(Clone, Copy, Debug, PartialEq, Eq)]
+#[derive(Clone, Copy)]
 pub struct Formula {
     pub code: u8,
     pub count: u8,

@@ -1,14 +1,16 @@
 //! Load segments, as they are written one behind another.
 
-ghost use Rattle.std.specs.Prelude.{◌≡◌, ◌≤◌, ◌+◌, ◌<◌, ◌++◌, ◌∷◌, [], IfOk, IfErr, OnOk, IsErrOf, length};
+ghost use Rattle.std.specs.Prelude.{◌≡◌, ◌≤◌, ◌+◌, ◌<◌, ◌^◌, ◌++◌, ◌∷◌, [], IfOk, IfErr, OnOk, IsErrOf, MatchOption, Some, length, map, slice_get, take, drop, replicate};
 ghost use Rattle.omf_format.specs.Header.{IsWritable, header_bytes};
 ghost use Rattle.omf_header.specs.View.{fields};
+ghost use Rattle.load_meaning.specs.WrittenBody.{AreWritten, body_text, written_cells, zeros_behind};
 ghost use Rattle.load_meaning.specs.WrittenFile.{image_text, file_text};
+ghost use Rattle.omf_cells.specs.WrittenParts.{seen};
 ghost use Rattle.link_emit.specs.Images.{with_space, image_in, images_in, IsReady, AreReady};
 
-use crate::content::Content;
+use crate::content::{Content, Place};
 use omf_base::{Name, NameFault};
-use omf_cells::{Body, BodyFault, body_of};
+use omf_cells::{BodyFault, put_body, put_plain_body};
 use omf_header::{Header, WriteHeaderFault, write_header};
 use std::alloc::{AllocError, AllocFailed, Global};
 
@@ -85,17 +87,16 @@ fn spaced(alloc: Global, header: &Header, zeros: u32) -> Result<Header, ImageFau
     })
 }
 
-/// The bytes of a header before a body with END behind it; RESSPC is as the body has it.
-fn front_of(alloc: Global, header: &Header, body: &Body) -> Result<Vec<u8>, ImageFault>
-    requires { IsWritable (with_space (fields header.now) body.now.zeros) }
-    ensures ok { IfOk result (λ front. front.items ≡ header_bytes (with_space (fields header.now) body.now.zeros) (length body.now.bytes.items + 1)) }
-    ensures too_long { IsErrOf result ImageFault.TooLong → 0x1000000 < 0x37 + length header.now.name + (length body.now.bytes.items + 1) }
+/// The bytes of a header before a body of so many bytes with END behind it; RESSPC is as the body has it.
+fn front_of(alloc: Global, header: &Header, zeros: u32, size: usize) -> Result<Vec<u8>, ImageFault>
+    requires { IsWritable (with_space (fields header.now) zeros) }
+    ensures ok { IfOk result (λ front. front.items ≡ header_bytes (with_space (fields header.now) zeros) (size + 1)) }
+    ensures too_long { IsErrOf result ImageFault.TooLong → 0x1000000 < 0x37 + length header.now.name + (size + 1) }
 {
-    let size = body.bytes.as_slice().len();
     if size >= MOST_BYTES {
         return Err(ImageFault::TooLong);
     }
-    let written = spaced(alloc, header, body.zeros)?;
+    let written = spaced(alloc, header, zeros)?;
     match write_header(alloc, &written, size as u32 + 1) {
         Ok(front) => Ok(front),
         Err(WriteHeaderFault::TooLong) => Err(ImageFault::TooLong),
@@ -103,18 +104,86 @@ fn front_of(alloc: Global, header: &Header, body: &Body) -> Result<Vec<u8>, Imag
     }
 }
 
-/// Appends a header, a body and END.
-fn put_text(out: &mut Vec<u8>, front: &[u8], body: &[u8]) -> Result<(), ImageFault>
-    ensures ok { OnOk result (out.new.items ≡ out.old.items ++ (front.now ++ (body.now ++ 0 ∷ []))) }
-    ensures short { OnOk result (length out.new.items ≤ 0x1000000) }
-    ensures too_long { IsErrOf result ImageFault.TooLong → 0x1000000 < length out.old.items + (length front.now + (length body.now + 1)) }
+/// How many bytes a header has.
+fn head_size(header: &Header) -> usize
+    ensures value { result ≡ 0x37 + length header.now.name }
+    ensures few { result < 2 ^ 9 }
 {
-    let left = MOST_BYTES.saturating_sub(out.as_slice().len());
-    if front.len() + body.len() >= left {
+    0x37 + header.name.bytes().len()
+}
+
+/// Appends so many zeros.
+fn put_room(out: &mut Vec<u8>, room: usize) -> Result<(), ImageFault>
+    requires { length out.old.items + room < 2 ^ 33 }
+    ensures ok { OnOk result (out.new.items ≡ out.old.items ++ replicate room 0) }
+    ensures memory_alone { IfErr result (λ fault. fault ≡ ImageFault.Memory) }
+{
+    let end = out.as_slice().len() + room;
+    out.resize(end, 0)?;
+    Ok(())
+}
+
+/// Appends a body. The answer is how many zero bytes stand behind the body's data in memory.
+fn put_content(
+    alloc: Global,
+    out: &mut Vec<u8>,
+    own: u16,
+    content: &Content<'_>,
+) -> Result<u32, BodyFault>
+    requires small { length (content.now).bytes ≤ 0xFFFFFF }
+    requires patches { AreWritten (length (content.now).bytes) 0 (map seen (content.now).patches) }
+    ensures bytes { OnOk result (out.new.items ≡ out.old.items ++ body_text own (content.now).bytes (map seen (content.now).patches)) }
+    ensures zeros { IfOk result (λ zeros. zeros ≡ zeros_behind (written_cells (content.now).bytes (map seen (content.now).patches))) }
+{
+    match content.place() {
+        Place::Lent(pieces) => put_plain_body(out, pieces),
+        Place::Own(bytes) => put_body(alloc, out, own, bytes, content.patches()),
+    }
+}
+
+/// Appends room for a header, and a body behind it. The answer is how many zero bytes stand behind the body's data in memory.
+fn put_behind(
+    alloc: Global,
+    out: &mut Vec<u8>,
+    room: usize,
+    own: u16,
+    content: &Content<'_>,
+) -> Result<u32, ImageFault>
+    requires room { length out.old.items + room < 2 ^ 33 }
+    requires small { length (content.now).bytes ≤ 0xFFFFFF }
+    requires patches { AreWritten (length (content.now).bytes) 0 (map seen (content.now).patches) }
+    ensures bytes { OnOk result (out.new.items ≡ out.old.items ++ replicate room 0 ++ body_text own (content.now).bytes (map seen (content.now).patches)) }
+    ensures zeros { IfOk result (λ zeros. zeros ≡ zeros_behind (written_cells (content.now).bytes (map seen (content.now).patches))) }
+    ensures memory_alone { IfErr result (λ fault. fault ≡ ImageFault.Memory) }
+{
+    match put_room(out, room) {
+        Ok(()) => {}
+        Err(fault) => return Err(fault),
+    }
+    let zeros = put_content(alloc, out, own, content)?;
+    Ok(zeros)
+}
+
+/// Writes a header over the bytes from a place on.
+fn put_front(out: &mut [u8], start: usize, front: &[u8])
+    requires { start + length front.now ≤ length out.old }
+    ensures { out.new ≡ take start out.old ++ front.now ++ drop (start + length front.now) out.old }
+{
+    out[start..start + front.len()].copy_from_slice(front);
+}
+
+/// Writes a header into the room before a body, and END behind the body. It is too long where there would be more than
+/// 16,777,216 bytes.
+fn close(out: &mut Vec<u8>, start: usize, front: &[u8]) -> Result<(), ImageFault>
+    requires { start + length front.now ≤ length out.old.items }
+    ensures ok { OnOk result (out.new.items ≡ take start out.old.items ++ front.now ++ drop (start + length front.now) out.old.items ++ 0 ∷ []) }
+    ensures short { OnOk result (length out.new.items ≤ 0x1000000) }
+    ensures too_long { IsErrOf result ImageFault.TooLong → 0x1000000 < length out.old.items + 1 }
+{
+    if out.as_slice().len() >= MOST_BYTES {
         return Err(ImageFault::TooLong);
     }
-    out.extend_from_slice(front)?;
-    out.extend_from_slice(body)?;
+    put_front(out.as_mut_slice(), start, front);
     out.push(0)?;
     Ok(())
 }
@@ -130,7 +199,7 @@ pub fn put_image(
     alloc: Global,
     out: &mut Vec<u8>,
     header: &Header,
-    content: &Content,
+    content: &Content<'_>,
 ) -> Result<(), ImageFault>
     requires { IsReady (fields header.now) content.now }
     ensures ok { OnOk result (out.new.items ≡ out.old.items ++ image_text (image_in (fields header.now) content.now)) }
@@ -138,12 +207,35 @@ pub fn put_image(
     ensures too_long { IsErrOf result ImageFault.TooLong → 0x1000000 < length out.old.items + length (image_text (image_in (fields header.now) content.now)) }
 {
     know_size(header.load_name);
-    let body = body_of(alloc, header.seg_num, content.bytes(), content.patches())?;
-    let front = match front_of(alloc, header, &body) {
+    let start = out.as_slice().len();
+    if start > MOST_BYTES {
+        return Err(ImageFault::TooLong);
+    }
+    let room = head_size(header);
+    let zeros = match put_behind(alloc, out, room, header.seg_num, content) {
+        Ok(zeros) => zeros,
+        Err(fault) => return Err(fault),
+    };
+    let size = out.as_slice().len() - start - room;
+    let front = match front_of(alloc, header, zeros, size) {
         Ok(front) => front,
         Err(fault) => return Err(fault),
     };
-    put_text(out, front.as_slice(), body.bytes.as_slice())
+    close(out, start, front.as_slice())
+}
+
+/// The header at a place.
+fn header_at(headers: &[Header], place: usize) -> Option<&Header>
+    ensures { MatchOption result (length headers.now ≤ place) (λ header. slice_get headers.now place ≡ Some header.now) }
+{
+    headers.get(place)
+}
+
+/// The content at a place.
+fn content_at<'h, 'a>(contents: &'h [Content<'a>], place: usize) -> Option<&'h Content<'a>>
+    ensures { MatchOption result (length contents.now ≤ place) (λ content. slice_get contents.now place ≡ Some content.now) }
+{
+    contents.get(place)
 }
 
 /// Appends load segments, one behind another.
@@ -151,27 +243,27 @@ pub fn put_images(
     alloc: Global,
     out: &mut Vec<u8>,
     headers: &[Header],
-    contents: &[Content],
+    contents: &[Content<'_>],
 ) -> Result<(), ImageFault>
     requires { AreReady headers.now contents.now }
     ensures ok { OnOk result (out.new.items ≡ out.old.items ++ file_text (images_in headers.now contents.now)) }
     ensures short { OnOk result (length out.old.items ≤ 0x1000000 → length out.new.items ≤ 0x1000000) }
     ensures too_long { IsErrOf result ImageFault.TooLong → 0x1000000 < length out.old.items + length (file_text (images_in headers.now contents.now)) }
 {
-    let mut headers_left = headers;
-    let mut contents_left = contents;
-    'loads: while let Some((header, more_headers)) = headers_left.split_first() {
-        match contents_left.split_first() {
-            Some((content, more_contents)) => {
-                match put_image(alloc, out, header, content) {
-                    Ok(()) => {}
-                    Err(fault) => return Err(fault),
-                }
-                headers_left = more_headers;
-                contents_left = more_contents;
-            }
-            None => unreachable!(),
+    let count = headers.len();
+    let mut place = 0;
+    'loads: while place < count {
+        let Some(header) = header_at(headers, place) else {
+            unreachable!()
+        };
+        let Some(content) = content_at(contents, place) else {
+            unreachable!()
+        };
+        match put_image(alloc, out, header, content) {
+            Ok(()) => {}
+            Err(fault) => return Err(fault),
         }
+        place += 1;
     }
     Ok(())
 }

@@ -25,13 +25,17 @@ fn padding(step: u32, at: u32) -> u32
 }
 
 /// Puts what a record gives that stands at this place of its segment; an expression gives nothing here.
-pub fn put_plain(content: &mut Content, rec: &Rec, location: u32) -> Result<(), AllocError>
-    requires { length content.old.bytes.items + size_at location (view rec.now) < 2 ^ 32 }
+pub fn put_plain<'a>(
+    content: &mut Content<'a>,
+    rec: &Rec<'a>,
+    location: u32,
+) -> Result<(), AllocError>
+    requires { length (content.old).bytes + size_at location (view rec.now) < 2 ^ 32 }
     ensures { OnOk result ((cells : List Cell) → HoldsCells cells content.old → HoldsCells (cells ++ plain_cells location (view rec.now)) content.new) }
 {
     match rec {
-        Rec::Const { bytes } => content.put_bytes(bytes),
-        Rec::LongConst { bytes } => content.put_bytes(bytes),
+        Rec::Const { bytes } => content.lend_bytes(bytes),
+        Rec::LongConst { bytes } => content.lend_bytes(bytes),
         Rec::Align { n } => content.put_zeros(padding(*n, location) as usize),
         Rec::Org { n } => content.put_zeros(*n as usize),
         Rec::Space { n } => content.put_zeros(*n as usize),

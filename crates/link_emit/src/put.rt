@@ -35,7 +35,7 @@ fn front(bytes: &[u8], count: usize) -> &[u8]
 }
 
 /// The low bytes of a number.
-fn put_number(content: &mut Content, count: u8, n: u32) -> Result<(), LinkCause>
+fn put_number(content: &mut Content<'_>, count: u8, n: u32) -> Result<(), LinkCause>
     requires { IsTrue (is_count count) }
     ensures ok { OnOk result ((cells : List Cell) → HoldsCells cells content.old → HoldsCells (cells ++ map Byte (little_bytes count n)) content.new) }
     ensures memory_alone { IfErr result (λ cause. cause ≡ causes.Memory) }
@@ -63,14 +63,14 @@ fn entry(table: &mut Table, segment: u16, offset: u32) -> Result<u32, LinkCause>
 
 /// So many bytes of a place.
 fn put_place(
-    content: &mut Content,
+    content: &mut Content<'_>,
     count: u8,
     segment: u16,
     offset: u32,
     shift: i8,
 ) -> Result<(), LinkCause>
     requires counted { IsTrue (is_count count) }
-    requires small { length content.old.bytes.items + 4 < 2 ^ 32 }
+    requires small { length (content.old).bytes + 4 < 2 ^ 32 }
     ensures ok { OnOk result ((cells : List Cell) → HoldsCells cells content.old → HoldsCells (cells ++ parts count segment offset shift) content.new) }
     ensures memory_alone { IfErr result (λ cause. cause ≡ causes.Memory) }
 {
@@ -82,14 +82,14 @@ fn put_place(
 
 /// Puts what a value became; the jump table is the load segment with this number.
 fn put_fit(
-    content: &mut Content,
+    content: &mut Content<'_>,
     table: &mut Table,
     number: u16,
     count: u8,
     fit: Fit,
 ) -> Result<(), LinkCause>
     requires counted { IsTrue (is_count count) }
-    requires small { length content.old.bytes.items + 4 < 2 ^ 32 }
+    requires small { length (content.old).bytes + 4 < 2 ^ 32 }
     ensures ok { OnOk result (PutsFit number count table.old table.new (shown fit) content.old content.new) }
     ensures err { IfErr result (λ cause. (cause ≡ causes.Memory) ⊎ (with_room table.old (shown fit) ≡ Err cause)) }
 {
@@ -110,7 +110,7 @@ fn put_fit(
 /// Puts what the value of an expression record becomes that stands there, behind a byte $22 or not. The jump table is the load
 /// segment with this number.
 pub fn put_formula(
-    content: &mut Content,
+    content: &mut Content<'_>,
     table: &mut Table,
     number: u16,
     loads: &[Load],
@@ -119,7 +119,7 @@ pub fn put_formula(
     formula: Formula,
     value: Value,
 ) -> Result<(), LinkCause>
-    requires small { length content.old.bytes.items + 4 < 2 ^ 32 }
+    requires small { length (content.old).bytes + 4 < 2 ^ 32 }
     ensures ok { OnOk result ((headers : List Fields) (before : List Cell) → loads.now ≡ map told_load headers → ends_in_jsl before ≡ jsl
         → PutsValue headers (shown_frame frame) before formula value number table.old table.new content.old content.new) }
     ensures err { IfErr result (λ cause. (headers : List Fields) (before : List Cell) → loads.now ≡ map told_load headers → ends_in_jsl before ≡ jsl

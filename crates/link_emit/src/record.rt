@@ -23,7 +23,7 @@ use omf_format::{Value, ValueFault};
 use omf_records::Rec;
 
 /// Where the records of a member go.
-#[derive(Clone, Copy, Debug, PartialEq, Eq)]
+#[derive(Clone, Copy)]
 pub struct Site {
     /// The number of the load segment that is the jump table, behind all others.
     pub table: u16,
@@ -47,19 +47,21 @@ fn cause_of(fault: ValueFault) -> LinkCause
 }
 
 /// The last cell behind a member's start is the byte $22.
-fn ends_in_jsl(content: &Content, start: usize) -> bool
+fn ends_in_jsl(content: &Content<'_>, start: usize) -> bool
     ensures { (front cells : List Cell) → HoldsCells (front ++ cells) content.now → length front ≡ start → result ≡ ends_in_jsl cells }
 {
-    let bytes = content.bytes();
-    if bytes.len() <= start {
+    if content.len() <= start {
         return false;
     }
-    bytes[bytes.len() - 1] == 0x22
+    match content.last() {
+        Some(byte) => byte == 0x22,
+        None => false,
+    }
 }
 
 /// Puts what an expression record gives whose expression has this value.
 fn put_value(
-    content: &mut Content,
+    content: &mut Content<'_>,
     table: &mut Table,
     loads: &[Load],
     site: Site,
@@ -67,7 +69,7 @@ fn put_value(
     formula: Formula,
     value: Value,
 ) -> Result<(), LinkCause>
-    requires small { length content.old.bytes.items + 4 < 2 ^ 32 }
+    requires small { length (content.old).bytes + 4 < 2 ^ 32 }
     requires near { site.offset + location < 2 ^ 32 }
     ensures ok { OnOk result ((list : List Member) (told : List Told) (state : State) (i : Item) (front : List Cell) (expr : List ℕ)
         → StandsAt list told state i site loads.now table.old front location content.old → value_in list told i.place i.member i.here.location expr ≡ Ok value
@@ -89,17 +91,17 @@ fn put_value(
 
 /// Puts what a record gives that stands at this place of its member. If it has an expression, this is what the expression stands
 /// for.
-pub fn put_record(
-    content: &mut Content,
+pub fn put_record<'a>(
+    content: &mut Content<'a>,
     table: &mut Table,
     loads: &[Load],
     site: Site,
     location: u32,
-    rec: &Rec,
+    rec: &Rec<'a>,
     value: Result<Value, ValueFault>,
 ) -> Result<(), LinkCause>
     requires counted { IsCounted (view rec.now) }
-    requires small { length content.old.bytes.items + size_at location (view rec.now) + 4 < 2 ^ 32 }
+    requires small { length (content.old).bytes + size_at location (view rec.now) + 4 < 2 ^ 32 }
     requires near { site.offset + location < 2 ^ 32 }
     ensures ok { OnOk result ((list : List Member) (told : List Told) (state : State) (i : Item) (front : List Cell)
         → StandsAt list told state i site loads.now table.old front location content.old → IsWorth list told i (view rec.now) value

@@ -7,7 +7,7 @@ use link_resolve::Program;
 
 /// Where a member stands: its place in the linked list, from 1, and its load segment, from 1, with the offset there; and the
 /// LABLEN of its names.
-#[derive(Clone, Copy, Debug, PartialEq, Eq)]
+#[derive(Clone, Copy)]
 pub struct Seat {
     pub place: u32,
     pub lab_len: u8,

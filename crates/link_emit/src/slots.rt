@@ -10,7 +10,7 @@ ghost use Rattle.link_emit.specs.Slots.{AreOnce, AreSlots, rows_of, value_of};
 use omf_format::{Value, ValueFault};
 
 /// What is known of a definition's value.
-#[derive(Clone, Copy, Debug, PartialEq, Eq)]
+#[derive(Clone, Copy)]
 pub enum Slot {
     /// Nothing yet: an equate whose expression wasn't evaluated.
     Open,

@@ -85,11 +85,11 @@ ghost use Rattle.omf_format.specs.Header.{Fields};
 
 /// Puts what the records of a member give, behind what its load segment holds up to the member's offset. The fault is the first
 /// one's, with its displacement.
-fn put_records(
-    whole: &Whole,
+fn put_records<'a>(
+    whole: &Whole<'_, 'a>,
     seat: Seat,
-    segment: &SegmentView,
-    content: &mut Content,
+    segment: &SegmentView<'a>,
+    content: &mut Content<'a>,
     table: &mut Table,
 ) -> Result<(), (LinkCause, u32)>
     requires whole { IsWhole whole.now.program.now whole.now.slots.now whole.now.loads.now whole.now.table }
@@ -126,11 +126,11 @@ fn put_records(
 }
 
 /// Puts what a member gives: zeros up to its offset, what its records give, and RESSPC zeros.
-fn put_segment(
-    whole: &Whole,
+fn put_segment<'a>(
+    whole: &Whole<'_, 'a>,
     seat: Seat,
-    segment: &SegmentView,
-    content: &mut Content,
+    segment: &SegmentView<'a>,
+    content: &mut Content<'a>,
     table: &mut Table,
 ) -> Result<(), (LinkCause, u32)>
     requires whole { IsWhole whole.now.program.now whole.now.slots.now whole.now.loads.now whole.now.table }
@@ -211,10 +211,10 @@ ghost use Rattle.link_meaning.specs.LinkFaults.{spot_in};
 ghost use Rattle.link_resolve.specs.Linked.{member_at};
 
 /// Puts what the member at a place, from 1, gives, behind what the members before it gave.
-fn put_member(
-    whole: &Whole,
+fn put_member<'a>(
+    whole: &Whole<'_, 'a>,
     place: u32,
-    contents: &mut Vec<Content>,
+    contents: &mut Vec<Content<'a>>,
     table: &mut Table,
 ) -> Result<(), LinkFault>
     requires whole { IsWhole whole.now.program.now whole.now.slots.now whole.now.loads.now whole.now.table }
@@ -239,13 +239,23 @@ fn put_member(
     }
 }
 
-/// Load segments without cells, so many.
-fn no_contents(alloc: Global, count: usize) -> Result<Vec<Content>, AllocError>
-    ensures { IfOk result (λ contents. AreEmpty count contents.items) }
+/// How many cells a load segment has; 0 where there is none at the place.
+fn length_at(loads: &[Load], place: usize) -> usize {
+    match loads.get(place) {
+        Some(load) => load.length as usize,
+        None => 0,
+    }
+}
+
+/// As many contents without cells as there are load segments, each with room for its own.
+fn no_contents<'a>(alloc: Global, loads: &[Load]) -> Result<Vec<Content<'a>>, AllocError>
+    ensures { IfOk result (λ contents. AreEmpty (length loads.now) contents.items) }
 {
     let mut contents = Vec::new(alloc);
+    let count = loads.len();
     'loads: while contents.as_slice().len() < count {
-        contents.push(Content::new(alloc))?;
+        let place = contents.as_slice().len();
+        contents.push(Content::with_room(alloc, length_at(loads, place)))?;
     }
     Ok(contents)
 }
@@ -253,13 +263,17 @@ fn no_contents(alloc: Global, count: usize) -> Result<Vec<Content>, AllocError>
 ghost use Rattle.link_emit.specs.Walks.{AreEmpty, IsFilled};
 
 /// The load segments with the cells of all members, and the jump table; or the first fault of a record.
-pub fn fill(alloc: Global, whole: &Whole, table: &mut Table) -> Result<Vec<Content>, LinkFault>
+pub fn fill<'a>(
+    alloc: Global,
+    whole: &Whole<'_, 'a>,
+    table: &mut Table,
+) -> Result<Vec<Content<'a>>, LinkFault>
     requires whole { IsWhole whole.now.program.now whole.now.slots.now whole.now.loads.now whole.now.table }
     requires empty { table.old ≡ [] }
     ensures ok { IfOk result (λ contents. IsFilled whole.now.program.now (rows_of (entries whole.now.program.now) whole.now.slots.now) table.new contents.items) }
     ensures err { IfErr result (λ fault. IsValueRefused whole.now.program.now (rows_of (entries whole.now.program.now) whole.now.slots.now) fault) }
 {
-    let mut contents = match no_contents(alloc, whole.loads.len()) {
+    let mut contents = match no_contents(alloc, whole.loads) {
         Ok(contents) => contents,
         Err(_) => return Err(memory_fault()),
     };

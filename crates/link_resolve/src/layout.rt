@@ -26,7 +26,7 @@ const TOO_LONG: u32 = 0x0100_0000;
 const MOST_LOADS: usize = 254;
 
 /// A load segment so far.
-#[derive(Clone, Copy, Debug)]
+#[derive(Clone, Copy)]
 pub struct Load {
     /// Where the first member starts.
     first: Spot,
@@ -41,7 +41,7 @@ pub struct Load {
 }
 
 /// Where a member stands: its load segment, from 0, and its offset there.
-#[derive(Clone, Copy, Debug)]
+#[derive(Clone, Copy)]
 pub struct Place {
     pub load: usize,
     pub offset: u64,

@@ -10,14 +10,14 @@ use link_meaning::Step;
 use std::alloc::{AllocError, Global};
 
 /// A name that a step sees.
-#[derive(Clone, Copy, Debug, PartialEq, Eq, Hash)]
+#[derive(Clone, Copy, PartialEq, Eq, Hash)]
 pub struct Key<'a> {
     pub step: Step,
     pub name: &'a [u8],
 }
 
 /// A name that all see.
-#[derive(Clone, Copy, Debug, PartialEq, Eq, Hash)]
+#[derive(Clone, Copy, PartialEq, Eq, Hash)]
 struct Public<'a> {
     name: &'a [u8],
 }

@@ -14,7 +14,7 @@ use std::alloc::{AllocError, Global};
 use std::marker::Model;
 
 /// A use of a name.
-#[derive(Clone, Copy, Debug, PartialEq, Eq)]
+#[derive(Clone, Copy)]
 pub struct Use<'a> {
     pub want: Want,
     pub name: &'a [u8],
@@ -25,7 +25,7 @@ pub struct Use<'a> {
 }
 
 /// A use of a name, without what it wants.
-#[derive(Clone, Copy, Debug, PartialEq, Eq)]
+#[derive(Clone, Copy)]
 struct Site<'a> {
     name: &'a [u8],
     at: u32,

@@ -8,7 +8,7 @@ use indexmap::{IndexMap, IndexSet};
 use std::alloc::{AllocError, Global};
 
 /// A name of USING, and the place in the linked list of a member that has it.
-#[derive(Clone, Copy, Debug, PartialEq, Eq, Hash)]
+#[derive(Clone, Copy, PartialEq, Eq, Hash)]
 struct Used<'a> {
     place: u32,
     name: &'a [u8],

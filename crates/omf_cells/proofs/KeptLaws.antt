@@ -10,7 +10,7 @@ use Rattle.load_meaning.specs.StoredLaws.{written_apart, parts, get-parts, patch
 use Rattle.omf_cells.specs.WrittenParts.{end_behind, IsKept}
 
 -- no patch lies behind the end of the last
-end_low : (size low : ℕ) (patches : List Patch) → AreWritten size low patches → low ≤ end_behind low patches
+pub end_low : (size low : ℕ) (patches : List Patch) → AreWritten size low patches → low ≤ end_behind low patches
 end_low size low [] are = omega arith
 end_low size low (p ∷ patches) are = omega (arith, end_low size (p.location + p.count) patches are.2, are.1)
 

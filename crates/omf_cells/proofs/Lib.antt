@@ -21,4 +21,6 @@ pub mod LoadShows
 pub mod ReadSegments
 pub mod PageTexts
 pub mod KeptLaws
+pub mod DataLaws
+pub mod PlainLaws
 pub mod FormLists

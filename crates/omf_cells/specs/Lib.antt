@@ -5,3 +5,4 @@ pub mod Content
 pub mod Load
 pub mod Laws
 pub mod WrittenParts
+pub mod Joined

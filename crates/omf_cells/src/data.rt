@@ -20,6 +20,7 @@ pub fn data_u8(view: &SegmentView, pieces: &[Piece], at: u32) -> u8
 
 /// The bytes of the data from an offset on that stand together in the file, of which there may be none, and the place of their
 /// piece, which is tried first at the place `last`.
+#[inline(always)]
 pub fn data_from<'a>(
     view: &SegmentView<'a>,
     pieces: &[Piece<'a>],
@@ -33,6 +34,7 @@ pub fn data_from<'a>(
 }
 
 /// The byte of the data there, where these bytes are those from an offset on that stand together.
+#[inline(always)]
 pub fn near_u8(near: &[u8], place: u32, view: &SegmentView, pieces: &[Piece], at: u32) -> u8
     requires near { IsNear view.now at near.now }
     requires pieces { HasPieces view.now pieces.now }
@@ -47,6 +49,7 @@ pub fn near_u8(near: &[u8], place: u32, view: &SegmentView, pieces: &[Piece], at
 }
 
 /// The number in the two bytes of the data there, where these bytes are those that stand together.
+#[inline(always)]
 pub fn near_u16(near: &[u8], view: &SegmentView, pieces: &[Piece], at: u32) -> u16
     requires near { IsNear view.now at near.now }
     requires pieces { HasPieces view.now pieces.now }

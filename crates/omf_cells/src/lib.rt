@@ -16,6 +16,7 @@ mod pages;
 mod patches;
 mod pieces;
 mod places;
+mod plain_body;
 mod reading;
 mod records;
 mod shape;
@@ -35,8 +36,9 @@ pub use laws::{
 pub use load::{LoadFile, patch_into};
 pub use load_meaning::{LoadCause, LoadFault, Target};
 pub use places::{Places, PlacesFault};
+pub use plain_body::put_plain_body;
 pub use reading::read_load;
-pub use written::{Body, BodyFault, Patch, body_of};
+pub use written::{Body, BodyFault, Patch, body_of, put_body};
 pub use written_laws::{
     bodies_stand_for_their_cells, files_stand_for_their_cells, locations_are_read_again,
 };

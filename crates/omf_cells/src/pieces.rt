@@ -115,6 +115,7 @@ pub fn byte_at(pieces: &[Piece], at: u32) -> u8
     }
 }
 
+#[inline(always)]
 fn behind(bytes: &[u8], from: usize) -> &[u8]
     requires { from ≤ length bytes.now }
     ensures { result.now ≡ drop from bytes.now }
@@ -123,6 +124,7 @@ fn behind(bytes: &[u8], from: usize) -> &[u8]
 }
 
 /// The bytes from an offset on that the piece at a place has; none where it doesn't cover the offset, or isn't there.
+#[inline(always)]
 fn bytes_at<'a>(pieces: &[Piece<'a>], place: usize, at: u32) -> &'a [u8]
     ensures { (bytes : List ℕ) (n : ℕ) → ArePieces pieces.now bytes → n < length result.now → slice_get bytes (at + n) ≡ Some (slice_index result.now n) }
 {
@@ -143,6 +145,7 @@ fn bytes_at<'a>(pieces: &[Piece<'a>], place: usize, at: u32) -> &'a [u8]
 
 /// The bytes from an offset on that the piece has which covers it, none where no piece does; and the place at which it was
 /// found. It is tried at the place `last` before it is searched for.
+#[inline(always)]
 pub fn bytes_from<'a>(pieces: &[Piece<'a>], last: usize, at: u32) -> (&'a [u8], usize)
     requires { IsNonDecreasingBy start_of pieces.now }
     ensures { (bytes : List ℕ) (n : ℕ) → ArePieces pieces.now bytes → n < length result.0.now → slice_get bytes (at + n) ≡ Some (slice_index result.0.now n) }

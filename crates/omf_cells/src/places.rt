@@ -47,6 +47,7 @@ impl Places {
     }
 
     /// The address of the segment with a number, from 1, if it has one.
+    #[inline(always)]
     pub fn get(&self, segment: u32) -> Option<u32>
         ensures { result ≡ place_in self.now segment }
     {

@@ -35,6 +35,7 @@ pub struct Spot {
 }
 
 /// Whether a patch of so many bytes reaches past LENGTH.
+#[inline(always)]
 pub fn is_outside(location: u64, count: u8, length: u32) -> bool
     ensures { result ≡ nat_lt length (location + count) }
 {
@@ -43,6 +44,7 @@ pub fn is_outside(location: u64, count: u8, length: u32) -> bool
 }
 
 /// Adds the bytes that a patch gives.
+#[inline(always)]
 pub fn add_spot(spots: &mut Vec<Spot>, patch: &Relocation) -> Result<(), AllocError>
     requires file { patch.now.file ≡ 1 }
     requires short { patch.now.location < 2 ^ 32 }
@@ -60,6 +62,7 @@ pub fn add_spot(spots: &mut Vec<Spot>, patch: &Relocation) -> Result<(), AllocEr
 }
 
 /// How many bytes a spot has.
+#[inline(always)]
 pub fn size_of(spot: &Spot) -> u8
     ensures value { result ≡ spot.now.end - spot.now.first }
     ensures small { spot.now.first + result < 2 ^ 8 }
@@ -114,6 +117,7 @@ pub fn spot_at(spots: &[Spot], runs: &[usize], at: u32) -> Option<Spot>
 }
 
 /// The bits shifted left by so many, or right where the count is negative, with zeros coming in.
+#[inline(always)]
 fn shifted(bits: u32, count: i8) -> u32
     ensures { result ≡ shifted bits count }
 {
@@ -126,6 +130,7 @@ fn shifted(bits: u32, count: i8) -> u32
 }
 
 /// A number without so many of its bytes, lowest first.
+#[inline(always)]
 fn without_bytes(number: u32, count: u8) -> u32
     ensures { result ≡ number / 256 ^ count }
 {
@@ -139,6 +144,7 @@ fn without_bytes(number: u32, count: u8) -> u32
 }
 
 /// The number that a spot has bytes of, where the segments lie at these addresses.
+#[inline(always)]
 fn number_of(spot: &Spot, places: &Places) -> u32
     ensures { result ≡ shifted (wrapped (address_in places.now spot.now.segment + spot.now.offset)) spot.now.shift }
 {
@@ -150,6 +156,7 @@ fn number_of(spot: &Spot, places: &Places) -> u32
 }
 
 /// Writes the bytes that a spot stands for.
+#[inline(always)]
 fn write_spot(spot: &Spot, places: &Places, out: &mut [u8])
     requires { AreBelow (length out.old) (spread_spot spot.now) }
     ensures { out.new ≡ with_cells (address_in places.now) (spread_spot spot.now) out.old }

@@ -43,6 +43,7 @@ pub fn is_place(views: &Vec<SegmentView>, number: u16, offset: u32) -> bool
 }
 
 /// Whether the segment with a number, from 1, is there and isn't skipped.
+#[inline(always)]
 fn is_kept(views: &Vec<SegmentView>, number: u16) -> bool
     ensures { result ≡ is_kept (map shown views.now.items) number }
 {
@@ -56,6 +57,7 @@ fn is_kept(views: &Vec<SegmentView>, number: u16) -> bool
 }
 
 /// Whether the segment with a number, from 1, is there and dynamic.
+#[inline(always)]
 fn is_dynamic(views: &Vec<SegmentView>, number: u16) -> bool
     ensures { result ≡ is_dynamic_at (map shown views.now.items) number }
 {
@@ -70,6 +72,7 @@ fn is_dynamic(views: &Vec<SegmentView>, number: u16) -> bool
 
 /// Why a patch that lies in a segment of these may not stand there.
 #[tactic(auto, unfolding(load_meaning::specs::Loadable::patch_refusal))]
+#[inline(always)]
 fn refusal(patch: &Relocation, views: &Vec<SegmentView>, view: &SegmentView) -> Option<LoadCause>
     requires inside { patch.now.location + patch.now.count ≤ view.now.header.length }
     ensures value { result ≡ patch_refusal (map shown views.now.items) (shown view.now) (patch_of patch.now) }
@@ -87,6 +90,7 @@ fn refusal(patch: &Relocation, views: &Vec<SegmentView>, view: &SegmentView) -> 
 }
 
 /// Adds the bytes that a patch gives which lies in the segment, or tells why it may not stand there.
+#[inline(always)]
 fn take_inside(
     patch: &Relocation,
     views: &Vec<SegmentView>,
@@ -124,6 +128,7 @@ fn take(
 }
 
 /// How many bytes a patch of a SUPER of this type has.
+#[inline(always)]
 fn super_count(form: u8) -> u8
     ensures { result ≡ super_count form }
 {
@@ -132,6 +137,7 @@ fn super_count(form: u8) -> u8
 
 /// The segment that the patch of a SUPER at a location names: the segment itself, or in type 2 the byte of the data behind
 /// the offset, and else the one that the type names. The bytes near the location are those of the data from there on.
+#[inline(always)]
 fn super_segment(form: u8, at: u32, near: &[u8], view: &SegmentView, pieces: &[Piece]) -> u16
     requires near { IsNear view.now at near.now }
     requires pieces { HasPieces view.now pieces.now }
@@ -153,6 +159,7 @@ fn super_segment(form: u8, at: u32, near: &[u8], view: &SegmentView, pieces: &[P
 }
 
 /// The patch of a SUPER at a location. The bytes near it are those of the data from there on.
+#[inline(always)]
 fn super_patch(form: u8, at: u32, near: &[u8], view: &SegmentView, pieces: &[Piece]) -> Relocation
     requires near { IsNear view.now at near.now }
     requires pieces { HasPieces view.now pieces.now }
@@ -173,6 +180,7 @@ fn super_patch(form: u8, at: u32, near: &[u8], view: &SegmentView, pieces: &[Pie
 
 /// The same for the patch of a SUPER at a location. The data there is read only where the patch lies in the segment, and tried
 /// first in the piece at the place `last`, which becomes that of the piece.
+#[inline(always)]
 fn take_at(
     form: u8,
     location: u64,

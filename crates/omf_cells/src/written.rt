@@ -4,13 +4,13 @@ ghost use Rattle.std.specs.Prelude.{◌≡◌, ◌≤◌, ◌++◌, length, map,
 ghost use Rattle.std.specs.List.{flat_map};
 ghost use Rattle.omf_format.specs.Field.{written_layout};
 ghost use Rattle.omf_format.specs.Record.{spelling};
-ghost use Rattle.load_meaning.specs.WrittenBody.{AreWritten, zeros_behind, written_cells, of_form, lone, lone_record, super_records, supers_from, data_records, body_text};
+ghost use Rattle.load_meaning.specs.WrittenBody.{AreWritten, zeros_behind, written_cells, of_form, lone, lone_record, super_records, supers_from, body_text};
 ghost use Rattle.omf_cells.specs.WrittenParts.{seen, places};
 
 use crate::by_form::by_form;
 use crate::choice::{is_lone, lone_record};
 use crate::pages::pages;
-use crate::written_data::data_of;
+use crate::written_data::put_data;
 use omf_records::{PutFault, Rec, put_record};
 use std::alloc::{AllocError, AllocFailed, Global};
 
@@ -75,18 +75,6 @@ impl From<PutFault> for BodyFault {
     fn from(_: PutFault) -> BodyFault {
         BodyFault::Memory
     }
-}
-
-/// Appends the LCONST of the data, if there are any.
-fn put_data(out: &mut Vec<u8>, bytes: &[u8]) -> Result<(), BodyFault>
-    requires { length bytes.now ≤ 0xFFFFFF }
-    ensures { OnOk result (out.new.items ≡ out.old.items ++ flat_map (spelling written_layout) (data_records bytes.now)) }
-{
-    if bytes.is_empty() {
-        return Ok(());
-    }
-    put_record(out, &Rec::LongConst { bytes })?;
-    Ok(())
 }
 
 /// Appends the records of the patches that stand in no SUPER, in order.
@@ -154,13 +142,35 @@ fn put_supers(
     Ok(())
 }
 
-/// The body, without END, of the load segment with this number whose cells are the content with the patches over it. One
-/// LCONST holds the content up to the last cell that isn't a byte 0, with the low bytes of each patch's offset over it;
-/// behind it stand the patches, each in the shortest record that can hold it, and all those of one type of SUPER in one
-/// (GS/OS Reference, appendix F).
+/// Appends the body, without END, of the load segment with this number whose cells are the content with the patches over it,
+/// and tells how many zero bytes stand behind its data in memory: RESSPC. One LCONST holds the content up to the last cell that
+/// isn't a byte 0, with the low bytes of each patch's offset over it; behind it stand the patches, each in the shortest record
+/// that can hold it, and all those of one type of SUPER in one (GS/OS Reference, appendix F). Where memory runs out, part of it
+/// may be appended.
 ///
 /// `content` has at most $FFFFFF bytes. The patches rise, don't overlap and lie inside the content.
 #[tactic(auto, unfolding(load_meaning::specs::WrittenBody::body_text, load_meaning::specs::WrittenBody::body_records))]
+pub fn put_body(
+    alloc: Global,
+    out: &mut Vec<u8>,
+    own: u16,
+    content: &[u8],
+    patches: &[Patch],
+) -> Result<u32, BodyFault>
+    requires small { length content.now ≤ 0xFFFFFF }
+    requires patches { AreWritten (length content.now) 0 (map seen patches.now) }
+    ensures bytes { OnOk result (out.new.items ≡ out.old.items ++ body_text own content.now (map seen patches.now)) }
+    ensures zeros { IfOk result (λ zeros. zeros ≡ zeros_behind (written_cells content.now (map seen patches.now))) }
+{
+    let size = put_data(out, own, content, patches)?;
+    put_lone(out, own, patches, content.len())?;
+    put_supers(alloc, out, own, patches, content.len())?;
+    Ok((content.len() - size) as u32)
+}
+
+/// The body, without END, of the load segment with this number, as `put_body` appends it.
+///
+/// `content` has at most $FFFFFF bytes. The patches rise, don't overlap and lie inside the content.
 pub fn body_of(
     alloc: Global,
     own: u16,
@@ -172,13 +182,7 @@ pub fn body_of(
     ensures bytes { IfOk result (λ body. body.bytes.items ≡ body_text own content.now (map seen patches.now.items)) }
     ensures zeros { IfOk result (λ body. body.zeros ≡ zeros_behind (written_cells content.now (map seen patches.now.items))) }
 {
-    let data = data_of(alloc, own, content, patches)?;
     let mut bytes = Vec::new(alloc);
-    put_data(&mut bytes, &data)?;
-    put_lone(&mut bytes, own, patches, content.len())?;
-    put_supers(alloc, &mut bytes, own, patches, content.len())?;
-    Ok(Body {
-        bytes,
-        zeros: (content.len() - data.len()) as u32,
-    })
+    let zeros = put_body(alloc, &mut bytes, own, content, patches.as_slice())?;
+    Ok(Body { bytes, zeros })
 }

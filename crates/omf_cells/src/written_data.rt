@@ -1,13 +1,15 @@
 //! The data of a body.
 
-ghost use Rattle.std.specs.Prelude.{◌≡◌, ◌+◌, ◌-◌, ◌≤◌, ◌++◌, length, map, take, drop, IfOk, IsTrue};
-ghost use Rattle.omf_format.specs.Field.{is_count};
+ghost use Rattle.std.specs.Prelude.{◌≡◌, ◌+◌, ◌-◌, ◌≤◌, ◌++◌, length, map, take, drop, IfOk, OnOk, IsTrue};
+ghost use Rattle.std.specs.List.{flat_map};
+ghost use Rattle.omf_format.specs.Field.{is_count, written_layout};
+ghost use Rattle.omf_format.specs.Record.{LongConst, spelling};
 ghost use Rattle.omf_cells.specs.WrittenParts.{seen, end_behind, IsKept};
-ghost use Rattle.load_meaning.specs.WrittenBody.{AreWritten, stored, with_stored, written_data};
+ghost use Rattle.load_meaning.specs.WrittenBody.{AreWritten, stored, with_stored, written_data, data_records};
 
 use crate::choice::has_form;
 use crate::written::{BodyFault, Patch};
-use std::alloc::Global;
+use omf_records::{Rec, put_record};
 
 /// The low bytes of the offset, lowest first, and in a SUPER of type 2 the segment as the third.
 fn low_bytes(own: u16, patch: &Patch) -> [u8; 4]
@@ -22,7 +24,7 @@ fn low_bytes(own: u16, patch: &Patch) -> [u8; 4]
 }
 
 /// Writes bytes over those from a place on.
-fn put_over(content: &mut [u8], at: usize, bytes: &[u8])
+pub(crate) fn put_over(content: &mut [u8], at: usize, bytes: &[u8])
     requires { at + length bytes.now ≤ length content.old }
     ensures { content.new ≡ take at content.old ++ bytes.now ++ drop (at + length bytes.now) content.old }
 {
@@ -57,7 +59,7 @@ fn put_patches(content: &mut [u8], own: u16, patches: &[Patch]) -> usize
 }
 
 /// How many bytes there are up to a place, or up to the last one behind it that isn't 0.
-fn kept(content: &[u8], end: usize) -> usize
+pub(crate) fn kept(content: &[u8], end: usize) -> usize
     requires { end ≤ length content.now }
     ensures { IsKept content.now end result }
 {
@@ -71,20 +73,66 @@ fn kept(content: &[u8], end: usize) -> usize
     kept
 }
 
-/// The data: the content with what the patches store, without the zeros at the end.
-#[tactic(auto, unfolding(load_meaning::specs::WrittenBody::written_data))]
-pub fn data_of(
-    alloc: Global,
+/// Where the last patch ends.
+fn end_of(patches: &[Patch]) -> usize
+    ensures { result ≡ end_behind 0 (map seen patches.now) }
+{
+    let mut left = patches;
+    let mut end = 0;
+    'patches: while let Some((patch, rest)) = left.split_first() {
+        let last = *patch;
+        end = last.at as usize + usize::from(last.count);
+        left = rest;
+    }
+    end
+}
+
+/// How many bytes the data are: the content up to the end of the last patch, or up to the last byte behind it that isn't 0.
+fn data_size(content: &[u8], patches: &[Patch]) -> usize
+    requires { AreWritten (length content.now) 0 (map seen patches.now) }
+    ensures { IsKept content.now (end_behind 0 (map seen patches.now)) result }
+{
+    kept(content, end_of(patches))
+}
+
+/// Writes what stands in the data at each patch over the bytes from a place on.
+fn put_patches_from(out: &mut [u8], start: usize, own: u16, patches: &[Patch])
+    requires start { start ≤ length out.old }
+    requires patches { AreWritten (length out.old - start) 0 (map seen patches.now) }
+    ensures { out.new ≡ take start out.old ++ with_stored own (drop start out.old) (map seen patches.now) }
+{
+    let _end = put_patches(&mut out[start..], own, patches);
+}
+
+/// Appends the LCONST of these bytes, which are some, with what the patches store over them.
+fn put_stored(out: &mut Vec<u8>, own: u16, bytes: &[u8], patches: &[Patch]) -> Result<(), BodyFault>
+    requires small { length bytes.now ≤ 0xFFFFFF }
+    requires patches { AreWritten (length bytes.now) 0 (map seen patches.now) }
+    ensures { OnOk result (out.new.items ≡ out.old.items ++ spelling written_layout (LongConst (with_stored own bytes.now (map seen patches.now)))) }
+{
+    put_record(out, &Rec::LongConst { bytes })?;
+    let start = out.len() - bytes.len();
+    put_patches_from(out, start, own, patches);
+    Ok(())
+}
+
+/// Appends the LCONST of the data, if there are any, and tells how many bytes they are: the content with what the patches
+/// store, without the zeros at the end.
+pub fn put_data(
+    out: &mut Vec<u8>,
     own: u16,
     content: &[u8],
     patches: &[Patch],
-) -> Result<Vec<u8>, BodyFault>
-    requires { AreWritten (length content.now) 0 (map seen patches.now) }
-    ensures { IfOk result (λ bytes. bytes.items ≡ written_data own content.now (map seen patches.now)) }
+) -> Result<usize, BodyFault>
+    requires small { length content.now ≤ 0xFFFFFF }
+    requires patches { AreWritten (length content.now) 0 (map seen patches.now) }
+    ensures text { OnOk result (out.new.items ≡ out.old.items ++ flat_map (spelling written_layout) (data_records (written_data own content.now (map seen patches.now)))) }
+    ensures size { IfOk result (λ size. size ≡ length (written_data own content.now (map seen patches.now))) }
 {
-    let mut data = Vec::new(alloc);
-    data.extend_from_slice(content)?;
-    let end = put_patches(&mut data, own, patches);
-    data.truncate(kept(content, end));
-    Ok(data)
+    let size = data_size(content, patches);
+    if size == 0 {
+        return Ok(0);
+    }
+    put_stored(out, own, front(content, size), patches)?;
+    Ok(size)
 }

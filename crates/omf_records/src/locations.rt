@@ -44,6 +44,7 @@ impl<'a> Locations<'a> {
     }
 
     /// The next location, and None after the last.
+    #[inline(always)]
     pub fn next(&mut self) -> Option<u64>
         ensures answer { result ≡ first self.old }
         ensures after { self.new ≡ behind self.old }

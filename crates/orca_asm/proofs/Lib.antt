@@ -7,8 +7,10 @@ pub mod NamesListed
 pub mod Quoted
 pub mod Values
 pub mod Written
+pub mod Single
 pub mod Ends
 pub mod Instructed
+pub mod Modes
 pub mod ByFormulas
 pub mod Bodies
 pub mod Formulated
@@ -28,6 +30,7 @@ pub mod Elementing
 pub mod Stating
 pub mod Sizes
 pub mod Putting
+pub mod FewLaws
 pub mod MarkLaws
 pub mod StepLaws
 pub mod Assembling

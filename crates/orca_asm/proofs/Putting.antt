@@ -192,10 +192,6 @@ pub label_record : (label : List ℕ) (form size : ℕ) → IsLabelText label �
 label_record [] form size is some fits = absurd (some refl)
 label_record (byte ∷ label) form size is some fits = ((is.0, is.1), (omega arith, fits, omega arith))
 
-pub size_capped : (label : List ℕ) (form size cells : ℕ) → cells ≡ min size 0x1000000 → local_of label form cells ≡ local_of label form size
-size_capped [] form size cells is = refl
-size_capped (byte ∷ label) form size cells is = let same : min cells 0xFFFF ≡ min size 0xFFFF = omega (arith, is) in ap (λ (n : ℕ). Label false (byte ∷ label) n form 0 ∷ []) same
-
 pub both_grow : (old one two : Option (List ℕ)) (a b c : List Record) → Grows old one (records_text a) → Grows one two (records_text b) → a ≡ c → Grows old two (records_text (c ++ b))
 both_grow old one two a b c first second same text is =
     second (text ++ records_text a) (first text is)

@@ -1,5 +1,5 @@
 -- How many cells statements give.
-use Rattle.std.proofs.Common.{◌≡◌, ℕ, zero, suc, ◌+◌, ◌*◌, ◌^◌, ◌<◌, ◌≤◌, min, Bool, true, false, cond, leb, List, [], ◌∷◌, ◌++◌, length, map, refl, sym, ap, ◌∙◌, arith}
+use Rattle.std.proofs.Common.{◌≡◌, ℕ, zero, suc, ◌+◌, ◌*◌, ◌^◌, ◌<◌, ◌≤◌, min, Bool, true, false, cond, leb, List, [], ◌∷◌, ◌++◌, length, take, map, refl, sym, ap, ◌∙◌, arith}
 use Rattle.std.proofs.Math.Nat.{mul-le-mul_left}
 use Rattle.std.proofs.lemmas.Bool.{leb-true, leb-false}
 use Rattle.std.proofs.lemmas.List.{map-append, length-append}
@@ -9,7 +9,11 @@ use Rattle.omf_format.specs.Record.{Record, Const, LongConst}
 use Rattle.asm_meaning.specs.PieceLaws.{place_behind-append}
 use Rattle.asm_meaning.specs.Pieces as meaning
 use Rattle.asm_meaning.specs.Pieces.{constant_records, records_behind, copies, place_behind, length_at}
+use Rattle.std.specs.Global.{Vec}
+use Rattle.orca_asm.specs.declared.few.Few.{Few}
+use Rattle.orca_asm.specs.FewView.{few_bytes}
 use Rattle.orca_asm.specs.declared.given.Given.{Given}
+use Rattle.orca_asm.specs.declared.given.Given.TheVariants as given_names
 use Rattle.orca_asm.specs.declared.given.Part.{Part}
 use Rattle.orca_asm.specs.declared.piece.Piece.{Piece}
 use Rattle.orca_asm.specs.declared.piece.Piece.TheVariants.{Bytes, Formula, Strong}
@@ -86,8 +90,34 @@ length_is at parts =
     ap (λ (l : List meaning.Piece). place_behind at (records_behind [] l)) (pieces_are parts) ∙ place_pieces at [] (kept_pieces parts) in
     omega (arith, place, size_parts parts)
 
-pub cells_are : (at n : ℕ) (g : Given) (parts : List Part) → n ≡ min (parts_size parts) 0x1000000 → parts ≡ g.parts.items → n ≡ min (length_at at (given_records g)) 0x1000000
-cells_are at n g parts is same = is ∙ ap (λ (l : List Part). min (parts_size l) 0x1000000) same ∙ ap (λ (k : ℕ). min k 0x1000000) (sym (length_is at g.parts.items))
+-- parts
+pub cells_are : (at n : ℕ) (g : Given) (v : Vec Part) (parts : List Part) → g ≡ given_names.Parts v → parts ≡ v.items → n ≡ min (parts_size parts) 0x1000000 → n ≡ min (length_at at (given_records g)) 0x1000000
+cells_are at n g v parts g_is same is =
+    is ∙ ap (λ (l : List Part). min (parts_size l) 0x1000000) same ∙ ap (λ (k : ℕ). min k 0x1000000) (sym (length_is at v.items)) ∙ ap (λ (x : Given). min (length_at at (given_records x)) 0x1000000) (sym g_is)
+
+few_size : (count a b c d : ℕ) → count ≤ 4 → length (take count (a ∷ b ∷ c ∷ d ∷ [])) ≡ count
+few_size zero a b c d few = refl
+few_size (suc zero) a b c d few = refl
+few_size (suc (suc zero)) a b c d few = refl
+few_size (suc (suc (suc zero))) a b c d few = refl
+few_size (suc (suc (suc (suc zero)))) a b c d few = refl
+few_size (suc (suc (suc (suc (suc count))))) a b c d few = absurd (omega (arith, few))
+
+-- few bytes
+pub cells_few : (at n : ℕ) (g : Given) (few : Few) → g ≡ given_names.Bytes few → n ≡ few.count → n ≡ min (length_at at (given_records g)) 0x1000000
+unfolding length_at records_behind
+cells_few at n g few g_is is =
+    let place = place_constant at (few_bytes few) in
+    let size : length (few_bytes few) ≡ few.count = few_size few.count few.first few.second few.third few.fourth few.few in
+    let length_is : n ≡ min (length_at at (given_records (given_names.Bytes few))) 0x1000000 = omega (arith, place, size, few.few, is) in
+    length_is ∙ ap (λ (x : Given). min (length_at at (given_records x)) 0x1000000) (sym g_is)
+
+-- an opcode and its operand
+pub cells_operand : (at n opcode code count distance : ℕ) (g : Given) (expr : Vec ℕ) → g ≡ given_names.Operand opcode code count distance expr → count < 2 ^ 8 → n ≡ count + 1 → n ≡ min (length_at at (given_records g)) 0x1000000
+unfolding length_at place_behind records_behind
+cells_operand at n opcode code count distance g expr g_is small is =
+    let length_is : n ≡ min (length_at at (given_records (given_names.Operand opcode code count distance expr))) 0x1000000 = omega (arith, small, is) in
+    length_is ∙ ap (λ (x : Given). min (length_at at (given_records x)) 0x1000000) (sym g_is)
 
 -- ---- counting up to a limit
 

@@ -88,14 +88,14 @@ pub second_is_fine : (w : Widths) (line : SourceLine) (m : Mnemonic) (o : Operan
 second_is_fine w line m o is short r =
     subst IsSecond (sym r.written.second_is) (second_fine r.meaning.trees (read_trees w m (line_operand line) r.meaning short (good_for w line m o is short r)))
 
-pub by_instruction : (cs : Constants) (w : Widths) (line : SourceLine) (m : Mnemonic) (o : Operand) (a b : Answer (List Piece)) → line_mnemonic line ≡ Some m → length (line_operand line) ≤ 255
-    → IsRead (line_mnemonic line) (line_operand line) o → ((x : Meaning) → IsWritten o x → AreGoodTrees x.trees → a ≡ instruction cs w m x) → b ≡ a → IsByInstruction cs w m (line_operand line) b
-by_instruction cs w line m o a b is short r gives same =
+pub by_instruction : (cs : Constants) (w : Widths) (line : SourceLine) (m : Mnemonic) (o : Operand) (a : Answer (List Piece)) → line_mnemonic line ≡ Some m → length (line_operand line) ≤ 255
+    → IsRead (line_mnemonic line) (line_operand line) o → ((x : Meaning) → IsWritten o x → AreGoodTrees x.trees → a ≡ instruction cs w m x) → IsByInstruction cs w m (line_operand line) a
+by_instruction cs w line m o a is short r gives =
     let good = good_for w line m o is short r in
     record {
       operand = Ok r.meaning;
       is = Good r.meaning good refl;
-      gives = same ∙ gives r.meaning r.written (read_trees w m (line_operand line) r.meaning short good);
+      gives = gives r.meaning r.written (read_trees w m (line_operand line) r.meaning short good);
     }
 
 pub bad_operand : (cs : Constants) (w : Widths) (line : SourceLine) (m : Mnemonic) (fault : TextFault) → line_mnemonic line ≡ Some m → IsOperandFault line fault → fault.cause ≡ text_causes.BadOperand

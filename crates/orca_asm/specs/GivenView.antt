@@ -1,5 +1,5 @@
 -- What a statement gives, as it is kept.
-use Rattle.std.specs.Prelude.{List, map, Result, Ok, Err, ℕ}
+use Rattle.std.specs.Prelude.{List, [], ◌∷◌, map, Result, Ok, Err, ℕ}
 use Rattle.std.specs.Global.{Vec}
 use Rattle.std.specs.List.{flat_map}
 use Rattle.omf_format.specs.Record as record_
@@ -8,7 +8,9 @@ use Rattle.asm_meaning.specs.Answer.{Answer}
 use Rattle.asm_meaning.specs.Pieces as meaning
 use Rattle.asm_meaning.specs.Pieces.{copies, records_of}
 use Rattle.orca_asm.specs.declared.given.Given.{Given}
+use Rattle.orca_asm.specs.declared.given.Given.TheVariants.{Bytes, Operand, Parts}
 use Rattle.orca_asm.specs.declared.given.Part.{Part}
+use Rattle.orca_asm.specs.FewView.{few_bytes}
 use Rattle.orca_asm.specs.PieceView.{piece}
 
 -- the pieces of a part: its own, so often
@@ -18,8 +20,11 @@ part_pieces p = copies p.count (map piece p.pieces.items)
 abbrev pub all_pieces : List Part → List meaning.Piece
 all_pieces parts = flat_map part_pieces parts
 
+-- the pieces of what a statement gives
 abbrev pub given_pieces : Given → List meaning.Piece
-given_pieces g = all_pieces g.parts.items
+given_pieces (Bytes few) = meaning.Bytes (few_bytes few) ∷ []
+given_pieces (Operand opcode code count n expr) = meaning.Bytes (opcode ∷ []) ∷ meaning.Whole (record_.Formula code count n expr.items) ∷ []
+given_pieces (Parts parts) = all_pieces parts.items
 
 abbrev pub given_records : Given → List record_.Record
 given_records g = records_of (given_pieces g)

@@ -4,6 +4,7 @@ pub mod Tables
 pub mod NamesView
 pub mod AmountView
 pub mod PieceView
+pub mod FewView
 pub mod Chosen
 pub mod OperandView
 pub mod TextView

@@ -1,12 +1,12 @@
 //! What a formula amounts to: a number, or the expression that is written (ORCA/M reference manual, "Expressions").
 
-ghost use Rattle.std.specs.Prelude.{◌≡◌, ◌≤◌, ◌<◌, ◌^◌, ◌++◌, ◌∷◌, ◌&&◌, [], List, ℕ, length, map, true, false, Some, None, Ok, Err, IfOk, OnOk, IsTrue};
+ghost use Rattle.std.specs.Prelude.{◌≡◌, ◌≤◌, ◌<◌, ◌^◌, ◌++◌, ◌∷◌, ◌&&◌, [], List, ℕ, length, map, true, false, Some, None, Ok, Err, IfOk, IfSome, OnOk, IsTrue};
 ghost use Rattle.std.specs.List.{list_all};
 ghost use Rattle.omf_format.specs.Expression.{AreTerms, IsTerm, term_text, terms_text, Tree, Spells};
 ghost use Rattle.omf_format.specs.Value.{value};
 ghost use Rattle.omf_expr.specs.View.{view};
 ghost use Rattle.asm_meaning.specs.Constant.{amount};
-ghost use Rattle.orca_asm.specs.AmountView.{with_terms, IsFormulaOf, amount_view, kept_answer, less_location, written_term, written_terms, all_written, is_number_term, are_numbers, worth_of_value, nowhere, worth_view};
+ghost use Rattle.orca_asm.specs.AmountView.{with_terms, IsFormulaOf, kept_view, amount_view, kept_answer, less_location, written_term, written_terms, all_written, is_number_term, are_numbers, worth_of_value, nowhere, worth_view};
 ghost use Rattle.orca_asm.specs.NamesView.{constants};
 ghost use Rattle.orca_text.specs.View.{term};
 
@@ -17,7 +17,7 @@ use orca_text::FormulaTerm;
 use std::alloc::{AllocError, Global};
 
 /// What a formula is worth.
-#[derive(Clone, Copy, PartialEq, Eq, Debug)]
+#[derive(Clone, Copy)]
 pub(crate) enum Worth {
     /// A number.
     Number(u32),
@@ -54,6 +54,7 @@ impl Env for Nowhere {
 }
 
 /// A term of an expression, with the value of a known constant in place of its name.
+#[inline(always)]
 fn with_value<'a>(known: Known<'_>, of: &'a FormulaTerm) -> Term<'a>
     ensures value { view result ≡ written_term (constants known.entry) (term of.now) }
     ensures fine { IsTerm 0 (term of.now) → IsTerm 0 (view result) }
@@ -75,6 +76,7 @@ fn with_value<'a>(known: Known<'_>, of: &'a FormulaTerm) -> Term<'a>
 }
 
 /// Whether a term is a number or an operator.
+#[inline(always)]
 fn is_number_term(of: Term<'_>) -> bool
     ensures { result ≡ is_number_term (view of.entry) }
 {
@@ -99,6 +101,7 @@ fn put(out: &mut Vec<u8>, of: Term<'_>) -> Result<(), AllocError>
 }
 
 /// Appends a term; in place of the location counter that counter less a number, unless that is 0.
+#[inline(always)]
 fn put_placed(out: &mut Vec<u8>, back: u8, of: Term<'_>) -> Result<(), AllocError>
     requires { IsTerm 0 (view of) }
     ensures { OnOk result (out.new.items ≡ out.old.items ++ terms_text 0 (written_terms back (view of.entry))) }
@@ -158,6 +161,7 @@ fn value_of(bytes: &[u8]) -> Worth
 }
 
 /// What a value is worth.
+#[inline(always)]
 fn number_of(of: Result<Value, ValueFault>) -> Worth
     ensures { worth_view result ≡ worth_of_value of }
 {
@@ -171,7 +175,7 @@ fn number_of(of: Result<Value, ValueFault>) -> Worth
 }
 
 /// What a formula amounts to.
-#[derive(Debug, Drop)]
+#[derive(Drop)]
 pub(crate) enum Amount {
     /// A number.
     Known(u32),
@@ -190,6 +194,30 @@ fn value_behind(out: &mut Vec<u8>) -> Result<Worth, AllocError>
     Ok(worth)
 }
 
+/// What a formula of one term amounts to, unless the term is an operator.
+#[tactic(auto, using(crate::proofs::Single::number_alone, crate::proofs::Single::open_alone))]
+#[inline(always)]
+fn amount_of_one(
+    alloc: Global,
+    known: Known<'_>,
+    back: u8,
+    only: &FormulaTerm,
+) -> Result<Option<Amount>, AllocError>
+    requires { IsTerm 0 (term only.now) }
+    ensures { IfOk result (λ found. IfSome found (λ a. (tree : Tree) → IsFormulaOf (term only.now ∷ []) tree → Ok (kept_view a) ≡ kept_answer back (amount (constants known.entry) tree))) }
+{
+    let of = with_value(known, only);
+    if let Term::Constant(n) = of {
+        return Ok(Some(Amount::Known(n)));
+    }
+    if is_number_term(of) {
+        return Ok(None);
+    }
+    let mut out = Vec::new(alloc);
+    put_placed(&mut out, back, of)?;
+    Ok(Some(Amount::Written(out)))
+}
+
 /// What a formula amounts to where these constants are known. In an instruction the location counter is written less a
 /// number, and elsewhere as it is (0).
 pub(crate) fn amount_of(
@@ -201,6 +229,11 @@ pub(crate) fn amount_of(
     requires { AreTerms 0 (map term terms.now) }
     ensures { IfOk result (λ answer. (tree : Tree) → IsFormulaOf (map term terms.now) tree → amount_view answer ≡ kept_answer back (amount (constants known.entry) tree)) }
 {
+    if let [only] = terms {
+        if let Some(amount) = amount_of_one(alloc, known, back, only)? {
+            return Ok(Ok(amount));
+        }
+    }
     let mut out = Vec::new(alloc);
     let all = put_terms(&mut out, known, back, terms)?;
     if !all {

@@ -12,7 +12,7 @@ use omf_records::Rec;
 use std::alloc::{AllocError, Global};
 
 /// The bytes of records, and how many cells they give.
-#[derive(Debug, Drop)]
+#[derive(Drop)]
 pub(crate) struct Body {
     pub(crate) text: Text,
     pub(crate) cells: u64,

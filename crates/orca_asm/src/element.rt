@@ -9,7 +9,7 @@ use asm_meaning::AsmCause;
 use std::alloc::{AllocError, Global};
 
 /// The type of an element.
-#[derive(Clone, Copy, PartialEq, Eq, Debug)]
+#[derive(Clone, Copy)]
 pub(crate) enum ElementKind {
     /// I and A: numbers of so many bytes.
     Number(u8),

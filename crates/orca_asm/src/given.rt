@@ -1,8 +1,8 @@
 //! What a statement gives: its cells, and the bytes of its records (GS/OS Reference, appendix F, "Segment body").
 
-ghost use Rattle.std.specs.Prelude.{◌≡◌, ◌≤◌, ◌<◌, ◌^◌, ◌*◌, ◌+◌, ◌++◌, ◌∷◌, [], List, ℕ, length, map, min, Ok, Err, OnOk};
+ghost use Rattle.std.specs.Prelude.{◌≡◌, ◌≤◌, ◌<◌, ◌^◌, ◌*◌, ◌+◌, ◌++◌, ◌∷◌, [], List, ℕ, length, map, min, Ok, Err, IfOk, OnOk};
 ghost use Rattle.asm_meaning.specs.Answer.{both};
-ghost use Rattle.asm_meaning.specs.Pieces.{length_at, constant_records};
+ghost use Rattle.asm_meaning.specs.Pieces.{length_at, constant_records, records_of};
 ghost use Rattle.asm_meaning.specs.Pieces as meaning;
 ghost use Rattle.asm_meaning.specs.Object.{records_text};
 ghost use Rattle.asm_meaning.specs.PieceLaws.{IsPlain, IsPlainPiece, ArePlainPieces};
@@ -16,6 +16,7 @@ ghost use Rattle.orca_asm.specs.TextView.{limited, kept_text};
 ghost use Rattle.orca_asm.specs.OperandView.{name_answer};
 
 use crate::causes::earlier;
+use crate::few::Few;
 use crate::piece::Piece;
 use crate::text::{MAX_FILE, Text};
 use asm_meaning::AsmCause;
@@ -24,22 +25,34 @@ use omf_records::Rec;
 use std::alloc::{AllocError, Global};
 
 /// Pieces, which stand so often.
-#[derive(Debug, Drop)]
+#[derive(Drop)]
 pub(crate) struct Part {
     pub(crate) count: u32,
     pub(crate) pieces: Vec<Piece>,
 }
 
-/// What a statement gives: its parts one behind another.
-#[derive(Debug, Drop)]
-pub(crate) struct Given {
-    pub(crate) parts: Vec<Part>,
+/// What a statement gives.
+#[derive(Drop)]
+pub(crate) enum Given {
+    /// Few constant bytes.
+    Bytes(Few),
+    /// An opcode, and the record of its operand: its code, its count of bytes, its distance, and the expression's bytes.
+    Operand {
+        opcode: u8,
+        code: u8,
+        count: u8,
+        n: u32,
+        expr: Vec<u8>,
+    },
+    /// Parts one behind another.
+    Parts(Vec<Part>),
 }
 
 /// More cells than a segment may have.
 const MOST_CELLS: u32 = 0x0100_0000;
 
 /// How many cells a piece gives, as far as 16,777,216.
+#[inline(always)]
 fn piece_cells(of: &Piece) -> u32
     ensures { result ≡ min (piece_size of.now) 0x1000000 }
 {
@@ -57,6 +70,7 @@ fn piece_cells(of: &Piece) -> u32
 }
 
 /// A number, as far as 16,777,216.
+#[inline(always)]
 fn capped(n: u32) -> u32
     ensures { result ≡ min n 0x1000000 }
 {
@@ -64,6 +78,7 @@ fn capped(n: u32) -> u32
 }
 
 /// How many cells pieces give, as far as 16,777,216.
+#[inline(always)]
 fn pieces_cells(pieces: &[Piece]) -> u32
     ensures { result ≡ min (pieces_size pieces.now) 0x1000000 }
 {
@@ -77,6 +92,7 @@ fn pieces_cells(pieces: &[Piece]) -> u32
 }
 
 /// How many cells a part gives, as far as 16,777,216.
+#[inline(always)]
 fn part_cells(part: &Part) -> u32
     ensures { result ≡ min (part.now.count * pieces_size part.now.pieces.items) 0x1000000 }
 {
@@ -89,6 +105,7 @@ fn part_cells(part: &Part) -> u32
 }
 
 /// How many cells parts give, as far as 16,777,216.
+#[inline(always)]
 fn parts_cells(parts: &[Part]) -> u32
     ensures { result ≡ min (parts_size parts.now) 0x1000000 }
 {
@@ -119,6 +136,7 @@ fn put_constant(out: &mut Text, bytes: &[u8]) -> Result<(), AllocError>
 }
 
 /// Appends the record of the constant bytes that wait for one, if there are any.
+#[inline(always)]
 fn flush(out: &mut Text, pending: &mut Vec<u8>) -> Result<(), AllocError>
     ensures text { OnOk result ((text : List ℕ) → kept_text out.old ≡ limited text → kept_text out.new ≡ limited (text ++ records_text (constant_records pending.old.items))) }
     ensures none { OnOk result (pending.new.items ≡ []) }
@@ -132,6 +150,7 @@ fn flush(out: &mut Text, pending: &mut Vec<u8>) -> Result<(), AllocError>
 }
 
 /// Appends an expression record.
+#[inline(always)]
 fn put_formula(
     out: &mut Text,
     pending: &mut Vec<u8>,
@@ -164,6 +183,7 @@ fn put_strong(out: &mut Text, pending: &mut Vec<u8>, name: &[u8]) -> Result<(), 
 }
 
 /// Appends a piece. Constant bytes wait for those behind them.
+#[inline(always)]
 fn put_piece(out: &mut Text, pending: &mut Vec<u8>, of: &Piece) -> Result<(), AllocError>
     requires { IsPlainPiece (piece of.now) }
     ensures { OnOk result ((whole : List ℕ) (rest : List meaning.Piece) → Wrote whole (kept_text out.old) pending.old.items (piece of.now ∷ rest) → Wrote whole (kept_text out.new) pending.new.items rest) }
@@ -190,6 +210,7 @@ fn put_piece(out: &mut Text, pending: &mut Vec<u8>, of: &Piece) -> Result<(), Al
 }
 
 /// Appends pieces.
+#[inline(always)]
 fn put_pieces(out: &mut Text, pending: &mut Vec<u8>, pieces: &[Piece]) -> Result<(), AllocError>
     requires { ArePlainPieces (map piece pieces.now) }
     ensures { OnOk result ((whole : List ℕ) (rest : List meaning.Piece) → Wrote whole (kept_text out.old) pending.old.items (map piece pieces.now ++ rest) → Wrote whole (kept_text out.new) pending.new.items rest) }
@@ -203,6 +224,7 @@ fn put_pieces(out: &mut Text, pending: &mut Vec<u8>, pieces: &[Piece]) -> Result
 }
 
 /// Appends the pieces of a part, so often.
+#[inline(always)]
 fn put_part(out: &mut Text, pending: &mut Vec<u8>, part: &Part) -> Result<(), AllocError>
     requires { ArePlainPieces (part_pieces part.now) }
     ensures { OnOk result ((whole : List ℕ) (rest : List meaning.Piece) → Wrote whole (kept_text out.old) pending.old.items (part_pieces part.now ++ rest) → Wrote whole (kept_text out.new) pending.new.items rest) }
@@ -228,29 +250,71 @@ fn put_parts(out: &mut Text, pending: &mut Vec<u8>, parts: &[Part]) -> Result<()
     Ok(())
 }
 
+/// Appends the records of parts. Constant bytes that stand side by side are gathered in a buffer, which is empty before and behind.
+fn put_all_parts(out: &mut Text, pending: &mut Vec<u8>, parts: &[Part]) -> Result<(), AllocError>
+    requires plain { ArePlainPieces (all_pieces parts.now) }
+    requires none { pending.now.items ≡ [] }
+    ensures text { OnOk result ((text : List ℕ) → kept_text out.old ≡ limited text → kept_text out.new ≡ limited (text ++ records_text (records_of (all_pieces parts.now)))) }
+    ensures none { OnOk result (pending.new.items ≡ []) }
+{
+    put_parts(out, pending, parts)?;
+    flush(out, pending)?;
+    Ok(())
+}
+
+/// What gives these pieces once.
+pub(crate) fn given_once(alloc: Global, pieces: Vec<Piece>) -> Result<Given, AllocError>
+    ensures { IfOk result (λ given. given_pieces given ≡ map piece pieces.items) }
+{
+    let mut parts = Vec::with_capacity(alloc, 1)?;
+    parts.push(Part { count: 1, pieces })?;
+    Ok(Given::Parts(parts))
+}
+
+/// How many cells an opcode and an operand of so many bytes give.
+fn operand_cells(count: u8) -> u32
+    ensures value { result ≡ count + 1 }
+    ensures few { result ≤ 0x100 }
+{
+    u32::from(count) + 1
+}
+
 impl Given {
     /// How many cells it gives, as far as 16,777,216.
     #[tactic(auto, using(crate::proofs::Sizes::cells_are))]
     pub(crate) fn cells(&self) -> u32
         ensures { (at : ℕ) → result ≡ min (length_at at (given_records self.now)) 0x1000000 }
     {
-        parts_cells(self.parts.as_slice())
+        match self {
+            Given::Bytes(few) => u32::from(few.count),
+            Given::Operand { count, .. } => operand_cells(*count),
+            Given::Parts(parts) => parts_cells(parts.as_slice()),
+        }
     }
 
-    /// Appends its records. Constant bytes that stand side by side are gathered in a buffer, which is empty before and behind.
+    /// Appends its records. The buffer is empty before and behind.
     pub(crate) fn put(&self, out: &mut Text, pending: &mut Vec<u8>) -> Result<(), AllocError>
         requires plain { ArePlainPieces (given_pieces self.now) }
         requires none { pending.now.items ≡ [] }
         ensures text { OnOk result ((text : List ℕ) → kept_text out.old ≡ limited text → kept_text out.new ≡ limited (text ++ records_text (given_records self.now))) }
         ensures none { OnOk result (pending.new.items ≡ []) }
     {
-        put_parts(out, pending, self.parts.as_slice())?;
-        flush(out, pending)?;
-        Ok(())
+        match self {
+            Given::Bytes(few) => out.put_few(*few),
+            Given::Operand {
+                opcode,
+                code,
+                count,
+                n,
+                expr,
+            } => out.put_operand(*opcode, *code, *count, *n, expr.as_slice()),
+            Given::Parts(parts) => put_all_parts(out, pending, parts.as_slice()),
+        }
     }
 }
 
 /// Appends LOCAL for a label, if there is one: its length is at most $FFFF, and it isn't private.
+#[inline(always)]
 pub(crate) fn put_local(out: &mut Text, label: &Name, form: u8, size: u32) -> Result<(), AllocError>
     requires { IsLabelText label.now }
     ensures { OnOk result ((text : List ℕ) → kept_text out.old ≡ limited text → kept_text out.new ≡ limited (text ++ records_text (local_of label.now form size))) }
@@ -269,27 +333,30 @@ pub(crate) fn put_local(out: &mut Text, label: &Name, form: u8, size: u32) -> Re
     Ok(())
 }
 
-/// Appends LOCAL for a statement's label, and the statement's records.
+/// Appends LOCAL for a statement's label, and the statement's records, which give so many cells.
 pub(crate) fn put_marked(
     out: &mut Text,
     pending: &mut Vec<u8>,
     label: &Name,
     form: u8,
     given: &Given,
+    size: u32,
 ) -> Result<(), AllocError>
     requires label { IsLabelText label.now }
     requires plain { ArePlainPieces (given_pieces given.now) }
+    requires size { (at : ℕ) → size ≡ length_at at (given_records given.now) }
     requires none { pending.now.items ≡ [] }
     ensures text { OnOk result ((at : ℕ) (text : List ℕ) → kept_text out.old ≡ limited text
         → kept_text out.new ≡ limited (text ++ records_text (local_of label.now form (length_at at (given_records given.now)) ++ given_records given.now))) }
     ensures none { OnOk result (pending.new.items ≡ []) }
 {
-    put_local(out, label, form, given.cells())?;
+    put_local(out, label, form, size)?;
     given.put(out, pending)?;
     Ok(())
 }
 
 /// A statement's label and what it gives, or the first of their faults.
+#[inline(always)]
 pub(crate) fn labelled(
     label: Result<Name, AsmCause>,
     given: Result<Given, AsmCause>,

@@ -25,6 +25,7 @@ pub(crate) fn put<V: Drop>(
 }
 
 /// The value of a name.
+#[inline(always)]
 pub(crate) fn look<'a, V>(map: &'a IndexMap<Vec<u8>, V>, name: &[u8]) -> Option<&'a V>
     ensures { option_copied result ≡ held map.now name.now }
 {

@@ -1,6 +1,6 @@
 //! What instructions give (WDC 65C816 data sheet, addressing modes; GS/OS Reference, appendix F, expression records).
 
-ghost use Rattle.std.specs.Prelude.{◌≡◌, ◌≤◌, ◌<◌, ◌^◌, ◌++◌, ◌∷◌, ◌/◌, [], List, ℕ, length, map, Some, None, Ok, Err, IfOk, IfSome, OnOk};
+ghost use Rattle.std.specs.Prelude.{◌≡◌, ◌≤◌, ◌<◌, ◌^◌, ◌++◌, ◌∷◌, ◌/◌, [], List, ℕ, length, map, find, true, Some, None, Ok, Err, IfOk, IfSome, OnOk};
 ghost use Rattle.omf_format.specs.Expression.{Tree, Leaf, terms_of, terms_text, AreTerms};
 ghost use Rattle.orca_asm.specs.AmountView.{IsFormulaOf};
 ghost use Rattle.orca_asm.specs.NamesView.{constants};
@@ -19,22 +19,26 @@ ghost use Rattle.orca_text.specs.OperandView.{IsWritten};
 ghost use Rattle.asm_meaning.specs.Answer.{Answer};
 ghost use Rattle.asm_meaning.specs.Instruction.{opcode_in, address_code, is_long_jump, operand_record, with_number, with_tree, with_known, kind_of, offered, bank, bank_record, banks_written, moved, instruction};
 ghost use Rattle.orca_asm.specs.ModeView.{widths, kind};
-ghost use Rattle.orca_asm.specs.PieceView.{piece, pieces_answer};
+ghost use Rattle.orca_asm.specs.GivenView.{given_pieces, given_answer};
+ghost use Rattle.orca_asm.specs.PieceView.{piece};
 
 use crate::amount::{Amount, amount_of};
 use crate::causes::earlier;
+use crate::few::Few;
+use crate::given::{Given, given_once};
 use crate::mode::{
     Kind, Widths, first_mode, is_distance, kind_of, mode_of_number, mode_of_tree, operand_bytes,
     shift_in,
 };
 use crate::names::Known;
-use crate::piece::{Piece, bytes_of, ended, number_text};
+use crate::piece::{Piece, ended, number_text};
 use asm_meaning::AsmCause;
 use orca_meaning::{Form, Mnemonic, Mode, Prefix};
 use orca_text::{FormulaTerm, Operand};
 use std::alloc::{AllocError, Global};
 
 /// The opcode of a mnemonic in a mode.
+#[inline(always)]
 fn opcode_in(mnemonic: Mnemonic, mode: Mode) -> u8
     ensures { result ≡ opcode_in mnemonic mode }
 {
@@ -56,6 +60,7 @@ fn is_long_jump(mnemonic: Mnemonic) -> bool
 }
 
 /// The code of the record of an address of so many bytes.
+#[inline(always)]
 fn address_code(mnemonic: Mnemonic, bytes: u8) -> u8
     ensures { result ≡ address_code mnemonic bytes }
 {
@@ -71,24 +76,28 @@ fn address_code(mnemonic: Mnemonic, bytes: u8) -> u8
     0xEB
 }
 
-/// The record of an operand of so many bytes with this expression.
-fn operand_record(mnemonic: Mnemonic, of: Kind, width: u8, expr: Vec<u8>) -> Piece
-    ensures { (tree : Tree) → expr.items ≡ expression_text tree → piece result ≡ Whole (operand_record mnemonic (kind of) width tree) }
+/// An opcode, and the record of an operand of so many bytes with this expression.
+#[inline(always)]
+fn with_record(opcode: u8, mnemonic: Mnemonic, of: Kind, width: u8, expr: Vec<u8>) -> Given
+    ensures { (tree : Tree) → expr.items ≡ expression_text tree → given_pieces result ≡ Bytes (opcode ∷ []) ∷ Whole (operand_record mnemonic (kind of) width tree) ∷ [] }
 {
     match of {
-        Kind::Address(bytes) => Piece::Formula {
+        Kind::Address(bytes) => Given::Operand {
+            opcode,
             code: address_code(mnemonic, bytes),
             count: width,
             n: 0,
             expr,
         },
-        Kind::Distance(_) => Piece::Formula {
+        Kind::Distance(_) => Given::Operand {
+            opcode,
             code: 0xEE,
             count: width,
             n: u32::from(width),
             expr,
         },
-        Kind::Missing | Kind::Value | Kind::Banks | Kind::Sign => Piece::Formula {
+        Kind::Missing | Kind::Value | Kind::Banks | Kind::Sign => Given::Operand {
+            opcode,
             code: 0xEB,
             count: width,
             n: 0,
@@ -98,45 +107,39 @@ fn operand_record(mnemonic: Mnemonic, of: Kind, width: u8, expr: Vec<u8>) -> Pie
 }
 
 /// All bytes of an instruction whose operand is this number.
+#[inline(always)]
 pub(crate) fn with_number(
-    alloc: Global,
     mnemonic: Mnemonic,
     mode: Mode,
     prefix: Prefix,
     width: u8,
     n: u32,
-) -> Result<Vec<Piece>, AllocError>
-    requires { width ≤ 4 }
-    ensures { IfOk result (λ v. map piece v.items ≡ with_number mnemonic mode prefix width n) }
+) -> Given
+    requires { width ≤ 3 }
+    ensures { given_pieces result ≡ with_number mnemonic mode prefix width n }
 {
     let shift = shift_in(kind_of(mode), prefix);
-    let bytes = bytes_of(alloc, opcode_in(mnemonic, mode), width, n >> shift)?;
-    let mut pieces = Vec::with_capacity(alloc, 1)?;
-    pieces.push(Piece::Bytes(bytes))?;
-    Ok(pieces)
+    Given::Bytes(Few::of_number(opcode_in(mnemonic, mode), width, n >> shift))
 }
 
 /// The opcode, and the record of an operand with these terms.
+#[inline(always)]
 pub(crate) fn with_tree(
-    alloc: Global,
     mnemonic: Mnemonic,
     mode: Mode,
     prefix: Prefix,
     width: u8,
     text: Vec<u8>,
-) -> Result<Vec<Piece>, AllocError>
-    ensures { IfOk result (λ v. (tree : Tree) → text.items ≡ terms_text 0 (terms_of (placed 1 tree)) → map piece v.items ≡ with_tree mnemonic mode prefix width tree) }
+) -> Result<Given, AllocError>
+    ensures { IfOk result (λ given. (tree : Tree) → text.items ≡ terms_text 0 (terms_of (placed 1 tree)) → given_pieces given ≡ with_tree mnemonic mode prefix width tree) }
 {
     let of = kind_of(mode);
-    let bytes = bytes_of(alloc, opcode_in(mnemonic, mode), 0, 0)?;
     let expr = ended(text, shift_in(of, prefix))?;
-    let mut pieces = Vec::with_capacity(alloc, 2)?;
-    pieces.push(Piece::Bytes(bytes))?;
-    pieces.push(operand_record(mnemonic, of, width, expr))?;
-    Ok(pieces)
+    Ok(with_record(opcode_in(mnemonic, mode), mnemonic, of, width, expr))
 }
 
 /// An instruction whose operand is a number, in this mode. A branch has its record for a constant too.
+#[inline(always)]
 pub(crate) fn with_known(
     alloc: Global,
     of: Widths,
@@ -144,19 +147,20 @@ pub(crate) fn with_known(
     prefix: Prefix,
     n: u32,
     mode: Mode,
-) -> Result<Vec<Piece>, AllocError>
-    ensures { IfOk result (λ v. map piece v.items ≡ with_known (widths of) mnemonic prefix n mode) }
+) -> Result<Given, AllocError>
+    ensures { IfOk result (λ given. given_pieces given ≡ with_known (widths of) mnemonic prefix n mode) }
 {
     let width = operand_bytes(of, mnemonic, mode);
     if is_distance(kind_of(mode)) {
         let text = number_text(alloc, n)?;
-        let pieces = with_tree(alloc, mnemonic, mode, prefix, width, text)?;
-        return Ok(pieces);
+        let given = with_tree(mnemonic, mode, prefix, width, text)?;
+        return Ok(given);
     }
-    with_number(alloc, mnemonic, mode, prefix, width, n)
+    Ok(with_number(mnemonic, mode, prefix, width, n))
 }
 
 /// An instruction with one formula, which amounts to this, in one of the modes that it is offered, of which this is the first.
+#[inline(always)]
 pub(crate) fn with_amount(
     alloc: Global,
     of: Widths,
@@ -165,22 +169,23 @@ pub(crate) fn with_amount(
     prefix: Prefix,
     first: Mode,
     amount: Amount,
-) -> Result<Result<Vec<Piece>, AsmCause>, AllocError>
-    ensures { IfOk result (λ answer. (meant : meaning.Amount) → kept_view amount ≡ kept_of 1 meant → pieces_answer answer ≡ chosen_amount (widths of) mnemonic prefix first (offered mnemonic form prefix) meant) }
+) -> Result<Result<Given, AsmCause>, AllocError>
+    requires { find (λ m. true) (offered mnemonic form prefix) ≡ Some first }
+    ensures { IfOk result (λ answer. (meant : meaning.Amount) → kept_view amount ≡ kept_of 1 meant → given_answer answer ≡ chosen_amount (widths of) mnemonic prefix first (offered mnemonic form prefix) meant) }
 {
     match amount {
-        Amount::Known(n) => match mode_of_number(of, mnemonic, form, prefix, n) {
+        Amount::Known(n) => match mode_of_number(of, mnemonic, form, prefix, first, n) {
             Ok(mode) => {
-                let pieces = with_known(alloc, of, mnemonic, prefix, n, mode)?;
-                Ok(Ok(pieces))
+                let given = with_known(alloc, of, mnemonic, prefix, n, mode)?;
+                Ok(Ok(given))
             }
             Err(cause) => Ok(Err(cause)),
         },
         Amount::Written(text) => {
             let mode = mode_of_tree(mnemonic, form, prefix, first);
             let width = operand_bytes(of, mnemonic, mode);
-            let pieces = with_tree(alloc, mnemonic, mode, prefix, width, text)?;
-            Ok(Ok(pieces))
+            let given = with_tree(mnemonic, mode, prefix, width, text)?;
+            Ok(Ok(given))
         }
     }
 }
@@ -229,18 +234,10 @@ fn bank_record(alloc: Global, amount: Amount) -> Result<Piece, AllocError>
 }
 
 /// A block move between banks that are bytes.
-fn known_banks(
-    alloc: Global,
-    opcode: u8,
-    source: u8,
-    destination: u8,
-) -> Result<Vec<Piece>, AllocError>
-    ensures { IfOk result (λ v. map piece v.items ≡ Bytes (opcode ∷ destination ∷ source ∷ []) ∷ []) }
+fn known_banks(opcode: u8, source: u8, destination: u8) -> Given
+    ensures { given_pieces result ≡ Bytes (opcode ∷ destination ∷ source ∷ []) ∷ [] }
 {
-    let bytes = Vec::from_slice(alloc, &[opcode, destination, source])?;
-    let mut pieces = Vec::with_capacity(alloc, 1)?;
-    pieces.push(Piece::Bytes(bytes))?;
-    Ok(pieces)
+    Given::Bytes(Few::of_two(opcode, destination, source))
 }
 
 /// A block move between banks of which one isn't known.
@@ -249,9 +246,9 @@ fn written_banks(
     opcode: u8,
     source: Amount,
     destination: Amount,
-) -> Result<Vec<Piece>, AllocError>
-    ensures { IfOk result (λ v. (s d : meaning.Amount) → kept_view source ≡ kept_of 2 s → kept_view destination ≡ kept_of 1 d
-        → map piece v.items ≡ Bytes (opcode ∷ []) ∷ Whole (bank_record 1 d) ∷ Whole (bank_record 2 s) ∷ []) }
+) -> Result<Given, AllocError>
+    ensures { IfOk result (λ given. (s d : meaning.Amount) → kept_view source ≡ kept_of 2 s → kept_view destination ≡ kept_of 1 d
+        → given_pieces given ≡ Bytes (opcode ∷ []) ∷ Whole (bank_record 1 d) ∷ Whole (bank_record 2 s) ∷ []) }
 {
     let bytes = Vec::from_slice(alloc, &[opcode])?;
     let first = bank_record(alloc, destination)?;
@@ -260,7 +257,7 @@ fn written_banks(
     pieces.push(Piece::Bytes(bytes))?;
     pieces.push(first)?;
     pieces.push(second)?;
-    Ok(pieces)
+    given_once(alloc, pieces)
 }
 
 /// A block move between these banks.
@@ -269,25 +266,22 @@ fn banks_written(
     opcode: u8,
     source: Amount,
     destination: Amount,
-) -> Result<Vec<Piece>, AllocError>
+) -> Result<Given, AllocError>
     requires source { IsByteAmount source }
     requires destination { IsByteAmount destination }
-    ensures { IfOk result (λ v. (s d : meaning.Amount) → kept_view source ≡ kept_of 2 s → kept_view destination ≡ kept_of 1 d → map piece v.items ≡ banks_written opcode s d) }
+    ensures { IfOk result (λ given. (s d : meaning.Amount) → kept_view source ≡ kept_of 2 s → kept_view destination ≡ kept_of 1 d → given_pieces given ≡ banks_written opcode s d) }
 {
     match source {
         Amount::Known(s) => match destination {
-            Amount::Known(d) => {
-                let pieces = known_banks(alloc, opcode, s as u8, d as u8)?;
-                Ok(pieces)
-            }
+            Amount::Known(d) => Ok(known_banks(opcode, s as u8, d as u8)),
             Amount::Written(d) => {
-                let pieces = written_banks(alloc, opcode, Amount::Known(s), Amount::Written(d))?;
-                Ok(pieces)
+                let given = written_banks(alloc, opcode, Amount::Known(s), Amount::Written(d))?;
+                Ok(given)
             }
         },
         Amount::Written(s) => {
-            let pieces = written_banks(alloc, opcode, Amount::Written(s), destination)?;
-            Ok(pieces)
+            let given = written_banks(alloc, opcode, Amount::Written(s), destination)?;
+            Ok(given)
         }
     }
 }
@@ -311,19 +305,19 @@ fn moved(
     mode: Mode,
     source: &[FormulaTerm],
     destination: &[FormulaTerm],
-) -> Result<Result<Vec<Piece>, AsmCause>, AllocError>
+) -> Result<Result<Given, AsmCause>, AllocError>
     requires source { AreTerms 0 (map term source.now) }
     requires destination { AreTerms 0 (map term destination.now) }
     ensures { IfOk result (λ answer. (s d : Tree) → IsFormulaOf (map term source.now) s → IsFormulaOf (map term destination.now) d
-        → pieces_answer answer ≡ moved (constants known.entry) mnemonic mode s d) }
+        → given_answer answer ≡ moved (constants known.entry) mnemonic mode s d) }
 {
     let first = amount_of(alloc, known, 2, source)?;
     let second = amount_of(alloc, known, 1, destination)?;
     match and_bank(first) {
         Ok(from) => match and_bank(second) {
             Ok(to) => {
-                let pieces = banks_written(alloc, opcode_in(mnemonic, mode), from, to)?;
-                Ok(Ok(pieces))
+                let given = banks_written(alloc, opcode_in(mnemonic, mode), from, to)?;
+                Ok(Ok(given))
             }
             Err(cause) => Ok(Err(cause)),
         },
@@ -342,11 +336,12 @@ fn by_formulas(
     mnemonic: Mnemonic,
     operand: &Operand,
     first: Mode,
-) -> Result<Result<Vec<Piece>, AsmCause>, AllocError>
+) -> Result<Result<Given, AsmCause>, AllocError>
     requires first { AreTerms 0 operand.now.first }
     requires second { IfSome operand.now.second (λ terms. AreTerms 0 terms) }
+    requires mode { find (λ m. true) (offered mnemonic operand.now.form operand.now.prefix) ≡ Some first }
     ensures { IfOk result (λ answer. (operand_is : Meaning) → IsWritten operand.now operand_is → AreGoodTrees operand_is.trees
-        → pieces_answer answer ≡ by_trees (constants known.entry) (widths of) mnemonic operand_is.prefix first (offered mnemonic operand_is.form operand_is.prefix) operand_is.trees) }
+        → given_answer answer ≡ by_trees (constants known.entry) (widths of) mnemonic operand_is.prefix first (offered mnemonic operand_is.form operand_is.prefix) operand_is.trees) }
 {
     if let Some(second) = &operand.second {
         let answer = moved(
@@ -361,8 +356,7 @@ fn by_formulas(
     }
     if operand.first.terms().is_empty() {
         let width = operand_bytes(of, mnemonic, first);
-        let pieces = with_number(alloc, mnemonic, first, Prefix::Bare, width, 0)?;
-        return Ok(Ok(pieces));
+        return Ok(Ok(with_number(mnemonic, first, Prefix::Bare, width, 0)));
     }
     let found = amount_of(alloc, known, 1, operand.first.terms())?;
     match found {
@@ -389,11 +383,11 @@ pub(crate) fn instruct(
     of: Widths,
     mnemonic: Mnemonic,
     operand: &Operand,
-) -> Result<Result<Vec<Piece>, AsmCause>, AllocError>
+) -> Result<Result<Given, AsmCause>, AllocError>
     requires first { AreTerms 0 operand.now.first }
     requires second { IfSome operand.now.second (λ terms. AreTerms 0 terms) }
     ensures { IfOk result (λ answer. (operand_is : Meaning) → IsWritten operand.now operand_is → AreGoodTrees operand_is.trees
-        → pieces_answer answer ≡ instruction (constants known.entry) (widths of) mnemonic operand_is) }
+        → given_answer answer ≡ instruction (constants known.entry) (widths of) mnemonic operand_is) }
 {
     match first_mode(mnemonic, operand.form, operand.prefix) {
         Some(first) => {

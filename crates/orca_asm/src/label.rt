@@ -39,6 +39,7 @@ pub(crate) fn behind_here(text: &[u8]) -> Option<&[u8]>
 }
 
 /// Whether a statement has a label.
+#[inline(always)]
 fn is_labelled(label: &[u8]) -> bool
     ensures { result ≡ is_labelled label.now }
 {
@@ -59,6 +60,7 @@ fn begins_here(operand: &[u8]) -> bool
 }
 
 /// Whether a statement may not stand outside segments.
+#[inline(always)]
 pub(crate) fn needs_segment(operation: Operation, label: &[u8], operand: &[u8]) -> bool
     ensures { result ≡ needs_segment operation label.now operand.now }
 {
@@ -85,6 +87,7 @@ pub(crate) fn needs_segment(operation: Operation, label: &[u8], operand: &[u8]) 
 }
 
 /// Whether a statement begins a segment.
+#[inline(always)]
 pub(crate) fn begins_segment(operation: Operation) -> bool
     ensures { result ≡ begins_segment operation }
 {
@@ -96,6 +99,7 @@ pub(crate) fn begins_segment(operation: Operation) -> bool
 }
 
 /// Whether a statement needs a label.
+#[inline(always)]
 pub(crate) fn needs_label(operation: Operation) -> bool
     ensures { result ≡ needs_label operation }
 {

@@ -16,6 +16,7 @@ mod doing;
 mod element;
 mod ending;
 mod equate;
+mod few;
 mod gap;
 mod gather;
 mod given;

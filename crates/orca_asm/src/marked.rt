@@ -51,7 +51,7 @@ impl Open {
         ensures none { OnOk result (pending.new.items ≡ []) }
     {
         self.define(alloc, label.bytes(), None)?;
-        put_marked(&mut self.body.text, pending, label, form, given)?;
+        put_marked(&mut self.body.text, pending, label, form, given, size)?;
         self.body.cells += u64::from(size);
         Ok(())
     }
@@ -99,6 +99,7 @@ fn know_label(label: &Name)
 }
 
 /// A statement that gives pieces, with its label.
+#[inline(always)]
 fn give_statement(
     alloc: Global,
     kept: &mut Kept,

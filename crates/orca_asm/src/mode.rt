@@ -10,7 +10,7 @@ use asm_meaning::AsmCause;
 use orca_meaning::{Form, Mnemonic, Mode, Prefix};
 
 /// The widths of the registers.
-#[derive(Clone, Copy, PartialEq, Eq, Debug)]
+#[derive(Clone, Copy)]
 pub(crate) struct Widths {
     /// The accumulator has 16 bits.
     pub(crate) long_a: bool,
@@ -19,7 +19,7 @@ pub(crate) struct Widths {
 }
 
 /// What an operand is in the instruction.
-#[derive(Clone, Copy, PartialEq, Eq, Debug)]
+#[derive(Clone, Copy)]
 pub(crate) enum Kind {
     /// Nothing.
     Missing,
@@ -37,6 +37,7 @@ pub(crate) enum Kind {
 
 /// How many bytes the operand of an instruction has.
 #[tactic(auto, unfolding(asm_meaning::specs::Instruction::operand_bytes, orca_meaning::specs::Length::length_of))]
+#[inline(always)]
 pub(crate) fn operand_bytes(of: Widths, mnemonic: Mnemonic, mode: Mode) -> u8
     ensures value { result ≡ operand_bytes (widths of) mnemonic mode }
     ensures few { result ≤ 3 }
@@ -122,6 +123,7 @@ fn modes_of(form: Form) -> &'static [Mode]
 
 /// What an operand in a mode is.
 #[tactic(auto, unfolding(asm_meaning::specs::Instruction::kind_of))]
+#[inline(always)]
 pub(crate) fn kind_of(mode: Mode) -> Kind
     ensures { kind result ≡ kind_of mode }
 {
@@ -153,6 +155,7 @@ pub(crate) fn kind_of(mode: Mode) -> Kind
 }
 
 /// Whether the operand is an address of so many bytes.
+#[inline(always)]
 fn is_address(of: Kind, bytes: u8) -> bool
     ensures { result ≡ is_address bytes (kind of) }
 {
@@ -163,6 +166,7 @@ fn is_address(of: Kind, bytes: u8) -> bool
 }
 
 /// Whether the operand is a value.
+#[inline(always)]
 fn is_value(of: Kind) -> bool
     ensures { result ≡ is_value (kind of) }
 {
@@ -173,6 +177,7 @@ fn is_value(of: Kind) -> bool
 }
 
 /// Whether the operand is the distance of a branch.
+#[inline(always)]
 pub(crate) fn is_distance(of: Kind) -> bool
     ensures { result ≡ is_distance (kind of) }
 {
@@ -183,6 +188,7 @@ pub(crate) fn is_distance(of: Kind) -> bool
 }
 
 /// Whether a prefix lets such an operand stand.
+#[inline(always)]
 fn is_asked(prefix: Prefix, of: Kind) -> bool
     ensures { result ≡ is_asked prefix (kind of) }
 {
@@ -196,6 +202,7 @@ fn is_asked(prefix: Prefix, of: Kind) -> bool
 }
 
 /// Whether a mnemonic has a mode that the prefix doesn't rule out.
+#[inline(always)]
 fn is_offered(mnemonic: Mnemonic, prefix: Prefix, mode: Mode) -> bool
     ensures { result ≡ (has_mode mnemonic mode && is_asked prefix (kind_of mode)) }
 {
@@ -203,6 +210,7 @@ fn is_offered(mnemonic: Mnemonic, prefix: Prefix, mode: Mode) -> bool
 }
 
 /// By how much an immediate operand is shifted to the right.
+#[inline(always)]
 fn value_shift(prefix: Prefix) -> u8
     ensures value { result ≡ value_shift prefix }
     ensures few { result ≤ 16 }
@@ -217,6 +225,7 @@ fn value_shift(prefix: Prefix) -> u8
 }
 
 /// By how much an operand is shifted to the right: a value alone is.
+#[inline(always)]
 pub(crate) fn shift_in(of: Kind, prefix: Prefix) -> u8
     ensures value { result ≡ shift_in (kind of) prefix }
     ensures few { result ≤ 16 }
@@ -228,6 +237,7 @@ pub(crate) fn shift_in(of: Kind, prefix: Prefix) -> u8
 }
 
 /// Whether a number fits so many bytes as an unsigned one.
+#[inline(always)]
 fn fits(n: u32, width: u8) -> bool
     requires { width ≤ 3 }
     ensures { result ≡ nat_lt n (256 ^ width) }
@@ -267,6 +277,7 @@ fn is_bare(prefix: Prefix) -> bool
 }
 
 /// Whether a value fits so many bytes.
+#[inline(always)]
 fn fits_value(prefix: Prefix, width: u8, n: u32) -> bool
     requires { width ≤ 3 }
     ensures { result ≡ fits_value prefix width n }
@@ -278,6 +289,7 @@ fn fits_value(prefix: Prefix, width: u8, n: u32) -> bool
 }
 
 /// Whether the operand can be this number in so many bytes.
+#[inline(always)]
 fn holds(prefix: Prefix, of: Kind, width: u8, n: u32) -> bool
     requires { width ≤ 3 }
     ensures { result ≡ holds prefix (kind of) width n }
@@ -293,6 +305,7 @@ fn holds(prefix: Prefix, of: Kind, width: u8, n: u32) -> bool
 }
 
 /// The first of these modes that is offered and can have the number.
+#[inline(always)]
 fn first_holding(
     of: Widths,
     mnemonic: Mnemonic,
@@ -316,6 +329,7 @@ fn first_holding(
 }
 
 /// The first of these modes that is offered.
+#[inline(always)]
 fn first_offered(mnemonic: Mnemonic, prefix: Prefix, modes: &[Mode]) -> Option<Mode>
     ensures { result ≡ find (λ m. true) (filter (offered_test mnemonic prefix) modes.now) }
 {
@@ -330,13 +344,14 @@ fn first_offered(mnemonic: Mnemonic, prefix: Prefix, modes: &[Mode]) -> Option<M
 }
 
 /// The first of these modes that is offered and has an address of two bytes.
+#[inline(always)]
 fn first_of_two(mnemonic: Mnemonic, prefix: Prefix, modes: &[Mode]) -> Option<Mode>
     ensures { result ≡ find two_test (filter (offered_test mnemonic prefix) modes.now) }
 {
     let mut left = modes;
     'modes: while let Some((mode, behind)) = left.split_first() {
-        if is_offered(mnemonic, prefix, *mode) {
-            if is_address(kind_of(*mode), 2) {
+        if is_address(kind_of(*mode), 2) {
+            if is_offered(mnemonic, prefix, *mode) {
                 return Some(*mode);
             }
         }
@@ -353,17 +368,23 @@ pub(crate) fn first_mode(mnemonic: Mnemonic, form: Form, prefix: Prefix) -> Opti
     first_offered(mnemonic, prefix, modes_of(form))
 }
 
-/// The mode of an operand that is this number, of which there is one.
+/// The mode of an operand that is this number, where the first one that is offered is this.
 #[tactic(auto, unfolding(asm_meaning::specs::Instruction::offered))]
 pub(crate) fn mode_of_number(
     of: Widths,
     mnemonic: Mnemonic,
     form: Form,
     prefix: Prefix,
+    first: Mode,
     n: u32,
 ) -> Result<Mode, AsmCause>
+    requires { find (λ m. true) (offered mnemonic form prefix) ≡ Some first }
     ensures { result ≡ mode_of_number (widths of) mnemonic prefix n (offered mnemonic form prefix) }
 {
+    let width = operand_bytes(of, mnemonic, first);
+    if holds(prefix, kind_of(first), width, n) {
+        return Ok(first);
+    }
     match first_holding(of, mnemonic, prefix, modes_of(form), n) {
         Some(mode) => Ok(mode),
         None => Err(AsmCause::DoesNotFit),

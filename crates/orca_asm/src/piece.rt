@@ -13,7 +13,7 @@ use omf_expr::{Term, put_term};
 use std::alloc::{AllocError, Global};
 
 /// Constant bytes, or a record of another kind.
-#[derive(Debug, Drop)]
+#[derive(Drop)]
 pub(crate) enum Piece {
     /// Constant bytes.
     Bytes(Vec<u8>),
@@ -51,6 +51,7 @@ fn put_operator(out: &mut Vec<u8>, code: u8) -> Result<(), AllocError>
 
 /// The terms of an expression, shifted to the right by so many bits, and its end.
 #[tactic(auto, using(crate::proofs::Ends::end_plain, crate::proofs::Ends::end_shifted))]
+#[inline(always)]
 pub(crate) fn ended(text: Vec<u8>, shift: u8) -> Result<Vec<u8>, AllocError>
     ensures { IfOk result (λ v. (tree : Tree) → text.items ≡ terms_text 0 (terms_of tree) → v.items ≡ expression_text (shifted shift tree)) }
 {
@@ -77,23 +78,13 @@ pub(crate) fn number_text(alloc: Global, n: u32) -> Result<Vec<u8>, AllocError>
 
 /// The lowest bytes of a number, so many.
 #[tactic(auto, using(crate::proofs::Ends::take_little))]
+#[inline(always)]
 fn put_number(out: &mut Vec<u8>, width: u8, n: u32) -> Result<(), AllocError>
     requires { width ≤ 4 }
     ensures { OnOk result (out.new.items ≡ out.old.items ++ little_bytes width n) }
 {
     let bytes = n.to_le_bytes();
     out.extend_from_slice(&bytes[..width as usize])
-}
-
-/// An opcode, and the lowest bytes of a number, so many.
-pub(crate) fn bytes_of(alloc: Global, opcode: u8, width: u8, n: u32) -> Result<Vec<u8>, AllocError>
-    requires { width ≤ 4 }
-    ensures { IfOk result (λ v. v.items ≡ opcode ∷ little_bytes width n) }
-{
-    let mut out = Vec::with_capacity(alloc, 4)?;
-    out.push(opcode)?;
-    put_number(&mut out, width, n)?;
-    Ok(out)
 }
 
 /// The lowest bytes of a number, so many.

@@ -9,7 +9,6 @@ ghost use Rattle.orca_asm.specs.GivenBy.{IsByInstruction, IsByList, HasElements}
 ghost use Rattle.orca_asm.specs.GivenView.{given_answer, parts_answer};
 ghost use Rattle.orca_asm.specs.ModeView.{widths};
 ghost use Rattle.orca_asm.specs.NamesView.{constants};
-ghost use Rattle.orca_asm.specs.PieceView.{pieces_answer};
 
 use crate::dc::element_at;
 use crate::gather::{gather, gathered};
@@ -17,27 +16,9 @@ use crate::given::{Given, Part};
 use crate::instruct::instruct;
 use crate::mode::Widths;
 use crate::names::Known;
-use crate::piece::Piece;
 use asm_meaning::AsmCause;
 use orca_text::{Mnemonic, SourceLine, TextCause, behind_byte, read_operand};
 use std::alloc::{AllocError, Global};
-
-/// What gives these pieces once.
-fn given_once(
-    alloc: Global,
-    pieces: Result<Vec<Piece>, AsmCause>,
-) -> Result<Result<Given, AsmCause>, AllocError>
-    ensures { IfOk result (λ answer. given_answer answer ≡ pieces_answer pieces) }
-{
-    match pieces {
-        Ok(pieces) => {
-            let mut parts = Vec::with_capacity(alloc, 1)?;
-            parts.push(Part { count: 1, pieces })?;
-            Ok(Ok(Given { parts }))
-        }
-        Err(cause) => Ok(Err(cause)),
-    }
-}
 
 /// What an instruction's line gives, or the first fault of its operand.
 pub(crate) fn instruction_given(
@@ -55,8 +36,7 @@ pub(crate) fn instruction_given(
     let _text = line.part(line.operand);
     match read_operand(alloc, line) {
         Ok(operand) => {
-            let pieces = instruct(alloc, known, of, mnemonic, &operand)?;
-            let answer = given_once(alloc, pieces)?;
+            let answer = instruct(alloc, known, of, mnemonic, &operand)?;
             Ok(answer)
         }
         Err(fault) => match fault.cause {
@@ -112,7 +92,7 @@ pub(crate) fn constants_given(
     let found = parts_in(alloc, known, msb, text)?;
     match found {
         Some(answer) => match answer {
-            Ok(parts) => Ok(Ok(Given { parts })),
+            Ok(parts) => Ok(Ok(Given::Parts(parts))),
             Err(cause) => Ok(Err(cause)),
         },
         None => Ok(Err(AsmCause::BadOperand)),

@@ -136,6 +136,7 @@ fn do_operation(
 }
 
 /// Whether a statement stands on the wrong side.
+#[inline(always)]
 fn is_misplaced(kept: &Kept, operation: Operation, label: &[u8], operand: &[u8]) -> bool
     ensures { (state : State) → ShowsState state kept.now → result ≡ is_misplaced state.segment operation label.now operand.now }
 {
@@ -146,6 +147,7 @@ fn is_misplaced(kept: &Kept, operation: Operation, label: &[u8], operand: &[u8])
 }
 
 /// What an operation leaves, unless the segment is too long then.
+#[inline(always)]
 fn finish(
     alloc: Global,
     kept: &mut Kept,

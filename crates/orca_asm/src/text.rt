@@ -1,11 +1,16 @@
 //! The bytes of records, as far as a file may have them.
 
-ghost use Rattle.std.specs.Prelude.{◌≡◌, ◌≤◌, ◌<◌, ◌++◌, [], List, ℕ, length, true, false, Some, None, IfOk, OnOk};
+ghost use Rattle.std.specs.Prelude.{◌≡◌, ◌≤◌, ◌<◌, ◌++◌, ◌∷◌, [], List, ℕ, length, true, false, Some, None, IfOk, OnOk};
+ghost use Rattle.byteorder.specs.Endian.{little_bytes};
 ghost use Rattle.omf_format.specs.Field.{written_layout};
-ghost use Rattle.omf_format.specs.Record.{spelling, IsRecord};
+ghost use Rattle.omf_format.specs.Record.{Const, Formula, spelling, IsRecord};
 ghost use Rattle.omf_records.specs.View.{view};
+ghost use Rattle.asm_meaning.specs.Object.{records_text};
+ghost use Rattle.asm_meaning.specs.Pieces.{constant_records};
+ghost use Rattle.orca_asm.specs.FewView.{few_bytes};
 ghost use Rattle.orca_asm.specs.TextView.{limited, kept_text};
 
+use crate::few::Few;
 use omf_records::{Rec, put_record};
 use std::alloc::{AllocError, Global};
 
@@ -13,11 +18,20 @@ use std::alloc::{AllocError, Global};
 pub(crate) const MAX_FILE: usize = 16_777_216;
 
 /// Bytes, which are kept as long as they are no more than a file may have.
-#[derive(Debug, Drop)]
+#[derive(Drop)]
 pub(crate) struct Text {
     pub(crate) bytes: Vec<u8>,
     /// There were more, and none are kept.
     pub(crate) long: bool,
+}
+
+/// CONST of an opcode, and what stands before the expression of a distance.
+#[inline(always)]
+fn with_distance(opcode: u8, code: u8, count: u8, n: u32) -> [u8; 8]
+    ensures { result ≡ 1 ∷ opcode ∷ code ∷ count ∷ little_bytes 4 n }
+{
+    let [a, b, c, d] = n.to_le_bytes();
+    [1, opcode, code, count, a, b, c, d]
 }
 
 impl Text {
@@ -51,6 +65,53 @@ impl Text {
             return Ok(());
         }
         Ok(())
+    }
+
+    /// Appends bytes.
+    #[tactic(auto, using(crate::proofs::Limited::stays_long, crate::proofs::Limited::grows_long, crate::proofs::Limited::grows))]
+    #[inline(always)]
+    fn append(&mut self, bytes: &[u8]) -> Result<(), AllocError>
+        ensures { OnOk result ((text : List ℕ) → kept_text self.old ≡ limited text → kept_text self.new ≡ limited (text ++ bytes.now)) }
+    {
+        if self.long {
+            return Ok(());
+        }
+        self.bytes.extend_from_slice(bytes)?;
+        if self.bytes.len() > MAX_FILE {
+            self.bytes.clear();
+            self.long = true;
+            return Ok(());
+        }
+        Ok(())
+    }
+
+    /// Appends CONST of few bytes.
+    #[tactic(auto, using(crate::proofs::FewLaws::few_record))]
+    pub(crate) fn put_few(&mut self, few: Few) -> Result<(), AllocError>
+        ensures { OnOk result ((text : List ℕ) → kept_text self.old ≡ limited text → kept_text self.new ≡ limited (text ++ records_text (constant_records (few_bytes few)))) }
+    {
+        let record = [few.count, few.first, few.second, few.third, few.fourth];
+        self.append(&record[..few.count as usize + 1])
+    }
+
+    /// Appends CONST of an opcode, and the record of its operand: its code, its count of bytes, its distance, and the
+    /// expression's bytes.
+    pub(crate) fn put_operand(
+        &mut self,
+        opcode: u8,
+        code: u8,
+        count: u8,
+        n: u32,
+        expr: &[u8],
+    ) -> Result<(), AllocError>
+        ensures { OnOk result ((text : List ℕ) → kept_text self.old ≡ limited text → kept_text self.new ≡ limited (text ++ records_text (Const (opcode ∷ []) ∷ Formula code count n expr.now ∷ []))) }
+    {
+        if code == 0xEE {
+            self.append(&with_distance(opcode, code, count, n))?;
+            return self.append(expr);
+        }
+        self.append(&[1, opcode, code, count])?;
+        self.append(expr)
     }
 
     /// Keeps nothing any more: there are more bytes than a file may have.

@@ -25,7 +25,7 @@ pub second_fault : {A B : Type 0} (found : Option A) (cause : MacroCause) → bo
 second_fault None cause = refl
 second_fault (Some a) cause = refl
 
-some_operation : (operation : List ℕ) → eqb (length operation) 0 ≡ false → operation_or_anop operation ≡ statement_of operation
+pub some_operation : (operation : List ℕ) → eqb (length operation) 0 ≡ false → operation_or_anop operation ≡ statement_of operation
 some_operation [] some = absurd cc
 some_operation (byte ∷ behind) some = refl
 

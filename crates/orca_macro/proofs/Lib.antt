@@ -22,5 +22,7 @@ pub mod Shorts
 pub mod WholeName
 pub mod Templates
 pub mod Plans
+pub mod Given
 pub mod Heads
 pub mod Renewals
+pub mod Sources

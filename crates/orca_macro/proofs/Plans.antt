@@ -81,7 +81,7 @@ short_text : (text : List ℕ) → length text ≤ 255 → nat_lt 255 (length te
 short_text text few = le-ltb 255 (length text) few
 
 -- what stands behind the sequence symbol of a line without `&`
-after_cut : (s : Setting) (l : Line) (text : List ℕ) (d : meaning.Deed) → text ≡ l.text → length text ≤ 255 → is_comment text ≡ false → eqb (plain_len text) (length text) ≡ true
+pub after_cut : (s : Setting) (l : Line) (text : List ℕ) (d : meaning.Deed) → text ≡ l.text → length text ≤ 255 → is_comment text ≡ false → eqb (plain_len text) (length text) ≡ true
     → operation_is (codes "MACRO") l ≡ false → IsAfterCut s (is_comment (cut text)) (cut text) d → IsDeed s l d
 after_cut s l text d same few other plain no_macro after =
     plain_is s l text d same other plain

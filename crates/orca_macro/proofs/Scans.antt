@@ -1,6 +1,7 @@
 -- Going over the lines of a file.
-use Rattle.std.proofs.Common.{◌≡◌, ◌≢◌, ◌≤◌, ◌<◌, ℕ, zero, suc, ◌+◌, ◌-◌, Bool, true, false, cond, List, [], ◌∷◌, ◌++◌, length, take, drop, map, Option, Some, None, refl, sym, ap, subst, ◌∙◌, append_assoc, append-nil, length-append, length-drop, arith}
+use Rattle.std.proofs.Common.{◌≡◌, ◌≢◌, ◌≤◌, ◌<◌, ℕ, zero, suc, ◌+◌, ◌-◌, Bool, true, false, cond, ◌||◌, List, [], ◌∷◌, ◌++◌, length, take, drop, map, Option, Some, None, refl, sym, ap, subst, ◌∙◌, append_assoc, append-nil, length-append, length-drop, arith}
 use Rattle.std.specs.Prelude.{slice_get, codes, Result, Ok, Err}
+use Rattle.std.specs.List.{list_any}
 use Rattle.std.proofs.lemmas.List.{map-append, length-take}
 use Rattle.orca_meaning.specs.Line.{Line}
 use Rattle.macro_meaning.specs.declared.faults.MacroFault.{MacroFault}
@@ -319,3 +320,52 @@ pub ended_some : (s : Bool) (lines plain : List Line) (old new : List meaning.De
     → IsScanned s lines (length lines) plain old new opened → slice_get lines begins ≡ Some m → fault ≡ fault_at m Unclosed → Scanned s lines old new (Err fault)
 ended_some s lines plain old new opened begins m fault some is first fault_is =
     ended_open s lines plain old new begins m fault (subst (λ (o : Option ℕ). IsScanned s lines (length lines) plain old new o) some is) first fault_is
+
+-- ---- a source without definitions
+
+pub any_here : (lines : List Line) (at : ℕ) (l : Line) → slice_get lines at ≡ Some l → operation_is (codes "MACRO") l ≡ true
+    → list_any (operation_is (codes "MACRO")) (drop at lines) ≡ list_any (operation_is (codes "MACRO")) lines → true ≡ list_any (operation_is (codes "MACRO")) lines
+any_here lines at l is this same =
+    sym (sym same ∙ ap (list_any (operation_is (codes "MACRO"))) (drop_next lines at l is) ∙ ap (λ (b : Bool). b || list_any (operation_is (codes "MACRO")) (drop (at + 1) lines)) this)
+
+pub any_later : (lines : List Line) (at : ℕ) (l : Line) → slice_get lines at ≡ Some l → operation_is (codes "MACRO") l ≡ false
+    → list_any (operation_is (codes "MACRO")) (drop at lines) ≡ list_any (operation_is (codes "MACRO")) lines
+    → list_any (operation_is (codes "MACRO")) (drop (at + 1) lines) ≡ list_any (operation_is (codes "MACRO")) lines
+any_later lines at l is other same =
+    sym (ap (list_any (operation_is (codes "MACRO"))) (drop_next lines at l is) ∙ ap (λ (b : Bool). b || list_any (operation_is (codes "MACRO")) (drop (at + 1) lines)) other) ∙ same
+
+pub any_nowhere : (lines : List Line) (at : ℕ) → length lines ≤ at → list_any (operation_is (codes "MACRO")) (drop at lines) ≡ list_any (operation_is (codes "MACRO")) lines
+    → false ≡ list_any (operation_is (codes "MACRO")) lines
+any_nowhere lines at end same = sym (ap (list_any (operation_is (codes "MACRO"))) (drop_all lines at end)) ∙ same
+
+all_plain : (lines : List Line) → list_any (operation_is (codes "MACRO")) lines ≡ false → parts_of None lines ≡ map Plain lines
+unfolding parts_of
+all_plain [] none = refl
+all_plain (l ∷ lines) none = by (operation_is (codes "MACRO") l) none (all_plain lines)
+  where
+    by : (b : Bool) → (b || list_any (operation_is (codes "MACRO")) lines) ≡ false → (list_any (operation_is (codes "MACRO")) lines ≡ false → parts_of None lines ≡ map Plain lines)
+        → cond b (parts_of (Some (l, [])) lines) (Plain l ∷ parts_of None lines) ≡ Plain l ∷ map Plain lines
+    by true none more = absurd cc
+    by false none more = ap (λ (ps : List Part). Plain l ∷ ps) (more none)
+
+plain_faultless : (lines : List Line) → first_part_fault (map Plain lines) ≡ None
+unfolding first_part_fault
+plain_faultless [] = refl
+plain_faultless (l ∷ lines) = plain_faultless lines
+
+plain_lines : (lines : List Line) → map source_line (map Plain lines) ≡ lines
+plain_lines [] = refl
+plain_lines (l ∷ lines) = ap (λ (ls : List Line). l ∷ ls) (plain_lines lines)
+
+no_definitions : (lines : List Line) → definitions_in true (map Plain lines) ≡ []
+unfolding definitions_in
+no_definitions [] = refl
+no_definitions (l ∷ lines) = no_definitions lines
+
+pub none_scanned : (lines : List Line) (old : List meaning.Definition) → list_any (operation_is (codes "MACRO")) lines ≡ false → Scanned true lines old old (Ok lines)
+none_scanned lines old none =
+    let plain = all_plain lines none in (
+      ap first_part_fault plain ∙ plain_faultless lines,
+      sym (ap (map source_line) plain ∙ plain_lines lines),
+      sym (ap (λ (ds : List meaning.Definition). old ++ ds) (ap (definitions_in true) plain ∙ no_definitions lines) ∙ append-nil old),
+    )

@@ -14,6 +14,7 @@ pub mod Letters
 pub mod Short
 pub mod Template
 pub mod Plan
+pub mod Untouched
 pub mod Head
 pub mod Words
 pub mod Kept

@@ -1,6 +1,7 @@
 -- What is known of a line before it is visited.
 use Rattle.std.specs.Prelude.{◌≡◌, ℕ, List, Option, Some, None, true, false, length, slice_get}
 use Rattle.macro_meaning.specs.Deed as meaning
+use Rattle.macro_meaning.specs.Definition.{Definition}
 use Rattle.macro_meaning.specs.Deed.{Setting, IsDeed, IsDone, IsStatement}
 use Rattle.macro_meaning.specs.Symbol.{Values}
 use Rattle.macro_meaning.specs.declared.statements.Statement.{Statement}
@@ -39,6 +40,10 @@ FitsStatement text (Some deed) = IsAlwaysStatement text deed
 -- a line does this wherever it stands
 pub record IsAlways (line : Line) (deed : meaning.Deed) : Type 0 where
   pub is : (s : Setting) → IsDeed s line deed
+
+-- where these are the macros, a line is given as it stands, whatever the symbols are
+pub record IsGiven (definitions : List Definition) (line : Line) : Type 0 where
+  pub is : (s : Setting) → s.definitions ≡ definitions → IsDeed s line (meaning.Gives line.text)
 
 abbrev pub FitsLine : Line → Option meaning.Deed → Type 0
 FitsLine line None = Unit {0}

@@ -2,7 +2,7 @@
 
 ghost use Rattle.std.specs.Prelude.{◌≡◌, ◌≤◌, ◌<◌, ◌+◌, ◌^◌, ◌∷◌, ◌++◌, [], List, ℕ, length, slice_get, take, bytes_eq, Some, None, IfOk, IfSome, OnOk, MatchOption, if◌then◌else◌};
 ghost use Rattle.macro_meaning.specs.Visit.{places_from, target_of, has_sequence};
-ghost use Rattle.orca_meaning.specs.Line.{HaveFields, part};
+ghost use Rattle.orca_meaning.specs.Line.{HaveFields, fields_of, part};
 ghost use Rattle.orca_macro.specs.Held.{held};
 ghost use Rattle.orca_macro.specs.DefinitionView.{summary, with_place};
 ghost use Rattle.orca_macro.specs.Plan.{HavePlans, FitsAt};
@@ -17,7 +17,7 @@ use std::alloc::{AllocError, Global};
 use std::marker::Model;
 
 /// The place of a sequence symbol.
-#[derive(Clone, Copy, Debug, Drop)]
+#[derive(Clone, Copy, Drop)]
 pub(crate) enum Target {
     /// The only line that has it.
     Once(u32),
@@ -165,6 +165,7 @@ impl Body {
     pub(crate) fn line(&self, place: u32) -> Option<&SourceLine>
         ensures line { MatchOption result (slice_get self.now.lines place ≡ None) (λ found. slice_get self.now.lines place ≡ Some (line found.now)) }
         ensures fields { IfSome result (λ found. HaveFields found.now.text (line found.now).fields) }
+        ensures own { IfSome result (λ found. (line found.now).fields ≡ fields_of found.now.text) }
         ensures bound { IfSome result (λ _. place + 1 < 2 ^ 32) }
     {
         if place < self.lines.count() {

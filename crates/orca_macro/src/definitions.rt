@@ -1,6 +1,7 @@
 //! Macro definitions of files (ORCA/M reference manual, "Macro definitions").
 
-ghost use Rattle.std.specs.Prelude.{◌≡◌, ◌≤◌, ◌<◌, ◌+◌, ◌-◌, ◌^◌, ◌∷◌, ◌++◌, [], List, ℕ, length, take, drop, map, slice_get, codes, Some, None, IfOk, IfErr, IfSome, OnOk, MatchOption, MatchResult, if◌then◌else◌};
+ghost use Rattle.std.specs.Prelude.{◌≡◌, ◌≤◌, ◌<◌, ◌+◌, ◌-◌, ◌^◌, ◌∷◌, ◌++◌, [], List, ℕ, length, take, drop, map, slice_get, codes, true, Some, None, IfOk, IfErr, IfSome, OnOk, MatchOption, MatchResult, if◌then◌else◌};
+ghost use Rattle.std.specs.List.{list_any};
 ghost use Rattle.orca_meaning.specs.Line.{HaveFields, fields_of};
 ghost use Rattle.orca_meaning.specs.Line as meaning;
 ghost use Rattle.macro_meaning.specs.Definition.{operation_is, parts_of, source_line, definitions_in, first_part_fault, definition_of, part_fault, Closed, counts_behind};
@@ -43,7 +44,7 @@ fn copy_line(alloc: Global, to: &mut Lines, of: &SourceLine) -> Result<(), Alloc
     requires room { length to.old + 1 < 2 ^ 32 }
     ensures { OnOk result (to.new ≡ to.old ++ line of.now ∷ []) }
 {
-    to.push(alloc, of.file, of.line, of.text.bytes())
+    to.copy(alloc, of)
 }
 
 /// The lines from a place up to another one.
@@ -251,4 +252,37 @@ pub(crate) fn scan_file(
         }
     }
     Ok(ended(lines, scan))
+}
+
+/// Whether a definition begins at one of the lines.
+fn begins_any(lines: &Lines) -> bool
+    ensures { result ≡ list_any (operation_is (codes "MACRO")) lines.now }
+{
+    let mut at = 0;
+    'lines: while at < lines.count() {
+        let Some(line) = lines.get(at) else {
+            unreachable!();
+        };
+        if operation_is(line, b"MACRO") {
+            return true;
+        }
+        at += 1;
+    }
+    false
+}
+
+/// Adds the definitions of the source to others: the lines that are visited, or the first fault. No line is copied where none
+/// begins a definition.
+pub(crate) fn scan_source(
+    alloc: Global,
+    lines: Lines,
+    definitions: &mut Vec<Definition>,
+) -> Result<Result<Lines, MacroFault>, AllocError>
+    requires own { HaveOwn lines }
+    ensures { IfOk result (λ found. Scanned true lines (map definition definitions.old.items) (map definition definitions.new.items) found) }
+{
+    if begins_any(&lines) {
+        return scan_file(alloc, true, &lines, definitions);
+    }
+    Ok(Ok(lines))
 }

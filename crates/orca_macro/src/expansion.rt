@@ -5,29 +5,30 @@ ghost use Rattle.macro_meaning.specs.Deed as deeds;
 ghost use Rattle.macro_meaning.specs.Expansion.{IsExpanded, IsMacroFault, fault_at, file_text_fault, first_in};
 ghost use Rattle.macro_meaning.specs.Visit.{Visit, line_at, given_by, root_by, setting_of, most_visits};
 ghost use Rattle.omf_format.specs.Lines.{lines_of};
-ghost use Rattle.orca_meaning.specs.Line.{HaveFields, numbered};
+ghost use Rattle.orca_meaning.specs.Line.{HaveFields, fields_of, numbered};
 ghost use Rattle.orca_macro.specs.DeedView.{deed};
 ghost use Rattle.orca_macro.specs.Files.{texts_of_files, CanRead, lines_from, IsTextFault, AllOwn, first_part_in, definitions_of, IsProgram, HasVisited};
 ghost use Rattle.orca_macro.specs.Parts.{definition, HaveOwn};
-ghost use Rattle.orca_macro.specs.Plan.{Fits};
+ghost use Rattle.orca_macro.specs.Plan.{Fits, IsGiven};
 ghost use Rattle.orca_macro.specs.StateView.{StandsIn, Visited};
 ghost use Rattle.orca_text.specs.Refusals.{IsRefused};
 ghost use Rattle.orca_text.specs.View.{line};
 
 use crate::body::Body;
-use crate::deed::{Deed, Standing, deed_of, planned};
-use crate::definitions::{Definition, fault_at, scan_file};
+use crate::deed::{Deed, Standing, deed_of, is_given, planned};
+use crate::definitions::{Definition, fault_at, scan_file, scan_source};
 use crate::frames::State;
 use crate::plan::Plan;
 use crate::program::Program;
 use crate::symbols::{Symbols, Values};
-use crate::visits::{Outcome, step};
+use crate::untouched::are_untouched;
+use crate::visits::{Outcome, onward, step};
 use macro_meaning::{MacroCause, MacroFault};
 use orca_text::{Lines, SourceLine, TextCause, TextFault, read_lines};
 use std::alloc::{AllocError, Global};
 
 /// How many lines are visited at most.
-const MOST_VISITS: u32 = 1_000_000;
+pub(crate) const MOST_VISITS: u32 = 1_000_000;
 
 /// Memory ran out.
 fn no_memory() -> MacroFault
@@ -135,19 +136,19 @@ fn built(alloc: Global, plain: Lines, definitions: Vec<Definition>) -> Result<Pr
 #[tactic(auto, using(crate::proofs::Whole::program_good, crate::proofs::Whole::program_macros_bad, crate::proofs::Whole::program_source_bad))]
 fn program_of(
     alloc: Global,
-    source: &Lines,
+    source: Lines,
     macros: &[Lines],
 ) -> Result<Result<Program, MacroFault>, AllocError>
-    requires source { HaveOwn source.now }
+    requires source { HaveOwn source }
     requires macros { AllOwn macros.now }
-    ensures { IfOk result (λ found. IsProgram source.now macros.now found) }
+    ensures { IfOk result (λ found. IsProgram source macros.now found) }
 {
     let mut definitions: Vec<Definition> = Vec::new(alloc);
     match scan_all(alloc, macros, &mut definitions)? {
         Some(fault) => return Ok(Err(fault)),
         None => {}
     }
-    match scan_file(alloc, true, source, &mut definitions)? {
+    match scan_source(alloc, source, &mut definitions)? {
         Ok(plain) => {
             let program = built(alloc, plain, definitions)?;
             Ok(Ok(program))
@@ -157,6 +158,7 @@ fn program_of(
 }
 
 /// The line of the source at which the outermost expansion of a line began.
+#[inline(always)]
 fn root_of(state: &State, number: u32) -> u32
     ensures { (before : List Visit) (v : Visit) → StandsIn before v state.now → result ≡ root_by v.caller v.root number }
 {
@@ -217,8 +219,31 @@ fn give(alloc: Global, out: &mut Lines, of: &SourceLine, given: &Deed<'_>) -> Re
     }
 }
 
-/// Visits a line.
-fn visit(
+/// Visits a line that is given as it stands.
+#[inline(always)]
+fn pass_on(
+    alloc: Global,
+    program: &Program,
+    state: &mut State,
+    of: &SourceLine,
+    spare: &mut Symbols,
+    out: &mut Lines,
+) -> Result<Outcome, AllocError>
+    requires own { (line of.now).fields ≡ fields_of of.now.text }
+    requires given { IsGiven program.now.definitions (line of.now) }
+    requires line { state.old.scope.line + 1 < 2 ^ 32 }
+    requires room { length out.old + 1 < 2 ^ 32 }
+    ensures visited { IfOk result (λ outcome. (before : List Visit) (v : Visit) → StandsIn before v state.old → line_at program.now v.macro v.line ≡ Some (line of.now)
+        → (length before == most_visits) ≡ false → Visited program.now before v (line of.now) outcome state.new out.old out.new) }
+    ensures calls { IfOk result (λ outcome. state.new.calls ≤ state.old.calls + 1) }
+    ensures few { IfOk result (λ outcome. length out.new ≤ length out.old + 1) }
+{
+    out.copy(alloc, of)?;
+    Ok(onward(program, &mut state.scope, &mut state.frames, spare))
+}
+
+/// Does what a visited line says.
+fn carry_out(
     alloc: Global,
     program: &Program,
     state: &mut State,
@@ -243,6 +268,36 @@ fn visit(
     give(alloc, out, of, &found)?;
     let outcome = step(alloc, program, state, root, found, spare)?;
     Ok(outcome)
+}
+
+/// Visits a line. Of one of the source no more is looked for than whether it is given as it stands.
+fn visit(
+    alloc: Global,
+    program: &Program,
+    state: &mut State,
+    of: &SourceLine,
+    plan: Option<&Plan>,
+    buffer: &mut Vec<u8>,
+    spare: &mut Symbols,
+    out: &mut Lines,
+) -> Result<Outcome, AllocError>
+    requires fields { HaveFields of.now.text (line of.now).fields }
+    requires own { (line of.now).fields ≡ fields_of of.now.text }
+    requires plan { IfSome plan (λ p. Fits (line of.now) p.now) }
+    requires line { state.old.scope.line + 1 < 2 ^ 32 }
+    requires calls { state.old.calls + 1 < 2 ^ 32 }
+    requires room { length out.old + 1 < 2 ^ 32 }
+    ensures visited { IfOk result (λ outcome. (before : List Visit) (v : Visit) → StandsIn before v state.old → line_at program.now v.macro v.line ≡ Some (line of.now)
+        → (length before == most_visits) ≡ false → Visited program.now before v (line of.now) outcome state.new out.old out.new) }
+    ensures calls { IfOk result (λ outcome. state.new.calls ≤ state.old.calls + 1) }
+    ensures few { IfOk result (λ outcome. length out.new ≤ length out.old + 1) }
+{
+    if plan.is_none() {
+        if is_given(alloc, program, of)? {
+            return pass_on(alloc, program, state, of, spare, out);
+        }
+    }
+    carry_out(alloc, program, state, of, plan, buffer, spare, out)
 }
 
 /// The lines that the visits give, or the fault of the first that has one.
@@ -292,12 +347,18 @@ pub fn expand(alloc: Global, source: &[u8], macros: &Vec<Vec<u8>>) -> Result<Lin
         Ok(files) => files,
         Err(fault) => return Err(fault),
     };
-    let lines = match read_file(alloc, 0, source) {
+    let mut lines = match read_file(alloc, 0, source) {
         Ok(lines) => lines,
         Err(fault) => return Err(fault),
     };
+    if texts.is_empty() {
+        if are_untouched(&lines) {
+            lines.drop_comments();
+            return Ok(lines);
+        }
+    }
     let parts = files.as_slice();
-    let program = match program_of(alloc, &lines, parts) {
+    let program = match program_of(alloc, lines, parts) {
         Ok(Ok(program)) => program,
         Ok(Err(fault)) => return Err(fault),
         Err(_) => return Err(no_memory()),

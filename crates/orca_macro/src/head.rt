@@ -11,7 +11,7 @@ use orca_text::{folded, is_comment, part, three_fields};
 use std::alloc::{AllocError, Global};
 
 /// The front of a line, with a blank behind its operation.
-#[derive(Debug, Drop)]
+#[derive(Drop)]
 pub(crate) struct Head {
     /// How many bytes the sequence symbol in column 1 has, which is cut off.
     pub(crate) sequence: usize,

@@ -6,6 +6,7 @@ mod call;
 mod condition;
 mod deed;
 mod definitions;
+mod doing;
 mod expansion;
 mod frames;
 mod head;
@@ -19,6 +20,7 @@ mod substitution;
 mod symbols;
 mod template;
 mod text;
+mod untouched;
 mod visits;
 mod word;
 

@@ -13,7 +13,7 @@ use orca_text::{Fields, is_comment, name_at, part, three_fields};
 use std::alloc::{AllocError, Global};
 
 /// What a model line says, with all names in upper case.
-#[derive(Debug, Drop)]
+#[derive(Drop)]
 pub(crate) struct ModelLine {
     /// The macro's name.
     pub(crate) name: Name,

@@ -19,7 +19,7 @@ use orca_text::{SourceLine, is_comment, part, three_fields};
 use std::alloc::{AllocError, Global};
 
 /// What a line does at each of its visits, as far as that rests on no symbol and no macro.
-#[derive(Debug, Drop)]
+#[derive(Drop)]
 pub(crate) enum Known {
     /// That isn't known.
     Open,
@@ -32,7 +32,7 @@ pub(crate) enum Known {
 }
 
 /// What is known of a line.
-#[derive(Debug, Drop)]
+#[derive(Drop)]
 pub(crate) enum Plan {
     /// It is a comment.
     Comment,

@@ -3,7 +3,7 @@
 ghost use Rattle.std.specs.Prelude.{◌≡◌, ◌≤◌, ◌<◌, ◌+◌, ◌^◌, [], List, ℕ, length, take, map, slice_get, bytes_eq, Some, None, IfOk, IfSome, OnOk, MatchOption, if◌then◌else◌, is_some};
 ghost use Rattle.macro_meaning.specs.Definition.{first_named, or_else};
 ghost use Rattle.macro_meaning.specs.Visit.{line_at, body_of, no_body, target_of};
-ghost use Rattle.orca_meaning.specs.Line.{HaveFields};
+ghost use Rattle.orca_meaning.specs.Line.{HaveFields, fields_of};
 ghost use Rattle.orca_macro.specs.Held.{held};
 ghost use Rattle.orca_macro.specs.Parts.{definition};
 ghost use Rattle.orca_macro.specs.Plan.{Fits};
@@ -150,6 +150,7 @@ impl Program {
     ) -> Option<(&SourceLine, Option<&Plan>)>
         ensures line { MatchOption result (line_at self.now place at ≡ None) (λ found. line_at self.now place at ≡ Some (line found.0.now)) }
         ensures fields { IfSome result (λ found. HaveFields found.0.now.text (line found.0.now).fields) }
+        ensures own { IfSome result (λ found. (line found.0.now).fields ≡ fields_of found.0.now.text) }
         ensures bound { IfSome result (λ _. at + 1 < 2 ^ 32) }
         ensures plan { IfSome result (λ found. IfSome found.1 (λ plan. Fits (line found.0.now) plan.now)) }
     {

@@ -19,7 +19,7 @@ use orca_text::{SourceLine, folded, name_len};
 use std::alloc::{AllocError, Global};
 
 /// A part of a line.
-#[derive(Debug, Drop)]
+#[derive(Drop)]
 pub(crate) enum Part {
     /// These bytes.
     Plain(Name),
@@ -30,7 +30,7 @@ pub(crate) enum Part {
 }
 
 /// What comes in place of an `&`.
-#[derive(Debug, Drop)]
+#[derive(Drop)]
 pub(crate) enum Place {
     /// It stays.
     Ampersand,

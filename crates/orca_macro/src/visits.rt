@@ -21,7 +21,7 @@ use orca_text::SourceLine;
 use std::alloc::{AllocError, Global};
 
 /// How the visits go on.
-#[derive(Clone, Copy, Debug)]
+#[derive(Clone, Copy)]
 pub(crate) enum Outcome {
     Goes,
     Ends,
@@ -119,7 +119,12 @@ fn leave(program: &Program, now: &mut Scope, frames: &mut Frames, spare: &mut Sy
 }
 
 /// The next line, or what is behind the expansion.
-fn onward(program: &Program, now: &mut Scope, frames: &mut Frames, spare: &mut Symbols) -> Outcome
+pub(crate) fn onward(
+    program: &Program,
+    now: &mut Scope,
+    frames: &mut Frames,
+    spare: &mut Symbols,
+) -> Outcome
     requires { now.old.line + 1 < 2 ^ 32 }
     ensures { (before : List Visit) (v last : Visit) (line : meaning.Line) (texts : SharedTexts) (calls : ℕ) → Stands before v (frame now.old) (stack_of frames.old) texts calls
         → MovesTo (next_line program.now before v) (before ++ last ∷ []) line result (frame now.new) (stack_of frames.new) texts calls }

@@ -13,7 +13,7 @@ use std::alloc::{AllocError, Global};
 use std::marker::Model;
 
 /// At most 255 bytes. Contracts see them.
-#[derive(Debug, Drop)]
+#[derive(Drop)]
 pub(crate) struct Word<'a> {
     own: Option<Name>,
     lent: &'a [u8],

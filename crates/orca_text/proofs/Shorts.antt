@@ -1,11 +1,11 @@
 -- Formulas of one or two numbers.
-use Rattle.std.proofs.Common.{◌≡◌, ◌≢◌, ℕ, ◌<◌, ◌≤◌, ◌^◌, Bool, true, false, cond, ltb, eqb, List, [], ◌∷◌, length, Option, Some, None, refl, sym, ap, arith}
+use Rattle.std.proofs.Common.{◌≡◌, ◌≢◌, ℕ, ◌<◌, ◌^◌, Bool, true, false, cond, ltb, eqb, List, [], ◌∷◌, length, Option, Some, None, refl, ap, arith}
 use Rattle.std.proofs.lemmas.Bool.{eqb-true}
-use Rattle.omf_format.specs.Expression.{Tree, Leaf, Binary, Constant}
+use Rattle.omf_format.specs.Expression.{Leaf, Binary, Constant}
 use Rattle.orca_meaning.specs.declared.operators.Operands.TheVariants.{Symbols}
 use Rattle.orca_meaning.specs.declared.operators.Operator.{Operator}
 use Rattle.orca_meaning.specs.declared.operators.Operator.TheVariants.{Multiply, Divide, Shift, Add, Subtract, Less, Greater, LessOrEqual, GreaterOrEqual, NotEqual, Equal, And, Or, Eor}
-use Rattle.orca_meaning.specs.Formula.{Formula, Single, Joined, MeansAt, StandsAt, operator_code, operator_level}
+use Rattle.orca_meaning.specs.Formula.{Single, Joined, MeansAt, operator_code, operator_level}
 use Rattle.orca_meaning.specs.Token.{Found, Token, Value, Number, Between, Opens, byte_at, sign_at, operator_at, spelled_at, number_at, operand_at, operand_token_at, operator_token_at, seen_as}
 use Rattle.orca_text.specs.Kept.{fitting}
 

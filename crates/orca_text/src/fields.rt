@@ -21,6 +21,7 @@ pub struct Fields {
     pub operand: Span,
 }
 
+#[inline(always)]
 fn is_blank(byte: u8) -> bool
     ensures { result ≡ is_blank byte }
 {
@@ -28,6 +29,7 @@ fn is_blank(byte: u8) -> bool
 }
 
 /// The bytes from a place on.
+#[inline(always)]
 pub(crate) fn from(text: &[u8], at: usize) -> &[u8]
     ensures { result.now ≡ drop at text.now }
 {
@@ -50,6 +52,7 @@ pub fn part(text: &[u8], span: Span) -> &[u8]
     }
 }
 
+#[inline(always)]
 fn first_blank(rest: &[u8]) -> Option<usize>
     ensures { result ≡ position is_blank rest.now }
 {
@@ -57,6 +60,7 @@ fn first_blank(rest: &[u8]) -> Option<usize>
 }
 
 #[tactic(auto, using(crate::proofs::Places::found, crate::proofs::Places::none))]
+#[inline(always)]
 fn blank_in(rest: &[u8]) -> usize
     ensures value { result ≡ position_or_len is_blank rest.now }
     ensures bound { result ≤ length rest.now }
@@ -67,6 +71,7 @@ fn blank_in(rest: &[u8]) -> usize
     }
 }
 
+#[inline(always)]
 fn first_ink(rest: &[u8]) -> Option<usize>
     ensures { result ≡ position is_ink rest.now }
 {
@@ -74,6 +79,7 @@ fn first_ink(rest: &[u8]) -> Option<usize>
 }
 
 #[tactic(auto, using(crate::proofs::Places::found, crate::proofs::Places::none))]
+#[inline(always)]
 fn ink_in(rest: &[u8]) -> usize
     ensures value { result ≡ position_or_len is_ink rest.now }
     ensures bound { result ≤ length rest.now }
@@ -85,6 +91,7 @@ fn ink_in(rest: &[u8]) -> usize
 }
 
 /// Which quote is open behind a byte.
+#[inline(always)]
 pub fn quote_behind(quote: Option<u8>, byte: u8) -> Option<u8>
     ensures { result ≡ quote_behind quote byte }
 {
@@ -106,6 +113,7 @@ pub fn quote_behind(quote: Option<u8>, byte: u8) -> Option<u8>
 
 /// How many bytes stand before the first blank outside quotes.
 #[tactic(auto, unfolding(orca_meaning::specs::Quotes::outside_from))]
+#[inline(always)]
 fn blank_outside(rest: &[u8]) -> usize
     ensures value { result ≡ outside_from is_blank None rest.now }
     ensures bound { result ≤ length rest.now }
@@ -193,6 +201,7 @@ pub fn is_comment(text: &[u8]) -> bool
 }
 
 /// Whether a semicolon stands at a place.
+#[inline(always)]
 fn is_semicolon_at(text: &[u8], at: u32) -> bool
     ensures { result ≡ Rattle.std.specs.Prelude.nat_eq (slice_index text.now at) 0x3B }
 {
@@ -203,6 +212,7 @@ fn is_semicolon_at(text: &[u8], at: u32) -> bool
 }
 
 /// The third field, or nothing where the operation doesn't take it.
+#[inline(always)]
 fn operand_span(text: &[u8], third: Span, operand_use: OperandUse) -> Span
     ensures { result ≡ operand_span operand_use text.now third }
 {
@@ -229,6 +239,7 @@ fn operand_span(text: &[u8], third: Span, operand_use: OperandUse) -> Span
 }
 
 /// The fields of a line that isn't a comment.
+#[inline(always)]
 fn statement_fields(text: &[u8]) -> Fields
     requires { length text.now ≤ 255 }
     ensures value { fields result ≡ statement_fields text.now (three_fields text.now) }

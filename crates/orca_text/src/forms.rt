@@ -7,6 +7,7 @@ use crate::fields::from;
 use orca_meaning::{Form, Index, Opening, Prefix};
 
 /// What the operand begins with. A parenthesis opens an instruction's operand; elsewhere it belongs to the formula.
+#[inline(always)]
 pub(crate) fn opening_of(is_instruction: bool, text: &[u8]) -> Opening
     ensures { result ≡ opening_of is_instruction text.now }
 {
@@ -22,6 +23,7 @@ pub(crate) fn opening_of(is_instruction: bool, text: &[u8]) -> Opening
 }
 
 /// What stands behind it.
+#[inline(always)]
 pub(crate) fn behind_opening(opening: Opening, text: &[u8]) -> &[u8]
     ensures value { result.now ≡ behind_opening opening text.now }
     ensures bound { length result.now ≤ length text.now }
@@ -47,6 +49,7 @@ fn immediate_prefix(byte: u8) -> Prefix
 }
 
 /// A prefix elsewhere.
+#[inline(always)]
 fn address_prefix(byte: u8) -> Prefix
     ensures { result ≡ address_prefix byte }
 {
@@ -59,6 +62,7 @@ fn address_prefix(byte: u8) -> Prefix
 }
 
 /// The prefix behind the opening.
+#[inline(always)]
 pub(crate) fn prefix_of(opening: Opening, text: &[u8]) -> Prefix
     ensures { result ≡ prefix_of opening text.now }
 {
@@ -74,6 +78,7 @@ pub(crate) fn prefix_of(opening: Opening, text: &[u8]) -> Prefix
 }
 
 /// What stands behind the prefix.
+#[inline(always)]
 pub(crate) fn behind_prefix(prefix: Prefix, text: &[u8]) -> &[u8]
     ensures value { result.now ≡ behind_prefix prefix text.now }
     ensures bound { length result.now ≤ length text.now }
@@ -88,6 +93,7 @@ pub(crate) fn behind_prefix(prefix: Prefix, text: &[u8]) -> &[u8]
 }
 
 /// The register of an index.
+#[inline(always)]
 fn register_of(letter: u8) -> Option<Index>
     ensures { result ≡ register_of letter }
 {
@@ -101,6 +107,7 @@ fn register_of(letter: u8) -> Option<Index>
 
 /// The index at the front, and what stands behind it.
 #[tactic(auto, unfolding(orca_meaning::specs::Operand::index_at))]
+#[inline(always)]
 fn index_at(text: &[u8]) -> (Index, &[u8])
     ensures { (result.0, result.1.now) ≡ index_at text.now }
 {
@@ -121,6 +128,7 @@ fn index_at(text: &[u8]) -> (Index, &[u8])
 
 /// The index that a whole text is, if it is one or nothing.
 #[tactic(auto, unfolding(orca_meaning::specs::Operand::whole_index))]
+#[inline(always)]
 fn whole_index(text: &[u8]) -> Option<Index>
     ensures { result ≡ whole_index text.now }
 {
@@ -133,6 +141,7 @@ fn whole_index(text: &[u8]) -> Option<Index>
 
 /// The indexes before and behind the closing byte, up to the end.
 #[tactic(auto, unfolding(orca_meaning::specs::Operand::indexes_around))]
+#[inline(always)]
 fn indexes_around(close: u8, text: &[u8]) -> Option<(Index, Index)>
     ensures { result ≡ indexes_around close text.now }
 {
@@ -149,6 +158,7 @@ fn indexes_around(close: u8, text: &[u8]) -> Option<(Index, Index)>
     }
 }
 
+#[inline(always)]
 fn plain_form(index: Index) -> Form
     ensures { result ≡ plain_form index }
 {
@@ -183,6 +193,7 @@ fn square_form(indexes: (Index, Index)) -> Form
 }
 
 /// The form by the opening and what stands behind the formula.
+#[inline(always)]
 pub(crate) fn form_behind(opening: Opening, rest: &[u8]) -> Option<Form>
     ensures { result ≡ form_behind opening rest.now }
 {

@@ -20,6 +20,7 @@ use orca_meaning::{Operands, Operator, Sign};
 use std::alloc::{AllocError, Global};
 
 /// The level of an operator between two operands.
+#[inline(always)]
 pub(crate) fn level(operator: Operator) -> u8
     ensures { result ≡ operator_level operator }
 {
@@ -38,6 +39,7 @@ pub(crate) fn level(operator: Operator) -> u8
 }
 
 /// What an operator between two operands is in an expression.
+#[inline(always)]
 fn operator_code(operator: Operator) -> u8
     ensures { result ≡ operator_code operator }
 {
@@ -70,6 +72,7 @@ fn sign_code(sign: Sign) -> u8
 }
 
 /// The operand as a term. 0 stands for a number that is too large.
+#[inline(always)]
 fn operand_term(of: FormulaOperand) -> FormulaTerm
     ensures { term result ≡ term_of (operand of).0 }
 {
@@ -85,6 +88,7 @@ fn operand_term(of: FormulaOperand) -> FormulaTerm
 
 /// Takes the operator on top, if it is as tight as the level.
 #[tactic(auto, using(crate::proofs::Steps::none_tight, crate::proofs::Steps::bracket_tight, crate::proofs::Steps::not_tight))]
+#[inline(always)]
 fn pop_tight(waiting: &mut Waiting, tight: u8) -> Option<u8>
     requires { 1 ≤ tight }
     ensures { MatchOption result
@@ -150,6 +154,7 @@ fn close(out: &mut Vec<FormulaTerm>, waiting: &mut Waiting) -> Result<Closing, A
 }
 
 /// Whether a token is a number that is too large.
+#[inline(always)]
 fn is_too_large(next: &OperandToken) -> bool
     ensures { result ≡ (operand_token next.now).1 }
 {
@@ -167,6 +172,7 @@ fn is_too_large(next: &OperandToken) -> bool
 
 /// Takes a token where an operand is expected: whether one is expected behind it too.
 #[tactic(auto, using(crate::proofs::Steps::map_push), unfolding(orca_meaning::specs::Machine::step))]
+#[inline(always)]
 fn take_operand(
     out: &mut Vec<FormulaTerm>,
     waiting: &mut Waiting,
@@ -192,6 +198,7 @@ fn take_operand(
 }
 
 /// Takes an operator between two operands.
+#[inline(always)]
 fn take_operator(
     out: &mut Vec<FormulaTerm>,
     waiting: &mut Waiting,
@@ -216,6 +223,7 @@ enum Next<'a> {
 }
 
 /// Takes what stands where an operand is expected.
+#[inline(always)]
 fn operand_next<'a>(
     alloc: Global,
     operands: Operands,
@@ -236,6 +244,7 @@ fn operand_next<'a>(
 }
 
 /// Takes what stands behind an operand.
+#[inline(always)]
 fn operator_next<'a>(
     left: &'a [u8],
     out: &mut Vec<FormulaTerm>,
@@ -262,6 +271,7 @@ fn operator_next<'a>(
 }
 
 /// Takes one more token, where an operand is expected or not.
+#[inline(always)]
 fn take_next<'a>(
     alloc: Global,
     operands: Operands,

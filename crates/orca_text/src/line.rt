@@ -49,6 +49,24 @@ impl SourceLine {
         }
     }
 
+    /// The same line once more.
+    pub(crate) fn copied(&self, alloc: Global) -> Result<SourceLine, AllocError>
+        ensures { IfOk result (λ l. line l ≡ line self.now) }
+    {
+        match Name::of(alloc, self.text.bytes()) {
+            Ok(text) => Ok(SourceLine {
+                file: self.file,
+                line: self.line,
+                text,
+                label: self.label,
+                operation: self.operation,
+                operand: self.operand,
+            }),
+            Err(NameFault::TooLong) => unreachable!(),
+            Err(NameFault::Memory) => Err(AllocError),
+        }
+    }
+
     /// The bytes of one of its fields.
     pub fn part(&self, span: Span) -> &[u8]
         requires { LiesIn self.now.text span }

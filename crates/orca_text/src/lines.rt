@@ -1,12 +1,14 @@
 //! The lines of a source.
 
-ghost use Rattle.std.specs.Prelude.{◌≡◌, ◌+◌, ◌^◌, ◌≤◌, ◌<◌, [], ◌∷◌, ◌++◌, map, length, slice_get, Some, None, IfOk, IfErr, IfSome, OnOk, OnErr, MatchOption};
+ghost use Rattle.std.specs.Prelude.{◌≡◌, ◌+◌, ◌^◌, ◌≤◌, ◌<◌, [], ◌∷◌, ◌++◌, not, map, length, slice_get, Some, None, IfOk, IfErr, IfSome, OnOk, OnErr, MatchOption};
+ghost use Rattle.std.specs.List.{filter};
 ghost use Rattle.omf_format.specs.Lines.{lines_of};
-ghost use Rattle.orca_meaning.specs.Line.{line_of, line_fault, numbered, first_line_fault, fields_of, HaveFields};
+ghost use Rattle.orca_meaning.specs.Line.{line_of, line_fault, numbered, first_line_fault, fields_of, is_comment, HaveFields};
 ghost use Rattle.orca_text.specs.View.{line};
 ghost use Rattle.orca_text.specs.OwnFields.{HaveOwnFields};
 ghost use Rattle.orca_text.specs.Refusals.{IsRefused};
 
+use crate::fields::is_comment;
 use crate::line::SourceLine;
 use omf_base::split_line;
 use orca_meaning::{TextCause, TextFault};
@@ -66,6 +68,25 @@ impl Lines {
         Ok(())
     }
 
+    /// Appends a line as it stands. Its fields are those of its bytes, so they aren't looked for again.
+    pub fn copy(&mut self, alloc: Global, of: &SourceLine) -> Result<(), AllocError>
+        requires own { (line of.now).fields ≡ fields_of of.now.text }
+        requires room { length self.old + 1 < 2 ^ 32 }
+        ensures ok { OnOk result (self.new ≡ self.old ++ line of.now ∷ []) }
+        ensures err { OnErr result (self.new ≡ self.old) }
+    {
+        let line = of.copied(alloc)?;
+        self.lines.push(line)?;
+        Ok(())
+    }
+
+    /// Drops the comments.
+    pub fn drop_comments(&mut self)
+        ensures { self.new ≡ filter (λ l. not (is_comment l.text)) self.old }
+    {
+        self.lines.retain(|of| !is_comment(of.text.bytes()));
+    }
+
     /// How many lines there are.
     pub fn count(&self) -> u32
         ensures { result ≡ length self.now }
@@ -77,6 +98,7 @@ impl Lines {
     pub fn get(&self, place: u32) -> Option<&SourceLine>
         ensures line { MatchOption result (length self.now ≤ place) (λ found. slice_get self.now place ≡ Some (line found.now)) }
         ensures fields { IfSome result (λ found. HaveFields found.now.text (line found.now).fields) }
+        ensures own { IfSome result (λ found. (line found.now).fields ≡ fields_of found.now.text) }
     {
         match self.at(place) {
             Some(found) => Some(found),

@@ -33,6 +33,7 @@ pub struct Operand {
 }
 
 /// How many operands an operator has.
+#[inline(always)]
 fn operand_count(code: u8) -> usize
     ensures { result ≡ operand_count code }
 {
@@ -44,6 +45,7 @@ fn operand_count(code: u8) -> usize
 }
 
 /// The most values that are pending at once in a formula, where the location counter counts so many.
+#[inline(always)]
 fn most_pending(here: usize, terms: &[FormulaTerm]) -> usize
     requires { here ≤ 2 }
     ensures { result ≡ peak here 0 0 (map term terms.now) }
@@ -83,6 +85,7 @@ pub fn is_too_deep(here: usize, formula: &Formula) -> bool
 }
 
 /// An operand with one formula, unless that is too deep or has a number that is too large.
+#[inline(always)]
 fn one_formula(
     here: usize,
     form: Form,
@@ -154,6 +157,7 @@ fn second_formula(alloc: Global, rest: &[u8]) -> Result<Option<FormulaAt<'_>>, A
 }
 
 /// How many values the location counter counts.
+#[inline(always)]
 fn values_here(mnemonic: Option<Mnemonic>) -> usize
     ensures value { result ≡ values_here mnemonic }
     ensures bound { result ≤ 2 }
@@ -165,6 +169,7 @@ fn values_here(mnemonic: Option<Mnemonic>) -> usize
 }
 
 /// What the operand opens with, its prefix, and where its formula begins.
+#[inline(always)]
 fn front_of(mnemonic: Option<Mnemonic>, text: &[u8]) -> (Opening, Prefix, &[u8])
     ensures opening { result.0 ≡ opening mnemonic text.now }
     ensures prefix { result.1 ≡ prefix mnemonic text.now }
@@ -224,6 +229,7 @@ fn bare_operand(alloc: Global, form: Form) -> Operand
 }
 
 /// The operand of a text, which is `A` of a mnemonic with the accumulator mode or not.
+#[inline(always)]
 fn operand_of(
     alloc: Global,
     mnemonic: Option<Mnemonic>,

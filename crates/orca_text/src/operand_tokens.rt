@@ -16,7 +16,7 @@ use orca_meaning::{Operands, Operator, Sign};
 use std::alloc::{AllocError, Global};
 
 /// An operand of a formula.
-#[derive(Debug, Drop)]
+#[derive(Drop)]
 pub(crate) enum FormulaOperand {
     /// The location counter.
     Here,
@@ -33,7 +33,7 @@ pub(crate) enum FormulaOperand {
 }
 
 /// A token where an operand is expected.
-#[derive(Debug, Drop)]
+#[derive(Drop)]
 pub(crate) enum OperandToken {
     /// An operand.
     Value(FormulaOperand),
@@ -44,7 +44,7 @@ pub(crate) enum OperandToken {
 }
 
 /// A token behind an operand.
-#[derive(Clone, Copy, Debug)]
+#[derive(Clone, Copy)]
 pub(crate) enum OperatorToken {
     /// An operator between two.
     Between(Operator),
@@ -53,6 +53,7 @@ pub(crate) enum OperatorToken {
 }
 
 /// Whether a name may begin with the byte.
+#[inline(always)]
 pub fn is_name_start(byte: u8) -> bool
     ensures { result ≡ is_name_start byte }
 {
@@ -60,6 +61,7 @@ pub fn is_name_start(byte: u8) -> bool
 }
 
 /// Whether a name may go on with the byte.
+#[inline(always)]
 fn is_name_byte(byte: u8) -> bool
     ensures { result ≡ is_name_byte byte }
 {
@@ -67,6 +69,7 @@ fn is_name_byte(byte: u8) -> bool
 }
 
 /// How many bytes at the front go on with a name.
+#[inline(always)]
 pub fn name_len(behind: &[u8]) -> usize
     ensures value { result ≡ prefix_len is_name_byte behind.now }
     ensures bound { result ≤ length behind.now }
@@ -135,6 +138,7 @@ enum Asked {
 }
 
 /// What the letter before a colon asks of a name.
+#[inline(always)]
 fn asked_by(letter: u8) -> Option<Asked>
     ensures { MatchOption result ((to_ascii_uppercase letter ≢ 0x4C) × (to_ascii_uppercase letter ≢ 0x43)) (λ asked. to_ascii_uppercase letter ≡ letter_of asked) }
 {
@@ -162,6 +166,7 @@ fn asked_name(
 
 /// `L:` or `C:` before a name.
 #[tactic(auto, unfolding(orca_meaning::specs::Token::attribute_at))]
+#[inline(always)]
 fn attribute_at(
     alloc: Global,
     operands: Operands,
@@ -194,6 +199,7 @@ fn attribute_at(
 
 /// What stands behind `*` at the front.
 #[tactic(auto, unfolding(orca_meaning::specs::Token::location_at))]
+#[inline(always)]
 fn behind_star(text: &[u8]) -> Option<&[u8]>
     ensures { MatchOption result (location_at text.now ≡ None) (λ rest. location_at text.now ≡ Some (Here, rest.now)) }
 {
@@ -207,6 +213,7 @@ fn behind_star(text: &[u8]) -> Option<&[u8]>
 }
 
 /// An operand of a statement that isn't a number.
+#[inline(always)]
 fn label_at(alloc: Global, text: &[u8]) -> Result<Option<(FormulaOperand, &[u8])>, AllocError>
     requires { length text.now ≤ 255 }
     ensures { IfOk result (λ found. MatchOption found (other_operand_at Operands.Labels text.now ≡ None)
@@ -225,6 +232,7 @@ fn label_at(alloc: Global, text: &[u8]) -> Result<Option<(FormulaOperand, &[u8])
 }
 
 /// An operand that isn't a number.
+#[inline(always)]
 fn other_operand_at(
     alloc: Global,
     operands: Operands,
@@ -241,6 +249,7 @@ fn other_operand_at(
 }
 
 /// A number as an operand.
+#[inline(always)]
 fn number_operand(number: Option<u32>) -> FormulaOperand
     ensures { operand result ≡ number_operand number }
 {
@@ -252,6 +261,7 @@ fn number_operand(number: Option<u32>) -> FormulaOperand
 
 /// The operand at the front.
 #[tactic(auto, unfolding(orca_meaning::specs::Token::operand_at))]
+#[inline(always)]
 fn operand_at(
     alloc: Global,
     operands: Operands,
@@ -268,6 +278,7 @@ fn operand_at(
 }
 
 /// What stands behind a byte at the front.
+#[inline(always)]
 pub fn behind_byte(text: &[u8], wanted: u8) -> Option<&[u8]>
     ensures { MatchOption result ((behind : List ℕ) → text.now ≢ wanted ∷ behind) (λ rest. text.now ≡ wanted ∷ rest.now) }
 {
@@ -282,6 +293,7 @@ pub fn behind_byte(text: &[u8], wanted: u8) -> Option<&[u8]>
 
 /// The token at the front, where an operand is expected.
 #[tactic(auto, unfolding(orca_meaning::specs::Token::operand_token_at, orca_meaning::specs::Token::byte_at))]
+#[inline(always)]
 pub(crate) fn operand_token(
     alloc: Global,
     operands: Operands,
@@ -305,6 +317,7 @@ pub(crate) fn operand_token(
 
 /// The token at the front, behind an operand.
 #[tactic(auto, unfolding(orca_meaning::specs::Token::operator_token_at, orca_meaning::specs::Token::byte_at))]
+#[inline(always)]
 pub(crate) fn operator_token(text: &[u8]) -> Option<(OperatorToken, &[u8])>
     ensures { MatchOption result (operator_token_at text.now ≡ None) (λ x. operator_token_at text.now ≡ Some (operator_token x.0, x.1.now)) }
 {

@@ -224,6 +224,7 @@ fn rows() -> &'static [(Mnemonic, OperandUse); 94]
 }
 
 /// The number that three letters are in upper case.
+#[inline(always)]
 fn key(operation: &[u8]) -> Option<u32>
     ensures { MatchOption result (length operation.now ≢ 3) (λ n. (is_three (folded operation.now) ≡ true) × (n ≡ key_of (folded operation.now))) }
 {
@@ -234,6 +235,7 @@ fn key(operation: &[u8]) -> Option<u32>
 }
 
 /// A letter in upper case, and any other byte as it is.
+#[inline(always)]
 fn capital(byte: u8) -> u32
     ensures value { result ≡ to_ascii_uppercase byte }
     ensures small { result < 256 }

@@ -25,6 +25,7 @@ fn behind_word<'a>(text: &'a [u8], spelling: &[u8]) -> Option<&'a [u8]>
 
 /// The operator before an operand that stands at the front.
 #[tactic(auto, unfolding(orca_meaning::specs::Token::sign_at, orca_meaning::specs::Token::spelled_at))]
+#[inline(always)]
 pub(crate) fn sign_at(text: &[u8]) -> Option<(Sign, &[u8])>
     ensures { MatchOption result (sign_at text.now ≡ None) (λ x. sign_at text.now ≡ Some (x.0, x.1.now)) }
 {
@@ -43,6 +44,7 @@ pub(crate) fn sign_at(text: &[u8]) -> Option<(Sign, &[u8])>
 
 /// The operator between two operands that stands at the front.
 #[tactic(auto, unfolding(orca_meaning::specs::Token::operator_at, orca_meaning::specs::Token::spelled_at))]
+#[inline(always)]
 pub(crate) fn operator_at(text: &[u8]) -> Option<(Operator, &[u8])>
     ensures { MatchOption result (operator_at text.now ≡ None) (λ x. operator_at text.now ≡ Some (x.0, x.1.now)) }
 {

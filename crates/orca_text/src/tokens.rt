@@ -10,6 +10,7 @@ use crate::fields::from;
 use omf_base::number_at as little_number;
 
 /// The value of a digit in any base up to 36, and 36 of another byte.
+#[inline(always)]
 fn digit_value(byte: u8) -> u32
     ensures value { result ≡ digit_value byte }
     ensures small { result ≤ 36 }
@@ -23,6 +24,7 @@ fn digit_value(byte: u8) -> u32
 }
 
 /// The value of a digit of a base, which is at most 36.
+#[inline(always)]
 pub fn digit(byte: u8, base: u32) -> Option<u32>
     requires { base ≤ 36 }
     ensures { MatchOption result (is_digit byte base ≡ false) (λ d. (is_digit byte base ≡ true) × (d ≡ digit_value byte) × (d < 36)) }
@@ -99,6 +101,7 @@ fn text_at(quote: u8, behind: &[u8]) -> Option<(u32, &[u8])>
 
 /// The number at the front, `None` where it is above 4,294,967,295, and what stands behind it.
 #[tactic(auto, unfolding(orca_meaning::specs::Token::number_at))]
+#[inline(always)]
 pub(crate) fn number_at(text: &[u8]) -> Option<(Option<u32>, &[u8])>
     ensures { MatchOption result (number_at text.now ≡ None) (λ x. seen_as fitting (number_at text.now) ≡ Some (x.0, x.1.now)) }
 {

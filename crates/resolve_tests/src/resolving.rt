@@ -10,7 +10,7 @@ use std::alloc::{AllocError, Global};
 use std::process::Abort;
 
 /// An object file of one code segment A: 3 bytes, and DS 5.
-const ONE: [u8; 66] = [
+static ONE: [u8; 66] = [
     0x42, 0, 0, 0, 0, 0, 0, 0, 8, 0, 0, 0, 0, 0, 4, 2, 0, 0, 1, 0, 0, 0, 0, 0, 0, 0, 0, 0, 0, 0, 0,
     0, 0, 0, 1, 0, 0, 0, 0, 0, 0x2C, 0, 0x38, 0, 0x20, 0x20, 0x20, 0x20, 0x20, 0x20, 0x20, 0x20,
     0x20, 0x20, 1, 0x41, 3, 0xA9, 0x01, 0x60, 0xF1, 5, 0, 0, 0, 0,

@@ -1,28 +1,28 @@
 // Small inputs of the linker, written by hand: each is a header of 44 bytes, names, records.
 
 /// An object file of one segment M, which uses X.
-pub const USER: [u8; 63] = [
+pub static USER: [u8; 63] = [
     0x3F, 0, 0, 0, 0, 0, 0, 0, 1, 0, 0, 0, 0, 0, 4, 2, 0, 0, 1, 0, 0, 0, 0, 0, 0, 0, 0, 0, 0, 0, 0,
     0, 0, 0, 1, 0, 0, 0, 0, 0, 0x2C, 0, 0x38, 0, 0x20, 0x20, 0x20, 0x20, 0x20, 0x20, 0x20, 0x20,
     0x20, 0x20, 1, 0x4D, 0xEB, 1, 0x83, 1, 0x58, 0, 0,
 ];
 
 /// An object file of a segment XA that has X as 1.
-pub const EQUATE_A: [u8; 71] = [
+pub static EQUATE_A: [u8; 71] = [
     0x47, 0, 0, 0, 0, 0, 0, 0, 0, 0, 0, 0, 0, 0, 4, 2, 0, 0, 1, 0, 0, 0, 0, 0, 0, 0, 0, 0, 0, 0, 0,
     0, 0, 0, 1, 0, 0, 0, 0, 0, 0x2C, 0, 0x39, 0, 0x20, 0x20, 0x20, 0x20, 0x20, 0x20, 0x20, 0x20,
     0x20, 0x20, 2, 0x58, 0x41, 0xE7, 1, 0x58, 0, 0, 0x4E, 0, 0x81, 1, 0, 0, 0, 0, 0,
 ];
 
 /// One of XB, 2.
-pub const EQUATE_B: [u8; 71] = [
+pub static EQUATE_B: [u8; 71] = [
     0x47, 0, 0, 0, 0, 0, 0, 0, 0, 0, 0, 0, 0, 0, 4, 2, 0, 0, 1, 0, 0, 0, 0, 0, 0, 0, 0, 0, 0, 0, 0,
     0, 0, 0, 1, 0, 0, 0, 0, 0, 0x2C, 0, 0x39, 0, 0x20, 0x20, 0x20, 0x20, 0x20, 0x20, 0x20, 0x20,
     0x20, 0x20, 2, 0x58, 0x42, 0xE7, 1, 0x58, 0, 0, 0x4E, 0, 0x81, 2, 0, 0, 0, 0, 0,
 ];
 
 /// A library of XB.
-pub const LIBRARY_B: [u8; 177] = [
+pub static LIBRARY_B: [u8; 177] = [
     0x6A, 0, 0, 0, 0, 0, 0, 0, 0x23, 0, 0, 0, 0, 0, 4, 2, 0, 0, 1, 0, 8, 0, 0, 0, 0, 0, 0, 0, 0, 0,
     0, 0, 0, 0, 1, 0, 0, 0, 0, 0, 0x2C, 0, 0x37, 0, 0x20, 0x20, 0x20, 0x20, 0x20, 0x20, 0x20, 0x20,
     0x20, 0x20, 0, 0xF2, 6, 0, 0, 0, 1, 0, 1, 0x46, 0, 0, 0xF2, 0x18, 0, 0, 0, 0, 0, 0, 0, 1, 0, 0,
@@ -33,7 +33,7 @@ pub const LIBRARY_B: [u8; 177] = [
 ];
 
 /// A library of XC, which has X as 3, and of another segment.
-pub const LIBRARY_C: [u8; 258] = [
+pub static LIBRARY_C: [u8; 258] = [
     0x7C, 0, 0, 0, 0, 0, 0, 0, 0x35, 0, 0, 0, 0, 0, 4, 2, 0, 0, 1, 0, 8, 0, 0, 0, 0, 0, 0, 0, 0, 0,
     0, 0, 0, 0, 1, 0, 0, 0, 0, 0, 0x2C, 0, 0x37, 0, 0x20, 0x20, 0x20, 0x20, 0x20, 0x20, 0x20, 0x20,
     0x20, 0x20, 0, 0xF2, 6, 0, 0, 0, 1, 0, 1, 0x46, 0, 0, 0xF2, 0x24, 0, 0, 0, 0, 0, 0, 0, 1, 0, 0,
@@ -48,21 +48,21 @@ pub const LIBRARY_C: [u8; 258] = [
 ];
 
 /// An object file of one segment W, with X as a weak name.
-pub const WEAK: [u8; 63] = [
+pub static WEAK: [u8; 63] = [
     0x3F, 0, 0, 0, 0, 0, 0, 0, 1, 0, 0, 0, 0, 0, 4, 2, 0, 0, 1, 0, 0, 0, 0, 0, 0, 0, 0, 0, 0, 0, 0,
     0, 0, 0, 1, 0, 0, 0, 0, 0, 0x2C, 0, 0x38, 0, 0x20, 0x20, 0x20, 0x20, 0x20, 0x20, 0x20, 0x20,
     0x20, 0x20, 1, 0x57, 0xEB, 1, 0x82, 1, 0x58, 0, 0,
 ];
 
 /// An object file of a segment P in the load segment L, at $100 from the alignment $100, and 3 bytes.
-pub const PLACED: [u8; 61] = [
+pub static PLACED: [u8; 61] = [
     0x3D, 0, 0, 0, 0, 0, 0, 0, 3, 0, 0, 0, 0, 0, 4, 2, 0, 0, 1, 0, 0, 0, 0, 0, 0, 0, 0, 0, 0, 1, 0,
     0, 0, 0, 1, 0, 0, 0, 0, 0, 0x2C, 0, 0x38, 0, 0x4C, 0x20, 0x20, 0x20, 0x20, 0x20, 0x20, 0x20,
     0x20, 0x20, 1, 0x50, 3, 0x61, 0x62, 0x63, 0,
 ];
 
 /// An object file of two segments: Q in L, 5 bytes, and R in K, 2 bytes, which uses Y.
-pub const BEHIND: [u8; 126] = [
+pub static BEHIND: [u8; 126] = [
     0x3F, 0, 0, 0, 0, 0, 0, 0, 5, 0, 0, 0, 0, 0, 4, 2, 0, 0, 1, 0, 0, 0, 0, 0, 0, 0, 0, 0, 0, 0, 0,
     0, 0, 0, 1, 0, 0, 0, 0, 0, 0x2C, 0, 0x38, 0, 0x4C, 0x20, 0x20, 0x20, 0x20, 0x20, 0x20, 0x20,
     0x20, 0x20, 1, 0x51, 5, 0x31, 0x32, 0x33, 0x34, 0x35, 0, 0x3F, 0, 0, 0, 0, 0, 0, 0, 2, 0, 0, 0,
@@ -72,7 +72,7 @@ pub const BEHIND: [u8; 126] = [
 ];
 
 /// A library of a segment in L that has Y and uses Z, private to the file, and of Z.
-pub const LIBRARY_Y: [u8; 273] = [
+pub static LIBRARY_Y: [u8; 273] = [
     0x87, 0, 0, 0, 0, 0, 0, 0, 0x40, 0, 0, 0, 0, 0, 4, 2, 0, 0, 1, 0, 8, 0, 0, 0, 0, 0, 0, 0, 0, 0,
     0, 0, 0, 0, 1, 0, 0, 0, 0, 0, 0x2C, 0, 0x37, 0, 0x20, 0x20, 0x20, 0x20, 0x20, 0x20, 0x20, 0x20,
     0x20, 0x20, 0, 0xF2, 6, 0, 0, 0, 1, 0, 1, 0x46, 0, 0, 0xF2, 0x30, 0, 0, 0, 0, 0, 0, 0, 1, 0, 0,
@@ -87,7 +87,7 @@ pub const LIBRARY_Y: [u8; 273] = [
 ];
 
 /// The same library where ZS is of another file, so that YS doesn't see its Z.
-pub const LIBRARY_P: [u8; 277] = [
+pub static LIBRARY_P: [u8; 277] = [
     0x8B, 0, 0, 0, 0, 0, 0, 0, 0x44, 0, 0, 0, 0, 0, 4, 2, 0, 0, 1, 0, 8, 0, 0, 0, 0, 0, 0, 0, 0, 0,
     0, 0, 0, 0, 1, 0, 0, 0, 0, 0, 0x2C, 0, 0x37, 0, 0x20, 0x20, 0x20, 0x20, 0x20, 0x20, 0x20, 0x20,
     0x20, 0x20, 0, 0xF2, 0x0A, 0, 0, 0, 1, 0, 1, 0x46, 2, 0, 1, 0x47, 0, 0, 0xF2, 0x30, 0, 0, 0, 0,
@@ -102,14 +102,14 @@ pub const LIBRARY_P: [u8; 277] = [
 ];
 
 /// An object file of a segment that asks for an address in L.
-pub const ASKING: [u8; 59] = [
+pub static ASKING: [u8; 59] = [
     0x3B, 0, 0, 0, 0, 0, 0, 0, 1, 0, 0, 0, 0, 0, 4, 2, 0, 0, 1, 0, 0, 0, 0, 0, 0, 0, 2, 0, 0, 0, 0,
     0, 0, 0, 1, 0, 0, 0, 0, 0, 0x2C, 0, 0x38, 0, 0x4C, 0x20, 0x20, 0x20, 0x20, 0x20, 0x20, 0x20,
     0x20, 0x20, 1, 0x4F, 1, 0x6F, 0,
 ];
 
 /// An object file of U, which uses the data segment D, Y of it, and Z; and of D.
-pub const DATA: [u8; 130] = [
+pub static DATA: [u8; 130] = [
     0x42, 0, 0, 0, 0, 0, 0, 0, 0, 0, 0, 0, 0, 0, 4, 2, 0, 0, 1, 0, 0, 0, 0, 0, 0, 0, 0, 0, 0, 0, 0,
     0, 0, 0, 1, 0, 0, 0, 0, 0, 0x2C, 0, 0x38, 0, 0x20, 0x20, 0x20, 0x20, 0x20, 0x20, 0x20, 0x20,
     0x20, 0x20, 1, 0x55, 0xE4, 1, 0x44, 0xE5, 1, 0x59, 0xE5, 1, 0x5A, 0, 0x40, 0, 0, 0, 0, 0, 0, 0,
@@ -119,7 +119,7 @@ pub const DATA: [u8; 130] = [
 ];
 
 /// A library of another D, with Z, and of Y.
-pub const LIBRARY_D: [u8; 263] = [
+pub static LIBRARY_D: [u8; 263] = [
     0x86, 0, 0, 0, 0, 0, 0, 0, 0x3F, 0, 0, 0, 0, 0, 4, 2, 0, 0, 1, 0, 8, 0, 0, 0, 0, 0, 0, 0, 0, 0,
     0, 0, 0, 0, 1, 0, 0, 0, 0, 0, 0x2C, 0, 0x37, 0, 0x20, 0x20, 0x20, 0x20, 0x20, 0x20, 0x20, 0x20,
     0x20, 0x20, 0, 0xF2, 6, 0, 0, 0, 1, 0, 1, 0x46, 0, 0, 0xF2, 0x30, 0, 0, 0, 0, 0, 0, 0, 1, 0, 0,
@@ -134,7 +134,7 @@ pub const LIBRARY_D: [u8; 263] = [
 ];
 
 /// A segment of no name and no cell.
-pub const BARE: [u8; 56] = [
+pub static BARE: [u8; 56] = [
     0x38, 0, 0, 0, 0, 0, 0, 0, 0, 0, 0, 0, 0, 0, 4, 2, 0, 0, 1, 0, 0, 0, 0, 0, 0, 0, 0, 0, 0, 0, 0,
     0, 0, 0, 1, 0, 0, 0, 0, 0, 0x2C, 0, 0x37, 0, 0x20, 0x20, 0x20, 0x20, 0x20, 0x20, 0x20, 0x20,
     0x20, 0x20, 0, 0,

@@ -6,14 +6,14 @@ use std::alloc::{AllocError, Global};
 use std::test::Fail;
 
 /// An object: a code segment `A` of three constant bytes and five zeros.
-pub const OBJECT: [u8; 66] = [
+pub static OBJECT: [u8; 66] = [
     0x42, 0, 0, 0, 0, 0, 0, 0, 8, 0, 0, 0, 0, 0, 4, 2, 0, 0, 1, 0, 0, 0, 0, 0, 0, 0, 0, 0, 0, 0, 0,
     0, 0, 0, 1, 0, 0, 0, 0, 0, 0x2C, 0, 0x38, 0, 0x20, 0x20, 0x20, 0x20, 0x20, 0x20, 0x20, 0x20,
     0x20, 0x20, 1, 0x41, 3, 0xA9, 1, 0x60, 0xF1, 5, 0, 0, 0, 0,
 ];
 
 /// Its load file: the zeros at the end are in RESSPC.
-pub const LOAD_FILE: [u8; 64] = [
+pub static LOAD_FILE: [u8; 64] = [
     0x40, 0, 0, 0, 5, 0, 0, 0, 8, 0, 0, 0, 0, 0, 4, 2, 0, 0, 1, 0, 0, 0, 0, 0, 0, 0, 0, 0, 0, 0, 0,
     0, 0, 0, 1, 0, 0, 0, 0, 0, 0x2C, 0, 0x37, 0, 0x20, 0x20, 0x20, 0x20, 0x20, 0x20, 0x20, 0x20,
     0x20, 0x20, 0, 0xF2, 3, 0, 0, 0, 0xA9, 1, 0x60, 0,

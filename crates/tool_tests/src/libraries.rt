@@ -5,7 +5,7 @@ use std::test::Fail;
 use tool_runner::{Outcome, changed, ends, run, run_failing};
 
 /// An object file of one segment, A: three bytes, and five zeros.
-const OBJECT: [u8; 66] = [
+static OBJECT: [u8; 66] = [
     0x42, 0, 0, 0, 0, 0, 0, 0, 8, 0, 0, 0, 0, 0, 4, 2, 0, 0, 1, 0, 0, 0, 0, 0, 0, 0, 0, 0, 0, 0, 0,
     0, 0, 0, 1, 0, 0, 0, 0, 0, 0x2C, 0, 0x38, 0, 0x20, 0x20, 0x20, 0x20, 0x20, 0x20, 0x20, 0x20,
     0x20, 0x20, 1, 0x41, 3, 0xA9, 1, 0x60, 0xF1, 5, 0, 0, 0, 0,
@@ -13,7 +13,7 @@ const OBJECT: [u8; 66] = [
 
 /// The dictionary of the library of that object under the path `a`, worked out by hand: behind the header of $41 bytes stand
 /// file 1 with its name, the one row, and the row's name.
-const DICTIONARY: [u8; 101] = [
+static DICTIONARY: [u8; 101] = [
     0x65, 0, 0, 0, 0, 0, 0, 0, 0x14, 0, 0, 0, 0, 0, 4, 2, 0, 0, 0, 0, 8, 0, 0, 0, 0, 0, 0, 0, 0, 0,
     0, 0, 0, 0, 1, 0, 0, 0, 0, 0, 0x2C, 0, 0x41, 0, 0x20, 0x20, 0x20, 0x20, 0x20, 0x20, 0x20, 0x20,
     0x20, 0x20, 0x0A, 0x44, 0x49, 0x43, 0x54, 0x49, 0x4F, 0x4E, 0x41, 0x52, 0x59, 0xF2, 6, 0, 0, 0,

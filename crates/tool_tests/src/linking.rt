@@ -6,14 +6,14 @@ use std::test::Fail;
 use tool_runner::{LOAD_FILE, OBJECT, changed, ends, links, run, run_failing};
 
 /// The load file of the object twice: the first one's zeros stand between the constants.
-const TWICE: [u8; 72] = [
+static TWICE: [u8; 72] = [
     0x48, 0, 0, 0, 5, 0, 0, 0, 0x10, 0, 0, 0, 0, 0, 4, 2, 0, 0, 1, 0, 0, 0, 0, 0, 0, 0, 0, 0, 0, 0,
     0, 0, 0, 0, 1, 0, 0, 0, 0, 0, 0x2C, 0, 0x37, 0, 0x20, 0x20, 0x20, 0x20, 0x20, 0x20, 0x20, 0x20,
     0x20, 0x20, 0, 0xF2, 0x0B, 0, 0, 0, 0xA9, 1, 0x60, 0, 0, 0, 0, 0, 0xA9, 1, 0x60, 0,
 ];
 
 /// The load file of three zeros and five more under KIND $90E1: bits 5 to 7 say nothing, and no constant is left.
-const ZEROS: [u8; 56] = [
+static ZEROS: [u8; 56] = [
     0x38, 0, 0, 0, 8, 0, 0, 0, 8, 0, 0, 0, 0, 0, 4, 2, 0, 0, 1, 0, 1, 0x90, 0, 0, 0, 0, 0, 0, 0, 0,
     0, 0, 0, 0, 1, 0, 0, 0, 0, 0, 0x2C, 0, 0x37, 0, 0x20, 0x20, 0x20, 0x20, 0x20, 0x20, 0x20, 0x20,
     0x20, 0x20, 0, 0,
@@ -80,7 +80,7 @@ fn empty_and_cut_files_are_refused(rt: HostRuntime) -> Result<(), Fail> {
 }
 
 /// The second load segment of the object and its copy under the load name `B`.
-const OTHER: [u8; 65] = [
+static OTHER: [u8; 65] = [
     0x41, 0, 0, 0, 5, 0, 0, 0, 8, 0, 0, 0, 0, 0, 4, 2, 0, 0, 1, 0, 0, 0, 0, 0, 0, 0, 0, 0, 0, 0, 0,
     0, 0, 0, 2, 0, 0, 0, 0, 0, 0x2C, 0, 0x38, 0, 0x42, 0x20, 0x20, 0x20, 0x20, 0x20, 0x20, 0x20,
     0x20, 0x20, 1, 0x42, 0xF2, 3, 0, 0, 0, 0xA9, 1, 0x60, 0,

@@ -6,7 +6,7 @@ use std::test::Fail;
 use tool_runner::{OBJECT, changed, ends, links, run, run_failing, says};
 
 /// `A` in the load segment `ONE` holds the distance of `B`, which stands in `TWO`.
-const APART: [u8; 126] = [
+static APART: [u8; 126] = [
     0x43, 0, 0, 0, 0, 0, 0, 0, 2, 0, 0, 0, 0, 0, 4, 2, 0, 0, 1, 0, 0, 0, 0, 0, 0, 0, 0, 0, 0, 0, 0,
     0, 0, 0, 1, 0, 0, 0, 0, 0, 0x2C, 0, 0x38, 0, 0x4F, 0x4E, 0x45, 0x20, 0x20, 0x20, 0x20, 0x20,
     0x20, 0x20, 1, 0x41, 0xEB, 2, 0x83, 1, 0x42, 0x83, 1, 0x41, 2, 0, 0, 0x3B, 0, 0, 0, 0, 0, 0, 0,
@@ -16,7 +16,7 @@ const APART: [u8; 126] = [
 ];
 
 /// The same in one load segment.
-const TOGETHER: [u8; 126] = [
+static TOGETHER: [u8; 126] = [
     0x43, 0, 0, 0, 0, 0, 0, 0, 2, 0, 0, 0, 0, 0, 4, 2, 0, 0, 1, 0, 0, 0, 0, 0, 0, 0, 0, 0, 0, 0, 0,
     0, 0, 0, 1, 0, 0, 0, 0, 0, 0x2C, 0, 0x38, 0, 0x20, 0x20, 0x20, 0x20, 0x20, 0x20, 0x20, 0x20,
     0x20, 0x20, 1, 0x41, 0xEB, 2, 0x83, 1, 0x42, 0x83, 1, 0x41, 2, 0, 0, 0x3B, 0, 0, 0, 0, 0, 0, 0,
@@ -26,49 +26,49 @@ const TOGETHER: [u8; 126] = [
 ];
 
 /// Its load file: 2, and the byte of `B`.
-const TOGETHER_FILE: [u8; 64] = [
+static TOGETHER_FILE: [u8; 64] = [
     0x40, 0, 0, 0, 0, 0, 0, 0, 3, 0, 0, 0, 0, 0, 4, 2, 0, 0, 1, 0, 0, 0, 0, 0, 0, 0, 0, 0, 0, 0, 0,
     0, 0, 0, 1, 0, 0, 0, 0, 0, 0x2C, 0, 0x37, 0, 0x20, 0x20, 0x20, 0x20, 0x20, 0x20, 0x20, 0x20,
     0x20, 0x20, 0, 0xF2, 3, 0, 0, 0, 2, 0, 0x60, 0,
 ];
 
 /// `M` holds one byte of `X`.
-const USES_X: [u8; 63] = [
+static USES_X: [u8; 63] = [
     0x3F, 0, 0, 0, 0, 0, 0, 0, 1, 0, 0, 0, 0, 0, 4, 2, 0, 0, 1, 0, 0, 0, 0, 0, 0, 0, 0, 0, 0, 0, 0,
     0, 0, 0, 1, 0, 0, 0, 0, 0, 0x2C, 0, 0x38, 0, 0x20, 0x20, 0x20, 0x20, 0x20, 0x20, 0x20, 0x20,
     0x20, 0x20, 1, 0x4D, 0xEB, 1, 0x83, 1, 0x58, 0, 0,
 ];
 
 /// `XA` has the equate `X` for all, which is 1. The byte at $41 is its value, the byte at $38 the end of its name.
-const X_IS_1: [u8; 71] = [
+static X_IS_1: [u8; 71] = [
     0x47, 0, 0, 0, 0, 0, 0, 0, 0, 0, 0, 0, 0, 0, 4, 2, 0, 0, 1, 0, 0, 0, 0, 0, 0, 0, 0, 0, 0, 0, 0,
     0, 0, 0, 1, 0, 0, 0, 0, 0, 0x2C, 0, 0x39, 0, 0x20, 0x20, 0x20, 0x20, 0x20, 0x20, 0x20, 0x20,
     0x20, 0x20, 2, 0x58, 0x41, 0xE7, 1, 0x58, 0, 0, 0x47, 0, 0x81, 1, 0, 0, 0, 0, 0,
 ];
 
 /// The load file of `M` with that `X`. The byte at $3C is its value.
-const M_FILE: [u8; 62] = [
+static M_FILE: [u8; 62] = [
     0x3E, 0, 0, 0, 0, 0, 0, 0, 1, 0, 0, 0, 0, 0, 4, 2, 0, 0, 1, 0, 0, 0, 0, 0, 0, 0, 0, 0, 0, 0, 0,
     0, 0, 0, 1, 0, 0, 0, 0, 0, 0x2C, 0, 0x37, 0, 0x20, 0x20, 0x20, 0x20, 0x20, 0x20, 0x20, 0x20,
     0x20, 0x20, 0, 0xF2, 1, 0, 0, 0, 1, 0,
 ];
 
 /// `M` holds two bytes of a weak name that nothing defines.
-const USES_NOBODY: [u8; 68] = [
+static USES_NOBODY: [u8; 68] = [
     0x44, 0, 0, 0, 0, 0, 0, 0, 2, 0, 0, 0, 0, 0, 4, 2, 0, 0, 1, 0, 0, 0, 0, 0, 0, 0, 0, 0, 0, 0, 0,
     0, 0, 0, 1, 0, 0, 0, 0, 0, 0x2C, 0, 0x38, 0, 0x20, 0x20, 0x20, 0x20, 0x20, 0x20, 0x20, 0x20,
     0x20, 0x20, 1, 0x4D, 0xEB, 2, 0x82, 6, 0x4E, 0x4F, 0x42, 0x4F, 0x44, 0x59, 0, 0,
 ];
 
 /// Its load file has no constant.
-const NOBODY_FILE: [u8; 56] = [
+static NOBODY_FILE: [u8; 56] = [
     0x38, 0, 0, 0, 2, 0, 0, 0, 2, 0, 0, 0, 0, 0, 4, 2, 0, 0, 1, 0, 0, 0, 0, 0, 0, 0, 0, 0, 0, 0, 0,
     0, 0, 0, 1, 0, 0, 0, 0, 0, 0x2C, 0, 0x37, 0, 0x20, 0x20, 0x20, 0x20, 0x20, 0x20, 0x20, 0x20,
     0x20, 0x20, 0, 0,
 ];
 
 /// `MAIN` calls `DYN` twice, and the place three bytes behind it; `DYN` stands in a dynamic segment.
-const CALLS: [u8; 162] = [
+static CALLS: [u8; 162] = [
     0x62, 0, 0, 0, 0, 0, 0, 0, 0x0D, 0, 0, 0, 0, 0, 4, 2, 0, 0, 1, 0, 0, 0, 0, 0, 0, 0, 0, 0, 0, 0,
     0, 0, 0, 0, 1, 0, 0, 0, 0, 0, 0x2C, 0, 0x3B, 0, 0x20, 0x20, 0x20, 0x20, 0x20, 0x20, 0x20, 0x20,
     0x20, 0x20, 4, 0x4D, 0x41, 0x49, 0x4E, 1, 0x22, 0xF3, 3, 0x83, 3, 0x44, 0x59, 0x4E, 0, 1, 0x22,
@@ -79,7 +79,7 @@ const CALLS: [u8; 162] = [
 ];
 
 /// Its load file: two load segments, and a table of two entries.
-const CALLS_FILE: [u8; 262] = [
+static CALLS_FILE: [u8; 262] = [
     0x54, 0, 0, 0, 0, 0, 0, 0, 0x0D, 0, 0, 0, 0, 0, 4, 2, 0, 0, 1, 0, 0, 0, 0, 0, 0, 0, 0, 0, 0, 0,
     0, 0, 0, 0, 1, 0, 0, 0, 0, 0, 0x2C, 0, 0x37, 0, 0x20, 0x20, 0x20, 0x20, 0x20, 0x20, 0x20, 0x20,
     0x20, 0x20, 0, 0xF2, 0x0D, 0, 0, 0, 0x22, 0x12, 0, 3, 0x22, 0x12, 0, 3, 0x22, 0x20, 0, 3, 0x6B,
@@ -94,7 +94,7 @@ const CALLS_FILE: [u8; 262] = [
 ];
 
 /// `MAIN` loads from `DYN`, which stands in a dynamic segment.
-const LOADS_DYNAMIC: [u8; 133] = [
+static LOADS_DYNAMIC: [u8; 133] = [
     0x48, 0, 0, 0, 0, 0, 0, 0, 5, 0, 0, 0, 0, 0, 4, 2, 0, 0, 1, 0, 0, 0, 0, 0, 0, 0, 0, 0, 0, 0, 0,
     0, 0, 0, 1, 0, 0, 0, 0, 0, 0x2C, 0, 0x3B, 0, 0x20, 0x20, 0x20, 0x20, 0x20, 0x20, 0x20, 0x20,
     0x20, 0x20, 4, 0x4D, 0x41, 0x49, 0x4E, 1, 0xAF, 0xF3, 3, 0x83, 3, 0x44, 0x59, 0x4E, 0, 1, 0x6B,
@@ -104,7 +104,7 @@ const LOADS_DYNAMIC: [u8; 133] = [
 ];
 
 /// `A` is `B`, and `B` is `A`.
-const RING: [u8; 79] = [
+static RING: [u8; 79] = [
     0x4F, 0, 0, 0, 0, 0, 0, 0, 0, 0, 0, 0, 0, 0, 4, 2, 0, 0, 1, 0, 0, 0, 0, 0, 0, 0, 0, 0, 0, 0, 0,
     0, 0, 0, 1, 0, 0, 0, 0, 0, 0x2C, 0, 0x38, 0, 0x20, 0x20, 0x20, 0x20, 0x20, 0x20, 0x20, 0x20,
     0x20, 0x20, 1, 0x4D, 0xF0, 1, 0x41, 0, 0, 0x47, 0, 0x83, 1, 0x42, 0, 0xF0, 1, 0x42, 0, 0, 0x47,
@@ -112,21 +112,21 @@ const RING: [u8; 79] = [
 ];
 
 /// `A` calls itself.
-const CALLS_ITSELF: [u8; 65] = [
+static CALLS_ITSELF: [u8; 65] = [
     0x41, 0, 0, 0, 0, 0, 0, 0, 4, 0, 0, 0, 0, 0, 4, 2, 0, 0, 1, 0, 0, 0, 0, 0, 0, 0, 0, 0, 0, 0, 0,
     0, 0, 0, 1, 0, 0, 0, 0, 0, 0x2C, 0, 0x38, 0, 0x20, 0x20, 0x20, 0x20, 0x20, 0x20, 0x20, 0x20,
     0x20, 0x20, 1, 0x41, 1, 0x22, 0xF3, 3, 0x83, 1, 0x41, 0, 0,
 ];
 
 /// Its load file: the place is a patch in a SUPER of type 1.
-const CALLS_ITSELF_FILE: [u8; 73] = [
+static CALLS_ITSELF_FILE: [u8; 73] = [
     0x49, 0, 0, 0, 0, 0, 0, 0, 4, 0, 0, 0, 0, 0, 4, 2, 0, 0, 1, 0, 0, 0, 0, 0, 0, 0, 0, 0, 0, 0, 0,
     0, 0, 0, 1, 0, 0, 0, 0, 0, 0x2C, 0, 0x37, 0, 0x20, 0x20, 0x20, 0x20, 0x20, 0x20, 0x20, 0x20,
     0x20, 0x20, 0, 0xF2, 4, 0, 0, 0, 0x22, 0, 0, 0, 0xF7, 3, 0, 0, 0, 1, 0, 1, 0,
 ];
 
 /// A branch over 127 bytes. The byte at $45 is the number of bytes, the byte at 8 is LENGTH.
-const BRANCH: [u8; 83] = [
+static BRANCH: [u8; 83] = [
     0x53, 0, 0, 0, 0, 0, 0, 0, 0x82, 0, 0, 0, 0, 0, 4, 2, 0, 0, 1, 0, 0, 0, 0, 0, 0, 0, 0, 0, 0, 0,
     0, 0, 0, 0, 1, 0, 0, 0, 0, 0, 0x2C, 0, 0x38, 0, 0x20, 0x20, 0x20, 0x20, 0x20, 0x20, 0x20, 0x20,
     0x20, 0x20, 1, 0x4D, 1, 0x80, 0xEE, 1, 1, 0, 0, 0, 0x83, 1, 0x54, 0, 0xF1, 0x7F, 0, 0, 0, 0xEF,

@@ -8,6 +8,7 @@ ghost use Rattle.orca_meaning.specs.Matrix.{matrix, opcode_of};
 
 mod lengths;
 mod matrix;
+mod rows;
 
 pub use orca_meaning::{Mnemonic, Mode};
 
@@ -17,7 +18,7 @@ pub fn opcode(mnemonic: Mnemonic, mode: Mode) -> Option<u8>
     ensures found { IfSome result (λ byte. slice_get matrix byte ≡ Some (mnemonic, mode)) }
     ensures absent { IfNone result (¬ Contains matrix (mnemonic, mode)) }
 {
-    matrix::opcode_in(mnemonic, mode)
+    rows::opcode_in(mnemonic, mode)
 }
 
 /// The mnemonic and the mode of an opcode.

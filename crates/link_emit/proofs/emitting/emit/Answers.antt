@@ -3,7 +3,7 @@ use Rattle.omf_header.specs.View.{fields}
 use Rattle.link_meaning.specs.declared.fault.LinkFault.{LinkFault}
 use Rattle.link_meaning.specs.Search.{entries}
 use Rattle.link_meaning.specs.LinkedCells.{targets}
-use Rattle.link_emit.specs.declared.content.Content.{Content}
+use Rattle.link_emit.specs.Holding.{Holding}
 use Rattle.link_emit.specs.declared.image.ImageFault.{ImageFault}
 use Rattle.link_emit.specs.declared.slots.Slot.{Slot}
 use Rattle.link_emit.specs.Answers.{IsEmitRefused}

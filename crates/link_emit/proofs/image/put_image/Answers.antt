@@ -1,45 +1,66 @@
-use Rattle.std.proofs.Common.{◌≡◌, ◌+◌, ◌∙◌, length, map, arith}
+use Rattle.std.proofs.Common.{◌≡◌, ◌+◌, ◌-◌, ◌∙◌, ℕ, refl, ap, length, map, arith}
+use Rattle.omf_format.specs.Header.{header_bytes}
+use Rattle.omf_format.specs.WrittenHeader.{length-header}
 use Rattle.omf_header.specs.View.{fields}
 use Rattle.omf_cells.specs.WrittenParts.{seen}
 use Rattle.load_meaning.specs.WrittenFile.{image_text}
-use Rattle.load_meaning.specs.WrittenBody.{zeros_behind, written_cells}
-use Rattle.link_emit.specs.Images.{image_in}
-use Rattle.link_emit.proofs.ImageLaws.{zeros_fit, space_writable, text_size, put_whole, whole_size, zeros_is, body_is, front_is, err_moved}
+use Rattle.load_meaning.specs.WrittenBody.{zeros_behind, written_cells, body_text}
+use Rattle.link_emit.specs.Images.{with_space, image_in}
+use Rattle.link_emit.proofs.ImageLaws.{zeros_fit, space_writable, text_size, put_whole, err_moved, on_ok, behind_size, closed}
 use Rattle.link_emit.proofs.image.put_image.Goals as goal
+
+pub put_behind-requires-clause-room : goal.put_behind-requires-clause-room
+put_behind-requires-clause-room c = omega (arith, ap length c.as_slice-start.ensures.value, c.if-start-gt-MOST_BYTES.false, c.head_size-room.ensures.few)
 
 pub front_of-requires : goal.front_of-requires
 front_of-requires c =
     let content = c.args.content.now in
-    let zeros = zeros_is c.in_ok-body.body.zeros content.bytes.items c.bytes.result.now content.patches.items c.patches.result.now.items c.in_ok-body.ensures.zeros c.bytes.ensures c.patches.ensures in
-    space_writable (fields c.args.header.now) c.in_ok-body.body.zeros c.requires.writable (omega (arith, zeros, zeros_fit content.bytes.items (map seen content.patches.items) c.requires.patches', c.requires.length'))
+    space_writable (fields c.args.header.now) c.in-Ok.zeros c.requires.writable (omega (arith, c.in-Ok.ensures.zeros, zeros_fit content.bytes (map seen content.patches) c.requires.patches', c.requires.length'))
 
-pub returns-in-Err-clause-too_long : goal.returns-in-Err-clause-too_long
-returns-in-Err-clause-too_long c = λ e.
+pub returns-in-Err-front_of-clause-too_long : goal.returns-in-Err-front_of-clause-too_long
+returns-in-Err-front_of-clause-too_long c = λ e.
+    let content = c.args.content.now in
+    let patches = map seen content.patches in
+    let f = fields c.args.header.now in
+    let body = body_text f.seg_num content.bytes patches in
+    let size : length (image_text (image_in f content)) ≡ 0x37 + length f.name + (length body + 1) = text_size f content.bytes patches body c.know_size.ensures refl in
+    let behind = behind_size c.args.out.now.items body c.put_behind.new.out.items c.as_slice-start.result.now c.as_slice.result.now c.head_size-room.result c.as_slice-start.ensures.value c.as_slice.ensures.value c.in-Ok.ensures.bytes in
+    omega (arith, size, behind, c.in-Err-front_of.ensures.too_long (err_moved _ _ e))
+
+pub close-requires : goal.close-requires
+close-requires c =
     let content = c.args.content.now in
     let f = fields c.args.header.now in
-    let body = body_is f.seg_num c.in_ok-body.body.bytes.items content.bytes.items c.bytes.result.now content.patches.items c.patches.result.now.items c.in_ok-body.ensures.bytes c.bytes.ensures c.patches.ensures in
-    let size : length (image_text (image_in f content)) ≡ 0x37 + length f.name + (length c.in_ok-body.body.bytes.items + 1) =
-    text_size f content.bytes.items (map seen content.patches.items) c.in_ok-body.body.bytes.items c.know_size.ensures body in
-    omega (arith, size, c.in-Err.ensures.too_long (err_moved _ _ e))
+    let body = body_text f.seg_num content.bytes (map seen content.patches) in
+    let behind = behind_size c.args.out.now.items body c.put_behind.new.out.items c.as_slice-start.result.now c.put_behind.new.out.items c.head_size-room.result c.as_slice-start.ensures.value refl c.in-Ok.ensures.bytes in
+    let front = ap length (c.as_slice-2.ensures.value ∙ c.in-Ok-front_of.ensures.ok) ∙ length-header (with_space f c.in-Ok.zeros) _ c.know_size.ensures in
+    omega (arith, behind, front, c.head_size-room.ensures.value)
 
 pub returns-clause-ok : goal.returns-clause-ok
 returns-clause-ok c =
     let content = c.args.content.now in
-    let patches = map seen content.patches.items in
+    let patches = map seen content.patches in
     let f = fields c.args.header.now in
-    let zeros = zeros_is c.in_ok-body.body.zeros content.bytes.items c.bytes.result.now content.patches.items c.patches.result.now.items c.in_ok-body.ensures.zeros c.bytes.ensures c.patches.ensures in
-    let body = body_is f.seg_num c.in_ok-body.body.bytes.items content.bytes.items c.bytes.result.now content.patches.items c.patches.result.now.items c.in_ok-body.ensures.bytes c.bytes.ensures c.patches.ensures in
-    let front = front_is f c.as_slice.result.now c.in_ok-body.body.bytes.items c.as_slice-2.result.now c.in_ok-body.body.zeros (zeros_behind (written_cells content.bytes.items patches)) (c.as_slice.ensures.value ∙ c.in-Ok.ensures.ok) zeros c.as_slice-2.ensures.value in
-    put_whole c.put_text.result f content.bytes.items patches c.as_slice.result.now c.as_slice-2.result.now c.args.out.now.items c.put_text.new.out.items (c.as_slice-2.ensures.value ∙ body) front c.put_text.ensures.ok
+    let body = body_text f.seg_num content.bytes patches in
+    let zeros = zeros_behind (written_cells content.bytes patches) in
+    let behind = behind_size c.args.out.now.items body c.put_behind.new.out.items c.as_slice-start.result.now c.as_slice.result.now c.head_size-room.result c.as_slice-start.ensures.value c.as_slice.ensures.value c.in-Ok.ensures.bytes in
+    let told = c.as_slice-2.ensures.value ∙ c.in-Ok-front_of.ensures.ok in
+    let size = ap length told ∙ length-header (with_space f c.in-Ok.zeros) _ c.know_size.ensures in
+    let room : length c.as_slice-2.result.now ≡ c.head_size-room.result = omega (arith, size, c.head_size-room.ensures.value) in
+    let same : length c.as_slice.result.now - length c.as_slice-start.result.now - c.head_size-room.result ≡ length body = omega (arith, behind) in
+    let front : c.as_slice-2.result.now ≡ header_bytes (with_space f zeros) (length body + 1) =
+    told ∙ ap (λ (z : ℕ). header_bytes (with_space f z) (length c.as_slice.result.now - length c.as_slice-start.result.now - c.head_size-room.result + 1)) c.in-Ok.ensures.zeros
+    ∙ ap (λ (k : ℕ). header_bytes (with_space f zeros) (k + 1)) same in
+    put_whole c.close.result f content.bytes patches c.as_slice-2.result.now body c.args.out.now.items c.close.new.out.items refl front
+    (on_ok c.close.result _ _ (closed c.args.out.now.items c.as_slice-2.result.now body c.put_behind.new.out.items c.as_slice-start.result.now c.close.new.out.items c.head_size-room.result c.as_slice-start.ensures.value c.in-Ok.ensures.bytes room)
+    c.close.ensures.ok)
 
 pub returns-clause-too_long : goal.returns-clause-too_long
 returns-clause-too_long c = λ e.
     let content = c.args.content.now in
-    let patches = map seen content.patches.items in
+    let patches = map seen content.patches in
     let f = fields c.args.header.now in
-    let zeros = zeros_is c.in_ok-body.body.zeros content.bytes.items c.bytes.result.now content.patches.items c.patches.result.now.items c.in_ok-body.ensures.zeros c.bytes.ensures c.patches.ensures in
-    let body = body_is f.seg_num c.in_ok-body.body.bytes.items content.bytes.items c.bytes.result.now content.patches.items c.patches.result.now.items c.in_ok-body.ensures.bytes c.bytes.ensures c.patches.ensures in
-    let front = front_is f c.as_slice.result.now c.in_ok-body.body.bytes.items c.as_slice-2.result.now c.in_ok-body.body.zeros (zeros_behind (written_cells content.bytes.items patches)) (c.as_slice.ensures.value ∙ c.in-Ok.ensures.ok) zeros c.as_slice-2.ensures.value in
-    let size : length (image_text (image_in f content)) ≡ length c.as_slice.result.now + (length c.as_slice-2.result.now + 1) =
-    whole_size f content.bytes.items patches c.as_slice.result.now c.as_slice-2.result.now (c.as_slice-2.ensures.value ∙ body) front in
-    omega (arith, size, c.put_text.ensures.too_long e)
+    let body = body_text f.seg_num content.bytes patches in
+    let size : length (image_text (image_in f content)) ≡ 0x37 + length f.name + (length body + 1) = text_size f content.bytes patches body c.know_size.ensures refl in
+    let behind = behind_size c.args.out.now.items body c.put_behind.new.out.items c.as_slice-start.result.now c.put_behind.new.out.items c.head_size-room.result c.as_slice-start.ensures.value refl c.in-Ok.ensures.bytes in
+    omega (arith, size, behind, ap length c.as_slice-start.ensures.value, c.head_size-room.ensures.value, c.close.ensures.too_long e)

@@ -1,12 +1,19 @@
-use Rattle.std.proofs.Common.{◌<◌, length, sym, ◌∙◌, arith}
-use Rattle.link_emit.proofs.RecordLaws.{jsl_there, jsl_nowhere, last_read}
+use Rattle.std.proofs.Common.{◌<◌, ◌++◌, length, sym, ap, ◌∙◌, arith}
+use Rattle.std.proofs.lemmas.List.{length-map}
+use Rattle.link_meaning.specs.LinkWritten.{byte_under}
+use Rattle.link_emit.proofs.RecordLaws.{is_22, jsl_there}
 use Rattle.link_emit.proofs.record.ends_in_jsl.Goals as goal
 
-pub returns-then-bytes-start : goal.returns-then-bytes-start
-returns-then-bytes-start c = λ front cells holds start.
-    sym (jsl_nowhere front cells c.bytes-bytes.result.now (c.bytes-bytes.ensures ∙ holds.bytes') (omega (arith, start, c.if-bytes-start.true)))
+pub returns-in-Some : goal.returns-in-Some
+returns-in-Some c = λ front cells holds start.
+    let bytes = (c.args.content.now).bytes in
+    let more : length front < length bytes =
+    omega (arith, start, c.if-len-start.false, c.len.ensures (front ++ cells) holds, ap length holds.bytes', length-map (front ++ cells) byte_under) in
+    sym (jsl_there front cells bytes holds.bytes' more ∙ ap is_22 (sym c.last.ensures ∙ c.in-Some.is))
 
-pub returns : goal.returns
-returns c = λ front cells holds start.
-    let more : length front < length c.bytes-bytes.result.now = omega (arith, start, c.if-bytes-start.false) in
-    sym (jsl_there front cells c.bytes-bytes.result.now (c.bytes-bytes.ensures ∙ holds.bytes') more ∙ last_read c.bytes-bytes.result.now (omega (arith, more)))
+pub returns-in-None : goal.returns-in-None
+returns-in-None c = λ front cells holds start.
+    let bytes = (c.args.content.now).bytes in
+    let more : length front < length bytes =
+    omega (arith, start, c.if-len-start.false, c.len.ensures (front ++ cells) holds, ap length holds.bytes', length-map (front ++ cells) byte_under) in
+    sym (jsl_there front cells bytes holds.bytes' more ∙ ap is_22 (sym c.last.ensures ∙ c.in-None.is))

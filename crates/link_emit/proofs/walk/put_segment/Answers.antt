@@ -28,3 +28,12 @@ returns-in-Ok-put_zeros-clause-ok c = λ front m back cells stands.
     let b = begins_there list c.requires.whole.files told front m back c.args.seat s c.args.table.now cells c.args.content.now stands c.put_zeros.new.self holds in
     let p = c.in-Ok-put_records.ensures.ok front m back (cells ++ zeros (c.args.seat.offset - length cells)) b in
     puts_member list c.requires.whole.files told front m back c.args.seat s c.args.table.now cells c.args.content.now stands c.put_records.new.table c.put_records.new.content c.put_zeros-2.new.self p c.in-Ok-put_zeros.ensures
+
+pub returns-in-Err-put_records-clause-err : goal.returns-in-Err-put_records-clause-err
+returns-in-Err-put_records-clause-err c = λ front m back cells stands.
+    let list = c.args.whole.now.program.now in
+    let told = rows_of (entries list) c.args.whole.now.slots.now in
+    let s = shown c.args.segment.now in
+    let holds = subst (λ (n : ℕ). HoldsCells (cells ++ zeros (c.args.seat.offset - n)) c.put_zeros.new.self) (c.len.ensures cells stands.holds) (c.in-Ok.ensures cells stands.holds) in
+    let b = begins_there list c.requires.whole.files told front m back c.args.seat s c.args.table.now cells c.args.content.now stands c.put_zeros.new.self holds in
+    c.in-Err-put_records.ensures.err front m back (cells ++ zeros (c.args.seat.offset - length cells)) b

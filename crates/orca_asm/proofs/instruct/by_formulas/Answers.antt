@@ -10,4 +10,4 @@ pub returns-then-is_empty : goal.returns-then-is_empty
 returns-then-is_empty c = λ mn written good.
     bare_case c.args.operand.now mn (constants c.args.known) (widths c.args.of) c.args.mnemonic c.args.first (offered c.args.mnemonic mn.form mn.prefix) _ c.in_default.is
     (sym c.terms-2.ensures ∙ ap (map term) (empty_list c.terms-2.result.now (sym c.is_empty.ensures ∙ c.if-is_empty.true)))
-    (bare_is c.args.mnemonic c.args.first _ c.operand_bytes-width.result _ c.in_ok-pieces.ensures c.operand_bytes-width.ensures.value) written
+    (bare_is c.args.mnemonic c.args.first _ c.operand_bytes-width.result _ c.with_number.ensures c.operand_bytes-width.ensures.value) written

@@ -8,4 +8,4 @@ use Rattle.orca_asm.proofs.instruct.with_known.Goals as goal
 pub returns-then-is_distance : goal.returns-then-is_distance
 returns-then-is_distance c =
     known_branch (widths c.args.of) c.args.mnemonic c.args.prefix c.args.n c.args.mode c.operand_bytes-width.result _ c.is_distance.result (c.is_distance.ensures ∙ ap is_distance c.kind_of.ensures) c.if-is_distance.true
-    c.operand_bytes-width.ensures.value (c.in_ok-pieces.ensures (Leaf (Constant c.args.n)) c.in_ok-text.ensures)
+    c.operand_bytes-width.ensures.value (c.in_ok-given.ensures (Leaf (Constant c.args.n)) c.in_ok-text.ensures)

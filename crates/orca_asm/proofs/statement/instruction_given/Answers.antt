@@ -1,7 +1,6 @@
 use Rattle.orca_asm.specs.GivenView.{given_answer}
 use Rattle.orca_asm.specs.ModeView.{widths}
 use Rattle.orca_asm.specs.NamesView.{constants}
-use Rattle.orca_asm.specs.PieceView.{pieces_answer}
 use Rattle.orca_asm.proofs.Stating.{first_is_fine, second_is_fine, by_instruction, bad_operand, bad_number, shorter}
 use Rattle.orca_asm.proofs.statement.instruction_given.Goals as goal
 
@@ -13,8 +12,8 @@ instruct-requires-clause-second c = second_is_fine (widths c.args.of) c.args.lin
 
 pub returns-in_ok-answer-in-Ok : goal.returns-in_ok-answer-in-Ok
 returns-in_ok-answer-in-Ok c =
-    by_instruction (constants c.args.known) (widths c.args.of) c.args.line.now c.args.mnemonic c.in-Ok.operand (pieces_answer c.in_ok-pieces-in-Ok.pieces) (given_answer c.in_ok-answer-in-Ok.answer) c.requires.mnemonic (shorter _ _ c.part-text.ensures.value c.part-text.ensures.short)
-    (rw c.in-Ok.is at c.read_operand.ensures.operand) c.in_ok-pieces-in-Ok.ensures c.in_ok-answer-in-Ok.ensures
+    by_instruction (constants c.args.known) (widths c.args.of) c.args.line.now c.args.mnemonic c.in-Ok.operand (given_answer c.in_ok-answer-in-Ok.answer) c.requires.mnemonic (shorter _ _ c.part-text.ensures.value c.part-text.ensures.short)
+    (rw c.in-Ok.is at c.read_operand.ensures.operand) c.in_ok-answer-in-Ok.ensures
 
 pub returns-in-BadOperand : goal.returns-in-BadOperand
 returns-in-BadOperand c =

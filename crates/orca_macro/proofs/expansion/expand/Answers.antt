@@ -1,6 +1,8 @@
-use Rattle.std.proofs.Common.{◌≡◌, Option, None, sym, ap, ◌∙◌}
+use Rattle.std.proofs.Common.{◌≡◌, Option, None, length, sym, ap, ◌∙◌}
+use Rattle.std.proofs.lemmas.Bool.{eqb-true}
 use Rattle.macro_meaning.specs.Expansion.{first_in, file_text_fault}
 use Rattle.orca_macro.specs.Files.{texts_of_files, lines_from}
+use Rattle.orca_macro.proofs.Sources.{untouched_expand}
 use Rattle.orca_macro.proofs.Whole.{own_files, parts_refused, all_expand, all_refused}
 use Rattle.orca_macro.proofs.expansion.expand.Goals as goal
 
@@ -33,3 +35,9 @@ returns-in-Ok-visit_all-clause-refused c =
     let good : first_in file_text_fault 1 (texts_of_files c.args.macros.now.items) ≡ None = sym (ap (first_in file_text_fault 1) texts) ∙ c.in-Ok.ensures.good in
     all_refused c.args.source.now (texts_of_files c.args.macros.now.items) c.in-Ok-read_file.lines c.as_slice-parts.result.now c.in-Ok-read_file.ensures.lines files_are good c.in-Ok-read_file.ensures.good c.in-Ok-Ok.program
     (rw c.in-Ok-Ok.field-0-is at c.in-Ok-Ok.ensures) c.in-Ok-visit_all.found c.in-Ok-visit_all.ensures
+
+pub returns-then-are_untouched-clause-lines : goal.returns-then-are_untouched-clause-lines
+returns-then-are_untouched-clause-lines c =
+    let none : length c.args.macros.now.items ≡ 0 =
+    sym (ap length c.as_slice-texts.ensures.value) ∙ eqb-true (length c.as_slice-texts.result.now) 0 (sym c.is_empty.ensures ∙ c.if-is_empty.true) in
+    untouched_expand c.args.source.now c.args.macros.now.items c.in-Ok-read_file.lines c.drop_comments.new.self none c.in-Ok-read_file.ensures.lines c.in-Ok-read_file.ensures.good (c.are_untouched.ensures c.if-are_untouched.true) c.drop_comments.ensures

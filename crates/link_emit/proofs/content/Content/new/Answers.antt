@@ -1,7 +1,12 @@
-use Rattle.std.proofs.Common.{map, ap, ◌∙◌, sym}
+use Rattle.std.proofs.Common.{ℕ, List, map, ap, ◌∙◌, sym}
+use Rattle.omf_cells.specs.Joined.{joined}
 use Rattle.omf_cells.specs.WrittenParts.{seen}
+use Rattle.link_emit.specs.Holding.{or_lent}
 use Rattle.link_emit.proofs.ContentLaws.{no_cells}
 use Rattle.link_emit.proofs.content.Content.new.Goals as goal
 
 pub returns : goal.returns
-returns c = record { bytes' = c.new.ensures.items; patches' = ap (map seen) c.new-2.ensures.items ∙ sym no_cells }
+returns c = record {
+  bytes' = ap (λ (own : List ℕ). or_lent own (joined c.new.result.items)) c.new-2.ensures.items ∙ ap joined c.new.ensures.items;
+  patches' = ap (map seen) c.new-3.ensures.items ∙ sym no_cells;
+}

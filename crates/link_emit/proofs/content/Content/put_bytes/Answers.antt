@@ -1,6 +1,5 @@
-use Rattle.std.proofs.Common.{refl}
 use Rattle.link_emit.proofs.ContentLaws.{grow_bytes}
 use Rattle.link_emit.proofs.content.Content.put_bytes.Goals as goal
 
 pub returns : goal.returns
-returns c = grow_bytes c.append.result c.args.self.now _ c.args.bytes.now c.append.ensures refl
+returns c = grow_bytes c.append.result c.args.self.now c.append.new.self c.args.bytes.now c.append.ensures.bytes c.append.ensures.patches

@@ -1,4 +1,4 @@
-use Rattle.std.proofs.Common.{List, length, replicate, ap, subst, ◌≡◌, ◌++◌, ◌∷◌, [], ◌∙◌, ℕ, ℤ, w8, to_z, of_z, arith}
+use Rattle.std.proofs.Common.{List, length, replicate, subst, ◌≡◌, ◌++◌, ◌∷◌, [], ℕ, ℤ, w8, to_z, of_z, arith}
 use Rattle.std.specs.Prelude.{OnOk}
 use Rattle.std.proofs.Math.Facts.{to_z-of_z}
 use Rattle.omf_cells.specs.declared.written.Patch.{Patch}
@@ -10,11 +10,10 @@ patch at count shift segment offset = record { at = at; count = count; shift = s
 
 pub returns : goal.returns
 returns c =
-    let at = length c.as_slice-at.result.now in
-    let old = c.args.self.now.patches.items in
-    let place = ap (λ (l : List ℕ). length l) c.as_slice-at.ensures.value in
-    let more = subst (λ (n : ℕ). OnOk c.append_zeros.result (c.append_zeros.new.out.items ≡ c.args.self.now.bytes.items ++ replicate n 0)) c.from.ensures c.append_zeros.ensures in
+    let old = c.args.self.now in
+    let new = c.append_patched.new.self in
+    let at = c.size.result in
+    let more = subst (λ (n : ℕ). OnOk c.append_patched.result (new.bytes ≡ old.bytes ++ replicate n 0)) c.from.ensures c.append_patched.ensures.bytes in
     let shift : to_z w8 (of_z w8 c.args.shift) ≡ c.args.shift = grind (arith, to_z-of_z) in
-    let added : c.append_patch.new.patches.items ≡ old ++ patch at c.args.count c.args.shift c.args.segment c.args.offset ∷ [] =
-    c.in_ok-append_patch.ensures ∙ ap (λ (z : ℤ). old ++ patch at c.args.count z c.args.segment c.args.offset ∷ []) shift in
-    grow_place c.append_zeros.result c.args.self.now _ at c.args.count c.args.segment c.args.offset c.args.shift c.requires.counted place more added
+    let added = subst (λ (z : ℤ). OnOk c.append_patched.result (new.patches ≡ old.patches ++ patch at c.args.count z c.args.segment c.args.offset ∷ [])) shift c.append_patched.ensures.patches in
+    grow_place c.append_patched.result old new at c.args.count c.args.segment c.args.offset c.args.shift c.requires.counted c.size.ensures more added

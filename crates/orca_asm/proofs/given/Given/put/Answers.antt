@@ -1,11 +1,15 @@
-use Rattle.std.proofs.Common.{ap}
-use Rattle.orca_asm.specs.GivenView.{all_pieces, given_pieces}
-use Rattle.orca_asm.specs.TextView.{kept_text}
-use Rattle.orca_asm.proofs.Putting.{put_all, puts_same}
+use Rattle.std.proofs.Common.{ℕ, List, ◌++◌, ap, ◌∙◌}
+use Rattle.orca_asm.specs.TextView.{limited}
+use Rattle.orca_asm.proofs.FewLaws.{given_few, given_operand}
+use Rattle.orca_asm.proofs.Segments.{then_ok}
 use Rattle.orca_asm.proofs.given.Given.put.Goals as goal
 
-pub returns-clause-text : goal.returns-clause-text
-returns-clause-text c = λ text is.
-    put_all text (kept_text c.args.out.now) (kept_text c.put_parts.new.out) (kept_text c.flush.new.out) c.args.pending.now.items c.put_parts.new.pending.items (given_pieces c.args.self.now)
-    (puts_same (kept_text c.args.out.now) (kept_text c.put_parts.new.out) c.args.pending.now.items c.put_parts.new.pending.items (all_pieces c.as_slice.result.now) (given_pieces c.args.self.now) (ap all_pieces c.as_slice.ensures.value)
-    c.in_ok-put_parts.ensures) c.in_ok-flush.ensures.text c.requires.none is
+pub returns-in-Bytes-clause-text : goal.returns-in-Bytes-clause-text
+returns-in-Bytes-clause-text c =
+    then_ok c.put_few.result (λ put text is. put text is ∙ ap (λ (l : List ℕ). limited (text ++ l)) (given_few c.args.self.now c.in-Bytes.few c.in-Bytes.is)) c.put_few.ensures
+
+pub returns-in-Operand-clause-text : goal.returns-in-Operand-clause-text
+returns-in-Operand-clause-text c =
+    then_ok c.put_operand.result (λ put text is. put text is
+    ∙ ap (λ (l : List ℕ). limited (text ++ l)) (given_operand c.args.self.now c.in-Operand.opcode c.in-Operand.code c.in-Operand.count c.in-Operand.n c.in-Operand.expr c.as_slice.result.now c.in-Operand.is c.as_slice.ensures.value))
+    c.put_operand.ensures

@@ -1,0 +1,23 @@
+-- What a content is to contracts: its bytes, and the patches over them.
+use Rattle.std.specs.Prelude.{ℕ, List, [], ◌∷◌, ◌++◌, Option, Some, None}
+use Rattle.omf_cells.specs.declared.written.Patch.{Patch}
+
+pub record Holding : Type 0 where
+  pub bytes : List ℕ
+  pub patches : List Patch
+
+-- bytes of one's own, or what is lent where there are none
+abbrev pub or_lent : List ℕ → List ℕ → List ℕ
+or_lent [] lent = lent
+or_lent (byte ∷ own) lent = byte ∷ own
+
+-- the last byte, if there is one
+abbrev pub last_of : List ℕ → Option ℕ
+last_of [] = None
+last_of (byte ∷ []) = Some byte
+last_of (byte ∷ next ∷ bytes) = last_of (next ∷ bytes)
+
+-- one of these, or else the other
+abbrev pub or_before : Option ℕ → Option ℕ → Option ℕ
+or_before None before = before
+or_before (Some byte) before = Some byte
