@@ -1,25 +1,12 @@
 // What no clause says: that memory is enough, and what the definitions make of scripts written out.
-use loader_script::{Command, ScriptCause, ScriptFault, read_script};
-use std::alloc::{AllocError, Global};
+use crate::rows::{all_alike, is_well};
+use loader_script::{Command, Script, ScriptCause, ScriptFault, read_script};
+use std::alloc::Global;
 use std::test::Fail;
-
-fn refused(cause: ScriptCause, line: u32) -> ScriptFault {
-    ScriptFault { cause, line }
-}
-
-/// A text of so many line ends.
-fn ends(alloc: Global, count: usize) -> Result<Vec<u8>, AllocError> {
-    vec![in alloc; b'\n'; count]
-}
 
 /// The fault of a text, if it has one.
 fn fault(alloc: Global, text: &[u8]) -> Option<ScriptFault> {
     read_script(alloc, text).err()
-}
-
-/// How many commands a text has.
-fn count(alloc: Global, text: &[u8]) -> Result<u32, ScriptFault> {
-    Ok(read_script(alloc, text)?.count())
 }
 
 /// Texts, each with the cause of its fault and the line.
@@ -67,47 +54,43 @@ static BAD_LINES: [(&str, ScriptCause, u32); 37] = [
     ("banks 02 03 002\n", ScriptCause::BankTwice, 1),
 ];
 
-#[test]
-fn each_cause_has_its_line(rt: HostRuntime) {
-    let alloc = rt.alloc();
-    for (text, cause, line) in &BAD_LINES {
-        assert_eq!(rt;
-            fault(alloc, text.as_bytes()),
-            Some(refused(*cause, *line)),
-            "{text}"
-        );
+/// The place of the first text that hasn't this fault.
+fn first_without(alloc: Global, rows: &[(&str, ScriptCause, u32)]) -> Option<usize> {
+    for (place, (text, cause, line)) in rows.iter().enumerate() {
+        let wanted = ScriptFault {
+            cause: *cause,
+            line: *line,
+        };
+        if fault(alloc, text.as_bytes()) != Some(wanted) {
+            return Some(place);
+        }
     }
+    None
 }
 
-#[test]
-fn a_text_has_at_most_65536_lines(rt: HostRuntime) -> Result<(), Fail> {
-    let alloc = rt.alloc();
-    let mut text = ends(alloc, 65536)?;
-    assert_eq!(rt; count(alloc, &text)?, 0);
+/// Whether a text of 65,536 line ends has no command, and with one line more this fault.
+fn most_lines_are_read(alloc: Global) -> Result<bool, Fail> {
+    let mut text = vec![in alloc; b'\n'; 65536]?;
+    let is_empty = read_script(alloc, &text)?.count() == 0;
     text.push(b';')?;
-    assert_eq!(rt;
-        fault(alloc, &text),
-        Some(refused(ScriptCause::TooManyLines, 65537))
-    );
-    Ok(())
+    let wanted = ScriptFault {
+        cause: ScriptCause::TooManyLines,
+        line: 65537,
+    };
+    Ok(is_empty && fault(alloc, &text) == Some(wanted))
 }
 
-#[test]
-fn lines_end_with_lf_cr_or_both(rt: HostRuntime) -> Result<(), Fail> {
-    let script = read_script(
-        rt.alloc(),
-        b"banks 02 E1\r\n; a comment\r\rload a/b\nbytes 1 00FFFF FFFFFFFF 100",
-    )?;
-    assert_eq!(rt; script.count(), 3);
-    match script.get(0) {
-        Some(Command::Banks { list }) => assert_eq!(rt; list.bytes(), [0x02, 0xE1].as_slice()),
-        _ => panic!(rt; "not banks"),
-    }
-    match script.get(1) {
-        Some(Command::Load { path }) => assert_eq!(rt; path.bytes(), b"a/b".as_slice()),
-        _ => panic!(rt; "not load"),
-    }
-    match script.get(2) {
+/// Whether a script has these three commands.
+fn has_three(script: &Script) -> bool {
+    let banks = match script.get(0) {
+        Some(Command::Banks { list }) => list.bytes() == [0x02, 0xE1].as_slice(),
+        _ => false,
+    };
+    let load = match script.get(1) {
+        Some(Command::Load { path }) => path.bytes() == b"a/b".as_slice(),
+        _ => false,
+    };
+    let bytes = match script.get(2) {
         Some(
             Command::Bytes {
                 user,
@@ -115,12 +98,26 @@ fn lines_end_with_lf_cr_or_both(rt: HostRuntime) -> Result<(), Fail> {
                 at,
                 length,
             },
-        ) => assert_eq!(rt;
-            (*user, *segment, *at, *length),
-            (1, 0xFFFF, 0xFFFF_FFFF, 256)
-        ),
-        _ => panic!(rt; "not bytes"),
-    }
-    assert!(rt; script.get(3).is_none());
+        ) => (*user, *segment, *at, *length) == (1, 0xFFFF, 0xFFFF_FFFF, 256),
+        _ => false,
+    };
+    banks && load && bytes && script.count() == 3 && script.get(3).is_none()
+}
+
+/// Whether lines end with LF, CR or both.
+fn line_ends_are_read(alloc: Global) -> Result<bool, ScriptFault> {
+    let script = read_script(
+        alloc,
+        b"banks 02 E1\r\n; a comment\r\rload a/b\nbytes 1 00FFFF FFFFFFFF 100",
+    )?;
+    Ok(has_three(&script))
+}
+
+#[test]
+fn scripts_are_read(rt: HostRuntime) -> Result<(), Fail> {
+    let alloc = rt.alloc();
+    all_alike(&rt, first_without(alloc, &BAD_LINES));
+    is_well(&rt, most_lines_are_read(alloc)?);
+    is_well(&rt, line_ends_are_read(alloc)?);
     Ok(())
 }
