@@ -73,6 +73,18 @@ fn script_of(
     Ok(script)
 }
 
+/// Runs a script over a program while these calls of the store and of the sink fail.
+fn run_script(
+    alloc: Global,
+    script: &[u8],
+    program: &[u8],
+    store: &[u32],
+    sink: &[u32],
+) -> Result<Outcome, Fail> {
+    let held = [("s", File::Of(script)), ("prog", File::Of(program))];
+    run(alloc, "run s", &held, store, sink)
+}
+
 /// Runs the script of the commands in front of a place, but for the one at another place, over a program.
 fn run_commands(
     alloc: Global,
@@ -82,8 +94,7 @@ fn run_commands(
     program: &[u8],
 ) -> Result<Outcome, Fail> {
     let script = script_of(alloc, commands, before, but)?;
-    let held = [("s", File::Of(&script)), ("prog", File::Of(program))];
-    run(alloc, "run s", &held, &[], &[])
+    run_script(alloc, &script, program, &[], &[])
 }
 
 /// Runs the script of all commands while these calls of the store and of the sink fail.
@@ -95,8 +106,7 @@ fn run_all(
     sink: &[u32],
 ) -> Result<Outcome, Fail> {
     let script = script_of(alloc, commands, commands.len(), commands.len())?;
-    let held = [("s", File::Of(&script)), ("prog", File::Of(program))];
-    run(alloc, "run s", &held, store, sink)
+    run_script(alloc, &script, program, store, sink)
 }
 
 /// While nothing fails: the length of the replies to the commands in front of each place, and how often the store is read for them.

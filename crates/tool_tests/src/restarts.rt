@@ -110,9 +110,10 @@ fn over_others(alloc: Global, loader: &mut Loader) -> Result<bool, Fail> {
 
 /// The same of the loader that a run hands out.
 fn left_over_others(alloc: Global) -> Result<bool, Fail> {
-    match run_whole(alloc, "run s", &LEFT, &[], &[])? {
-        (_, Some(mut loader)) => over_others(alloc, &mut loader),
-        (_, None) => Err(Fail::new("no loader was handed out")),
+    let (_run, last) = run_whole(alloc, "run s", &LEFT, &[], &[])?;
+    match last {
+        Some(mut loader) => over_others(alloc, &mut loader),
+        None => Err(Fail::new("no loader was handed out")),
     }
 }
 
