@@ -1,15 +1,14 @@
-//! Writes the body of a load segment of many patches, for `bench/body`.
-#![tactic(auto)]
+//! `body input|body COUNT`: makes so many patches, and writes the body of a load segment of them, for `bench/body`.
 
 ghost use Rattle.std.specs.Prelude.{◌≤◌, map, length};
 ghost use Rattle.std.specs.Bool.{OnTrue};
 ghost use Rattle.load_meaning.specs.WrittenBody.{AreWritten, IsWrittenPatch};
 ghost use Rattle.omf_cells.specs.WrittenParts.{seen};
 
+use crate::ending::{Ended, done};
 use omf_cells::{Body, BodyFault, Patch, body_of};
 use std::alloc::{AllocError, Global};
-use std::process::ExitCode;
-use std::{env, io};
+use std::io;
 
 /// Count and shift are those of a patch, and it lies in a part of the segment.
 fn is_inside(patch: &Patch, from: usize, size: usize) -> bool
@@ -77,30 +76,42 @@ fn written(alloc: Global, content: &[u8], patches: &Vec<Patch>) -> Result<Body, 
     body_of(alloc, 1, content, patches)
 }
 
-/// Does what the words say: `input COUNT` makes the input alone, and `body COUNT` writes the body too.
-fn run(rt: &HostRuntime, words: &[String]) -> io::Result<ExitCode> {
-    let [_, task, count] = words else {
-        println!(rt; "usage: body_speed input|body COUNT")?;
-        return Ok(ExitCode::from(2));
-    };
-    let Ok(count) = count.as_str().parse::<u32>() else {
-        println!(rt; "{count} isn't a number")?;
-        return Ok(ExitCode::from(2));
-    };
-    let content = bytes(rt.alloc(), count.wrapping_mul(16))?;
-    let patches = patches(rt.alloc(), count)?;
-    if task.as_str() == "input" {
-        println!(rt; "content {} patches {}", content.len(), patches.len())?;
-        return Ok(ExitCode::from(0));
+/// Writes the body, and prints how long it is.
+fn tell_body(rt: &HostRuntime, content: &[u8], patches: &Vec<Patch>) -> io::Result<()> {
+    match written(rt.alloc(), content, patches) {
+        Ok(body) => println!(rt; "body {} zeros {}", body.bytes.len(), body.zeros),
+        Err(fault) => println!(rt; "refused {fault:?}"),
     }
-    match written(rt.alloc(), &content, &patches) {
-        Ok(body) => println!(rt; "body {} zeros {}", body.bytes.len(), body.zeros)?,
-        Err(fault) => println!(rt; "refused {fault:?}")?,
-    }
-    Ok(ExitCode::from(0))
 }
 
-fn main(rt: HostRuntime) -> io::Result<ExitCode> {
-    let words: Vec<String> = env::args(&rt)?.collect(rt.alloc())?;
-    run(&rt, words.as_slice())
+/// Prints how long the input is, or the body.
+fn tell_input(
+    rt: &HostRuntime,
+    what: &str,
+    content: &[u8],
+    patches: &Vec<Patch>,
+) -> io::Result<()> {
+    if what == "input" {
+        println!(rt; "content {} patches {}", content.len(), patches.len())
+    } else {
+        tell_body(rt, content, patches)
+    }
+}
+
+/// Makes the input for so many patches, and prints what is told of it.
+fn make(rt: &HostRuntime, what: &str, count: u32) -> io::Result<()> {
+    let content = bytes(rt.alloc(), count.wrapping_mul(16))?;
+    let patches = patches(rt.alloc(), count)?;
+    tell_input(rt, what, &content, &patches)
+}
+
+/// Does what the words say: `input` makes the input alone, and `body` writes the body too.
+pub fn run<'w>(rt: &HostRuntime, words: &'w [String]) -> io::Result<Ended<'w>> {
+    let [what, count] = words else {
+        return Ok(Ended::Misused);
+    };
+    match count.as_str().parse::<u32>() {
+        Ok(count) => done(make(rt, what.as_str(), count)),
+        Err(_) => Ok(Ended::NoNumber(count.as_str())),
+    }
 }

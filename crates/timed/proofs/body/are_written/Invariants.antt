@@ -1,7 +1,7 @@
 use Rattle.std.proofs.Common.{length, map}
 use Rattle.omf_cells.specs.WrittenParts.{seen}
 use Rattle.load_meaning.specs.WrittenBody.{AreWritten}
-use Rattle.body_speed.proofs.are_written.Given as goal
+use Rattle.timed.proofs.body.are_written.Given as goal
 
 -- where those that are left can be written, all can
 abbrev pub invariant-patches : goal.invariant-patches

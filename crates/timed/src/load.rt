@@ -1,11 +1,10 @@
-//! Reads a load file, writes what stands in memory for its first segment, or looks up cells of it, for `bench/load`.
-#![tactic(auto)]
+//! `load input|read|patch|cells FILE`: reads a load file, writes what stands in memory for its first segment, or looks up
+//! cells of it, for `bench/load`.
 
+use crate::ending::{Ended, done};
 use omf_cells::{Cell, LoadCause, LoadFault, LoadFile, Places, PlacesFault, patch_into, read_load};
-use omf_io::{Files, HostFiles};
 use std::alloc::{AllocError, Global};
-use std::process::ExitCode;
-use std::{env, io};
+use std::io;
 
 /// Where the segment lies.
 const ADDRESS: u32 = 0x2_0000;
@@ -81,38 +80,30 @@ fn part_count(load: &LoadFile) -> u32 {
     count
 }
 
-/// What is told of the file for a word: nothing, its segments, the sum of its bytes in memory, or its parts.
-fn told(alloc: Global, task: &str, file: &[u8]) -> Result<u32, AllocError> {
-    if task == "input" {
+/// What is told of a file that is read, for a word: the sum of its bytes in memory, its parts, or how many segments it has.
+fn told_of(alloc: Global, what: &str, load: &LoadFile) -> Result<u32, AllocError> {
+    match what {
+        "patch" => patched_sum(alloc, load),
+        "cells" => Ok(part_count(load)),
+        _ => Ok(load.count()),
+    }
+}
+
+/// What is told of the file for a word, which may also ask for nothing.
+fn told(alloc: Global, what: &str, file: &[u8]) -> Result<u32, AllocError> {
+    if what == "input" {
         return Ok(0);
     }
     match load_of(alloc, file) {
-        Ok(load) if task == "patch" => patched_sum(alloc, &load),
-        Ok(load) if task == "cells" => Ok(part_count(&load)),
-        Ok(load) => Ok(load.count()),
+        Ok(load) => told_of(alloc, what, &load),
         Err(_) => Ok(0),
     }
 }
 
-/// Does what the words say: `input FILE`, `read FILE`, `patch FILE` or `cells FILE`.
-fn run(rt: &HostRuntime, words: &[String]) -> io::Result<ExitCode> {
-    let [_, task, path] = words else {
-        println!(rt; "usage: load_speed input|read|patch|cells FILE")?;
-        return Ok(ExitCode::from(2));
-    };
-    let mut files = HostFiles::new(rt);
-    let Ok(file) = files.read(rt.alloc(), path.as_str()) else {
-        println!(rt; "cannot read {path}")?;
-        return Ok(ExitCode::from(3));
-    };
-    match told(rt.alloc(), task.as_str(), &file) {
-        Ok(number) => println!(rt; "{task} {number}")?,
-        Err(AllocError) => return Ok(ExitCode::from(6)),
+/// Prints what is told of the file for a word.
+pub fn tell(rt: &HostRuntime, what: &str, file: &[u8]) -> io::Result<Ended<'static>> {
+    match told(rt.alloc(), what, file) {
+        Ok(number) => done(println!(rt; "{what} {number}")),
+        Err(AllocError) => Ok(Ended::Memory),
     }
-    Ok(ExitCode::from(0))
-}
-
-fn main(rt: HostRuntime) -> io::Result<ExitCode> {
-    let words: Vec<String> = env::args(&rt)?.collect(rt.alloc())?;
-    run(&rt, words.as_slice())
 }
