@@ -8,9 +8,10 @@ use lib_dict::{
 use omf_base::{Name, NameFault, Spot};
 use omf_format::{FileCause, FileFault};
 use std::alloc::{AllocError, Global};
+use std::process::Abort;
 
 /// A segment MAIN with a GLOBAL G, a private GEQU Q, a LOCAL and an EQU: put together by hand.
-const MAIN: [u8; 102] = [
+static MAIN: [u8; 102] = [
     0x66, 0, 0, 0, 0, 0, 0, 0, 1, 0, 0, 0, 0, 0, 4, 2, 0, 0, 1, 0, 0, 0, 0, 0, 0, 0, 0, 0, 0, 0, 0,
     0, 0, 0, 1, 0, 0, 0, 0, 0, 0x2C, 0, 0x3B, 0, 0x20, 0x20, 0x20, 0x20, 0x20, 0x20, 0x20, 0x20,
     0x20, 0x20, 4, 0x4D, 0x41, 0x49, 0x4E, 1, 0xEA, 0xE6, 1, 0x47, 1, 0, 0x4E, 0, 0xE7, 1, 0x51, 0,
@@ -85,99 +86,124 @@ fn fault(alloc: Global, bytes: &[u8]) -> Option<DictFault> {
     read(alloc, bytes).err()
 }
 
-fn count<'a>(dictionary: &Dictionary<'a>) -> u32 {
-    dictionary.count()
-}
-
 fn row<'a>(dictionary: &Dictionary<'a>, place: u32) -> Option<Row<'a>> {
     dictionary.row(place)
 }
 
-/// The fault of that library with bytes changed at displacements.
-fn fault_of(alloc: Global, changes: &[(usize, u8)]) -> Option<DictFault> {
+/// The fault of that library from a displacement up to another, with bytes changed at displacements.
+fn fault_of(alloc: Global, from: usize, to: usize, changes: &[(usize, u8)]) -> Option<DictFault> {
     let mut bytes = library();
     put(&mut bytes, changes);
-    fault(alloc, &bytes)
+    match bytes.get(from..to) {
+        Some(part) => fault(alloc, part),
+        None => Some(DictFault::Memory),
+    }
 }
 
-/// The fault of a row or of the dictionary that stands there, if there is one.
-fn bad(at: Option<u32>) -> Option<DictFault> {
-    match at {
-        Some(at) => Some(DictFault::BadLibrary(at)),
-        None => None,
+/// The rows of that library: name, file, whether it is private, and where the segment starts; and none behind them.
+static ROWS: [Option<Row<'static>>; 8] = [
+    Some(Row {
+        name: b"MAIN",
+        file: 1,
+        private: false,
+        at: 196,
+    }),
+    Some(Row {
+        name: b"G",
+        file: 1,
+        private: false,
+        at: 196,
+    }),
+    Some(Row {
+        name: b"Q",
+        file: 1,
+        private: true,
+        at: 196,
+    }),
+    Some(Row {
+        name: b"G",
+        file: 2,
+        private: true,
+        at: 298,
+    }),
+    Some(Row {
+        name: b"MAIN",
+        file: 2,
+        private: false,
+        at: 363,
+    }),
+    Some(Row {
+        name: b"G",
+        file: 2,
+        private: false,
+        at: 363,
+    }),
+    Some(Row {
+        name: b"Q",
+        file: 2,
+        private: true,
+        at: 363,
+    }),
+    None,
+];
+
+/// Ends the test where the library has other rows.
+fn has_rows(rt: &impl Abort, alloc: Global, bytes: &[u8]) -> Result<u32, DictFault> {
+    let dictionary = read(alloc, bytes)?;
+    let mut place = 0u32;
+    for want in &ROWS {
+        same(rt, &place, row(&dictionary, place), *want);
+        place = place.wrapping_add(1);
     }
+    Ok(dictionary.count())
 }
 
 #[test]
 fn the_rows_of_a_library(rt: HostRuntime) {
     let bytes = library();
-    let dictionary = match read(rt.alloc(), &bytes) {
-        Ok(dictionary) => dictionary,
-        Err(fault) => panic!(rt; "{fault:?}"),
-    };
-    same(&rt, count(&dictionary), 7);
-    let wanted: [(u32, &[u8], u16, bool, u32); 7] = [
-        (0, b"MAIN", 1, false, 196),
-        (1, b"G", 1, false, 196),
-        (2, b"Q", 1, true, 196),
-        (3, b"G", 2, true, 298),
-        (4, b"MAIN", 2, false, 363),
-        (5, b"G", 2, false, 363),
-        (6, b"Q", 2, true, 363),
-    ];
-    for (place, name, file, private, at) in wanted {
-        let want = Row {
-            name,
-            file,
-            private,
-            at,
-        };
-        assert_eq!(rt; row(&dictionary, place), Some(want), "row {place}");
-    }
-    same(&rt, row(&dictionary, 7), None);
+    let count = has_rows(&rt, rt.alloc(), &bytes);
+    same(&rt, &"count", count, Ok(7));
 }
 
-/// Changes of that library, each with the place that is told.
-static FALSE_ROWS: [(&[(usize, u8)], Option<u32>); 16] = [
-    (&[], None),
+/// Parts of that library with changes of it, each with the fault.
+static FALSE: [(usize, usize, &[(usize, u8)], Option<DictFault>); 28] = [
+    (0, 465, &[], None),
     // The first row: no name starts there, no file has the number, MAIN isn't private, no segment starts there, and the
     // dictionary itself does.
-    (&[(86, 1)], Some(86)),
-    (&[(90, 3)], Some(86)),
-    (&[(90, 0)], Some(86)),
-    (&[(92, 1)], Some(86)),
-    (&[(93, 1)], Some(86)),
-    (&[(94, 0xC5)], Some(86)),
-    (&[(94, 0)], Some(86)),
+    (0, 465, &[(86, 1)], Some(DictFault::BadLibrary(86))),
+    (0, 465, &[(90, 3)], Some(DictFault::BadLibrary(86))),
+    (0, 465, &[(90, 0)], Some(DictFault::BadLibrary(86))),
+    (0, 465, &[(92, 1)], Some(DictFault::BadLibrary(86))),
+    (0, 465, &[(93, 1)], Some(DictFault::BadLibrary(86))),
+    (0, 465, &[(94, 0xC5)], Some(DictFault::BadLibrary(86))),
+    (0, 465, &[(94, 0)], Some(DictFault::BadLibrary(86))),
     // The fourth row: G of the segment without a name is private. Every flag but 0 says so.
-    (&[(128, 0)], Some(122)),
-    (&[(128, 2)], None),
-    (&[(128, 0), (129, 1)], None),
+    (0, 465, &[(128, 0)], Some(DictFault::BadLibrary(122))),
+    (0, 465, &[(128, 2)], None),
+    (0, 465, &[(128, 0), (129, 1)], None),
     // Of two false rows the first is told.
-    (&[(98, 1), (158, 1)], Some(98)),
-    // A 0 before the end, a name that runs over, a last record that isn't an LCONST, and a name that runs over there.
-    (&[(70, 0)], Some(0)),
-    (&[(72, 0x40)], Some(0)),
-    (&[(170, 0x18)], Some(0)),
-    (&[(193, 2)], Some(0)),
-];
-
-#[test]
-fn a_false_dictionary_has_its_place(rt: HostRuntime) {
-    for (changes, at) in &FALSE_ROWS {
-        assert_eq!(rt; fault_of(rt.alloc(), changes), bad(*at), "{changes:?}");
-    }
-}
-
-/// More of them.
-static FALSE_PARTS: [(&[(usize, u8)], Option<u32>); 9] = [
-    // No 0 behind the files, a row of 11 bytes, a fourth LCONST, and one record fewer: the dictionary is to blame.
-    (&[(79, 3)], Some(0)),
     (
+        0,
+        465,
+        &[(98, 1), (158, 1)],
+        Some(DictFault::BadLibrary(98)),
+    ),
+    // A 0 before the end, a name that runs over, a last record that isn't an LCONST, and a name that runs over there.
+    (0, 465, &[(70, 0)], Some(DictFault::BadLibrary(0))),
+    (0, 465, &[(72, 0x40)], Some(DictFault::BadLibrary(0))),
+    (0, 465, &[(170, 0x18)], Some(DictFault::BadLibrary(0))),
+    (0, 465, &[(193, 2)], Some(DictFault::BadLibrary(0))),
+    // No 0 behind the files, a row of 11 bytes, a fourth LCONST, and one record fewer: the dictionary is to blame.
+    (0, 465, &[(79, 3)], Some(DictFault::BadLibrary(0))),
+    (
+        0,
+        465,
         &[(82, 83), (169, 0xF2), (170, 21), (171, 0), (174, 0)],
-        Some(0),
+        Some(DictFault::BadLibrary(0)),
     ),
     (
+        0,
+        465,
         &[
             (171, 15),
             (190, 0xF2),
@@ -186,41 +212,38 @@ static FALSE_PARTS: [(&[(usize, u8)], Option<u32>); 9] = [
             (193, 0),
             (194, 0),
         ],
-        Some(0),
+        Some(DictFault::BadLibrary(0)),
     ),
-    (&[(170, 0)], Some(0)),
+    (0, 465, &[(170, 0)], Some(DictFault::BadLibrary(0))),
     // A name that is a LOCAL there, or an EQU, and a name that isn't there: the second row is to blame.
-    (&[(181, 0x4C)], Some(98)),
-    (&[(181, 0x45)], Some(98)),
-    (&[(181, 0x5A)], Some(98)),
+    (0, 465, &[(181, 0x4C)], Some(DictFault::BadLibrary(98))),
+    (0, 465, &[(181, 0x45)], Some(DictFault::BadLibrary(98))),
+    (0, 465, &[(181, 0x5A)], Some(DictFault::BadLibrary(98))),
     // A segment behind the dictionary that is a dictionary too: its first row is to blame.
-    (&[(383, 8)], Some(134)),
+    (0, 465, &[(383, 8)], Some(DictFault::BadLibrary(134))),
     // LENGTH isn't looked at.
-    (&[(8, 0)], None),
+    (0, 465, &[(8, 0)], None),
+    // What is no library: MAIN, nothing, and a header that is cut off.
+    (196, 298, &[], Some(DictFault::NotLibrary)),
+    (0, 0, &[], Some(DictFault::NotLibrary)),
+    (
+        0,
+        43,
+        &[],
+        Some(DictFault::File(FileFault {
+            cause: FileCause::Truncated,
+            segment: 1,
+            at: 43,
+        })),
+    ),
 ];
 
 #[test]
 fn each_cause_of_a_false_dictionary(rt: HostRuntime) {
-    for (changes, at) in &FALSE_PARTS {
-        assert_eq!(rt; fault_of(rt.alloc(), changes), bad(*at), "{changes:?}");
+    for (from, to, changes, want) in &FALSE {
+        let told = fault_of(rt.alloc(), *from, *to, changes);
+        same(&rt, &(*from, *to, *changes), told, *want);
     }
-}
-
-#[test]
-fn what_is_no_library(rt: HostRuntime) {
-    let alloc = rt.alloc();
-    same(&rt, fault(alloc, &MAIN), Some(DictFault::NotLibrary));
-    same(&rt, fault(alloc, &[]), Some(DictFault::NotLibrary));
-    let cut = FileFault {
-        cause: FileCause::Truncated,
-        segment: 1,
-        at: 43,
-    };
-    same(
-        &rt,
-        fault(alloc, &DICTIONARY[..43]),
-        Some(DictFault::File(cut)),
-    );
 }
 
 /// A file with a name.
@@ -259,40 +282,6 @@ fn outcome(alloc: Global, a: &[u8], bb: &[u8]) -> Result<Result<Vec<u8>, LibFaul
     Ok(made(alloc, first, second)?)
 }
 
-/// How a library that isn't made is told: the fault, where it is one of the files.
-fn told(made: Result<Result<Vec<u8>, LibFault>, NameFault>) -> Option<LibFault> {
-    match made {
-        Ok(made) => made.err(),
-        Err(_) => None,
-    }
-}
-
-/// Whether a library is made of these bytes.
-fn is_made(made: Result<Result<Vec<u8>, LibFault>, NameFault>, bytes: &[u8]) -> bool {
-    match made {
-        Ok(Ok(made)) => made.as_slice() == bytes,
-        _ => false,
-    }
-}
-
-#[test]
-fn a_library_is_made(rt: HostRuntime) {
-    let alloc = rt.alloc();
-    let mut second = [0; 167];
-    second[..65].copy_from_slice(&OTHER);
-    second[65..].copy_from_slice(&MAIN);
-    assert!(rt; is_made(outcome(alloc, &MAIN, &second), &library()));
-    let cut = LibFault {
-        cause: LibCause::Truncated,
-        spot: Spot {
-            file: 1,
-            segment: 1,
-            at: 43,
-        },
-    };
-    same(&rt, told(outcome(alloc, &MAIN[..43], &MAIN)), Some(cut));
-}
-
 /// The library of one file.
 fn made_of(alloc: Global, first: Member) -> Result<Result<Vec<u8>, LibFault>, AllocError>
     requires { length first.bytes.items < 2 ^ 32 }
@@ -310,13 +299,55 @@ fn alone(alloc: Global, a: &[u8]) -> Result<Result<Vec<u8>, LibFault>, NameFault
     Ok(made_of(alloc, first)?)
 }
 
-#[test]
-fn a_row_that_is_one_byte_off(rt: HostRuntime) {
-    let alloc = rt.alloc();
+/// Whether a library is made of these bytes, or the fault that is told.
+fn is_made(
+    made: Result<Result<Vec<u8>, LibFault>, NameFault>,
+    bytes: &[u8],
+) -> Result<bool, Option<LibFault>> {
+    match made {
+        Ok(Ok(made)) => Ok(made.as_slice() == bytes),
+        Ok(Err(fault)) => Err(Some(fault)),
+        Err(_) => Err(None),
+    }
+}
+
+/// The file `bb`, which is OTHER and MAIN.
+fn second() -> [u8; 167] {
+    let mut bytes = [0; 167];
+    bytes[..65].copy_from_slice(&OTHER);
+    bytes[65..].copy_from_slice(&MAIN);
+    bytes
+}
+
+/// The library of the file `a` alone, which is PLAIN.
+fn library_of_one() -> [u8; 167] {
     let mut bytes = [0; 167];
     bytes[..101].copy_from_slice(&ONE_ROW);
     bytes[101..].copy_from_slice(&PLAIN);
-    assert!(rt; is_made(alone(alloc, &PLAIN), &bytes));
+    bytes
+}
+
+#[test]
+fn libraries_are_made(rt: HostRuntime) {
+    let alloc = rt.alloc();
+    let two = outcome(alloc, &MAIN, &second());
+    same(&rt, &"two", is_made(two, &library()), Ok(true));
+    let cut = LibFault {
+        cause: LibCause::Truncated,
+        spot: Spot {
+            file: 1,
+            segment: 1,
+            at: 43,
+        },
+    };
+    let told = outcome(alloc, &MAIN[..43], &MAIN);
+    same(&rt, &"cut", is_made(told, &[]), Err(Some(cut)));
+
+    // A row that is one byte off is false.
+    let mut bytes = library_of_one();
+    let one = is_made(alone(alloc, &PLAIN), &bytes);
+    same(&rt, &"one", one, Ok(true));
     put(&mut bytes, &[(0x59, 0x66)]);
-    same(&rt, fault(alloc, &bytes), Some(DictFault::BadLibrary(0x51)));
+    let off = fault(alloc, &bytes);
+    same(&rt, &"one byte off", off, Some(DictFault::BadLibrary(0x51)));
 }

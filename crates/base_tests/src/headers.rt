@@ -7,7 +7,6 @@ use crate::asserting::same;
 use omf_base::{Name, NameFault};
 use omf_header::{Field, Header, HeaderFault, Kind, WriteHeaderFault, read_header, write_header};
 use std::alloc::Global;
-use std::test::Fail;
 
 /// The header of a code segment `A` of 16 bytes, with a body of one byte.
 static HEADER: [u8; 57] = [
@@ -26,57 +25,146 @@ fn read(alloc: Global, bytes: &[u8]) -> Result<Header, HeaderFault> {
 }
 
 fn fault(alloc: Global, bytes: &[u8]) -> Option<HeaderFault> {
-    read(alloc, bytes).err()
+    match read(alloc, bytes) {
+        Ok(_) => None,
+        Err(fault) => Some(fault),
+    }
 }
+
+fn put(bytes: &mut [u8], at: usize, value: u8) {
+    if let Some(byte) = bytes.get_mut(at) {
+        *byte = value;
+    }
+}
+
+/// Each check breaks after the one before it, from the last to the first.
+static BREAKS: [(usize, u8, HeaderFault); 9] = [
+    (0x07, 1, HeaderFault::BadField(Field::ResSpc)),
+    (0x2A, 0x37, HeaderFault::BadField(Field::DispData)),
+    (0x00, 0x3A, HeaderFault::Truncated(57)),
+    (0x28, 0x2B, HeaderFault::BadField(Field::DispName)),
+    (0x20, 1, HeaderFault::Unsupported(Field::NumSex)),
+    (0x14, 0x11, HeaderFault::Unsupported(Field::Kind)),
+    (0x10, 1, HeaderFault::BadField(Field::BankSize)),
+    (0x0F, 3, HeaderFault::Unsupported(Field::Version)),
+    (0x0E, 2, HeaderFault::Unsupported(Field::NumLen)),
+];
 
 #[test]
 fn the_first_check_is_told(rt: HostRuntime) {
     let alloc = rt.alloc();
-    same(&rt, fault(alloc, &HEADER), None);
-
-    // Each check breaks after the one before it, from the last to the first.
-    let breaks = [
-        (0x07, 1, HeaderFault::BadField(Field::ResSpc)),
-        (0x2A, 0x37, HeaderFault::BadField(Field::DispData)),
-        (0x00, 0x3A, HeaderFault::Truncated(57)),
-        (0x28, 0x2B, HeaderFault::BadField(Field::DispName)),
-        (0x20, 1, HeaderFault::Unsupported(Field::NumSex)),
-        (0x14, 0x11, HeaderFault::Unsupported(Field::Kind)),
-        (0x10, 1, HeaderFault::BadField(Field::BankSize)),
-        (0x0F, 3, HeaderFault::Unsupported(Field::Version)),
-        (0x0E, 2, HeaderFault::Unsupported(Field::NumLen)),
-    ];
-    let mut bytes = HEADER;
-    for (at, value, want) in breaks {
-        if let Some(byte) = bytes.get_mut(at) {
-            *byte = value;
-        }
-        same(&rt, fault(alloc, &bytes), Some(want));
-    }
+    same(&rt, &"whole", fault(alloc, &HEADER), None);
     let cut = fault(alloc, &HEADER[..43]);
-    same(&rt, cut, Some(HeaderFault::Truncated(43)));
+    same(&rt, &"cut", cut, Some(HeaderFault::Truncated(43)));
+
+    let mut bytes = HEADER;
+    for (at, value, want) in &BREAKS {
+        put(&mut bytes, *at, *value);
+        same(&rt, at, fault(alloc, &bytes), Some(*want));
+    }
+}
+
+/// What is told of a header: whether it has the name, the alignment, and whether it stays in a bank.
+type Told = (bool, u32, bool);
+
+/// Bytes of that header that are changed, the name, and what is told.
+static CHANGED: [(&[(usize, u8)], &[u8], Told); 8] = [
+    // With LABLEN 2 the name is the two bytes behind the load name, here `A` and a space.
+    (
+        &[(0x0D, 2), (0x36, 0x41), (0x37, 0x20)],
+        b"A",
+        (true, 0x10000, true),
+    ),
+    // Alignment is a page or a bank.
+    (
+        &[(0x1C, 0), (0x1D, 0), (0x1E, 0), (0x1F, 0)],
+        b"A",
+        (true, 1, true),
+    ),
+    (
+        &[(0x1C, 1), (0x1D, 0), (0x1E, 0), (0x1F, 0)],
+        b"A",
+        (true, 0x100, true),
+    ),
+    (
+        &[(0x1C, 0), (0x1D, 1), (0x1E, 0), (0x1F, 0)],
+        b"A",
+        (true, 0x100, true),
+    ),
+    (
+        &[(0x1C, 1), (0x1D, 1), (0x1E, 0), (0x1F, 0)],
+        b"A",
+        (true, 0x10000, true),
+    ),
+    (
+        &[(0x1C, 0), (0x1D, 0), (0x1E, 1), (0x1F, 0)],
+        b"A",
+        (true, 0x10000, true),
+    ),
+    (
+        &[(0x1C, 0), (0x1D, 0), (0x1E, 2), (0x1F, 0)],
+        b"A",
+        (true, 0x10000, true),
+    ),
+    // Without a BANKSIZE it may leave its bank.
+    (&[(0x12, 0)], b"A", (true, 0x10000, false)),
+];
+
+/// What is told of that header with bytes changed; and ORG, SEGNUM and ENTRY, where it has the load name.
+fn told(
+    alloc: Global,
+    changes: &[(usize, u8)],
+    name: &[u8],
+) -> Result<(Told, Option<[u32; 3]>), HeaderFault> {
+    let mut bytes = HEADER;
+    for (at, value) in changes {
+        put(&mut bytes, *at, *value);
+    }
+    let header = read(alloc, &bytes)?;
+    let told = (
+        header.name.bytes() == name,
+        header.alignment(),
+        header.stays_in_bank(),
+    );
+    if header.load_name != *b"LOAD      " {
+        return Ok((told, None));
+    }
+    let places = [header.org, u32::from(header.seg_num), header.entry];
+    Ok((told, Some(places)))
 }
 
 #[test]
-fn names_follow_lab_len(rt: HostRuntime) -> Result<(), Fail> {
+fn fields_are_where_they_stand(rt: HostRuntime) {
     let alloc = rt.alloc();
-
-    // With LABLEN 2 the name is the two bytes behind the load name, here `A` and a space.
-    let mut bytes = HEADER;
-    bytes[0x0D] = 2;
-    bytes[0x36] = 0x41;
-    bytes[0x37] = 0x20;
-    let header = read(alloc, &bytes)?;
-    same(&rt, header.name.bytes(), b"A".as_slice());
-    same(&rt, header.load_name.as_slice(), b"LOAD      ".as_slice());
-    same(&rt, header.org, 0x04030201);
-    same(&rt, header.seg_num, 0x0A09);
-    same(&rt, header.entry, 0x0E0D0C0B);
-    Ok(())
+    let places = Some([0x04030201, 0x0A09, 0x0E0D0C0B]);
+    for (changes, name, want) in &CHANGED {
+        same(
+            &rt,
+            changes,
+            told(alloc, changes, name),
+            Ok((*want, places)),
+        );
+    }
 }
 
-fn attributes(kind: &Kind) -> [bool; 7] {
-    [
+/// Bits of KIND, and the attributes: dynamic, private, not in special memory, in an absolute bank, reloaded, skipped and relative to a
+/// bank.
+static ATTRIBUTES: [(u16, [bool; 7]); 9] = [
+    (0x0000, [false; 7]),
+    (0x8000, [true, false, false, false, false, false, false]),
+    (0x4000, [false, true, false, false, false, false, false]),
+    (0x1000, [false, false, true, false, false, false, false]),
+    (0x0800, [false, false, false, true, false, false, false]),
+    (0x0400, [false, false, false, false, true, false, false]),
+    (0x0200, [false, false, false, false, false, true, false]),
+    (0x0100, [false, false, false, false, false, false, true]),
+    (0x20FF, [false; 7]),
+];
+
+/// The attributes of the bits, whether a segment with them is static, and its type.
+fn attributes(bits: u16) -> ([bool; 7], bool, u16) {
+    let kind = Kind { bits };
+    let attributes = [
         kind.is_dynamic(),
         kind.is_private(),
         kind.avoids_special(),
@@ -84,52 +172,21 @@ fn attributes(kind: &Kind) -> [bool; 7] {
         kind.is_reload(),
         kind.is_skip(),
         kind.is_bank_relative(),
-    ]
+    ];
+    (attributes, kind.is_static(), u16::from(kind.form()))
 }
 
 #[test]
 fn attributes_have_their_bits(rt: HostRuntime) {
-    for (bits, want) in [
-        (0x0000, [false; 7]),
-        (0x8000, [true, false, false, false, false, false, false]),
-        (0x4000, [false, true, false, false, false, false, false]),
-        (0x1000, [false, false, true, false, false, false, false]),
-        (0x0800, [false, false, false, true, false, false, false]),
-        (0x0400, [false, false, false, false, true, false, false]),
-        (0x0200, [false, false, false, false, false, true, false]),
-        (0x0100, [false, false, false, false, false, false, true]),
-        (0x20FF, [false; 7]),
-    ] {
-        let kind = Kind { bits };
-        assert_eq!(rt; attributes(&kind), want, "{bits}");
-        same(&rt, kind.is_static(), !kind.is_dynamic());
-        same(&rt, u16::from(kind.form()), bits % 32);
+    for (bits, want) in &ATTRIBUTES {
+        let [is_dynamic, ..] = *want;
+        same(
+            &rt,
+            bits,
+            attributes(*bits),
+            (*want, !is_dynamic, *bits % 32),
+        );
     }
-}
-
-#[test]
-fn alignment_is_a_page_or_a_bank(rt: HostRuntime) -> Result<(), Fail> {
-    let alloc = rt.alloc();
-    for (align, want) in [
-        ([0, 0, 0], 1),
-        ([1, 0, 0], 0x100),
-        ([0, 1, 0], 0x100),
-        ([1, 1, 0], 0x10000),
-        ([0, 0, 1], 0x10000),
-        ([0, 0, 2], 0x10000),
-    ] {
-        let mut bytes = HEADER;
-        bytes[0x1C..0x1F].copy_from_slice(&align);
-        bytes[0x1F] = 0;
-        let header = read(alloc, &bytes)?;
-        same(&rt, header.alignment(), want);
-        assert!(rt; header.stays_in_bank());
-    }
-    let mut bytes = HEADER;
-    bytes[0x12] = 0;
-    let header = read(alloc, &bytes)?;
-    assert!(rt; !header.stays_in_bank());
-    Ok(())
 }
 
 /// What the header says.
@@ -155,37 +212,26 @@ fn made(alloc: Global) -> Result<Header, NameFault>
     })
 }
 
-/// The header as it is written in front of a body of so many bytes.
-fn written(alloc: Global, body: u32) -> Result<Result<Vec<u8>, WriteHeaderFault>, NameFault> {
+/// Whether the header that is written in front of a body of so many bytes is the one that was read.
+fn written(alloc: Global, body: u32) -> Result<Result<bool, WriteHeaderFault>, NameFault> {
     let header = made(alloc)?;
-    Ok(write_header(alloc, &header, body))
-}
-
-#[test]
-fn a_written_header_is_the_one_that_was_read(rt: HostRuntime) -> Result<(), Fail> {
-    let written = written(rt.alloc(), 1)?;
-    same(
-        &rt,
-        written.map(|bytes| bytes.as_slice() == &HEADER[..56]),
-        Ok(true),
-    );
-    Ok(())
-}
-
-/// Why it isn't written, if it isn't.
-fn write_fault(alloc: Global, body: u32) -> Result<Option<WriteHeaderFault>, NameFault> {
-    Ok(written(alloc, body)?.err())
-}
-
-#[test]
-fn a_segment_above_the_limit_is_too_long(rt: HostRuntime) -> Result<(), Fail> {
-    let longest = 16_777_216 - 56;
-    for (body, want) in [
-        (longest, None),
-        (longest + 1, Some(WriteHeaderFault::TooLong)),
-        (16_777_216, Some(WriteHeaderFault::TooLong)),
-    ] {
-        same(&rt, write_fault(rt.alloc(), body)?, want);
+    match write_header(alloc, &header, body) {
+        Ok(bytes) => Ok(Ok(bytes.as_slice() == &HEADER[..56])),
+        Err(fault) => Ok(Err(fault)),
     }
-    Ok(())
+}
+
+/// Lengths of a body, and whether the header in front of it is that one. A segment above the limit is too long.
+static WRITTEN: [(u32, Result<bool, WriteHeaderFault>); 4] = [
+    (1, Ok(true)),
+    (16_777_216 - 56, Ok(false)),
+    (16_777_216 - 56 + 1, Err(WriteHeaderFault::TooLong)),
+    (16_777_216, Err(WriteHeaderFault::TooLong)),
+];
+
+#[test]
+fn a_written_header_is_the_one_that_was_read(rt: HostRuntime) {
+    for (body, want) in &WRITTEN {
+        same(&rt, body, written(rt.alloc(), *body), Ok(*want));
+    }
 }

@@ -1,14 +1,14 @@
-//! How a test ends where what is told isn't what is wanted. These promise nothing, and an assertion of a test's own would be dearer to
-//! prove.
+//! How a test ends where what is told isn't what is wanted.
 use std::fmt::Debug;
 use std::process::Abort;
 
-/// Ends the test where the two aren't equal.
-pub(crate) fn same<T: Debug + PartialEq + Drop>(rt: &impl Abort, told: T, want: T) {
-    assert_eq!(rt; told, want);
-}
-
-/// Ends the test where not just these are told.
-pub(crate) fn same_all<T: Debug + PartialEq + Drop>(rt: &impl Abort, told: Vec<T>, want: &[T]) {
-    assert_eq!(rt; told.as_slice(), want);
+/// Ends the test where the two aren't equal, and tells at which row. It promises nothing, and an assertion of a test's own would be dearer to
+/// prove.
+pub(crate) fn same<R: Debug, T: Debug + PartialEq + Drop>(
+    rt: &impl Abort,
+    row: &R,
+    told: T,
+    want: T,
+) {
+    assert_eq!(rt; told, want, "at {row:?}");
 }

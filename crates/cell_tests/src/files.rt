@@ -1,8 +1,7 @@
 //! Load files for tests, put together segment by segment, and single calls over them.
 
-use omf_cells::{Cell, LoadFault, LoadFile, Places, PlacesFault, patch_into, read_load};
-use std::alloc::Global;
-use std::test::Fail;
+use omf_cells::{Cell, LoadCause, LoadFault, LoadFile, Places, PlacesFault, patch_into, read_load};
+use std::alloc::{AllocError, Global};
 
 /// A header of version 2 without a name: BYTECNT, KIND, LENGTH and SEGNUM are 0.
 static HEAD: [u8; 0x37] = [
@@ -27,7 +26,7 @@ pub(crate) fn add(
     kind: [u8; 2],
     length: u32,
     body: &[u8],
-) -> Result<(), Fail> {
+) -> Result<(), AllocError> {
     let start = file.len();
     let size = body.len().saturating_add(HEAD.len()).to_le_bytes();
     file.extend_from_slice(&HEAD)?;
@@ -40,10 +39,22 @@ pub(crate) fn add(
 }
 
 /// The file of one code segment of this LENGTH with these records.
-pub(crate) fn file_of_one(alloc: Global, length: u32, body: &[u8]) -> Result<Vec<u8>, Fail> {
+pub(crate) fn file_of_one(alloc: Global, length: u32, body: &[u8]) -> Result<Vec<u8>, AllocError> {
     let mut file = Vec::new(alloc);
     add(&mut file, 1, [0, 0], length, body)?;
     Ok(file)
+}
+
+/// The LCONST of eight bytes.
+static DATA: [u8; 13] = [0xF2, 8, 0, 0, 0, 1, 2, 3, 4, 5, 6, 7, 8];
+
+/// The records of eight bytes of data and then these.
+pub(crate) fn body_of_patches(alloc: Global, patches: &[u8]) -> Result<Vec<u8>, AllocError> {
+    let mut body = Vec::new(alloc);
+    body.extend_from_slice(&DATA)?;
+    body.extend_from_slice(patches)?;
+    body.push(0)?;
+    Ok(body)
 }
 
 /// The file, whose size is that of a file; nothing is told where it isn't.
@@ -57,67 +68,112 @@ pub(crate) fn read(alloc: Global, file: &[u8]) -> Result<LoadFile<'_>, Option<Lo
     }
 }
 
-/// The fault of a file, if it has one.
-pub(crate) fn fault_in(alloc: Global, file: &[u8]) -> Option<LoadFault> {
+/// A fault as rows name it: its cause, segment and place.
+pub(crate) type Fault = (LoadCause, u32, u32);
+
+/// The fault of a file, if it has one. A file that is too long to be one has none.
+pub(crate) fn fault_in(alloc: Global, file: &[u8]) -> Option<Fault> {
     match read(alloc, file) {
-        Ok(_) => None,
-        Err(fault) => fault,
+        Ok(_) | Err(None) => None,
+        Err(Some(fault)) => Some((fault.cause, fault.segment, fault.at)),
     }
 }
 
-/// The cells of a segment from an offset on, so many.
-pub(crate) fn cells(
+/// A cell as rows name it.
+#[derive(Clone, Copy)]
+pub(crate) enum Seen {
+    Byte(u8),
+    /// A byte of a place: segment, offset, shift, and which byte it is.
+    Part(u16, u32, i8, u8),
+    /// No cell is there.
+    None,
+}
+
+fn cell(seen: &Seen) -> Option<Cell> {
+    match *seen {
+        Seen::Byte(byte) => Some(Cell::Byte(byte)),
+        Seen::Part(segment, offset, shift, index) => Some(Cell::Part {
+            file: 1,
+            segment,
+            offset,
+            shift,
+            index,
+        }),
+        Seen::None => None,
+    }
+}
+
+/// The first cell of a segment that is unlike these from an offset on, and that offset.
+fn first_unlike(
+    load: &LoadFile,
+    segment: u32,
+    from: u32,
+    cells: &[Seen],
+) -> Option<(u32, Option<Cell>)> {
+    let mut at = from;
+    for seen in cells {
+        let told = load.cell(segment, at);
+        if told != cell(seen) {
+            return Some((at, told));
+        }
+        at = at.wrapping_add(1);
+    }
+    None
+}
+
+/// The same in a file, or its fault.
+pub(crate) fn unlike(
     alloc: Global,
     file: &[u8],
     segment: u32,
     from: u32,
-    count: u32,
-) -> Result<Vec<Option<Cell>>, Fail> {
-    let mut cells = Vec::new(alloc);
+    cells: &[Seen],
+) -> Result<Option<(u32, Option<Cell>)>, Option<LoadFault>> {
     match read(alloc, file) {
-        Ok(load) => {
-            for at in 0..count {
-                cells.push(load.cell(segment, from.wrapping_add(at)))?;
-            }
-        }
-        Err(_) => return Err(Fail::new("the file is read")),
+        Ok(load) => Ok(first_unlike(&load, segment, from, cells)),
+        Err(fault) => Err(fault),
     }
-    Ok(cells)
 }
 
 /// Places for two segments, which lie at these addresses.
-fn places_of(alloc: Global, first: u32, second: u32) -> Result<Places, Fail> {
-    let mut places = match Places::new(alloc, 2) {
-        Ok(places) => places,
-        Err(PlacesFault::Memory) => return Err(Fail::new("memory is ample")),
-    };
+fn places_of(alloc: Global, first: u32, second: u32) -> Result<Places, PlacesFault> {
+    let mut places = Places::new(alloc, 2)?;
     places.set(1, Some(first));
     places.set(2, Some(second));
     Ok(places)
 }
 
-/// What stands in memory for a segment, where the first two of the file lie at these addresses.
-fn stands(alloc: Global, load: &LoadFile, segment: u32, places: &Places) -> Result<Vec<u8>, Fail> {
+/// Whether these bytes stand in memory for a segment.
+fn stands(
+    alloc: Global,
+    load: &LoadFile,
+    segment: u32,
+    places: &Places,
+    bytes: &[u8],
+) -> Result<bool, AllocError> {
     let length = match load.header(segment) {
         Some(header) => header.length,
-        None => return Err(Fail::new("there is a segment")),
+        None => return Ok(false),
     };
     let mut out = vec![in alloc; 0xFFu8; length as usize]?;
     patch_into(load, segment, places, &mut out);
-    Ok(out)
+    Ok(out.as_slice() == bytes)
 }
 
-/// What stands in memory for a segment of a file whose first two segments lie at these addresses.
-pub(crate) fn patched(
+/// Whether these bytes stand in memory for a segment of a file whose first two segments lie at these addresses.
+pub(crate) fn is_patched(
     alloc: Global,
     file: &[u8],
     segment: u32,
-    first: u32,
-    second: u32,
-) -> Result<Vec<u8>, Fail> {
-    let places = places_of(alloc, first, second)?;
-    match read(alloc, file) {
-        Ok(load) => stands(alloc, &load, segment, &places),
-        Err(_) => Err(Fail::new("the file is read")),
-    }
+    lie: (u32, u32),
+    bytes: &[u8],
+) -> bool {
+    let (first, second) = lie;
+    let Ok(places) = places_of(alloc, first, second) else {
+        return false;
+    };
+    let Ok(load) = read(alloc, file) else {
+        return false;
+    };
+    stands(alloc, &load, segment, &places, bytes) == Ok(true)
 }

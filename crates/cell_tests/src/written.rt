@@ -5,11 +5,9 @@ ghost use Rattle.std.specs.Bool.{OnTrue};
 ghost use Rattle.load_meaning.specs.WrittenBody.{AreWritten, IsWrittenPatch};
 ghost use Rattle.omf_cells.specs.WrittenParts.{seen};
 
-use crate::asserting::{same, same_all};
+use crate::asserting::same;
 use omf_cells::{Body, BodyFault, Patch, body_of};
 use std::alloc::{AllocError, Global};
-use std::process::Abort;
-use std::test::Fail;
 
 /// Count and shift are those of a patch, and it lies in a part of the segment.
 fn is_inside(patch: &Patch, from: usize, size: usize) -> bool
@@ -87,90 +85,95 @@ fn patches_of(alloc: Global, rows: &[Row]) -> Result<Vec<Patch>, AllocError> {
     Ok(patches)
 }
 
-/// The bytes of the segment's body with these patches, and how many zeros are left out.
+/// Whether the segment's body with these patches has these bytes, and how many zeros are left out.
 fn body(
     alloc: Global,
     own: u16,
     content: &[u8],
     rows: &[Row],
-) -> Result<(Vec<u8>, u32), BodyFault> {
+    bytes: &[u8],
+) -> Result<(bool, u32), BodyFault> {
     let patches = patches_of(alloc, rows)?;
     let body = written(alloc, own, content, &patches)?;
-    Ok((body.bytes, body.zeros))
+    Ok((body.bytes.as_slice() == bytes, body.zeros))
 }
 
-/// Ends the test where the body has other bytes, or another count of zeros is left out.
-fn same_body(rt: &impl Abort, told: (Vec<u8>, u32), bytes: &[u8], zeros: u32) {
-    let (found, left_out) = told;
-    same_all(rt, found, bytes);
-    same(rt, left_out, zeros);
-}
-
-// JSL to the segment's own start.
-static OWN: [u8; 17] = [
-    0xF2, 0x04, 0, 0, 0, 0x22, 0, 0, 0, 0xF7, 0x03, 0, 0, 0, 0x01, 0x00, 0x01,
-];
-
-// Three calls through a jump table, which is segment 3.
-static CALLS: [Row; 3] = [(1, 3, 0, 3, 0x12), (5, 3, 0, 3, 0x12), (9, 3, 0, 3, 0x20)];
-
-static CALLING: [u8; 13] = [0x22, 9, 9, 9, 0x22, 9, 9, 9, 0x22, 9, 9, 9, 0x6B];
-
-static CALLED: [u8; 28] = [
-    0xF2, 0x0D, 0, 0, 0, 0x22, 0x12, 0, 3, 0x22, 0x12, 0, 3, 0x22, 0x20, 0, 3, 0x6B, 0xF7, 0x05, 0,
-    0, 0, 0x02, 0x02, 0x01, 0x05, 0x09,
+/// The segment's own number, its bytes, its patches, the bytes of its body, and how many zeros are left out.
+static BODIES: [(u16, &[u8], &[Row], &[u8], u32); 7] = [
+    // JSL to the segment's own start.
+    (
+        1,
+        &[0x22, 0, 0, 0],
+        &[(1, 3, 0, 1, 0)],
+        &[
+            0xF2, 0x04, 0, 0, 0, 0x22, 0, 0, 0, 0xF7, 0x03, 0, 0, 0, 0x01, 0x00, 0x01,
+        ],
+        0,
+    ),
+    // Three calls through a jump table, which is segment 3.
+    (
+        1,
+        &[0x22, 9, 9, 9, 0x22, 9, 9, 9, 0x22, 9, 9, 9, 0x6B],
+        &[(1, 3, 0, 3, 0x12), (5, 3, 0, 3, 0x12), (9, 3, 0, 3, 0x20)],
+        &[
+            0xF2, 0x0D, 0, 0, 0, 0x22, 0x12, 0, 3, 0x22, 0x12, 0, 3, 0x22, 0x20, 0, 3, 0x6B, 0xF7,
+            0x05, 0, 0, 0, 0x02, 0x02, 0x01, 0x05, 0x09,
+        ],
+        0,
+    ),
+    // The example of the document.
+    (
+        1,
+        &[0x22, 9, 9, 9, 0xAD, 9, 9, 0x4C, 9, 9, 0, 0],
+        &[(1, 3, 0, 3, 0x12), (5, 2, 0, 1, 0x30), (8, 2, 0, 1, 0x40)],
+        &[
+            0xF2, 0x0A, 0, 0, 0, 0x22, 0x12, 0, 3, 0xAD, 0x30, 0, 0x4C, 0x40, 0, 0xF7, 4, 0, 0, 0,
+            0, 1, 5, 8, 0xF7, 3, 0, 0, 0, 2, 0, 1,
+        ],
+        2,
+    ),
+    // SUPER of type 0 at 0, of type 14 at 2, of type 37 at 4, cINTERSEG for segments 13 and 0, INTERSEG, cRELOC, RELOC.
+    (
+        7,
+        &[9; 20],
+        &[
+            (0, 2, 0, 7, 0x1234),
+            (2, 2, 0, 1, 0x0102),
+            (4, 2, -16, 12, 0x0304),
+            (6, 2, 0, 13, 0x0506),
+            (8, 2, 0, 0, 0x0708),
+            (10, 3, 0, 256, 0x090A),
+            (13, 1, -8, 7, 0x0B0C),
+            (14, 3, 0, 7, 0x10D0E),
+        ],
+        &[
+            0xF2, 0x14, 0, 0, 0, 0x34, 0x12, 0x02, 0x01, 0x04, 0x03, 0x06, 0x05, 0x08, 0x07, 0x0A,
+            0x09, 0, 0x0C, 0x0E, 0x0D, 0x01, 9, 9, 9, 0xF6, 2, 0, 6, 0, 13, 0x06, 0x05, 0xF6, 2, 0,
+            8, 0, 0, 0x08, 0x07, 0xE3, 3, 0, 10, 0, 0, 0, 1, 0, 0, 1, 0x0A, 0x09, 0, 0, 0xF5, 1,
+            0xF8, 13, 0, 0x0C, 0x0B, 0xE2, 3, 0, 14, 0, 0, 0, 0x0E, 0x0D, 0x01, 0, 0xF7, 3, 0, 0,
+            0, 0, 0, 0, 0xF7, 3, 0, 0, 0, 14, 0, 2, 0xF7, 3, 0, 0, 0, 37, 0, 4,
+        ],
+        0,
+    ),
+    // Zeros at the end are left out.
+    (7, &[0, 0, 0], &[], &[], 3),
+    (7, &[0, 5, 0, 0], &[], &[0xF2, 2, 0, 0, 0, 0, 5], 2),
+    // Zeros of a patch are written.
+    (
+        7,
+        &[0, 5, 0, 0],
+        &[(1, 2, 0, 7, 0)],
+        &[0xF2, 3, 0, 0, 0, 0, 0, 0, 0xF7, 3, 0, 0, 0, 0, 0, 1],
+        1,
+    ),
 ];
 
 #[test]
-fn references_to_the_segment_itself_and_to_another(rt: HostRuntime) -> Result<(), Fail> {
-    let alloc = rt.alloc();
-    let own = body(alloc, 1, &[0x22, 0, 0, 0], &[(1, 3, 0, 1, 0)])?;
-    same_body(&rt, own, &OWN, 0);
-    same_body(&rt, body(alloc, 1, &CALLING, &CALLS)?, &CALLED, 0);
-    Ok(())
-}
-
-static EXAMPLE: [Row; 3] = [(1, 3, 0, 3, 0x12), (5, 2, 0, 1, 0x30), (8, 2, 0, 1, 0x40)];
-
-static EXAMPLE_DATA: [u8; 12] = [0x22, 9, 9, 9, 0xAD, 9, 9, 0x4C, 9, 9, 0, 0];
-
-static EXAMPLE_BODY: [u8; 32] = [
-    0xF2, 0x0A, 0, 0, 0, 0x22, 0x12, 0, 3, 0xAD, 0x30, 0, 0x4C, 0x40, 0, 0xF7, 4, 0, 0, 0, 0, 1, 5,
-    8, 0xF7, 3, 0, 0, 0, 2, 0, 1,
-];
-
-#[test]
-fn the_example_of_the_document(rt: HostRuntime) -> Result<(), Fail> {
-    let example = body(rt.alloc(), 1, &EXAMPLE_DATA, &EXAMPLE)?;
-    same_body(&rt, example, &EXAMPLE_BODY, 2);
-    Ok(())
-}
-
-// SUPER of type 0 at 0, of type 14 at 2, of type 37 at 4, cINTERSEG for segments 13 and 0, INTERSEG, cRELOC, RELOC.
-static KINDS: [Row; 8] = [
-    (0, 2, 0, 7, 0x1234),
-    (2, 2, 0, 1, 0x0102),
-    (4, 2, -16, 12, 0x0304),
-    (6, 2, 0, 13, 0x0506),
-    (8, 2, 0, 0, 0x0708),
-    (10, 3, 0, 256, 0x090A),
-    (13, 1, -8, 7, 0x0B0C),
-    (14, 3, 0, 7, 0x10D0E),
-];
-
-static KINDS_BODY: [u8; 98] = [
-    0xF2, 0x14, 0, 0, 0, 0x34, 0x12, 0x02, 0x01, 0x04, 0x03, 0x06, 0x05, 0x08, 0x07, 0x0A, 0x09, 0,
-    0x0C, 0x0E, 0x0D, 0x01, 9, 9, 9, 0xF6, 2, 0, 6, 0, 13, 0x06, 0x05, 0xF6, 2, 0, 8, 0, 0, 0x08,
-    0x07, 0xE3, 3, 0, 10, 0, 0, 0, 1, 0, 0, 1, 0x0A, 0x09, 0, 0, 0xF5, 1, 0xF8, 13, 0, 0x0C, 0x0B,
-    0xE2, 3, 0, 14, 0, 0, 0, 0x0E, 0x0D, 0x01, 0, 0xF7, 3, 0, 0, 0, 0, 0, 0, 0xF7, 3, 0, 0, 0, 14,
-    0, 2, 0xF7, 3, 0, 0, 0, 37, 0, 4,
-];
-
-#[test]
-fn each_kind_of_record(rt: HostRuntime) -> Result<(), Fail> {
-    let each = body(rt.alloc(), 7, &[9; 20], &KINDS)?;
-    same_body(&rt, each, &KINDS_BODY, 0);
-    Ok(())
+fn bodies_have_their_bytes(rt: HostRuntime) {
+    for (own, content, rows, bytes, zeros) in &BODIES {
+        let told = body(rt.alloc(), *own, content, rows, bytes);
+        same(&rt, rows, told, Ok((true, *zeros)));
+    }
 }
 
 /// Adds patches of two bytes from a place on, for the segments 12 to 1 in falling order.
@@ -194,13 +197,6 @@ fn patches_of_types(alloc: Global) -> Result<Vec<Patch>, AllocError> {
     Ok(patches)
 }
 
-/// What stands behind the data of a body with these patches, and how many zeros are left out.
-fn records_of_types(alloc: Global) -> Result<(Vec<u8>, u32), BodyFault> {
-    let patches = patches_of_types(alloc)?;
-    let body = written(alloc, 20, &[0; 56], &patches)?;
-    Ok((behind(&body.bytes, 61).to_vec(alloc)?, body.zeros))
-}
-
 /// Adds a SUPER of a type with one location in the first page.
 fn push_super(out: &mut Vec<u8>, form: u8, low: u8) -> Result<(), AllocError> {
     out.extend_from_slice(&[0xF7, 3, 0, 0, 0, form, 0, low])?;
@@ -221,25 +217,27 @@ fn supers(alloc: Global) -> Result<Vec<u8>, AllocError> {
     Ok(out)
 }
 
-#[test]
-fn each_type_of_super_once(rt: HostRuntime) -> Result<(), Fail> {
-    let alloc = rt.alloc();
+/// Whether one SUPER of each type stands behind the data of a body with these patches, and how many zeros are left out.
+fn records_of_types(alloc: Global) -> Result<(bool, u32), BodyFault> {
+    let patches = patches_of_types(alloc)?;
+    let body = written(alloc, 20, &[0; 56], &patches)?;
     let wanted = supers(alloc)?;
-    same_body(&rt, records_of_types(alloc)?, &wanted, 0);
-    Ok(())
+    Ok((behind(&body.bytes, 61) == wanted.as_slice(), body.zeros))
 }
 
-/// What stands behind the type in the SUPER of two locations of own references, in the first page and behind a gap of
+/// Whether this stands behind the type in the SUPER of two locations of own references, in the first page and behind a gap of
 /// pages.
-fn gap(alloc: Global, pages: u32) -> Result<Vec<u8>, Fail> {
+fn is_gap(alloc: Global, pages: u32, want: &[u8]) -> Result<bool, BodyFault> {
     let content = vec![in alloc; 0u8; 0x10000]?;
     let second = pages.wrapping_add(1).wrapping_mul(256);
-    let (bytes, zeros) = body(alloc, 7, &content, &[(0, 2, 0, 7, 0), (second, 2, 0, 7, 0)])?;
+    let patches = patches_of(alloc, &[(0, 2, 0, 7, 0), (second, 2, 0, 7, 0)])?;
+    let body = written(alloc, 7, &content, &patches)?;
     // behind the code, the length and the data of LCONST, and the code, the length and the type of SUPER
-    let at = usize::wrapping_sub(0x10000 + 5 + 6, zeros as usize);
-    Ok(behind(&bytes, at).to_vec(alloc)?)
+    let at = usize::wrapping_sub(0x10000 + 5 + 6, body.zeros as usize);
+    Ok(behind(&body.bytes, at) == want)
 }
 
+/// Gaps of pages, and what stands there.
 static GAPS: [(u32, &[u8]); 6] = [
     (0, &[0, 0, 0, 0]),
     (1, &[0, 0, 0x81, 0, 0]),
@@ -250,28 +248,10 @@ static GAPS: [(u32, &[u8]); 6] = [
 ];
 
 #[test]
-fn pages_are_passed_over(rt: HostRuntime) -> Result<(), Fail> {
+fn each_type_of_super_once_and_pages_are_passed_over(rt: HostRuntime) {
     let alloc = rt.alloc();
+    same(&rt, &"types", records_of_types(alloc), Ok((true, 0)));
     for (pages, want) in &GAPS {
-        same_all(&rt, gap(alloc, *pages)?, want);
+        same(&rt, pages, is_gap(alloc, *pages, want), Ok(true));
     }
-    Ok(())
-}
-
-#[test]
-fn zeros_at_the_end_are_left_out(rt: HostRuntime) -> Result<(), Fail> {
-    let alloc = rt.alloc();
-    same_body(&rt, body(alloc, 7, &[0, 0, 0], &[])?, &[], 3);
-    let one = body(alloc, 7, &[0, 5, 0, 0], &[])?;
-    same_body(&rt, one, &[0xF2, 2, 0, 0, 0, 0, 5], 2);
-    Ok(())
-}
-
-static LAST: [u8; 16] = [0xF2, 3, 0, 0, 0, 0, 0, 0, 0xF7, 3, 0, 0, 0, 0, 0, 1];
-
-#[test]
-fn zeros_of_a_patch_are_written(rt: HostRuntime) -> Result<(), Fail> {
-    let last = body(rt.alloc(), 7, &[0, 5, 0, 0], &[(1, 2, 0, 7, 0)])?;
-    same_body(&rt, last, &LAST, 1);
-    Ok(())
 }

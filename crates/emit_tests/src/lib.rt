@@ -2,10 +2,12 @@
 #![tactic(auto)]
 
 #[cfg(test)]
-mod equates;
-#[cfg(test)]
 mod fits;
 #[cfg(test)]
 mod limits;
 #[cfg(test)]
+mod linking;
+#[cfg(test)]
 mod objects;
+#[cfg(test)]
+mod refused;

@@ -1,235 +1,139 @@
-//! Headers that are refused, and the linker's limits.
-use crate::objects::{
-    BODY, CROSSES, DYNAMIC, SAME, fault, fault_of, linked, linked_all, put_segment, put_zeros,
+//! Headers that are refused, the linker's limits, rings of equates, and a program that is resolved and has no values.
+use crate::linking::Want::{Fault, Holds, Linked, NotEmitted, Size};
+use crate::linking::{Row, all_are_so};
+use crate::objects::BODY;
+use crate::objects::Inputs::{Calls, Equates, Loads, Ones, Pair, Records};
+use link_meaning::LinkCause::{
+    BadLength, BadRecord, Circular, DoesNotFit, FileTooLong, NotRelocatable, OrgConflict,
+    OutOfSegment, SegmentTooLong, TooManyEntries, TooManySegments, Unsupported,
 };
-use link_meaning::{LinkCause, LinkFault};
-use omf_base::Spot;
-use std::alloc::{AllocError, Global};
 
-/// A segment of one byte of a number, and one behind it in the same load segment, of which each has two bytes of its header changed; the
-/// cause with which they are refused, and the place. An ORG of the second; a BANKSIZE of 1; both; a dictionary behind the first segment;
-/// a jump table; a RESSPC that LENGTH doesn't count, and that before an ORG, and in the first segment before the type of the second.
-const PAIRS: [([(usize, u8); 2], [(usize, u8); 2], LinkCause, u32, u32); 8] = [
+/// Where the second segment of a pair begins.
+const BEHIND: u32 = 0x41;
+
+/// Where the value of the last of 4,681 calls is.
+const LAST: u32 = BODY + 14 * 4680 + 2;
+
+/// Headers are refused in order, and the counts of load segments and of entries have limits.
+static ROWS: [Row; 13] = [
     (
-        [SAME, SAME],
-        [(0x18, 1), SAME],
-        LinkCause::OrgConflict,
-        2,
-        0x41,
+        "an ORG of the second",
+        Pair(&[], &[(0x18, 1)]),
+        Fault(OrgConflict, b"", 1, 2, BEHIND),
     ),
     (
-        [(0x10, 1), (0x12, 0)],
-        [SAME, SAME],
-        LinkCause::SegmentTooLong,
-        1,
-        0x00,
+        "a BANKSIZE of 1",
+        Pair(&[(0x10, 1), (0x12, 0)], &[]),
+        Fault(SegmentTooLong, b"", 1, 1, 0x00),
     ),
     (
-        [(0x10, 1), (0x12, 0)],
-        [(0x18, 1), SAME],
-        LinkCause::OrgConflict,
-        2,
-        0x41,
+        "an ORG of the second before a BANKSIZE of 1",
+        Pair(&[(0x10, 1), (0x12, 0)], &[(0x18, 1)]),
+        Fault(OrgConflict, b"", 1, 2, BEHIND),
     ),
     (
-        [SAME, SAME],
-        [(0x14, 8), SAME],
-        LinkCause::BadRecord,
-        2,
-        0x41,
+        "a dictionary behind the first segment",
+        Pair(&[], &[(0x14, 8)]),
+        Fault(BadRecord, b"", 1, 2, BEHIND),
     ),
     (
-        [SAME, SAME],
-        [(0x14, 2), SAME],
-        LinkCause::Unsupported,
-        2,
-        0x41,
+        "a jump table",
+        Pair(&[], &[(0x14, 2)]),
+        Fault(Unsupported, b"", 1, 2, BEHIND),
     ),
     (
-        [SAME, SAME],
-        [(0x04, 1), SAME],
-        LinkCause::BadLength,
-        2,
-        0x41,
+        "a RESSPC that LENGTH doesn't count",
+        Pair(&[], &[(0x04, 1)]),
+        Fault(BadLength, b"", 1, 2, BEHIND),
     ),
     (
-        [SAME, SAME],
-        [(0x04, 1), (0x18, 1)],
-        LinkCause::BadLength,
-        2,
-        0x41,
+        "such a RESSPC before an ORG",
+        Pair(&[], &[(0x04, 1), (0x18, 1)]),
+        Fault(BadLength, b"", 1, 2, BEHIND),
     ),
     (
-        [(0x04, 1), SAME],
-        [(0x14, 2), SAME],
-        LinkCause::BadLength,
-        1,
-        0x00,
+        "such a RESSPC in the first segment before the type of the second",
+        Pair(&[(0x04, 1)], &[(0x14, 2)]),
+        Fault(BadLength, b"", 1, 1, 0x00),
+    ),
+    // 254 load segments of 64 bytes in the file, and one more.
+    ("254 load segments", Loads(254), Size(254 * 64)),
+    (
+        "255 load segments",
+        Loads(255),
+        Fault(TooManySegments, b"", 1, 255, 254 * 59),
+    ),
+    // 4,680 entries, of which the last has its code at $FFF4 of the third segment, and one more; a call past the end comes first.
+    (
+        "4680 entries",
+        Calls(4680, 4680),
+        Holds(89_197, 0x4958, &[0x22, 0xF4, 0xFF, 3]),
+    ),
+    (
+        "4681 entries",
+        Calls(4681, 4681),
+        Fault(TooManyEntries, b"", 1, 1, LAST),
+    ),
+    (
+        "a call past the end",
+        Calls(4681, 4680),
+        Fault(OutOfSegment, b"", 1, 1, LAST),
     ),
 ];
 
-/// The two segments with these changes.
-fn pair_of(
-    alloc: Global,
-    first: &[(usize, u8)],
-    second: &[(usize, u8)],
-) -> Result<Vec<u8>, AllocError> {
-    let number = &[0xEB, 1, 0x81, 5, 0, 0, 0, 0];
-    let mut object = Vec::new(alloc);
-    put_segment(&mut object, first, 1, number)?;
-    put_segment(&mut object, second, 1, number)?;
-    Ok(object)
+/// A load file has a limit: that of two load segments has 124 bytes besides their content.
+static LONG_FILES: [Row; 3] = [
+    (
+        "the longest load file",
+        Ones(8_388_608, 8_388_484, 0, &[]),
+        Size(16_777_216),
+    ),
+    (
+        "a load file that is too long",
+        Ones(8_388_608, 8_388_485, 0, &[]),
+        Fault(FileTooLong, b"", 0, 0, 0),
+    ),
+    (
+        "a value's fault before it",
+        Ones(8_388_608, 8_388_485, 1, &[0xEC, 1, 0x81, 0, 1, 0, 0, 0]),
+        Fault(DoesNotFit, b"", 2, 1, 0x7FFFC2),
+    ),
+];
+
+/// Rings of 10,000 equates are found; each record has 13 bytes. A weak name that nothing defines ends the chain.
+static RINGS: [Row; 5] = [
+    (
+        "a ring that the first equate is on",
+        Equates(10_000, 0),
+        Fault(Circular, &[0, 0], 1, 1, BODY),
+    ),
+    (
+        "a ring from the second equate on",
+        Equates(10_000, 1),
+        Fault(Circular, &[1, 0], 1, 1, BODY + 13),
+    ),
+    (
+        "a ring of the last equate",
+        Equates(10_000, 9_999),
+        Fault(Circular, &[0x0F, 0x27], 1, 1, BODY + 13 * 9_999),
+    ),
+    ("a chain of 10000 equates", Equates(10_000, 10_000), Linked),
+    // The distance of `D` in one load segment from `M` in another: a resolved program may have no values.
+    (
+        "a distance between load segments",
+        Records(&[], 2, &[0xEB, 2, 0x83, 1, 0x44, 0x83, 1, 0x4D, 2, 0]),
+        NotEmitted(NotRelocatable, 1, BODY),
+    ),
+];
+
+#[test]
+fn limits_are_kept_and_faults_are_told_in_order(rt: HostRuntime) {
+    let alloc = rt.alloc();
+    all_are_so(&rt, alloc, &ROWS);
+    all_are_so(&rt, alloc, &LONG_FILES);
 }
 
 #[test]
-fn headers_are_refused_in_order(rt: HostRuntime) {
-    let alloc = rt.alloc();
-    for (first, second, cause, segment, place) in PAIRS {
-        let told = fault_of(linked(alloc, pair_of(alloc, &first, &second)));
-        assert_eq!(rt;
-            told,
-            Some(fault(alloc, cause, b"", segment, place)),
-            "{first:?} {second:?}"
-        );
-    }
-}
-
-/// An object of so many segments of a byte, each in a load segment of its own.
-fn loads(alloc: Global, count: u8) -> Result<Vec<u8>, AllocError> {
-    let mut object = Vec::new(alloc);
-    for number in 0..count {
-        let names = [(0x2C, number), (0x2D, 0x41)];
-        put_segment(&mut object, &names, 1, &[1, 0xEA])?;
-    }
-    Ok(object)
-}
-
-/// How many bytes a load file has, or why there is none.
-fn size_of(made: Result<Vec<u8>, LinkFault>) -> Result<usize, LinkFault> {
-    match made {
-        Ok(file) => Ok(file.len()),
-        Err(fault) => Err(fault),
-    }
-}
-
-// 254 load segments of 64 bytes in the file, and one more.
-#[test]
-fn load_segments_have_a_limit(rt: HostRuntime) {
-    let alloc = rt.alloc();
-    assert_eq!(rt; size_of(linked(alloc, loads(alloc, 254))), Ok(254 * 64));
-    assert_eq!(rt;
-        fault_of(linked(alloc, loads(alloc, 255))),
-        Some(fault(alloc, LinkCause::TooManySegments, b"", 255, 254 * 59))
-    );
-}
-
-/// An object whose segment calls so many places of a dynamic one, from its start on, which has this LENGTH.
-fn calls(alloc: Global, count: u32, length: u32) -> Result<Vec<u8>, AllocError> {
-    let mut records = Vec::new(alloc);
-    for offset in 0..count {
-        records.extend_from_slice(&[1, 0x22, 0xF3, 3, 0x83, 1, 0x44, 0x81])?;
-        records.extend_from_slice(&offset.to_le_bytes())?;
-        records.extend_from_slice(&[1, 0])?;
-    }
-    let mut object = Vec::new(alloc);
-    put_segment(&mut object, &[], count.saturating_mul(4), &records)?;
-    put_zeros(&mut object, &DYNAMIC, length)?;
-    Ok(object)
-}
-
-/// Whether the last of 4,680 calls has its entry's code at $FFF4 of the third segment.
-fn last_entry_is_called(made: Result<Vec<u8>, LinkFault>) -> bool {
-    match made {
-        Ok(file) => file.len() == 89_197
-            && file.get(0x4958..0x495C) == Some(&[0x22, 0xF4, 0xFF, 3]),
-        Err(_) => false,
-    }
-}
-
-// 4,680 entries, and one more; a call past the end comes first.
-#[test]
-fn a_table_has_4680_entries(rt: HostRuntime) {
-    let alloc = rt.alloc();
-    let last = BODY + 14 * 4680 + 2;
-    assert!(rt; last_entry_is_called(linked(alloc, calls(alloc, 4680, 4680))));
-    assert_eq!(rt;
-        fault_of(linked(alloc, calls(alloc, 4681, 4681))),
-        Some(fault(alloc, LinkCause::TooManyEntries, b"", 1, last))
-    );
-    assert_eq!(rt;
-        fault_of(linked(alloc, calls(alloc, 4681, 4680))),
-        Some(fault(alloc, LinkCause::OutOfSegment, b"", 1, last))
-    );
-}
-
-/// An object file of so many bytes 1 in a load segment of its own, which may cross banks, and other records behind them.
-fn ones(
-    alloc: Global,
-    load: u8,
-    count: u32,
-    cells: u32,
-    records: &[u8],
-) -> Result<Vec<u8>, AllocError> {
-    let mut body = Vec::new(alloc);
-    body.push(0xF2)?;
-    body.extend_from_slice(&count.to_le_bytes())?;
-    body.resize((count as usize).saturating_add(5), 1)?;
-    body.extend_from_slice(records)?;
-    let mut object = Vec::new(alloc);
-    put_segment(
-        &mut object,
-        &[CROSSES, (0x2C, load)],
-        count.saturating_add(cells),
-        &body,
-    )?;
-    Ok(object)
-}
-
-/// Two inputs of so many bytes 1, of which the second has other records behind them.
-fn two(
-    alloc: Global,
-    first: u32,
-    second: u32,
-    cells: u32,
-    records: &[u8],
-) -> Result<Vec<Vec<u8>>, AllocError> {
-    let mut inputs = Vec::new(alloc);
-    inputs.push(ones(alloc, 0x41, first, 0, &[])?)?;
-    inputs.push(ones(alloc, 0x42, second, cells, records)?)?;
-    Ok(inputs)
-}
-
-// The file of two load segments has 124 bytes besides their content.
-#[test]
-fn a_load_file_has_a_limit(rt: HostRuntime) {
-    let alloc = rt.alloc();
-    let most = two(alloc, 8_388_608, 8_388_484, 0, &[]);
-    assert_eq!(rt; size_of(linked_all(alloc, most)), Ok(16_777_216));
-    let more = two(alloc, 8_388_608, 8_388_485, 0, &[]);
-    let spot = Spot {
-        file: 0,
-        segment: 0,
-        at: 0,
-    };
-    let too_long = LinkFault {
-        cause: LinkCause::FileTooLong,
-        name: None,
-        spot,
-    };
-    assert_eq!(rt; size_of(linked_all(alloc, more)), Err(too_long));
-
-    // A value's fault comes before it.
-    let number = &[0xEC, 1, 0x81, 0, 1, 0, 0, 0];
-    let faulty = two(alloc, 8_388_608, 8_388_485, 1, number);
-    let spot = Spot {
-        file: 2,
-        segment: 1,
-        at: 0x7FFFC2,
-    };
-    let unfit = LinkFault {
-        cause: LinkCause::DoesNotFit,
-        name: None,
-        spot,
-    };
-    assert_eq!(rt; size_of(linked_all(alloc, faulty)), Err(unfit));
+fn rings_are_found(rt: HostRuntime) {
+    all_are_so(&rt, rt.alloc(), &RINGS);
 }

@@ -3,3 +3,7 @@
 
 #[cfg(test)]
 mod expanding;
+#[cfg(test)]
+mod faults;
+#[cfg(test)]
+mod giving;

@@ -2,6 +2,12 @@
 #![tactic(auto)]
 
 #[cfg(test)]
+mod facts;
+#[cfg(test)]
+mod files;
+#[cfg(test)]
+mod parts;
+#[cfg(test)]
 mod resolving;
 #[cfg(test)]
 mod samples;

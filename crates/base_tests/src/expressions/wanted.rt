@@ -2,11 +2,11 @@
 //! division towards zero, remainders with the dividend's sign, shifts with zeros coming in.
 
 /// The operands.
-pub const VALUES: [u32; 5] = [0, 1, 0x7FFFFFFF, 0x80000000, 0xFFFFFFFF];
+pub static VALUES: [u32; 5] = [0, 1, 0x7FFFFFFF, 0x80000000, 0xFFFFFFFF];
 
 /// Each operator of two numbers with what it gives for each left operand and, for it, each right one. A quotient and a
 /// remainder by 0 stand as 0.
-pub const OF_TWO: [(u8, [[u32; 5]; 5]); 18] = [
+pub static OF_TWO: [(u8, [[u32; 5]; 5]); 18] = [
     (
         0x01,
         [
@@ -190,14 +190,14 @@ pub const OF_TWO: [(u8, [[u32; 5]; 5]); 18] = [
 ];
 
 /// Each operator of one number with what it gives.
-pub const OF_ONE: [(u8, [u32; 5]); 3] = [
+pub static OF_ONE: [(u8, [u32; 5]); 3] = [
     (0x06, [0, 0xFFFFFFFF, 0x80000001, 0x80000000, 1]),
     (0x0B, [1, 0, 0, 0, 0]),
     (0x15, [0xFFFFFFFF, 0xFFFFFFFE, 0x80000000, 0x7FFFFFFF, 0]),
 ];
 
 /// Each operand shifted by the counts -33 to 33.
-pub const SHIFTS: [[u32; 67]; 5] = [
+pub static SHIFTS: [[u32; 67]; 5] = [
     [
         0, 0, 0, 0, 0, 0, 0, 0, 0, 0, 0, 0, 0, 0, 0, 0, 0, 0, 0, 0, 0, 0, 0, 0, 0, 0, 0, 0, 0, 0,
         0, 0, 0, 0, 0, 0, 0, 0, 0, 0, 0, 0, 0, 0, 0, 0, 0, 0, 0, 0, 0, 0, 0, 0, 0, 0, 0, 0, 0, 0,

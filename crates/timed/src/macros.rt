@@ -1,0 +1,33 @@
+//! `macro SOURCE MACROS..`: expands a source with macro files and counts the lines, for `bench/macro`.
+
+use crate::ending::{Ended, done};
+use crate::files::{read, read_all};
+use orca_macro::expand;
+use std::io;
+
+/// Prints how many lines come of a source with macro files.
+fn tell(rt: &HostRuntime, source: &[u8], macros: &Vec<Vec<u8>>) -> io::Result<()> {
+    match expand(rt.alloc(), source, macros) {
+        Ok(lines) => println!(rt; "lines {}", lines.count()),
+        Err(fault) => println!(rt; "refused {:?} {} {}", fault.cause, fault.file, fault.line),
+    }
+}
+
+/// Reads the macro files of a source, and does the task.
+fn run_with<'w>(rt: &HostRuntime, source: &[u8], paths: &'w [String]) -> io::Result<Ended<'w>> {
+    match read_all(rt, paths) {
+        Ok(macros) => done(tell(rt, source, &macros)),
+        Err(path) => Ok(Ended::Unread(path)),
+    }
+}
+
+/// Does what the words say.
+pub fn run<'w>(rt: &HostRuntime, words: &'w [String]) -> io::Result<Ended<'w>> {
+    let Some((path, macros)) = words.split_first() else {
+        return Ok(Ended::Misused);
+    };
+    match read(rt, path.as_str()) {
+        Some(source) => run_with(rt, source.as_slice(), macros),
+        None => Ok(Ended::Unread(path.as_str())),
+    }
+}
