@@ -6,7 +6,7 @@ use Rattle.omf_format.specs.Record.{Record}
 use Rattle.link_meaning.specs.Sizes.{Located, size_at, located_from, located}
 use Rattle.asm_meaning.specs.Pieces.{place_behind, length_at}
 use Rattle.asm_meaning.specs.State.{Segment, cells_of, local_of, marked}
-use Rattle.asm_meaning.specs.PieceLaws.{place_behind-append, length_at-adds}
+use Rattle.asm_meaning.specs.laws.PieceLaws.{place_behind-append, length_at-adds}
 
 -- each statement moves the place by its length, whether it has a label or not
 abbrev pub LengthsAdd : Type 0

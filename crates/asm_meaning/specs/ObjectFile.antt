@@ -12,17 +12,17 @@ use Rattle.omf_format.specs.Record.{Record, End, spelling}
 use Rattle.omf_format.specs.Reading.{Reader, HandsOut}
 use Rattle.omf_format.specs.File as format
 use Rattle.omf_format.specs.File.{body_reader, IsSegment, AreSegments, IsFile}
-use Rattle.load_meaning.specs.RunLaws.{IsBodyRecord, reader_at, text, placed, runs}
+use Rattle.load_meaning.specs.laws.RunLaws.{IsBodyRecord, reader_at, text, placed, runs}
 use Rattle.link_meaning.specs.Sizes.{size_at, body_size}
 use Rattle.link_meaning.specs.Sizes as sizes
 use Rattle.orca_meaning.specs.Line.{Line}
 use Rattle.asm_meaning.specs.Object.{records_text, segment_text, object_text, most_bytes, AreSteps, HasLines}
 use Rattle.asm_meaning.specs.Pieces.{place_behind}
 use Rattle.asm_meaning.specs.State.{Ended, State, start}
-use Rattle.asm_meaning.specs.LinesShort.{AreShortLines, expanded_short}
-use Rattle.asm_meaning.specs.PieceLaws.{ArePlain, plain_fit, place_behind-append}
-use Rattle.asm_meaning.specs.Sound.{IsSound, IsShort, IsSoundEnded, sound_start}
-use Rattle.asm_meaning.specs.StepSound.{step_sound}
+use Rattle.asm_meaning.specs.laws.LinesShort.{AreShortLines, expanded_short}
+use Rattle.asm_meaning.specs.laws.PieceLaws.{plain_fit, place_behind-append}
+use Rattle.asm_meaning.specs.laws.Sound.{IsSound, IsShort, IsSoundEnded, sound_start}
+use Rattle.asm_meaning.specs.laws.StepSound.{step_sound}
 
 -- ---- what is left at the end
 
@@ -110,7 +110,7 @@ inner_fit : (e : Ended) (fit : IsFit e) → AllByRecursion IsBodyRecord fit.soun
 inner_fit e fit =
     let cells : e.header.length ≡ place_behind (place_behind 0 fit.sound.inner) (End ∷ []) =
     fit.sound.length' ∙ ap (place_behind 0) fit.sound.body ∙ place_behind-append 0 fit.sound.inner (End ∷ []) in
-    plain_fit 0 fit.sound.inner fit.sound.plain (omega (arith, cells, fit.sound.short, Rattle.asm_meaning.specs.PieceLaws.place_behind-le (place_behind 0 fit.sound.inner) (End ∷ [])))
+    plain_fit 0 fit.sound.inner fit.sound.plain (omega (arith, cells, fit.sound.short, Rattle.asm_meaning.specs.laws.PieceLaws.place_behind-le (place_behind 0 fit.sound.inner) (End ∷ [])))
 
 -- ---- where it stands in the file
 

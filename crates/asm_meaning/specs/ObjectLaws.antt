@@ -12,7 +12,7 @@ use Rattle.asm_meaning.specs.Answer.{Answer}
 use Rattle.asm_meaning.specs.Object.{object_text, AreSteps, HasLines, IsObject, cause_of, HasBadLine, IsFirstFault, InExpansion, InLine, InSegment, InLength}
 use Rattle.asm_meaning.specs.State.{Segment, State, start}
 use Rattle.asm_meaning.specs.Statement.{IsStep}
-use Rattle.asm_meaning.specs.StatementLaws.{step_once}
+use Rattle.asm_meaning.specs.laws.StatementLaws.{step_once}
 
 -- ---- the laws
 

@@ -1,9 +1,8 @@
 -- A buffer whose bytes are zeros stays so where some are made zeros.
-use Rattle.std.proofs.Common.{◌≡◌, inl, inr, ℕ, Bool, true, zero, suc, ◌+◌, ◌-◌, ◌<◌, ◌≤◌, List, ◌++◌, take, drop, replicate, length, get_or, slice_index, arith, refl, sym, ap, ◌∙◌}
+use Rattle.std.proofs.Common.{◌≡◌, inl, inr, ℕ, zero, suc, ◌+◌, ◌-◌, ◌≤◌, List, replicate, length, slice_index, arith, refl, sym, ap, ◌∙◌}
 use Rattle.std.proofs.lemmas.List.{length-replicate, same_lists}
 use Rattle.std.proofs.lemmas.Grind.{get_or_default_zero}
 use Rattle.std.proofs.lemmas.Bool.{cases_lt}
-use Rattle.iigs_memory.specs.Store.{IsBlank}
 use Rattle.iigs_memory.proofs.Parts.{overlay, get-before, get-within, get-after}
 use Rattle.iigs_memory.proofs.Puts.{clear_overlay}
 use Rattle.iigs_memory.proofs.Alls.{clear_one, length-clear_one}
@@ -36,6 +35,3 @@ module _ (start size : ℕ) (buffer : List ℕ) (le : start + size ≤ length bu
       ∙ zeros k
       ∙ sym (still_zeros k)
       ∙ sym (get_or_default_zero (clear_one start size buffer) k d (omega (arith, less, length-clear_one start size buffer le))))
-
-pub blank_cleared : (blank : Bool) (start size : ℕ) (buffer : List ℕ) → start + size ≤ length buffer → IsBlank blank buffer → IsBlank blank (clear_one start size buffer)
-blank_cleared blank start size buffer le is = λ yes_is. still_zeros start size buffer le (is yes_is)

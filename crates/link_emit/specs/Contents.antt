@@ -2,7 +2,7 @@
 use Rattle.std.specs.Prelude.{◌≡◌, List, [], map}
 use Rattle.load_meaning.specs.Cells.{Cell}
 use Rattle.link_meaning.specs.LinkWritten.{byte_under, patches_of_cells}
-use Rattle.link_meaning.specs.RunCells.{AreRuns}
+use Rattle.link_meaning.specs.laws.RunCells.{AreRuns}
 use Rattle.omf_cells.specs.Joined.{joined}
 use Rattle.omf_cells.specs.WrittenParts.{seen}
 use Rattle.link_emit.specs.declared.content.Place.{Place}

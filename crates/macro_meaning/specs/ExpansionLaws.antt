@@ -5,7 +5,7 @@ use Rattle.macro_meaning.specs.declared.faults.MacroCause.{MacroCause}
 use Rattle.macro_meaning.specs.declared.faults.MacroFault.{MacroFault}
 use Rattle.macro_meaning.specs.Expansion.{IsExpanded, IsFirstFault, InText, InDefinition, InVisit, first_of_files, file_text_fault, file_part_fault, program_of, fault_at}
 use Rattle.macro_meaning.specs.Visit.{Move, On, Ends, Stops, first_visit}
-use Rattle.macro_meaning.specs.VisitLaws.{follow_once}
+use Rattle.macro_meaning.specs.laws.VisitLaws.{follow_once}
 
 -- a source expands to one list of lines at most
 abbrev pub OneExpansion : Type 0

@@ -1,23 +1,24 @@
 -- Lines of a text, as scripts and assembly sources have them, and their laws.
-use Rattle.std.proofs.Common.{◌≡◌, ℕ, Bool, true, false, cond, List, [], ◌∷◌, ◌++◌, refl, sym, ap, subst, ◌∙◌}
+use Rattle.std.proofs.Common.{◌≡◌, ℕ, Bool, true, false, cond, List, [], ◌∷◌, ◌++◌, refl, ap, subst, ◌∙◌}
 use Rattle.std.specs.Prelude.{◌||◌, ◌&&◌, ◌==◌, not, slice_index, if◌then◌else◌}
 use Rattle.std.specs.List.{AllByRecursion, onto_first}
 use Rattle.std.proofs.lemmas.List.{append-nil}
+use Rattle.omf_format.specs.Ascii as ascii
 
 -- a line ends with LF, or with a CR before no LF
 abbrev pub ends_line : ℕ → List ℕ → Bool
-ends_line byte behind = byte == 0x0A || (byte == 0x0D && not (slice_index behind 0 == 0x0A))
+ends_line byte behind = byte == ascii.line_feed || (byte == ascii.carriage_return && not (slice_index behind 0 == ascii.line_feed))
 
 -- The lines of a text, without their ends, which are LF, CR or CR LF. Bytes behind the last end are a line too.
 unfoldable pub lines_of : List ℕ → List (List ℕ)
 lines_of [] = []
 lines_of (byte ∷ behind) =
     if ends_line byte behind then [] ∷ lines_of behind
-    else if byte == 0x0D then lines_of behind
+    else if byte == ascii.carriage_return then lines_of behind
     else onto_first byte (lines_of behind)
 
 abbrev pub is_end_byte : ℕ → Bool
-is_end_byte byte = byte == 0x0A || byte == 0x0D
+is_end_byte byte = byte == ascii.line_feed || byte == ascii.carriage_return
 
 -- no LF and no CR is among the bytes
 abbrev pub HasNoEnd : List ℕ → Type 0
@@ -37,7 +38,7 @@ lines_of-front : (line behind : List ℕ) → HasNoEnd line → lines_of (line +
 unfolding lines_of onto_front
 lines_of-front [] behind h = refl
 lines_of-front (byte ∷ line) behind h =
-    no_end_step (byte == 0x0A) (byte == 0x0D) (not (slice_index (line ++ behind) 0 == 0x0A)) ([] ∷ lines_of (line ++ behind)) (lines_of (line ++ behind)) (onto_first byte (lines_of (line ++ behind))) h.0
+    no_end_step (byte == ascii.line_feed) (byte == ascii.carriage_return) (not (slice_index (line ++ behind) 0 == ascii.line_feed)) ([] ∷ lines_of (line ++ behind)) (lines_of (line ++ behind)) (onto_first byte (lines_of (line ++ behind))) h.0
     ∙ ap (λ (lines : List (List ℕ)). onto_first byte lines) (lines_of-front line behind h.1)
 
 onto_front-first : (line : List ℕ) (lines : List (List ℕ)) → onto_front line ([] ∷ lines) ≡ line ∷ lines
@@ -57,21 +58,21 @@ lines_of-ended line rest behind h ends =
     lines_of-front line rest h ∙ ap (onto_front line) ends ∙ onto_front-first line (lines_of behind)
 
 -- a line before LF
-pub lines_of-lf : (line behind : List ℕ) → HasNoEnd line → lines_of (line ++ 0x0A ∷ behind) ≡ line ∷ lines_of behind
+pub lines_of-lf : (line behind : List ℕ) → HasNoEnd line → lines_of (line ++ ascii.line_feed ∷ behind) ≡ line ∷ lines_of behind
 unfolding lines_of
-lines_of-lf line behind h = lines_of-ended line (0x0A ∷ behind) behind h refl
+lines_of-lf line behind h = lines_of-ended line (ascii.line_feed ∷ behind) behind h refl
 
 -- a line before CR LF
-pub lines_of-cr_lf : (line behind : List ℕ) → HasNoEnd line → lines_of (line ++ 0x0D ∷ 0x0A ∷ behind) ≡ line ∷ lines_of behind
+pub lines_of-cr_lf : (line behind : List ℕ) → HasNoEnd line → lines_of (line ++ ascii.carriage_return ∷ ascii.line_feed ∷ behind) ≡ line ∷ lines_of behind
 unfolding lines_of
-lines_of-cr_lf line behind h = lines_of-ended line (0x0D ∷ 0x0A ∷ behind) behind h refl
+lines_of-cr_lf line behind h = lines_of-ended line (ascii.carriage_return ∷ ascii.line_feed ∷ behind) behind h refl
 
 -- a line before a CR with no LF behind it
-pub lines_of-cr : (line behind : List ℕ) → HasNoEnd line → (slice_index behind 0 == 0x0A) ≡ false
-    → lines_of (line ++ 0x0D ∷ behind) ≡ line ∷ lines_of behind
+pub lines_of-cr : (line behind : List ℕ) → HasNoEnd line → (slice_index behind 0 == ascii.line_feed) ≡ false
+    → lines_of (line ++ ascii.carriage_return ∷ behind) ≡ line ∷ lines_of behind
 unfolding lines_of
 lines_of-cr line behind h no_lf =
-    lines_of-ended line (0x0D ∷ behind) behind h (rw no_lf refl)
+    lines_of-ended line (ascii.carriage_return ∷ behind) behind h (rw no_lf refl)
 
 -- a line without an end
 pub lines_of-last : (byte : ℕ) (line : List ℕ) → HasNoEnd (byte ∷ line) → lines_of (byte ∷ line) ≡ (byte ∷ line) ∷ []

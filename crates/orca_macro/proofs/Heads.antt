@@ -62,11 +62,6 @@ label_from : (xs : List ℕ) → (three_fields xs).label.from ≡ 0
 unfolding three_fields
 label_from xs = refl
 
-label_part : (xs ys : List ℕ) → (three_fields xs).operation.to < length xs → part (xs ++ ys) (three_fields (xs ++ ys)).label ≡ part xs (three_fields xs).label
-label_part xs ys within =
-    ap (part (xs ++ ys)) (same xs ys within).label
-    ∙ part_within (three_fields xs).label xs ys (omega (arith, label_from xs)) (omega (arith, within, label_before xs))
-
 operation_part : (xs ys : List ℕ) → (three_fields xs).operation.to < length xs → part (xs ++ ys) (three_fields (xs ++ ys)).operation ≡ part xs (three_fields xs).operation
 operation_part xs ys within =
     ap (part (xs ++ ys)) (same xs ys within).operation ∙ part_within (three_fields xs).operation xs ys (operation_order xs) (omega (arith, within))

@@ -82,6 +82,3 @@ read_all file source [] number lines read none =
     let last : numbered file number (lines_of []) ≡ [] = ap (numbered file number) lines_of-nil ∙ numbered-nil file number in
     (sym (append-nil lines) ∙ ap (λ (l : List Line). lines ++ l) (sym last) ∙ read.all, sym read.fault ∙ ap (first_line_fault number) lines_of-nil ∙ fault-nil number)
 read_all file source (byte ∷ rest) number lines read none = absurd (omega arith)
-
-pub read_none : (file : ℕ) (source : List ℕ) (lines : List Line) → lines ≡ [] → HasRead file source source 1 lines
-read_none file source lines e = record { all = ap (λ (l : List Line). l ++ numbered file 1 (lines_of source)) e; fault = refl; count = ap (λ (l : List Line). length l + 1) e; few = omega arith }

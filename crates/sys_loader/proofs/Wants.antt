@@ -1,7 +1,6 @@
 -- The wants of segments, gathered one by one.
-use Rattle.std.proofs.Common.{◌≡◌, ℕ, suc, Bool, true, false, ◌+◌, ◌<◌, ◌≤◌, List, [], ◌∷◌, ◌++◌, length, drop, map, get_or, refl, sym, ap, subst, ◌∙◌, arith, append_assoc, append-nil}
+use Rattle.std.proofs.Common.{◌≡◌, ℕ, suc, true, false, ◌+◌, ◌<◌, List, [], ◌∷◌, ◌++◌, length, drop, map, get_or, sym, ap, ◌∙◌, arith, append_assoc}
 use Rattle.std.proofs.Math.Seq.{drop-cons}
-use Rattle.std.proofs.Math.ListN.{drop_of_length-le}
 use Rattle.iigs_meaning.specs.declared.wants.Want.{Want}
 use Rattle.loader_machine.specs.declared.seen.Head.{Head}
 use Rattle.loader_machine.specs.Heads.{is_static, want_of, wants_of}
@@ -13,9 +12,6 @@ heads segments = map (λ s. s.head) segments
 -- these wants and those of the segments from a place on are all wants
 abbrev pub Gathered : List Segment → ℕ → List Want → Type 0
 Gathered segments place wants = wants ++ wants_of (heads (drop place segments)) ≡ wants_of (heads segments)
-
-pub gathered_none : (segments : List Segment) → Gathered segments 0 []
-gathered_none segments = refl
 
 module _ (segments : List Segment) (place : ℕ) (s d : Segment) (wants : List Want) (gathered : Gathered segments place wants) (inside : place < length segments) (is : s ≡ get_or segments place d) where
   from_here : drop place segments ≡ s ∷ drop (place + 1) segments
@@ -32,7 +28,3 @@ module _ (segments : List Segment) (place : ℕ) (s d : Segment) (wants : List W
 
   pub gathered_same : is_static s.head ≡ false → Gathered segments (place + 1) wants
   gathered_same other = rw other at whole
-
-pub gathered_all : (segments : List Segment) (place : ℕ) (wants : List Want) → Gathered segments place wants → length segments ≤ place → wants ≡ wants_of (heads segments)
-gathered_all segments place wants gathered past =
-    sym (append-nil wants) ∙ ap (λ (l : List Segment). wants ++ wants_of (heads l)) (sym (drop_of_length-le segments {i = place} past)) ∙ gathered

@@ -14,8 +14,8 @@ use Rattle.asm_meaning.specs.State.{Ended}
 use Rattle.asm_meaning.specs.Object.{records_text, segment_text, object_text}
 use Rattle.workload_meaning.specs.Draws.{next, draws, behind}
 use Rattle.workload_meaning.specs.Object.{name_of, value_of, calls, main_segment, dynamic_segment, dynamic_segments, object}
-use Rattle.workload_meaning.specs.NameLaws.{name_short, length-padded}
-use Rattle.workload_meaning.specs.ObjectLaws.{length-draws}
+use Rattle.workload_meaning.specs.laws.NameLaws.{name_short, length-padded}
+use Rattle.workload_meaning.specs.laws.ObjectLaws.{length-draws}
 
 -- the bytes of a JSL to a dynamic segment
 abbrev pub call_text : ℕ → List ℕ

@@ -14,22 +14,22 @@ use Rattle.link_meaning.specs.LinkFaults.{IsResolved}
 use Rattle.link_meaning.specs.LinkValues.{Told, IsTable, AreTold}
 use Rattle.link_meaning.specs.LinkedCells.{table_number, items, targets, state_behind}
 use Rattle.link_meaning.specs.LinkWritten.{AreMade, start, written_file}
-use Rattle.link_meaning.specs.LinkedRuns.{AreSized, MembersHave, members_have, few_on}
-use Rattle.link_meaning.specs.LinkWrittenLaws.{some_members, in_at}
-use Rattle.link_meaning.specs.ReadMembers.{members_read, read_size, read_some, read_header}
-use Rattle.link_meaning.specs.ValueFits.{all_sound}
-use Rattle.link_meaning.specs.MemberLists.{in_filter}
+use Rattle.link_meaning.specs.laws.LinkedRuns.{AreSized, MembersHave, members_have, few_on}
+use Rattle.link_meaning.specs.laws.LinkWrittenLaws.{some_members, in_at}
+use Rattle.link_meaning.specs.laws.ReadMembers.{members_read, read_size, read_some, read_header}
+use Rattle.link_meaning.specs.laws.ValueFits.{all_sound}
+use Rattle.link_meaning.specs.laws.MemberLists.{in_filter}
 use Rattle.link_meaning.specs.EmitFaults.{HasRingFault, EmitPhase, Rings, Values, Size, emit_phases, HasEmitFault, IsFirstLinkFault, IsLinkable, IsLinkAnswer}
-use Rattle.link_meaning.specs.EmitFaultLaws.{made_sound, one_link_answer}
+use Rattle.link_meaning.specs.laws.EmitFaultLaws.{made_sound, one_link_answer}
 use Rattle.asm_meaning.specs.Object.{object_text}
 use Rattle.asm_meaning.specs.ObjectFile.{ended_are_file}
 use Rattle.workload_meaning.specs.Draws.{draws}
 use Rattle.workload_meaning.specs.Object.{object}
-use Rattle.workload_meaning.specs.ObjectLaws.{segments_of, are_sound, are_read, length-draws, IsWorkload}
-use Rattle.workload_meaning.specs.SearchLaws.{AreOwn, titles_from, entries_are}
-use Rattle.workload_meaning.specs.ResolvedLaws.{never, never_in, IsList, short_load, few_names, is_resolved, members_listed}
-use Rattle.workload_meaning.specs.CallLaws.{all_made}
-use Rattle.workload_meaning.specs.SizeLaws.{file_short}
+use Rattle.workload_meaning.specs.laws.ObjectLaws.{segments_of, are_sound, are_read, length-draws, IsWorkload}
+use Rattle.workload_meaning.specs.laws.SearchLaws.{AreOwn, titles_from, entries_are}
+use Rattle.workload_meaning.specs.laws.ResolvedLaws.{never, never_in, IsList, short_load, few_names, is_resolved, members_listed}
+use Rattle.workload_meaning.specs.laws.CallLaws.{all_made}
+use Rattle.workload_meaning.specs.laws.SizeLaws.{file_short}
 
 -- ---- equates
 

@@ -1,4 +1,4 @@
-use Rattle.std.proofs.Common.{◌≡◌, Option, None, length, sym, ap, ◌∙◌}
+use Rattle.std.proofs.Common.{◌≡◌, None, length, sym, ap, ◌∙◌}
 use Rattle.std.proofs.lemmas.Bool.{eqb-true}
 use Rattle.macro_meaning.specs.Expansion.{first_in, file_text_fault}
 use Rattle.orca_macro.specs.Files.{texts_of_files, lines_from}

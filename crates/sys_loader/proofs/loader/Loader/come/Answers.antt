@@ -3,7 +3,7 @@ use Rattle.std.proofs.lemmas.List.{length-map}
 use Rattle.loader_machine.specs.Heads.{head_of}
 use Rattle.loader_machine.specs.State.{first_id, user_of}
 use Rattle.loader_agrees.specs.Agrees.{Kept, Loaded}
-use Rattle.loader_agrees.specs.Seeing.{made_at}
+use Rattle.loader_agrees.specs.laws.Seeing.{made_at}
 use Rattle.sys_loader.specs.View.{kept, loaded}
 use Rattle.sys_loader.specs.Activating.{IsChanged}
 use Rattle.sys_loader.proofs.Waking.{one_kept, come_from, brings_none, file_changed}
