@@ -24,7 +24,7 @@ use std::marker::Model;
 
 /// A load file. Contracts see the list of its segments. Beside the headers it keeps where the data of each segment stands
 /// in the file, and the bytes that patches give.
-#[derive(Debug, Drop)]
+#[derive(Drop)]
 pub struct LoadFile<'a> {
     pub(crate) views: Vec<SegmentView<'a>>,
     pub(crate) contents: Vec<Content<'a>>,

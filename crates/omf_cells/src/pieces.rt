@@ -14,7 +14,7 @@ use omf_records::{Rec, Records};
 use std::alloc::{AllocError, Global};
 
 /// The bytes of one record.
-#[derive(Clone, Copy, Debug)]
+#[derive(Clone, Copy)]
 pub struct Piece<'a> {
     /// Their offset in the segment.
     pub start: u32,

@@ -291,7 +291,7 @@ fn take_next<'a>(
 }
 
 /// A formula at the front of a text.
-#[derive(Debug, Drop)]
+#[derive(Drop)]
 pub struct FormulaAt<'a> {
     /// Its terms in postfix order, with 0 for each number that is too large.
     pub formula: Formula,
