@@ -6,3 +6,6 @@ pub mod GivenLaws
 pub mod Sound
 pub mod StepSound
 pub mod LinesShort
+pub mod LabelProofs
+pub mod ObjectFileLaws
+pub mod ObjectProofs

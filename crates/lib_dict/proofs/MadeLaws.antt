@@ -7,8 +7,9 @@ use Rattle.std.proofs.Math.Seq.{drop-append-add, take-append-add}
 use Rattle.omf_format.specs.Field.{Layout, layout_of, length_width_of, written_layout}
 use Rattle.omf_format.specs.laws.FieldLaws.{IsBytes-drop, IsBytes-front}
 use Rattle.omf_format.specs.Header.{Fields, fields_of, header_fault, header_bytes, written_fields, IsWritable}
-use Rattle.omf_format.specs.HeaderLaws.{IsBytes}
-use Rattle.omf_format.specs.WrittenHeader.{FitsWritten, length-header, fields_of-written, header_fault-written}
+use Rattle.omf_format.specs.Number.{IsBytes}
+use Rattle.omf_format.specs.WrittenHeader.{FitsWritten}
+use Rattle.omf_format.specs.laws.WrittenHeaderLaws.{length-header, fields_of-written, header_fault-written}
 use Rattle.omf_format.specs.Record.{Record, End, LongConst, spelling}
 use Rattle.omf_format.specs.Reading.{Reader, HandsOut}
 use Rattle.omf_format.specs.File.{Segment, body_reader, IsSegment, AreSegments, IsFile}

@@ -1,1 +1,2 @@
 pub mod VisitLaws
+pub mod ExpansionProofs

@@ -3,7 +3,7 @@ use Rattle.std.proofs.Common.{◌≡◌, inl, inr, ℕ, Bool, true, false, cond,
 use Rattle.std.specs.List.{AllByRecursion}
 use Rattle.std.specs.FinMap.{get}
 use Rattle.std.proofs.lemmas.Option.{same_Some}
-use Rattle.omf_format.specs.HeaderLaws.{IsBytes}
+use Rattle.omf_format.specs.Number.{IsBytes}
 use Rattle.omf_io.specs.Files.{FileMap, max_file}
 use Rattle.link_meaning.specs.EmitFaults.{IsLinkedTo}
 use Rattle.link_meaning.specs.LinkLoadable.{NamesNoSkipped, HasNoLoadFault, IsReadWhole}

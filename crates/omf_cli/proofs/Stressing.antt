@@ -12,7 +12,7 @@ use Rattle.omf_format.specs.declared.fault.FileCause.{FileCause}
 use Rattle.omf_format.specs.declared.fault.FileCause.TheVariants as file_causes
 use Rattle.omf_format.specs.declared.fault.FileFault.{FileFault}
 use Rattle.omf_records.specs.Segments.{UnlessMemory, IsRefused}
-use Rattle.omf_format.specs.HeaderLaws.{IsBytes}
+use Rattle.omf_format.specs.Number.{IsBytes}
 use Rattle.omf_format.specs.File.{Segment, IsFile, IsFirstFault}
 use Rattle.omf_format.specs.laws.FileLaws.{file_same, no_file}
 use Rattle.load_meaning.specs.declared.table.Target.{Target}
@@ -35,7 +35,7 @@ use Rattle.loader_agrees.specs.Agrees.{Loaded, Agrees}
 use Rattle.workload_meaning.specs.Object.{object}
 use Rattle.workload.specs.Rounds.{program}
 use Rattle.workload_meaning.specs.Draws.{behind}
-use Rattle.workload_meaning.specs.LinkedLaws.{workload_is_linked}
+use Rattle.workload_meaning.specs.laws.LinkedProofs.{workload_is_linked}
 use Rattle.workload.specs.Work.{HasWorked}
 use Rattle.omf_cli.specs.declared.status.Status.{Status}
 use Rattle.omf_cli.specs.declared.status.Status.TheVariants.{Done, Refused, Usage, CannotRead, CannotWrite, CannotPrint, Memory}

@@ -11,6 +11,5 @@ pub mod File
 pub mod Body
 pub mod Expression
 pub mod Value
-pub mod HeaderLaws
 pub mod WrittenHeader
 pub mod laws

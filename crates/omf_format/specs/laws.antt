@@ -6,3 +6,6 @@ pub mod TermLaws
 pub mod TreeLaws
 pub mod ExpressionLaws
 pub mod SuperLaws
+pub mod HeaderLaws
+pub mod LinesLaws
+pub mod WrittenHeaderLaws

@@ -1,6 +1,6 @@
 -- What is read is a record of the format.
 use Rattle.std.proofs.Common.{◌≡◌, ℕ, List, get_or, Fits, w8, Ok}
-use Rattle.omf_format.specs.HeaderLaws.{IsBytes}
+use Rattle.omf_format.specs.Number.{IsBytes}
 use Rattle.omf_format.specs.Field.{Layout}
 use Rattle.omf_format.specs.Record.{Record, IsRecord}
 use Rattle.omf_format.specs.laws.RecordLaws.{front-takes}

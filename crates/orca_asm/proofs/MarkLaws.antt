@@ -19,7 +19,7 @@ use Rattle.asm_meaning.specs.Constant.{Constants}
 use Rattle.asm_meaning.specs.Elements.{list_pieces}
 use Rattle.asm_meaning.specs.laws.GivenLaws.{instruction_plain, list_plain}
 use Rattle.asm_meaning.specs.Instruction.{Widths, instruction}
-use Rattle.asm_meaning.specs.LabelLaws.{lengths_add}
+use Rattle.asm_meaning.specs.laws.LabelProofs.{lengths_add}
 use Rattle.asm_meaning.specs.laws.PieceLaws.{ArePlainPieces}
 use Rattle.asm_meaning.specs.Pieces.{Piece, length_at, records_of}
 use Rattle.asm_meaning.specs.State.{State, Segment, cells_of, marked, in_segment, within_length, greatest_length, is_too_long}

@@ -4,7 +4,7 @@ use Rattle.std.specs.List.{flat_map}
 use Rattle.std.proofs.lemmas.List.{length-append}
 use Rattle.std.proofs.lemmas.List.Concat.{flat_map-append}
 use Rattle.omf_format.specs.Header.{Fields, header_bytes}
-use Rattle.omf_format.specs.WrittenHeader.{length-header}
+use Rattle.omf_format.specs.laws.WrittenHeaderLaws.{length-header}
 use Rattle.asm_meaning.specs.Object.{records_text, segment_text, object_text, most_bytes}
 use Rattle.asm_meaning.specs.State.{Ended}
 use Rattle.orca_asm.specs.declared.text.Text.{Text}

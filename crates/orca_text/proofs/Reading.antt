@@ -2,7 +2,8 @@
 use Rattle.std.proofs.Common.{◌≡◌, ℕ, ◌+◌, ◌≤◌, Bool, true, false, cond, ltb, List, [], ◌∷◌, ◌++◌, length, Option, Some, None, refl, sym, ap, ◌∙◌, append_assoc, append-nil, arith}
 use Rattle.std.proofs.lemmas.Bool.{ltb-false}
 use Rattle.std.proofs.lemmas.List.{length-append}
-use Rattle.omf_format.specs.Lines.{lines_of, lines_of-nil}
+use Rattle.omf_format.specs.Lines.{lines_of}
+use Rattle.omf_format.specs.laws.LinesLaws.{lines_of-nil}
 use Rattle.orca_meaning.specs.declared.lines.TextCause.{TextCause}
 use Rattle.orca_meaning.specs.declared.lines.TextCause.TheVariants.{LineTooLong, TooManyLines, BadOperand, BadNumber, Memory}
 use Rattle.orca_meaning.specs.Line.{Line, line_of, line_fault, numbered, first_line_fault, or_later}

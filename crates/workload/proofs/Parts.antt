@@ -8,7 +8,7 @@ use Rattle.byteorder.specs.Numbers.{length-bytes_low_first}
 use Rattle.omf_format.specs.Field.{written_layout, name_text}
 use Rattle.omf_format.specs.Expression.{term_text}
 use Rattle.omf_format.specs.Header.{header_bytes}
-use Rattle.omf_format.specs.WrittenHeader.{length-header}
+use Rattle.omf_format.specs.laws.WrittenHeaderLaws.{length-header}
 use Rattle.omf_format.specs.Record.{Record, End, Const, LongConst, Formula, spelling}
 use Rattle.asm_meaning.specs.State.{Ended}
 use Rattle.asm_meaning.specs.Object.{records_text, segment_text, object_text}

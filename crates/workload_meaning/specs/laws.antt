@@ -4,3 +4,4 @@ pub mod SearchLaws
 pub mod ResolvedLaws
 pub mod CallLaws
 pub mod SizeLaws
+pub mod LinkedProofs

@@ -9,7 +9,7 @@ use Rattle.std.proofs.lemmas.List.{length-append, length-map}
 use Rattle.std.proofs.lemmas.Slice.Eq.{bytes_eq-Decides}
 use Rattle.omf_format.specs.laws.FieldLaws.{length-trim}
 use Rattle.omf_format.specs.Header.{Fields, form_of, first_of, is_dynamic, is_skipped}
-use Rattle.omf_format.specs.HeaderLaws.{IsBytes}
+use Rattle.omf_format.specs.Number.{IsBytes}
 use Rattle.omf_format.specs.Record.{Record}
 use Rattle.omf_format.specs.File.{Segment, IsFile, segment_at}
 use Rattle.omf_format.specs.Body.{body_bytes}

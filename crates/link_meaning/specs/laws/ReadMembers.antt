@@ -10,7 +10,8 @@ use Rattle.omf_format.specs.Number.{number_at}
 use Rattle.omf_format.specs.Field.{◌>>=◌, layout_of}
 use Rattle.omf_format.specs.laws.FieldLaws.{IsBytes-drop, IsBytes-take, kind_of-lt, bind_ok}
 use Rattle.omf_format.specs.Header.{Fields, fields_of, names_end, form_of, is_listed}
-use Rattle.omf_format.specs.HeaderLaws.{IsBytes, IsSound, sound_from_none}
+use Rattle.omf_format.specs.Number.{IsBytes}
+use Rattle.omf_format.specs.laws.HeaderLaws.{IsSound, sound_from_none}
 use Rattle.omf_format.specs.Record.{Record, IsRecord}
 use Rattle.omf_format.specs.Reading.{Reader, HandsOut}
 use Rattle.omf_format.specs.laws.BodyLaws.{handed_out}

@@ -4,7 +4,7 @@ use Rattle.std.specs.List.{AllByRecursion}
 use Rattle.std.proofs.lemmas.List.{length-append}
 use Rattle.omf_format.specs.declared.value.Value.{Value}
 use Rattle.omf_format.specs.Field.{layout_of}
-use Rattle.omf_format.specs.HeaderLaws.{IsBytes}
+use Rattle.omf_format.specs.Number.{IsBytes}
 use Rattle.omf_format.specs.Record.{Record, End, Const, LongConst, Align, Org, Space, Reloc, InterSeg, ShortReloc, ShortInterSeg, Super, Using, Strong, Label, Equate, Formula, Entry, IsRecord}
 use Rattle.link_meaning.specs.First.{IsIn}
 use Rattle.link_meaning.specs.Sizes.{Located, size_at, located_from, located, place_behind, body_size}

@@ -5,8 +5,8 @@ use Rattle.std.proofs.lemmas.List.{append-nil, take_at, drop_at, length-append}
 use Rattle.std.proofs.lemmas.List.Concat.{flat_map-cons}
 use Rattle.omf_format.specs.Field.{length_width_of}
 use Rattle.omf_format.specs.Header.{Fields, fields_of, header_fault, written_fields, header_bytes}
-use Rattle.omf_format.specs.HeaderLaws.{drop-more}
-use Rattle.omf_format.specs.WrittenHeader.{length-header, fields_of-written, header_fault-written}
+use Rattle.omf_format.specs.laws.HeaderLaws.{drop-more}
+use Rattle.omf_format.specs.laws.WrittenHeaderLaws.{length-header, fields_of-written, header_fault-written}
 use Rattle.omf_format.specs.Reading.{Reader, HandsOut}
 use Rattle.omf_format.specs.File.{Segment, body_reader, IsSegment, AreSegments, IsFile}
 use Rattle.load_meaning.specs.WrittenBody.{body_records, body_text, HasBody}

@@ -6,7 +6,7 @@ use Rattle.std.proofs.lemmas.List.Concat.{flat_map-cons}
 use Rattle.omf_format.specs.declared.fault.Flaw.{Flaw}
 use Rattle.omf_format.specs.declared.fault.RecordFault.{RecordFault}
 use Rattle.omf_format.specs.Header.{Fields}
-use Rattle.omf_format.specs.HeaderLaws.{IsBytes}
+use Rattle.omf_format.specs.Number.{IsBytes}
 use Rattle.omf_format.specs.Field.{Layout}
 use Rattle.omf_format.specs.laws.FieldLaws.{IsBytes-drop, IsBytes-take}
 use Rattle.omf_format.specs.Record.{Record, End, Const, LongConst, Align, Org, Space, Reloc, InterSeg, ShortReloc, ShortInterSeg, Super, Using, Strong, Label, Equate, Formula, Entry, spelling, IsRecord}

@@ -4,7 +4,7 @@ use Rattle.std.proofs.Common.{◌≡◌, ℕ, zero, suc, ◌+◌, ◌-◌, ◌<�
 use Rattle.std.proofs.lemmas.List.{take_at, drop_at, append_cancel_right, length-append}
 use Rattle.omf_format.specs.declared.expression.ExprFault.{ExprFault}
 use Rattle.omf_format.specs.declared.expression.ExprFault.TheVariants.{Truncated}
-use Rattle.omf_format.specs.HeaderLaws.{IsBytes}
+use Rattle.omf_format.specs.Number.{IsBytes}
 use Rattle.omf_format.specs.laws.FieldLaws.{ok_is, Takes, IsBytes-drop}
 use Rattle.omf_format.specs.Expression.{Term, AreTerms, term_text, terms_text, Tree, IsTree, terms_of, depth, Spells, IsExpression, pending_behind, Lead, term_step, IsFirstFault, BeginsWith, placed_terms, first_terms, terms_in, read_from, read_all, flaw_of, split_of, expression_field}
 use Rattle.omf_format.specs.laws.TermLaws.{term_takes_some, term-takes, term-again, end-again, terms_take_some, terms-same, StepIs, step-found, step-end, step-term}

@@ -6,7 +6,7 @@ use Rattle.omf_format.specs.declared.fault.HeaderFault.{HeaderFault}
 use Rattle.omf_format.specs.declared.fault.RecordFault.{RecordFault}
 use Rattle.omf_format.specs.declared.fault.FileFault.{FileFault}
 use Rattle.omf_format.specs.Header.{Fields, fields_of, version_of, names_end, header_fault}
-use Rattle.omf_format.specs.HeaderLaws.{IsSound, sound_from_none}
+use Rattle.omf_format.specs.laws.HeaderLaws.{IsSound, sound_from_none}
 use Rattle.omf_format.specs.Record.{Record}
 use Rattle.omf_format.specs.Reading.{Reader, front, told, next_answer, after_next, HandsOut}
 use Rattle.omf_format.specs.File.{Segment, body_reader, IsHeader, IsSegment, AreSegments, IsFile, Told, told_header, told_record, HasFault, InHeader, InRecord, IsFirstFault}

@@ -4,7 +4,7 @@ use Rattle.std.specs.List.{AllByRecursion}
 use Rattle.std.proofs.lemmas.Bool.{lt-ltb, ltb-true, leb-true, eqb-true, ne_eqb, and_parts}
 use Rattle.byteorder.specs.Endian.{little_bytes}
 use Rattle.omf_format.specs.declared.fault.Flaw.TheVariants.{Unread, Broken}
-use Rattle.omf_format.specs.HeaderLaws.{IsBytes}
+use Rattle.omf_format.specs.Number.{IsBytes}
 use Rattle.omf_format.specs.Field.{Layout, ◌>>=◌, Reads, ◌⊗◌, checked, taken_as, byte_field, bytes_field, number_field, name_field, name_text, IsName, is_count, count_field, is_shift, shift_byte, shift_field}
 use Rattle.omf_format.specs.laws.FieldLaws.{IsBytes-front, IsBytes-rest, either, bind_ok, done, ok_is, chosen, Takes, Takes-then, Takes-code, bytes_again, IsField, byte_is_field, bytes_is_field, number_is_field, name_is_field, checked_is_field, both_are_field, count_is_field, shift_is_field}
 use Rattle.omf_format.specs.Expression.{IsExpression, expression_field}

@@ -7,7 +7,7 @@ use Rattle.omf_format.specs.declared.fault.Flaw.{Flaw}
 use Rattle.omf_format.specs.declared.fault.Flaw.TheVariants.{Cut, Unread, Broken}
 use Rattle.omf_format.specs.declared.expression.ExprFault.{ExprFault}
 use Rattle.omf_format.specs.declared.expression.ExprFault.TheVariants.{Shape, TooDeep}
-use Rattle.omf_format.specs.HeaderLaws.{IsBytes}
+use Rattle.omf_format.specs.Number.{IsBytes}
 use Rattle.omf_format.specs.Field.{◌>>=◌, number_field, name_field, name_text, IsName}
 use Rattle.omf_format.specs.laws.FieldLaws.{IsBytes-rest, bind_ok, done, ok_is, chosen, Takes, Takes-code, number_takes, number_again, name_takes, name_again}
 use Rattle.omf_format.specs.Expression.{Term, Operator, Location, Constant, Named, Offset, is_operator, is_named, IsTerm, term_text, AreTerms, terms_text, term_field, operands_of, pending_behind, judged, step_of, term_step}

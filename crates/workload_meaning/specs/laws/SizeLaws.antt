@@ -11,7 +11,7 @@ use Rattle.byteorder.specs.Numbers.{length-bytes_low_first}
 use Rattle.omf_format.specs.Field.{written_layout}
 use Rattle.omf_format.specs.laws.FieldLaws.{length-trim}
 use Rattle.omf_format.specs.Header.{header_bytes}
-use Rattle.omf_format.specs.WrittenHeader.{length-header}
+use Rattle.omf_format.specs.laws.WrittenHeaderLaws.{length-header}
 use Rattle.omf_format.specs.Record.{Record, End, LongConst, Super, spelling}
 use Rattle.omf_format.specs.Super.{Passed, Located, page_text}
 use Rattle.load_meaning.specs.declared.table.Target.{Target}
