@@ -269,9 +269,14 @@ fn carry_out(
 {
     let root = root_of(state, of.line);
     let found = deed_at(alloc, program, state, root, of, plan, buffer, spare)?;
-    give(alloc, out, of, &found)?;
-    let outcome = step(alloc, program, state, root, found, spare)?;
-    Ok(outcome)
+    match give(alloc, out, of, &found) {
+        Ok(()) => {}
+        Err(error) => {
+            drop(found);
+            return Err(error);
+        }
+    }
+    step(alloc, program, state, root, found, spare)
 }
 
 /// Visits a line. Of one of the source no more is looked for than whether it is given as it stands.
@@ -370,10 +375,14 @@ pub fn expand(alloc: Global, source: &[u8], macros: &Vec<Vec<u8>>) -> Result<Lin
     };
     let mut lines = match read_file(alloc, 0, source) {
         Ok(lines) => lines,
-        Err(fault) => return Err(fault),
+        Err(fault) => {
+            drop(files);
+            return Err(fault);
+        }
     };
     if texts.is_empty() {
         if are_untouched(&lines) {
+            drop(files);
             lines.drop_comments();
             return Ok(lines);
         }
@@ -381,10 +390,19 @@ pub fn expand(alloc: Global, source: &[u8], macros: &Vec<Vec<u8>>) -> Result<Lin
     let parts = files.as_slice();
     let program = match program_of(alloc, lines, parts) {
         Ok(Ok(program)) => program,
-        Ok(Err(fault)) => return Err(fault),
-        Err(_) => return Err(no_memory()),
+        Ok(Err(fault)) => {
+            drop(files);
+            return Err(fault);
+        }
+        Err(_) => {
+            drop(files);
+            return Err(no_memory());
+        }
     };
-    match visit_all(alloc, &program) {
+    let visited = visit_all(alloc, &program);
+    drop(program);
+    drop(files);
+    match visited {
         Ok(found) => found,
         Err(_) => Err(no_memory()),
     }
