@@ -22,7 +22,8 @@ use std::alloc::Global;
 
 /// A file's fault as one of its dictionary.
 fn file_fault(fault: FileFault) -> DictFault
-    ensures { FaultOf fault result }
+    ensures told { FaultOf fault result }
+    ensures memory { result ≡ DictFault.Memory → fault.cause ≡ FileCause.Memory }
 {
     match fault.cause {
         FileCause::Truncated => DictFault::File(fault),

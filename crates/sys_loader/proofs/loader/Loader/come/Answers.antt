@@ -10,7 +10,7 @@ use Rattle.sys_loader.proofs.Waking.{one_kept, come_from, brings_none, file_chan
 use Rattle.sys_loader.proofs.loader.Loader.come.Goals as goal
 
 pub returns-in-Err-clause-refused : goal.returns-in-Err-clause-refused
-returns-in-Err-clause-refused c = λ k made. inl (c.bad_file.ensures c.args.file.now c.in-Err.ensures.refused)
+returns-in-Err-clause-refused c = λ k made. inl (c.bad_file.ensures.told c.args.file.now c.in-Err.ensures.refused)
 
 pub returns-in-Err-places_of-clause-refused : goal.returns-in-Err-places_of-clause-refused
 returns-in-Err-places_of-clause-refused c = λ k made. inl (inl c.in-Err-places_of.ensures.err)
