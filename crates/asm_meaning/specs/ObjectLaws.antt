@@ -1,6 +1,5 @@
 -- A source with macro files has one answer: one object at most, or one first fault.
 use Rattle.std.proofs.Common.{◌≡◌, ℕ, List}
-use Rattle.macro_meaning.specs.Expansion as expansion
 use Rattle.asm_meaning.specs.declared.faults.AsmFault.{AsmFault}
 use Rattle.asm_meaning.specs.Object.{IsObject, IsFirstFault}
 

@@ -1,6 +1,6 @@
 -- Lists whose items are changed one after the other.
-use Rattle.std.proofs.Common.{◌≡◌, ◌≢◌, inl, inr, ℕ, ◌+◌, ◌<◌, ◌≤◌, List, map, length, get_or, arith, refl, sym, ap, ◌∙◌}
-use Rattle.std.proofs.Math.ListN.{set, length-set}
+use Rattle.std.proofs.Common.{◌≡◌, inl, inr, ℕ, ◌+◌, ◌<◌, ◌≤◌, List, map, length, get_or, arith, sym, ap, ◌∙◌}
+use Rattle.std.proofs.Math.ListN.{set}
 use Rattle.std.proofs.lemmas.List.{get_or-map, get_or-set_same, get_or-set_other, get_or_default, same_lists, length-map}
 use Rattle.std.proofs.lemmas.Bool.{cases_eq}
 
@@ -11,15 +11,6 @@ module _ {X : Type 0} (f : X → X) where
     pub changed : (k : ℕ) (d : X) → k < n → k < length old → get_or now k d ≡ f (get_or old k d)
     pub same : (k : ℕ) (d : X) → n ≤ k → get_or now k d ≡ get_or old k d
 
-  pub so_far_none : (old : List X) → SoFar old old 0
-  so_far_none old = record { len = refl; changed = λ k d less inside. absurd (omega arith); same = λ k d le. refl }
-
-  -- one more is changed
-  pub so_far_more : (old now next : List X) (n : ℕ) (d : X) → SoFar old now n → next ≡ set now n (f (get_or now n d)) → SoFar old next (n + 1)
-  so_far_more old now next n d so is = record {
-    len = rw is (length-set now n (f (get_or now n d)) ∙ so.len);
-    changed = λ k e less inside. rw is (go k e less inside);
-    same = λ k e le. let ne : k ≢ n = omega arith in rw (is, get_or-set_other) (so.same k e (omega arith));
   }
     where
       go : (k : ℕ) (e : X) → k < n + 1 → k < length old → get_or (set now n (f (get_or now n d))) k e ≡ f (get_or old k e)

@@ -273,10 +273,6 @@ module _ (marks : List Mark) (address count : ℕ) (c : CountsUpTo marks address
     | inr behind ↦ absurd (omega (arith, c.behind has.0 m behind has.1, ap (λ (x : Mark). x.at) has.2, le))
   ]
 
-  pub none_at : count ≡ 0 → (m : Mark) → Contains marks m → address < m.at
-  none_at none m has = elim (cases_lt address m.at) [
-    | inl lt ↦ lt
-    | inr le ↦ absurd (omega (arith, none, before_it m has le))
   ]
 
   pub last_at : (d : Mark) → 0 < count → count ≤ length marks → IsNonDecreasingBy (λ m. m.at) marks → IsLast marks address (get_or marks (count - 1) d)

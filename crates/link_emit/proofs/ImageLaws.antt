@@ -14,7 +14,6 @@ use Rattle.load_meaning.specs.laws.StoredLaws.{zeros-le, cells_size}
 use Rattle.load_meaning.specs.WrittenFile.{Image, image_body, image_text, file_text}
 use Rattle.omf_header.specs.View.{fields}
 use Rattle.omf_header.specs.declared.header.Header.{Header}
-use Rattle.omf_cells.specs.declared.written.Patch as kept
 use Rattle.link_emit.specs.Holding.{Holding}
 use Rattle.link_emit.specs.Images.{with_space, image_in, images_in, IsReady, AreReady}
 

@@ -1,5 +1,5 @@
 -- What records give, and the last byte of a member.
-use Rattle.std.proofs.Common.{◌≡◌, ℕ, ◌+◌, ◌-◌, ◌<◌, Bool, false, eqb, List, [], ◌∷◌, ◌++◌, length, map, Option, Some, None, Result, Ok, Err, refl, sym, ap, subst, ◌∙◌, arith}
+use Rattle.std.proofs.Common.{◌≡◌, ℕ, ◌+◌, ◌<◌, Bool, false, eqb, List, [], ◌∷◌, ◌++◌, length, map, Option, Some, None, Result, Ok, refl, sym, ap, subst, ◌∙◌, arith}
 use Rattle.std.proofs.lemmas.List.{length-append, length-map, map-append}
 use Rattle.omf_format.specs.declared.value.Value.{Value}
 use Rattle.omf_format.specs.Record.{Formula}
@@ -53,10 +53,6 @@ pub formula_gives : (list : List Member) (told : List Told) (state : State) (i :
     → made_by list told state i (Formula code count n expr) ≡ Ok (fit_cells (table_number list) count (targets_behind state.targets fit) fit, targets_behind state.targets fit)
 formula_gives list told state i code count n expr v fit value fits = rw (value, fits) refl
 
-pub formula_unfit : (list : List Member) (told : List Told) (state : State) (i : Item) (code count n : ℕ) (expr : List ℕ) (v : Value) (cause : LinkCause) → value_in list told i.place i.member i.here.location expr ≡ Ok v
-    → fitted (load_headers list) (frame_of list i) state.targets (cells_before state i) code count n v ≡ Err cause → made_by list told state i (Formula code count n expr) ≡ Err cause
-formula_unfit list told state i code count n expr v cause value fits = rw (value, fits) refl
-
 -- ---- what was put is what the record gives
 
 abbrev frame : ℕ → ℕ → ℕ → Frame
@@ -94,7 +90,3 @@ module _ (list : List Member) (told : List Told) (state : State) (i : Item) (sit
         targets' = behind;
         holds = subst (λ (l : List Cell). HoldsCells ((front ++ cells_before state i) ++ l) after) cells (puts.cells' (front ++ cells_before state i) stands.holds);
       }
-
-  pub value_unfit : (cause : LinkCause) → fitted (load_headers list) (frame site.own site.bank_size (site.offset + location)) targets (cells_before state i) formula.code formula.count formula.n v ≡ Err cause
-      → made_by list told state i (Formula formula.code formula.count formula.n expr) ≡ Err cause
-  value_unfit cause is = formula_unfit list told state i formula.code formula.count formula.n expr v cause value (same_fit (Err cause) is)

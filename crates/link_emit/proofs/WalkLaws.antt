@@ -11,8 +11,7 @@ use Rattle.link_meaning.specs.Sizes.{size_at, located_from, located, place_behin
 use Rattle.link_meaning.specs.Member.{Member}
 use Rattle.link_meaning.specs.Layout.{offset_of, load_headers}
 use Rattle.link_meaning.specs.LinkValues.{Told}
-use Rattle.link_meaning.specs.LinkedCells.{State, zeros, items, made, gained, state_from, member_cells, bank_of, table_number}
-use Rattle.link_meaning.specs.LinkedCells as linked_cells
+use Rattle.link_meaning.specs.LinkedCells.{State, zeros, made, gained, state_from, member_cells, bank_of, table_number}
 use Rattle.link_meaning.specs.LinkWritten.{AreMade, byte_under}
 use Rattle.link_meaning.specs.laws.MadeLaws.{length-made, length-zeros}
 use Rattle.link_meaning.specs.laws.PlaceFits.{behind-le, in_parts}

@@ -17,7 +17,7 @@ use Rattle.link_meaning.specs.Member.{Member}
 use Rattle.link_meaning.specs.Layout.{in_load, aligned_from, end_from, offset_of, distinct, load_names, number_in, load_of}
 use Rattle.link_meaning.specs.laws.LayoutLaws.{aligned_from-least, alignment-some}
 use Rattle.link_meaning.specs.LinkValues.{Told}
-use Rattle.link_meaning.specs.LinkedCells.{Item, State, Made, zeros, items_from, items, made, state_from, state_behind, member_cells}
+use Rattle.link_meaning.specs.LinkedCells.{Item, State, Made, zeros, items_from, items, made, state_behind, member_cells}
 use Rattle.link_meaning.specs.LinkWritten.{AreMade, start}
 use Rattle.link_meaning.specs.LinkFaults.{spot_in}
 use Rattle.link_meaning.specs.laws.MadeLaws.{length-zeros}

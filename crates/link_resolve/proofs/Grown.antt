@@ -1,19 +1,10 @@
 -- Cells so far, and those of the records that are still to come.
-use Rattle.std.proofs.Common.{◌≡◌, ℕ, ◌+◌, ◌≤◌, ◌<◌, ◌^◌, Bool, Option, List, [], ◌∷◌, Some, None, sym, ap, arith}
+use Rattle.std.proofs.Common.{◌≡◌, ℕ, ◌+◌, ◌≤◌, ◌^◌, Bool, Option, List, [], ◌∷◌, Some, None, sym, ap, arith}
 use Rattle.std.specs.Prelude.{if◌then◌else◌}
 use Rattle.std.proofs.lemmas.Bool.{le-ltb}
 use Rattle.omf_format.specs.Record.{Record}
-use Rattle.omf_format.specs.Reading.{Reader}
 use Rattle.link_meaning.specs.Sizes.{size_at, place_behind}
-use Rattle.link_resolve.specs.Coming.{Coming}
 use Rattle.link_resolve.specs.Sizes.{in_32_bits}
-
--- so many cells came, and the records that are still to come give the rest
-pub record Counted (all : List (ℕ × Record)) (at : Reader) (size : ℕ) : Type 0 where
-  pub back : List (ℕ × Record)
-  pub coming : Coming at back
-  pub whole : place_behind 0 all ≡ place_behind size back
-  pub small : size < 2 ^ 32
 
 -- no record makes it less
 pub grows : (at : ℕ) (founds : List (ℕ × Record)) → at ≤ place_behind at founds
@@ -28,9 +19,3 @@ choice n b = if b then Some n else None
 
 pub past_32 : (n : ℕ) → 2 ^ 32 ≤ n → nothing ≡ in_32_bits n
 past_32 n past = sym (ap (choice n) (le-ltb n (2 ^ 32) past))
-
--- one record more
-pub record CountedMore (all : List (ℕ × Record)) (after : Reader) (size : ℕ) (found : ℕ × Record) : Type 0 where
-  pub more : List (ℕ × Record)
-  pub coming : Coming after more
-  pub whole : place_behind 0 all ≡ place_behind (size + size_at size found.1) more

@@ -48,14 +48,6 @@ passed_one segments s p patches e = by_cause (patch_refusal segments s p) e
     by_cause None e' = refl
     by_cause (Some cause) e' = absurd cc
 
--- and where it may not, it decides
-pub stopped_one : (segments : List Segment) (s : Segment) (p : Patch) (patches : List Patch) (cause : LoadCause) → first_refusal segments s (p ∷ []) ≡ Some cause → first_refusal segments s (p ∷ patches) ≡ Some cause
-stopped_one segments s p patches cause e = by_cause (patch_refusal segments s p) e
-  where
-    by_cause : (o : Option LoadCause) → option_or o None ≡ Some cause → option_or o (first_refusal segments s patches) ≡ Some cause
-    by_cause None e' = absurd cc
-    by_cause (Some other) e' = e'
-
 some_number : (a b : ℕ) → Some a ≡ Some b → a ≡ b
 some_number a b e = cc
 
@@ -70,12 +62,6 @@ module _ (segments : List Segment) (s : Segment) (form : ℕ) where
       let same : y ≡ x = some_number y x is in
       passed_one segments s (f y) (map f at) (ap (λ (z : ℕ). first_refusal segments s (f z ∷ [])) same ∙ none)
       ∙ ap (λ l. first_refusal segments s (map f l)) (sym moved)
-
-  pub refusal_here : (x : ℕ) (at : List ℕ) (cause : LoadCause) → first at ≡ Some x → first_refusal segments s (f x ∷ []) ≡ Some cause → first_refusal segments s (map f at) ≡ Some cause
-  refusal_here x [] cause is stops = absurd cc
-  refusal_here x (y ∷ at) cause is stops =
-      let same : y ≡ x = some_number y x is in
-      stopped_one segments s (f y) (map f at) cause (ap (λ (z : ℕ). first_refusal segments s (f z ∷ [])) same ∙ stops)
 
   pub spread_more : (x : ℕ) (at next : List ℕ) (old new : List (ℕ × Cell)) → first at ≡ Some x → next ≡ behind at → new ≡ old ++ spread_all (f x ∷ [])
       → new ++ spread_all (map f next) ≡ old ++ spread_all (map f at)

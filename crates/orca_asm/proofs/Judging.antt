@@ -19,7 +19,6 @@ use Rattle.asm_meaning.specs.Constant.{Constants, Known, Written, Number, Open, 
 use Rattle.asm_meaning.specs.Elements.{number_piece, numbered}
 use Rattle.asm_meaning.specs.Formulas.{AreFormulas, judged, number_of}
 use Rattle.asm_meaning.specs.Pieces.{Piece}
-use Rattle.orca_asm.specs.AmountView as view
 use Rattle.orca_asm.specs.AmountView.{IsFormulaOf, Kept, kept_of, kept_answer}
 use Rattle.orca_asm.specs.DcView.{IsKeptOf, HasNumbers, all_or}
 use Rattle.orca_asm.specs.PieceView.{piece, pieces_answer}

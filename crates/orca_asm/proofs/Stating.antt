@@ -4,7 +4,7 @@ use Rattle.std.specs.Global.{Vec}
 use Rattle.std.specs.List.{flat_map}
 use Rattle.std.specs.Prelude.{Result, IfSome}
 use Rattle.std.proofs.lemmas.List.Concat.{flat_map-cons}
-use Rattle.omf_format.specs.Expression.{Tree, Leaf, Unary, Binary, AreTerms, Term, depth}
+use Rattle.omf_format.specs.Expression.{Tree, Leaf, Unary, Binary, AreTerms, Term}
 use Rattle.omf_format.specs.Expression as expression
 use Rattle.omf_format.specs.Field.{◌>>=◌}
 use Rattle.omf_format.specs.laws.TreeLaws.{tree_has_terms}
@@ -26,7 +26,6 @@ use Rattle.asm_meaning.specs.Elements.{Element, IsElementAt, AreElements, joined
 use Rattle.asm_meaning.specs.laws.GivenLaws.{fine_operand}
 use Rattle.asm_meaning.specs.Instruction.{Widths, instruction}
 use Rattle.asm_meaning.specs.laws.InstructionLaws.{AreFineTrees}
-use Rattle.asm_meaning.specs.Pieces as pieces
 use Rattle.asm_meaning.specs.Pieces.{Piece}
 use Rattle.asm_meaning.specs.Statement.{Good, Bad, Large}
 use Rattle.asm_meaning.specs.laws.StatementLaws.{element_once}

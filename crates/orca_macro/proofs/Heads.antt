@@ -10,7 +10,6 @@ use Rattle.orca_meaning.specs.declared.lines.Span.{Span}
 use Rattle.orca_meaning.specs.Characters.{is_blank, folded}
 use Rattle.orca_meaning.specs.Line.{Fields, Line, part, three_fields, is_comment, is_ink, next_blank, next_ink, span}
 use Rattle.macro_meaning.specs.declared.statements.Statement.{Statement}
-use Rattle.macro_meaning.specs.Deed as meaning
 use Rattle.macro_meaning.specs.Deed.{Setting, cut, operation_or_anop, IsDone, IsDoneBy, IsStatement, IsAfterCut, IsAfterText, IsShort, begins_definition, calling_at}
 use Rattle.macro_meaning.specs.Definition.{first_named}
 use Rattle.macro_meaning.specs.Statements.{statement_of, sequence_name}

@@ -12,7 +12,7 @@ use Rattle.omf_format.specs.Expression.{Term, Operator, Location, Constant, Name
 use Rattle.omf_format.specs.laws.TreeLaws.{tree_has_terms}
 use Rattle.omf_format.specs.Value.{Environment, value}
 use Rattle.orca_meaning.specs.declared.operators.Operands.TheVariants.{Symbols}
-use Rattle.orca_meaning.specs.Formula.{MeansAt, has_large, pending}
+use Rattle.orca_meaning.specs.Formula.{MeansAt, has_large}
 use Rattle.orca_meaning.specs.laws.FormulaLaws.{formed, one_tree, pending-one}
 use Rattle.macro_meaning.specs.declared.faults.MacroCause.TheVariants.{NoSuchSymbol, BadSetting}
 use Rattle.macro_meaning.specs.Condition.{Answer, environment, is_declared, number_of, answer_of, IsNumber, Formula, NoFormula}

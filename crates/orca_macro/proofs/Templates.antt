@@ -9,7 +9,6 @@ use Rattle.orca_macro.specs.Template.{where_some, part_text, join, followed, Beg
 use Rattle.orca_macro.specs.declared.template.Part.{Part}
 use Rattle.orca_macro.specs.declared.template.Part.TheVariants.{Plain, Need}
 use Rattle.orca_macro.specs.declared.template.Place.{Place}
-use Rattle.orca_macro.specs.declared.template.Place.TheVariants as places
 use Rattle.orca_macro.proofs.Fronts.{front_more, front_start, plain_front, plain_most, behind_run, skipped, nothing_left}
 
 -- ---- what comes in place of an `&`

@@ -1,5 +1,5 @@
 -- Handles dealt out one by one, and the search for where a program begins.
-use Rattle.std.proofs.Common.{◌≡◌, ℕ, zero, suc, Bool, true, false, ◌+◌, ◌-◌, ◌<◌, ◌==◌, ◌%◌, List, [], ◌∷◌, ◌++◌, length, drop, take, map, get_or, Option, Some, None, refl, sym, ap, subst, ◌∙◌, arith, append_assoc}
+use Rattle.std.proofs.Common.{◌≡◌, ℕ, zero, suc, Bool, true, false, ◌+◌, ◌<◌, ◌==◌, ◌%◌, List, [], ◌∷◌, ◌++◌, length, drop, take, map, get_or, Option, Some, None, refl, sym, ap, ◌∙◌, arith, append_assoc}
 use Rattle.std.specs.Prelude.{◌&&◌, slice_get, unwrap_or}
 use Rattle.std.specs.Option.{option_map, option_and_then}
 use Rattle.std.proofs.Math.Seq.{drop-cons}
@@ -10,7 +10,7 @@ use Rattle.omf_format.specs.Header.{form_of}
 use Rattle.iigs_meaning.specs.declared.handles.Handle.{Handle}
 use Rattle.iigs_meaning.specs.Fits.{Slots}
 use Rattle.loader_machine.specs.declared.seen.Head.{Head}
-use Rattle.loader_machine.specs.Heads.{at_number, is_static, wants_of, number_of, entry_in}
+use Rattle.loader_machine.specs.Heads.{at_number, is_static, wants_of, entry_in}
 use Rattle.loader_machine.specs.State.{Held}
 use Rattle.loader_machine.specs.Presences.{presence, there_at, handle_at}
 use Rattle.loader_machine.specs.Stands.{place_in}
@@ -36,9 +36,6 @@ module _ (place : ℕ → ℕ) (segments xs : List Segment) (i : ℕ) (d : Segme
 
   whole : entry_in ((get_or xs i d).head ∷ heads (drop (i + 1) segments)) place (i + 1) ≡ entry_in (heads segments) place 1
   whole = ap (λ (l : List Segment). entry_in (heads l) place (i + 1)) (sym from_here) ∙ sought
-
-  pub sought_more : (is_static (get_or xs i d).head && (form_of (get_or xs i d).head.kind == 0x00)) ≡ false → Sought place segments (i + 1)
-  sought_more not = rw not at whole
 
   pub sought_here : (is_static (get_or xs i d).head && (form_of (get_or xs i d).head.kind == 0x00)) ≡ true
       → entry_in (heads segments) place 1 ≡ Some ((place (i + 1) + (get_or xs i d).head.entry) % 0x1000000)
@@ -182,36 +179,3 @@ set_room before now hs place next count s dealt less is static =
     let head : s.head ≡ (get_or now place s).head = ap (λ (x : Segment). x.head) is in
     let x : Segment = record { handle = None; head = s.head } in
     room_left before now (set now place x) hs place next count s x dealt inside (set_taken now place x inside) (set_heads now place x s inside head) (length-set now place x) (sym (ap is_static head) ∙ static)
-
--- ---- numbers of static segments
-
-module _ (segments xs : List Segment) (i left : ℕ) (d : Segment) (same : xs ≡ segments) (inside : i < length xs) (room : left < length (wants_of (heads (drop i segments)))) (total : ℕ)
-    (sought : number_of (i + 1) (heads (drop i segments)) left ≡ total) where
-  here : drop i segments ≡ get_or xs i d ∷ drop (i + 1) segments
-  here =
-      let more : i + 1 ≡ suc i = omega arith in
-      ap (λ (l : List Segment). drop i l) (sym same) ∙ drop-cons xs i d inside ∙ ap (λ (n : ℕ). get_or xs i d ∷ drop n xs) (sym more) ∙ ap (λ (l : List Segment). get_or xs i d ∷ drop (i + 1) l) same
-
-  whole_number : number_of (i + 1) ((get_or xs i d).head ∷ heads (drop (i + 1) segments)) left ≡ total
-  whole_number = ap (λ (l : List Segment). number_of (i + 1) (heads l) left) (sym here) ∙ sought
-
-  whole_room : left < length (wants_of ((get_or xs i d).head ∷ heads (drop (i + 1) segments)))
-  whole_room = subst (λ (l : List Segment). left < length (wants_of (heads l))) here room
-
-  pub number_here : is_static (get_or xs i d).head ≡ true → left ≡ 0 → i + 1 ≡ total
-  number_here static none = let at = subst (λ (n : ℕ). number_of (i + 1) ((get_or xs i d).head ∷ heads (drop (i + 1) segments)) n ≡ total) none whole_number in rw static at at
-
-  pub number_past : is_static (get_or xs i d).head ≡ false → (number_of (i + 1 + 1) (heads (drop (i + 1) segments)) left ≡ total) × (left < length (wants_of (heads (drop (i + 1) segments))))
-  number_past other = (go left whole_number, rw other at whole_room)
-    where
-      go : (n : ℕ) → number_of (i + 1) ((get_or xs i d).head ∷ heads (drop (i + 1) segments)) n ≡ total → number_of (i + 1 + 1) (heads (drop (i + 1) segments)) n ≡ total
-      go zero e = rw other at e
-      go (suc n) e = rw other at e
-
-  pub number_next : (less : ℕ) → left ≡ less + 1 → is_static (get_or xs i d).head ≡ true
-      → (number_of (i + 1 + 1) (heads (drop (i + 1) segments)) less ≡ total) × (less < length (wants_of (heads (drop (i + 1) segments))))
-  number_next less is static =
-      let more : left ≡ suc less = omega (arith, is) in
-      let at = subst (λ (n : ℕ). number_of (i + 1) ((get_or xs i d).head ∷ heads (drop (i + 1) segments)) n ≡ total) more whole_number in
-      let size : length (wants_of ((get_or xs i d).head ∷ heads (drop (i + 1) segments))) ≡ suc (length (wants_of (heads (drop (i + 1) segments)))) = wants_static (get_or xs i d).head (heads (drop (i + 1) segments)) static in
-      (rw static at at, omega (arith, whole_room, size, more))

@@ -269,9 +269,6 @@ module _ (held : FileMap) (old : Loaded) (state : Machine) (id number at byte : 
   state_users : slice_get state.users place ≡ Some (Some is.user)
   state_users = (made_at state.users id is.user is.made).0
 
-  some_user : User → Option User
-  some_user user = Some user
-
   agrees_next : Agrees held new next
   agrees_next = record {
     banks = agrees.banks;

@@ -16,7 +16,7 @@ use Rattle.load_meaning.specs.laws.CellLaws.{loadable_has, length-segment_bytes}
 use Rattle.load_meaning.specs.Table.{table_bytes, file_entry}
 use Rattle.load_meaning.specs.LoadTable.{is_table, targets_of}
 use Rattle.load_meaning.specs.Loadable.{IsLoadable, IsSoundSegment, IsTarget}
-use Rattle.omf_cells.specs.Load.{HasLength, table_targets}
+use Rattle.omf_cells.specs.Load.{table_targets}
 use Rattle.omf_cells.specs.Places.{place_in, address_in}
 use Rattle.iigs_meaning.specs.declared.handles.Handle.{Handle}
 use Rattle.iigs_meaning.specs.Fits.{Slots}
@@ -51,9 +51,6 @@ front_of None bytes front rest is = absurd is
 front_of (Some s) bytes front rest is = (rest, ap (λ (l : List ℕ). l ++ rest) is)
 
 module _ (segments : List Segment) (number : ℕ) (head : Head) (s : Segment) (there : segment_at segments number ≡ Some s) (is_head : head ≡ head_of s) where
-  length_is : HasLength segments number head.length
-  length_is = rw there (ap (λ (x : Head). x.length) (sym is_head))
-
   module _ (sound : AreSound segments) (is : (form_of head.kind == 0x02) ≡ true) where
     its_table : is_table s ≡ true
     its_table = ap (λ (x : Head). form_of x.kind == 0x02) (sym is_head) ∙ is
@@ -98,9 +95,6 @@ module _ (segments : List Segment) (number : ℕ) (head : Head) (s : Segment) (t
 module _ (segments : List Segment) (number : ℕ) (head : Head) (has : HasHead segments number head) where
   found : (s : Segment) × (segment_at segments number ≡ Some s) × (head ≡ head_of s)
   found = some_and (segment_at segments number) (λ s. head ≡ head_of s) has
-
-  pub has_length : HasLength segments number head.length
-  has_length = length_is segments number head found.0 found.1 found.2
 
   -- a table has room for its entries
   pub table_room : AreSound segments → (form_of head.kind == 0x02) ≡ true → (size : ℕ) → head.length ≤ size → 12 + 14 * length (table_targets segments) ≤ size

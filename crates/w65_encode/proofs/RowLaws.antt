@@ -1,5 +1,5 @@
 -- The opcodes of a mnemonic, by a test that computes over the whole matrix.
-use Rattle.std.proofs.Common.{◌≡◌, ℕ, zero, suc, ◌+◌, true, false, not, List, [], ◌∷◌, length, slice_get, get_or, ◌<◌, refl, ap, sym, ◌∙◌, Some, None, Option, arith, zero-add, inl, inr, subst}
+use Rattle.std.proofs.Common.{◌≡◌, ℕ, zero, suc, ◌+◌, true, false, not, List, [], ◌∷◌, slice_get, get_or, ◌<◌, refl, ap, sym, ◌∙◌, Some, None, Option, arith, zero-add, inl, inr, subst}
 use Rattle.std.specs.Prelude.{◌||◌, ◌==◌}
 use denote.Enum.Bare.{same_true, true_same, sameb}
 use Rattle.std.proofs.lemmas.Bool.{and_parts, cases_Bool, eqb-true}

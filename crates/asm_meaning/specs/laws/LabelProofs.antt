@@ -1,7 +1,6 @@
 -- Why labels stand where they do: a label's place is the sum of the lengths of the statements before it, and the linker takes it from there.
 use Rattle.std.proofs.Common.{◌≡◌, ℕ, ◌+◌, List, [], ◌∷◌, ◌++◌, length, map, Some, refl, sym, ap, ◌∙◌, arith}
 use Rattle.std.specs.Prelude.{slice_get}
-use Rattle.omf_format.specs.File as format
 use Rattle.omf_format.specs.Record.{Record}
 use Rattle.link_meaning.specs.Sizes.{Located, size_at, located_from, located}
 use Rattle.asm_meaning.specs.Pieces.{place_behind, length_at}

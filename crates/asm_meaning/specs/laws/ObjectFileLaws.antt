@@ -26,6 +26,8 @@ use Rattle.asm_meaning.specs.laws.Sound.{IsSound, IsShort, IsSoundEnded, sound_s
 use Rattle.asm_meaning.specs.laws.StepSound.{step_sound}
 use Rattle.asm_meaning.specs.ObjectFile.{IsReadAs, AreReadAs, ObjectIsFile}
 
+-- ---- what is left at the end
+
 steps_sound : (state last : State) (lines : List Line) → AreShortLines lines → IsSound state → IsShort state → AreSteps state lines last → IsSound last
 steps_sound state last [] short sound few steps = subst IsSound steps sound
 steps_sound state last (line ∷ lines) short sound few steps =
@@ -34,6 +36,8 @@ steps_sound state last (line ∷ lines) short sound few steps =
 
 pub lines_sound : (source : List ℕ) (macros : List (List ℕ)) (last : State) → HasLines source macros last → IsSound last
 lines_sound source macros last has = steps_sound start last has.lines (expanded_short source macros has.lines has.expanded) sound_start tt has.steps
+
+-- ---- a segment
 
 -- how many bytes a segment has
 abbrev body_of : Ended → List ℕ
@@ -91,6 +95,8 @@ inner_fit e fit =
     let cells : e.header.length ≡ place_behind (place_behind 0 fit.sound.inner) (End ∷ []) =
     fit.sound.length' ∙ ap (place_behind 0) fit.sound.body ∙ place_behind-append 0 fit.sound.inner (End ∷ []) in
     plain_fit 0 fit.sound.inner fit.sound.plain (omega (arith, cells, fit.sound.short, Rattle.asm_meaning.specs.laws.PieceLaws.place_behind-le (place_behind 0 fit.sound.inner) (End ∷ [])))
+
+-- ---- where it stands in the file
 
 body_cut : (front header body rest : List ℕ) (a h n : ℕ) → length front ≡ a → length header ≡ h → length body ≡ n
     → drop (a + h) (take (a + (h + n)) (front ++ ((header ++ body) ++ rest))) ≡ body
@@ -161,6 +167,8 @@ is_read_as at e fit =
       records = records;
       cells = fit.sound.length' ∙ ap (place_behind 0) (sym records) ∙ sym (same_place 0 (placed (at + size_of e) rs));
     }
+
+-- ---- the file
 
 abbrev AreFit : List Ended → Type 0
 AreFit ended = AllByRecursion IsFit ended

@@ -15,6 +15,10 @@ use Rattle.asm_meaning.specs.Statement.{IsStep}
 use Rattle.asm_meaning.specs.laws.StatementLaws.{step_once}
 use Rattle.asm_meaning.specs.ObjectLaws.{OneObject, NoFaultBeside, OneFirstFault}
 
+-- ---- the laws
+
+-- ---- steps
+
 abbrev left : State → Answer State
 left state = Ok state
 
@@ -89,6 +93,8 @@ wrong_once state lines (first ∷ before) (first' ∷ before') behind behind' li
     let rest : before' ++ line' ∷ behind' ≡ before ++ line ∷ behind = ap rest_of (is' ∙ sym is) in
     wrong_once p.0 (before ++ line ∷ behind) before before' behind behind' line line' middle middle' cause cause' refl rest p.2 bad
     (subst (λ (s : State). AreSteps s before' middle') (sym next) q.2) bad'
+
+-- ---- answers
 
 last_once : (source : List ℕ) (macros : List (List ℕ)) (a b : State) → HasLines source macros a → HasLines source macros b → a ≡ b
 last_once source macros a b p q =

@@ -1,6 +1,6 @@
 -- Calls on the script's own blocks: no user's block is touched.
 use Rattle.std.proofs.Common.{◌≡◌, ◌≢◌, inl, inr, ℕ, Bool, true, false, ◌+◌, ◌<◌, ◌==◌, List, [], ◌∷◌, Option, Some, None, IsSome, refl, sym, ap, subst, ◌∙◌, arith}
-use Rattle.std.specs.Prelude.{Contains, ◌^◌, slice_index_or, if◌then◌else◌}
+use Rattle.std.specs.Prelude.{Contains, slice_index_or, if◌then◌else◌}
 use Rattle.std.specs.Option.{option_map_or}
 use Rattle.std.proofs.lemmas.Option.{same_Some}
 use Rattle.omf_io.specs.Files.{FileMap}
@@ -13,13 +13,12 @@ use Rattle.iigs_meaning.specs.Slots.{get, slot_at, new_handle, with_slot, with_v
 use Rattle.iigs_meaning.specs.Fits.{Slots, block_in}
 use Rattle.iigs_meaning.specs.Puts.{Purges, LacksRoom, Puts}
 use Rattle.iigs_meaning.specs.Blocks.{state_of}
-use Rattle.iigs_meaning.specs.Room.{CountsBelow, IsRoom}
 use Rattle.iigs_meaning.specs.Memory.{Memory, KeepsBut, IsPlaced, IsFreed, Changes}
 use Rattle.loader_machine.specs.declared.faults.LoaderFault.{LoaderFault}
 use Rattle.loader_machine.specs.declared.faults.LoaderFault.TheVariants.{NoHandle, NoRoom}
 use Rattle.loader_machine.specs.declared.seen.Head.{Head}
 use Rattle.loader_machine.specs.State.{Machine}
-use Rattle.loader_machine.specs.Commands.{Reply, Alloc, Free as FreeIt, StateOf, Room, Okay, Placed, BlockIs, RoomIs, Refused}
+use Rattle.loader_machine.specs.Commands.{Reply, Alloc, Free as FreeIt, StateOf, Okay, Placed, BlockIs, Refused}
 use Rattle.loader_machine.specs.Refusals.{Refuse, free_refusal, change_refusal, state_refusal}
 use Rattle.loader_machine.specs.Steps.{Decides, with_slots, StepsChange}
 use Rattle.loader_machine.specs.Steps.StepsAlloc.{IsPlaced as AllocPlaced, HasNoHandle as AllocNoHandle, HasNoRoom as AllocNoRoom}
@@ -156,6 +155,3 @@ module _ (held : FileMap) (loader : Loaded) (state : Machine) (agrees : Agrees h
   state_met h block is =
       let here : get state.slots h ≡ Some block = ap (λ (t : Slots). get t h) (sym agrees.slots) ∙ is in
       (state, rw here (block, refl, refl, refl), agrees)
-
-  pub room_met : (count : ℕ) → CountsBelow (IsRoom loader.memory.banks loader.memory.slots) (2 ^ 24) count → Met Purges held state Room (RoomIs count) loader
-  room_met count counts = (state, (count, rw (← agrees.banks, ← agrees.slots) counts, refl, refl), agrees)

@@ -11,6 +11,8 @@ use Rattle.omf_format.specs.declared.fault.HeaderFault.TheVariants.{Truncated, U
 use Rattle.omf_format.specs.Number.{number_at}
 use Rattle.omf_format.specs.Header.{Fields, fields_of, names_end, form_of, is_listed, is_read_version, header_checks, first_of, header_fault, laid_out}
 
+-- ---- no check holds
+
 -- where no check holds, each test is false
 pub each_false : {F : Type 0} (checks : List (Bool × F)) → first_of checks ≡ None → AllByRecursion (λ c. c.0 ≡ false) checks
 each_false [] none = tt
@@ -63,6 +65,8 @@ sound_from_none bytes none =
       spaced = ltb-false _ _ each.1.1.1.1.1.1.1.1.1.0;
     }
 
+-- ---- numbers that are laid out
+
 -- how many bytes they take
 abbrev pub size_of : List (ℕ × ℕ) → ℕ
 size_of [] = 0
@@ -98,6 +102,8 @@ number_at-laid_out (field ∷ fields) (suc k) w n rest at fits =
     ap (λ (l : List ℕ). little_number w (drop (field.0 + size_of (take k fields)) l)) regrouped
     ∙ ap (little_number w) (drop-more (little_bytes field.0 field.1) (laid_out fields ++ rest) field.0 (size_of (take k fields)) width)
     ∙ number_at-laid_out fields k w n rest at fits
+
+-- ---- what a fault says
 
 -- a cut header ends with the bytes, and a fault of a field comes only where all fields are there
 abbrev pub FitsFault : HeaderFault → ℕ → Type 0

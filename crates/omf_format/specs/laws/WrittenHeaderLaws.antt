@@ -70,6 +70,8 @@ length-numbers : (f : Fields) → length (laid_out (written_numbers f)) ≡ 44
 unfolding written_numbers
 length-numbers f = length-laid_out (written_numbers f)
 
+-- ---- names
+
 -- behind the numbers stand the load name, and the length and the text of the segment's name
 named : List ℕ → List ℕ → List ℕ → List ℕ → List ℕ
 named numbers load_name name rest = numbers ++ (load_name ++ (length name ∷ (name ++ rest)))
@@ -98,6 +100,8 @@ unfolding header_bytes named
 regrouped f n rest =
     let numbers = laid_out (written_numbers (written_fields f n)) in
     append_assoc (numbers ++ f.load_name) (length f.name ∷ f.name) rest ∙ append_assoc numbers f.load_name (length f.name ∷ (f.name ++ rest))
+
+-- ---- the whole header
 
 fits_fields : (f : Fields) (n : ℕ) → FitsWritten f n → FitsFields (written_fields f n)
 fits_fields f n fits = record {

@@ -1,7 +1,5 @@
-use Rattle.std.proofs.Common.{List, Some, None, map, drop, IfOk, IfErr, sym, subst, arith}
-use Rattle.lib_dict.specs.Library.{LibraryRow}
-use Rattle.lib_dict.specs.View.{outer_row}
-use Rattle.lib_dict.specs.Tables.{AreNumbers, AreStarts, HoldsRows, AreRowsIn, IsRowFault}
+use Rattle.std.proofs.Common.{Some, None, drop, IfOk, IfErr, sym, subst, arith}
+use Rattle.lib_dict.specs.Tables.{AreNumbers, AreStarts, AreRowsIn, IsRowFault}
 use Rattle.lib_dict.proofs.ReadLaws.{Answer, no_numbers, no_rows, no_names, all_forms, numbers_fit, names_named, starts_fit, few_segments}
 use Rattle.lib_dict.proofs.reading.rows_in.Goals as goal
 

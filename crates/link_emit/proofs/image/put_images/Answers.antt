@@ -1,4 +1,4 @@
-use Rattle.std.proofs.Common.{◌+◌, ◌++◌, length, drop, arith}
+use Rattle.std.proofs.Common.{◌+◌, ◌++◌, drop, arith}
 use Rattle.std.proofs.lemmas.List.{length-append}
 use Rattle.load_meaning.specs.WrittenFile.{file_text}
 use Rattle.link_emit.specs.Images.{images_in}

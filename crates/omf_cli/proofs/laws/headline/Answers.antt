@@ -1,4 +1,4 @@
-use Rattle.std.proofs.Common.{ℕ, List, sym, ap, ◌∙◌}
+use Rattle.std.proofs.Common.{List, sym, ap, ◌∙◌}
 use Rattle.omf_format.specs.File.{Segment}
 use Rattle.omf_listing.specs.Listing.{listing_from}
 use Rattle.omf_cli.proofs.laws.headline.Goals as goal

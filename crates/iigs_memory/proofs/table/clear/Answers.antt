@@ -1,1 +1,0 @@
-use Rattle.iigs_memory.proofs.table.clear.Goals as goal
