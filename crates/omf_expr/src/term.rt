@@ -1,7 +1,7 @@
 //! A term as a value.
 
 /// A term of an expression in postfix form.
-#[derive(Clone, Copy)]
+#[derive(Clone, Copy, Debug, PartialEq, Eq)]
 pub enum Term<'a> {
     /// An operator: its code, $01 to $15.
     Operator(u8),
