@@ -28,8 +28,8 @@ returns-in-Ok-None-clause-err c =
 pub known_in-requires : goal.known_in-requires
 known_in-requires c = few_segments c.args.list.now c.requires.file
 
-pub rows_of-requires-clause-fits : goal.rows_of-requires-clause-fits
-rows_of-requires-clause-fits c =
+pub rows_of-rows-requires-clause-fits : goal.rows_of-rows-requires-clause-fits
+rows_of-rows-requires-clause-fits c =
     let p = c.args.parts in
     let numbers : AreNumbers (Some c.in-Some.numbers.keys) p.first.now = rw c.in-Some.is at c.in_ok-numbers.ensures in
     let starts : AreStarts (Some c.in-Ok-Some.starts.keys) p.third.now = rw c.in-Ok-Some.field-0-is at c.in-Ok-Some.ensures in
@@ -37,7 +37,7 @@ rows_of-requires-clause-fits c =
       numbers = numbers_fit c.in-Some.numbers.keys p.first.now numbers;
       starts = starts_fit c.in-Ok-Some.starts.keys p.third.now starts;
       named = names_named c.in-Ok-Some.starts.keys p.third.now starts;
-      known = c.in-Ok-known_in.ensures;
+      known = c.in-Ok.ensures;
       file = c.requires.file;
     }
 
