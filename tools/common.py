@@ -1,5 +1,5 @@
 """What the tools share: where things lie, the crates of crates.txt, a clock, and what is said on standard error."""
-import pathlib, shutil, sys, time
+import hashlib, pathlib, shutil, subprocess, sys, time
 
 TOP = pathlib.Path(__file__).resolve().parent.parent
 CRATES = TOP / "crates"
@@ -22,14 +22,16 @@ class Clock:
         return f"{minutes:2}:{seconds:02}"
 
 
+def declared():
+    """The line of each crate in crates.txt, in their order."""
+    lines = (TOP / "crates.txt").read_text().splitlines()
+    return {line.split(":")[0].split()[0]: line for line in lines if ":" in line and not line.startswith("#")}
+
+
 def all_uses():
-    """Each crate of the repository with the crates that it uses, in the order of crates.txt; the kit's libraries are left out."""
-    uses = {}
-    for line in (TOP / "crates.txt").read_text().splitlines():
-        name, found, names = line.partition(":")
-        if found and not line.startswith("#"):
-            uses[name.split()[0]] = names.split()
-    return {name: [it for it in names if it in uses] for name, names in uses.items()}
+    """Each crate of the repository with those that it uses; the kit's libraries are left out."""
+    lines = declared()
+    return {name: [it for it in line.partition(":")[2].split() if it in lines] for name, line in lines.items()}
 
 
 def crates_of(name):
@@ -47,6 +49,15 @@ def crates_of(name):
 def sources(crate, *folders):
     """The files in these folders of a crate, in order."""
     return sorted(path for folder in folders for path in (CRATES / crate / folder).rglob("*") if path.is_file())
+
+
+def sum_of(paths):
+    """A sum of the kit, of crates.txt and of these files, by their paths and bytes."""
+    found = hashlib.sha256(subprocess.run(["rt", "version"], capture_output=True).stdout)
+    for path in [TOP / "crates.txt", *paths]:
+        found.update(f"{path.relative_to(TOP)}\n".encode())
+        found.update(path.read_bytes())
+    return found.hexdigest()
 
 
 def need_prover():

@@ -3,21 +3,11 @@
 `rt try` builds the program, runs it and keeps nothing. So the program is run on a pipe that nobody writes: while it waits
 there, its executable is copied, with the words that started it. That takes Linux, as `rt try` does.
 """
-import hashlib, os, pathlib, shlex, shutil, subprocess, sys, tempfile, time
+import os, pathlib, shlex, shutil, subprocess, sys, tempfile, time
 
-from common import BUILD, CRATES, PROGRAM, TOP, Clock, crates_of, need_prover, say, sources
+from common import BUILD, CRATES, PROGRAM, Clock, crates_of, need_prover, say, sources, sum_of
 
 KEPT = BUILD / "unproved"
-
-
-def sum_of_sources():
-    """A sum of all that an unproved build is made of."""
-    crates = crates_of(PROGRAM)
-    found = hashlib.sha256(subprocess.run(["rt", "version"], capture_output=True).stdout)
-    for path in [TOP / "crates.txt", *(path for crate in crates for path in sources(crate, "src"))]:
-        found.update(f"{path.relative_to(TOP)}\n".encode())
-        found.update(path.read_bytes())
-    return found.hexdigest()
 
 
 def words_of(process):
@@ -91,7 +81,8 @@ def build(mark):
 def program():
     """The path of the unproved program, built anew where its sources aren't those of the last build."""
     need_prover()
-    made, mark = KEPT / PROGRAM, sum_of_sources()
+    made = KEPT / PROGRAM
+    mark = sum_of(path for crate in crates_of(PROGRAM) for path in sources(crate, "src"))
     last = KEPT / "sources"
     if not (made.exists() and last.exists() and last.read_text() == mark):
         BUILD.mkdir(exist_ok=True)
