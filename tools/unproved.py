@@ -65,17 +65,20 @@ def build(mark):
         with open(told, "wb") as file:
             how = {"cwd": CRATES / PROGRAM, "stdin": subprocess.DEVNULL, "stdout": file, "stderr": file}
             ran = subprocess.Popen(["rt", "try", "--", *words], env={**os.environ, "TMPDIR": f"{room}/made"}, **how)
+            writing = found = None
             try:
                 writing = opened(pipe, ran)
-                found = started(f"{room}/made", words) if writing is not None else None
+                found = started(f"{room}/made", words)
                 if found:
                     keep(*found, mark)
             finally:
                 ran.terminate()
                 ran.wait()
+                if writing is not None:
+                    os.close(writing)
         if not found:
             sys.stderr.write(pathlib.Path(told).read_text(errors="replace"))
-            sys.exit(f"rt try did not build {PROGRAM}: see above")
+            sys.exit(f"rt try did not build {PROGRAM}, or not as a process that is found: see above")
 
 
 def program():
