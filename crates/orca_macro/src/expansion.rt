@@ -276,7 +276,8 @@ fn carry_out(
             return Err(error);
         }
     }
-    step(alloc, program, state, root, found, spare)
+    let outcome = step(alloc, program, state, root, found, spare)?;
+    Ok(outcome)
 }
 
 /// Visits a line. Of one of the source no more is looked for than whether it is given as it stands.

@@ -12,5 +12,5 @@ returns-clause-visited c = λ before v stands here few.
       move = move_of c.args.program.now before v (line c.args.of.now) (deed c.in_ok-found.found);
       is = visit_is c.args.program.now before v (line c.args.of.now) (deed c.in_ok-found.found) here few (c.in_ok-found.ensures before v stands root);
       new_is = c.in-Ok.ensures.lines;
-      moves = c.step.ensures.moves before v (line c.args.of.now) stands root;
+      moves = c.in_ok-outcome.ensures.moves before v (line c.args.of.now) stands root;
     }
