@@ -273,8 +273,6 @@ module _ (marks : List Mark) (address count : ℕ) (c : CountsUpTo marks address
     | inr behind ↦ absurd (omega (arith, c.behind has.0 m behind has.1, ap (λ (x : Mark). x.at) has.2, le))
   ]
 
-  ]
-
   pub last_at : (d : Mark) → 0 < count → count ≤ length marks → IsNonDecreasingBy (λ m. m.at) marks → IsLast marks address (get_or marks (count - 1) d)
   last_at d some within order = record {
     is = Contains-get_or marks (count - 1) d (omega (arith, some, within));
