@@ -1,5 +1,5 @@
 """What the tools share: where things lie, the crates of crates.txt, a clock, and what is said on standard error."""
-import hashlib, pathlib, shutil, subprocess, sys, time
+import hashlib, pathlib, shutil, signal, subprocess, sys, time
 
 TOP = pathlib.Path(__file__).resolve().parent.parent
 CRATES = TOP / "crates"
@@ -9,6 +9,16 @@ PROGRAM = "omf"
 
 def say(text):
     print(text, file=sys.stderr, flush=True)
+
+
+def run_main(main):
+    """Ends with the status of main; one that is told to stop removes what it made first, and ends quietly."""
+    for it in (signal.SIGTERM, signal.SIGHUP):
+        signal.signal(it, lambda number, _: sys.exit(128 + number))
+    try:
+        sys.exit(main(sys.argv[1:]))
+    except KeyboardInterrupt:
+        sys.exit(128 + signal.SIGINT)
 
 
 class Clock:
