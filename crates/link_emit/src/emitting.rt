@@ -89,12 +89,7 @@ pub fn emit(alloc: Global, program: &Program) -> Result<Vec<u8>, LinkFault>
             return Err(fault);
         }
     };
-    let written = write_linked(alloc, headers, contents.as_slice(), &table);
-    drop(contents);
-    drop(table);
-    drop(loads);
-    drop(slots);
-    match written {
+    match write_linked(alloc, headers, contents.as_slice(), &table) {
         Ok(output) => Ok(output),
         Err(ImageFault::TooLong) => Err(too_long()),
         Err(ImageFault::Memory) => Err(memory_fault()),

@@ -160,8 +160,7 @@ fn put_segment<'a>(
 
 /// The first fault of a member's records, as a fault of the linker.
 fn value_fault(program: &Program, place: u32, cause: LinkCause, at: u32) -> LinkFault
-    ensures told { (m : Member) → member_at program.now place ≡ Some m → IsToldAt m cause at result }
-    ensures memory { result.cause ≡ LinkCause.Memory → cause ≡ LinkCause.Memory }
+    ensures { (m : Member) → member_at program.now place ≡ Some m → IsToldAt m cause at result }
 {
     match cause {
         LinkCause::Memory => memory_fault(),

@@ -53,8 +53,8 @@ write_linked-requires-clause-ready c =
 pub write_linked-requires-clause-few : goal.write_linked-requires-clause-few
 write_linked-requires-clause-few c = omega (arith, few_of c.args.program.now c.know_files.ensures, headers_size c.args.program.now c.load_headers-headers.result.now c.load_headers-headers.ensures)
 
-pub returns-in-Ok-written-clause-written : goal.returns-in-Ok-written-clause-written
-returns-in-Ok-written-clause-written c =
+pub returns-in-Ok-write_linked-clause-written : goal.returns-in-Ok-write_linked-clause-written
+returns-in-Ok-write_linked-clause-written c =
     let list = c.args.program.now in
     let told = rows_of (entries list) c.as_slice.result.now in
     let headers = c.load_headers-headers.result.now in
@@ -62,7 +62,7 @@ returns-in-Ok-written-clause-written c =
     let filled = c.in-Ok-fill.ensures.ok in
     let loads : AreLoads list told headers c.as_slice-3.result.now =
     subst (AreLoads list told headers) (sym c.as_slice-3.ensures.value) (record { headers' = c.load_headers-headers.ensures; contents' = filled.holds }) in
-    written_is list told values.table filled.made' c.in-Ok-written.output.items (c.in-Ok-written.ensures.ok list told loads filled.targets') c.in-Ok-written.ensures.short
+    written_is list told values.table filled.made' c.in-Ok-write_linked.output.items (c.in-Ok-write_linked.ensures.ok list told loads filled.targets') c.in-Ok-write_linked.ensures.short
 
 pub returns-in-Err-TooLong-clause-refused : goal.returns-in-Err-TooLong-clause-refused
 returns-in-Err-TooLong-clause-refused c =

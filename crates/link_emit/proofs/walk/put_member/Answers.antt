@@ -114,7 +114,7 @@ returns-in-Err c =
     let stands = stands_behind list told (place - 1) c.args.table.now c.args.contents.now.items w n.0 n.1 seat (shown c.in-Some-view.segment.now) n.2 (s.0 ∙ sym again) s.1 segment c.index_mut.result.now at in
     record {
       ok = tt;
-      err = elim (c.value_fault.ensures.told n.0 there) [
+      err = elim (c.value_fault.ensures n.0 there) [
         | inl memory ↦ inl memory
         | inr fault ↦ elim (c.in-Err.ensures.err w.front n.0 n.1 (linked_behind list told n.0.segment.fields.load_name w.front) stands) [
           | inl memory ↦ absurd (fault.0 memory)
