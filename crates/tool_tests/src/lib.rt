@@ -1,4 +1,5 @@
-//! Tests of what no row of `rows` shows: records that are written, a script's commands, and loaders in the hands of others.
+//! Tests of what no row of `rows` shows: records that are written, a script's commands, loaders in the hands of others, and the longest
+//! expansion.
 #![tactic(auto)]
 
 #[cfg(test)]
@@ -7,6 +8,8 @@ mod embedding;
 mod every_record;
 #[cfg(test)]
 mod files;
+#[cfg(test)]
+mod macros;
 #[cfg(test)]
 mod programs;
 #[cfg(test)]
