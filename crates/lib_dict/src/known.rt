@@ -12,10 +12,7 @@ use omf_records::SegmentList;
 use std::alloc::{AllocError, Global};
 
 /// These rows, each once.
-fn known_rows<'a>(
-    alloc: Global,
-    rows: &Vec<Outer<'a>>,
-) -> Result<IndexSet<Outer<'a>>, AllocError>
+fn known_rows<'a>(alloc: Global, rows: &Vec<Outer<'a>>) -> Result<IndexSet<Outer<'a>>, AllocError>
     ensures { IfOk result (λ known. HoldsRows (map outer_row known.keys) (map outer_row rows.now.items)) }
 {
     let mut known = IndexSet::with_capacity(alloc, rows.len())?;

@@ -353,7 +353,14 @@ fn visit_all(alloc: Global, program: &Program) -> Result<Result<Lines, MacroFaul
     let mut buffer = Vec::new(alloc);
     let mut spare = Symbols::new(alloc);
     let mut out = Lines::new(alloc);
-    let found = visits(alloc, program, &mut state, &mut buffer, &mut spare, &mut out);
+    let found = visits(
+        alloc,
+        program,
+        &mut state,
+        &mut buffer,
+        &mut spare,
+        &mut out,
+    );
     drop(state);
     drop(buffer);
     drop(spare);

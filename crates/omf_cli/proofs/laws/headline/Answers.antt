@@ -14,5 +14,5 @@ returns c = record {
   loaded = c.linked_files_begin.ensures;
   answered = c.commands_have_one_reply.ensures;
   listed = λ file one other a b.
-    a.is ∙ ap (λ (s : List Segment). listing_from 1 s) (c.files_are_read_in_one_way.ensures.one_list file a.segments b.segments a.is_file b.is_file) ∙ sym b.is;
+      a.is ∙ ap (λ (s : List Segment). listing_from 1 s) (c.files_are_read_in_one_way.ensures.one_list file a.segments b.segments a.is_file b.is_file) ∙ sym b.is;
 }
