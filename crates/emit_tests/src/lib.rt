@@ -2,8 +2,8 @@
 #![tactic(auto)]
 
 #[cfg(test)]
+mod circles;
+#[cfg(test)]
 mod linking;
 #[cfg(test)]
 mod objects;
-#[cfg(test)]
-mod rings;
