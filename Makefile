@@ -1,12 +1,13 @@
 # make         proves the program and builds it to build/omf; it says how far it is
 # make demo    the same, and then runs the main job on real files
-# make try     runs the demo's commands on an unproved build, in a minute or two
+# make try     runs the demo's commands on an unproved build, in a minute or two; tools/try WORDS.. runs any command so
+# make check   runs every test, stored run and example on unproved builds, in some minutes; it proves nothing
 # make test    the gate: proves everything, tries each must-fail edit, and runs every test and example
 # make times   the gate from nothing, and what each crate costs it
-# make bench   measures the program's speed
+# make bench   measures the program's speed, and writes the figures to bench/FIGURES.md
 # make refuse  runs the examples, and the loader's calls, with each allocation refused in turn
 
-.PHONY: build demo try test times bench refuse
+.PHONY: build demo try check test times bench refuse
 
 build:
 	tools/build
@@ -17,27 +18,19 @@ demo: build
 try:
 	tools/try
 
+check:
+	tools/check
+
 test:
 	.ci/run
 
 times:
 	mkdir -p build
-	tools/gate-times watch build/gate.log rt ci --anew
+	tools/gate-times watch build/gate.log
 	tools/gate-times build/gate.log
 
 bench: build
-	bench/run build/omf
-	bench/text
-	bench/body
-	bench/load
-	bench/library build/omf
-	bench/loader build/omf
-	bench/lives build/omf
-	bench/stress build/omf
-	bench/link build/omf
-	bench/macro
-	bench/asm build/omf
-	bench/hostile build/omf
+	bench/all build/omf
 
 refuse: build
 	tools/refuse build/omf

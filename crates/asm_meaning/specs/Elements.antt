@@ -3,6 +3,7 @@ use Rattle.std.specs.Prelude.{◌≡◌, ℕ, ◌+◌, ◌-◌, ◌/◌, ◌^◌
 use Rattle.std.specs.Char.{is_digit, to_ascii_uppercase}
 use Rattle.std.specs.List.{position_or_len, list_all, flat_map}
 use Rattle.std.specs.Str.Parse.{digits_value}
+use Rattle.omf_format.specs.Ascii as ascii
 use Rattle.byteorder.specs.Endian.{little_bytes}
 use Rattle.omf_format.specs.Field.{◌>>=◌}
 use Rattle.omf_format.specs.Expression.{Tree, Leaf, Named}
@@ -41,10 +42,10 @@ pub record Element : Type 0 where
 -- the bytes of digits, so many a byte with the first of them highest; missing ones are 0
 unfoldable pub packed : ℕ → ℕ → ℕ → List ℕ → List ℕ
 packed base each zero digits = []
-packed base each (suc n) digits = digits_value base (take each (digits ++ replicate each 0x30)) ∷ packed base each n (drop each digits)
+packed base each (suc n) digits = digits_value base (take each (digits ++ replicate each ascii.digit_0)) ∷ packed base each n (drop each digits)
 
 abbrev pub is_space : ℕ → Bool
-is_space byte = byte == 0x20
+is_space byte = byte == ascii.space
 
 abbrev pub without_spaces : List ℕ → List ℕ
 without_spaces text = filter (λ byte. not (is_space byte)) text
@@ -64,7 +65,7 @@ bytes_of_digits base each text = packed_digits base each (without_spaces text)
 -- the text up to the next `'`, and what stands behind that
 unfoldable pub closed_at : List ℕ → Found (List ℕ)
 closed_at text =
-    let n = position_or_len (λ byte. byte == 0x27) text in
+    let n = position_or_len (λ byte. byte == ascii.apostrophe) text in
     if nat_lt n (length text) then Some (take n text, drop (n + 1) text) else None
 
 abbrev pub with_byte : ℕ → Found (List ℕ) → Found (List ℕ)
@@ -74,16 +75,16 @@ with_byte byte (Some (text, rest)) = Some (byte ∷ text, rest)
 -- the text up to the next `'` behind which no other one stands; two of them are one quote of the text
 unfoldable pub text_at : List ℕ → Found (List ℕ)
 text_at [] = None
-text_at (byte ∷ []) = if byte == 0x27 then Some ([], []) else None
+text_at (byte ∷ []) = if byte == ascii.apostrophe then Some ([], []) else None
 text_at (byte ∷ next ∷ behind) =
-    if byte == 0x27 then (if next == 0x27 then with_byte 0x27 (text_at behind) else Some ([], next ∷ behind))
+    if byte == ascii.apostrophe then (if next == ascii.apostrophe then with_byte ascii.apostrophe (text_at behind) else Some ([], next ∷ behind))
     else with_byte byte (text_at (next ∷ behind))
 
 -- the names, one at least, that commas part in a text
 abbrev pub AreNames : List ℕ → List (List ℕ) → Type 0
 AreNames text [] = ⊥
 AreNames text (name ∷ []) = name_at text ≡ Some (name, [])
-AreNames text (name ∷ next ∷ names) = (behind : List ℕ) × (name_at text ≡ Some (name, 0x2C ∷ behind)) × AreNames behind (next ∷ names)
+AreNames text (name ∷ next ∷ names) = (behind : List ℕ) × (name_at text ≡ Some (name, ascii.comma ∷ behind)) × AreNames behind (next ∷ names)
 
 -- the types of elements: I and A with the bytes of each number, H, B, C, R, S
 pub data Kind : Type 0 where
@@ -97,19 +98,19 @@ pub data Kind : Type 0 where
 -- the number of bytes behind I and A, which is 2 where none stands there
 abbrev pub width_at : List ℕ → Kind × List ℕ
 width_at [] = (Number 2, [])
-width_at (digit ∷ behind) = if nat_le 0x31 digit && nat_le digit 0x34 then (Number (digit - 0x30), behind) else (Number 2, digit ∷ behind)
+width_at (digit ∷ behind) = if nat_le ascii.digit_1 digit && nat_le digit ascii.digit_4 then (Number (digit - ascii.digit_0), behind) else (Number 2, digit ∷ behind)
 
 -- the type at the front, in upper or lower case
 unfoldable pub kind_at : List ℕ → Found Kind
 kind_at [] = None
 kind_at (letter ∷ behind) =
     let capital = to_ascii_uppercase letter in
-    if capital == 0x49 || capital == 0x41 then Some (width_at behind)
-    else if capital == 0x48 then Some (Hexadecimal, behind)
-    else if capital == 0x42 then Some (Binary, behind)
-    else if capital == 0x43 then Some (Characters, behind)
-    else if capital == 0x52 then Some (References, behind)
-    else if capital == 0x53 then Some (WeakReferences, behind)
+    if capital == ascii.capital_i || capital == ascii.capital_a then Some (width_at behind)
+    else if capital == ascii.capital_h then Some (Hexadecimal, behind)
+    else if capital == ascii.capital_b then Some (Binary, behind)
+    else if capital == ascii.capital_c then Some (Characters, behind)
+    else if capital == ascii.capital_r then Some (References, behind)
+    else if capital == ascii.capital_s then Some (WeakReferences, behind)
     else None
 
 -- the value of a type stands at the front, behind its opening quote and with its closing one
@@ -129,11 +130,11 @@ IsValueAt WeakReferences text value rest =
 -- what stands behind a parenthesis that opens at the front
 abbrev pub behind_parenthesis : List ℕ → Option (List ℕ)
 behind_parenthesis [] = None
-behind_parenthesis (byte ∷ behind) = if byte == 0x28 then Some behind else None
+behind_parenthesis (byte ∷ behind) = if byte == ascii.opening_round then Some behind else None
 
 -- how often an element stands, at the front: a formula in parentheses, decimal digits, or nothing
 abbrev pub IsRepeatBy : Option (List ℕ) → Found ℕ → List ℕ → Repeat → List ℕ → Type 0
-IsRepeatBy (Some behind) digits text repeat rest = (tree : Tree) × MeansAt Labels behind tree (0x29 ∷ rest) × (repeat ≡ Computed tree)
+IsRepeatBy (Some behind) digits text repeat rest = (tree : Tree) × MeansAt Labels behind tree (ascii.closing_round ∷ rest) × (repeat ≡ Computed tree)
 IsRepeatBy None (Some found) text repeat rest = (repeat ≡ Digits found.0) × (rest ≡ found.1)
 IsRepeatBy None None text repeat rest = (repeat ≡ Once) × (rest ≡ text)
 
@@ -146,7 +147,7 @@ pub record IsElementAt (text : List ℕ) (element : Element) (rest : List ℕ) :
   pub kind : Kind
   pub behind_quote : List ℕ
   pub repeat : IsRepeatAt text element.repeat behind_repeat
-  pub of_kind : kind_at behind_repeat ≡ Some (kind, 0x27 ∷ behind_quote)
+  pub of_kind : kind_at behind_repeat ≡ Some (kind, ascii.apostrophe ∷ behind_quote)
   pub value : IsValueAt kind behind_quote element.value rest
 
 -- the elements, one at least, that commas part in an operand
@@ -154,7 +155,7 @@ abbrev pub AreElements : List ℕ → List Element → Type 0
 AreElements text [] = ⊥
 AreElements text (element ∷ []) = IsElementAt text element []
 AreElements text (element ∷ next ∷ elements) =
-    (behind : List ℕ) × IsElementAt text element (0x2C ∷ behind) × AreElements behind (next ∷ elements)
+    (behind : List ℕ) × IsElementAt text element (ascii.comma ∷ behind) × AreElements behind (next ∷ elements)
 
 -- ---- what they give
 

@@ -1,5 +1,6 @@
 -- Formulas as operands and in operands, and what is wrong with them (ORCA/M reference manual, "Expressions").
 use Rattle.std.specs.Prelude.{ℕ, nat_lt, List, [], ◌∷◌, ◌++◌, Option, Some, None, Ok, Err, if◌then◌else◌}
+use Rattle.omf_format.specs.Ascii as ascii
 use Rattle.omf_format.specs.Field.{◌>>=◌}
 use Rattle.omf_format.specs.Expression.{Tree, terms_of, terms_text}
 use Rattle.orca_meaning.specs.declared.operators.Operands.TheVariants.{Labels}
@@ -17,7 +18,7 @@ IsFormula text (Some tree) = MeansAt Labels text tree []
 abbrev pub AreFormulas : List ℕ → List Tree → Type 0
 AreFormulas text [] = ⊥
 AreFormulas text (tree ∷ []) = MeansAt Labels text tree []
-AreFormulas text (tree ∷ next ∷ trees) = (behind : List ℕ) × MeansAt Labels text tree (0x2C ∷ behind) × AreFormulas behind (next ∷ trees)
+AreFormulas text (tree ∷ next ∷ trees) = (behind : List ℕ) × MeansAt Labels text tree (ascii.comma ∷ behind) × AreFormulas behind (next ∷ trees)
 
 -- at most 64 values are pending, and its numbers are at most 4,294,967,295
 unfoldable pub judged : Tree → Answer Tree

@@ -91,20 +91,12 @@ kind_of Move = Banks
 kind_of Signature = Sign
 
 abbrev pub is_address : ℕ → Kind → Bool
-is_address n Missing = false
-is_address n Value = false
 is_address n (Address bytes) = bytes == n
-is_address n (Distance bytes) = false
-is_address n Banks = false
-is_address n Sign = false
+is_address _ _ = false
 
 abbrev pub is_value : Kind → Bool
-is_value Missing = false
 is_value Value = true
-is_value (Address bytes) = false
-is_value (Distance bytes) = false
-is_value Banks = false
-is_value Sign = false
+is_value _ = false
 
 -- A prefix of an address asks for one of one byte (`<`), two (`|`, `!`) or three (`>`). Behind `#` it says which part of a
 -- value is meant.
@@ -131,10 +123,7 @@ value_shift Caret = 16
 
 abbrev pub is_bare : Prefix → Bool
 is_bare Bare = true
-is_bare Less = false
-is_bare Bar = false
-is_bare Greater = false
-is_bare Caret = false
+is_bare _ = false
 
 -- a value without a prefix fits its bytes as an unsigned number or as one in two's complement of 32 bits
 abbrev pub fits_value : Prefix → ℕ → ℕ → Bool
@@ -175,12 +164,8 @@ shifted count tree = if count == 0 then tree else Binary 0x07 tree (Leaf (Consta
 
 -- the shift of an operand: that of a value alone
 abbrev pub shift_in : Kind → Prefix → ℕ
-shift_in Missing prefix = 0
 shift_in Value prefix = value_shift prefix
-shift_in (Address bytes) prefix = 0
-shift_in (Distance bytes) prefix = 0
-shift_in Banks prefix = 0
-shift_in Sign prefix = 0
+shift_in _ _ = 0
 
 abbrev pub is_long_jump : Mnemonic → Bool
 is_long_jump mnemonics.Jsl = true
@@ -203,12 +188,8 @@ operand_record mnemonic Banks width tree = Formula 0xEB width 0 (expression_text
 operand_record mnemonic Sign width tree = Formula 0xEB width 0 (expression_text tree)
 
 abbrev pub is_distance : Kind → Bool
-is_distance Missing = false
-is_distance Value = false
-is_distance (Address bytes) = false
 is_distance (Distance bytes) = true
-is_distance Banks = false
-is_distance Sign = false
+is_distance _ = false
 
 -- the opcode, which the mnemonic has in this mode
 abbrev pub opcode_or : Option ℕ → ℕ

@@ -8,14 +8,7 @@ pub mod Elements
 pub mod State
 pub mod Statement
 pub mod Object
-pub mod StatementLaws
 pub mod ObjectLaws
-pub mod AmountLaws
-pub mod PieceLaws
-pub mod InstructionLaws
-pub mod GivenLaws
-pub mod Sound
-pub mod StepSound
-pub mod LinesShort
 pub mod ObjectFile
 pub mod LabelLaws
+pub mod laws

@@ -3,6 +3,7 @@
 use Rattle.std.specs.Prelude.{is_some, ◌≡◌, ℕ, ◌-◌, ◌^◌, Bool, true, false, not, ◌||◌, ◌&&◌, ◌==◌, nat_lt, nat_le, List, [], ◌∷◌, ◌++◌, length, replicate, codes, bytes_eq, Option, Some, None, Ok, Err, if◌then◌else◌}
 use Rattle.std.specs.Int.{is_power_of_two}
 use Rattle.std.specs.Option.{option_or}
+use Rattle.omf_format.specs.Ascii as ascii
 use Rattle.omf_format.specs.Field.{◌>>=◌}
 use Rattle.omf_format.specs.Expression.{Tree, Leaf, Constant}
 use Rattle.omf_format.specs.Header.{alignment_of, form_of, is_listed}
@@ -33,7 +34,7 @@ use Rattle.asm_meaning.specs.State.{Segment, State, begun, closed, grown, marked
 abbrev pub behind_here : List ℕ → Option (List ℕ)
 behind_here [] = None
 behind_here (byte ∷ []) = None
-behind_here (byte ∷ next ∷ behind) = if byte == 0x2A && next == 0x2B then Some behind else None
+behind_here (byte ∷ next ∷ behind) = if byte == ascii.star && next == ascii.plus then Some behind else None
 
 abbrev pub is_some_text : Option (List ℕ) → Bool
 is_some_text None = false
@@ -63,21 +64,8 @@ needs_segment (Direct directives.Nothing) label operand = is_labelled label
 needs_segment (Direct directives.Ignored) label operand = is_labelled label
 
 abbrev pub begins_segment : Operation → Bool
-begins_segment (Instruct mnemonic) = false
 begins_segment (Direct (directives.Begin class)) = true
-begins_segment (Direct directives.End) = false
-begins_segment (Direct directives.Entry) = false
-begins_segment (Direct directives.Using) = false
-begins_segment (Direct directives.Equ) = false
-begins_segment (Direct directives.Gequ) = false
-begins_segment (Direct directives.Constants) = false
-begins_segment (Direct directives.Space) = false
-begins_segment (Direct directives.Align) = false
-begins_segment (Direct directives.Org) = false
-begins_segment (Direct directives.Kind) = false
-begins_segment (Direct (directives.Turn switch)) = false
-begins_segment (Direct directives.Nothing) = false
-begins_segment (Direct directives.Ignored) = false
+begins_segment _ = false
 
 -- a statement stands on the wrong side
 abbrev pub is_misplaced : Option Segment → Operation → List ℕ → List ℕ → Bool
@@ -87,21 +75,11 @@ is_misplaced (Some s) operation label operand = begins_segment operation
 -- ---- labels
 
 abbrev pub needs_label : Operation → Bool
-needs_label (Instruct mnemonic) = false
 needs_label (Direct (directives.Begin class)) = true
-needs_label (Direct directives.End) = false
 needs_label (Direct directives.Entry) = true
-needs_label (Direct directives.Using) = false
 needs_label (Direct directives.Equ) = true
 needs_label (Direct directives.Gequ) = true
-needs_label (Direct directives.Constants) = false
-needs_label (Direct directives.Space) = false
-needs_label (Direct directives.Align) = false
-needs_label (Direct directives.Org) = false
-needs_label (Direct directives.Kind) = false
-needs_label (Direct (directives.Turn switch)) = false
-needs_label (Direct directives.Nothing) = false
-needs_label (Direct directives.Ignored) = false
+needs_label _ = false
 
 -- Whether a label is a name that there is already: in a segment one that it defines, and outside one of the GEQUs there. The
 -- name of a segment is the first that it defines.
@@ -128,10 +106,10 @@ pub data IsOperandOf (mnemonic : Mnemonic) (text : List ℕ) (answer : Answer Me
 
 -- a name of at most ten bytes and spaces up to ten; none is ten spaces
 unfoldable pub load_name_of : List ℕ → Answer (List ℕ)
-load_name_of [] = Ok (replicate 10 0x20)
+load_name_of [] = Ok (replicate 10 ascii.space)
 load_name_of (byte ∷ text) =
     if is_name (byte ∷ text) && nat_le (length (byte ∷ text)) 10
-    then Ok (folded (byte ∷ text) ++ replicate (10 - length (byte ∷ text)) 0x20) else Err BadOperand
+    then Ok (folded (byte ∷ text) ++ replicate (10 - length (byte ∷ text)) ascii.space) else Err BadOperand
 
 abbrev pub name_of : List ℕ → Answer (List ℕ)
 name_of text = if is_name text then Ok (folded text) else Err BadOperand

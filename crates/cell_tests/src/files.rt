@@ -1,6 +1,6 @@
 //! Load files for tests, put together segment by segment, and single calls over them.
 
-use omf_cells::{Cell, LoadCause, LoadFault, LoadFile, Places, PlacesFault, patch_into, read_load};
+use omf_cells::{Cell, LoadFault, LoadFile, Places, PlacesFault, patch_into, read_load};
 use std::alloc::{AllocError, Global};
 
 /// A header of version 2 without a name: BYTECNT, KIND, LENGTH and SEGNUM are 0.
@@ -11,7 +11,7 @@ static HEAD: [u8; 0x37] = [
 ];
 
 /// Puts bytes over those from a place on, as far as there are any.
-pub(crate) fn put_all(bytes: &mut [u8], from: usize, more: &[u8]) {
+fn put_all(bytes: &mut [u8], from: usize, more: &[u8]) {
     for (at, value) in more.iter().enumerate() {
         if let Some(byte) = bytes.get_mut(from.saturating_add(at)) {
             *byte = *value;
@@ -65,17 +65,6 @@ pub(crate) fn read(alloc: Global, file: &[u8]) -> Result<LoadFile<'_>, Option<Lo
     match read_load(alloc, file) {
         Ok(load) => Ok(load),
         Err(fault) => Err(Some(fault)),
-    }
-}
-
-/// A fault as rows name it: its cause, segment and place.
-pub(crate) type Fault = (LoadCause, u32, u32);
-
-/// The fault of a file, if it has one. A file that is too long to be one has none.
-pub(crate) fn fault_in(alloc: Global, file: &[u8]) -> Option<Fault> {
-    match read(alloc, file) {
-        Ok(_) | Err(None) => None,
-        Err(Some(fault)) => Some((fault.cause, fault.segment, fault.at)),
     }
 }
 

@@ -10,7 +10,7 @@ mod files;
 #[cfg(test)]
 mod order;
 #[cfg(test)]
-mod patches;
+mod places;
 #[cfg(test)]
 mod tables;
 #[cfg(test)]

@@ -1,13 +1,9 @@
-//! Tests of linking whole: what fits, the limits, and which fault is told.
+//! Tests of rings of equates, whose names no line tells whole, and of a program that is resolved and has no values.
 #![tactic(auto)]
 
 #[cfg(test)]
-mod fits;
-#[cfg(test)]
-mod limits;
+mod circles;
 #[cfg(test)]
 mod linking;
 #[cfg(test)]
 mod objects;
-#[cfg(test)]
-mod refused;

@@ -11,12 +11,6 @@ use std::process::Abort;
 pub enum Want {
     /// There is a load file.
     Linked,
-    /// The load file has so many bytes.
-    Size(usize),
-    /// The load file has so many bytes, and these at a place.
-    Holds(usize, usize, &'static [u8]),
-    /// The load file's first segment has this body.
-    Body(&'static [u8]),
     /// There is no load file: the fault, the name that it tells, and its place as file, segment and displacement.
     Fault(LinkCause, &'static [u8], u32, u32, u32),
     /// The inputs are resolved, and the program isn't emitted, with this fault of a place in the first file.
@@ -49,7 +43,7 @@ fn is_linked(alloc: Global, inputs: &Vec<Vec<u8>>, want: &Want) -> bool {
         return false;
     }
     match link(alloc, inputs) {
-        Ok(file) => is_file(&file, want),
+        Ok(_) => is_load_file(want),
         Err(fault) => is_fault(&fault, want),
     }
 }
@@ -73,29 +67,10 @@ fn is_not_emitted(
     }
 }
 
-/// Where a load segment's body begins.
-const LOAD_BODY: usize = 0x37;
-
-/// The body of the first load segment, whose length is in the first byte.
-fn first_body(file: &[u8]) -> Option<&[u8]> {
-    let size = *file.first()?;
-    file.get(LOAD_BODY..usize::from(size))
-}
-
-fn is_file(file: &[u8], want: &Want) -> bool {
+fn is_load_file(want: &Want) -> bool {
     match want {
         Want::Linked => true,
-        Want::Size(size) => file.len() == *size,
-        Want::Holds(size, at, bytes) => file.len() == *size && starts_at(file, *at, bytes),
-        Want::Body(body) => first_body(file) == Some(*body),
         _ => false,
-    }
-}
-
-fn starts_at(file: &[u8], at: usize, bytes: &[u8]) -> bool {
-    match file.get(at..) {
-        Some(rest) => rest.starts_with(bytes),
-        None => false,
     }
 }
 

@@ -17,47 +17,28 @@ const DYNAMIC: [(usize, u8); 3] = [(0x15, 0x80), (0x2C, 0x44), (0x37, 0x44)];
 /// The segment `S` in the load segment `S`.
 const OTHER: [(usize, u8); 2] = [(0x2C, 0x53), (0x37, 0x53)];
 
-/// Bytes of a segment's header that are changed, at displacements.
-type Changes = &'static [(usize, u8)];
-
 /// What is linked.
 #[derive(Clone, Copy)]
 pub enum Inputs {
-    /// A segment of records and so many cells with bytes of its header changed, `S` of 16 zeros in the load segment `S`, and `D` of 4
-    /// zeros in the dynamic load segment `D`.
-    Records(Changes, u32, &'static [u8]),
-    /// A segment of one byte of a number, and one behind it in the same load segment, of which each has bytes of its header changed.
-    Pair(Changes, Changes),
-    /// So many segments of a byte, each in a load segment of its own.
-    Loads(u8),
-    /// A segment that calls so many places of a dynamic one, from its start on, which has this LENGTH.
-    Calls(u32, u32),
+    /// A segment of records and so many cells, `S` of 16 zeros in the load segment `S`, and `D` of 4 zeros in the dynamic load segment
+    /// `D`.
+    Records(u32, &'static [u8]),
     /// So many equates in one segment, each of which is the next one; the last is the one with this number.
     Equates(u16, u16),
-    /// Two object files of so many bytes 1 each, in load segments that may cross banks, of which the second has so many more cells by
-    /// other records behind them.
-    Ones(u32, u32, u32, &'static [u8]),
 }
 
 /// The bytes of inputs.
 pub fn inputs_of(alloc: Global, inputs: &Inputs) -> Result<Vec<Vec<u8>>, AllocError> {
     let mut files = Vec::new(alloc);
     files.push(first_of(alloc, inputs)?)?;
-    if let Inputs::Ones(_, count, cells, records) = inputs {
-        files.push(ones(alloc, 0x42, *count, *cells, records)?)?;
-    }
     Ok(files)
 }
 
-/// The first of the inputs.
+/// The one file.
 fn first_of(alloc: Global, inputs: &Inputs) -> Result<Vec<u8>, AllocError> {
     match inputs {
-        Inputs::Records(changes, cells, records) => records_of(alloc, changes, *cells, records),
-        Inputs::Pair(first, second) => pair(alloc, first, second),
-        Inputs::Loads(count) => loads(alloc, *count),
-        Inputs::Calls(count, length) => calls(alloc, *count, *length),
+        Inputs::Records(cells, records) => records_of(alloc, *cells, records),
         Inputs::Equates(count, last) => equates(alloc, *count, *last),
-        Inputs::Ones(count, _, _, _) => ones(alloc, 0x41, *count, 0, &[]),
     }
 }
 
@@ -97,58 +78,11 @@ fn put_zeros(out: &mut Vec<u8>, changes: &[(usize, u8)], cells: u32) -> Result<(
     put_segment(out, changes, cells, &space)
 }
 
-fn records_of(
-    alloc: Global,
-    changes: &[(usize, u8)],
-    cells: u32,
-    records: &[u8],
-) -> Result<Vec<u8>, AllocError> {
+fn records_of(alloc: Global, cells: u32, records: &[u8]) -> Result<Vec<u8>, AllocError> {
     let mut object = Vec::new(alloc);
-    put_segment(&mut object, changes, cells, records)?;
+    put_segment(&mut object, &[], cells, records)?;
     put_zeros(&mut object, &OTHER, 16)?;
     put_zeros(&mut object, &DYNAMIC, 4)?;
-    Ok(object)
-}
-
-/// The number of one byte.
-static NUMBER: [u8; 8] = [0xEB, 1, 0x81, 5, 0, 0, 0, 0];
-
-fn pair(
-    alloc: Global,
-    first: &[(usize, u8)],
-    second: &[(usize, u8)],
-) -> Result<Vec<u8>, AllocError> {
-    let mut object = Vec::new(alloc);
-    put_segment(&mut object, first, 1, &NUMBER)?;
-    put_segment(&mut object, second, 1, &NUMBER)?;
-    Ok(object)
-}
-
-fn loads(alloc: Global, count: u8) -> Result<Vec<u8>, AllocError> {
-    let mut object = Vec::new(alloc);
-    for number in 0..count {
-        let names = [(0x2C, number), (0x2D, 0x41)];
-        put_segment(&mut object, &names, 1, &[1, 0xEA])?;
-    }
-    Ok(object)
-}
-
-/// The records of a call of a place at an offset in `D`.
-fn call_of(offset: u32) -> [u8; 14] {
-    let [low, high, bank, top] = offset.to_le_bytes();
-    [
-        1, 0x22, 0xF3, 3, 0x83, 1, 0x44, 0x81, low, high, bank, top, 1, 0,
-    ]
-}
-
-fn calls(alloc: Global, count: u32, length: u32) -> Result<Vec<u8>, AllocError> {
-    let mut records = Vec::new(alloc);
-    for offset in 0..count {
-        records.extend_from_slice(&call_of(offset))?;
-    }
-    let mut object = Vec::new(alloc);
-    put_segment(&mut object, &[], count.saturating_mul(4), &records)?;
-    put_zeros(&mut object, &DYNAMIC, length)?;
     Ok(object)
 }
 
@@ -171,23 +105,4 @@ fn equates(alloc: Global, count: u16, last: u16) -> Result<Vec<u8>, AllocError> 
     let mut file = Vec::new(alloc);
     put_segment(&mut file, &[], 0, &body)?;
     Ok(file)
-}
-
-/// So many bytes 1 in a load segment of its own, which may cross banks, and other records behind them.
-fn ones(
-    alloc: Global,
-    load: u8,
-    count: u32,
-    cells: u32,
-    records: &[u8],
-) -> Result<Vec<u8>, AllocError> {
-    let mut body = Vec::new(alloc);
-    body.push(0xF2)?;
-    body.extend_from_slice(&count.to_le_bytes())?;
-    body.resize((count as usize).saturating_add(5), 1)?;
-    body.extend_from_slice(records)?;
-    let mut object = Vec::new(alloc);
-    let changes = [(0x12, 0), (0x2C, load)];
-    put_segment(&mut object, &changes, count.saturating_add(cells), &body)?;
-    Ok(object)
 }

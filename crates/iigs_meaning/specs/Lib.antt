@@ -5,8 +5,8 @@ pub mod Free
 pub mod Fits
 pub mod Placement
 pub mod Puts
-pub mod PlacementLaws
 pub mod Blocks
 pub mod Room
 pub mod Banks
 pub mod Memory
+pub mod laws

@@ -1,7 +1,7 @@
 //! Slots: the places of a table of handles.
 
 /// What a slot holds.
-#[derive(Debug, Drop)]
+#[derive(Drop)]
 pub enum Content<T> {
     /// Nothing: the next handles may take the slot.
     Free,
@@ -12,7 +12,7 @@ pub enum Content<T> {
 }
 
 /// A place of a table of handles.
-#[derive(Debug, Drop)]
+#[derive(Drop)]
 pub struct Slot<T> {
     /// How often the slot was released; a retired slot keeps 255.
     pub generation: u8,

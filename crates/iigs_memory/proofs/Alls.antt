@@ -14,8 +14,6 @@ use Rattle.iigs_meaning.specs.Slots.{slot_at, new_slot, is_free, after_take, new
 use Rattle.iigs_meaning.specs.Fits.{IsWant, block_in}
 use Rattle.iigs_meaning.specs.Placement.{can_purge, emptied_where, emptied, is_gone, rank}
 use Rattle.iigs_meaning.specs.Puts.{placed, Purges, Puts, PutsAll}
-use Rattle.iigs_meaning.specs.Blocks.{AreApart}
-use Rattle.iigs_memory.specs.Spots.{IsBoundedSlot}
 use Rattle.iigs_memory.specs.Offsets.{offset_of}
 use Rattle.iigs_memory.specs.declared.table.Put.{Put}
 use Rattle.iigs_memory.specs.Table.{IsPut}
@@ -151,16 +149,6 @@ all_more banks user start now next wants puts want put small is_want all done =
       others = λ place not. let apart = fewer puts put place not in
           stays_on (slot_at start place) (slot_at now place) (slot_at next place) (all.others place apart.0) (facts.others place apart.1);
     }
-
-pub all_none : (banks : List ℕ) (user : ℕ) (start : List (Slot Block)) → All IsBoundedSlot start → AreApart banks start → AllPut banks user start [] [] start
-all_none banks user start bounded sound = record {
-  places = refl;
-  bounded = bounded;
-  sound = sound;
-  len = refl;
-  blocks = tt;
-  others = λ place not. inr refl;
-}
 
 pub all_next : (banks : List ℕ) (user : ℕ) (start now next : List (Slot Block)) (wants : List Want) (puts : List Put) (place : ℕ) (d : Want) (put : Put)
     → All (λ bank. bank < 256) banks → IsWant (get_or wants place d) → place < length wants → AllPut banks user start (take place wants) puts now

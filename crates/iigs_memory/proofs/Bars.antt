@@ -72,12 +72,6 @@ span_is banks want bank from to named permits f t fs ts = record {
   to = λ i in_bank allows. rw (t, ← in_bank) allows.free.below;
 }
 
-pub none_named : (banks : List ℕ) (want : Want) (bank : ℕ) → ¬ Contains banks bank → AllowsNone banks want bank
-none_named banks want bank not i in_bank allows = not (rw in_bank at allows.free.configured)
-
-pub none_permitted : (banks : List ℕ) (want : Want) (bank : ℕ) → ¬ Permits want bank → AllowsNone banks want bank
-none_permitted banks want bank not i in_bank allows = not (rw in_bank at allows.permitted)
-
 -- a block that is clear ends within the addresses of banks
 pub clear_limit : (banks : List ℕ) (want : Want) (address : ℕ) → All (λ bank. bank < 256) banks → 0 < want.size
     → IsClear banks want address → address + want.size ≤ 2 ^ 24

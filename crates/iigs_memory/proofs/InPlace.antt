@@ -1,8 +1,6 @@
 -- Lists whose items are changed one after the other.
-use Rattle.std.proofs.Common.{◌≡◌, ◌≢◌, inl, inr, ℕ, ◌+◌, ◌<◌, ◌≤◌, List, map, length, get_or, arith, refl, sym, ap, ◌∙◌}
-use Rattle.std.proofs.Math.ListN.{set, length-set}
-use Rattle.std.proofs.lemmas.List.{get_or-map, get_or-set_same, get_or-set_other, get_or_default, same_lists, length-map}
-use Rattle.std.proofs.lemmas.Bool.{cases_eq}
+use Rattle.std.proofs.Common.{◌≡◌, ℕ, ◌<◌, ◌≤◌, List, map, length, get_or, arith, sym, ◌∙◌}
+use Rattle.std.proofs.lemmas.List.{get_or-map, same_lists, length-map}
 
 module _ {X : Type 0} (f : X → X) where
   -- the items so far are changed, and the others aren't
@@ -10,26 +8,6 @@ module _ {X : Type 0} (f : X → X) where
     pub len : length now ≡ length old
     pub changed : (k : ℕ) (d : X) → k < n → k < length old → get_or now k d ≡ f (get_or old k d)
     pub same : (k : ℕ) (d : X) → n ≤ k → get_or now k d ≡ get_or old k d
-
-  pub so_far_none : (old : List X) → SoFar old old 0
-  so_far_none old = record { len = refl; changed = λ k d less inside. absurd (omega arith); same = λ k d le. refl }
-
-  -- one more is changed
-  pub so_far_more : (old now next : List X) (n : ℕ) (d : X) → SoFar old now n → next ≡ set now n (f (get_or now n d)) → SoFar old next (n + 1)
-  so_far_more old now next n d so is = record {
-    len = rw is (length-set now n (f (get_or now n d)) ∙ so.len);
-    changed = λ k e less inside. rw is (go k e less inside);
-    same = λ k e le. let ne : k ≢ n = omega arith in rw (is, get_or-set_other) (so.same k e (omega arith));
-  }
-    where
-      go : (k : ℕ) (e : X) → k < n + 1 → k < length old → get_or (set now n (f (get_or now n d))) k e ≡ f (get_or old k e)
-      go k e less inside = elim (cases_eq k n) [
-        | inl eq ↦
-            let there : n < length now = omega (arith, so.len) in
-            let there' : n < length old = omega arith in
-            rw (eq, get_or-set_same) (ap f (so.same n d (omega arith) ∙ get_or_default old n d e there'))
-        | inr ne ↦ rw get_or-set_other (so.changed k e (omega arith) inside)
-      ]
 
   -- all are changed
   pub so_far_all : (old now : List X) (n : ℕ) → SoFar old now n → length old ≤ n → now ≡ map f old

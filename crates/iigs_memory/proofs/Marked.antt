@@ -31,9 +31,6 @@ use Rattle.iigs_memory.proofs.Changed.{set_other, set_here, live_block, live_in,
 
 -- ---- marks that are gathered
 
-pub none_gathered : (slots : List (Slot Block)) → AreGathered slots 0 []
-none_gathered slots = record { each = λ place e lt is. absurd (omega (arith, lt)); are = λ m has. absurd (omega (arith, has.1)) }
-
 module _ (slots : List (Slot Block)) (place : ℕ) (marks : List Mark) (g : AreGathered slots place marks) where
   gathered_none : extent (slot_at slots place) ≡ None → AreGathered slots (place + 1) marks
   gathered_none none = record {
@@ -205,11 +202,6 @@ none_behind marks slot address count place d order same counts from inside ne be
       ne (omega (arith, up, one, low, same k e lt is))
 ]
 
--- the marks before the address are of other slots
-pub others_before : (marks : List Mark) (slot address count : ℕ) → All (λ m. m.slot ≡ slot → m.at ≡ address) marks → CountsBefore marks address count
-    → (k : ℕ) (e : Mark) → k < count → (get_or marks k e).slot ≢ slot
-others_before marks slot address count same counts k e lt = λ is. absurd (omega (arith, counts.before k e lt, same k e (omega (arith, lt, counts.within)) is))
-
 -- an item less
 pub order_remove : {X : Type 0} (n : X → ℕ) (xs : List X) (i : ℕ) → i < length xs → IsNonDecreasingBy n xs → IsNonDecreasingBy n (remove xs i)
 order_remove n xs i inside up a b d le lt =
@@ -279,12 +271,6 @@ module _ (marks : List Mark) (address count : ℕ) (c : CountsUpTo marks address
   before_it m has le = elim (cases_lt has.0 count) [
     | inl lt ↦ lt
     | inr behind ↦ absurd (omega (arith, c.behind has.0 m behind has.1, ap (λ (x : Mark). x.at) has.2, le))
-  ]
-
-  pub none_at : count ≡ 0 → (m : Mark) → Contains marks m → address < m.at
-  none_at none m has = elim (cases_lt address m.at) [
-    | inl lt ↦ lt
-    | inr le ↦ absurd (omega (arith, none, before_it m has le))
   ]
 
   pub last_at : (d : Mark) → 0 < count → count ≤ length marks → IsNonDecreasingBy (λ m. m.at) marks → IsLast marks address (get_or marks (count - 1) d)

@@ -1,5 +1,5 @@
 -- Parts of a list, and lists with others written over them.
-use Rattle.std.proofs.Common.{◌≡◌, ◌⊎◌, inl, inr, ℕ, Bool, true, false, cond, ◌&&◌, ◌+◌, ◌-◌, ◌<◌, ◌≤◌, nat_le, nat_lt, List, ◌++◌, take, drop, length, get_or, slice_index, length-append, length-drop, arith, sym, ap, ◌∙◌}
+use Rattle.std.proofs.Common.{◌≡◌, ◌⊎◌, inl, inr, ℕ, true, false, cond, ◌&&◌, ◌+◌, ◌-◌, ◌<◌, ◌≤◌, nat_le, nat_lt, List, ◌++◌, take, drop, length, get_or, slice_index, length-append, length-drop, arith, sym, ap, ◌∙◌}
 use Rattle.std.proofs.Math.Seq.{get_or-append_right}
 use Rattle.std.proofs.lemmas.List.{get_or-take, get_or-drop, get_or_append_left, length-take, same_lists}
 use Rattle.std.proofs.lemmas.List.FromFn.{length-map-range_with_len, get_or-map-range_with_len}
@@ -46,9 +46,6 @@ get-after start ws xs k d le past =
     ∙ get_or-drop (length ws) (drop start xs) (k - start - length ws) d
     ∙ get_or-drop start xs (length ws + (k - start - length ws)) d
     ∙ ap (λ i. get_or xs i d) place
-
-in_written : ℕ → ℕ → ℕ → Bool
-in_written other size i = nat_le other i && nat_lt i (other + size)
 
 pub length-written_over : (start : ℕ) (bytes : List ℕ) (other : ℕ) (ws : List ℕ) → length (written_over start bytes other ws) ≡ length bytes
 length-written_over start bytes other ws = length-map-range_with_len (λ i. cond (nat_le other (start + i) && nat_lt (start + i) (other + length ws))

@@ -76,10 +76,6 @@ module _ (limit address size : ℕ) (some : 0 < size) where
       → IsSomeAnd block.at (λ first. (first ≤ i) × (i < first + block.want.size))
   holds_at i at block there holds = rw there holds
 
-  held_at : (i at : ℕ) (block : Block) → block.at ≡ Some at → IsSomeAnd block.at (λ first. (first ≤ i) × (i < first + block.want.size))
-      → (at ≤ i) × (i < at + block.want.size)
-  held_at i at block there holds = rw there at holds
-
   kept_block : (generation : ℕ) (block : Block) → IsBounded block
       → IsApart address size (emptied_where (below limit) (record { generation = generation; content = Used block }))
       → IfSome (spot_of block) (λ spot. limit ≤ spot.turn → IsBeside address size spot)

@@ -52,9 +52,6 @@ clear_overlay start size xs =
 module _ (banks : List ℕ) (small : All (λ bank. bank < 256) banks) (old : List (Slot Block)) (want : Want) (is_want : IsWant want) (count address : ℕ)
     (goes : GoesTo banks old want count address) (bounded : All IsBoundedSlot old) (sound : AreApart banks old)
     (user : ℕ) (locked : Bool) (level : ℕ) (low : level < 256) (at generation : ℕ) (inside : at < length old) where
-  the_block : Block
-  the_block = placed want address user locked level
-
   abbrev pub put_in : List (Slot Block)
   put_in = set (emptied old count) at (record { generation = generation; content = Used (placed want address user locked level) })
 

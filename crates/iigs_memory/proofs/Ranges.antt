@@ -1,5 +1,5 @@
 -- Blocks lie one after another in the buffer, as they do in memory.
-use Rattle.std.proofs.Common.{◌≡◌, inl, inr, ℕ, Bool, true, cond, zero, suc, ◌+◌, ◌-◌, ◌^◌, ◌<◌, ◌≤◌, List, Contains, arith, refl, ◌∙◌}
+use Rattle.std.proofs.Common.{◌≡◌, inl, inr, ℕ, true, cond, zero, suc, ◌+◌, ◌-◌, ◌^◌, ◌<◌, ◌≤◌, List, Contains, arith, refl, ◌∙◌}
 use Rattle.std.proofs.lemmas.Bool.{cases_lt, cases_eq}
 use Rattle.iigs_meaning.specs.Free.{bank_of}
 use Rattle.iigs_memory.specs.Offsets.{is_named, bytes_below, offset_of}
@@ -11,9 +11,6 @@ module _ (banks : List ℕ) where
   below_next bank has =
       let named : is_named banks bank ≡ true = (named-Contains banks bank).1 has in
       bytes_below-suc banks bank ∙ rw named refl
-
-  cond_some : (b : Bool) → 0 ≤ cond b 0x10000 0
-  cond_some b = omega arith
 
   below_rises : (low more : ℕ) → bytes_below banks low ≤ bytes_below banks (low + more)
   below_rises low zero = let same : low + 0 ≡ low = omega arith in rw same (omega arith)

@@ -81,11 +81,6 @@ before_is one block first second can can' = rw (turn_purge, turn_purge block can
 never_before : (t : ℕ) → t < never → nat_lt never t ≡ false
 never_before t less = grind (arith, nat_tests)
 
--- a block that isn't there isn't purged
-pub no_purge : (one : Block) → one.at ≡ None → can_purge one ≡ true → ⊥
-unfolding can_purge
-no_purge one none can = let no : false ≡ true = rw none at can in cc
-
 first_true : (a b c : Bool) → (a && b && c) ≡ true → a ≡ true
 first_true true b c e = refl
 first_true false b c e = absurd (cc)

@@ -1,17 +1,16 @@
 -- Targets at places.
-use Rattle.std.proofs.Common.{◌≡◌, ℕ, zero, suc, Bool, true, false, inl, inr, ◌&&◌, ◌||◌, ◌==◌, ◌<◌, ◌≤◌, ◌+◌, List, [], ◌∷◌, ◌++◌, length, map, All, Option, Some, None, IfSome, IfNone, is_some, Result, Ok, Err, IfOk, refl, sym, ap, subst, ◌∙◌, arith, get_or}
+use Rattle.std.proofs.Common.{◌≡◌, ℕ, zero, suc, Bool, true, false, ◌&&◌, ◌||◌, ◌==◌, ◌+◌, List, [], ◌∷◌, ◌++◌, map, All, Option, Some, None, IfSome, IfNone, is_some, Result, Ok, Err, IfOk, refl, sym, ap, subst, ◌∙◌, arith, get_or}
 use Rattle.std.specs.Prelude.{slice_get, position}
 use Rattle.std.specs.List.{list_any}
-use Rattle.std.proofs.lemmas.Bool.{and_parts, eqb-true, eq-eqb, cases_lt}
-use Rattle.std.proofs.lemmas.List.{length-append}
-use Rattle.std.proofs.lemmas.List.Elements.{All-push, All-head, All-tail}
+use Rattle.std.proofs.lemmas.Bool.{and_parts, eqb-true, eq-eqb}
+use Rattle.std.proofs.lemmas.List.Elements.{All-head, All-tail}
 use Rattle.std.proofs.lemmas.List.Quantifiers.{position-Some}
-use Rattle.std.proofs.lemmas.Option.{slice_get-get_or, slice_get_within}
+use Rattle.std.proofs.lemmas.Option.{slice_get-get_or}
 use Rattle.load_meaning.specs.declared.table.Target.{Target}
 use Rattle.load_meaning.specs.declared.table.Entry.{Entry}
-use Rattle.load_meaning.specs.Table.{is_same, with_target, IsAtPlace, AreDistinct, most_entries, file_entry, FitsEntry, table_bytes, IsTableOf}
-use Rattle.load_meaning.specs.TableLaws.{table_laid_out}
-use Rattle.jump_table.specs.Targets.{FitsTarget, IsSound}
+use Rattle.load_meaning.specs.Table.{is_same, with_target, IsAtPlace, file_entry, FitsEntry, table_bytes, IsTableOf}
+use Rattle.load_meaning.specs.laws.TableLaws.{table_laid_out}
+use Rattle.jump_table.specs.Targets.{FitsTarget}
 
 pub same_self : (t : Target) → is_same t t ≡ true
 same_self t = all (t.file == t.file) (t.segment == t.segment) (t.offset == t.offset) (eq-eqb t.file t.file refl) (eq-eqb t.segment t.segment refl) (eq-eqb t.offset t.offset refl)
@@ -78,46 +77,6 @@ pub with_new : (targets : List Target) (t : Target) → ((k : ℕ) → ¬ IsAtPl
 with_new targets t none = rw (none_found targets t none) refl
 
 -- ---- one more target
-
-pub last_at : (targets : List Target) (t : Target) → IsAtPlace (targets ++ t ∷ []) t (length targets)
-last_at [] t = refl
-last_at (x ∷ targets) t = last_at targets t
-
--- a target among the others, or the last one
-at_pushed : (targets : List Target) (t x : Target) (k : ℕ) → IsAtPlace (targets ++ t ∷ []) x k → (k < length targets → IsAtPlace targets x k)
-at_pushed [] t x k there = λ less. absurd (omega arith)
-at_pushed (y ∷ targets) t x zero there = λ less. there
-at_pushed (y ∷ targets) t x (suc k) there = λ less. at_pushed targets t x k there (omega arith)
-
--- one more target, which wasn't there, keeps them distinct
-pub distinct_push : (targets : List Target) (t : Target) → AreDistinct targets → ((k : ℕ) → ¬ IsAtPlace targets t k) → AreDistinct (targets ++ t ∷ [])
-distinct_push targets t distinct absent i j x at_i at_j = elim (cases_lt i (length targets)) [
-  | inl i_less ↦ elim (cases_lt j (length targets)) [
-    | inl j_less ↦ distinct i j x (at_pushed targets t x i at_i i_less) (at_pushed targets t x j at_j j_less)
-    | inr j_last ↦ absurd (absent i (rw (is_last j at_j j_last) (at_pushed targets t x i at_i i_less)))
-  ]
-  | inr i_last ↦ elim (cases_lt j (length targets)) [
-    | inl j_less ↦ absurd (absent j (rw (is_last i at_i i_last) (at_pushed targets t x j at_j j_less)))
-    | inr j_last ↦ omega (arith, within i at_i, within j at_j)
-  ]
-]
-  where
-    within : (k : ℕ) → IsAtPlace (targets ++ t ∷ []) x k → k < length targets + 1
-    within k there = omega (arith, slice_get_within (targets ++ t ∷ []) k x there, length-append targets (t ∷ []))
-
-    is_last : (k : ℕ) → IsAtPlace (targets ++ t ∷ []) x k → length targets ≤ k → t ≡ x
-    is_last k there past =
-        let same : k ≡ length targets = omega (arith, within k there) in
-        let last : slice_get (targets ++ t ∷ []) k ≡ Some t = rw same (last_at targets t) in
-        cc
-
-pub sound_push : (targets : List Target) (t : Target) → IsSound targets → length targets < most_entries → FitsTarget t → ((k : ℕ) → ¬ IsAtPlace targets t k)
-    → IsSound (targets ++ t ∷ [])
-sound_push targets t sound few fits absent = record {
-  few = omega (arith, length-append targets (t ∷ []));
-  distinct = distinct_push targets t sound.distinct absent;
-  fit = All-push FitsTarget targets t sound.fit fits;
-}
 
 -- the entries of targets whose numbers fit do fit
 pub entries_fit : (targets : List Target) → All FitsTarget targets → (k : ℕ) (entry : Entry) → slice_get (map file_entry targets) k ≡ Some entry → FitsEntry entry

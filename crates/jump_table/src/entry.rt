@@ -1,34 +1,20 @@
 //! Entries of a jump table, read and changed where they stand.
 
-ghost use Rattle.std.specs.Prelude.{◌≡◌, ◌⊎◌, ◌↔◌, ◌+◌, ◌<◌, ◌≤◌, ◌^◌, ℕ, Option, length, IsNone, IfSome, IfNone, None, Some};
+ghost use Rattle.std.specs.Prelude.{◌≡◌, ◌≢◌, ◌⊎◌, ◌↔◌, ◌+◌, ◌*◌, ◌<◌, ◌≤◌, ◌^◌, ℕ, Option, length, IsNone, IfSome, IfNone, MatchOption, None, Some};
 ghost use Rattle.byteorder.specs.Endian.{little_bytes};
-ghost use Rattle.omf_format.specs.Number as numbers;
 ghost use Rattle.load_meaning.specs.declared.table.Entry.{Entry};
-ghost use Rattle.load_meaning.specs.Table.{HasCode, IsEntryAt, code_bytes, entry_bytes, written_at};
+ghost use Rattle.load_meaning.specs.Table.{HasCode, IsEntryAt, code_bytes, entry_bytes, entry_place, written_at};
+ghost use Rattle.load_meaning.specs.LoadTable as tables;
 
 use byteorder::{ByteOrder, LittleEndian};
 use load_meaning::{Entry, Target};
-use omf_base::number_at;
+use omf_base::number;
 
 /// The code of an entry whose target isn't loaded: a JSL to the loader at $E1F000.
 pub const UNLOADED: [u8; 4] = [0x22, 0x00, 0xF0, 0xE1];
 
 /// How many bytes an entry has.
 const ENTRY: usize = 14;
-
-// The number of so many bytes, 1 to 4, at a displacement.
-fn number(bytes: &[u8], at: usize, width: usize) -> u32
-    requires some { 1 ≤ width }
-    requires few { width ≤ 4 }
-    requires inside { at + width ≤ length bytes.now }
-    ensures value { result ≡ numbers.number_at width at bytes.now }
-    ensures fits { result < 256 ^ width }
-{
-    match number_at(bytes, at, width) {
-        Some(number) => number,
-        None => unreachable!(),
-    }
-}
 
 // The code at a displacement, if it is one.
 fn read_code(bytes: &[u8], at: usize) -> Option<Option<u32>>
@@ -73,6 +59,45 @@ fn put(bytes: &mut [u8], at: usize, piece: &[u8])
     ensures { bytes.new ≡ written_at at piece.now bytes.old }
 {
     bytes[at..at + piece.len()].copy_from_slice(piece);
+}
+
+/// How many entries a table of so many bytes has.
+pub fn entry_count(size: u32) -> u32
+    ensures { result ≡ tables.entry_count size }
+{
+    size.saturating_sub(12) / 14
+}
+
+/// The place, from 0, of the entry whose code is at an offset of a table of so many bytes. None where no entry's code is.
+pub fn entry_at(size: u32, offset: u32) -> Option<usize>
+    ensures { MatchOption result ((k : ℕ) → k < tables.entry_count size → entry_place k ≢ offset)
+        (λ k. (k < tables.entry_count size) × (entry_place k ≡ offset)) }
+{
+    if offset < 18 {
+        return None;
+    }
+    if (offset - 18) % 14 != 0 {
+        return None;
+    }
+    let place = (offset - 18) / 14;
+    if place >= entry_count(size) {
+        return None;
+    }
+    Some(place as usize)
+}
+
+/// Where the entry at a place of a table, from 0, leads.
+#[tactic(auto, unfolding(load_meaning::specs::LoadTable::target_at))]
+pub fn target_at(bytes: &[u8], place: usize) -> Target
+    requires { 22 + 14 * place ≤ length bytes.now }
+    ensures { result ≡ tables.target_at bytes.now place }
+{
+    let start = 8 + 14 * place;
+    Target {
+        file: number(bytes, start + 2, 2) as u16,
+        segment: number(bytes, start + 4, 2) as u16,
+        offset: number(bytes, start + 6, 4),
+    }
 }
 
 /// Writes an entry of a user for a target that isn't loaded, from a displacement on.

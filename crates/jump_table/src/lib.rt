@@ -5,7 +5,9 @@ mod entry;
 mod laws;
 mod table;
 
-pub use entry::{put_entry, read_entry, set_loaded, set_unloaded, set_user};
+pub use entry::{
+    entry_at, entry_count, put_entry, read_entry, set_loaded, set_unloaded, set_user, target_at,
+};
 pub use laws::entries_are_read_in_one_way;
 pub use load_meaning::{Entry, Target};
 pub use table::{MOST_ENTRIES, Table, TableFault};

@@ -10,7 +10,7 @@ use Rattle.byteorder.specs.Endian.{little_bytes}
 use Rattle.byteorder.specs.Numbers.{length-bytes_low_first, little_number-reads_back}
 use Rattle.omf_format.specs.Number.{number_at}
 use Rattle.omf_format.specs.Header.{form_of, laid_out}
-use Rattle.omf_format.specs.HeaderLaws.{size_of, number_at-laid_out}
+use Rattle.omf_format.specs.laws.HeaderLaws.{size_of, number_at-laid_out}
 use Rattle.omf_format.specs.Record.{Record}
 use Rattle.omf_format.specs.File.{Segment, segment_at}
 use Rattle.link_meaning.specs.First.{IsIn}

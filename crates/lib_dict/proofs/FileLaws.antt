@@ -3,7 +3,7 @@ use Rattle.std.proofs.Common.{◌≡◌, ℕ, zero, suc, ◌+◌, ◌*◌, ◌<�
 use Rattle.std.specs.Prelude.{slice_get, if◌then◌else◌}
 use Rattle.std.specs.Int.{from_bool}
 use Rattle.std.specs.List.{flat_map, AllByRecursion}
-use Rattle.std.proofs.lemmas.List.{append-nil, length-append, length-map}
+use Rattle.std.proofs.lemmas.List.{append-nil, length-append}
 use Rattle.std.proofs.lemmas.List.Concat.{flat_map-cons}
 use Rattle.byteorder.specs.Endian.{little_bytes}
 use Rattle.omf_format.specs.File.{Segment, segment_at}
@@ -58,9 +58,6 @@ drop-past [] (suc k) past = refl
 drop-past (t ∷ list) zero past = absurd (omega arith)
 drop-past (t ∷ list) (suc k) past = drop-past list k (omega arith)
 
-pub file_within : (list : List Segment) (k : ℕ) (v : SegmentView) → Some (shown v) ≡ segment_at list (k + 1) → k < length list
-file_within list k v is = within-here list k (shown v) (shown_at list k v is)
-
 pub file_next : (file front : ℕ) (list : List Segment) (k : ℕ) (v : SegmentView) (old rows new : List LibraryRow) → PassedFile file front list k old rows → Some (shown v) ≡ segment_at list (k + 1)
     → new ≡ rows ++ segment_rows file front (shown v) → PassedFile file front list (k + 1) old new
 file_next file front list k v old rows new p is more =
@@ -99,9 +96,6 @@ files_none reads rows none = record {
 -- a file of so few bytes
 pub file_is : (reads : List Read) (i : ℕ) (r : Read) → AreFiles (map library_file reads) → i < length reads → r ≡ get_or reads i r → IsReadFile (library_file r)
 file_is reads i r are lt is = each_at IsReadFile library_file reads i r are.each lt is
-
-pub few_reads : (reads : List Read) → AreFiles (map library_file reads) → length reads ≤ 65535
-few_reads reads are = omega (arith, are.few, length-map reads library_file)
 
 pub files_next : (reads : List Read) (i file front : ℕ) (rows new : List Outer) (r : Read) → PassedFiles reads i file front rows → AreFiles (map library_file reads) → i < length reads → r ≡ get_or reads i r
     → map outer_row new ≡ map outer_row rows ++ flat_map (segment_rows file front) r.list → PassedFiles reads (i + 1) (file + 1) (front + length r.member.now.bytes.items) new
@@ -241,11 +235,6 @@ names_left rows i o lt is =
     ap (λ (l : List LibraryRow). length (names_text l)) (drop_at outer_row rows i o lt is)
     ∙ ap length (names-cons (outer_row o) rest)
     ∙ omega (arith, length-append (name_text (outer_row o)) (names_text rest))
-
--- there is room for the place of a name
-pub name_within : (rows : List Outer) (base i name : ℕ) (out : List ℕ) (o : Outer) → WrittenRows rows base i name out → i < length rows → o ≡ get_or rows i o
-    → name + 1 + length o.name.now ≤ length (names_text (map outer_row rows))
-name_within rows base i name out o w lt is = omega (arith, w.left, names_left rows i o lt is)
 
 pub rows_next : (rows : List Outer) (base i name : ℕ) (out new : List ℕ) (o : Outer) → WrittenRows rows base i name out → i < length rows → o ≡ get_or rows i o
     → new ≡ out ++ row_text name (moved_row base (outer_row o)) → WrittenRows rows base (i + 1) (name + (1 + length o.name.now)) new

@@ -23,19 +23,6 @@ pub record ReadFiles (bytes rest keys : List ℕ) : Type 0 where
   pub whole : file_numbers (length bytes) bytes ≡ after_numbers so_far (file_numbers fuel rest)
   pub keys' : SameNumbers keys so_far
 
-pub files_init : (bytes keys : List ℕ) → keys ≡ [] → ReadFiles bytes bytes keys
-files_init bytes keys none = record {
-  so_far = [];
-  fuel = length bytes;
-  enough = omega arith;
-  whole = by_answer (file_numbers (length bytes) bytes);
-  keys' = record { each = λ q. ap (list_any (nat_eq q)) none };
-}
-  where
-    by_answer : (o : Option (List ℕ)) → o ≡ after_numbers [] o
-    by_answer None = refl
-    by_answer (Some ns) = refl
-
 -- what one step of the definition says
 step_cut : (n : ℕ) (rest : List ℕ) → length rest < 2 → file_numbers n rest ≡ None
 unfolding file_numbers

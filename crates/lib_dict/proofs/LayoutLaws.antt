@@ -9,7 +9,7 @@ use Rattle.std.proofs.lemmas.List.Concat.{flat_map-cons}
 use Rattle.byteorder.specs.Endian.{little_number}
 use Rattle.omf_format.specs.Number.{number_at}
 use Rattle.omf_format.specs.Field.{◌>>=◌}
-use Rattle.omf_format.specs.FieldLaws.{bind_ok}
+use Rattle.omf_format.specs.laws.FieldLaws.{bind_ok}
 use Rattle.omf_format.specs.Header.{form_of}
 use Rattle.omf_format.specs.Record.{Record, End, Const, LongConst, Align, Org, Space, Reloc, InterSeg, ShortReloc, ShortInterSeg, Super, Using, Strong, Label, Equate, Formula, Entry}
 use Rattle.omf_format.specs.File.{Segment, segment_at}

@@ -10,7 +10,7 @@ use Rattle.omf_format.specs.Number.{number_at}
 use Rattle.omf_format.specs.Header.{form_of}
 use Rattle.omf_format.specs.Record.{Record}
 use Rattle.omf_format.specs.File.{Segment, AreSegments, IsFile, segment_at}
-use Rattle.omf_format.specs.FileLaws.{header_lies}
+use Rattle.omf_format.specs.laws.FileLaws.{header_lies}
 use Rattle.link_meaning.specs.First.{IsIn}
 use Rattle.link_meaning.specs.Member.{Row}
 use Rattle.link_meaning.specs.Defines.{Scope, Definition, outer_scope, defined_in}

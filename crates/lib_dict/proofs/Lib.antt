@@ -15,3 +15,4 @@ pub mod MovedLaws
 pub mod BorneLaws
 pub mod MadeLaws
 pub mod RowCounts
+mod MadeOnce

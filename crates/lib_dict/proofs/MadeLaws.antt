@@ -5,15 +5,16 @@ use Rattle.std.proofs.lemmas.List.{append-nil, length-append, length-map, take_a
 use Rattle.std.proofs.lemmas.List.Concat.{flat_map-cons}
 use Rattle.std.proofs.Math.Seq.{drop-append-add, take-append-add}
 use Rattle.omf_format.specs.Field.{Layout, layout_of, length_width_of, written_layout}
-use Rattle.omf_format.specs.FieldLaws.{IsBytes-drop, IsBytes-front}
+use Rattle.omf_format.specs.laws.FieldLaws.{IsBytes-drop, IsBytes-front}
 use Rattle.omf_format.specs.Header.{Fields, fields_of, header_fault, header_bytes, written_fields, IsWritable}
-use Rattle.omf_format.specs.HeaderLaws.{IsBytes}
-use Rattle.omf_format.specs.WrittenHeader.{FitsWritten, length-header, fields_of-written, header_fault-written}
+use Rattle.omf_format.specs.Number.{IsBytes}
+use Rattle.omf_format.specs.WrittenHeader.{FitsWritten}
+use Rattle.omf_format.specs.laws.WrittenHeaderLaws.{length-header, fields_of-written, header_fault-written}
 use Rattle.omf_format.specs.Record.{Record, End, LongConst, spelling}
 use Rattle.omf_format.specs.Reading.{Reader, HandsOut}
 use Rattle.omf_format.specs.File.{Segment, body_reader, IsSegment, AreSegments, IsFile}
-use Rattle.omf_format.specs.FileLaws.{file_same, no_file}
-use Rattle.load_meaning.specs.RunLaws.{reader_at, text, placed, IsBodyRecord, runs}
+use Rattle.omf_format.specs.laws.FileLaws.{file_same, no_file}
+use Rattle.load_meaning.specs.laws.RunLaws.{reader_at, text, placed, IsBodyRecord, runs}
 use Rattle.link_meaning.specs.Member.{Row, is_library}
 use Rattle.link_meaning.specs.Dictionary.{rows_of}
 use Rattle.lib_dict.specs.declared.fault.DictFault.{DictFault}

@@ -1,20 +1,20 @@
 -- Files that are read one after another.
-use Rattle.std.proofs.Common.{◌≡◌, ℕ, zero, suc, ◌+◌, ◌^◌, ◌<◌, ◌≤◌, Bool, true, false, List, [], ◌∷◌, ◌++◌, length, take, drop, get_or, map, Some, None, refl, sym, ap, subst, ◌∙◌, arith}
+use Rattle.std.proofs.Common.{◌≡◌, ℕ, zero, suc, ◌+◌, ◌^◌, ◌<◌, ◌≤◌, Bool, true, false, List, [], ◌∷◌, ◌++◌, length, take, drop, get_or, map, Some, refl, sym, ap, subst, ◌∙◌, arith}
 use Rattle.std.specs.Prelude.{◌||◌, slice_get}
 use Rattle.std.specs.List.{list_any}
 use Rattle.std.proofs.lemmas.List.{take_more, map-append, length-take, length-map}
 use Rattle.omf_format.specs.File.{Segment, IsFile, segment_at}
-use Rattle.omf_format.specs.FileLaws.{segments_fit}
+use Rattle.omf_format.specs.laws.FileLaws.{segments_fit}
 use Rattle.omf_records.specs.declared.segment.SegmentView.{SegmentView}
 use Rattle.omf_records.specs.Segments.{shown}
-use Rattle.omf_records.specs.SegmentLaws.{shown_at, none_past}
+use Rattle.omf_records.specs.SegmentLaws.{shown_at}
 use Rattle.lib_dict.specs.declared.fault.LibCause.{LibCause}
 use Rattle.lib_dict.specs.declared.fault.LibCause.TheVariants.{Truncated, BadHeader, Unsupported, BadRecord, TooLong, Memory}
 use Rattle.lib_dict.specs.declared.fault.LibFault.{LibFault}
 use Rattle.lib_dict.specs.declared.member.Member.{Member}
 use Rattle.lib_dict.specs.declared.members.Read.{Read}
-use Rattle.lib_dict.specs.Library.{Given, LibraryFile, is_dictionary, IsMember, AreMembers, HasDictionary}
-use Rattle.lib_dict.specs.Made.{given_file, library_file, FirstDictionary, HasMemberFault, OfDictionary, IsFirstMemberFault, ByCause, IsMemberRefused, IsLibRefused}
+use Rattle.lib_dict.specs.Library.{Given, LibraryFile, is_dictionary, IsMember, AreMembers}
+use Rattle.lib_dict.specs.Made.{given_file, library_file, FirstDictionary, HasMemberFault, IsFirstMemberFault, ByCause, IsMemberRefused, IsLibRefused}
 use Rattle.lib_dict.proofs.Sets.{list_any-append, or_false}
 
 -- ---- the first dictionary
@@ -41,9 +41,6 @@ within-at [] k s is = absurd cc
 within-at (t ∷ list) zero s is = omega arith
 within-at (t ∷ list) (suc k) s is = let rest = within-at list k s is in omega arith
 
-pub passed_within : (list : List Segment) (k : ℕ) (v : SegmentView) → Some (shown v) ≡ segment_at list (k + 1) → k < length list
-passed_within list k v is = within-at list k (shown v) (shown_at list k v is)
-
 pub passed_next : (list : List Segment) (k : ℕ) (v : SegmentView) → PassedOthers list k → Some (shown v) ≡ segment_at list (k + 1) → is_dictionary (shown v) ≡ false → PassedOthers list (k + 1)
 passed_next list k v p is other =
     let here = shown_at list k v is in
@@ -58,15 +55,6 @@ passed_next list k v p is other =
           ∙ other;
     }
 
-take-all : (k : ℕ) (list : List Segment) → length list ≤ k → take k list ≡ list
-take-all zero [] le = refl
-take-all zero (s ∷ list) le = absurd (omega arith)
-take-all (suc k) [] le = refl
-take-all (suc k) (s ∷ list) le = ap (λ (l : List Segment). s ∷ l) (take-all k list (omega arith))
-
-pub passed_all : (list : List Segment) (k : ℕ) → PassedOthers list k → None ≡ segment_at list (k + 1) → list_any is_dictionary list ≡ false
-passed_all list k p none = ap (list_any is_dictionary) (sym (take-all k list (none_past list k none))) ∙ p.none
-
 pub passed_found : (list : List Segment) (k : ℕ) (v : SegmentView) → PassedOthers list k → Some (shown v) ≡ segment_at list (k + 1) → is_dictionary (shown v) ≡ true → FirstDictionary list (Some (k + 1, v.start))
 passed_found list k v p is found =
     let here = shown_at list k v is in
@@ -74,21 +62,6 @@ passed_found list k v p is found =
     (take k list, shown v, drop (k + 1) list, parts-at list k (shown v) here, p.none, found, omega (arith, length-take k list), refl)
 
 -- ---- a file
-
-pub has_dictionary : (bytes : List ℕ) (list : List Segment) (number at : ℕ) → IsFile list bytes → FirstDictionary list (Some (number, at)) → HasDictionary bytes number at
-has_dictionary bytes list number at is d = record {
-  before = d.0;
-  dictionary = d.1;
-  behind = d.2;
-  is_file = subst (λ (l : List Segment). IsFile l bytes) d.3 is;
-  none_before = d.4;
-  is = d.5;
-  number' = d.6;
-  at' = d.7;
-}
-
-pub of_dictionary : (bytes : List ℕ) (list : List Segment) (number at : ℕ) → IsFile list bytes → FirstDictionary list (Some (number, at)) → HasMemberFault bytes BadRecord number at
-of_dictionary bytes list number at is d = OfDictionary (has_dictionary bytes list number at is d) refl
 
 -- the segments of a file are few
 pub few_in : (list : List Segment) (bytes : List ℕ) → IsFile list bytes → length bytes < 2 ^ 32 → length list + 2 < 2 ^ 32
@@ -108,9 +81,6 @@ pub record ReadSoFar (members : List Member) (i file : ℕ) (reads : List Read) 
   pub number : file ≡ i + 1
   pub are : AreMembers (map given_file (take i members)) (map library_file reads)
 
-pub read_none : (members : List Member) (reads : List Read) → reads ≡ [] → ReadSoFar members 0 1 reads
-read_none members reads none = record { number = refl; are = subst (λ (l : List Read). AreMembers [] (map library_file l)) (sym none) tt }
-
 pub read_more : (members : List Member) (i file : ℕ) (reads new : List Read) (m : Member) (r : Read) → ReadSoFar members i file reads → i < length members → m ≡ get_or members i m
     → IsMember (given_file m) (library_file r) → new ≡ reads ++ r ∷ [] → ReadSoFar members (i + 1) (file + 1) new
 read_more members i file reads new m r so_far lt is one is_new =
@@ -124,15 +94,6 @@ read_more members i file reads new m r so_far lt is one is_new =
           (subst (AreMembers (map given_file (take i members) ++ given_file m ∷ [])) (sym back)
           (AreMembers-push (map given_file (take i members)) (map library_file reads) (given_file m) (library_file r) so_far.are one));
     }
-
-take-whole : (k : ℕ) (xs : List Member) → length xs ≤ k → take k xs ≡ xs
-take-whole zero [] le = refl
-take-whole zero (s ∷ list) le = absurd (omega arith)
-take-whole (suc k) [] le = refl
-take-whole (suc k) (s ∷ list) le = ap (λ (l : List Member). s ∷ l) (take-whole k list (omega arith))
-
-pub read_all : (members : List Member) (i file : ℕ) (reads : List Read) → ReadSoFar members i file reads → length members ≤ i → AreMembers (map given_file members) (map library_file reads)
-read_all members i file reads so_far past = subst (λ (l : List Member). AreMembers (map given_file l) (map library_file reads)) (take-whole i members past) so_far.are
 
 parts-member : (members : List Member) (i : ℕ) (m : Member) → i < length members → m ≡ get_or members i m → members ≡ take i members ++ m ∷ drop (suc i) members
 parts-member [] i m lt is = absurd (omega arith)

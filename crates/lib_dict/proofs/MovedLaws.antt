@@ -12,13 +12,14 @@ use Rattle.omf_format.specs.declared.fault.Flaw.{Flaw}
 use Rattle.omf_format.specs.Number.{number_at}
 use Rattle.omf_format.specs.Name.{without_trailing, name_at, name_size}
 use Rattle.omf_format.specs.Header.{Fields, fields_of, version_of, byte_count_of, kind_of, names_end, checks_of, header_checks, first_of, header_fault}
-use Rattle.omf_format.specs.HeaderLaws.{IsBytes, sound_from_none, each_false, none_holds}
+use Rattle.omf_format.specs.Number.{IsBytes}
+use Rattle.omf_format.specs.laws.HeaderLaws.{sound_from_none, each_false, none_holds}
 use Rattle.omf_format.specs.Record.{Record, spelling}
-use Rattle.omf_format.specs.RecordLaws.{front-takes}
+use Rattle.omf_format.specs.laws.RecordLaws.{front-takes}
 use Rattle.omf_format.specs.Reading.{Reader, front, told, moved, next_answer, after_next, HandsOut}
 use Rattle.omf_format.specs.File.{Segment, body_reader, IsSegment, AreSegments, IsFile}
-use Rattle.omf_format.specs.FileLaws.{Answer, gave, same_found, header_lies, AreSegments-append}
-use Rattle.omf_format.specs.BodyLaws.{found_by, body_fits}
+use Rattle.omf_format.specs.laws.FileLaws.{Answer, gave, same_found, header_lies, AreSegments-append}
+use Rattle.omf_format.specs.laws.BodyLaws.{found_by, body_fits}
 use Rattle.lib_dict.specs.Library.{LibraryFile}
 
 -- ---- a header with more bytes behind it

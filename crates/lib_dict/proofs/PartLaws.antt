@@ -5,12 +5,12 @@ use Rattle.byteorder.specs.Endian.{little_bytes}
 use Rattle.byteorder.specs.Numbers.{length-bytes_low_first}
 use Rattle.omf_format.specs.declared.fault.Flaw.{Flaw}
 use Rattle.omf_format.specs.Field.{Layout}
-use Rattle.omf_format.specs.HeaderLaws.{IsBytes}
+use Rattle.omf_format.specs.Number.{IsBytes}
 use Rattle.omf_format.specs.Record.{Record, End, Const, LongConst, Align, Org, Space, Reloc, InterSeg, ShortReloc, ShortInterSeg, Super, Using, Strong, Label, Equate, Formula, Entry, spelling}
-use Rattle.omf_format.specs.RecordLaws.{front-takes}
+use Rattle.omf_format.specs.laws.RecordLaws.{front-takes}
 use Rattle.omf_format.specs.Reading.{Reader, front, told, moved, place_of, next_answer, after_next, HandsOut}
-use Rattle.omf_format.specs.FileLaws.{Answer, gave, same_found}
-use Rattle.omf_format.specs.BodyLaws.{found_by, none_at_end}
+use Rattle.omf_format.specs.laws.FileLaws.{Answer, gave, same_found}
+use Rattle.omf_format.specs.laws.BodyLaws.{found_by, none_at_end}
 use Rattle.link_meaning.specs.Dictionary.{long_bytes}
 use Rattle.lib_dict.specs.Parts.{Texts, TakesLong, TakesLast, HasParts}
 
@@ -37,16 +37,6 @@ took r new last at bytes (found ∷ founds) run ended t =
       run = subst (λ (m : Reader). HandsOut m founds last) (sym t.3) run.1;
     }
 
--- where none was taken, no LCONST comes first
-not_long : (r new last : Reader) (found : ℕ × Record) (founds : List (ℕ × Record)) (bytes : List ℕ) → HandsOut r (found ∷ founds) last → TakesLong r new None → long_bytes found.1 ≡ Some bytes → ⊥
-not_long r new last found founds bytes run none long =
-    let no : long_bytes found.1 ≡ None = none found run.0 in
-    let clash : some bytes ≡ None = sym long ∙ no in
-    cc
-  where
-    some : List ℕ → Option (List ℕ)
-    some x = Some x
-
 abbrev nothing : Answer
 nothing = Ok None
 
@@ -55,26 +45,6 @@ tail_of [] = []
 tail_of (x ∷ xs) = xs
 
 -- ---- the ends of the function that takes them
-
-pub none_first : (r new last : Reader) (founds : List (ℕ × Record)) → HandsOut r founds last → TakesLong r new None → (parts : Texts) → HasParts parts founds → ⊥
-none_first r new last founds run none parts has =
-    not_long r new last has.a (has.b ∷ has.c ∷ has.e ∷ []) parts.first (subst (λ (l : List (ℕ × Record)). HandsOut r l last) has.are run) none has.first
-
-pub none_second : (r r1 new last : Reader) (at : ℕ) (bytes : List ℕ) (founds : List (ℕ × Record)) → HandsOut r founds last → last.ended ≡ true → TakesLong r r1 (Some (at, bytes)) → TakesLong r1 new None
-    → (parts : Texts) → HasParts parts founds → ⊥
-none_second r r1 new last at bytes founds run ended one none parts has =
-    let t = took r r1 last at bytes founds run ended one in
-    let rest : t.rest ≡ has.b ∷ has.c ∷ has.e ∷ [] = ap tail_of (sym t.are ∙ has.are) in
-    not_long r1 new last has.b (has.c ∷ has.e ∷ []) parts.second (subst (λ (l : List (ℕ × Record)). HandsOut r1 l last) rest t.run) none has.second
-
-pub none_third : (r r1 r2 new last : Reader) (at1 at2 : ℕ) (bytes1 bytes2 : List ℕ) (founds : List (ℕ × Record)) → HandsOut r founds last → last.ended ≡ true
-    → TakesLong r r1 (Some (at1, bytes1)) → TakesLong r1 r2 (Some (at2, bytes2)) → TakesLong r2 new None → (parts : Texts) → HasParts parts founds → ⊥
-none_third r r1 r2 new last at1 at2 bytes1 bytes2 founds run ended one two none parts has =
-    let t = took r r1 last at1 bytes1 founds run ended one in
-    let rest : t.rest ≡ has.b ∷ has.c ∷ has.e ∷ [] = ap tail_of (sym t.are ∙ has.are) in
-    let u = took r1 r2 last at2 bytes2 t.rest t.run ended two in
-    let rest2 : u.rest ≡ has.c ∷ has.e ∷ [] = ap tail_of (sym u.are ∙ rest) in
-    not_long r2 new last has.c (has.e ∷ []) parts.third (subst (λ (l : List (ℕ × Record)). HandsOut r2 l last) rest2 u.run) none has.third
 
 pub has_parts : (r r1 r2 r3 last : Reader) (at1 at2 at3 : ℕ) (first second third : List ℕ) (founds : List (ℕ × Record)) → HandsOut r founds last → last.ended ≡ true
     → TakesLong r r1 (Some (at1, first)) → TakesLong r1 r2 (Some (at2, second)) → TakesLong r2 r3 (Some (at3, third)) → TakesLast r3 true

@@ -5,11 +5,11 @@ use Rattle.std.proofs.lemmas.Bool.{eq-eqb, ne_eqb}
 use Rattle.std.proofs.lemmas.List.{length-take, length-drop}
 use Rattle.omf_format.specs.Field.{◌>>=◌}
 use Rattle.omf_format.specs.Header.{Fields, form_of}
-use Rattle.omf_format.specs.HeaderLaws.{IsBytes}
+use Rattle.omf_format.specs.Number.{IsBytes}
 use Rattle.omf_format.specs.Record.{Record}
 use Rattle.omf_format.specs.File.{Segment, body_reader, IsFile, segment_at}
-use Rattle.omf_format.specs.FileLaws.{header_lies, segments_fit}
-use Rattle.omf_format.specs.BodyLaws.{body_fits}
+use Rattle.omf_format.specs.laws.FileLaws.{header_lies, segments_fit}
+use Rattle.omf_format.specs.laws.BodyLaws.{body_fits}
 use Rattle.link_meaning.specs.Member.{Row, is_library}
 use Rattle.link_meaning.specs.Dictionary.{long_bytes, file_numbers, names_from, numbered_from, or_false, rows_from, rows_in, rows_of_records, rows_of}
 use Rattle.lib_dict.specs.declared.fault.DictFault.{DictFault}

@@ -1,10 +1,10 @@
 -- A dictionary's rows take twelve bytes each of the file.
-use Rattle.std.proofs.Common.{◌≡◌, ℕ, ◌+◌, ◌*◌, ◌≤◌, List, [], ◌∷◌, ◌++◌, length, drop, map, Some, Ok, sym, ap, subst, ◌∙◌, arith}
+use Rattle.std.proofs.Common.{◌≡◌, ℕ, ◌*◌, ◌≤◌, List, [], ◌∷◌, length, drop, map, Some, ap, subst, arith}
 use Rattle.std.proofs.lemmas.List.{length-append, length-map}
-use Rattle.omf_format.specs.HeaderLaws.{IsBytes}
+use Rattle.omf_format.specs.Number.{IsBytes}
 use Rattle.omf_format.specs.File.{Segment, body_reader, IsFile, segment_at}
-use Rattle.omf_format.specs.FileLaws.{header_lies}
-use Rattle.omf_format.specs.BodyLaws.{body_fits}
+use Rattle.omf_format.specs.laws.FileLaws.{header_lies}
+use Rattle.omf_format.specs.laws.BodyLaws.{body_fits}
 use Rattle.link_meaning.specs.Member.{Row}
 use Rattle.link_meaning.specs.Dictionary.{rows_in}
 use Rattle.lib_dict.specs.declared.dictionary.Row as declared

@@ -1,5 +1,5 @@
 -- The rows of the second record, as far as they were read.
-use Rattle.std.proofs.Common.{◌≡◌, ℕ, zero, suc, ◌+◌, ◌*◌, ◌/◌, ◌%◌, ◌<◌, ◌≤◌, List, [], ◌∷◌, ◌++◌, length, take, drop, map, Some, None, Result, Ok, Err, refl, sym, ap, ◌∙◌, append_assoc, arith}
+use Rattle.std.proofs.Common.{◌≡◌, ℕ, zero, suc, ◌+◌, ◌*◌, ◌<◌, ◌≤◌, List, [], ◌∷◌, ◌++◌, length, take, drop, map, Some, None, Result, Ok, Err, refl, sym, ap, ◌∙◌, append_assoc, arith}
 use Rattle.std.proofs.lemmas.List.{append-nil, length-drop, map-append, length-append}
 use Rattle.omf_format.specs.Field.{◌>>=◌}
 use Rattle.link_meaning.specs.Member.{Row}
@@ -30,21 +30,6 @@ pub record ReadRows (t : Tables) (start : ℕ) (second : List ℕ) (place : ℕ)
   pub found : List Row
   pub whole : rows_at t start second ≡ after_rows found (rows_left t n place rest)
   pub told : map seen_row rows ≡ map (told_row t.list.now) found
-
-pub rows_init : (t : Tables) (start : ℕ) (second : List ℕ) (rows : List declared.Row) → length second % 12 ≡ 0 → rows ≡ [] → ReadRows t start second start second rows
-rows_init t start second rows whole none = record {
-  n = length second / 12;
-  size = omega arith;
-  place' = refl;
-  count = omega (arith, ap length none);
-  found = [];
-  whole = by_answer (rows_at t start second);
-  told = ap (map seen_row) none;
-}
-  where
-    by_answer : (a : Answer) → a ≡ after_rows [] a
-    by_answer (Ok rows) = refl
-    by_answer (Err at) = refl
 
 rows_step : (t : Tables) (n at : ℕ) (rest : List ℕ) → rows_left t (suc n) at rest ≡ (row_in t at (take 12 rest) >>= λ row. rows_left t n (at + 12) (drop 12 rest) >>= λ rows. Ok (row ∷ rows))
 unfolding rows_from

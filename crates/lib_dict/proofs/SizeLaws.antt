@@ -9,7 +9,7 @@ use Rattle.byteorder.specs.Numbers.{length-bytes_low_first}
 use Rattle.omf_format.specs.Field.{written_layout}
 use Rattle.omf_format.specs.Header.{header_bytes}
 use Rattle.omf_format.specs.Record.{End, LongConst, spelling}
-use Rattle.omf_format.specs.WrittenHeader.{length-header}
+use Rattle.omf_format.specs.laws.WrittenHeaderLaws.{length-header}
 use Rattle.omf_format.specs.File.{Segment, AreSegments}
 use Rattle.lib_dict.specs.declared.member.Member.{Member}
 use Rattle.lib_dict.specs.Made.{given_file}

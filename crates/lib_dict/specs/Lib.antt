@@ -7,4 +7,3 @@ pub mod DictionaryLayout
 pub mod Made
 pub mod Sizes
 pub mod MadeReads
-pub mod MadeOnce

@@ -12,7 +12,7 @@ use Rattle.lib_dict.specs.declared.fault.LibCause.TheVariants.{Truncated, BadHea
 use Rattle.lib_dict.specs.declared.fault.LibFault.{LibFault}
 use Rattle.lib_dict.specs.declared.member.Member.{Member}
 use Rattle.lib_dict.specs.declared.members.Read.{Read}
-use Rattle.lib_dict.specs.Library.{Given, LibraryFile, is_dictionary, AreMembers, IsTooLong, HasDictionary, most_bytes, library_bytes}
+use Rattle.lib_dict.specs.Library.{Given, LibraryFile, is_dictionary, AreMembers, IsLibraryOf, IsTooLong, HasDictionary, most_bytes, library_bytes}
 
 -- a file that is given, by its name and its bytes
 abbrev pub given_file : Member → Given
@@ -64,6 +64,11 @@ ByCause Memory file long memory = memory
 -- no library is made of the files, for this reason, or memory ran out
 abbrev pub IsLibRefused : LibFault → List Given → Type 0
 IsLibRefused fault given = ByCause fault.cause (IsFirstMemberFault given fault) (IsTooLong given × IsNowhere fault.spot) (IsNowhere fault.spot)
+
+-- files of which a library is made are refused for want of memory alone
+abbrev pub MadeIsRefusedForMemoryAlone : Type 0
+MadeIsRefusedForMemoryAlone = (given : List Given) (bytes : List ℕ) (fault : LibFault)
+    → IsLibraryOf given bytes → IsLibRefused fault given → fault.cause ≡ Memory
 
 -- ---- on the way
 

@@ -1,7 +1,7 @@
 -- A library that is made is read.
 use Rattle.std.specs.Prelude.{◌≡◌, ◌≤◌, ℕ, List, length, drop}
 use Rattle.std.specs.List.{flat_map}
-use Rattle.omf_format.specs.HeaderLaws.{IsBytes}
+use Rattle.omf_format.specs.Number.{IsBytes}
 use Rattle.lib_dict.specs.declared.fault.DictFault.{DictFault}
 use Rattle.lib_dict.specs.declared.fault.DictFault.TheVariants as dict
 use Rattle.lib_dict.specs.Library.{LibraryRow, HasRows, Given, LibraryFile, dictionary_size, library_rows, IsLibraryOf}

@@ -3,7 +3,7 @@ use Rattle.std.specs.Prelude.{◌<◌, ◌^◌, ℕ, List, length}
 use Rattle.lib_dict.specs.declared.fault.DictFault.{DictFault}
 use Rattle.lib_dict.specs.declared.fault.DictFault.TheVariants as dict
 use Rattle.omf_format.specs.File.{Segment, IsFile, IsFirstFault}
-use Rattle.omf_format.specs.HeaderLaws.{IsBytes}
+use Rattle.omf_format.specs.Number.{IsBytes}
 use Rattle.lib_dict.specs.declared.dictionary.Row.{Row}
 use Rattle.lib_dict.specs.Library.{LibraryRow, IsNoLibrary, IsFalseAt}
 

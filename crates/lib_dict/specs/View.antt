@@ -1,7 +1,7 @@
 -- How the names that segments have for others are seen, record by record.
 use Rattle.std.specs.Prelude.{ℕ, Bool, not, List, map, Option, Some, None, ◌==◌, if◌then◌else◌}
 use Rattle.std.specs.List.{filter_map}
-use Rattle.omf_format.specs.Record.{Record, End, Const, LongConst, Align, Org, Space, Reloc, InterSeg, ShortReloc, ShortInterSeg, Super, Using, Strong, Label, Equate, Formula, Entry}
+use Rattle.omf_format.specs.Record.{Record, Label, Equate}
 use Rattle.lib_dict.specs.declared.listed.Outer.{Outer}
 use Rattle.lib_dict.specs.Library.{LibraryRow}
 
@@ -11,23 +11,9 @@ outer_row o = record { name = o.name.now; file = o.file; private = o.private; at
 
 -- the name that a record defines for others, and whether it is private
 abbrev pub outer_of : Record → Option (List ℕ × Bool)
-outer_of End = None
-outer_of (Const bytes) = None
-outer_of (LongConst bytes) = None
-outer_of (Align n) = None
-outer_of (Org n) = None
-outer_of (Space n) = None
-outer_of (Reloc count shift location offset) = None
-outer_of (InterSeg count shift location file segment offset) = None
-outer_of (ShortReloc count shift location offset) = None
-outer_of (ShortInterSeg count shift location segment offset) = None
-outer_of (Super form bytes) = None
-outer_of (Using name) = None
-outer_of (Strong name) = None
 outer_of (Label global name size form private) = if global then Some (name, not (private == 0)) else None
 outer_of (Equate global name size form private expr) = if global then Some (name, not (private == 0)) else None
-outer_of (Formula code count n expr) = None
-outer_of (Entry segment offset name) = None
+outer_of _ = None
 
 -- the row of such a name, in a segment of that file that starts there
 abbrev pub row_of_name : ℕ → ℕ → List ℕ × Bool → LibraryRow

@@ -19,7 +19,7 @@ pub struct Row<'a> {
 }
 
 /// The dictionary of a library. Contracts see the list of its rows.
-#[derive(Debug, Drop)]
+#[derive(Drop)]
 pub struct Dictionary<'a> {
     pub(crate) rows: Vec<Row<'a>>,
 }

@@ -1,19 +1,18 @@
 //! What a library's segments define for others, to be looked up by row.
 
-ghost use Rattle.std.specs.Prelude.{◌≡◌, map, IfOk};
+ghost use Rattle.std.specs.Prelude.{◌≡◌, ◌+◌, ◌<◌, ◌^◌, length, map, IfOk};
 ghost use Rattle.std.specs.List.{list_any};
 ghost use Rattle.lib_dict.specs.View.{outer_row};
-ghost use Rattle.lib_dict.specs.Tables.{same_row, HoldsRows};
+ghost use Rattle.lib_dict.specs.Tables.{same_row, HoldsRows, behind_rows};
 
 use crate::listed::Outer;
+use crate::names_behind::names_behind;
 use indexmap::IndexSet;
+use omf_records::SegmentList;
 use std::alloc::{AllocError, Global};
 
 /// These rows, each once.
-pub fn known_rows<'a>(
-    alloc: Global,
-    rows: &Vec<Outer<'a>>,
-) -> Result<IndexSet<Outer<'a>>, AllocError>
+fn known_rows<'a>(alloc: Global, rows: &Vec<Outer<'a>>) -> Result<IndexSet<Outer<'a>>, AllocError>
     ensures { IfOk result (λ known. HoldsRows (map outer_row known.keys) (map outer_row rows.now.items)) }
 {
     let mut known = IndexSet::with_capacity(alloc, rows.len())?;
@@ -21,6 +20,20 @@ pub fn known_rows<'a>(
         known.insert(*row)?;
     }
     Ok(known)
+}
+
+/// What a library's segments behind its dictionary define for others.
+pub fn known_in<'a>(
+    alloc: Global,
+    list: &'a SegmentList<'a>,
+) -> Result<IndexSet<Outer<'a>>, AllocError>
+    requires { length list.now + 2 < 2 ^ 32 }
+    ensures { IfOk result (λ known. HoldsRows (map outer_row known.keys) (behind_rows list.now)) }
+{
+    let rows = names_behind(alloc, list)?;
+    let known = known_rows(alloc, &rows);
+    drop(rows);
+    known
 }
 
 /// The row is among those.

@@ -1,6 +1,7 @@
 //! Laws of dictionaries. The functions do nothing: they are there for their contracts.
 
 ghost use Rattle.lib_dict.specs.DictionaryLayout.{RowsAreLaidOut, LaidOutIsRead};
+ghost use Rattle.lib_dict.specs.Made.{MadeIsRefusedForMemoryAlone};
 ghost use Rattle.lib_dict.specs.MadeReads.{MadeIsRead};
 
 /// What is read of a library's dictionary is laid out there, and what is laid out is read: the first segment has three LCONST
@@ -15,4 +16,9 @@ pub fn rows_are_laid_out()
 /// bytes stand unchanged.
 pub fn made_is_read()
     ensures { MadeIsRead }
+{}
+
+/// Files of which a library is made are refused for want of memory alone.
+pub fn made_is_refused_for_memory_alone()
+    ensures { MadeIsRefusedForMemoryAlone }
 {}

@@ -21,7 +21,7 @@ mod texts;
 
 pub use dictionary::{Dictionary, Row};
 pub use fault::{DictFault, LibCause, LibFault};
-pub use laws::{made_is_read, rows_are_laid_out};
+pub use laws::{made_is_read, made_is_refused_for_memory_alone, rows_are_laid_out};
 pub use making::make_library;
 pub use member::Member;
 pub use reading::{dictionary_of_list, read_dictionary};

@@ -53,7 +53,8 @@ fn fault_in(cause: LibCause, file: u32, fault: FileFault) -> LibFault
 
 /// A file's fault as one of the library's, in the file with this number.
 fn file_fault(fault: FileFault, file: u32) -> LibFault
-    ensures { FaultIn fault file result }
+    ensures told { FaultIn fault file result }
+    ensures memory { result.cause ≡ LibCause.Memory → fault.cause ≡ FileCause.Memory }
 {
     match fault.cause {
         FileCause::Truncated => fault_in(LibCause::Truncated, file, fault),

@@ -9,7 +9,7 @@ ghost use Rattle.lib_dict.specs.Parts.{seen_parts, TakesLong, TakesLast, ArePart
 use omf_records::{Rec, Records};
 
 /// What stands in the three records.
-#[derive(Clone, Copy, Debug)]
+#[derive(Clone, Copy)]
 pub struct Parts<'a> {
     /// File numbers with names.
     pub first: &'a [u8],

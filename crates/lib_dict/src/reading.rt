@@ -11,8 +11,8 @@ ghost use Rattle.lib_dict.specs.Tables.{IsInFile, AreRowsIn, IsRowFault, FaultOf
 
 use crate::dictionary::{Dictionary, Row};
 use crate::fault::DictFault;
-use crate::known::known_rows;
-use crate::names_behind::{DICTIONARY, names_behind};
+use crate::known::known_in;
+use crate::names_behind::DICTIONARY;
 use crate::parts::{Parts, parts_of};
 use crate::record_forms::{file_numbers, name_starts};
 use crate::rows::{ROW, Tables, rows_of};
@@ -22,7 +22,8 @@ use std::alloc::Global;
 
 /// A file's fault as one of its dictionary.
 fn file_fault(fault: FileFault) -> DictFault
-    ensures { FaultOf fault result }
+    ensures told { FaultOf fault result }
+    ensures memory { result ≡ DictFault.Memory → fault.cause ≡ FileCause.Memory }
 {
     match fault.cause {
         FileCause::Truncated => DictFault::File(fault),
@@ -53,14 +54,28 @@ fn rows_in<'a>(
         None => return Err(DictFault::BadLibrary(start)),
     };
     if parts.second.len() % ROW != 0 {
+        drop(numbers);
         return Err(DictFault::BadLibrary(start));
     }
-    let starts = match name_starts(alloc, parts.third)? {
-        Some(starts) => starts,
-        None => return Err(DictFault::BadLibrary(start)),
+    let starts = match name_starts(alloc, parts.third) {
+        Ok(Some(starts)) => starts,
+        Ok(None) => {
+            drop(numbers);
+            return Err(DictFault::BadLibrary(start));
+        }
+        Err(_) => {
+            drop(numbers);
+            return Err(DictFault::Memory);
+        }
     };
-    let outers = names_behind(alloc, &*list)?;
-    let known = known_rows(alloc, &outers)?;
+    let known = match known_in(alloc, &*list) {
+        Ok(known) => known,
+        Err(_) => {
+            drop(numbers);
+            drop(starts);
+            return Err(DictFault::Memory);
+        }
+    };
     let tables = Tables {
         first: parts.first,
         numbers,
@@ -69,7 +84,9 @@ fn rows_in<'a>(
         list: &*list,
         known,
     };
-    rows_of(alloc, &tables, parts.second, parts.at + 5)
+    let rows = rows_of(alloc, &tables, parts.second, parts.at + 5);
+    drop(tables);
+    rows
 }
 
 /// The dictionary of a library whose segments were read. `NotLibrary` and `BadLibrary` come as of `read_dictionary`.

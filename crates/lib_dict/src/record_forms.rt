@@ -1,34 +1,11 @@
 //! The forms of a dictionary's first and third records.
 
 ghost use Rattle.std.specs.Prelude.{◌≡◌, ◌<◌, ◌≤◌, ◌+◌, ◌^◌, length, option_map, drop, IfOk};
-ghost use Rattle.omf_format.specs.Number as numbers;
 ghost use Rattle.lib_dict.specs.Tables.{AreNumbers, AreStarts};
 
 use indexmap::IndexSet;
-use omf_base::number_at;
+use omf_base::{behind, number};
 use std::alloc::{AllocError, Global};
-
-/// The number of so many bytes, 1 to 4, at a displacement.
-pub fn number(bytes: &[u8], at: usize, width: usize) -> u32
-    requires some { 1 ≤ width }
-    requires few { width ≤ 4 }
-    requires inside { at + width ≤ length bytes.now }
-    ensures value { result ≡ numbers.number_at width at bytes.now }
-    ensures fits { result < 256 ^ width }
-{
-    match number_at(bytes, at, width) {
-        Some(number) => number,
-        None => unreachable!(),
-    }
-}
-
-/// The bytes from one displacement on.
-pub fn behind(bytes: &[u8], at: usize) -> &[u8]
-    requires { at ≤ length bytes.now }
-    ensures { result.now ≡ drop at bytes.now }
-{
-    &bytes[at..]
-}
 
 /// The file numbers of the first record, where it has its form: each with a name behind it, and 0 at the very end.
 pub fn file_numbers(alloc: Global, bytes: &[u8]) -> Result<Option<IndexSet<u16>>, AllocError>

@@ -10,8 +10,8 @@ use crate::dictionary::Row;
 use crate::fault::DictFault;
 use crate::known::is_known;
 use crate::listed::Outer;
-use crate::record_forms::{behind, number};
 use indexmap::IndexSet;
+use omf_base::{behind, front, number};
 use omf_records::SegmentList;
 use std::alloc::Global;
 
@@ -39,14 +39,6 @@ fn name_at(third: &[u8], at: usize) -> &[u8]
     let size = number(third, at, 1) as usize;
     let name = behind(third, at + 1);
     &name[..size]
-}
-
-/// A row's first bytes.
-fn front(bytes: &[u8]) -> &[u8]
-    requires { 12 ≤ length bytes.now }
-    ensures { result.now ≡ take 12 bytes.now }
-{
-    &bytes[..ROW]
 }
 
 /// The row of these 12 bytes, where the library bears it out: a name of the third record starts where it says, the first record
@@ -102,7 +94,7 @@ pub fn rows_of<'a>(
     let mut rest = second;
     let mut place = at;
     'rows: while rest.len() >= ROW {
-        match row_of(tables, front(rest)) {
+        match row_of(tables, front(rest, ROW)) {
             Some(row) => rows.push(row)?,
             None => return Err(DictFault::BadLibrary(place)),
         }

@@ -1,8 +1,8 @@
 -- The definition with a number among all.
-use Rattle.std.proofs.Common.{◌≡◌, ◌⊎◌, inl, inr, ℕ, zero, suc, ◌+◌, ◌<◌, ◌≤◌, Bool, List, [], ◌∷◌, ◌++◌, length, map, Option, Some, None, refl, sym, ap, subst, ◌∙◌, append_assoc, append-nil, arith}
+use Rattle.std.proofs.Common.{◌≡◌, ◌⊎◌, inl, inr, ℕ, zero, suc, ◌+◌, ◌<◌, ◌≤◌, List, [], ◌∷◌, ◌++◌, length, map, Some, None, refl, sym, ap, subst, ◌∙◌, append_assoc, append-nil, arith}
 use Rattle.std.specs.Prelude.{slice_get, option_map}
 use Rattle.std.specs.List.{flat_map}
-use Rattle.std.proofs.lemmas.List.{length-append, length-map, map-append}
+use Rattle.std.proofs.lemmas.List.{length-append, length-map}
 use Rattle.std.proofs.lemmas.List.Concat.{flat_map-cons}
 use Rattle.omf_format.specs.Record.{Record}
 use Rattle.omf_format.specs.Reading.{Reader}
@@ -153,9 +153,6 @@ entries-append place (m ∷ front) back =
     ap (λ (l : List Found). founds place m (defined_in m.segment) ++ l) (entries-append (place + 1) front back)
     ∙ sym (append_assoc (founds place m (defined_in m.segment)) (entries_from defined_in (place + 1) front) (entries_from defined_in (place + 1 + length front) back))
     ∙ ap (λ (n : ℕ). (founds place m (defined_in m.segment) ++ entries_from defined_in (place + 1) front) ++ entries_from defined_in n back) next
-
-pub counts_none : (list : List Member) (number : ℕ) → CountsTo list number 0 number
-counts_none list number = record { front = []; back = list; parts = refl; place' = refl; count = omega arith }
 
 member_size : (place : ℕ) (m : Member) → length (entries_from defined_in place (m ∷ [])) ≡ length (defined_in m.segment)
 member_size place m = ap length (append-nil (founds place m (defined_in m.segment))) ∙ length-map (defined_in m.segment) (λ (d : Definition). record { place = place; member = m; definition = d })

@@ -1,20 +1,19 @@
 -- What the phases behind layout answer.
-use Rattle.std.proofs.Common.{◌≡◌, inl, inr, ℕ, ◌+◌, ◌≤◌, ◌<◌, List, [], ◌∷◌, ◌++◌, length, Ok, None, refl, sym, ap, subst, ◌∙◌, arith}
+use Rattle.std.proofs.Common.{◌≡◌, inl, inr, ℕ, ◌+◌, ◌≤◌, ◌<◌, List, [], ◌∷◌, ◌++◌, length, Ok, None, refl, sym, ap, subst, arith}
 use Rattle.link_meaning.specs.declared.fault.LinkCause.TheVariants.{FileTooLong}
 use Rattle.link_meaning.specs.declared.fault.LinkFault.{LinkFault}
-use Rattle.link_meaning.specs.First.{IsIn, IsFirst, HasNone}
-use Rattle.link_meaning.specs.FirstLaws.{none_yet, none_more}
+use Rattle.link_meaning.specs.First.{IsIn, IsFirst}
+use Rattle.link_meaning.specs.laws.FirstLaws.{none_yet, none_more}
 use Rattle.link_meaning.specs.Member.{Member}
 use Rattle.link_meaning.specs.Search.{Found}
 use Rattle.link_meaning.specs.Rings.{equates}
 use Rattle.link_meaning.specs.LinkValues.{Told, IsTable}
-use Rattle.link_meaning.specs.TableLaws.{one_table}
+use Rattle.link_meaning.specs.laws.TableLaws.{one_table}
 use Rattle.link_meaning.specs.LinkedCells.{items}
 use Rattle.link_meaning.specs.LinkFaults.{nowhere}
 use Rattle.link_meaning.specs.LinkWritten.{AreMade, start, written_file}
-use Rattle.link_meaning.specs.EmitFaults.{HasRingFault, HasValueFault, HasSizeFault, most_bytes, EmitPhase, Rings, Values, Size, emit_phases, HasEmitFault, IsFirstEmitFault, IsEmitAnswer}
-use Rattle.link_meaning.specs.EmitFaultLaws.{made_sound}
-use Rattle.link_resolve.specs.Reading.{memory_fault}
+use Rattle.link_meaning.specs.EmitFaults.{HasRingFault, HasValueFault, most_bytes, Rings, Values, Size, HasEmitFault, IsEmitAnswer}
+use Rattle.link_meaning.specs.laws.EmitFaultLaws.{made_sound}
 use Rattle.link_emit.specs.Answers.{IsEmitRefused}
 use Rattle.link_emit.specs.Equates.{IsRingRefused}
 use Rattle.link_emit.specs.Walks.{IsValueRefused}

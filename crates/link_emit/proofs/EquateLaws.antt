@@ -1,5 +1,5 @@
 -- The values of equates, as they become known.
-use Rattle.std.proofs.Common.{◌≡◌, ◌⊎◌, inl, inr, ℕ, zero, suc, ◌+◌, ◌^◌, ◌<◌, ◌≤◌, Bool, true, false, cond, List, [], ◌∷◌, ◌++◌, length, map, take, drop, Option, Some, None, Result, Ok, Err, refl, sym, ap, subst, ◌∙◌, arith}
+use Rattle.std.proofs.Common.{◌≡◌, ◌⊎◌, inl, inr, ℕ, zero, suc, ◌+◌, ◌^◌, ◌<◌, ◌≤◌, Bool, true, false, cond, List, [], ◌∷◌, ◌++◌, length, take, Option, Some, None, Result, Ok, Err, refl, sym, ap, subst, ◌∙◌, arith}
 use Rattle.std.specs.Prelude.{slice_get, slice_set, option_map, filter}
 use Rattle.std.specs.Borrow.{Bor}
 use Rattle.std.proofs.lemmas.Bool.{cases_lt}
@@ -12,28 +12,27 @@ use Rattle.link_resolve.specs.Linked.{member_at}
 use Rattle.link_meaning.specs.declared.fault.LinkCause.TheVariants.{Circular}
 use Rattle.link_meaning.specs.declared.fault.LinkFault.{LinkFault}
 use Rattle.link_meaning.specs.LinkFaults.{spot_in}
-use Rattle.link_meaning.specs.First.{IsIn, IsFirst, HasNone}
-use Rattle.link_meaning.specs.MemberLists.{in_filter, filter_in}
+use Rattle.link_meaning.specs.First.{IsIn}
+use Rattle.link_meaning.specs.laws.MemberLists.{in_filter, filter_in}
 use Rattle.link_meaning.specs.Member.{Member}
 use Rattle.link_meaning.specs.Search.{Found, entries}
 use Rattle.link_meaning.specs.Rings.{has_expr, is_equate, equates, LeadsTo, Path, Last, Through, IsCircular}
-use Rattle.link_meaning.specs.LinkValues.{Told, told, place_value, value_in, equate_value, IsTable}
-use Rattle.link_meaning.specs.TableLaws.{by_rings}
+use Rattle.link_meaning.specs.LinkValues.{Told, told, place_value, value_in, equate_value}
+use Rattle.link_meaning.specs.laws.TableLaws.{by_rings}
 use Rattle.link_meaning.specs.EquateValues.{HasValue, ByOthers, TellValues}
-use Rattle.link_meaning.specs.EquateValueLaws.{are_table}
-use Rattle.link_meaning.specs.EquatePlaces.{apart, passes_filter}
-use Rattle.link_meaning.specs.EmitFaults.{HasRingFault}
+use Rattle.link_meaning.specs.laws.EquateValueLaws.{are_table}
+use Rattle.link_meaning.specs.laws.EquatePlaces.{apart}
 use Rattle.link_resolve.specs.declared.definitions.Definition as kept
 use Rattle.link_resolve.specs.Definitions.{ToldDefinition, definition_of, told_definition}
 use Rattle.link_resolve.specs.Reading.{memory_fault}
 use Rattle.rings.specs.Graphs as rings
-use Rattle.rings.specs.Graphs.{at_or, row_at, Way}
+use Rattle.rings.specs.Graphs.{row_at, Way}
 use Rattle.link_emit.specs.declared.slots.Slot.{Slot}
 use Rattle.link_emit.specs.declared.slots.Slot.TheVariants.{Open, Done, Failed}
 use Rattle.link_resolve.specs.OfFiles.{IsOfFiles}
 use Rattle.link_emit.specs.Slots.{answer_of, row_of, rows_of, AreSlots, AreOnce}
 use Rattle.link_emit.specs.declared.seat.Seat.{Seat}
-use Rattle.link_emit.specs.Seats.{AreKnown, IsSeat, SeatOf}
+use Rattle.link_emit.specs.Seats.{IsSeat, SeatOf}
 use Rattle.link_emit.specs.Circulars.{IsCircularAt}
 use Rattle.link_emit.specs.Equates.{IsFirstSlot, AreFirstSlots, IsOpen, AreTrue, IsRow, AreRows, AreSettled, open_count, with_slot, AreValues, IsRingRefused}
 use Rattle.link_emit.proofs.SlotLaws.{or_open, told_rows, has_slot}
@@ -59,9 +58,6 @@ text_of d f text is same = sym (ap (λ (t : ToldDefinition). t.expr) same) ∙ a
 pub no_text : (d : kept.Definition) (f : Found) → d.expr ≡ None → definition_of d ≡ told_definition f → f.definition.expr ≡ None
 no_text d f is same = sym (ap (λ (t : ToldDefinition). t.expr) same) ∙ ap (option_map (λ (x : Bor (List ℕ)). x.now)) is
 
-pub first_equate : (list : List Member) (f : Found) (text : List ℕ) → f.definition.expr ≡ Some text → IsFirstSlot list f Open
-first_equate list f text is = record { label = λ none. absurd (true_false (sym (ap has_expr is) ∙ none)); equate = λ e. refl }
-
 pub first_label : (list : List Member) (f : Found) (v : Value) → f.definition.expr ≡ None → v ≡ place_value list f.place f.member f.definition.place → IsFirstSlot list f (Done v)
 first_label list f v is value = record { label = λ none. ap (λ (x : Value). Done x) value; equate = λ e. absurd (true_false (sym e ∙ ap has_expr is)) }
 
@@ -76,12 +72,6 @@ firsts_more list (g ∷ fs) [] f slot are at is = (subst (λ (x : Found). IsFirs
     none (x ∷ xs) = tt
 firsts_more list [] (s ∷ slots) f slot are at is = absurd cc
 firsts_more list (g ∷ fs) (s ∷ slots) f slot are at is = (are.0, firsts_more list fs slots f slot are.1 at is)
-
-pub firsts_all : (list : List Member) (fs : List Found) (slots : List Slot) → AreFirstSlots list (take (length slots) fs) slots → slice_get fs (length slots) ≡ None → AreFirstSlots list fs slots
-firsts_all list [] [] are none = tt
-firsts_all list (g ∷ fs) [] are none = absurd cc
-firsts_all list [] (s ∷ slots) are none = are
-firsts_all list (g ∷ fs) (s ∷ slots) are none = (are.0, firsts_all list fs slots are.1 none)
 
 pub first_at : (list : List Member) (fs : List Found) (slots : List Slot) (k : ℕ) (f : Found) (slot : Slot) → AreFirstSlots list fs slots → slice_get fs k ≡ Some f → slice_get slots k ≡ Some slot → IsFirstSlot list f slot
 first_at list [] slots k f slot are at there = absurd cc
@@ -211,12 +201,6 @@ rows_more list (g ∷ fs) [] f row are at is = (subst (λ (x : Found). IsRow lis
     none (x ∷ xs) = tt
 rows_more list [] (r ∷ rows) f row are at is = absurd cc
 rows_more list (g ∷ fs) (r ∷ rows) f row are at is = (are.0, rows_more list fs rows f row are.1 at is)
-
-pub rows_all : (list : List Member) (fs : List Found) (rows : List (List ℕ)) → AreRows list (take (length rows) fs) rows → slice_get fs (length rows) ≡ None → AreRows list fs rows
-rows_all list [] [] are none = tt
-rows_all list (g ∷ fs) [] are none = absurd cc
-rows_all list [] (r ∷ rows) are none = are
-rows_all list (g ∷ fs) (r ∷ rows) are none = (are.0, rows_all list fs rows are.1 none)
 
 -- ---- the value of an equate whose leads have theirs
 
@@ -398,13 +382,6 @@ told_there list k d e = by_found (slice_get (entries list) k) refl e
     by_found : (o : Option Found) → slice_get (entries list) k ≡ o → Some d ≡ option_map told_definition o → (f : Found) × (slice_get (entries list) k ≡ Some f) × (d ≡ told_definition f)
     by_found None is e = absurd cc
     by_found (Some f) is e = (f, is, same d (told_definition f) e)
-
-pub gone_there : (list : List Member) (k : ℕ) → None ≡ option_map told_definition (slice_get (entries list) k) → slice_get (entries list) k ≡ None
-gone_there list k e = by_found (slice_get (entries list) k) e
-  where
-    by_found : (o : Option Found) → None ≡ option_map told_definition o → o ≡ None
-    by_found None e = refl
-    by_found (Some f) e = absurd cc
 
 module _ (list : List Member) (of : IsOfFiles list) (k : ℕ) (f : Found) (at : slice_get (entries list) k ≡ Some f) (place : ℕ) (place_is : place ≡ f.place) where
   there : member_at list place ≡ Some f.member

@@ -1,5 +1,5 @@
 -- What is known of the linked list of resolved files.
-use Rattle.std.proofs.Common.{◌≡◌, ◌⊎◌, inl, inr, ℕ, zero, suc, ◌+◌, ◌-◌, ◌^◌, ◌<◌, ◌≤◌, Bool, true, false, eqb, List, [], ◌∷◌, ◌++◌, length, map, Option, Some, None, refl, sym, ap, subst, ◌∙◌, arith}
+use Rattle.std.proofs.Common.{◌≡◌, ◌⊎◌, inl, inr, ℕ, zero, suc, ◌+◌, ◌^◌, ◌<◌, ◌≤◌, Bool, true, false, eqb, List, [], ◌∷◌, ◌++◌, length, map, Option, Some, None, refl, sym, ap, subst, ◌∙◌, arith}
 use Rattle.std.specs.Prelude.{slice_get, cond, nat_le}
 use Rattle.std.specs.List.{flat_map, AllByRecursion}
 use Rattle.std.specs.Option.{option_or}
@@ -12,26 +12,25 @@ use Rattle.omf_format.specs.File.{Segment}
 use Rattle.link_meaning.specs.declared.fault.LinkCause.{LinkCause}
 use Rattle.link_meaning.specs.declared.fault.LinkFault.{LinkFault}
 use Rattle.link_meaning.specs.declared.search.Want.{Want}
-use Rattle.link_meaning.specs.declared.search.Want.TheVariants.{Data, One, Any}
-use Rattle.link_meaning.specs.First.{IsIn, IsFirst, HasNone, first_some}
-use Rattle.link_meaning.specs.FirstLaws.{first_some-first}
+use Rattle.link_meaning.specs.declared.search.Want.TheVariants.{One, Any}
+use Rattle.link_meaning.specs.First.{IsIn, IsFirst, first_some}
+use Rattle.link_meaning.specs.laws.FirstLaws.{first_some-first}
 use Rattle.link_meaning.specs.Sizes.{Located, size_at, located_from, body_size}
 use Rattle.link_meaning.specs.Member.{Member}
-use Rattle.link_meaning.specs.Defines.{Definition, defined_by, defined_in}
+use Rattle.link_meaning.specs.Defines.{Definition, defined_by}
 use Rattle.link_meaning.specs.Terms.{asks_value}
-use Rattle.link_meaning.specs.Uses.{Use, used_by_term, used_in_text, used_by, uses_of}
+use Rattle.link_meaning.specs.Uses.{Use, used_by_term, used_by, uses_of}
 use Rattle.link_meaning.specs.Search.{Found, entries, finds}
 use Rattle.link_meaning.specs.LinkedList.{Asked, asked_from, asked, found_for}
-use Rattle.link_meaning.specs.Layout.{load_names, load_length, load_of, offset_of}
-use Rattle.link_meaning.specs.Rings.{has_expr, is_equate}
+use Rattle.link_meaning.specs.Layout.{load_names, offset_of}
+use Rattle.link_meaning.specs.Rings.{has_expr}
 use Rattle.link_meaning.specs.LinkValues.{place_value}
-use Rattle.link_meaning.specs.LinkFaults.{use_cause, HasUseFault, spot_in, phases, Names, Reading, Objects, Layout, IsResolved}
-use Rattle.link_meaning.specs.MadeLaws.{FitsPatch}
-use Rattle.link_meaning.specs.PlaceFits.{IsPlaceIn, place_fits, entry_there, offset-le, short_load, name_there, in_parts, in-append, of_located}
-use Rattle.link_meaning.specs.LinkWrittenLaws.{few_loads}
-use Rattle.link_meaning.specs.ReadMembers.{IsRead, members_read, read_size, read_records}
-use Rattle.link_meaning.specs.EquatePlaces.{in_records, of_record, in_entries_is}
-use Rattle.link_meaning.specs.EquateOrder.{one_number}
+use Rattle.link_meaning.specs.LinkFaults.{use_cause, HasUseFault, spot_in, Names, Reading, Objects, Layout}
+use Rattle.link_meaning.specs.laws.PlaceFits.{IsPlaceIn, place_fits, entry_there, offset-le, short_load, name_there, in_parts, in-append}
+use Rattle.link_meaning.specs.laws.LinkWrittenLaws.{few_loads}
+use Rattle.link_meaning.specs.laws.ReadMembers.{IsRead, members_read, read_size, read_records}
+use Rattle.link_meaning.specs.laws.EquatePlaces.{in_records, of_record, in_entries_is}
+use Rattle.link_meaning.specs.laws.EquateOrder.{one_number}
 use Rattle.link_resolve.specs.Linked.{member_at}
 use Rattle.link_resolve.specs.OfFiles.{IsOfFiles}
 use Rattle.link_emit.specs.Slots.{AreOnce}
@@ -70,18 +69,6 @@ parts_there list front m back parts =
 
 pub place_there : (list : List Member) (place : ℕ) (m : Member) (at : ℕ) → IsPlaceIn list place m at → member_at list place ≡ Some m
 place_there list place m at is = ap (member_at list) is.number ∙ parts_there list is.front m is.back is.parts
-
--- a member that is there stands between others
-split_at : (list : List Member) (k : ℕ) (m : Member) → slice_get list k ≡ Some m → (front : List Member) × (back : List Member) × (list ≡ front ++ m ∷ back) × (k ≡ length front)
-split_at [] k m e = absurd cc
-split_at (o ∷ list) zero m e = let same : o ≡ m = cc in ([], list, ap (λ (x : Member). x ∷ list) same, refl)
-split_at (o ∷ list) (suc k) m e =
-    let rest = split_at list k m e in
-    (o ∷ rest.0, rest.1, ap (λ (l : List Member). o ∷ l) rest.2, ap suc rest.3)
-
-pub there_parts : (list : List Member) (place : ℕ) (m : Member) → member_at list place ≡ Some m → (front : List Member) × (back : List Member) × (list ≡ front ++ m ∷ back) × (place ≡ length front + 1)
-there_parts list zero m e = absurd cc
-there_parts list (suc k) m e = let s = split_at list k m e in (s.0, s.1, s.2, omega (arith, s.3))
 
 -- ---- definitions
 
@@ -171,9 +158,6 @@ spelled_of list of k f text at e =
     (all_in (λ (found : ℕ × Record). IsRecord (layout_of s.fields.version s.fields.lab_len) found.1) s.records _ (read_records s read) r.among).2
 
 -- ---- names that are asked
-
-abbrev nothing : Option LinkCause
-nothing = None
 
 abbrev why : LinkCause → Option LinkCause
 why cause = Some cause

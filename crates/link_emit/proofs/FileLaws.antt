@@ -10,7 +10,7 @@ use Rattle.load_meaning.specs.Cells.{Byte, Patch}
 use Rattle.load_meaning.specs.Table.{file_entry, table_bytes}
 use Rattle.load_meaning.specs.WrittenBody.{AreWritten}
 use Rattle.load_meaning.specs.WrittenFile.{Image, image_text, file_text, table_fields, table_image}
-use Rattle.load_meaning.specs.WrittenTableLaws.{length-table_bytes}
+use Rattle.load_meaning.specs.laws.WrittenTableLaws.{length-table_bytes}
 use Rattle.link_meaning.specs.LinkWritten.{byte_under, patches_of_cells, table_images}
 use Rattle.omf_cells.specs.WrittenParts.{seen}
 use Rattle.link_emit.specs.Holding.{Holding}

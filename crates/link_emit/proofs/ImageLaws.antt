@@ -1,21 +1,19 @@
 -- A header, a body and END are the text of a load segment.
-use Rattle.std.proofs.Common.{◌≡◌, ℕ, zero, suc, ◌+◌, ◌<◌, ◌≤◌, List, [], ◌∷◌, ◌++◌, length, map, take, drop, replicate, Option, Some, None, Result, Ok, Err, refl, sym, ap, subst, ◌∙◌, append_assoc, arith}
+use Rattle.std.proofs.Common.{◌≡◌, ℕ, zero, suc, ◌+◌, ◌<◌, ◌≤◌, List, [], ◌∷◌, ◌++◌, length, take, drop, replicate, Some, Result, Ok, Err, refl, sym, ap, subst, ◌∙◌, append_assoc, arith}
 use Rattle.std.specs.Prelude.{OnOk, slice_get}
 use Rattle.std.specs.List.{flat_map}
 use Rattle.std.proofs.Math.Seq.{take-append_seam, drop-append_seam}
 use Rattle.std.proofs.lemmas.List.{length-append, length-drop, length-replicate, append-nil}
 use Rattle.std.proofs.lemmas.List.Concat.{flat_map-cons}
 use Rattle.omf_format.specs.Header.{Fields, header_bytes, IsWritable}
-use Rattle.omf_format.specs.WrittenHeader.{length-header}
+use Rattle.omf_format.specs.laws.WrittenHeaderLaws.{length-header}
 use Rattle.omf_format.specs.Record.{spelling}
 use Rattle.load_meaning.specs.Cells.{Patch}
 use Rattle.load_meaning.specs.WrittenBody.{AreWritten, zeros_behind, written_cells, body_text}
-use Rattle.load_meaning.specs.StoredLaws.{zeros-le, cells_size}
+use Rattle.load_meaning.specs.laws.StoredLaws.{zeros-le, cells_size}
 use Rattle.load_meaning.specs.WrittenFile.{Image, image_body, image_text, file_text}
 use Rattle.omf_header.specs.View.{fields}
 use Rattle.omf_header.specs.declared.header.Header.{Header}
-use Rattle.omf_cells.specs.declared.written.Patch as kept
-use Rattle.omf_cells.specs.WrittenParts.{seen}
 use Rattle.link_emit.specs.Holding.{Holding}
 use Rattle.link_emit.specs.Images.{with_space, image_in, images_in, IsReady, AreReady}
 
@@ -56,26 +54,7 @@ pub put_whole : {A E : Type 0} → (r : Result A E) (f : Fields) (content : List
 put_whole (Ok x) f content patches front body out new b h more = more ∙ ap (λ (l : List ℕ). out ++ l) (text_is f content patches front body b h)
 put_whole (Err e) f content patches front body out new b h more = tt
 
-pub whole_size : (f : Fields) (content : List ℕ) (patches : List Patch) (front body : List ℕ) → body ≡ body_text f.seg_num content patches
-    → front ≡ header_bytes (with_space f (zeros_behind (written_cells content patches))) (length body + 1) → length (image_text (image f content patches)) ≡ length front + (length body + 1)
-whole_size f content patches front body b h =
-    ap length (sym (text_is f content patches front body b h)) ∙ omega (arith, length-append front (body ++ 0 ∷ []), length-append body (0 ∷ []))
-
 -- ---- what is lent stands for what is held
-
-pub zeros_is : (zeros : ℕ) (content bytes : List ℕ) (patches items : List kept.Patch) → zeros ≡ zeros_behind (written_cells bytes (map seen items)) → bytes ≡ content → items ≡ patches
-    → zeros ≡ zeros_behind (written_cells content (map seen patches))
-zeros_is zeros content bytes patches items is same over =
-    is ∙ ap (λ (l : List ℕ). zeros_behind (written_cells l (map seen items))) same ∙ ap (λ (l : List kept.Patch). zeros_behind (written_cells content (map seen l))) over
-
-pub body_is : (own : ℕ) (body content bytes : List ℕ) (patches items : List kept.Patch) → body ≡ body_text own bytes (map seen items) → bytes ≡ content → items ≡ patches
-    → body ≡ body_text own content (map seen patches)
-body_is own body content bytes patches items is same over =
-    is ∙ ap (λ (l : List ℕ). body_text own l (map seen items)) same ∙ ap (λ (l : List kept.Patch). body_text own content (map seen l)) over
-
-pub front_is : (f : Fields) (front body text : List ℕ) (zeros other : ℕ) → front ≡ header_bytes (with_space f zeros) (length body + 1) → zeros ≡ other → text ≡ body → front ≡ header_bytes (with_space f other) (length text + 1)
-front_is f front body text zeros other is same whole =
-    is ∙ ap (λ (z : ℕ). header_bytes (with_space f z) (length body + 1)) same ∙ ap (λ (l : List ℕ). header_bytes (with_space f other) (length l + 1)) (sym whole)
 
 -- ---- answers
 

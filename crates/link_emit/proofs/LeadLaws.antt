@@ -5,21 +5,20 @@ use Rattle.std.proofs.lemmas.Bool.{le-leb}
 use Rattle.std.specs.List.{flat_map}
 use Rattle.std.proofs.lemmas.List.Concat.{flat_map-cons}
 use Rattle.omf_format.specs.declared.value.Value.{Value}
-use Rattle.omf_format.specs.Expression.{Term, Operator, Location, Constant, Named, Offset, Tree, Leaf, Unary, Binary, terms_of, term_text, terms_text, placed_terms, terms_in, Spells}
-use Rattle.omf_format.specs.ExpressionLaws.{terms_are}
+use Rattle.omf_format.specs.Expression.{Term, Operator, Named, Tree, Leaf, Unary, Binary, terms_of, terms_text, placed_terms, terms_in, Spells}
+use Rattle.omf_format.specs.laws.ExpressionLaws.{terms_are}
 use Rattle.link_meaning.specs.First.{IsIn}
 use Rattle.link_meaning.specs.Member.{Member}
-use Rattle.link_meaning.specs.Terms.{asks_value, asked_by, asked_in, tree_in}
-use Rattle.link_meaning.specs.TreeInLaws.{tree_in-again}
+use Rattle.link_meaning.specs.Terms.{asks_value, asked_by, asked_in}
+use Rattle.link_meaning.specs.laws.TreeInLaws.{tree_in-again}
 use Rattle.link_meaning.specs.Search.{Found, entries, finds}
-use Rattle.link_meaning.specs.Rings.{is_equate, names_in, LeadsTo}
-use Rattle.link_meaning.specs.LinkValues.{place_value}
+use Rattle.link_meaning.specs.Rings.{is_equate, names_in}
 use Rattle.link_resolve.specs.Linked.{member_at}
 use Rattle.link_resolve.specs.Finding.{IsFirstOf, finds_for}
 use Rattle.rings.specs.Graphs as rings
 use Rattle.link_emit.specs.declared.slots.Slot.{Slot}
-use Rattle.link_emit.specs.declared.slots.Slot.TheVariants.{Open, Done, Failed}
-use Rattle.link_emit.specs.Equates.{IsFirstSlot, AreFirstSlots, IsOpen, IsRow, NameRow, FindOne}
+use Rattle.link_emit.specs.declared.slots.Slot.TheVariants.{Open, Done}
+use Rattle.link_emit.specs.Equates.{AreFirstSlots, IsOpen, IsRow, NameRow, FindOne}
 use Rattle.link_emit.proofs.ValueLaws.{placed-append}
 use Rattle.link_resolve.specs.OfFiles.{IsOfFiles}
 use Rattle.link_emit.proofs.FileFacts.{spelled_of, find_one_of}
@@ -62,13 +61,6 @@ pub names_are : (l : ℕ) (text : List ℕ) (t : Tree) → Spells l text t → n
 names_are l text t spells = ap asked_in (tree_in-again l text t spells) ∙ asked_terms l 0 t ∙ ap (flat_map asks) (sym (terms_are l text t spells))
 
 -- ---- rows of names
-
-pub none_named : (list : List Member) (place : ℕ) (m : Member) → NameRow list place m [] []
-none_named list place m = record { sound = λ k is. absurd is; whole = λ f name asked found equate. absurd asked }
-
--- no name more
-pub no_name : (list : List Member) (place : ℕ) (m : Member) (names : List (List ℕ)) (row : List ℕ) → NameRow list place m names row → NameRow list place m (names ++ []) row
-no_name list place m names row is = subst (λ (l : List (List ℕ)). NameRow list place m l row) (sym (append-nil names)) is
 
 in_left : (xs ys : List (List ℕ)) (x : List ℕ) → IsIn xs x → IsIn (xs ++ ys) x
 in_left [] ys x is = absurd is
@@ -166,12 +158,6 @@ found_some list place m name n there first = by_found (finds list place m name) 
 open_done : (v : Value) → Open ≡ Done v → ⊥
 open_done v e = cc
 
-slot_some : (s : Slot) → Some s ≡ Some Open → s ≡ Open
-slot_some s e = cc
-
-true_false : true ≡ false → ⊥
-true_false e = cc
-
 has_slot_at : (list : List Member) (fs : List Found) (slots : List Slot) (n : ℕ) (f : Found) → AreFirstSlots list fs slots → slice_get fs n ≡ Some f → (s : Slot) × (slice_get slots n ≡ Some s)
 has_slot_at list [] slots n f are here = absurd cc
 has_slot_at list (g ∷ fs) [] n f are here = absurd are
@@ -202,12 +188,6 @@ row_of_names list e text t row has spells is = record {
   where
     names : names_in e.member.segment.fields.lab_len e.definition.expr ≡ flat_map (λ (placed : ℕ × Term). asks_value placed.1) (terms_in e.member.segment.fields.lab_len 0 text)
     names = ap (names_in e.member.segment.fields.lab_len) has ∙ names_are e.member.segment.fields.lab_len text t spells
-
-pub row_of_label : (list : List Member) (e : Found) → e.definition.expr ≡ None → IsRow list e []
-row_of_label list e none = record {
-  sound = λ k is. absurd is;
-  whole = λ f leads. absurd (subst (λ (o : Option (List ℕ)). IsIn (names_in e.member.segment.fields.lab_len o) leads.name) none leads.asked);
-}
 
 -- ---- the walk over terms
 

@@ -3,7 +3,7 @@ use Rattle.std.proofs.Common.{◌≡◌, ℕ, ◌+◌, ◌^◌, ◌<◌, ◌≤�
 use Rattle.std.specs.List.{AllByRecursion}
 use Rattle.std.proofs.lemmas.List.{length-map}
 use Rattle.omf_format.specs.Header.{Fields}
-use Rattle.omf_format.specs.HeaderLaws.{IsBytes}
+use Rattle.omf_format.specs.Number.{IsBytes}
 use Rattle.omf_header.specs.View.{fields}
 use Rattle.omf_header.specs.declared.header.Header.{Header}
 use Rattle.load_meaning.specs.declared.table.Target.{Target}
@@ -17,11 +17,11 @@ use Rattle.link_meaning.specs.LinkValues.{Told, IsTable}
 use Rattle.link_meaning.specs.LinkedCells.{items, table_number, targets, linked}
 use Rattle.link_meaning.specs.LinkWritten.{byte_under, image_of, load_images, table_images, images, written_file, AreMade, start}
 use Rattle.link_meaning.specs.LinkFaults.{is_too_long, IsResolved}
-use Rattle.link_meaning.specs.RunCells.{AreRuns, runs_written}
-use Rattle.link_meaning.specs.LinkedRuns.{HasCells, MembersHave, members_have, linked_has, AreSized}
-use Rattle.link_meaning.specs.ReadMembers.{IsRead, members_read, HasHeader, read_header, read_size, read_some}
-use Rattle.link_meaning.specs.LinkWrittenLaws.{few_loads, short_loads, short_length, load_header_fits, in_at}
-use Rattle.link_meaning.specs.ValueFits.{all_sound}
+use Rattle.link_meaning.specs.laws.RunCells.{AreRuns, runs_written}
+use Rattle.link_meaning.specs.laws.LinkedRuns.{HasCells, MembersHave, members_have, linked_has, AreSized}
+use Rattle.link_meaning.specs.laws.ReadMembers.{IsRead, members_read, HasHeader, read_header, read_size, read_some}
+use Rattle.link_meaning.specs.laws.LinkWrittenLaws.{few_loads, short_loads, short_length, load_header_fits, in_at}
+use Rattle.link_meaning.specs.laws.ValueFits.{all_sound}
 use Rattle.omf_cells.specs.WrittenParts.{seen}
 use Rattle.link_emit.specs.Holding.{Holding}
 use Rattle.link_emit.specs.Contents.{HoldsCells}

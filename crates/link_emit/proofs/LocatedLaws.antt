@@ -1,17 +1,14 @@
 -- Records one behind another, and what they make.
-use Rattle.std.proofs.Common.{◌≡◌, ◌⊎◌, inl, inr, ℕ, ◌+◌, ◌≤◌, ◌<◌, Bool, true, false, eqb, cond, List, [], ◌∷◌, ◌++◌, length, map, Result, Ok, Err, refl, sym, ap, subst, ◌∙◌, append_assoc, append-nil, arith}
-use Rattle.std.proofs.lemmas.List.{length-append, map-append}
-use Rattle.std.proofs.lemmas.Bool.{eq-eqb}
+use Rattle.std.proofs.Common.{◌≡◌, ◌⊎◌, inl, inr, ℕ, ◌+◌, List, [], ◌∷◌, ◌++◌, map, Result, Ok, refl, ap, ◌∙◌}
+use Rattle.std.proofs.lemmas.List.{map-append}
 use Rattle.omf_format.specs.Record.{Record}
-use Rattle.load_meaning.specs.Cells.{Cell}
-use Rattle.load_meaning.specs.declared.table.Target.{Target}
 use Rattle.link_meaning.specs.declared.fault.LinkCause.{LinkCause}
 use Rattle.link_meaning.specs.Sizes.{Located, size_at, located_from, place_behind}
 use Rattle.link_meaning.specs.Member.{Member}
 use Rattle.link_meaning.specs.LinkValues.{Told}
 use Rattle.link_meaning.specs.LinkedCells.{Item, State, Made, made, gained, state_from}
 use Rattle.link_meaning.specs.LinkWritten.{AreMade}
-use Rattle.link_meaning.specs.LinkedRuns.{item, state_from-append}
+use Rattle.link_meaning.specs.laws.LinkedRuns.{item, state_from-append}
 
 abbrev pub one_located : ℕ × Record → ℕ → Located
 one_located found location = record { at = found.0; location = location; content = found.1 }

@@ -1,13 +1,12 @@
 -- What records give, and the last byte of a member.
-use Rattle.std.proofs.Common.{◌≡◌, ℕ, suc, ◌+◌, ◌-◌, ◌<◌, ◌≤◌, Bool, false, eqb, List, [], ◌∷◌, ◌++◌, length, map, get_or, Option, Some, None, Result, Ok, Err, refl, sym, ap, subst, ◌∙◌, arith}
-use Rattle.std.proofs.lemmas.List.{length-append, length-map, map-append, append-nil}
+use Rattle.std.proofs.Common.{◌≡◌, ℕ, ◌+◌, ◌<◌, Bool, false, eqb, List, [], ◌∷◌, ◌++◌, length, map, Option, Some, None, Result, Ok, refl, sym, ap, subst, ◌∙◌, arith}
+use Rattle.std.proofs.lemmas.List.{length-append, length-map, map-append}
 use Rattle.omf_format.specs.declared.value.Value.{Value}
-use Rattle.omf_format.specs.declared.value.ValueFault.{ValueFault}
-use Rattle.omf_format.specs.Record.{Record, Equate, Formula}
+use Rattle.omf_format.specs.Record.{Formula}
 use Rattle.load_meaning.specs.Cells.{Cell, Byte, Part}
 use Rattle.link_meaning.specs.declared.fault.LinkCause.{LinkCause}
 use Rattle.load_meaning.specs.declared.table.Target.{Target}
-use Rattle.link_meaning.specs.Fitting.{Fit, Frame, is_jsl_byte, ends_in_jsl, fitted, fit_cells, targets_behind, value_cause}
+use Rattle.link_meaning.specs.Fitting.{Fit, Frame, is_jsl_byte, ends_in_jsl, fitted, fit_cells, targets_behind}
 use Rattle.link_meaning.specs.Member.{Member}
 use Rattle.link_meaning.specs.Layout.{load_headers, load_of, offset_of}
 use Rattle.link_meaning.specs.LinkValues.{Told, value_in}
@@ -18,7 +17,6 @@ use Rattle.link_emit.specs.declared.fit.Formula as kept
 use Rattle.link_emit.specs.declared.fit.Load.{Load}
 use Rattle.link_emit.specs.declared.record.Site.{Site}
 use Rattle.link_emit.specs.Contents.{HoldsCells}
-use Rattle.link_emit.specs.Plain.{plain_cells}
 use Rattle.link_emit.specs.Puts.{PutsValue}
 use Rattle.link_emit.specs.Records.{IsSite, StandsAt, PutsMade}
 
@@ -54,22 +52,6 @@ pub formula_gives : (list : List Member) (told : List Told) (state : State) (i :
     → fitted (load_headers list) (frame_of list i) state.targets (cells_before state i) code count n v ≡ Ok fit
     → made_by list told state i (Formula code count n expr) ≡ Ok (fit_cells (table_number list) count (targets_behind state.targets fit) fit, targets_behind state.targets fit)
 formula_gives list told state i code count n expr v fit value fits = rw (value, fits) refl
-
-pub formula_unfit : (list : List Member) (told : List Told) (state : State) (i : Item) (code count n : ℕ) (expr : List ℕ) (v : Value) (cause : LinkCause) → value_in list told i.place i.member i.here.location expr ≡ Ok v
-    → fitted (load_headers list) (frame_of list i) state.targets (cells_before state i) code count n v ≡ Err cause → made_by list told state i (Formula code count n expr) ≡ Err cause
-formula_unfit list told state i code count n expr v cause value fits = rw (value, fits) refl
-
-pub formula_faulty : (list : List Member) (told : List Told) (state : State) (i : Item) (code count n : ℕ) (expr : List ℕ) (fault : ValueFault) → value_in list told i.place i.member i.here.location expr ≡ Err fault
-    → made_by list told state i (Formula code count n expr) ≡ Err (value_cause fault)
-formula_faulty list told state i code count n expr fault value = rw value refl
-
-pub equate_fine : (list : List Member) (told : List Told) (state : State) (i : Item) (global : Bool) (name : List ℕ) (size form private : ℕ) (expr : List ℕ) (v : Value)
-    → value_in list told i.place i.member i.here.location expr ≡ Ok v → made_by list told state i (Equate global name size form private expr) ≡ Ok ([], state.targets)
-equate_fine list told state i global name size form private expr v value = rw value refl
-
-pub equate_faulty : (list : List Member) (told : List Told) (state : State) (i : Item) (global : Bool) (name : List ℕ) (size form private : ℕ) (expr : List ℕ) (fault : ValueFault)
-    → value_in list told i.place i.member i.here.location expr ≡ Err fault → made_by list told state i (Equate global name size form private expr) ≡ Err (value_cause fault)
-equate_faulty list told state i global name size form private expr fault value = rw value refl
 
 -- ---- what was put is what the record gives
 
@@ -108,28 +90,3 @@ module _ (list : List Member) (told : List Told) (state : State) (i : Item) (sit
         targets' = behind;
         holds = subst (λ (l : List Cell). HoldsCells ((front ++ cells_before state i) ++ l) after) cells (puts.cells' (front ++ cells_before state i) stands.holds);
       }
-
-  pub value_unfit : (cause : LinkCause) → fitted (load_headers list) (frame site.own site.bank_size (site.offset + location)) targets (cells_before state i) formula.code formula.count formula.n v ≡ Err cause
-      → made_by list told state i (Formula formula.code formula.count formula.n expr) ≡ Err cause
-  value_unfit cause is = formula_unfit list told state i formula.code formula.count formula.n expr v cause value (same_fit (Err cause) is)
-
--- what a record without an expression puts
-pub plain_put : (list : List Member) (told : List Told) (state : State) (i : Item) (site : Site) (loads : List Load) (targets : List Target) (front : List Cell) (location : ℕ) (before after : Holding) (r : Record)
-    → StandsAt list told state i site loads targets front location before → made_by list told state i r ≡ Ok (plain_cells i.here.location r, state.targets)
-    → ((cells : List Cell) → HoldsCells cells before → HoldsCells (cells ++ plain_cells location r) after) → PutsMade (made_by list told state i r) (front ++ cells_before state i) targets after
-plain_put list told state i site loads targets front location before after r stands is puts = record {
-  gives = (plain_cells i.here.location r, state.targets);
-  is = is;
-  targets' = sym stands.targets';
-  holds = subst (λ (n : ℕ). HoldsCells ((front ++ cells_before state i) ++ plain_cells n r) after) (sym stands.location') (puts (front ++ cells_before state i) stands.holds);
-}
-
--- and an equate
-pub equate_put : (list : List Member) (told : List Told) (state : State) (i : Item) (site : Site) (loads : List Load) (targets : List Target) (front : List Cell) (location : ℕ) (content : Holding) (r : Record)
-    → StandsAt list told state i site loads targets front location content → made_by list told state i r ≡ Ok ([], state.targets) → PutsMade (made_by list told state i r) (front ++ cells_before state i) targets content
-equate_put list told state i site loads targets front location content r stands is = record {
-  gives = ([], state.targets);
-  is = is;
-  targets' = sym stands.targets';
-  holds = subst (λ (l : List Cell). HoldsCells l content) (sym (append-nil (front ++ cells_before state i))) stands.holds;
-}

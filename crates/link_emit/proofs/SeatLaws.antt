@@ -1,9 +1,8 @@
 -- Where members stand, and what expressions meet there.
-use Rattle.std.proofs.Common.{◌≡◌, ℕ, Bool, true, false, eqb, List, [], ◌∷◌, Option, Some, None, refl, sym, ap, ◌∙◌}
+use Rattle.std.proofs.Common.{◌≡◌, ℕ, List, Option, Some, None, refl, sym, ap, ◌∙◌}
 use Rattle.std.specs.Prelude.{option_map}
 use Rattle.omf_format.specs.declared.value.Value.{Value}
 use Rattle.omf_format.specs.File.{Segment}
-use Rattle.omf_format.specs.Value.{Environment}
 use Rattle.link_meaning.specs.Member.{Member}
 use Rattle.link_meaning.specs.Layout.{load_of, offset_of}
 use Rattle.link_meaning.specs.Search.{entries}
@@ -14,7 +13,7 @@ use Rattle.link_resolve.specs.Programs.{linked_at}
 use Rattle.link_emit.specs.declared.seat.Seat.{Seat}
 use Rattle.link_emit.specs.declared.slots.Slot.{Slot}
 use Rattle.link_emit.specs.Slots.{rows_of}
-use Rattle.link_emit.specs.Seats.{IsSeat, SeatOf, meets}
+use Rattle.link_emit.specs.Seats.{SeatOf, meets}
 
 abbrev nothing : {A : Type 0} → Option A
 nothing = None
@@ -39,13 +38,6 @@ no_member list place e = by_member (member_at list place) e
     by_member : (o : Option Member) → option_map (link_of list place) o ≡ None → SeatOf list place o None
     by_member None e = tt
     by_member (Some m) e = absurd (some_none (link_of list place m) e)
-
-pub no_segment : (list : List Member) (place : ℕ) → option_map (λ (m : Member). m.segment) (member_at list place) ≡ None → SeatOf list place (member_at list place) None
-no_segment list place e = by_member (member_at list place) e
-  where
-    by_member : (o : Option Member) → option_map (λ (m : Member). m.segment) o ≡ None → SeatOf list place o None
-    by_member None e = tt
-    by_member (Some m) e = absurd (some_none m.segment e)
 
 pub seated : (list : List Member) (place : ℕ) (lm : LinkMember) (s : Segment) (seat : Seat) → linked_at list place ≡ Some lm → option_map (λ (m : Member). m.segment) (member_at list place) ≡ Some s
     → seat.place ≡ place → seat.lab_len ≡ s.fields.lab_len → seat.load_segment ≡ lm.load_segment → seat.offset ≡ lm.offset → SeatOf list place (member_at list place) (Some seat)

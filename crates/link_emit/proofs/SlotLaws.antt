@@ -127,7 +127,3 @@ no_label list all (f ∷ founds) slots n are first gone =
   where
     some_none : (s : Slot) → Some s ≡ None → ⊥
     some_none s e = cc
-
-pub label_none : (list : List Member) (all founds : List Found) (slots : List Slot) (weak : Bool) → IsFirstOf all founds None → label_value list (rows_of all slots) weak founds ≡ label_value list (rows_of all slots) weak []
-label_none list all [] slots weak first = refl
-label_none list all (f ∷ founds) slots weak first = absurd first

@@ -1,19 +1,17 @@
 -- Values of expressions, and the operands that have none.
-use Rattle.std.proofs.Common.{◌≡◌, ℕ, ◌+◌, ◌≤◌, ◌<◌, Bool, true, false, eqb, cond, List, [], ◌∷◌, ◌++◌, length, map, Option, Some, None, Result, Ok, Err, refl, sym, ap, subst, ◌∙◌, arith}
-use Rattle.std.specs.Prelude.{slice_get, option_map}
+use Rattle.std.proofs.Common.{◌≡◌, ℕ, ◌+◌, ◌≤◌, ◌<◌, Bool, true, false, eqb, cond, List, [], ◌∷◌, ◌++◌, length, Option, Some, None, Result, Ok, Err, refl, sym, ap, subst, ◌∙◌, arith}
+use Rattle.std.specs.Prelude.{slice_get}
 use Rattle.std.specs.Option.{option_or}
 use Rattle.std.proofs.lemmas.Bool.{le-leb, lt-leb}
 use Rattle.std.proofs.lemmas.List.{length-append}
 use Rattle.omf_format.specs.declared.value.Value.{Value}
 use Rattle.omf_format.specs.declared.value.ValueFault.{ValueFault}
-use Rattle.omf_format.specs.declared.value.ValueFault.TheVariants.{DivideByZero, NotRelocatable, Unknown}
 use Rattle.omf_format.specs.Expression.{Expression, Term, Operator, Location, Constant, Named, Offset, Tree, Leaf, Unary, Binary, IsOperand, IsTree, terms_of, term_text, terms_text, placed_terms, terms_in, Spells}
-use Rattle.omf_format.specs.ExpressionLaws.{terms_are}
-use Rattle.omf_format.specs.TermLaws.{terms_text-append}
+use Rattle.omf_format.specs.laws.ExpressionLaws.{terms_are}
 use Rattle.omf_format.specs.Value.{Environment, value}
 use Rattle.link_meaning.specs.Member.{Member}
 use Rattle.link_meaning.specs.Terms.{tree_in, term_at}
-use Rattle.link_meaning.specs.TreeInLaws.{tree_in-again}
+use Rattle.link_meaning.specs.laws.TreeInLaws.{tree_in-again}
 use Rattle.link_meaning.specs.Search.{Found, entries, finds}
 use Rattle.link_meaning.specs.Rings.{has_expr, is_equate}
 use Rattle.link_meaning.specs.LinkValues.{Told, told, place_value, environment, found_value, fault_found, fault_named, settled, tree_value, value_in}
@@ -21,12 +19,11 @@ use Rattle.link_resolve.specs.Linked.{member_at}
 use Rattle.link_resolve.specs.Finding.{IsFirstOf, finds_for}
 use Rattle.link_emit.specs.declared.seat.Seat.{Seat}
 use Rattle.link_emit.specs.declared.slots.Slot.{Slot}
-use Rattle.link_emit.specs.declared.slots.Slot.TheVariants.{Open, Done, Failed}
 use Rattle.link_emit.specs.Slots.{answer_of, AreOnce, AreSlots, rows_of}
 use Rattle.link_emit.specs.Seats.{IsSeat, meets, Surroundings, environment_of}
 use Rattle.link_emit.specs.Told.{operand, operand_in}
 use Rattle.link_emit.proofs.SeatLaws.{meets_there}
-use Rattle.link_emit.proofs.SlotLaws.{or_open, told_rows, label_slot, has_slot}
+use Rattle.link_emit.proofs.SlotLaws.{or_open, told_rows, label_slot}
 
 -- ---- operands by their places
 
@@ -125,10 +122,6 @@ module _ (list : List Member) (all : List Found) (slots : List Slot) (n : ℕ) (
       by_test : (b : Bool) → is_equate f ≡ b → fault_in (found_value list (rows_of all slots) f) fault ≡ fault_in (or_open (answer_of s)) fault
       by_test true is = equate_says f s first there is
       by_test false is = label_says f s first there is
-
-pub fault_none : (list : List Member) (all founds : List Found) (slots : List Slot) (fault : ValueFault) → IsFirstOf all founds None → fault ≡ fault_found list (rows_of all slots) fault founds
-fault_none list all [] slots fault first = refl
-fault_none list all (f ∷ founds) slots fault first = absurd first
 
 -- ---- values
 

@@ -1,38 +1,23 @@
 -- The walk over the records of all members.
-use Rattle.std.proofs.Common.{◌≡◌, ◌⊎◌, inl, inr, ℕ, zero, suc, ◌+◌, ◌-◌, ◌^◌, ◌≤◌, ◌<◌, Bool, true, false, not, eqb, cond, List, [], ◌∷◌, ◌++◌, length, map, Option, Some, None, Result, Ok, Err, refl, sym, ap, subst, ◌∙◌, append_assoc, append-nil, arith}
-use Rattle.std.specs.Prelude.{slice_get, slice_set, filter}
-use Rattle.std.specs.List.{AllByRecursion}
-use Rattle.std.specs.Str.{bytes_eq}
-use Rattle.std.proofs.lemmas.Bool.{cases_Bool, eq-eqb}
+use Rattle.std.proofs.Common.{◌≡◌, inr, ℕ, ◌+◌, ◌-◌, ◌≤◌, Bool, cond, List, [], ◌∷◌, ◌++◌, length, map, Ok, Err, refl, sym, ap, subst, ◌∙◌, append_assoc, append-nil, arith}
+use Rattle.std.proofs.lemmas.Bool.{eq-eqb}
 use Rattle.std.proofs.lemmas.List.{length-append, length-map, map-append}
-use Rattle.std.proofs.lemmas.Slice.Eq.{bytes_eq-Decides}
 use Rattle.omf_format.specs.Record.{Record, End}
-use Rattle.omf_format.specs.Reading.{Reader}
-use Rattle.omf_format.specs.Header.{alignment_of}
 use Rattle.omf_format.specs.File.{Segment}
-use Rattle.load_meaning.specs.Cells.{Cell, Byte}
+use Rattle.load_meaning.specs.Cells.{Cell}
 use Rattle.load_meaning.specs.declared.table.Target.{Target}
 use Rattle.link_meaning.specs.declared.fault.LinkCause.{LinkCause}
-use Rattle.link_meaning.specs.declared.fault.LinkFault.{LinkFault}
-use Rattle.link_meaning.specs.First.{IsFirst, HasNone, IsIn}
-use Rattle.link_meaning.specs.Sizes.{Located, size_at, located_from, located, place_behind, body_size}
+use Rattle.link_meaning.specs.Sizes.{size_at, located_from, located, place_behind, body_size}
 use Rattle.link_meaning.specs.Member.{Member}
-use Rattle.link_meaning.specs.Layout.{in_load, aligned_from, end_from, offset_of, distinct, load_names, number_in, load_of, load_headers}
-use Rattle.link_meaning.specs.LayoutLaws.{aligned_from-least, alignment-some}
+use Rattle.link_meaning.specs.Layout.{offset_of, load_headers}
 use Rattle.link_meaning.specs.LinkValues.{Told}
-use Rattle.link_meaning.specs.LinkedCells.{Item, State, Made, zeros, items_from, items, cells_before, made_by, made, gained, state_from, state_behind, member_cells, linked, bank_of, table_number}
-use Rattle.link_meaning.specs.LinkedCells as linked_cells
-use Rattle.link_meaning.specs.LinkWritten.{AreMade, start, byte_under}
-use Rattle.link_meaning.specs.LinkFaults.{spot_in}
-use Rattle.link_meaning.specs.MadeLaws.{length-made, length-zeros}
-use Rattle.link_meaning.specs.PlaceFits.{behind-le, in_parts}
-use Rattle.link_meaning.specs.ReadMembers.{read_size, read_some}
-use Rattle.link_meaning.specs.LinkedRuns.{item, items_from-append, state_from-append}
-use Rattle.link_meaning.specs.LinkedWalk.{state_of, linked_behind, own_items, with_member, none_behind, all_behind, no_state, all_targets, member_behind, member_state, cells_of_member, none_before, made_more}
-use Rattle.link_meaning.specs.EmitFaults.{HasValueFault}
-use Rattle.link_meaning.specs.EmitFaultLaws.{made_none, fine_failed}
-use Rattle.link_resolve.specs.Coming.{Coming}
-use Rattle.link_resolve.specs.Reading.{memory_fault}
+use Rattle.link_meaning.specs.LinkedCells.{State, zeros, made, gained, state_from, member_cells, bank_of, table_number}
+use Rattle.link_meaning.specs.LinkWritten.{AreMade, byte_under}
+use Rattle.link_meaning.specs.laws.MadeLaws.{length-made, length-zeros}
+use Rattle.link_meaning.specs.laws.PlaceFits.{behind-le, in_parts}
+use Rattle.link_meaning.specs.laws.ReadMembers.{read_size, read_some}
+use Rattle.link_meaning.specs.laws.LinkedRuns.{item}
+use Rattle.link_meaning.specs.laws.LinkedWalk.{state_of, own_items, member_state, cells_of_member, none_before, made_more}
 use Rattle.link_emit.specs.Holding.{Holding}
 use Rattle.link_emit.specs.declared.fit.Load.{Load}
 use Rattle.link_emit.specs.declared.record.Site.{Site}
@@ -40,12 +25,10 @@ use Rattle.link_emit.specs.declared.seat.Seat.{Seat}
 use Rattle.link_resolve.specs.OfFiles.{IsOfFiles}
 use Rattle.link_emit.specs.Contents.{HoldsCells}
 use Rattle.link_emit.specs.Fits.{told_load}
-use Rattle.link_emit.specs.Images.{HoldLinked}
 use Rattle.link_emit.specs.Records.{StandsAt, PutsMade}
-use Rattle.link_emit.specs.Seats.{IsSeat}
-use Rattle.link_emit.specs.Walks.{Begins, cells_there, behind, Puts, Putting, Unmade, StandsBehind, PutsMember, HoldsBehind, HoldBehind, IsWalked, IsWalkedTo, IsValueRefused, AreEmpty, IsFilled}
-use Rattle.link_emit.proofs.FileFacts.{read_of, body_within, end_of, parts_there}
-use Rattle.link_emit.proofs.LocatedLaws.{one_located, located-more, behind-append, items-more, made-more, made-append, state-more, state-there}
+use Rattle.link_emit.specs.Walks.{Begins, cells_there, behind, Puts, Unmade, StandsBehind, PutsMember}
+use Rattle.link_emit.proofs.FileFacts.{read_of, body_within, end_of}
+use Rattle.link_emit.proofs.LocatedLaws.{one_located, located-more, behind-append, items-more, made-more, state-more, state-there}
 
 -- ---- one record more
 

@@ -1,5 +1,5 @@
 -- The walk over members: each gives its cells to its load segment.
-use Rattle.std.proofs.Common.{◌≡◌, ◌⊎◌, inl, inr, ℕ, zero, suc, ◌+◌, ◌-◌, ◌≤◌, ◌<◌, Bool, true, false, not, cond, List, [], ◌∷◌, ◌++◌, length, map, Option, Some, None, Result, Ok, Err, refl, sym, ap, subst, ◌∙◌, append_assoc, append-nil, arith}
+use Rattle.std.proofs.Common.{◌≡◌, ◌⊎◌, inl, inr, ℕ, zero, suc, ◌+◌, ◌-◌, ◌≤◌, ◌<◌, Bool, true, false, not, cond, List, [], ◌∷◌, ◌++◌, length, map, Option, Some, None, Result, Err, refl, sym, ap, subst, ◌∙◌, append_assoc, append-nil, arith}
 use Rattle.std.specs.Prelude.{slice_get, slice_set, filter, take, option_map}
 use Rattle.std.specs.List.{AllByRecursion}
 use Rattle.std.specs.Str.{bytes_eq}
@@ -12,28 +12,27 @@ use Rattle.load_meaning.specs.Cells.{Cell}
 use Rattle.load_meaning.specs.declared.table.Target.{Target}
 use Rattle.link_meaning.specs.declared.fault.LinkCause.{LinkCause}
 use Rattle.link_meaning.specs.declared.fault.LinkFault.{LinkFault}
-use Rattle.link_meaning.specs.First.{IsIn, IsFirst, HasNone}
+use Rattle.link_meaning.specs.First.{IsIn, IsFirst}
 use Rattle.link_meaning.specs.Member.{Member}
-use Rattle.link_meaning.specs.Layout.{in_load, aligned_from, end_from, offset_of, distinct, load_names, number_in, load_of, load_headers, headers_from}
-use Rattle.link_meaning.specs.LayoutLaws.{aligned_from-least, alignment-some}
+use Rattle.link_meaning.specs.Layout.{in_load, aligned_from, end_from, offset_of, distinct, load_names, number_in, load_of}
+use Rattle.link_meaning.specs.laws.LayoutLaws.{aligned_from-least, alignment-some}
 use Rattle.link_meaning.specs.LinkValues.{Told}
-use Rattle.link_meaning.specs.LinkedCells.{Item, State, Made, zeros, items_from, items, made, state_from, state_behind, member_cells, linked}
+use Rattle.link_meaning.specs.LinkedCells.{Item, State, Made, zeros, items_from, items, made, state_behind, member_cells}
 use Rattle.link_meaning.specs.LinkWritten.{AreMade, start}
 use Rattle.link_meaning.specs.LinkFaults.{spot_in}
-use Rattle.link_meaning.specs.MadeLaws.{length-zeros}
-use Rattle.link_meaning.specs.LinkedRuns.{items_from-append, state_from-append}
-use Rattle.link_meaning.specs.LinkedWalk.{state_of, linked_behind, own_items, with_member, none_behind, all_behind, all_targets, member_behind}
+use Rattle.link_meaning.specs.laws.MadeLaws.{length-zeros}
+use Rattle.link_meaning.specs.laws.LinkedRuns.{items_from-append, state_from-append}
+use Rattle.link_meaning.specs.laws.LinkedWalk.{state_of, linked_behind, own_items, none_behind, all_behind, all_targets, member_behind}
 use Rattle.link_meaning.specs.EmitFaults.{HasValueFault}
-use Rattle.link_meaning.specs.EmitFaultLaws.{made_none, fine_failed}
-use Rattle.link_meaning.specs.PlaceFits.{in_parts, name_there}
-use Rattle.link_resolve.specs.Reading.{memory_fault}
+use Rattle.link_meaning.specs.laws.EmitFaultLaws.{made_none, fine_failed}
+use Rattle.link_meaning.specs.laws.PlaceFits.{in_parts, name_there}
 use Rattle.link_emit.specs.Holding.{Holding}
 use Rattle.link_emit.specs.declared.seat.Seat.{Seat}
 use Rattle.link_emit.specs.Contents.{HoldsCells}
 use Rattle.link_emit.specs.Images.{HoldLinked}
 use Rattle.link_resolve.specs.Linked.{member_at}
 use Rattle.link_emit.specs.Seats.{IsSeat, SeatOf}
-use Rattle.link_emit.specs.Walks.{Unmade, StandsBehind, PutsMember, HoldsBehind, HoldBehind, IsWalked, IsWalkedTo, IsValueRefused, AreEmpty, IsFilled}
+use Rattle.link_emit.specs.Walks.{Unmade, StandsBehind, PutsMember, HoldsBehind, HoldBehind, IsWalkedTo, AreEmpty, IsFilled}
 use Rattle.link_emit.proofs.FileFacts.{parts_there}
 use Rattle.link_emit.proofs.LocatedLaws.{made-append}
 

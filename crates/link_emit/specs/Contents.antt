@@ -2,7 +2,6 @@
 use Rattle.std.specs.Prelude.{◌≡◌, List, [], map}
 use Rattle.load_meaning.specs.Cells.{Cell}
 use Rattle.link_meaning.specs.LinkWritten.{byte_under, patches_of_cells}
-use Rattle.link_meaning.specs.RunCells.{AreRuns}
 use Rattle.omf_cells.specs.Joined.{joined}
 use Rattle.omf_cells.specs.WrittenParts.{seen}
 use Rattle.link_emit.specs.declared.content.Place.{Place}
@@ -13,12 +12,6 @@ use Rattle.link_emit.specs.Holding.{Holding}
 pub record HoldsCells (cells : List Cell) (content : Holding) : Type 0 where
   pub bytes' : content.bytes ≡ map byte_under cells
   pub patches' : map seen content.patches ≡ patches_of_cells cells
-
--- and they are bytes and whole places
-pub record IsHeld (content : Holding) : Type 0 where
-  pub cells : List Cell
-  pub holds : HoldsCells cells content
-  pub runs : AreRuns cells
 
 -- its bytes stand there; where they are lent, no patch is over them
 abbrev pub IsPlaced : Place → Holding → Type 0

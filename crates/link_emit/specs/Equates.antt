@@ -1,5 +1,5 @@
 -- What is known of the values of definitions, and which equates lead to which.
-use Rattle.std.specs.Prelude.{◌≡◌, ◌⊎◌, ◌<◌, ◌+◌, ℕ, Bool, true, false, List, [], ◌∷◌, length, Option, Some, None, Result, slice_get, slice_set}
+use Rattle.std.specs.Prelude.{◌≡◌, ◌⊎◌, ◌+◌, ℕ, true, false, List, [], ◌∷◌, Some, Result, slice_get, slice_set}
 use Rattle.omf_format.specs.declared.value.Value.{Value}
 use Rattle.omf_format.specs.declared.value.ValueFault.{ValueFault}
 use Rattle.link_meaning.specs.declared.fault.LinkFault.{LinkFault}
@@ -15,7 +15,7 @@ use Rattle.link_emit.specs.declared.slots.Slot.{Slot}
 use Rattle.link_emit.specs.declared.slots.Slot.TheVariants.{Open, Done, Failed}
 use Rattle.rings.specs.Graphs.{row_at}
 use Rattle.rings.specs.Graphs as rings
-use Rattle.link_emit.specs.Slots.{AreSlots, answer_of, rows_of}
+use Rattle.link_emit.specs.Slots.{answer_of, rows_of}
 use Rattle.link_emit.specs.Seats.{AreKnown}
 
 -- a definition's slot at first: a label has its place, and an equate is open

@@ -1,5 +1,5 @@
 -- What a content is to contracts: its bytes, and the patches over them.
-use Rattle.std.specs.Prelude.{ℕ, List, [], ◌∷◌, ◌++◌, Option, Some, None}
+use Rattle.std.specs.Prelude.{ℕ, List, [], ◌∷◌, Option, Some, None}
 use Rattle.omf_cells.specs.declared.written.Patch.{Patch}
 
 pub record Holding : Type 0 where

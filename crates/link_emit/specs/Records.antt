@@ -1,6 +1,6 @@
 -- Where a record stands that is put, and what is there behind it.
 use Rattle.std.specs.Prelude.{◌≡◌, ℕ, ◌++◌, true, List, length, map, Result, Ok}
-use Rattle.omf_format.specs.Record.{Record, End, Const, LongConst, Align, Org, Space, Reloc, InterSeg, ShortReloc, ShortInterSeg, Super, Using, Strong, Label, Equate, Formula, Entry}
+use Rattle.omf_format.specs.Record.{Record, Equate, Formula}
 use Rattle.omf_format.specs.Field.{is_count}
 use Rattle.load_meaning.specs.Cells.{Cell}
 use Rattle.load_meaning.specs.declared.table.Target.{Target}
@@ -19,43 +19,14 @@ use Rattle.link_emit.specs.Fits.{told_load}
 
 -- a count is 1 to 4
 abbrev pub IsCounted : Record → Type 0
-IsCounted End = Unit {0}
-IsCounted (Const bytes) = Unit {0}
-IsCounted (LongConst bytes) = Unit {0}
-IsCounted (Align n) = Unit {0}
-IsCounted (Org n) = Unit {0}
-IsCounted (Space n) = Unit {0}
-IsCounted (Reloc count shift location offset) = Unit {0}
-IsCounted (InterSeg count shift location file segment offset) = Unit {0}
-IsCounted (ShortReloc count shift location offset) = Unit {0}
-IsCounted (ShortInterSeg count shift location segment offset) = Unit {0}
-IsCounted (Super form bytes) = Unit {0}
-IsCounted (Using name) = Unit {0}
-IsCounted (Strong name) = Unit {0}
-IsCounted (Label global name size form private) = Unit {0}
-IsCounted (Equate global name size form private expr) = Unit {0}
 IsCounted (Formula code count n expr) = is_count count ≡ true
-IsCounted (Entry segment offset name) = Unit {0}
+IsCounted _ = Unit {0}
 
 -- this is what the record's expression stands for, if it has one
 abbrev pub IsWorth : List Member → List Told → Item → Record → Result Value ValueFault → Type 0
-IsWorth list told i End worth = Unit {0}
-IsWorth list told i (Const bytes) worth = Unit {0}
-IsWorth list told i (LongConst bytes) worth = Unit {0}
-IsWorth list told i (Align n) worth = Unit {0}
-IsWorth list told i (Org n) worth = Unit {0}
-IsWorth list told i (Space n) worth = Unit {0}
-IsWorth list told i (Reloc count shift location offset) worth = Unit {0}
-IsWorth list told i (InterSeg count shift location file segment offset) worth = Unit {0}
-IsWorth list told i (ShortReloc count shift location offset) worth = Unit {0}
-IsWorth list told i (ShortInterSeg count shift location segment offset) worth = Unit {0}
-IsWorth list told i (Super form bytes) worth = Unit {0}
-IsWorth list told i (Using name) worth = Unit {0}
-IsWorth list told i (Strong name) worth = Unit {0}
-IsWorth list told i (Label global name size form private) worth = Unit {0}
 IsWorth list told i (Equate global name size form private expr) worth = value_in list told i.place i.member i.here.location expr ≡ worth
 IsWorth list told i (Formula code count n expr) worth = value_in list told i.place i.member i.here.location expr ≡ worth
-IsWorth list told i (Entry segment offset name) worth = Unit {0}
+IsWorth _ _ _ _ _ = Unit {0}
 
 -- the member's records go there
 pub record IsSite (list : List Member) (place : ℕ) (m : Member) (site : Site) : Type 0 where

@@ -1,10 +1,10 @@
 -- Where a member stands, and what an expression meets there.
-use Rattle.std.specs.Prelude.{◌≡◌, ℕ, List, Option, Some, None, option_map}
+use Rattle.std.specs.Prelude.{◌≡◌, ℕ, List, Option, Some, None}
 use Rattle.omf_format.specs.declared.value.Value.{Value}
 use Rattle.omf_format.specs.Value.{Environment}
 use Rattle.link_meaning.specs.Member.{Member}
 use Rattle.link_meaning.specs.Layout.{load_of, offset_of}
-use Rattle.link_meaning.specs.Search.{Found, entries}
+use Rattle.link_meaning.specs.Search.{entries}
 use Rattle.link_meaning.specs.LinkValues.{label_value, attribute_value}
 use Rattle.link_resolve.specs.Linked.{member_at}
 use Rattle.link_resolve.specs.Finding.{finds_for}

@@ -1,8 +1,7 @@
 -- The walk over the records of all members.
 use Rattle.std.specs.List.{AllByRecursion}
-use Rattle.std.specs.Prelude.{◌≡◌, ◌⊎◌, ◌+◌, ◌-◌, ◌<◌, ◌≤◌, ◌^◌, ℕ, List, [], ◌∷◌, ◌++◌, length, map, ◌==◌, if◌then◌else◌, Option, Some, None, Err, true}
-use Rattle.omf_format.specs.Record.{Record, IsRecord}
-use Rattle.omf_format.specs.Field.{layout_of}
+use Rattle.std.specs.Prelude.{◌≡◌, ◌⊎◌, ◌+◌, ◌-◌, ◌≤◌, ℕ, List, [], ◌∷◌, ◌++◌, length, map, ◌==◌, if◌then◌else◌, None, Err}
+use Rattle.omf_format.specs.Record.{Record}
 use Rattle.omf_format.specs.File.{Segment}
 use Rattle.omf_format.specs.Reading.{Reader}
 use Rattle.load_meaning.specs.Cells.{Cell}
@@ -11,15 +10,15 @@ use Rattle.link_meaning.specs.declared.fault.LinkCause.{LinkCause}
 use Rattle.link_meaning.specs.declared.fault.LinkCause.TheVariants as causes
 use Rattle.link_meaning.specs.declared.fault.LinkFault.{LinkFault}
 use Rattle.link_meaning.specs.First.{IsFirst}
-use Rattle.link_meaning.specs.Sizes.{Located, located_from, located, place_behind}
+use Rattle.link_meaning.specs.Sizes.{located_from, place_behind}
 use Rattle.link_meaning.specs.Member.{Member}
 use Rattle.link_meaning.specs.Layout.{end_from, load_names, load_headers, offset_of}
 use Rattle.link_meaning.specs.LinkValues.{Told}
 use Rattle.link_meaning.specs.LinkedCells.{Item, State, table_number, zeros, member_cells, items_from, items, made, state_from}
 use Rattle.link_meaning.specs.LinkedCells as linked
 use Rattle.link_meaning.specs.LinkWritten.{AreMade, start}
-use Rattle.link_meaning.specs.LinkedRuns.{item}
-use Rattle.link_meaning.specs.LinkedWalk.{state_of, linked_behind, own_items}
+use Rattle.link_meaning.specs.laws.LinkedRuns.{item}
+use Rattle.link_meaning.specs.laws.LinkedWalk.{state_of, linked_behind, own_items}
 use Rattle.link_meaning.specs.EmitFaults.{HasValueFault}
 use Rattle.link_meaning.specs.LinkFaults.{spot_in}
 use Rattle.link_resolve.specs.Coming.{Coming}

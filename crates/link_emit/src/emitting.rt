@@ -68,7 +68,10 @@ pub fn emit(alloc: Global, program: &Program) -> Result<Vec<u8>, LinkFault>
     let headers = program.load_headers();
     let loads = match loads_of(alloc, headers) {
         Ok(loads) => loads,
-        Err(_) => return Err(memory_fault()),
+        Err(_) => {
+            drop(slots);
+            return Err(memory_fault());
+        }
     };
     let whole = Whole {
         program,
@@ -79,7 +82,12 @@ pub fn emit(alloc: Global, program: &Program) -> Result<Vec<u8>, LinkFault>
     let mut table = Table::new(alloc);
     let contents = match fill(alloc, &whole, &mut table) {
         Ok(contents) => contents,
-        Err(fault) => return Err(fault),
+        Err(fault) => {
+            drop(table);
+            drop(loads);
+            drop(slots);
+            return Err(fault);
+        }
     };
     match write_linked(alloc, headers, contents.as_slice(), &table) {
         Ok(output) => Ok(output),

@@ -20,7 +20,9 @@ pub fn link(alloc: Global, inputs: &Vec<Vec<u8>>) -> Result<Vec<u8>, LinkFault>
         Ok(program) => program,
         Err(fault) => return Err(fault),
     };
-    match emit(alloc, &program) {
+    let emitted = emit(alloc, &program);
+    drop(program);
+    match emitted {
         Ok(output) => Ok(output),
         Err(fault) => Err(fault),
     }

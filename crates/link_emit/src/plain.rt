@@ -2,27 +2,15 @@
 
 ghost use Rattle.std.specs.Prelude.{◌≡◌, ◌+◌, ◌<◌, ◌^◌, ◌++◌, List, OnOk, length};
 ghost use Rattle.load_meaning.specs.Cells.{Cell};
-ghost use Rattle.link_meaning.specs.Sizes.{padding, size_at};
+ghost use Rattle.link_meaning.specs.Sizes.{size_at};
 ghost use Rattle.omf_records.specs.View.{view};
 ghost use Rattle.link_emit.specs.Contents.{HoldsCells};
 ghost use Rattle.link_emit.specs.Plain.{plain_cells};
 
 use crate::content::Content;
+use omf_base::padding;
 use omf_records::Rec;
 use std::alloc::AllocError;
-
-/// How far it is to the least multiple of a step at or behind a place; 0 for the step 0.
-#[tactic(auto, unfolding(link_meaning::specs::Sizes::padding))]
-fn padding(step: u32, at: u32) -> u32
-    ensures { result ≡ padding step at }
-{
-    if step == 0 {
-        return 0;
-    }
-    let (step, at) = (u64::from(step), u64::from(at));
-    let pad = at.next_multiple_of(step) - at;
-    pad as u32
-}
 
 /// Puts what a record gives that stands at this place of its segment; an expression gives nothing here.
 pub fn put_plain<'a>(

@@ -1,6 +1,6 @@
 //! What an expression record puts into its load segment.
 
-ghost use Rattle.std.specs.Prelude.{◌≡◌, ◌⊎◌, ◌+◌, ◌<◌, ◌≤◌, ◌^◌, ◌++◌, Err, List, IsTrue, IfOk, IfErr, OnOk, length, map, take};
+ghost use Rattle.std.specs.Prelude.{◌≡◌, ◌⊎◌, ◌+◌, ◌<◌, ◌≤◌, ◌^◌, ◌++◌, Err, List, IsTrue, IfOk, IfErr, OnOk, length, map};
 ghost use Rattle.byteorder.specs.Endian.{little_bytes};
 ghost use Rattle.omf_format.specs.Field.{is_count};
 ghost use Rattle.omf_format.specs.Header.{Fields};
@@ -15,6 +15,7 @@ use crate::content::Content;
 use crate::fit::{Fit, Formula, Frame, Load, fitted};
 use jump_table::{Table, TableFault};
 use link_meaning::LinkCause;
+use omf_base::front;
 use omf_format::Value;
 
 /// The bytes of a number, lowest first.
@@ -24,14 +25,6 @@ fn bytes_of(n: u32) -> [u8; 4]
 {
     let [first, second, third, fourth] = n.to_le_bytes();
     [first, second, third, fourth]
-}
-
-/// The first bytes.
-fn front(bytes: &[u8], count: usize) -> &[u8]
-    requires { count ≤ length bytes.now }
-    ensures { result.now ≡ take count bytes.now }
-{
-    &bytes[..count]
 }
 
 /// The low bytes of a number.

@@ -7,7 +7,7 @@ use Rattle.omf_format.specs.declared.fault.FileCause.{FileCause}
 use Rattle.omf_format.specs.declared.fault.FileCause.TheVariants as causes
 use Rattle.omf_format.specs.declared.fault.FileFault.{FileFault}
 use Rattle.omf_format.specs.Header.{Fields, alignment_of, form_of, first_of}
-use Rattle.omf_format.specs.Record.{Record, End, Const, LongConst, Align, Org, Space, Reloc, InterSeg, ShortReloc, ShortInterSeg, Super, Using, Strong, Label, Equate, Formula, Entry}
+use Rattle.omf_format.specs.Record.{Record, Align, Reloc, InterSeg, ShortReloc, ShortInterSeg, Super, Entry}
 use Rattle.omf_format.specs.File.{Segment, IsFile, IsFirstFault}
 use Rattle.omf_base.specs.declared.spot.Spot.{Spot}
 use Rattle.link_meaning.specs.declared.fault.LinkCause.{LinkCause}
@@ -49,23 +49,14 @@ type_fault first f = first_of (
 
 -- patches and ENTRY belong to load files, and ALIGN can't ask for more than the segment has
 abbrev pub record_fault : ℕ → Record → Option LinkCause
-record_fault align End = None
-record_fault align (Const bytes) = None
-record_fault align (LongConst bytes) = None
 record_fault align (Align n) = if is_power_of_two n && nat_le n align then None else Some AlignFault
-record_fault align (Org n) = None
-record_fault align (Space n) = None
 record_fault align (Reloc count shift location offset) = Some BadRecord
 record_fault align (InterSeg count shift location file segment offset) = Some BadRecord
 record_fault align (ShortReloc count shift location offset) = Some BadRecord
 record_fault align (ShortInterSeg count shift location segment offset) = Some BadRecord
 record_fault align (Super form bytes) = Some BadRecord
-record_fault align (Using name) = None
-record_fault align (Strong name) = None
-record_fault align (Label global name size form private) = None
-record_fault align (Equate global name size form private expr) = None
-record_fault align (Formula code count n expr) = None
 record_fault align (Entry segment offset name) = Some BadRecord
+record_fault _ _ = None
 
 abbrev pub with_place : ℕ → LinkCause → LinkCause × ℕ
 with_place at cause = (cause, at)
@@ -129,13 +120,10 @@ pub record IsProgram (files : List (List ℕ)) (list : List Member) : Type 0 whe
 abbrev pub use_cause : Want → List Found → Option LinkCause
 use_cause Data [] = Some Unresolved
 use_cause One [] = Some Unresolved
-use_cause Any [] = None
-use_cause Data (f ∷ []) = None
-use_cause One (f ∷ []) = None
-use_cause Any (f ∷ []) = None
 use_cause Data (f ∷ g ∷ more) = Some Duplicate
 use_cause One (f ∷ g ∷ more) = Some Duplicate
 use_cause Any (f ∷ g ∷ more) = Some Duplicate
+use_cause _ _ = None
 
 pub record HasUseFault (list : List Member) (before : List Asked) (a : Asked) (fault : LinkFault) : Type 0 where
   pub cause : use_cause a.use'.want (found_for list a.place a.member a.use') ≡ Some fault.cause

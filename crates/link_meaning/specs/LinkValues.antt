@@ -4,7 +4,7 @@ use Rattle.omf_format.specs.declared.value.Value.{Value}
 use Rattle.omf_format.specs.declared.value.Value.TheVariants.{Fixed, At}
 use Rattle.omf_format.specs.declared.value.ValueFault.{ValueFault}
 use Rattle.omf_format.specs.declared.value.ValueFault.TheVariants.{DivideByZero, NotRelocatable, Unknown}
-use Rattle.omf_format.specs.Expression.{Term, Operator, Location, Constant, Named, Offset, Tree}
+use Rattle.omf_format.specs.Expression.{Term, Named, Tree}
 use Rattle.omf_format.specs.Value.{Environment, value}
 use Rattle.link_meaning.specs.First.{IsIn}
 use Rattle.link_meaning.specs.Member.{Member}
@@ -64,12 +64,8 @@ fault_found list table fault [] = fault
 fault_found list table fault (f ∷ found) = elim (found_value list table f) [ Ok v ↦ fault | Err of ↦ of ]
 
 abbrev pub fault_named : List Member → List Told → ℕ → Member → ValueFault → Option Term → ValueFault
-fault_named list table place m fault None = fault
-fault_named list table place m fault (Some (Operator code)) = fault
-fault_named list table place m fault (Some Location) = fault
-fault_named list table place m fault (Some (Constant n)) = fault
 fault_named list table place m fault (Some (Named code name)) = if nat_le code 0x83 then fault_found list table fault (finds list place m name) else fault
-fault_named list table place m fault (Some (Offset n)) = fault
+fault_named _ _ _ _ fault _ = fault
 
 -- a name whose equate has a fault has that fault: `Unknown` says at which term of the expression the name stands
 abbrev pub settled : List Member → List Told → ℕ → Member → Tree → Result Value ValueFault → Result Value ValueFault

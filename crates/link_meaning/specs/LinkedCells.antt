@@ -1,11 +1,12 @@
 -- What the linker makes of the list: the object cells of each member, and the cells of each load segment.
 use Rattle.std.specs.Prelude.{ℕ, ◌+◌, ◌-◌, List, [], ◌∷◌, ◌++◌, length, map, replicate, filter, Some, None, Result, Ok, Err, ◌==◌, if◌then◌else◌, nat_le}
 use Rattle.omf_format.specs.Field.{◌>>=◌}
-use Rattle.omf_format.specs.Record.{Record, End, Const, LongConst, Align, Org, Space, Reloc, InterSeg, ShortReloc, ShortInterSeg, Super, Using, Strong, Label, Equate, Formula, Entry}
+use Rattle.omf_format.specs.Record.{Record, Const, LongConst, Align, Org, Space, Equate, Formula}
 use Rattle.omf_format.specs.Header.{Fields}
 use Rattle.load_meaning.specs.Cells.{Cell, Byte}
 use Rattle.link_meaning.specs.declared.fault.LinkCause.{LinkCause}
-use Rattle.link_meaning.specs.Sizes.{Located, padding, located}
+use Rattle.link_meaning.specs.Sizes.{Located, located}
+use Rattle.omf_format.specs.Number.{padding}
 use Rattle.link_meaning.specs.Member.{Member}
 use Rattle.link_meaning.specs.Layout.{in_load, load_names, load_headers, load_of, offset_of}
 use Rattle.link_meaning.specs.LinkValues.{Told, value_in}
@@ -59,20 +60,11 @@ abbrev pub zeros : ℕ → List Cell
 zeros n = replicate n (Byte 0)
 
 abbrev pub made_by : List Member → List Told → State → Item → Record → Result Made LinkCause
-made_by list table state i End = Ok ([], state.targets)
 made_by list table state i (Const bytes) = Ok (map Byte bytes, state.targets)
 made_by list table state i (LongConst bytes) = Ok (map Byte bytes, state.targets)
 made_by list table state i (Align n) = Ok (zeros (padding n i.here.location), state.targets)
 made_by list table state i (Org n) = Ok (zeros n, state.targets)
 made_by list table state i (Space n) = Ok (zeros n, state.targets)
-made_by list table state i (Reloc count shift location offset) = Ok ([], state.targets)
-made_by list table state i (InterSeg count shift location file segment offset) = Ok ([], state.targets)
-made_by list table state i (ShortReloc count shift location offset) = Ok ([], state.targets)
-made_by list table state i (ShortInterSeg count shift location segment offset) = Ok ([], state.targets)
-made_by list table state i (Super form bytes) = Ok ([], state.targets)
-made_by list table state i (Using name) = Ok ([], state.targets)
-made_by list table state i (Strong name) = Ok ([], state.targets)
-made_by list table state i (Label global name size form private) = Ok ([], state.targets)
 made_by list table state i (Equate global name size form private expr) =
     valued (value_in list table i.place i.member i.here.location expr) >>= λ v. Ok ([], state.targets)
 made_by list table state i (Formula code count n expr) =
@@ -80,7 +72,7 @@ made_by list table state i (Formula code count n expr) =
     fitted (load_headers list) (frame_of list i) state.targets (cells_before state i) code count n v >>= λ fit.
     let targets = targets_behind state.targets fit in
     Ok (fit_cells (table_number list) count targets fit, targets)
-made_by list table state i (Entry segment offset name) = Ok ([], state.targets)
+made_by _ _ state _ _ = Ok ([], state.targets)
 
 unfoldable pub made : List Member → List Told → State → Item → Result Made LinkCause
 made list table state i = made_by list table state i i.here.content

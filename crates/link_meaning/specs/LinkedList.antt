@@ -55,11 +55,6 @@ unless_found (f ∷ found) row = None
 abbrev pub wanted_by : List Offer → List Member → ℕ → Member → Use → Option Member
 wanted_by offers list place m u = unless_found (found_for list place m u) (row_for offers m u)
 
--- the members from this place on, each with its place
-abbrev pub placed_from : ℕ → List Member → List (ℕ × Member)
-placed_from place [] = []
-placed_from place (m ∷ members) = (place, m) ∷ placed_from (place + 1) members
-
 -- a use of the member at a place of the list
 pub record Asked : Type 0 where
   pub place : ℕ

@@ -1,9 +1,16 @@
 //! Laws of linked files. These functions do nothing: each is there for its contract.
 
+ghost use Rattle.link_meaning.specs.Layout.{OffsetIsLeast, OneOffset};
 ghost use Rattle.link_meaning.specs.LinkWritten.{LinkedStandsFor};
 ghost use Rattle.link_meaning.specs.EmitFaults.{OneLinkAnswer, OneEmitAnswer, LinkAnswersAsEmit, MadeWhereSound, LinkableStandsFor};
 ghost use Rattle.link_meaning.specs.LinkLoadable.{StandsForLinkedCells, OnlyCallsReachDynamic, IsLoadedWhereNoneSkipped, HasNoLoadFault, IsReadWhole};
 ghost use Rattle.link_meaning.specs.EquateValues.{OneValue, NoneOnRing, TableOfValues, TableWithoutRings, OneNumber};
+
+/// Where a member stands in its load segment is settled: at the least multiple of its alignment behind the members before it.
+pub fn offsets_are_least()
+    ensures least { OffsetIsLeast }
+    ensures one { OneOffset }
+{}
 
 /// The file that the linker writes is a file of the load segments and the table, and each of them stands for its linked
 /// cells.

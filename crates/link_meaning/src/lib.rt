@@ -11,6 +11,6 @@ pub use fault::{LinkCause, LinkFault};
 pub use laws::{
     equates_have_one_value, files_have_one_answer, linkable_files_stand_for_their_cells,
     linked_files_are_loaded, linked_files_have_their_headers_and_cells,
-    linked_files_stand_for_their_cells, records_without_a_fault_give_cells,
+    linked_files_stand_for_their_cells, offsets_are_least, records_without_a_fault_give_cells,
 };
 pub use search::{Step, Want};

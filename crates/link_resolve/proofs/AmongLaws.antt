@@ -4,12 +4,12 @@ use Rattle.std.specs.Prelude.{slice_get, option_and_then, if◌then◌else◌}
 use Rattle.std.specs.List.{filter_map, cons_option}
 use Rattle.std.proofs.lemmas.List.{length-append}
 use Rattle.omf_format.specs.File.{Segment, segment_at}
-use Rattle.omf_format.specs.FileLaws.{segments_fit}
+use Rattle.omf_format.specs.laws.FileLaws.{segments_fit}
 use Rattle.link_meaning.specs.First.{IsIn}
 use Rattle.link_meaning.specs.Member.{Row, Input, Member, Offer, is_library, members_from, objects_from, objects, offer_of, offers_from, offers}
 use Rattle.link_meaning.specs.Dictionary.{rows_of}
 use Rattle.link_meaning.specs.LinkFaults.{segments_fault, AreInputs}
-use Rattle.link_meaning.specs.ProgressLaws.{AreSound}
+use Rattle.link_meaning.specs.laws.ProgressLaws.{AreSound}
 use Rattle.lib_dict.specs.DictionaryLayout.{DefinesSo}
 use Rattle.lib_dict.specs.Library.{told_row}
 use Rattle.link_resolve.specs.Gathered.{segment_in, IsAmong, AllAmong, IsSoundInput}

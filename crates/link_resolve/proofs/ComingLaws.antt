@@ -4,9 +4,9 @@ use Rattle.omf_format.specs.declared.fault.RecordFault.{RecordFault}
 use Rattle.omf_format.specs.Record.{Record}
 use Rattle.omf_format.specs.Reading.{Reader, next_answer, after_next, records_of, IsBody}
 use Rattle.omf_format.specs.File.{body_reader}
-use Rattle.omf_format.specs.FileLaws.{Answer, gave, same_found, open_at_some, open_at_fault, ended_at_none}
+use Rattle.omf_format.specs.laws.FileLaws.{Answer, gave, same_found, open_at_some, open_at_fault, ended_at_none}
 use Rattle.std.specs.Prelude.{option_map}
-use Rattle.omf_format.specs.BodyLaws.{found_by}
+use Rattle.omf_format.specs.laws.BodyLaws.{found_by}
 use Rattle.omf_header.specs.View.{fields}
 use Rattle.omf_records.specs.declared.record.Rec.{Rec}
 use Rattle.omf_records.specs.View.{seen}

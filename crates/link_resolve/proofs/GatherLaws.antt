@@ -7,7 +7,7 @@ use Rattle.std.proofs.lemmas.List.{map-append, length-map}
 use Rattle.std.proofs.lemmas.Bool.{eqb-true}
 use Rattle.omf_format.specs.declared.fault.FileFault.{FileFault}
 use Rattle.omf_format.specs.File.{Segment, IsFile, IsFirstFault}
-use Rattle.omf_format.specs.FileLaws.{file_same, no_file}
+use Rattle.omf_format.specs.laws.FileLaws.{file_same, no_file}
 use Rattle.link_meaning.specs.declared.fault.LinkCause.{LinkCause}
 use Rattle.link_meaning.specs.declared.fault.LinkCause.TheVariants.{BadLength, BadLibrary}
 use Rattle.link_meaning.specs.First.{IsIn}
@@ -18,14 +18,14 @@ use Rattle.link_meaning.specs.LinkFaults.{segment_fault, segments_fault, length_
 use Rattle.omf_format.specs.Header.{alignment_of}
 use Rattle.link_meaning.specs.declared.fault.LinkFault.{LinkFault}
 use Rattle.lib_dict.specs.DictionaryLayout.{AreRows, RowsAreLaidOut}
-use Rattle.lib_dict.specs.Library.{LibraryRow, told_row, HasRows, IsNoLibrary, IsFalseAt}
+use Rattle.lib_dict.specs.Library.{LibraryRow, told_row, HasRows, IsFalseAt}
 use Rattle.link_resolve.specs.declared.gather.Gathered as gathered
 use Rattle.link_resolve.specs.Linked.{Holds}
 use Rattle.link_resolve.specs.Offers.{AreOffers}
 use Rattle.link_resolve.specs.Libraries.{StandsIn, AllStand}
 use Rattle.link_resolve.specs.Reading.{IsFileRefused}
 use Rattle.link_resolve.specs.Gathered as shown
-use Rattle.link_resolve.specs.Gathered.{segment_in, IsAmong, AllAmong, IsSoundInput, IsGathered, AddsInput}
+use Rattle.link_resolve.specs.Gathered.{IsSoundInput, IsGathered, AddsInput}
 use Rattle.link_resolve.proofs.LibraryLaws.{ascend}
 use Rattle.link_resolve.proofs.OpeningLaws.{in_either}
 
@@ -114,12 +114,6 @@ false_library list bytes file at fault is_file sound library is told =
     let same : is.segments ≡ list = file_same is.segments list bytes is.is_file is_file in
     let rows : rows_of list ≡ Err at = ap rows_of (sym same) ∙ is.false' in
     inr (OfDictionary list at is_file sound (ap (λ (b : Bool). if b then rows_of list else Ok []) library ∙ rows) told)
-
-pub is_one : (list : List Segment) (bytes : List ℕ) → IsFile list bytes → is_library list ≡ true → IsNoLibrary bytes → ⊥
-is_one list bytes is_file library is =
-    let same : is.segments ≡ list = file_same is.segments list bytes is.is_file is_file in
-    let clash : false ≡ true = sym is.other ∙ ap is_library same ∙ library in
-    cc
 
 -- ---- one more input
 

@@ -5,7 +5,7 @@ use Rattle.std.proofs.Math.ListN.{set}
 use Rattle.std.proofs.lemmas.List.{get_or-set_other, length-append, length-set, length-replicate, length-map}
 use Rattle.omf_format.specs.File.{Segment, segment_at}
 use Rattle.link_meaning.specs.First.{IsIn}
-use Rattle.link_meaning.specs.FirstLaws.{first_some-first}
+use Rattle.link_meaning.specs.laws.FirstLaws.{first_some-first}
 use Rattle.link_meaning.specs.Member.{Member, Offer, Input, objects, offers}
 use Rattle.link_meaning.specs.declared.search.Want.{Want}
 use Rattle.link_meaning.specs.declared.search.Want.TheVariants.{Data, One, Any}
@@ -14,7 +14,7 @@ use Rattle.link_meaning.specs.LinkedList.{asked, row_for, found_for, unless_foun
 use Rattle.link_meaning.specs.Sizes.{body_size}
 use Rattle.link_meaning.specs.LinkFaults.{segments_fault}
 use Rattle.link_resolve.proofs.GatherLaws.{body_short}
-use Rattle.link_meaning.specs.ProgressLaws.{AreSound, fresh_name, fresh_data}
+use Rattle.link_meaning.specs.laws.ProgressLaws.{AreSound, fresh_name, fresh_data}
 use Rattle.link_resolve.specs.declared.definitions.Origin.{Origin}
 use Rattle.link_resolve.specs.declared.linked.Linked.{Linked}
 use Rattle.link_resolve.specs.declared.offers.Offers as kept

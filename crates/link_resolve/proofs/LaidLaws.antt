@@ -13,10 +13,10 @@ use Rattle.omf_base.specs.declared.spot.Spot.{Spot}
 use Rattle.omf_format.specs.Header.{Fields, alignment_of}
 use Rattle.omf_format.specs.File.{Segment}
 use Rattle.link_meaning.specs.First.{IsFirst}
-use Rattle.link_meaning.specs.FirstLaws.{none_more, none_yet}
+use Rattle.link_meaning.specs.laws.FirstLaws.{none_more, none_yet}
 use Rattle.link_meaning.specs.Member.{Member}
 use Rattle.link_meaning.specs.Layout.{in_load, aligned_from, end_from, load_length, load_names, load_members, lesser_bank, cleared, least_bank, greatest_align, of_first, number_in, load_of, offset_of}
-use Rattle.link_meaning.specs.LayoutLaws.{aligned_from-least, alignment-some}
+use Rattle.link_meaning.specs.laws.LayoutLaws.{aligned_from-least, alignment-some}
 use Rattle.link_meaning.specs.LinkFaults.{HasOrgFault, spot_in, first_spot}
 use Rattle.link_resolve.specs.declared.layout.Load.{Load}
 use Rattle.link_resolve.specs.declared.layout.Place.{Place}
@@ -228,11 +228,6 @@ at_snoc {A} (x ∷ xs) y (suc k) z e = settle (at_snoc xs y k z e)
 pub snoc_at : {A : Type 0} → (xs : List A) (y : A) → slice_get (xs ++ y ∷ []) (length xs) ≡ Some y
 snoc_at [] y = refl
 snoc_at (x ∷ xs) y = snoc_at xs y
-
-pub front_at : {A : Type 0} → (xs ys : List A) (k : ℕ) (z : A) → slice_get xs k ≡ Some z → slice_get (xs ++ ys) k ≡ Some z
-front_at [] ys k z e = absurd cc
-front_at (x ∷ xs) ys zero z e = e
-front_at (x ∷ xs) ys (suc k) z e = front_at xs ys k z e
 
 set_at : {A : Type 0} → (xs : List A) (i k : ℕ) (y z : A) → slice_get (set xs i y) k ≡ Some z → ((k ≡ i) × (y ≡ z)) ⊎ ((k ≡ i → ⊥) × (slice_get xs k ≡ Some z))
 set_at [] i k y z e = absurd cc

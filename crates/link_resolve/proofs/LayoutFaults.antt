@@ -11,7 +11,7 @@ use Rattle.omf_format.specs.Header.{Fields}
 use Rattle.link_meaning.specs.declared.fault.LinkCause.TheVariants.{TooManySegments, SegmentTooLong}
 use Rattle.link_meaning.specs.declared.fault.LinkFault.{LinkFault}
 use Rattle.link_meaning.specs.First.{HasNone, IsFirst}
-use Rattle.link_meaning.specs.FirstLaws.{none_more, none_yet}
+use Rattle.link_meaning.specs.laws.FirstLaws.{none_more, none_yet}
 use Rattle.link_meaning.specs.Member.{Member}
 use Rattle.link_meaning.specs.Layout.{load_names, load_length, load_members, least_bank, greatest_align, of_first, load_fields, headers_from, load_headers, cleared}
 use Rattle.link_meaning.specs.LinkFaults.{HasOrgFault, HasLengthFault, HasLayoutFault, is_too_long, LayoutCheck, Orgs, Count, Lengths}

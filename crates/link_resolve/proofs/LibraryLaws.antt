@@ -7,7 +7,7 @@ use Rattle.std.specs.Str.{bytes_eq}
 use Rattle.std.proofs.lemmas.Bool.{eq-eqb, ne_eqb}
 use Rattle.omf_format.specs.Header.{form_of, is_private}
 use Rattle.omf_format.specs.File.{Segment, AreSegments, segment_at}
-use Rattle.omf_format.specs.FileLaws.{header_lies}
+use Rattle.omf_format.specs.laws.FileLaws.{header_lies}
 use Rattle.omf_records.specs.declared.segment.SegmentView.{SegmentView}
 use Rattle.omf_records.specs.Segments.{shown}
 use Rattle.omf_records.specs.SegmentLaws.{shown_at}
@@ -45,9 +45,6 @@ ascend (x ∷ segments) next file end are (suc j) zero s t less a b = absurd (om
 ascend (x ∷ segments) next file end are (suc j) (suc k) s t less a b =
     ascend segments (next + x.fields.byte_count) file end are.3 j k s t (omega arith) a b
 
-segment_same : (s t : Segment) → Some s ≡ Some t → s ≡ t
-segment_same s t e = cc
-
 -- a segment that starts there is between these places
 abbrev pub IsBetween : List Segment → ℕ → ℕ → ℕ → Type 0
 IsBetween list at low high = (high ≤ length list) × ((k : ℕ) (s : Segment) → slice_get list k ≡ Some s → s.start ≡ at → (low ≤ k) × (k < high))
@@ -56,47 +53,6 @@ pub within_length : {A : Type 0} → (xs : List A) (k : ℕ) (x : A) → slice_g
 within_length [] k x e = absurd cc
 within_length (y ∷ xs) zero x e = omega arith
 within_length (y ∷ xs) (suc k) x e = let rest = within_length xs k x e in omega arith
-
-pub at_within : {A : Type 0} → (xs : List A) (k : ℕ) → k < length xs → (x : A) × (slice_get xs k ≡ Some x)
-at_within [] k less = absurd (omega arith)
-at_within (y ∷ xs) zero less = (y, refl)
-at_within (y ∷ xs) (suc k) less = at_within xs k (omega arith)
-
-pub between_all : (list : List Segment) (at : ℕ) → IsBetween list at 0 (length list)
-between_all list at = (omega arith, λ k s here starts. (omega arith, within_length list k s here))
-
-pub not_same : (list : List Segment) (at start k middle : ℕ) (s m : Segment) → slice_get list k ≡ Some s → slice_get list middle ≡ Some m → start ≡ m.start → s.start ≡ at → (start ≡ at → ⊥) → k ≡ middle → ⊥
-not_same list at start k middle s m here there is starts other e =
-    let same : s ≡ m = segment_same s m (sym here ∙ ap (slice_get list) e ∙ there) in
-    other (is ∙ sym (ap (λ (x : Segment). x.start) same) ∙ starts)
-
-pub between_above : (list : List Segment) (at low high middle start : ℕ) (m : Segment) → StartsAscend list → slice_get list middle ≡ Some m → start ≡ m.start → start < at → IsBetween list at low high → IsBetween list at (middle + 1) high
-between_above list at low high middle start m ascends there is less range = (
-  range.0,
-  λ k s here starts.
-      let r = range.1 k s here starts in
-      let before : k < middle → ⊥ = λ l. let asc = ascends k middle s m l here there in omega (arith, asc, starts, is, less) in
-      let same : k ≡ middle → ⊥ = not_same list at start k middle s m here there is starts (λ e. omega (arith, e, less)) in
-      (omega (arith, before, same), r.1),
-)
-
-pub between_below : (list : List Segment) (at low high middle start : ℕ) (m : Segment) → StartsAscend list → slice_get list middle ≡ Some m → start ≡ m.start → at < start → middle ≤ high → IsBetween list at low high → IsBetween list at low middle
-between_below list at low high middle start m ascends there is less within range = (
-  omega (arith, range.0, within),
-  λ k s here starts.
-      let r = range.1 k s here starts in
-      let behind : middle < k → ⊥ = λ l. let asc = ascends middle k m s l there here in omega (arith, asc, starts, is, less) in
-      let same : k ≡ middle → ⊥ = not_same list at start k middle s m here there is starts (λ e. omega (arith, e, less)) in
-      (r.0, omega (arith, behind, same)),
-)
-
-pub found_there : (list : List Segment) (at middle start : ℕ) (m : Segment) → StartsAscend list → slice_get list middle ≡ Some m → start ≡ m.start → start ≡ at → (k : ℕ) (s : Segment) → slice_get list k ≡ Some s → s.start ≡ at
-    → Some (middle + 1) ≡ Some (k + 1)
-found_there list at middle start m ascends there is eq k s here starts =
-    let before : k < middle → ⊥ = λ l. let asc = ascends k middle s m l here there in omega (arith, asc, starts, is, eq) in
-    let behind : middle < k → ⊥ = λ l. let asc = ascends middle k m s l there here in omega (arith, asc, starts, is, eq) in
-    let same : middle ≡ k = omega (arith, before, behind) in
-    ap (λ (n : ℕ). Some (n + 1)) same
 
 -- ---- titles
 

@@ -1,11 +1,8 @@
 -- Definitions in order, whose expressions lie apart.
-use Rattle.std.proofs.Common.{◌≡◌, ℕ, zero, suc, ◌+◌, ◌<◌, Bool, true, false, List, [], ◌∷◌, ◌++◌, length, Option, Some, None, refl, sym, ap, ◌∙◌, arith}
-use Rattle.std.specs.Prelude.{slice_get, option_map, nat_eq, if◌then◌else◌}
-use Rattle.std.proofs.lemmas.Bool.{eqb-true}
-use Rattle.std.specs.Borrow.{Bor}
-use Rattle.indexmap.specs.IndexMap.{IndexMap, get, Updates}
+use Rattle.std.proofs.Common.{◌≡◌, ℕ, zero, suc, ◌+◌, ◌<◌, List, [], ◌∷◌, ◌++◌, length, Option, Some, None, refl, sym, ap, ◌∙◌, arith}
+use Rattle.std.specs.Prelude.{slice_get, option_map, if◌then◌else◌}
 use Rattle.link_resolve.specs.declared.listed.Mark.{Mark}
-use Rattle.link_resolve.specs.Listed.{ToldDefinition, expr_at, row_of, rows_from}
+use Rattle.link_resolve.specs.Listed.{ToldDefinition, row_of, rows_from}
 
 abbrev Exprs : Type 0
 Exprs = ℕ → Option (List ℕ)
@@ -32,20 +29,6 @@ rows_more old new n (x ∷ marks) mark same =
 
 abbrev pub as_told : Mark → Option (List ℕ) → ToldDefinition
 as_told mark expr = record { member = mark.member; at = mark.at; expr = expr; length = mark.length; form = mark.form }
-
--- an expression that is kept is there, and the others stay
-pub kept_there : {S : Type 0} → (old new : IndexMap ℕ (Bor (List ℕ)) S) (number : ℕ) (text : Bor (List ℕ)) → Updates nat_eq old new number (Some text) → expr_at new number ≡ Some text.now
-kept_there old new number text updates = ap (option_map (λ text. text.now)) (updates.0 number ∙ ap (λ (b : Bool). if b then Some text else get nat_eq old number) (same number))
-  where
-    same : (n : ℕ) → nat_eq n n ≡ true
-    same n = grind (arith)
-
-pub kept_before : {S : Type 0} → (old new : IndexMap ℕ (Bor (List ℕ)) S) (number k : ℕ) (text : Bor (List ℕ)) → Updates nat_eq old new number (Some text) → k < number → expr_at new k ≡ expr_at old k
-kept_before old new number k text updates less = ap (option_map (λ text. text.now)) (updates.0 k ∙ ap (λ (b : Bool). if b then Some text else get nat_eq old k) (settle (nat_eq number k) refl))
-  where
-    settle : (b : Bool) → nat_eq number k ≡ b → nat_eq number k ≡ false
-    settle false e = e
-    settle true e = absurd (let same = eqb-true number k e in omega (arith, same, less))
 
 -- ---- what a look-up and one more definition give
 

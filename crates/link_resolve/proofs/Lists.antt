@@ -1,5 +1,5 @@
 -- Places in lists.
-use Rattle.std.proofs.Common.{◌≡◌, ℕ, zero, suc, ◌+◌, ◌≤◌, ◌<◌, List, [], ◌∷◌, length, get_or, drop, Some, None, refl, sym, ap, ◌∙◌, arith}
+use Rattle.std.proofs.Common.{◌≡◌, ℕ, zero, suc, ◌+◌, ◌<◌, List, [], ◌∷◌, length, get_or, drop, Some, refl, sym, ap, ◌∙◌, arith}
 use Rattle.std.specs.Prelude.{slice_get}
 
 -- the items from a place on
@@ -10,29 +10,12 @@ drop_at {A} (y ∷ xs) (suc k) x e =
     let next : suc k + 1 ≡ suc (k + 1) = omega arith in
     drop_at xs k x e ∙ ap (λ (n : ℕ). x ∷ drop n (y ∷ xs)) (sym next)
 
-pub drop_past : {A : Type 0} → (xs : List A) (k : ℕ) → length xs ≤ k → drop k xs ≡ []
-drop_past [] k past = nothing k
-  where
-    nothing : {A : Type 0} → (k : ℕ) → drop {A = A} k [] ≡ []
-    nothing zero = refl
-    nothing (suc k) = refl
-drop_past (y ∷ xs) zero past = absurd (omega arith)
-drop_past (y ∷ xs) (suc k) past = drop_past xs k (omega arith)
-
 pub empty : {A : Type 0} → (xs : List A) → length xs ≡ 0 → xs ≡ []
 empty [] e = refl
 empty (x ∷ xs) e = absurd (omega (arith, e))
 
 pub not_empty : {A : Type 0} → (xs : List A) → (length xs ≡ 0 → ⊥) → xs ≡ [] → ⊥
 not_empty xs some e = some (ap length e)
-
-pub first_is : {A : Type 0} → (xs : List A) (x : A) → slice_get xs 0 ≡ Some x → xs ≡ x ∷ drop 1 xs
-first_is [] x e = absurd cc
-first_is {A} (y ∷ xs) x e = let same : y ≡ x = cc in ap (λ (z : A). z ∷ xs) same
-
-pub none_first : {A : Type 0} → (xs : List A) → slice_get xs 0 ≡ None → xs ≡ []
-none_first [] e = refl
-none_first (y ∷ xs) e = absurd cc
 
 pub drop_twice : {A : Type 0} → (a b : ℕ) (xs : List A) → drop (a + b) xs ≡ drop b (drop a xs)
 drop_twice zero b xs = let same : 0 + b ≡ b = omega arith in ap (λ (n : ℕ). drop n xs) same

@@ -5,7 +5,6 @@ use Rattle.std.specs.List.{list_any}
 use Rattle.std.specs.Str.{bytes_eq}
 use Rattle.std.proofs.lemmas.List.Elements.{filter-append}
 use Rattle.std.proofs.lemmas.List.{map-append}
-use Rattle.std.proofs.lemmas.List.Folds.{list_any-append}
 use Rattle.std.proofs.lemmas.Bool.{eq-eqb}
 use Rattle.link_meaning.specs.declared.search.Step.TheVariants.{Everyone}
 use Rattle.link_meaning.specs.Member.{Member}
@@ -32,9 +31,6 @@ bytes_sym a b = settle (bytes_eq a b) (bytes_eq b a) refl refl
     settle false true p q = let same = bytes_same b a q in ap (bytes_eq a) same ∙ ap (λ (c : Text). bytes_eq c a) (sym same)
     settle false false p q = p ∙ sym q
 
-pub bytes_other : (a b : Text) → bytes_eq a b ≡ false → a ≡ b → ⊥
-bytes_other a b other e = let clash : false ≡ true = sym other ∙ ap (bytes_eq a) (sym e) ∙ bytes_refl a in absurd cc
-
 -- ---- what is there
 
 has-filter : (x y : Text) (xs : List Text) → bytes_eq y x ≡ false → has x (filter (λ z. not (bytes_eq z y)) xs) ≡ has x xs
@@ -46,9 +42,6 @@ has-filter x y (z ∷ xs) other = settle (bytes_eq z y) refl (has-filter x y xs 
         let same = bytes_same z y e in
         rest ∙ sym (ap (λ (b : Bool). b || has x xs) (ap (λ (w : Text). bytes_eq w x) same ∙ other))
     settle false e rest = ap (λ (b : Bool). bytes_eq z x || b) rest
-
-has-append : (x : Text) (xs ys : List Text) → has x (xs ++ ys) ≡ (has x xs || has x ys)
-has-append x xs ys = list_any-append (λ y. bytes_eq y x) xs ys
 
 pub has-distinct : (x : Text) (xs : List Text) → has x (distinct xs) ≡ has x xs
 has-distinct x [] = refl

@@ -18,7 +18,7 @@ use Rattle.link_meaning.specs.declared.search.Want.TheVariants as wants
 use Rattle.link_meaning.specs.Uses.{Use, uses_of, usings_of}
 use Rattle.link_meaning.specs.Search.{Found, step_for, is_step, sees, or_else, decided, outer_steps, steps_of, used_data, entries, data_titles, named, finds, finds_data, only_place}
 use Rattle.link_meaning.specs.LinkedList.{Asked, asked_from, asked, row_for, found_for, unless_found}
-use Rattle.link_meaning.specs.ProgressLaws.{AllNone, none_decided}
+use Rattle.link_meaning.specs.laws.ProgressLaws.{AllNone, none_decided}
 use Rattle.link_resolve.specs.declared.names.Outcome.{Outcome}
 use Rattle.link_resolve.specs.declared.names.Outcome.TheVariants.{One}
 use Rattle.link_resolve.specs.Linked.{SeesPlace}

@@ -3,16 +3,16 @@ use Rattle.std.proofs.Common.{◌≡◌, ℕ, ◌+◌, List, [], ◌∷◌, ◌+
 use Rattle.std.specs.Prelude.{slice_get}
 use Rattle.omf_base.specs.declared.spot.Spot.{Spot}
 use Rattle.omf_format.specs.File.{Segment}
-use Rattle.omf_format.specs.FileLaws.{file_same, no_file}
+use Rattle.omf_format.specs.laws.FileLaws.{file_same, no_file}
 use Rattle.link_meaning.specs.declared.fault.LinkCause.{LinkCause}
 use Rattle.link_meaning.specs.declared.fault.LinkFault.{LinkFault}
 use Rattle.link_meaning.specs.declared.fault.LinkCause.TheVariants.{Empty}
 use Rattle.link_meaning.specs.First.{HasNone, IsFirst}
-use Rattle.link_meaning.specs.FirstLaws.{none_more, none_yet}
+use Rattle.link_meaning.specs.laws.FirstLaws.{none_more, none_yet}
 use Rattle.link_meaning.specs.Member.{Row, Input, Member, objects}
 use Rattle.link_meaning.specs.LinkedList.{Asked, asked}
 use Rattle.link_meaning.specs.LinkFaults.{nowhere, segments_fault, rows_in_file, HasFileFault, OfFile, OfSegment, OfDictionary, IsInput, AreInputs, IsProgram, HasUseFault, HasLayoutFault, Phase, Reading, Objects, Names, Layout, HasPhaseFault, IsFirstResolveFault, IsResolved}
-use Rattle.link_meaning.specs.LinkFaultLaws.{one_program}
+use Rattle.link_meaning.specs.laws.LinkFaultLaws.{one_program}
 use Rattle.link_resolve.specs.declared.definitions.Origin.{Origin}
 use Rattle.link_resolve.specs.Definitions.{IsOf}
 use Rattle.link_resolve.specs.Resolving.{FailsToResolve, IsFirstUse}

@@ -10,7 +10,7 @@ use Rattle.omf_format.specs.Header.{Fields, alignment_of}
 use Rattle.omf_header.specs.View.{fields}
 use Rattle.link_meaning.specs.Member.{Member}
 use Rattle.link_meaning.specs.Layout.{in_load, aligned_from, end_from, load_length, load_names, load_of, offset_of, headers_from, load_headers}
-use Rattle.link_meaning.specs.LayoutLaws.{aligned_from-least, alignment-some}
+use Rattle.link_meaning.specs.laws.LayoutLaws.{aligned_from-least, alignment-some}
 use Rattle.link_resolve.specs.declared.layout.Place.{Place}
 use Rattle.link_resolve.specs.declared.layout.Layout as laid
 use Rattle.link_resolve.specs.declared.program.Kept.{Kept}
@@ -175,13 +175,6 @@ told_at list (suc k) answer origin told is = settle (slice_get list k) refl (sub
     settle : (o : Option Member) → slice_get list k ≡ o → OriginOf o (Some origin) → IsTold list (suc k) origin
     settle None e of = absurd of
     settle (Some m) e of = record { k = k; place' = refl; member = m; at = e; of = of }
-
-pub none_told : (list : List Member) (place : ℕ) (answer : Option Origin) → OriginOf (member_at list place) answer → answer ≡ None → member_at list place ≡ None
-none_told list place answer told is = settle (member_at list place) (subst (OriginOf (member_at list place)) is told)
-  where
-    settle : (o : Option Member) → OriginOf o None → o ≡ None
-    settle None of = refl
-    settle (Some m) of = absurd of
 
 -- what a view shows is the member's segment
 pub segment_told : (files : List (List Segment)) (list : List Member) (place : ℕ) (origin : Origin) (told : IsTold list place origin) → AllAmong files list → segment_in files origin.file origin.segment ≡ Some told.member.segment

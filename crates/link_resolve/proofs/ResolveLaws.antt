@@ -20,7 +20,7 @@ use Rattle.link_resolve.specs.declared.layout.Layout as laid
 use Rattle.link_resolve.specs.declared.program.Kept.{Kept}
 use Rattle.link_resolve.specs.Gathered.{IsGathered, AllAmong}
 use Rattle.link_resolve.specs.Resolving.{IsHeld}
-use Rattle.omf_format.specs.HeaderLaws.{IsBytes}
+use Rattle.omf_format.specs.Number.{IsBytes}
 use Rattle.link_resolve.specs.Programs.{IsKept}
 use Rattle.link_resolve.specs.Grown.{MayGrow, HasGrown}
 use Rattle.link_resolve.specs.Laid.{layout_checks, Laid, AllShort, AreHeaders}

@@ -2,12 +2,12 @@
 use Rattle.std.proofs.Common.{◌≡◌, ◌⊎◌, inl, inr, ℕ, zero, suc, ◌+◌, ◌-◌, ◌≤◌, ◌<◌, List, [], ◌∷◌, ◌++◌, length, map, take, drop, Option, Some, None, refl, sym, ap, subst, ◌∙◌, arith}
 use Rattle.std.specs.Prelude.{slice_get, option_map}
 use Rattle.std.proofs.lemmas.Option.{slice_get-map, slice_get_within}
-use Rattle.std.proofs.lemmas.List.{length-map, length-take-le, take-append-drop}
+use Rattle.std.proofs.lemmas.List.{length-take-le, take-append-drop}
 use Rattle.link_meaning.specs.declared.fault.LinkCause.{LinkCause}
 use Rattle.link_meaning.specs.declared.search.Want.{Want}
 use Rattle.link_meaning.specs.declared.search.Want.TheVariants as wants
 use Rattle.link_meaning.specs.First.{HasNone}
-use Rattle.link_meaning.specs.FirstLaws.{none_more, none_yet}
+use Rattle.link_meaning.specs.laws.FirstLaws.{none_more, none_yet}
 use Rattle.link_meaning.specs.Member.{Member}
 use Rattle.link_meaning.specs.Uses.{Use, uses_of}
 use Rattle.link_meaning.specs.Search.{Found}
@@ -163,11 +163,6 @@ take_past [] (suc n) less = refl
 take_past (x ∷ xs) zero less = absurd (omega arith)
 take_past {A} (x ∷ xs) (suc n) less = ap (λ (l : List A). x ∷ l) (take_past xs n (omega arith))
 
-pub none_all : (list : List Member) (table : Linked) (k : ℕ) → Holds list table → length table.uses ≤ k → HasNone (FailsToResolve list) (take k (asked list)) → HasNone (FailsToResolve list) (asked list)
-none_all list table k holds past none =
-    let size : length (asked list) ≡ length table.uses = sym (length-map (asked list) told_use) ∙ sym (ap length holds.uses) in
-    subst (HasNone (FailsToResolve list)) (take_past (asked list) k (omega (arith, size, past))) none
-
 -- ---- the first definition
 
 pub none_seen : (all found : List Found) (o : Outcome) → Sees all found o → o ≡ Nothing → first_found found ≡ None
@@ -190,7 +185,3 @@ pub several_seen : (all found : List Found) (o : Outcome) (n : ℕ) → Sees all
 several_seen all [] o n seen is = let clash : Several n ≡ Nothing = sym is ∙ seen in absurd cc
 several_seen all (f ∷ []) o n seen is = let clash : Several n ≡ One seen.0 = sym is ∙ seen.1 in absurd cc
 several_seen all (f ∷ g ∷ more) o n seen is = ap (slice_get all) (number_several n seen.0 (sym is ∙ seen.1)) ∙ seen.2
-
--- a place of the list is one of the members kept
-pub place_kept : (list : List Member) (table : Linked) (place : ℕ) (m : Member) → Holds list table → slice_get list (place - 1) ≡ Some m → place ≤ length table.members.items
-place_kept list table place m holds at = omega (arith, slice_get_within list (place - 1) m at, count_is list table holds)

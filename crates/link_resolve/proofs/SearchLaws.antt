@@ -19,9 +19,6 @@ use Rattle.link_resolve.specs.Definitions.{Seen, Sees, IsOf, is_found, key_of_fo
 use Rattle.link_resolve.specs.Linked.{place_rows, SeesPlace, names_of, used_places}
 use Rattle.link_resolve.proofs.Lists.{drop_or}
 
-abbrev pub Tells : Type 1
-Tells = Found → ℕ → Type 0
-
 filter_both : (p q : Found → Bool) (xs : List Found) → filter p (filter q xs) ≡ filter (λ x. p x && q x) xs
 filter_both p q [] = refl
 filter_both p q (x ∷ xs) = settle (q x) (p x) (filter_both p q xs)

@@ -6,9 +6,9 @@ use Rattle.std.proofs.lemmas.List.{take-append-drop, length-take, length-drop}
 use Rattle.omf_format.specs.Number.{number_at}
 use Rattle.omf_format.specs.Name.{without_trailing, name_at, name_size}
 use Rattle.omf_format.specs.Header.{Fields, fields_of, names_end}
-use Rattle.omf_format.specs.HeaderLaws.{sound_from_none}
+use Rattle.omf_format.specs.laws.HeaderLaws.{sound_from_none}
 use Rattle.omf_format.specs.File.{IsHeader}
-use Rattle.omf_format.specs.FieldLaws.{padded-trim}
+use Rattle.omf_format.specs.laws.FieldLaws.{padded-trim}
 use Rattle.link_resolve.proofs.Lists.{drop_twice}
 
 front_of : (ys n rest : List ℕ) → ys ≡ n ++ rest → take (length n) ys ≡ n

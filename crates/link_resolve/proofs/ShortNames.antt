@@ -1,11 +1,11 @@
 -- Names as files have them have 255 bytes at most.
-use Rattle.std.proofs.Common.{◌≡◌, ℕ, zero, suc, ◌+◌, ◌≤◌, ◌<◌, ◌++◌, List, [], ◌∷◌, length, Some, sym, subst, arith}
+use Rattle.std.proofs.Common.{◌≡◌, ℕ, zero, suc, ◌+◌, ◌≤◌, ◌<◌, List, [], ◌∷◌, length, Some, sym, subst, arith}
 use Rattle.std.specs.Prelude.{slice_get}
 use Rattle.std.specs.List.{AllByRecursion}
 use Rattle.omf_format.specs.Field.{IsName}
 use Rattle.omf_format.specs.Expression.{Term, Operator, Location, Constant, Named, Offset, IsTerm, AreTerms, IsExpression, term_text, terms_of, placed_terms, terms_in}
-use Rattle.omf_format.specs.ExpressionLaws.{terms_are}
-use Rattle.omf_format.specs.TreeLaws.{tree_has_terms}
+use Rattle.omf_format.specs.laws.ExpressionLaws.{terms_are}
+use Rattle.omf_format.specs.laws.TreeLaws.{tree_has_terms}
 use Rattle.link_meaning.specs.Uses.{Use}
 use Rattle.link_resolve.specs.Uses.{IsShortTerm, HaveShortNames}
 
@@ -30,10 +30,6 @@ terms_short l at (term ∷ terms) few are = (term_short l term few are.0, terms_
 
 pub text_short : (l : ℕ) (text : List ℕ) → IsExpression l text → l < 256 → AreShort (terms_in l 0 text)
 text_short l text is few = subst AreShort (sym (terms_are l text is.tree is.spells)) (terms_short l 0 (terms_of is.tree) few (tree_has_terms l is.tree is.spells.formed))
-
-pub short_more : (uses : List (ℕ × Use)) (u : ℕ × Use) → HaveShortNames uses → length u.1.name ≤ 255 → HaveShortNames (uses ++ u ∷ [])
-short_more [] u short is = (is, tt)
-short_more (x ∷ uses) u short is = (short.0, short_more uses u short.1 is)
 
 use_same : (a b : ℕ × Use) → Some a ≡ Some b → a ≡ b
 use_same a b e = cc

@@ -12,9 +12,9 @@ use Rattle.omf_format.specs.Header.{is_private}
 use Rattle.omf_format.specs.File.{Segment}
 use Rattle.link_meaning.specs.First.{IsIn}
 use Rattle.link_meaning.specs.Member.{Member, is_data}
-use Rattle.link_meaning.specs.MemberLists.{in_filter}
-use Rattle.link_meaning.specs.EquatePlaces.{passes_filter}
-use Rattle.link_meaning.specs.PlaceFits.{in-append, own_entry}
+use Rattle.link_meaning.specs.laws.MemberLists.{in_filter}
+use Rattle.link_meaning.specs.laws.EquatePlaces.{passes_filter}
+use Rattle.link_meaning.specs.laws.PlaceFits.{in-append, own_entry}
 use Rattle.link_meaning.specs.Defines.{Definition, title_of, data_title_of, outer_scope}
 use Rattle.link_meaning.specs.declared.search.Step.{Step}
 use Rattle.link_meaning.specs.declared.search.Step.TheVariants.{Within}

@@ -3,7 +3,7 @@ use Rattle.std.specs.Prelude.{◌≡◌, ◌+◌, ◌<◌, ◌^◌, None, List, 
 use Rattle.omf_format.specs.File.{Segment}
 use Rattle.link_meaning.specs.First.{IsIn}
 use Rattle.link_meaning.specs.Member.{Input, Member, Offer, objects, offers}
-use Rattle.link_meaning.specs.ProgressLaws.{AreSound}
+use Rattle.link_meaning.specs.laws.ProgressLaws.{AreSound}
 use Rattle.link_meaning.specs.LinkFaults.{segments_fault}
 use Rattle.link_meaning.specs.LinkedList.{IsLinked}
 use Rattle.link_resolve.specs.declared.linked.Linked.{Linked}

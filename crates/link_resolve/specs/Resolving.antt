@@ -24,13 +24,10 @@ IsShape (f ∷ g ∷ more) answer = (number : ℕ) × (answer ≡ Several number
 abbrev pub cause_of : Want → Outcome → Option LinkCause
 cause_of wants.Data Nothing = Some Unresolved
 cause_of wants.One Nothing = Some Unresolved
-cause_of wants.Any Nothing = None
-cause_of wants.Data (One number) = None
-cause_of wants.One (One number) = None
-cause_of wants.Any (One number) = None
 cause_of wants.Data (Several number) = Some Duplicate
 cause_of wants.One (Several number) = Some Duplicate
 cause_of wants.Any (Several number) = Some Duplicate
+cause_of _ _ = None
 
 -- the first of these
 abbrev pub first_found : List Found → Option Found

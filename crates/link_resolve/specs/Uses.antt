@@ -1,7 +1,7 @@
 -- What is kept of the uses of the linked list.
 use Rattle.std.specs.Prelude.{◌≡◌, ◌≤◌, ℕ, List, length, map}
 use Rattle.std.specs.List.{AllByRecursion, zip}
-use Rattle.omf_format.specs.Expression.{Term, Operator, Location, Constant, Named, Offset}
+use Rattle.omf_format.specs.Expression.{Term, Named}
 use Rattle.omf_format.specs.Field.{Layout}
 use Rattle.omf_format.specs.Record.{Record, IsRecord}
 use Rattle.link_meaning.specs.declared.search.Want.{Want}
@@ -35,11 +35,8 @@ HaveShortNames uses = AllByRecursion (λ u. length u.1.name ≤ 255) uses
 
 -- the same for the name of a term
 abbrev pub IsShortTerm : Term → Type 0
-IsShortTerm (Operator code) = Unit {0}
-IsShortTerm Location = Unit {0}
-IsShortTerm (Constant n) = Unit {0}
 IsShortTerm (Named code name) = length name ≤ 255
-IsShortTerm (Offset n) = Unit {0}
+IsShortTerm _ = Unit {0}
 
 -- the record is one of the format, where names have this LABLEN
 abbrev pub HasSpelling : ℕ → Record → Type 0

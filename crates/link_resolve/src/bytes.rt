@@ -1,7 +1,7 @@
 //! The numbers of a file are bytes.
 
 ghost use Rattle.std.specs.List.{AllByRecursion};
-ghost use Rattle.omf_format.specs.HeaderLaws.{IsBytes};
+ghost use Rattle.omf_format.specs.Number.{IsBytes};
 ghost use Rattle.link_resolve.specs.Resolved.{all_bytes};
 
 /// The numbers of a file are bytes.

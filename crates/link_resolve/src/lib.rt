@@ -35,4 +35,4 @@ pub use offers::Offers;
 pub use program::{LinkMember, Program};
 pub use reading::next_record;
 pub use resolving::{are_few, resolve};
-pub use sizes::{body_size, size_at};
+pub use sizes::size_at;

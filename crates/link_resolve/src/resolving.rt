@@ -3,7 +3,7 @@
 ghost use Rattle.std.specs.Prelude.{◌≡◌, false, ◌+◌, ◌-◌, ◌<◌, ◌≤◌, ◌^◌, ◌++◌, ◌∷◌, [], List, ℕ, None, Some, slice_get, length, IfSome, IfOk, IfErr, OnOk, OnErr};
 ghost use Rattle.std.specs.Bool.{OnTrue};
 ghost use Rattle.std.specs.List.{AllByRecursion};
-ghost use Rattle.omf_format.specs.HeaderLaws.{IsBytes};
+ghost use Rattle.omf_format.specs.Number.{IsBytes};
 ghost use Rattle.link_meaning.specs.declared.fault.LinkCause.TheVariants.{Empty};
 ghost use Rattle.link_meaning.specs.First.{HasNone};
 ghost use Rattle.link_meaning.specs.Member.{Member};
@@ -62,7 +62,10 @@ fn gather<'a>(alloc: Global, inputs: &'a Vec<Vec<u8>>) -> Result<Gathered<'a>, L
     'files: for bytes in inputs {
         match gathered.add(alloc, bytes.as_slice()) {
             Ok(()) => {}
-            Err(fault) => return Err(fault),
+            Err(fault) => {
+                drop(gathered);
+                return Err(fault);
+            }
         }
     }
     Ok(gathered)
@@ -94,6 +97,7 @@ fn gather_objects<'a>(alloc: Global, inputs: &'a Vec<Vec<u8>>) -> Result<Gathere
         Err(fault) => return Err(fault),
     };
     if gathered.linked.count() == 0 {
+        drop(gathered);
         return Err(empty_fault());
     }
     Ok(gathered)
@@ -109,8 +113,16 @@ fn grow_whole<'a>(alloc: Global, gathered: Gathered<'a>) -> Result<Grown<'a>, Al
         mut linked,
         offers,
     } = gathered;
-    grow(alloc, files.as_slice(), &offers, &mut linked)?;
-    Ok(Grown { files, linked })
+    let grown = grow(alloc, files.as_slice(), &offers, &mut linked);
+    drop(offers);
+    match grown {
+        Ok(()) => Ok(Grown { files, linked }),
+        Err(error) => {
+            drop(files);
+            drop(linked);
+            Err(error)
+        }
+    }
 }
 
 /// The first use that doesn't resolve, as a fault; Ok where each does.
@@ -201,7 +213,11 @@ fn finish<'a>(alloc: Global, grown: Grown<'a>) -> Result<Program<'a>, LinkFault>
     let Grown { files, linked } = grown;
     let layout = match lay_out_sound(alloc, files.as_slice(), &linked) {
         Ok(layout) => layout,
-        Err(fault) => return Err(fault),
+        Err(fault) => {
+            drop(files);
+            drop(linked);
+            return Err(fault);
+        }
     };
     match headers(alloc, &layout) {
         Ok(headers) => Ok(Program::of(Kept {
@@ -210,7 +226,12 @@ fn finish<'a>(alloc: Global, grown: Grown<'a>) -> Result<Program<'a>, LinkFault>
             places: layout.places,
             headers,
         })),
-        Err(_) => Err(memory_fault()),
+        Err(_) => {
+            drop(files);
+            drop(linked);
+            drop(layout);
+            Err(memory_fault())
+        }
     }
 }
 

@@ -1,26 +1,14 @@
 //! How many cells records give.
 
 ghost use Rattle.std.specs.Prelude.{◌≡◌, ◌+◌, ◌<◌, ◌^◌, ℕ};
-ghost use Rattle.link_meaning.specs.Sizes.{padding, size_at, body_size};
+ghost use Rattle.link_meaning.specs.Sizes.{size_at, body_size};
 ghost use Rattle.link_resolve.specs.Sizes.{in_32_bits};
 ghost use Rattle.omf_records.specs.Segments.{IsSound, shown};
 ghost use Rattle.omf_records.specs.View.{view};
 
 use crate::reading::next_record;
+use omf_base::padding;
 use omf_records::{Rec, SegmentView};
-
-/// How far it is to the least multiple of the step at or behind a place; 0 for the step 0.
-#[tactic(auto, unfolding(link_meaning::specs::Sizes::padding))]
-fn padding(step: u32, at: u32) -> u32
-    ensures { result ≡ padding step at }
-{
-    if step == 0 {
-        return 0;
-    }
-    let (step, at) = (u64::from(step), u64::from(at));
-    let pad = at.next_multiple_of(step) - at;
-    pad as u32
-}
 
 /// How many cells a record gives that stands at this place of its segment.
 pub fn size_at(rec: &Rec, location: u32) -> u64
@@ -58,28 +46,6 @@ pub fn size_behind(size: Option<u32>, rec: &Rec) -> Option<u32>
                 return None;
             }
             Some(next as u32)
-        }
-    }
-}
-
-/// How many cells the segment's records give, where that number has 32 bits.
-#[tactic(auto, unfolding(link_meaning::specs::Sizes::body_size))]
-pub fn body_size(segment: &SegmentView) -> Option<u32>
-    requires { IsSound segment.now }
-    ensures { result ≡ in_32_bits (body_size (shown segment.now)) }
-{
-    let mut records = segment.records();
-    let mut size = 0u32;
-    'walk: loop {
-        match next_record(&mut records) {
-            None => return Some(size),
-            Some((_, rec)) => {
-                let next = u64::from(size) + size_at(&rec, size);
-                if next > u64::from(u32::MAX) {
-                    return None;
-                }
-                size = next as u32;
-            }
         }
     }
 }

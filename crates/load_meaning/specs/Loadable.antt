@@ -12,7 +12,7 @@ use Rattle.load_meaning.specs.declared.load.LoadCause.TheVariants.{NotLoadFile, 
 use Rattle.load_meaning.specs.declared.load.LoadFault.{LoadFault}
 use Rattle.load_meaning.specs.declared.table.Target.{Target}
 use Rattle.omf_format.specs.Header.{Fields, fields_of, version_of, header_fault, form_of, is_dynamic, is_skipped, first_of}
-use Rattle.omf_format.specs.Record.{Record, End, Const, LongConst, Align, Org, Space, Reloc, InterSeg, ShortReloc, ShortInterSeg, Super, Using, Strong, Label, Equate, Formula, Entry}
+use Rattle.omf_format.specs.Record.{Record, Align, Org, Using, Strong, Label, Equate, Formula, Entry}
 use Rattle.omf_format.specs.Reading.{Reader, next_answer, HandsOut}
 use Rattle.omf_format.specs.File.{Segment, body_reader, IsHeader, AreSegments, IsFile, segment_at, Told, told_header, told_record}
 use Rattle.omf_format.specs.Body.{body_bytes}
@@ -44,16 +44,6 @@ segment_refusal f = first_of (
 
 -- why a load segment can't have this record: it belongs to an object file
 abbrev pub record_refusal : Record → Option LoadCause
-record_refusal End = None
-record_refusal (Const bytes) = None
-record_refusal (LongConst bytes) = None
-record_refusal (Space n) = None
-record_refusal (Entry segment offset name) = None
-record_refusal (Reloc count shift location offset) = None
-record_refusal (InterSeg count shift location file segment offset) = None
-record_refusal (ShortReloc count shift location offset) = None
-record_refusal (ShortInterSeg count shift location segment offset) = None
-record_refusal (Super form bytes) = None
 record_refusal (Align n) = Some NotLoadFile
 record_refusal (Org n) = Some NotLoadFile
 record_refusal (Using name) = Some NotLoadFile
@@ -61,6 +51,7 @@ record_refusal (Strong name) = Some NotLoadFile
 record_refusal (Label global name size form private) = Some NotLoadFile
 record_refusal (Equate global name size form private expr) = Some NotLoadFile
 record_refusal (Formula code count n expr) = Some NotLoadFile
+record_refusal _ = None
 
 -- a cause that a load file shares with every file
 abbrev pub load_cause : FileCause → LoadCause
@@ -151,22 +142,7 @@ first_refusal segments s (p ∷ patches) = option_or (patch_refusal segments s p
 -- an ENTRY names a place of the file's segments
 abbrev pub entry_refusal : List Segment → Record → Option LoadCause
 entry_refusal segments (Entry number offset name) = if is_place segments number offset then None else Some NoSuchTarget
-entry_refusal segments End = None
-entry_refusal segments (Const bytes) = None
-entry_refusal segments (LongConst bytes) = None
-entry_refusal segments (Space n) = None
-entry_refusal segments (Reloc count shift location offset) = None
-entry_refusal segments (InterSeg count shift location file segment offset) = None
-entry_refusal segments (ShortReloc count shift location offset) = None
-entry_refusal segments (ShortInterSeg count shift location segment offset) = None
-entry_refusal segments (Super form bytes) = None
-entry_refusal segments (Align n) = None
-entry_refusal segments (Org n) = None
-entry_refusal segments (Using name) = None
-entry_refusal segments (Strong name) = None
-entry_refusal segments (Label global name size form private) = None
-entry_refusal segments (Equate global name size form private expr) = None
-entry_refusal segments (Formula code count n expr) = None
+entry_refusal _ _ = None
 
 -- phase 3 of a record of a segment: an ENTRY names a place, and each patch may stand there
 abbrev pub target_refusal : List Segment → Segment → Record → Option LoadCause

@@ -7,12 +7,7 @@ pub mod Commands
 pub mod Refusals
 pub mod Steps
 pub mod Needs
-pub mod PokeLaws
-pub mod StandsLaws
-pub mod PutLaws
-pub mod OnceLaws
 pub mod Script
-pub mod ScriptLaws
-pub mod ScriptCommandLaws
 pub mod Transcript
 pub mod Replies
+pub mod laws

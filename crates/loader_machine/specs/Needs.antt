@@ -6,7 +6,7 @@ use Rattle.load_meaning.specs.LoadTable.{targets_of}
 use Rattle.loader_machine.specs.Heads.{Head, head_of, is_table}
 use Rattle.loader_machine.specs.State.{User, Machine, Seen, user_of, handles_of}
 use Rattle.loader_machine.specs.Presences.{Presence, Absent, Purged, Idle, Active, presence_at}
-use Rattle.loader_machine.specs.Commands.{Command, Banks, Load, LoadSegment, UnloadSegment, Jsl, ShutDown, Restart, Purge, Poke, Bytes, Where, Info, Alloc, Free, Lock, Unlock, Level, StateOf, Room}
+use Rattle.loader_machine.specs.Commands.{Command, Load, LoadSegment, Jsl, Restart}
 use Rattle.loader_machine.specs.Refusals.{Refuse, load_refusal, bytes_refusal, load_segment_refusal, restart_refusal}
 use Rattle.loader_machine.specs.Steps.{seen_of, Sees, IsSeen, StandsIn, IsAt, target_at_code, no_jsl, address_of, are_there, is_read_again}
 
@@ -52,30 +52,16 @@ abbrev pub restart_reads : Machine → Seen → Bool
 restart_reads state seen = not (are_there state.slots seen.heads seen.handles 1) || some_read_again seen.heads
 
 abbrev pub Needs : FileMap → Machine → Command → List (List ℕ) → Type 0
-Needs held state (Banks banks) paths = paths ≡ []
 Needs held state (Load path) paths = paths ≡ path_if (load_refusal (length state.users)) true path
 Needs held state (LoadSegment id number) paths = NeedsOf held state id
     (λ seen user. path_if (load_segment_refusal (Some seen) number) (is_read (presence_at state.slots (handles_of user) number)) user.path) paths
-Needs held state (UnloadSegment id number) paths = paths ≡ []
 Needs held state (Jsl id number at) paths =
     ((owner : ℕ) × (t : Target) × Reaches held state id number at owner t × (user : User) × (user_of state.users owner ≡ Some user)
     × (paths ≡ path_if None (is_read (presence_at state.slots (handles_of user) t.segment)) user.path))
     ⊎ (((owner : ℕ) (t : Target) → ¬ Reaches held state id number at owner t) × (paths ≡ []))
-Needs held state (ShutDown id keep) paths = paths ≡ []
 Needs held state (Restart id) paths = NeedsOf held state id
     (λ seen user. path_if (restart_refusal (Some seen)) (restart_reads state seen) user.path) paths
-Needs held state (Purge id) paths = paths ≡ []
-Needs held state (Poke id number at byte) paths = paths ≡ []
-Needs held state (Bytes id number at count) paths = paths ≡ []
-Needs held state (Where address) paths = paths ≡ []
-Needs held state (Info id number) paths = paths ≡ []
-Needs held state (Alloc want locked level) paths = paths ≡ []
-Needs held state (Free h) paths = paths ≡ []
-Needs held state (Lock h) paths = paths ≡ []
-Needs held state (Unlock h) paths = paths ≡ []
-Needs held state (Level h level) paths = paths ≡ []
-Needs held state (StateOf h) paths = paths ≡ []
-Needs held state Room paths = paths ≡ []
+Needs _ _ _ paths = paths ≡ []
 
 -- so many files are read for the command in the state
 abbrev pub IsReadFor : FileMap → Machine → Command → ℕ → Type 0

@@ -1,6 +1,7 @@
 -- The printed text of replies: one line each.
-use Rattle.std.specs.Prelude.{ℕ, Bool, true, false, List, [], ◌∷◌, ◌++◌, codes, Option, Some, None, if◌then◌else◌}
+use Rattle.std.specs.Prelude.{ℕ, Bool, true, false, List, [], ◌∷◌, ◌++◌, codes, Option, Some, None}
 use Rattle.std.specs.List.{flat_map}
+use Rattle.omf_format.specs.Ascii as ascii
 use Rattle.omf_base.specs.Digits.{hexadecimal}
 use Rattle.load_meaning.specs.declared.load.LoadCause.{LoadCause}
 use Rattle.load_meaning.specs.declared.load.LoadCause.TheVariants as cause
@@ -122,7 +123,7 @@ reply_text (Refused fault) = refused_text fault
 
 -- a reply and a line feed
 unfoldable pub reply_line : Reply → List ℕ
-reply_line reply = reply_text reply ++ 0x0A ∷ []
+reply_line reply = reply_text reply ++ ascii.line_feed ∷ []
 
 -- the lines of replies
 abbrev pub replies_text : List Reply → List ℕ

@@ -2,6 +2,7 @@
 use Rattle.std.specs.Prelude.{◌≡◌, ℕ, ◌+◌, ◌/◌, ◌%◌, ◌<◌, ◌≤◌, Bool, true, false, not, ◌&&◌, ◌||◌, ◌==◌, nat_le, bit_and, List, [], ◌∷◌, ◌++◌, length, map, filter, codes, bytes_eq, Option, Some, None, Result, Ok, Err, if◌then◌else◌}
 use Rattle.std.specs.List.{AllByRecursion, list_all, list_any, slice_split}
 use Rattle.std.specs.Str.Parse.{digits_value}
+use Rattle.omf_format.specs.Ascii as ascii
 use Rattle.omf_format.specs.Header.{has_attribute}
 use Rattle.omf_format.specs.Lines.{lines_of}
 use Rattle.iigs_meaning.specs.declared.handles.Handle.{Handle}
@@ -24,7 +25,7 @@ most_lines = 65536
 -- an empty line, or one that begins with a semicolon
 abbrev pub is_skipped : List ℕ → Bool
 is_skipped [] = true
-is_skipped (byte ∷ behind) = byte == 0x3B
+is_skipped (byte ∷ behind) = byte == ascii.semicolon
 
 -- the lines that aren't skipped
 abbrev pub written : List (List ℕ) → List (List ℕ)
@@ -34,12 +35,12 @@ written lines = filter (λ line. not (is_skipped line)) lines
 
 -- what stands between the spaces of a line
 unfoldable pub words_of : List ℕ → List (List ℕ)
-words_of line = slice_split (λ byte. byte == 0x20) line
+words_of line = slice_split (λ byte. byte == ascii.space) line
 
 -- a word is 1 to 255 bytes, each $21 to $7E
 unfoldable pub is_word : List ℕ → Bool
 is_word word = nat_le 1 (length word) && nat_le (length word) 255
-    && list_all (λ byte. nat_le 0x21 byte && nat_le byte 0x7E) word
+    && list_all (λ byte. nat_le ascii.exclamation byte && nat_le byte ascii.tilde) word
 
 -- a line of at most 1,023 bytes, which are words with one space between them
 unfoldable pub is_well_formed : List ℕ → Bool
@@ -49,7 +50,7 @@ is_well_formed line = nat_le (length line) 1023 && list_all is_word (words_of li
 
 -- a digit 0 to 9 or A to F; a to f is none
 abbrev pub is_hex_digit : ℕ → Bool
-is_hex_digit byte = (nat_le 0x30 byte && nat_le byte 0x39) || (nat_le 0x41 byte && nat_le byte 0x46)
+is_hex_digit byte = (nat_le ascii.digit_0 byte && nat_le byte ascii.digit_9) || (nat_le ascii.capital_a byte && nat_le byte ascii.capital_f)
 
 -- the number that a word of hexadecimal digits writes
 unfoldable pub number_of : List ℕ → ℕ

@@ -4,8 +4,8 @@ use Rattle.std.proofs.lemmas.List.{length-append, append-nil}
 use Rattle.loader_machine.specs.Commands.{Command}
 use Rattle.omf_format.specs.Lines.{lines_of}
 use Rattle.loader_machine.specs.Script.{AreGood, IsScript}
-use Rattle.omf_format.specs.Lines.{lines_of-nil}
-use Rattle.loader_machine.specs.ScriptLaws.{AreGood-push, AreGood-push_skipped}
+use Rattle.omf_format.specs.laws.LinesLaws.{lines_of-nil}
+use Rattle.loader_machine.specs.laws.ScriptLaws.{AreGood-push, AreGood-push_skipped}
 use Rattle.loader_script.specs.Lines.{HasTaken, Skipped, Gave}
 
 -- so many lines were read, none is bad, they gave these commands, and this text is left

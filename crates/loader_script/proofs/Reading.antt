@@ -1,11 +1,10 @@
 -- Commands that may read a file once: a segment that is made active, a JSL, a restart.
-use Rattle.std.proofs.Common.{◌≡◌, ◌≢◌, ◌⊎◌, inl, inr, ℕ, Bool, true, false, cond, ◌<◌, ◌≤◌, List, [], ◌∷◌, length, map, Option, Some, None, IsSome, Result, Ok, Err, refl, sym, ap, subst, ◌∙◌, arith}
+use Rattle.std.proofs.Common.{◌≡◌, ◌≢◌, inl, inr, ℕ, Bool, true, false, cond, ◌≤◌, List, [], ◌∷◌, map, Option, Some, None, IsSome, Result, Ok, Err, refl, sym, ap, subst, ◌∙◌}
 use Rattle.std.specs.Prelude.{◌==◌, slice_index, IfOk}
 use Rattle.std.proofs.lemmas.Option.{same_Some}
 use Rattle.omf_io.specs.Counts.{one_more, risen}
 use Rattle.omf_io.specs.Files.{FileMap, StoreSeen, IsUnread}
 use Rattle.omf_base.specs.declared.line.LineFault.{LineFault}
-use Rattle.omf_format.specs.File.{Segment}
 use Rattle.iigs_meaning.specs.declared.handles.Handle.{Handle}
 use Rattle.iigs_meaning.specs.Puts.{Purges}
 use Rattle.iigs_meaning.specs.Memory.{Memory}
@@ -17,10 +16,9 @@ use Rattle.loader_machine.specs.declared.seen.Presence.TheVariants.{Absent, Purg
 use Rattle.loader_machine.specs.Heads.{head_of}
 use Rattle.loader_machine.specs.State.{Machine}
 use Rattle.loader_machine.specs.Presences.{presence}
-use Rattle.loader_machine.specs.Steps.{no_jsl}
 use Rattle.loader_machine.specs.Commands as commands
 use Rattle.loader_machine.specs.Commands.{Command, LoadSegment, Jsl, Restart, Reply}
-use Rattle.loader_machine.specs.Refusals.{Refuse, bytes_refusal, load_segment_refusal, restart_refusal}
+use Rattle.loader_machine.specs.Refusals.{Refuse, load_segment_refusal, restart_refusal}
 use Rattle.loader_machine.specs.Replies.{reply_line}
 use Rattle.loader_agrees.specs.Agrees.{Kept, Loaded, seen_by, Agrees, Meets, ReadsNeeded}
 use Rattle.sys_loader.specs.declared.answers.Started.{Started}

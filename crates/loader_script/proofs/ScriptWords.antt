@@ -8,7 +8,7 @@ use Rattle.std.proofs.lemmas.Str.{IsUtf8-from_ascii}
 use Rattle.iigs_meaning.specs.declared.faults.BanksFault.TheVariants.{BankTwice}
 use Rattle.iigs_meaning.specs.Banks.{IsBanksRefusal}
 use Rattle.loader_machine.specs.Script.{is_word, stands_twice}
-use Rattle.loader_machine.specs.ScriptCommandLaws.{stands_twice-distinct}
+use Rattle.loader_machine.specs.laws.ScriptCommandLaws.{stands_twice-distinct}
 
 both : (a b : Bool) → (a && b) ≡ true → (a ≡ true) × (b ≡ true)
 both true b is = (refl, is)

@@ -1,5 +1,5 @@
 -- Replies to a script's commands, one more at a time.
-use Rattle.std.proofs.Common.{◌≡◌, ◌≢◌, ◌⊎◌, inl, inr, ℕ, zero, suc, true, false, cond, ◌+◌, ◌<◌, ◌≤◌, List, [], ◌∷◌, ◌++◌, length, length-append, map, Bool, Option, Some, None, Result, Ok, Err, refl, sym, ap, subst, ◌∙◌, arith, append_assoc}
+use Rattle.std.proofs.Common.{◌≡◌, ◌≢◌, inl, inr, ℕ, zero, suc, true, false, cond, ◌+◌, ◌<◌, ◌≤◌, List, [], ◌∷◌, ◌++◌, length, length-append, map, Bool, Option, Some, None, Result, Ok, Err, refl, sym, ap, subst, ◌∙◌, arith, append_assoc}
 use Rattle.std.specs.Prelude.{◌==◌, nat_le, IsSome, IsSomeAnd, IfOk, IfErr, OnErr}
 use Rattle.std.specs.Option.{option_map}
 use Rattle.std.proofs.lemmas.Option.{same_Some}
@@ -35,7 +35,7 @@ use Rattle.sys_loader.specs.declared.answers.Started.{Started}
 use Rattle.sys_loader.specs.Calls.{IsBeginRefusal, IsStartRefusal, IsLoadRefusal, IsFull, CantRead, LacksMemory, CantStart, HasLoaded}
 use Rattle.sys_loader.specs.declared.answers.Entered.{Entered}
 use Rattle.sys_loader.specs.Replies.{load_reply, done_reply, where_reply, IsAllocRefusal}
-use Rattle.loader_agrees.specs.Begun.{puts_here}
+use Rattle.loader_agrees.specs.laws.Begun.{puts_here}
 use Rattle.sys_loader.specs.Lives.{DidPoke, DidUnload, DidShutDown}
 use Rattle.loader_agrees.specs.Agrees.{Loaded, seen_by, Agrees, Met, Meets, ReadsNeeded}
 use Rattle.loader_script.specs.declared.run.Stop.{Stop}

@@ -1,15 +1,13 @@
 -- A run of a script on its way: it begins, it goes on, it stops, and it ends.
 use Rattle.std.proofs.Common.{◌≡◌, inl, ℕ, zero, suc, Bool, true, false, ◌+◌, ◌≤◌, List, [], ◌∷◌, ◌++◌, length, take, Option, Some, None, Result, Ok, Err, refl, sym, ap, subst, ◌∙◌, arith, add-one}
 use Rattle.std.specs.Prelude.{slice_get}
-use Rattle.omf_io.specs.Counts.{risen, ToldOr}
 use Rattle.omf_io.specs.Files.{FileMap, StoreSeen}
 use Rattle.omf_io.specs.Sinks.{SinkSeen, FailsToPrint}
 use Rattle.omf_io.specs.Outside.{Outside, outside}
-use Rattle.loader_machine.specs.State.{Machine, empty_of}
+use Rattle.loader_machine.specs.State.{empty_of}
 use Rattle.loader_machine.specs.Commands as step
 use Rattle.loader_machine.specs.Commands.{Command, Banks, Load, LoadSegment, Jsl, Restart, Bytes}
 use Rattle.iigs_meaning.specs.Blocks.{new_slots}
-use Rattle.loader_machine.specs.Transcript.{IsAnswered}
 use Rattle.loader_machine.specs.Replies.{reply_line}
 use Rattle.loader_machine.specs.Script.{IsCommand, AreCommands}
 use Rattle.loader_agrees.specs.Agrees.{Loaded, Agrees}

@@ -64,10 +64,4 @@ IsRefused fault text = IsRefusedFor fault.cause fault.line text
 -- the line that a fault for this cause has
 abbrev pub line_for : ScriptCause → ℕ → ℕ
 line_for Memory line = 0
-line_for TooManyLines line = line
-line_for BadWord line = line
-line_for UnknownCommand line = line
-line_for BanksFirst line = line
-line_for WrongCount line = line
-line_for BadNumber line = line
-line_for BankTwice line = line
+line_for _ line = line

@@ -7,7 +7,7 @@ use omf_base::Name;
 use std::marker::Model;
 
 /// 1 to 256 numbers of banks. Contracts see the list of them.
-#[derive(Debug, Drop)]
+#[derive(Drop)]
 pub struct BankList {
     banks: Vec<u8>,
 }
@@ -43,7 +43,7 @@ impl BankList {
 }
 
 /// A command of a script.
-#[derive(Debug, Drop)]
+#[derive(Drop)]
 pub enum Command {
     /// The banks of memory to begin with.
     Banks {

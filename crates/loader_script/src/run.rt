@@ -484,7 +484,8 @@ pub fn run_script<F: Files, S: Sink>(
 
 /// How a script ends that wasn't read.
 fn refused(fault: ScriptFault) -> ScriptEnd
-    ensures { (text : List ℕ) → IsRefused fault text → IsNotRun result text }
+    ensures told { (text : List ℕ) → IsRefused fault text → IsNotRun result text }
+    ensures memory { result ≡ ScriptEnd.Memory → fault.cause ≡ ScriptCause.Memory }
 {
     match fault.cause {
         ScriptCause::Memory => ScriptEnd::Memory,

@@ -16,7 +16,7 @@ use std::marker::Model;
 const MOST_LINES: u32 = 65536;
 
 /// The commands of a script, in order. Contracts see the list of them.
-#[derive(Debug, Drop)]
+#[derive(Drop)]
 pub struct Script {
     commands: Vec<Command>,
 }

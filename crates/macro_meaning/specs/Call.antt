@@ -1,6 +1,7 @@
 -- Calls of macros: how operands are bound to parameters (ORCA/M reference manual, "Macro calls").
 use Rattle.std.specs.Prelude.{ℕ, ◌+◌, Bool, ◌==◌, List, [], ◌∷◌, bytes_eq, slice_get, Option, Some, None, is_some, if◌then◌else◌}
 use Rattle.std.specs.List.{list_any}
+use Rattle.omf_format.specs.Ascii as ascii
 use Rattle.macro_meaning.specs.declared.statements.Kind.TheVariants.{Text}
 use Rattle.orca_meaning.specs.Token.{Found, name_at}
 use Rattle.macro_meaning.specs.Definition.{Model}
@@ -21,7 +22,7 @@ abbrev pub keyword_from : List (List ℕ) → ℕ → Found (List ℕ) → Optio
 keyword_from parameters place None = None
 keyword_from parameters place (Some (name, [])) = None
 keyword_from parameters place (Some (name, byte ∷ behind)) =
-    if byte == 0x3D then if is_among parameters name then Some (record { name = name; text = behind; next = place }) else None else None
+    if byte == ascii.equals then if is_among parameters name then Some (record { name = name; text = behind; next = place }) else None else None
 
 -- the parameter at a place
 abbrev pub by_place : List ℕ → ℕ → Option (List ℕ) → Option Binding
@@ -67,7 +68,7 @@ label_bound (Some name) (byte ∷ behind) = with_name name (Own Text (byte ∷ b
 -- the operands of a call, parted by commas outside quotes and parentheses; none where there is no operand
 abbrev pub arguments : List ℕ → List (List ℕ)
 arguments [] = []
-arguments (byte ∷ behind) = pieces 0x2C (byte ∷ behind)
+arguments (byte ∷ behind) = pieces ascii.comma (byte ∷ behind)
 
 abbrev pub all_names : Model → List (List ℕ)
 all_names model = elim model.label [ None ↦ model.parameters | Some name ↦ name ∷ model.parameters ]

@@ -1,6 +1,7 @@
 -- Conditions and the numbers of conditional assembly (ORCA/M reference manual, "Conditional assembly expressions").
 use Rattle.std.specs.Prelude.{◌≡◌, ℕ, ◌==◌, Bool, true, false, not, ◌&&◌, nat_lt, List, [], ◌∷◌, length, bytes_eq, Option, Some, None, is_some, Result, Ok, Err, if◌then◌else◌}
 use Rattle.std.specs.List.{list_all}
+use Rattle.omf_format.specs.Ascii as ascii
 use Rattle.omf_format.specs.declared.value.Value.{Value}
 use Rattle.omf_format.specs.declared.value.Value.TheVariants.{Fixed, At}
 use Rattle.omf_format.specs.declared.value.ValueFault.{ValueFault}
@@ -71,10 +72,10 @@ pub data IsNumber (values : Values) (text : List ℕ) (answer : Answer) : Type 0
 -- the comparison at the front, `=` or `<>`: whether it asks for equal texts, and what stands behind it
 abbrev pub comparison_at : List ℕ → Option (Bool × List ℕ)
 comparison_at [] = None
-comparison_at (first ∷ []) = if first == 0x3D then Some (true, []) else None
+comparison_at (first ∷ []) = if first == ascii.equals then Some (true, []) else None
 comparison_at (first ∷ second ∷ behind) =
-    if first == 0x3D then Some (true, second ∷ behind)
-    else if first == 0x3C && second == 0x3E then Some (false, behind)
+    if first == ascii.equals then Some (true, second ∷ behind)
+    else if first == ascii.less && second == ascii.greater then Some (false, behind)
     else None
 
 abbrev pub same_as : Bool → List ℕ → Option (List ℕ) → Option Bool

@@ -1,5 +1,6 @@
 -- What a visited line does (ORCA/M reference manual, "Conditional assembly directives").
 use Rattle.std.specs.Prelude.{◌≡◌, ℕ, zero, suc, ◌==◌, Bool, true, false, nat_lt, ℤ, pos, negsuc, int_le, List, [], ◌∷◌, length, take, drop, codes, slice_get, Option, Some, None, is_some, Result, Ok, Err, if◌then◌else◌}
+use Rattle.omf_format.specs.Ascii as ascii
 use Rattle.omf_format.specs.Value.{signed}
 use Rattle.orca_meaning.specs.Line.{Line, Fields, part, is_comment, three_fields}
 use Rattle.macro_meaning.specs.declared.faults.MacroCause.{MacroCause}
@@ -181,7 +182,7 @@ IsSetting values Number label operand deed =
     (answer : Answer) × IsCondition values operand answer × (deed ≡ setting values Number label (printed_answer Number answer))
 IsSetting values Flag label operand deed =
     (answer : Answer) × IsCondition values operand answer × (deed ≡ setting values Flag label (printed_answer Flag answer))
-IsSetting values Text label operand deed = deed ≡ setting values Text label (or_bad (joined (pieces 0x2B operand)))
+IsSetting values Text label operand deed = deed ≡ setting values Text label (or_bad (joined (pieces ascii.plus operand)))
 
 -- a line without operation, and ANOP: a line is given for an ordinary label
 abbrev pub resting : List ℕ → List ℕ → Deed
@@ -192,13 +193,13 @@ resting (byte ∷ behind) text = Gives text
 abbrev pub IsDone : Values → Statement → List ℕ → List ℕ → List ℕ → Deed → Type 0
 IsDone values (Declare declaration) text label operand deed = deed ≡ declaring values declaration (symbol_name operand)
 IsDone values (Set kind) text label operand deed = IsSetting values kind label operand deed
-IsDone values Middle text label operand deed = IsMiddle values label (pieces 0x2C operand) deed
-IsDone values BranchIf text label operand deed = IsBranchIf values (pieces 0x2C operand) deed
+IsDone values Middle text label operand deed = IsMiddle values label (pieces ascii.comma operand) deed
+IsDone values BranchIf text label operand deed = IsBranchIf values (pieces ascii.comma operand) deed
 IsDone values Branch text label operand deed = deed ≡ going_to (target_name operand)
 IsDone values Count text label operand deed = (answer : Answer) × IsNumber values operand answer × (deed ≡ counting answer)
 IsDone values Nothing text label operand deed = deed ≡ resting label text
 IsDone values Leave text label operand deed = deed ≡ Leaves
-IsDone values Note text label operand deed = IsNote values (pieces 0x2C operand) deed
+IsDone values Note text label operand deed = IsNote values (pieces ascii.comma operand) deed
 IsDone values Define text label operand deed = deed ≡ Gives text
 
 -- ---- calls

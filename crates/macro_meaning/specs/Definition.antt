@@ -1,5 +1,6 @@
 -- Macro definitions (ORCA/M reference manual, "Macro definitions").
 use Rattle.std.specs.Prelude.{ℕ, ◌+◌, Bool, nat_lt, List, [], ◌∷◌, ◌++◌, length, map, codes, bytes_eq, Option, Some, None, if◌then◌else◌}
+use Rattle.omf_format.specs.Ascii as ascii
 use Rattle.macro_meaning.specs.declared.faults.MacroCause.{MacroCause}
 use Rattle.macro_meaning.specs.declared.faults.MacroCause.TheVariants.{Unclosed, BadArguments}
 use Rattle.orca_meaning.specs.Token.{name_at}
@@ -54,7 +55,7 @@ names_of (piece ∷ pieces) = one_more (symbol_name piece) (names_of pieces)
 -- the parameters of an operand, parted by commas; none where there is no operand
 abbrev pub parameters_of : List ℕ → Option (List (List ℕ))
 parameters_of [] = Some []
-parameters_of (byte ∷ behind) = names_of (pieces 0x2C (byte ∷ behind))
+parameters_of (byte ∷ behind) = names_of (pieces ascii.comma (byte ∷ behind))
 
 -- a label parameter, which may be missing
 abbrev pub label_of : List ℕ → Option (Option (List ℕ))

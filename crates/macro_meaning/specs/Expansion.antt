@@ -5,7 +5,7 @@ use Rattle.orca_meaning.specs.declared.lines.TextCause.{TextCause}
 use Rattle.orca_meaning.specs.declared.lines.TextCause.TheVariants as texts
 use Rattle.orca_meaning.specs.Line.{Line, numbered, first_line_fault}
 use Rattle.macro_meaning.specs.declared.faults.MacroCause.{MacroCause}
-use Rattle.macro_meaning.specs.declared.faults.MacroCause.TheVariants.{LineTooLong, TooManyLines, NoSuchSymbol, BadSetting, BadArguments, NoSequenceSymbol, Unclosed, Counter, TooNested, Noted, Memory}
+use Rattle.macro_meaning.specs.declared.faults.MacroCause.TheVariants.{LineTooLong, TooManyLines, BadSetting, Memory}
 use Rattle.macro_meaning.specs.declared.faults.MacroFault.{MacroFault}
 use Rattle.macro_meaning.specs.Definition.{Part, Definition, parts_of, definitions_in, source_body, first_part_fault, or_else}
 use Rattle.macro_meaning.specs.Visit.{Program, Visit, Move, Ends, Stops, Follow, first_visit}
@@ -101,17 +101,8 @@ pub data IsFirstFault (source : List ℕ) (macros : List (List ℕ)) (fault : Ma
 
 -- want of memory has no line; any other fault is the first
 abbrev pub IsFaultFor : MacroCause → List ℕ → List (List ℕ) → MacroFault → Type 0
-IsFaultFor LineTooLong source macros fault = IsFirstFault source macros fault
-IsFaultFor TooManyLines source macros fault = IsFirstFault source macros fault
-IsFaultFor NoSuchSymbol source macros fault = IsFirstFault source macros fault
-IsFaultFor BadSetting source macros fault = IsFirstFault source macros fault
-IsFaultFor BadArguments source macros fault = IsFirstFault source macros fault
-IsFaultFor NoSequenceSymbol source macros fault = IsFirstFault source macros fault
-IsFaultFor Unclosed source macros fault = IsFirstFault source macros fault
-IsFaultFor Counter source macros fault = IsFirstFault source macros fault
-IsFaultFor TooNested source macros fault = IsFirstFault source macros fault
-IsFaultFor (Noted n) source macros fault = IsFirstFault source macros fault
 IsFaultFor Memory source macros fault = (fault.file ≡ 0) × (fault.line ≡ 0)
+IsFaultFor _ source macros fault = IsFirstFault source macros fault
 
 abbrev pub IsMacroFault : List ℕ → List (List ℕ) → MacroFault → Type 0
 IsMacroFault source macros fault = IsFaultFor fault.cause source macros fault

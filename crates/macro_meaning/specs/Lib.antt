@@ -8,5 +8,5 @@ pub mod Call
 pub mod Deed
 pub mod Visit
 pub mod Expansion
-pub mod VisitLaws
 pub mod ExpansionLaws
+pub mod laws

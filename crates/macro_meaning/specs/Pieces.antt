@@ -1,12 +1,13 @@
 -- Texts parted by commas or plus signs, and texts in quotes.
 use Rattle.std.specs.Prelude.{ℕ, ◌+◌, ◌-◌, Bool, ◌&&◌, ◌||◌, ◌==◌, nat_lt, List, [], ◌∷◌, ◌++◌, length, take, drop, Option, Some, None, if◌then◌else◌}
 use Rattle.std.specs.List.{position_or_len}
+use Rattle.omf_format.specs.Ascii as ascii
 use Rattle.orca_meaning.specs.Quotes.{quote_behind, is_closed}
 use Rattle.orca_meaning.specs.Token.{Found}
 
 -- How many parentheses are open behind a byte. In quotes a parenthesis is text, and so is one that closes none.
 abbrev pub open_behind : Option ℕ → ℕ → ℕ → ℕ
-open_behind None count byte = if byte == 0x28 then count + 1 else if byte == 0x29 then count - 1 else count
+open_behind None count byte = if byte == ascii.opening_round then count + 1 else if byte == ascii.closing_round then count - 1 else count
 open_behind (Some quote) count byte = count
 
 -- whether the byte is a separator outside quotes and parentheses
@@ -38,7 +39,7 @@ closed_at quote behind =
 
 unfoldable pub quoted_at : List ℕ → Found (List ℕ)
 quoted_at [] = None
-quoted_at (quote ∷ behind) = if quote == 0x27 || quote == 0x22 then closed_at quote behind else None
+quoted_at (quote ∷ behind) = if quote == ascii.apostrophe || quote == ascii.double_quote then closed_at quote behind else None
 
 -- the text in quotes that this is, with nothing behind
 abbrev pub only : Found (List ℕ) → Option (List ℕ)

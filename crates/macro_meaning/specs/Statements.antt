@@ -1,6 +1,7 @@
 -- The statements of conditional assembly, and the labels that branches go to (ORCA/M reference manual, "Conditional
 -- assembly directives").
 use Rattle.std.specs.Prelude.{ℕ, Bool, ◌==◌, List, [], ◌∷◌, codes, bytes_eq, Option, Some, None, if◌then◌else◌}
+use Rattle.omf_format.specs.Ascii as ascii
 use Rattle.macro_meaning.specs.declared.statements.Kind.TheVariants.{Number, Flag, Text}
 use Rattle.macro_meaning.specs.declared.statements.Declaration.TheVariants.{Local, Shared}
 use Rattle.macro_meaning.specs.declared.statements.Statement.{Statement}
@@ -43,7 +44,7 @@ symbol_name text = whole (symbol_at text)
 
 abbrev pub behind_dot : List ℕ → Found (List ℕ)
 behind_dot [] = None
-behind_dot (byte ∷ behind) = if byte == 0x2E then name_at behind else None
+behind_dot (byte ∷ behind) = if byte == ascii.dot then name_at behind else None
 
 -- `.NAME` and nothing else: the name of a sequence symbol, in upper case
 abbrev pub sequence_name : List ℕ → Option (List ℕ)
@@ -52,4 +53,4 @@ sequence_name text = whole (behind_dot text)
 -- where a branch goes: a sequence symbol, maybe behind a `^`
 abbrev pub target_name : List ℕ → Option (List ℕ)
 target_name [] = None
-target_name (byte ∷ behind) = if byte == 0x5E then sequence_name behind else sequence_name (byte ∷ behind)
+target_name (byte ∷ behind) = if byte == ascii.caret then sequence_name behind else sequence_name (byte ∷ behind)

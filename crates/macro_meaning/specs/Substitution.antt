@@ -2,13 +2,14 @@
 use Rattle.std.specs.Prelude.{ℕ, zero, suc, ◌+◌, ◌-◌, Bool, true, false, ◌||◌, ◌&&◌, ◌==◌, nat_le, nat_lt, List, [], ◌∷◌, ◌++◌, take, drop, slice_index, Option, Some, None, if◌then◌else◌}
 use Rattle.std.specs.Char.{to_ascii_uppercase}
 use Rattle.std.specs.List.{prefix_len}
+use Rattle.omf_format.specs.Ascii as ascii
 use Rattle.orca_meaning.specs.declared.lines.Span.{Span}
 use Rattle.orca_meaning.specs.Characters.{is_letter, is_name_start, is_name_byte, folded}
 use Rattle.orca_meaning.specs.Quotes.{is_closed, quote_after}
 use Rattle.orca_meaning.specs.Line.{Fields, part}
-use Rattle.macro_meaning.specs.declared.statements.Kind.TheVariants.{Number, Flag, Text}
+use Rattle.macro_meaning.specs.declared.statements.Kind.TheVariants.{Number, Flag}
 use Rattle.macro_meaning.specs.declared.statements.Statement.{Statement}
-use Rattle.macro_meaning.specs.declared.statements.Statement.TheVariants.{Declare, Set, Middle, BranchIf, Branch, Count, Nothing, Leave, Note, Define}
+use Rattle.macro_meaning.specs.declared.statements.Statement.TheVariants.{Declare, Set, Middle, BranchIf, Count, Note}
 use Rattle.macro_meaning.specs.Statements.{statement_of}
 
 -- what `&NAME` is at a place: the symbol's text comes in its place; or it names the symbol, which must be declared; or it
@@ -27,7 +28,7 @@ lies_in field at = nat_le field.from at && nat_lt at field.to
 abbrev pub asks_before : List ℕ → ℕ → Bool
 asks_before text at =
     let letter = to_ascii_uppercase (slice_index text (at - 2)) in
-    (letter == 0x4C || letter == 0x43) && slice_index text (at - 1) == 0x3A
+    (letter == ascii.capital_l || letter == ascii.capital_c) && slice_index text (at - 1) == ascii.colon
 
 -- the same in a field, outside its quotes
 abbrev pub is_asked : List ℕ → Span → ℕ → Bool
@@ -36,43 +37,23 @@ is_asked text field at =
 
 -- the statements whose operand may ask for `L:&NAME` and `C:&NAME`
 abbrev pub may_ask : Statement → Bool
-may_ask (Declare declaration) = false
 may_ask (Set Number) = true
 may_ask (Set Flag) = true
-may_ask (Set Text) = false
 may_ask Middle = true
 may_ask BranchIf = true
-may_ask Branch = false
 may_ask Count = true
-may_ask Nothing = false
-may_ask Leave = false
 may_ask Note = true
-may_ask Define = false
+may_ask _ = false
 
 -- the statements that set the symbol in their label
 abbrev pub sets_label : Statement → Bool
-sets_label (Declare declaration) = false
 sets_label (Set kind) = true
 sets_label Middle = true
-sets_label BranchIf = false
-sets_label Branch = false
-sets_label Count = false
-sets_label Nothing = false
-sets_label Leave = false
-sets_label Note = false
-sets_label Define = false
+sets_label _ = false
 
 abbrev pub declares : Statement → Bool
 declares (Declare declaration) = true
-declares (Set kind) = false
-declares Middle = false
-declares BranchIf = false
-declares Branch = false
-declares Count = false
-declares Nothing = false
-declares Leave = false
-declares Note = false
-declares Define = false
+declares _ = false
 
 -- In three places `&NAME` isn't replaced: in the operand of a declaration, in the label of a statement that sets it, and
 -- directly behind `L:` or `C:`.
@@ -95,7 +76,7 @@ abbrev pub name_length : List ℕ → ℕ
 name_length text = prefix_len is_name_byte text
 
 unfoldable pub taken_length : List ℕ → ℕ
-taken_length text = if slice_index text (name_length text) == 0x2E then name_length text + 1 else name_length text
+taken_length text = if slice_index text (name_length text) == ascii.dot then name_length text + 1 else name_length text
 
 abbrev pub with_front : List ℕ → Option (List ℕ) → Option (List ℕ)
 with_front front None = None
@@ -110,12 +91,12 @@ abbrev pub in_place : (List ℕ → Option (List ℕ)) → Naming → List ℕ �
 in_place text_of Replaced behind =
     if first_passes is_letter behind
     then elim (text_of (folded (take (name_length behind) behind))) [ None ↦ None | Some text ↦ Some (text, taken_length behind) ]
-    else Some (0x26 ∷ [], 0)
+    else Some (ascii.ampersand ∷ [], 0)
 in_place text_of Named behind =
     if first_passes is_name_start behind
-    then elim (text_of (folded (take (name_length behind) behind))) [ None ↦ None | Some text ↦ Some (0x26 ∷ [], 0) ]
-    else Some (0x26 ∷ [], 0)
-in_place text_of Declared behind = Some (0x26 ∷ [], 0)
+    then elim (text_of (folded (take (name_length behind) behind))) [ None ↦ None | Some text ↦ Some (ascii.ampersand ∷ [], 0) ]
+    else Some (ascii.ampersand ∷ [], 0)
+in_place text_of Declared behind = Some (ascii.ampersand ∷ [], 0)
 
 -- From a place on: the text with each symbol's text in its place, from left to right. The first so many bytes were taken
 -- already, and what comes in place of a symbol isn't read again. None where a symbol isn't declared.
@@ -123,7 +104,7 @@ unfoldable pub substituted : (List ℕ → Option (List ℕ)) → (ℕ → Namin
 substituted text_of naming at taken [] = Some []
 substituted text_of naming at (suc taken) (byte ∷ behind) = substituted text_of naming (at + 1) taken behind
 substituted text_of naming at zero (byte ∷ behind) =
-    if byte == 0x26
+    if byte == ascii.ampersand
     then elim (in_place text_of (naming at) behind) [
       | None ↦ None
       | Some found ↦ with_front found.0 (substituted text_of naming (at + 1) found.1 behind)

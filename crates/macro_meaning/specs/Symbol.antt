@@ -1,6 +1,7 @@
 -- Symbols, and the texts for which they stand (ORCA/M reference manual, "Symbolic parameters").
 use Rattle.std.specs.Prelude.{ℕ, Bool, true, false, List, [], ◌∷◌, codes, bytes_eq, Option, Some, None, ℤ, pos, negsuc, ◌+◌, if◌then◌else◌}
 use Rattle.std.specs.Fmt.{digits}
+use Rattle.omf_format.specs.Ascii as ascii
 use Rattle.macro_meaning.specs.declared.statements.Kind.{Kind}
 use Rattle.macro_meaning.specs.declared.statements.Kind.TheVariants.{Number, Flag, Text}
 use Rattle.macro_meaning.specs.declared.statements.Declaration.{Declaration}
@@ -81,4 +82,4 @@ first_text Text = []
 -- a signed number as it is printed
 abbrev pub signed_decimal : ℤ → List ℕ
 signed_decimal (pos n) = decimal n
-signed_decimal (negsuc n) = 0x2D ∷ decimal (n + 1)
+signed_decimal (negsuc n) = ascii.minus ∷ decimal (n + 1)

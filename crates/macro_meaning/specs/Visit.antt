@@ -83,16 +83,11 @@ abbrev pub shared_first : List ℕ → Kind → SharedTexts → SharedTexts
 shared_first name kind texts = if is_some (texts name) then texts else with_name name (kind, first_text kind) texts
 
 abbrev pub after : Visit → Deed → Visit
-after v Rests = v
-after v (Gives text) = v
 after v (Declares name (Local kind)) = record v { symbols = with_name name (Own kind (first_text kind)) v.symbols }
 after v (Declares name (Shared kind)) = record v { symbols = with_name name (Common kind) v.symbols; texts = shared_first name kind v.texts }
 after v (Sets name kind text) = set_by name kind text v (v.symbols name)
-after v (Goes name) = v
 after v (Counts n) = record v { counter = n }
-after v Leaves = v
-after v (Calls place symbols) = v
-after v (Fails cause) = v
+after v _ = v
 
 -- ---- what follows
 
@@ -179,15 +174,8 @@ move_of program before v line (Fails cause) = Stops line cause
 
 -- the lines that a deed gives
 abbrev pub given_by : Line → Deed → List Line
-given_by line Rests = []
 given_by line (Gives text) = line_of line.file line.number text ∷ []
-given_by line (Declares name declaration) = []
-given_by line (Sets name kind text) = []
-given_by line (Goes name) = []
-given_by line (Counts n) = []
-given_by line Leaves = []
-given_by line (Calls place symbols) = []
-given_by line (Fails cause) = []
+given_by _ _ = []
 
 -- the most visits
 abbrev pub most_visits : ℕ

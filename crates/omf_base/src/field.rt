@@ -103,7 +103,7 @@ fn not_empty<'a>(name: &'a [u8], rest: &'a [u8]) -> Result<(&'a [u8], &'a [u8]),
 
 /// A name behind its length byte, and the bytes behind it. It isn't empty.
 #[inline]
-#[tactic(auto, using(omf_format::specs::FieldLaws::counted_none, omf_format::specs::FieldLaws::counted_field))]
+#[tactic(auto, using(omf_format::specs::laws::FieldLaws::counted_none, omf_format::specs::laws::FieldLaws::counted_field))]
 fn counted_name(bytes: &[u8]) -> Result<(&[u8], &[u8]), Flaw>
     ensures gives { Gives (λ x. (x.0.now, x.1.now)) result (name_field 0 bytes.now) }
     ensures no_longer { IfOk result (λ x. length x.1.now ≤ length bytes.now) }
@@ -119,7 +119,7 @@ fn counted_name(bytes: &[u8]) -> Result<(&[u8], &[u8]), Flaw>
 
 /// A name of so many bytes without the spaces at its end, and the bytes behind it. It isn't empty.
 #[inline]
-#[tactic(auto, using(omf_format::specs::FieldLaws::padded_field))]
+#[tactic(auto, using(omf_format::specs::laws::FieldLaws::padded_field))]
 fn padded_name(bytes: &[u8], lab_len: u8) -> Result<(&[u8], &[u8]), Flaw>
     requires { 0 < lab_len }
     ensures gives { Gives (λ x. (x.0.now, x.1.now)) result (name_field lab_len bytes.now) }

@@ -4,8 +4,8 @@ use Rattle.std.specs.List.{AllByRecursion}
 use Rattle.std.proofs.lemmas.List.{length-append}
 use Rattle.omf_format.specs.Record.{Record}
 use Rattle.omf_format.specs.Reading.{Reader, next_answer, after_next, HandsOut, records_of}
-use Rattle.omf_format.specs.FileLaws.{HandsOut-append, ended_at_none}
-use Rattle.omf_format.specs.BodyLaws.{records_of-run}
+use Rattle.omf_format.specs.laws.FileLaws.{HandsOut-append, ended_at_none}
+use Rattle.omf_format.specs.laws.BodyLaws.{records_of-run}
 use Rattle.load_meaning.specs.Loadable.{record_refusal}
 use Rattle.omf_cells.specs.Walk.{IsLoadBody}
 

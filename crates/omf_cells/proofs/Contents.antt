@@ -10,7 +10,7 @@ use Rattle.omf_format.specs.Record.{Record}
 use Rattle.omf_format.specs.File.{Segment}
 use Rattle.load_meaning.specs.Cells.{Cell, Patch, patches_in, patches_of}
 use Rattle.load_meaning.specs.Loadable.{Fault, in_segment, first_in, target_fault, patch_list, IsPatch}
-use Rattle.load_meaning.specs.CellLaws.{patches-cons, sound_patches}
+use Rattle.load_meaning.specs.laws.CellLaws.{patches-cons, sound_patches}
 use Rattle.omf_records.specs.declared.segment.SegmentView.{SegmentView}
 use Rattle.omf_records.specs.Segments.{shown}
 use Rattle.omf_cells.specs.declared.spots.Spot.{Spot}
@@ -120,12 +120,6 @@ take_more (w ∷ views) zero v lt is = ap (λ (x : SegmentView). x ∷ []) (sym 
 take_more (w ∷ views) (suc i) v lt is =
     let step : suc i + 1 ≡ suc (i + 1) = omega arith in
     ap (λ (n : ℕ). take n (w ∷ views)) step ∙ ap (λ l. w ∷ l) (take_more views i v (omega arith) is)
-
-pub take_all : (views : List SegmentView) (i : ℕ) → length views ≤ i → take i views ≡ views
-take_all [] zero le = refl
-take_all [] (suc i) le = refl
-take_all (w ∷ views) zero le = absurd (omega arith)
-take_all (w ∷ views) (suc i) le = ap (λ l. w ∷ l) (take_all views i (omega arith))
 
 pub contents_at : (views : List SegmentView) (contents : List Content) → AreContents views contents → (k : ℕ) (v : SegmentView) (c : Content) → slice_get views k ≡ Some v → slice_get contents k ≡ Some c → IsContent v c
 contents_at [] contents are k v c at at' = absurd cc

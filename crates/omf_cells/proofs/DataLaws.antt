@@ -7,9 +7,9 @@ use Rattle.byteorder.specs.Endian.{little_bytes}
 use Rattle.omf_format.specs.Field.{written_layout}
 use Rattle.omf_format.specs.Record.{LongConst, spelling}
 use Rattle.load_meaning.specs.Cells.{Patch}
-use Rattle.load_meaning.specs.WrittenBody.{AreWritten, IsWrittenPatch, stored, with_stored, zeros_behind, written_cells, written_data, data_records}
-use Rattle.load_meaning.specs.FormLaws.{length-stored}
-use Rattle.load_meaning.specs.StoredLaws.{length-data}
+use Rattle.load_meaning.specs.WrittenBody.{AreWritten, IsWrittenPatch, stored, with_stored, written_data, data_records}
+use Rattle.load_meaning.specs.laws.FormLaws.{length-stored}
+use Rattle.load_meaning.specs.laws.StoredLaws.{length-data}
 use Rattle.omf_cells.specs.WrittenParts.{end_behind, IsKept}
 use Rattle.omf_cells.proofs.KeptLaws.{end_low, kept_is}
 

@@ -1,12 +1,12 @@
 -- Locations by type: those that were put in, and those of the patches that are left.
-use Rattle.std.proofs.Common.{◌≡◌, ℕ, zero, suc, ◌+◌, ◌<◌, true, false, eqb, List, [], ◌∷◌, ◌++◌, length, map, replicate, get_or, set, Option, Some, None, refl, sym, ap, ◌∙◌, append_assoc, arith}
+use Rattle.std.proofs.Common.{◌≡◌, ℕ, zero, suc, ◌+◌, ◌<◌, true, false, eqb, List, [], ◌∷◌, ◌++◌, length, map, replicate, get_or, set, Option, Some, refl, sym, ap, ◌∙◌, append_assoc, arith}
 use Rattle.std.specs.Prelude.{slice_get}
 use Rattle.std.proofs.lemmas.Bool.{eq-eqb, ne_eqb}
 use Rattle.std.proofs.lemmas.List.{append-nil, map-set, length-map}
 use Rattle.std.proofs.lemmas.Option.{get_or_from_slice_get}
 use Rattle.load_meaning.specs.Cells.{Patch}
-use Rattle.load_meaning.specs.FormLaws as forms
-use Rattle.load_meaning.specs.WrittenBodyLaws.{form_below}
+use Rattle.load_meaning.specs.laws.FormLaws as forms
+use Rattle.load_meaning.specs.laws.WrittenBodyLaws.{form_below}
 use Rattle.load_meaning.specs.WrittenBody.{super_form, is_form, of_form}
 use Rattle.omf_cells.specs.WrittenParts.{places, places_from, locations_by_form, put_in}
 
@@ -32,13 +32,6 @@ left_before own form k p left (l ∷ lists) e lt =
     let other : is_form form (super_form own p) ≡ false = form_is form k (super_form own p) e ∙ ne_eqb k form (λ (same : k ≡ form). absurd (omega (arith, same, lt))) in
     ap (λ (m : List Patch). (l ++ places m) ∷ with_left own (p ∷ left) (form + 1) lists) (other_form own form p left other)
     ∙ ap (λ (m : List (List ℕ)). (l ++ places (of_form own left form)) ∷ m) (left_before own (form + 1) k p left lists e (omega (arith, lt)))
-
-pub left_none : (own form : ℕ) (p : Patch) (left : List Patch) (lists : List (List ℕ)) → super_form own p ≡ None → with_left own (p ∷ left) form lists ≡ with_left own left form lists
-left_none own form p left [] e = refl
-left_none own form p left (l ∷ lists) e =
-    let other : is_form form (super_form own p) ≡ false = ap (is_form form) e in
-    ap (λ (m : List Patch). (l ++ places m) ∷ with_left own (p ∷ left) (form + 1) lists) (other_form own form p left other)
-    ∙ ap (λ (m : List (List ℕ)). (l ++ places (of_form own left form)) ∷ m) (left_none own (form + 1) p left lists e)
 
 -- put in with its type, it is one of those that are there
 put_from : (own form k : ℕ) (p : Patch) (left : List Patch) (lists : List (List ℕ)) → super_form own p ≡ Some (form + k) → with_left own left form (put_in lists k p.location) ≡ with_left own (p ∷ left) form lists
@@ -145,9 +138,6 @@ pub step_is : (own form : ℕ) (p : Patch) (rest left : List Patch) (old new who
     → left ≡ p ∷ rest → with_left own left 0 old ≡ whole → with_left own rest 0 new ≡ whole
 step_is own form p rest left old new whole put e is all =
     ap (with_left own rest 0) put ∙ put_first own form p rest old e ∙ ap (λ (l : List Patch). with_left own l 0 old) (sym is) ∙ all
-
-pub skip_is : (own : ℕ) (p : Patch) (rest left : List Patch) (lists whole : List (List ℕ)) → super_form own p ≡ None → left ≡ p ∷ rest → with_left own left 0 lists ≡ whole → with_left own rest 0 lists ≡ whole
-skip_is own p rest left lists whole e is all = sym (left_none own 0 p rest lists e) ∙ ap (λ (l : List Patch). with_left own l 0 lists) (sym is) ∙ all
 
 pub size_is : {V : Type 0} (seen : V → List ℕ) (old new : List V) (form at : ℕ) → map seen new ≡ put_in (map seen old) form at → length new ≡ length old
 size_is seen old new form at put = sym (length-map new seen) ∙ ap length put ∙ length-put_in (map seen old) form at ∙ length-map old seen

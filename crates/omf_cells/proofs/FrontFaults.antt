@@ -9,11 +9,11 @@ use Rattle.load_meaning.specs.declared.load.LoadCause.{LoadCause}
 use Rattle.load_meaning.specs.declared.load.LoadCause.TheVariants.{NotLoadFile, Truncated, BadHeader, Unsupported, BadRecord, Sequence, DataTooLong, PatchOutside, NoSuchTarget, DynamicTarget, BadTable, Memory}
 use Rattle.load_meaning.specs.declared.load.LoadFault.{LoadFault}
 use Rattle.omf_format.specs.Header.{Fields, version_of, fields_of, header_fault}
-use Rattle.omf_format.specs.HeaderLaws.{fault_fits}
+use Rattle.omf_format.specs.laws.HeaderLaws.{fault_fits}
 use Rattle.omf_format.specs.Reading.{Reader, HandsOut}
 use Rattle.omf_format.specs.File.{body_reader, IsHeader, told_header, told_record}
 use Rattle.load_meaning.specs.Loadable.{Fault, segment_refusal, as_load, front_fault, HasReadFault, OfFront, OfRecord}
-use Rattle.load_meaning.specs.LoadableLaws.{header_fault-told}
+use Rattle.load_meaning.specs.laws.LoadableLaws.{header_fault-told}
 use Rattle.omf_header.specs.View.{IsRefused}
 use Rattle.omf_records.specs.Segments.{HasPlace}
 use Rattle.omf_cells.specs.Load.{UnlessMemory, IsReadRefused, IsHeaderFault}

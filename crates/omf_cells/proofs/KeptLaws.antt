@@ -5,8 +5,8 @@ use Rattle.std.proofs.lemmas.Bool.{cases_lt, and_parts, eq-eqb, ne_eqb, leb-true
 use Rattle.std.proofs.lemmas.Option.{slice_get_within, slice_get-map, slice_get-get_or}
 use Rattle.load_meaning.specs.Cells.{Cell, Byte, Part, Patch, patched}
 use Rattle.load_meaning.specs.WrittenBody.{AreWritten, is_zero, zeros_behind, written_cells}
-use Rattle.load_meaning.specs.LayingLaws.{Covers, Has, Missed, Found, get-missed, get-found}
-use Rattle.load_meaning.specs.StoredLaws.{written_apart, parts, get-parts, patched-laid, fit-cells, HasPart, zeros_exact, no_byte, cells_size}
+use Rattle.load_meaning.specs.laws.LayingLaws.{Covers, Has, Missed, Found, get-missed, get-found}
+use Rattle.load_meaning.specs.laws.StoredLaws.{written_apart, parts, get-parts, patched-laid, fit-cells, HasPart, zeros_exact, no_byte, cells_size}
 use Rattle.omf_cells.specs.WrittenParts.{end_behind, IsKept}
 
 -- no patch lies behind the end of the last

@@ -9,13 +9,13 @@ use Rattle.std.proofs.lemmas.List.Elements.{All-get_or}
 use Rattle.std.proofs.lemmas.Option.{slice_get_within, slice_get_past, get_or_from_slice_get, slice_get-map}
 use Rattle.omf_format.specs.Reading.{Reader, records_of}
 use Rattle.omf_format.specs.File.{Segment, body_reader, segment_at}
-use Rattle.omf_format.specs.FileLaws.{segments_fit}
+use Rattle.omf_format.specs.laws.FileLaws.{segments_fit}
 use Rattle.omf_format.specs.Body.{body_bytes}
 use Rattle.load_meaning.specs.Cells.{Cell, Byte, Patch, parts_from, segment_bytes, patches_of, cells, cell_at, byte_of, stands}
-use Rattle.load_meaning.specs.CellLaws.{cells-bytes, length-segment_bytes, loadable_has, length-cells, patched-laid, fit_in}
-use Rattle.load_meaning.specs.LayingLaws.{same_list, get-laid}
+use Rattle.load_meaning.specs.laws.CellLaws.{cells-bytes, length-segment_bytes, loadable_has, length-cells, patched-laid, fit_in}
+use Rattle.load_meaning.specs.laws.LayingLaws.{same_list, get-laid}
 use Rattle.load_meaning.specs.LoadTable.{table_of, entry_count, target_at, targets_of}
-use Rattle.load_meaning.specs.LoadTableLaws.{length-targets_from, get-targets_from}
+use Rattle.load_meaning.specs.laws.LoadTableLaws.{length-targets_from, get-targets_from}
 use Rattle.load_meaning.specs.Loadable.{patch_list, IsSoundSegment}
 use Rattle.omf_records.specs.declared.segment.SegmentView.{SegmentView}
 use Rattle.omf_records.specs.Segments.{placed, shown}
@@ -233,9 +233,6 @@ shows_content views contents number v content is more here there = record {
 pub targets-there : (segments : List Segment) (number : ℕ) (v : SegmentView) → table_of segments ≡ Some number → Shows segments number v → table_targets segments ≡ targets_of (shown v)
 targets-there segments number v is shows =
     ap (λ o. option_map_or targets_of (option_and_then (segment_at segments) o) []) is ∙ ap (λ o. option_map_or targets_of o []) shows.here
-
-pub targets-none : (segments : List Segment) → table_of segments ≡ None → table_targets segments ≡ []
-targets-none segments is = ap (λ o. option_map_or targets_of (option_and_then (segment_at segments) o) []) is
 
 pub targets-outside : (segments : List Segment) (number : ℕ) → table_of segments ≡ Some number → IsOutside segments number → table_targets segments ≡ []
 targets-outside segments number is past =

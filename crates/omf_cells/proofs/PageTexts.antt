@@ -8,7 +8,7 @@ use Rattle.std.proofs.lemmas.Grind.{flat_map-append}
 use Rattle.omf_format.specs.Super.{Passed, Located, page_text}
 use Rattle.load_meaning.specs.WrittenPages.{passing, Group, in_front, by_page, pages_from}
 use Rattle.omf_cells.specs.WrittenParts.{run}
-use Rattle.load_meaning.specs.PageLaws.{Climb, IsGroup}
+use Rattle.load_meaning.specs.laws.PageLaws.{Climb, IsGroup}
 
 -- ---- skips
 

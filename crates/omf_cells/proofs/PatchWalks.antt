@@ -5,7 +5,7 @@ use Rattle.std.proofs.lemmas.List.Concat.{flat_map-cons}
 use Rattle.omf_format.specs.Record.{Record}
 use Rattle.omf_format.specs.Reading.{Reader, next_answer, after_next, HandsOut, records_of, IsBody}
 use Rattle.omf_format.specs.File.{Segment}
-use Rattle.omf_format.specs.FileLaws.{gave, same_found, open_at_some}
+use Rattle.omf_format.specs.laws.FileLaws.{gave, same_found, open_at_some}
 use Rattle.load_meaning.specs.Cells.{Cell, Patch, patches_in}
 use Rattle.omf_cells.specs.Walk.{patches_from}
 use Rattle.omf_cells.specs.Content.{spread, spread_all}

@@ -6,7 +6,7 @@ use Rattle.std.proofs.lemmas.Bool.{cases_lt, cases_order}
 use Rattle.std.proofs.lemmas.List.{length-append, length-drop, get_or-drop}
 use Rattle.omf_cells.specs.declared.pieces.Piece.{Piece}
 use Rattle.omf_cells.specs.Content.{IsZeros, ArePieces, start_of}
-use Rattle.load_meaning.specs.LayingLaws.{get-front, get-behind}
+use Rattle.load_meaning.specs.laws.LayingLaws.{get-front, get-behind}
 use Rattle.omf_cells.proofs.Splits.{within, get_there}
 
 pub no_pieces : ArePieces [] []

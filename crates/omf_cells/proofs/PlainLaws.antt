@@ -5,9 +5,9 @@ use Rattle.std.proofs.Math.Seq.{take-append-add, take-append_seam, drop-append_s
 use Rattle.std.proofs.lemmas.List.{length-append, length-take, length-drop}
 use Rattle.byteorder.specs.Endian.{little_bytes}
 use Rattle.omf_format.specs.Field.{written_layout}
-use Rattle.omf_format.specs.Record.{LongConst, spelling}
-use Rattle.load_meaning.specs.StoredLaws.{zeros_left}
-use Rattle.load_meaning.specs.TableLaws.{length-little_bytes}
+use Rattle.omf_format.specs.Record.{spelling}
+use Rattle.load_meaning.specs.laws.StoredLaws.{zeros_left}
+use Rattle.load_meaning.specs.laws.TableLaws.{length-little_bytes}
 use Rattle.load_meaning.specs.WrittenBody.{data_records, supers_from, body_records, body_text, written_data, written_cells, zeros_behind}
 use Rattle.omf_cells.specs.WrittenParts.{IsKept}
 use Rattle.omf_cells.proofs.DataLaws.{data_is, size_is, one_record, length-one}

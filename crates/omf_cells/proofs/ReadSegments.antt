@@ -1,12 +1,12 @@
 -- The segments of a load file, as far as they were read.
-use Rattle.std.proofs.Common.{◌≡◌, ℕ, ◌+◌, ◌*◌, ◌<◌, ◌≤◌, List, [], ◌∷◌, ◌++◌, length, map, All, Some, refl, sym, subst, arith}
+use Rattle.std.proofs.Common.{◌≡◌, ℕ, ◌+◌, ◌*◌, ◌<◌, ◌≤◌, List, [], ◌∷◌, ◌++◌, length, map, All, refl, sym, subst, arith}
 use Rattle.std.specs.List.{AllByRecursion}
 use Rattle.std.proofs.lemmas.List.{map-append, length-append, length-map}
 use Rattle.std.proofs.lemmas.List.Elements.{All-push}
 use Rattle.load_meaning.specs.declared.load.LoadFault.{LoadFault}
 use Rattle.omf_format.specs.File.{Segment, AreSegments}
-use Rattle.omf_format.specs.FileLaws.{LiesIn, header_lies, AreSegments-append, segments_fit}
-use Rattle.load_meaning.specs.Loadable.{HasReadFault, IsLoadSegment, later_fault, IsFirstLoadFault, OfReading, OfSegments}
+use Rattle.omf_format.specs.laws.FileLaws.{LiesIn, header_lies, AreSegments-append, segments_fit}
+use Rattle.load_meaning.specs.Loadable.{HasReadFault, IsLoadSegment, IsFirstLoadFault, OfReading}
 use Rattle.omf_records.specs.declared.segment.SegmentView.{SegmentView}
 use Rattle.omf_records.specs.Segments.{placed, shown}
 use Rattle.omf_cells.specs.Load.{IsRefused, IsReadRefused, IsLoadView}
@@ -60,14 +60,3 @@ refused_in file views fault start number read more is = unless_then fault.cause 
 -- as many segments as fit the file
 pub few_read : (file : List ℕ) (views : List SegmentView) (start number : ℕ) → Read file views start number → 10 * number ≤ start + 10
 few_read file views start number read = omega (arith, segments_fit (map shown views) 0 file start read.are, length-map views shown, read.count)
-
--- where the file ends, a later phase finds the first fault of the segments
-pub is_later : (file : List ℕ) (views : List SegmentView) (start number : ℕ) (fault : LoadFault) → Read file views start number → length file ≤ start → later_fault (map shown views) ≡ Some fault → IsFirstLoadFault file fault
-is_later file views start number fault read end found =
-    let same : start ≡ length file = omega (arith, read.within) in
-    OfSegments record {
-      segments = map shown views;
-      is_file = subst (AreSegments (map shown views) 0 file) same read.are;
-      pass = read.pass;
-      here = found;
-    }

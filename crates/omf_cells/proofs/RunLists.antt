@@ -5,7 +5,7 @@ use Rattle.std.specs.Option.{option_or}
 use Rattle.std.proofs.Math.Seq.{drop-cons}
 use Rattle.std.proofs.lemmas.List.{append-nil, length-take, length-drop, take_all, drop_all, take-append-drop}
 use Rattle.load_meaning.specs.Cells.{Cell}
-use Rattle.load_meaning.specs.LayingLaws.{get-take}
+use Rattle.load_meaning.specs.laws.LayingLaws.{get-take}
 use Rattle.omf_cells.specs.declared.spots.Spot.{Spot}
 use Rattle.omf_cells.specs.Content.{end_of, part_of, shown_spots, last_at, AreRising, AreRuns}
 use Rattle.omf_cells.proofs.Splits.{within}

@@ -5,7 +5,7 @@ use Rattle.omf_format.specs.Reading.{Reader}
 use Rattle.omf_format.specs.File.{Placed, segment_of, body_reader}
 use Rattle.omf_format.specs.Body.{body_bytes}
 use Rattle.load_meaning.specs.Cells.{segment_bytes}
-use Rattle.load_meaning.specs.CellLaws.{shaped, length-segment_bytes}
+use Rattle.load_meaning.specs.laws.CellLaws.{shaped, length-segment_bytes}
 use Rattle.load_meaning.specs.Loadable.{shape_fault}
 use Rattle.omf_records.specs.declared.segment.SegmentView.{SegmentView}
 use Rattle.omf_records.specs.Segments.{placed, shown}

@@ -11,7 +11,7 @@ use Rattle.std.proofs.lemmas.List.{append-nil}
 use Rattle.std.proofs.lemmas.List.Elements.{All-from_recursion, recursion_from_All}
 use Rattle.std.proofs.lemmas.List.Sorted.{All-permutation, IsPermutation-sym}
 use Rattle.load_meaning.specs.Cells.{Cell, Part, Patch, parts_from, byte_of}
-use Rattle.load_meaning.specs.LayingLaws.{last_over}
+use Rattle.load_meaning.specs.laws.LayingLaws.{last_over}
 use Rattle.omf_cells.specs.declared.spots.Spot.{Spot}
 use Rattle.omf_cells.specs.Content.{spread_from, spread, spread_all, last_at, offset_of, end_of, part_of, spot_patch, spread_spot, shown_spots, AreApart, AreRising, IsSingle, with_cells}
 use Rattle.omf_cells.proofs.Splits.{get_there, in_order}

@@ -1,24 +1,15 @@
 -- The patches of a SUPER, one after another.
-use Rattle.std.proofs.Common.{◌≡◌, ℕ, ◌+◌, ◌≤◌, Bool, true, false, eqb, ltb, leb, List, [], ◌∷◌, ◌++◌, map, Option, Some, None, refl, sym, ap, subst, ◌∙◌, arith, append_assoc, inl, inr}
-use Rattle.std.specs.Prelude.{◌||◌, ◌&&◌, ◌==◌, not, if◌then◌else◌}
+use Rattle.std.proofs.Common.{◌≡◌, ℕ, ◌+◌, true, eqb, ltb, leb, List, [], ◌∷◌, ◌++◌, map, Option, Some, None, refl, sym, ap, subst, ◌∙◌, append_assoc, inl, inr}
 use Rattle.std.specs.Option.{option_or}
-use Rattle.std.proofs.lemmas.Bool.{cases_Bool, eqb-true, le-ltb}
+use Rattle.std.proofs.lemmas.Bool.{cases_Bool, eqb-true}
 use Rattle.std.proofs.lemmas.List.{append-nil}
 use Rattle.load_meaning.specs.declared.load.LoadCause.{LoadCause}
-use Rattle.load_meaning.specs.declared.load.LoadCause.TheVariants.{PatchOutside, NoSuchTarget, DynamicTarget}
-use Rattle.omf_format.specs.Header.{first_of}
+use Rattle.load_meaning.specs.declared.load.LoadCause.TheVariants.{PatchOutside}
 use Rattle.omf_format.specs.File.{Segment}
 use Rattle.load_meaning.specs.Cells.{Cell, Patch, super_patch}
-use Rattle.load_meaning.specs.Loadable.{is_kept, is_dynamic_at, patch_refusal, first_refusal}
+use Rattle.load_meaning.specs.Loadable.{patch_refusal, first_refusal}
 use Rattle.omf_records.specs.View.{first, behind}
 use Rattle.omf_cells.specs.Content.{super_count, spread, spread_all}
-
-pub count_least : (form : ℕ) → 2 ≤ super_count form
-count_least form = by_bool (eqb form 1 || eqb form 2)
-  where
-    by_bool : (b : Bool) → 2 ≤ (if b then 3 else 2)
-    by_bool true = omega arith
-    by_bool false = omega arith
 
 -- where a patch of a SUPER stands, and how many bytes it has
 super_place : (s : Segment) (form at : ℕ) → ((super_patch s form at).location ≡ at) × ((super_patch s form at).count ≡ super_count form)
@@ -40,12 +31,6 @@ pub outside_patch : (segments : List Segment) (s : Segment) (p : Patch) → ltb 
 unfolding patch_refusal
 outside_patch segments s p e = rw e refl
 
--- where a patch doesn't reach past LENGTH, its target decides
-pub inside_patch : (segments : List Segment) (s : Segment) (p : Patch) → p.location + p.count ≤ s.fields.length
-    → patch_refusal segments s p ≡ first_of {F = LoadCause} ((not (p.file == 1 && is_kept segments p.segment), NoSuchTarget) ∷ (not (p.segment == s.fields.seg_num) && is_dynamic_at segments p.segment, DynamicTarget) ∷ [])
-unfolding patch_refusal
-inside_patch segments s p le = rw (le-ltb s.fields.length (p.location + p.count) le) refl
-
 -- a patch of a SUPER that reaches past LENGTH
 pub outside_super : (segments : List Segment) (s : Segment) (form at : ℕ) → ltb s.fields.length (at + super_count form) ≡ true → first_refusal segments s (super_patch s form at ∷ []) ≡ Some PatchOutside
 outside_super segments s form at e =
@@ -63,14 +48,6 @@ passed_one segments s p patches e = by_cause (patch_refusal segments s p) e
     by_cause None e' = refl
     by_cause (Some cause) e' = absurd cc
 
--- and where it may not, it decides
-pub stopped_one : (segments : List Segment) (s : Segment) (p : Patch) (patches : List Patch) (cause : LoadCause) → first_refusal segments s (p ∷ []) ≡ Some cause → first_refusal segments s (p ∷ patches) ≡ Some cause
-stopped_one segments s p patches cause e = by_cause (patch_refusal segments s p) e
-  where
-    by_cause : (o : Option LoadCause) → option_or o None ≡ Some cause → option_or o (first_refusal segments s patches) ≡ Some cause
-    by_cause None e' = absurd cc
-    by_cause (Some other) e' = e'
-
 some_number : (a b : ℕ) → Some a ≡ Some b → a ≡ b
 some_number a b e = cc
 
@@ -85,12 +62,6 @@ module _ (segments : List Segment) (s : Segment) (form : ℕ) where
       let same : y ≡ x = some_number y x is in
       passed_one segments s (f y) (map f at) (ap (λ (z : ℕ). first_refusal segments s (f z ∷ [])) same ∙ none)
       ∙ ap (λ l. first_refusal segments s (map f l)) (sym moved)
-
-  pub refusal_here : (x : ℕ) (at : List ℕ) (cause : LoadCause) → first at ≡ Some x → first_refusal segments s (f x ∷ []) ≡ Some cause → first_refusal segments s (map f at) ≡ Some cause
-  refusal_here x [] cause is stops = absurd cc
-  refusal_here x (y ∷ at) cause is stops =
-      let same : y ≡ x = some_number y x is in
-      stopped_one segments s (f y) (map f at) cause (ap (λ (z : ℕ). first_refusal segments s (f z ∷ [])) same ∙ stops)
 
   pub spread_more : (x : ℕ) (at next : List ℕ) (old new : List (ℕ × Cell)) → first at ≡ Some x → next ≡ behind at → new ≡ old ++ spread_all (f x ∷ [])
       → new ++ spread_all (map f next) ≡ old ++ spread_all (map f at)

@@ -1,6 +1,5 @@
 -- The bytes that a body puts into its segment, as far as its reader has come.
-use Rattle.std.proofs.Common.{◌≡◌, ℕ, zero, suc, ◌+◌, ◌≤◌, ◌<◌, true, List, [], ◌∷◌, ◌++◌, length, take, drop, Some, None, Ok, Err, refl, sym, ap, ◌∙◌, append_assoc, arith}
-use Rattle.std.specs.Prelude.{slice_get}
+use Rattle.std.proofs.Common.{◌≡◌, ℕ, ◌+◌, ◌≤◌, true, List, [], ◌∷◌, ◌++◌, length, take, drop, Some, None, Ok, Err, refl, sym, ap, ◌∙◌, append_assoc, arith}
 use Rattle.std.specs.List.{flat_map}
 use Rattle.std.proofs.Math.Seq.{take-append_seam}
 use Rattle.std.proofs.lemmas.List.{append-nil, length-append}
@@ -8,7 +7,7 @@ use Rattle.std.proofs.lemmas.List.Concat.{flat_map-cons}
 use Rattle.omf_format.specs.declared.fault.RecordFault.{RecordFault}
 use Rattle.omf_format.specs.Record.{Record, content_of}
 use Rattle.omf_format.specs.Reading.{Reader, next_answer, after_next, HandsOut, records_of, IsBody}
-use Rattle.omf_format.specs.FileLaws.{Answer, gave, same_found, open_at_some, open_at_fault}
+use Rattle.omf_format.specs.laws.FileLaws.{Answer, gave, same_found, open_at_some, open_at_fault}
 use Rattle.omf_cells.specs.Walk.{content}
 
 abbrev bytes_of : List (ℕ × Record) → List ℕ
@@ -79,27 +78,6 @@ left_full start at bytes left full = by_rest (bytes_of left.back) left.whole
     by_rest (b ∷ rest) whole = absurd (omega (arith, ap length whole, length-append bytes (b ∷ rest), full))
 
 -- ---- places in lists
-
--- an item of the second list
-pub get-behind : (xs ys : List ℕ) (k n : ℕ) → k ≡ length xs + n → slice_get (xs ++ ys) k ≡ slice_get ys n
-get-behind [] ys k n is = let same : k ≡ n = omega arith in ap (slice_get ys) same
-get-behind (x ∷ xs) ys zero n is = absurd (omega arith)
-get-behind (x ∷ xs) ys (suc k) n is = get-behind xs ys k n (omega arith)
-
--- an item of the first one
-pub get-front : (xs ys : List ℕ) (k : ℕ) → k < length xs → slice_get (xs ++ ys) k ≡ slice_get xs k
-get-front [] ys k lt = absurd (omega arith)
-get-front (x ∷ xs) ys zero lt = refl
-get-front (x ∷ xs) ys (suc k) lt = get-front xs ys k (omega arith)
-
--- the byte at a place of the next record
-pub left_get : (start at : Reader) (found : ℕ × Record) (bytes : List ℕ) (k n : ℕ) → Left start at bytes → next_answer at ≡ Ok (Some found) → k ≡ length bytes + n → n < length (content_of found.1)
-    → slice_get (content start) k ≡ slice_get (content_of found.1) n
-left_get start at found bytes k n left e is lt =
-    let more = left_more start at found bytes left e in
-    ap (λ (l : List ℕ). slice_get l k) more.whole
-    ∙ get-front (bytes ++ content_of found.1) (bytes_of more.back) k (omega (arith, length-append bytes (content_of found.1)))
-    ∙ get-behind bytes (content_of found.1) k n is
 
 -- a front that was written, and what was written behind it
 pub written_more : (out bytes c : List ℕ) (at : ℕ) → take at out ≡ bytes → at ≡ length bytes

@@ -4,7 +4,7 @@ use Rattle.std.specs.Option.{option_map_or}
 use Rattle.omf_format.specs.declared.fault.HeaderFault.{HeaderFault}
 use Rattle.omf_format.specs.declared.fault.HeaderFault.TheVariants as header
 use Rattle.load_meaning.specs.declared.load.LoadCause.{LoadCause}
-use Rattle.load_meaning.specs.declared.load.LoadCause.TheVariants.{NotLoadFile, Truncated, BadHeader, Unsupported, BadRecord, Sequence, DataTooLong, PatchOutside, NoSuchTarget, DynamicTarget, BadTable, Memory}
+use Rattle.load_meaning.specs.declared.load.LoadCause.TheVariants.{Truncated, Unsupported, Memory}
 use Rattle.load_meaning.specs.declared.load.LoadFault.{LoadFault}
 use Rattle.omf_format.specs.Header.{Fields}
 use Rattle.omf_format.specs.File.{Segment, IsHeader, IsSegment, segment_at, told_header}
@@ -19,18 +19,8 @@ use Rattle.omf_cells.specs.Content.{IsContent, AreContents}
 
 -- a fault of want of memory has no place, and every other one is this
 abbrev pub UnlessMemory : LoadCause → LoadFault → Type 0 → Type 0
-UnlessMemory NotLoadFile fault P = P
-UnlessMemory Truncated fault P = P
-UnlessMemory BadHeader fault P = P
-UnlessMemory Unsupported fault P = P
-UnlessMemory BadRecord fault P = P
-UnlessMemory Sequence fault P = P
-UnlessMemory DataTooLong fault P = P
-UnlessMemory PatchOutside fault P = P
-UnlessMemory NoSuchTarget fault P = P
-UnlessMemory DynamicTarget fault P = P
-UnlessMemory BadTable fault P = P
 UnlessMemory Memory fault P = (fault.segment ≡ 0) × (fault.at ≡ 0)
+UnlessMemory _ _ P = P
 
 -- the fault is the first one of the file, unless memory ran out
 abbrev pub IsRefused : LoadFault → List ℕ → Type 0

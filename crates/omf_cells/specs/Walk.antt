@@ -3,7 +3,7 @@ use Rattle.std.specs.Prelude.{◌≡◌, ℕ, Bool, true, false, List, Some, Non
 use Rattle.std.specs.List.{flat_map, AllByRecursion}
 use Rattle.omf_format.specs.Field.{Layout}
 use Rattle.omf_format.specs.Super.{locations_left}
-use Rattle.omf_format.specs.Record.{Record, End, Const, LongConst, Align, Org, Space, Reloc, InterSeg, ShortReloc, ShortInterSeg, Super, Using, Strong, Label, Equate, Formula, Entry, IsRecord, content_of}
+use Rattle.omf_format.specs.Record.{Record, Reloc, InterSeg, ShortReloc, ShortInterSeg, Super, IsRecord, content_of}
 use Rattle.omf_format.specs.Reading.{Reader, next_answer, HandsOut, records_of, IsBody}
 use Rattle.omf_format.specs.File.{Segment}
 use Rattle.load_meaning.specs.Cells.{Patch, patches_in}
@@ -38,18 +38,7 @@ gives_patch (InterSeg count shift location file segment offset) = true
 gives_patch (ShortReloc count shift location offset) = true
 gives_patch (ShortInterSeg count shift location segment offset) = true
 gives_patch (Super form bytes) = is_some (first (locations_left 0 0 bytes))
-gives_patch End = false
-gives_patch (Const bytes) = false
-gives_patch (LongConst bytes) = false
-gives_patch (Space n) = false
-gives_patch (Align n) = false
-gives_patch (Org n) = false
-gives_patch (Using name) = false
-gives_patch (Strong name) = false
-gives_patch (Label global name size form private) = false
-gives_patch (Equate global name size form private expr) = false
-gives_patch (Formula code count n expr) = false
-gives_patch (Entry segment offset name) = false
+gives_patch _ = false
 
 -- the patches that records of a segment give, in order
 abbrev pub patches_from : Segment → List (ℕ × Record) → List Patch

@@ -14,8 +14,9 @@ use crate::patches::gives_patches;
 use crate::pieces::byte_at;
 use crate::places::Places;
 use crate::spots::{spot_at, write_spots};
-use crate::table::{entry_count, table_of, target_from};
+use crate::table::{table_of, target_from};
 use crate::targets::Content;
+use jump_table::entry_count;
 use load_meaning::Target;
 use omf_header::Header;
 use omf_records::SegmentView;
@@ -23,7 +24,7 @@ use std::marker::Model;
 
 /// A load file. Contracts see the list of its segments. Beside the headers it keeps where the data of each segment stands
 /// in the file, and the bytes that patches give.
-#[derive(Debug, Drop)]
+#[derive(Drop)]
 pub struct LoadFile<'a> {
     pub(crate) views: Vec<SegmentView<'a>>,
     pub(crate) contents: Vec<Content<'a>>,

@@ -1,12 +1,13 @@
 //! The subrecords of a SUPER (GS/OS Reference, appendix F, "SUPER").
 
-ghost use Rattle.std.specs.Prelude.{◌≡◌, ◌≤◌, ◌%◌, ◌++◌, length, map, take, drop, OnOk, IfOk};
+ghost use Rattle.std.specs.Prelude.{◌≡◌, ◌≤◌, ◌%◌, ◌++◌, length, map, OnOk, IfOk};
 ghost use Rattle.std.specs.List.{flat_map};
 ghost use Rattle.omf_format.specs.Super.{page_text};
 ghost use Rattle.load_meaning.specs.WrittenPages.{passing, pages_text, Rise};
 ghost use Rattle.omf_cells.specs.WrittenParts.{run};
 
 use crate::written::BodyFault;
+use omf_base::{behind, front};
 use std::alloc::Global;
 
 /// Appends what passes so many pages over.
@@ -49,22 +50,6 @@ fn put_lows(out: &mut Vec<u8>, locations: &[u32]) -> Result<(), BodyFault>
         out.push((*at % 256) as u8)?;
     }
     Ok(())
-}
-
-/// The first locations.
-fn front(locations: &[u32], count: usize) -> &[u32]
-    requires { count ≤ length locations.now }
-    ensures { result.now ≡ take count locations.now }
-{
-    &locations[..count]
-}
-
-/// The locations behind the first ones.
-fn behind(locations: &[u32], count: usize) -> &[u32]
-    requires { count ≤ length locations.now }
-    ensures { result.now ≡ drop count locations.now }
-{
-    &locations[count..]
 }
 
 /// The subrecords of rising locations.

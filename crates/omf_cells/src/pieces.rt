@@ -1,6 +1,6 @@
 //! The data of a segment: where the bytes of its records stand in the file.
 
-ghost use Rattle.std.specs.Prelude.{◌≡◌, ◌+◌, ◌<◌, ◌≤◌, ◌^◌, ◌++◌, ℕ, List, length, length as size_of, drop, slice_get, slice_index, OnOk, IfOk, MatchOption, Some};
+ghost use Rattle.std.specs.Prelude.{◌≡◌, ◌+◌, ◌<◌, ◌≤◌, ◌^◌, ◌++◌, ℕ, List, length, length as size_of, slice_get, slice_index, OnOk, IfOk, MatchOption, Some};
 ghost use Rattle.std.specs.List.Sorted.{IsNonDecreasingBy};
 ghost use Rattle.omf_format.specs.Reading.{IsBody};
 ghost use Rattle.omf_format.specs.Record.{content_of};
@@ -9,11 +9,12 @@ ghost use Rattle.omf_cells.specs.Walk.{content};
 ghost use Rattle.omf_cells.specs.Content.{IsSplit, IsZeros, ArePieces, start_of};
 
 use crate::content::content_size;
+use omf_base::behind;
 use omf_records::{Rec, Records};
 use std::alloc::{AllocError, Global};
 
 /// The bytes of one record.
-#[derive(Clone, Copy, Debug)]
+#[derive(Clone, Copy)]
 pub struct Piece<'a> {
     /// Their offset in the segment.
     pub start: u32,
@@ -113,14 +114,6 @@ pub fn byte_at(pieces: &[Piece], at: u32) -> u8
         Some(byte) => byte,
         None => 0,
     }
-}
-
-#[inline(always)]
-fn behind(bytes: &[u8], from: usize) -> &[u8]
-    requires { from ≤ length bytes.now }
-    ensures { result.now ≡ drop from bytes.now }
-{
-    &bytes[from..]
 }
 
 /// The bytes from an offset on that the piece at a place has; none where it doesn't cover the offset, or isn't there.

@@ -13,7 +13,7 @@ pub enum PlacesFault {
 }
 
 /// The addresses of a file's segments, each by its number from 1. Contracts see a list of them.
-#[derive(Debug, Drop)]
+#[derive(Drop)]
 pub struct Places {
     addresses: Vec<Option<u32>>,
 }

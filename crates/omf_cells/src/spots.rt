@@ -10,7 +10,7 @@ use crate::places::Places;
 use std::alloc::AllocError;
 
 /// A patch as a record gives it. The location of a SUPER may lie above 32 bits.
-#[derive(Clone, Copy, Debug)]
+#[derive(Clone, Copy)]
 pub struct Relocation {
     pub location: u64,
     pub count: u8,
@@ -21,7 +21,7 @@ pub struct Relocation {
 }
 
 /// Bytes of a segment that a patch gives: some, one after another, of the place in a segment of the same file.
-#[derive(Clone, Copy, Debug)]
+#[derive(Clone, Copy)]
 pub struct Spot {
     /// The offset of the first one in the segment.
     pub at: u32,

@@ -5,7 +5,7 @@ ghost use Rattle.std.specs.List.{list_any};
 ghost use Rattle.omf_format.specs.Header.{first_of};
 ghost use Rattle.load_meaning.specs.Cells.{segment_bytes};
 ghost use Rattle.load_meaning.specs.Table.{entry_start};
-ghost use Rattle.load_meaning.specs.LoadTable.{is_table, table_of, is_called, is_call, entry_count, target_at, zero_checks, entry_checks, entries_checks, table_checks};
+ghost use Rattle.load_meaning.specs.LoadTable.{is_table, table_of, is_called, is_call, target_at, zero_checks, entry_checks, entries_checks, table_checks};
 ghost use Rattle.load_meaning.specs.Loadable.{table_flaw, table_fault, in_segment, first_in};
 ghost use Rattle.omf_records.specs.Segments.{shown};
 ghost use Rattle.omf_cells.specs.Load.{IsLoadView, AreShown};
@@ -15,6 +15,7 @@ use crate::data::{data_u8, data_u16, data_u32};
 use crate::patches::gives_patches;
 use crate::pieces::Piece;
 use crate::targets::{Content, is_place};
+use jump_table::entry_count;
 use load_meaning::{LoadCause, LoadFault, Target};
 use omf_records::SegmentView;
 
@@ -50,13 +51,6 @@ pub fn table_of(views: &Vec<SegmentView>) -> Option<u32>
         number += 1;
     }
     None
-}
-
-/// How many entries a table of so many bytes has.
-pub fn entry_count(size: u32) -> u32
-    ensures { result ≡ entry_count size }
-{
-    size.saturating_sub(FRONT + BACK) / ENTRY
 }
 
 /// Where the entry at a place among the entries, from 0, leads.

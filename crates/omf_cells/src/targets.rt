@@ -21,7 +21,7 @@ use omf_records::{Locations, Rec, Records, SegmentView};
 use std::alloc::{AllocError, Global};
 
 /// What is kept of a segment beside its header: its data, and the bytes that patches give, in runs.
-#[derive(Debug, Drop)]
+#[derive(Drop)]
 pub struct Content<'a> {
     pub pieces: Vec<Piece<'a>>,
     pub spots: Vec<Spot>,

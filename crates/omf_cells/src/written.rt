@@ -31,7 +31,7 @@ pub struct Patch {
 }
 
 /// The body of a load segment, without END.
-#[derive(Debug, Drop)]
+#[derive(Drop)]
 pub struct Body {
     pub bytes: Vec<u8>,
     /// How many zero bytes stand behind the body's data in memory: RESSPC.

@@ -9,6 +9,7 @@ ghost use Rattle.load_meaning.specs.WrittenBody.{AreWritten, stored, with_stored
 
 use crate::choice::has_form;
 use crate::written::{BodyFault, Patch};
+use omf_base::front;
 use omf_records::{Rec, put_record};
 
 /// The low bytes of the offset, lowest first, and in a SUPER of type 2 the segment as the third.
@@ -29,14 +30,6 @@ pub(crate) fn put_over(content: &mut [u8], at: usize, bytes: &[u8])
     ensures { content.new ≡ take at content.old ++ bytes.now ++ drop (at + length bytes.now) content.old }
 {
     content[at..at + bytes.len()].copy_from_slice(bytes);
-}
-
-/// The first bytes.
-fn front(bytes: &[u8], count: usize) -> &[u8]
-    requires { count ≤ length bytes.now }
-    ensures { result.now ≡ take count bytes.now }
-{
-    &bytes[..count]
 }
 
 /// Writes what stands in the data at each patch over the bytes there. The answer is where the last patch ends.

@@ -1,28 +1,27 @@
 -- A file that the linker wrote begins, or lacks what lies outside it.
-use Rattle.std.proofs.Common.{◌≡◌, inl, inr, ℕ, Bool, true, false, cond, ◌≤◌, ◌+◌, List, [], ◌∷◌, ◌++◌, length, map, Option, Some, None, nat_lt, Result, Ok, Err, refl, sym, subst, ◌∙◌, arith}
+use Rattle.std.proofs.Common.{◌≡◌, inl, inr, ℕ, Bool, true, false, cond, ◌≤◌, ◌+◌, List, [], ◌∷◌, ◌++◌, length, map, Option, Some, None, nat_lt, Result, Ok, Err, refl, sym, subst, ◌∙◌}
 use Rattle.std.specs.List.{AllByRecursion}
 use Rattle.std.specs.FinMap.{get}
 use Rattle.std.proofs.lemmas.Option.{same_Some}
-use Rattle.omf_format.specs.HeaderLaws.{IsBytes}
+use Rattle.omf_format.specs.Number.{IsBytes}
 use Rattle.omf_io.specs.Files.{FileMap, max_file}
 use Rattle.link_meaning.specs.EmitFaults.{IsLinkedTo}
 use Rattle.link_meaning.specs.LinkLoadable.{NamesNoSkipped, HasNoLoadFault, IsReadWhole}
 use Rattle.iigs_meaning.specs.Puts.{Purges}
-use Rattle.load_meaning.specs.declared.load.LoadFault.{LoadFault}
 use Rattle.load_meaning.specs.Loadable.{IsFirstLoadFault}
 use Rattle.loader_machine.specs.declared.faults.LoaderFault.{LoaderFault}
 use Rattle.loader_machine.specs.declared.faults.LoaderFault.TheVariants as fault
 use Rattle.loader_machine.specs.declared.seen.Head.{Head}
 use Rattle.loader_machine.specs.Heads.{head_of}
 use Rattle.loader_machine.specs.State.{User, Machine, first_id, max_users}
-use Rattle.loader_machine.specs.Commands.{Reply, Load, Started, Refused}
+use Rattle.loader_machine.specs.Commands.{Load, Started, Refused}
 use Rattle.loader_machine.specs.Refusals.{Refuse, load_refusal}
 use Rattle.loader_machine.specs.Found.{Found, Unread, Bad, Good, IsFound}
 use Rattle.loader_machine.specs.Steps.{Put, NoSlots, Lacks, PutIn, Lands, Decides, LoadsFound}
 use Rattle.loader_agrees.specs.Agrees.{Loaded, Meets}
 use Rattle.sys_loader.specs.declared.answers.Started as answers
 use Rattle.sys_loader.specs.Replies.{load_reply}
-use Rattle.omf_cli.specs.Loads.{LiesOutside, BeginsOrLacks, LinkedFilesBegin}
+use Rattle.omf_cli.specs.Loads.{LiesOutside, BeginsOrLacks}
 
 -- a refusal for such a reason
 refused : (result : Result answers.Started LoaderFault) (why : LoaderFault) → LiesOutside why → load_reply result ≡ Refused why → BeginsOrLacks result

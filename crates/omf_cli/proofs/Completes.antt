@@ -6,11 +6,11 @@ use Rattle.omf_io.specs.Files.{max_file, FileMap, StoreSeen, IsUnread}
 use Rattle.omf_io.specs.Sinks.{SinkSeen, FailsToPrint}
 use Rattle.omf_io.specs.Outside.{Outside}
 use Rattle.loader_machine.specs.Script.{HasScriptFault}
-use Rattle.loader_machine.specs.ScriptLaws.{no_script}
+use Rattle.loader_machine.specs.laws.ScriptLaws.{no_script}
 use Rattle.loader_agrees.specs.Agrees.{Loaded}
 use Rattle.omf_cli.specs.declared.status.Status.{Status}
 use Rattle.omf_cli.specs.declared.status.Status.TheVariants as status
-use Rattle.omf_cli.specs.Made.{Made, Bytes, Refusal, first_of}
+use Rattle.omf_cli.specs.Made.{Made, Refusal, first_of}
 use Rattle.omf_cli.specs.Script.{ScriptRun, CanRun}
 use Rattle.omf_cli.specs.Making.{MakesRun, AreRead, AreHeld, CanMake}
 

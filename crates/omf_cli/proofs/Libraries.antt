@@ -7,13 +7,12 @@ use Rattle.std.proofs.lemmas.Bool.{and_parts, leb-true}
 use Rattle.std.proofs.lemmas.List.{append-nil, length-append, length-map, map-append}
 use Rattle.std.proofs.lemmas.List.Elements.{All-push}
 use Rattle.omf_io.specs.Files.{max_file}
-use Rattle.lib_dict.specs.declared.fault.LibFault.{LibFault}
 use Rattle.lib_dict.specs.declared.member.Member.{Member}
 use Rattle.lib_dict.specs.Library.{Given}
-use Rattle.lib_dict.specs.Made.{given_file, IsLibRefused}
+use Rattle.lib_dict.specs.Made.{given_file}
 use Rattle.omf_cli.specs.Words.{is_path, are_paths, words_of}
-use Rattle.omf_cli.specs.Made.{Made, Bytes, Refusal, all_bytes, AreShort}
-use Rattle.omf_cli.specs.Library.{given_of, LibMakes, TellsFault}
+use Rattle.omf_cli.specs.Made.{all_bytes, AreShort}
+use Rattle.omf_cli.specs.Library.{given_of}
 
 -- ---- paths
 
@@ -53,13 +52,6 @@ pub record Gathered (paths : List (String Global)) (files : List (Vec ℕ Global
   pub count : length members ≡ i
   pub whole : given_of (words_of paths) (all_bytes files) ≡ map given_file members ++ given_of (drop i (words_of paths)) (drop i (all_bytes files))
   pub short : All (λ m. length m.bytes.items < 2 ^ 32) members
-
-pub gathered_none : (paths : List (String Global)) (files : List (Vec ℕ Global)) (members : List Member) → members ≡ [] → Gathered paths files 0 members
-gathered_none paths files members none = record {
-  count = ap length none;
-  whole = ap (λ (l : List Member). map given_file l ++ given_of (words_of paths) (all_bytes files)) (sym none);
-  short = subst (All (λ m. length m.bytes.items < 2 ^ 32)) (sym none) (λ k d lt. absurd (omega arith));
-}
 
 drop_word : (paths : List (String Global)) (i : ℕ) (path : String Global) → i < length paths → path ≡ get_or paths i path → drop i (words_of paths) ≡ string_bytes path ∷ drop (i + 1) (words_of paths)
 drop_word [] i path lt is = absurd (omega arith)
@@ -117,27 +109,3 @@ gathered_files paths files i members g none =
     ∙ ap (λ (l : List Given). map given_file members ++ l) (none_of (drop i (words_of paths)))
     ∙ append-nil (map given_file members)
     )
-
-drop_past : (words : List (List ℕ)) (i : ℕ) → length words ≤ i → drop i words ≡ []
-drop_past [] zero past = refl
-drop_past [] (suc i) past = refl
-drop_past (w ∷ words) zero past = absurd (omega arith)
-drop_past (w ∷ words) (suc i) past = drop_past words i (omega arith)
-
--- no path is left
-pub gathered_paths : (paths : List (String Global)) (files : List (Vec ℕ Global)) (i : ℕ) (members : List Member) → Gathered paths files i members → length paths ≤ i
-    → map given_file members ≡ given_of (words_of paths) (all_bytes files)
-gathered_paths paths files i members g past =
-    let left = drop_past (words_of paths) i (omega (arith, length-map paths string_bytes)) in
-    sym (
-    g.whole
-    ∙ ap (λ (l : List (List ℕ)). map given_file members ++ given_of l (drop i (all_bytes files))) left
-    ∙ append-nil (map given_file members)
-    )
-
--- ---- the end
-
--- a fault that is told is what the command makes
-pub told_makes : (paths files : List (List ℕ)) (given : List Given) (fault : LibFault) (made : Made) → given ≡ given_of paths files → IsLibRefused fault given → TellsFault fault made → LibMakes paths files made
-told_makes paths files given fault (Bytes bytes) is refused told = absurd told
-told_makes paths files given fault (Refusal text) is refused told = (fault, subst (IsLibRefused fault) is refused, told.0, told.1)

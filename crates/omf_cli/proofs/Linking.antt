@@ -1,16 +1,13 @@
 -- What the linker answers is what the command makes.
-use Rattle.std.proofs.Common.{◌≡◌, ℕ, suc, ◌+◌, ◌*◌, ◌<◌, ◌≤◌, List, [], ◌∷◌, length, Option, refl, ap, arith, inl, inr}
+use Rattle.std.proofs.Common.{◌≡◌, ℕ, suc, ◌*◌, ◌≤◌, List, [], ◌∷◌, length, Option, refl, ap, arith}
 use Rattle.std.specs.Prelude.{Vec, String, string_bytes}
 use Rattle.std.specs.declared.alloc.Global.{Global}
 use Rattle.std.proofs.lemmas.List.{length-map}
 use Rattle.omf_io.specs.Files.{FileMap}
-use Rattle.link_meaning.specs.declared.fault.LinkFault.{LinkFault}
 use Rattle.link_resolve.specs.Resolved.{total_size, AreFew}
-use Rattle.link_emit.specs.Answers.{IsLinkRefused}
 use Rattle.omf_cli.specs.Words.{words_of}
-use Rattle.omf_cli.specs.Made.{Made, Bytes, Refusal, all_bytes, AreShort}
+use Rattle.omf_cli.specs.Made.{all_bytes, AreShort}
 use Rattle.omf_cli.specs.Making.{AreRead}
-use Rattle.omf_cli.specs.Link.{LinkMakes, TellsLinkFault}
 
 few_bytes : (files : List (List ℕ)) → AreShort files → total_size files ≤ length files * 0x1000000
 few_bytes [] short = omega arith
@@ -19,12 +16,6 @@ few_bytes (file ∷ files) short = omega (arith, short.0, few_bytes files short.
 -- so many files as a command has are few
 pub few_files : (files : List (List ℕ)) → AreShort files → length files ≤ 255 → AreFew files
 few_files files short few = (omega (arith, few), omega (arith, few_bytes files short, few))
-
--- a fault that isn't want of memory is the first fault
-pub told_links : (files : List (List ℕ)) (fault : LinkFault) (made : Made) → IsLinkRefused files fault → TellsLinkFault fault made → LinkMakes files made
-told_links files fault (Bytes bytes) refused tells = absurd tells
-told_links files fault (Refusal text) (inl memory) tells = absurd (tells.0 (ap (λ (f : LinkFault). f.cause) memory))
-told_links files fault (Refusal text) (inr first) tells = (fault, first, tells.1)
 
 -- as many files were read as there are inputs
 count_read : (held : Option FileMap) (paths files : List (List ℕ)) → AreRead held paths files → length files ≡ length paths

@@ -1,45 +1,21 @@
 -- The inputs of `asm`, and what it makes of them.
-use Rattle.std.proofs.Common.{◌≡◌, ℕ, ◌+◌, ◌<◌, ◌≤◌, List, [], ◌∷◌, ◌++◌, length, get_or, take, Option, Some, None, Result, Ok, Err, IfOk, refl, sym, ap, subst, ◌∙◌, add-one, arith}
+use Rattle.std.proofs.Common.{◌≡◌, ℕ, ◌≤◌, List, [], ◌∷◌, length, Option, Some, None, Result, Ok, Err, IfOk, refl, ap, subst, arith}
 use Rattle.std.specs.Prelude.{◌&&◌, Bool, true, false, cond, nat_le, codes, String, string_bytes}
 use Rattle.std.specs.Option.{option_map}
 use Rattle.std.specs.List.{list_all}
 use Rattle.std.specs.Str.{bytes_eq}
 use Rattle.std.proofs.lemmas.Bool.{and_parts, leb-true}
 use Rattle.std.specs.declared.alloc.Global.{Global}
-use Rattle.std.proofs.Math.Seq.{take-suc}
-use Rattle.std.proofs.lemmas.List.{length-map, map-append, take_all}
+use Rattle.std.proofs.lemmas.List.{length-map}
 use Rattle.asm_meaning.specs.declared.faults.AsmFault.{AsmFault}
 use Rattle.asm_meaning.specs.Object.{IsAsmFault, OutOfMemory, First}
-use Rattle.omf_io.specs.Files.{StoreSeen}
 use Rattle.omf_cli.specs.Form.{Form, Asm, Link, Dump, Run, Lib, Stress, form_of, with_output, source_and_output, inputs_only, count_and_seed}
 use Rattle.omf_cli.specs.Words.{is_path, are_paths, words_of}
 use Rattle.omf_cli.specs.declared.making.Making.{Making}
 use Rattle.omf_cli.specs.Made.{Made, Bytes, Refusal, made_of, first_of}
-use Rattle.omf_cli.specs.Making.{IsShort}
 use Rattle.omf_cli.specs.Assemble.{AsmMakes, TellsAsmFault, behind_first}
 
 -- ---- inputs
-
--- one more path
-pub inputs_more : (source : List ℕ) (macros : List (String Global)) (k : ℕ) (item : String Global) (inputs new : List (String Global)) (s : String Global) → k < length macros → item ≡ get_or macros k item
-    → words_of inputs ≡ source ∷ words_of (take k macros) → string_bytes s ≡ string_bytes item → new ≡ inputs ++ s ∷ [] → words_of new ≡ source ∷ words_of (take (k + 1) macros)
-inputs_more source macros k item inputs new s small is are same is_new =
-    let taken : take (k + 1) macros ≡ take k macros ++ item ∷ [] =
-    ap (λ (n : ℕ). take n macros) (add-one k) ∙ take-suc macros k item small ∙ ap (λ (x : String Global). take k macros ++ x ∷ []) (sym is) in
-    ap words_of is_new
-    ∙ map-append string_bytes inputs (s ∷ [])
-    ∙ ap (λ (l : List (List ℕ)). l ++ string_bytes s ∷ []) are
-    ∙ ap (λ (p : List ℕ). source ∷ (words_of (take k macros) ++ p ∷ [])) same
-    ∙ ap (λ (l : List (List ℕ)). source ∷ l) (sym (ap words_of taken ∙ map-append string_bytes (take k macros) (item ∷ [])))
-
--- no path is left
-pub inputs_all : (source : List ℕ) (macros : List (String Global)) (k : ℕ) (inputs : List (String Global)) → length macros ≤ k → words_of inputs ≡ source ∷ words_of (take k macros)
-    → words_of inputs ≡ source ∷ words_of macros
-inputs_all source macros k inputs past are = are ∙ ap (λ (l : List (String Global)). source ∷ words_of l) (take_all k macros past)
-
--- nothing was read
-pub none_read : (inputs : List (List ℕ)) (store : StoreSeen) → IsShort inputs store store
-none_read inputs store = record { reads = 0; most = omega arith; store = refl }
 
 -- ---- how many macro files a form has
 

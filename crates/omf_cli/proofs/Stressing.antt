@@ -12,9 +12,9 @@ use Rattle.omf_format.specs.declared.fault.FileCause.{FileCause}
 use Rattle.omf_format.specs.declared.fault.FileCause.TheVariants as file_causes
 use Rattle.omf_format.specs.declared.fault.FileFault.{FileFault}
 use Rattle.omf_records.specs.Segments.{UnlessMemory, IsRefused}
-use Rattle.omf_format.specs.HeaderLaws.{IsBytes}
+use Rattle.omf_format.specs.Number.{IsBytes}
 use Rattle.omf_format.specs.File.{Segment, IsFile, IsFirstFault}
-use Rattle.omf_format.specs.FileLaws.{file_same, no_file}
+use Rattle.omf_format.specs.laws.FileLaws.{file_same, no_file}
 use Rattle.load_meaning.specs.declared.table.Target.{Target}
 use Rattle.load_meaning.specs.WrittenFile.{Image, AreReadAs}
 use Rattle.link_meaning.specs.Member.{Member}
@@ -22,11 +22,11 @@ use Rattle.link_meaning.specs.LinkValues.{Told}
 use Rattle.link_meaning.specs.Layout.{load_names}
 use Rattle.link_meaning.specs.LinkedCells.{table_number, targets}
 use Rattle.link_meaning.specs.LinkWritten.{load_images, table_images, images}
-use Rattle.link_meaning.specs.LinkWrittenLaws.{few_loads}
+use Rattle.link_meaning.specs.laws.LinkWrittenLaws.{few_loads}
 use Rattle.link_meaning.specs.LinkFaults.{IsResolved}
 use Rattle.link_meaning.specs.EmitFaults.{IsFirstLinkFault, IsLinkedTo}
-use Rattle.link_meaning.specs.EmitFaultLaws.{linkable_stands_for}
-use Rattle.link_meaning.specs.LinkLoadableLaws.{is_read_whole}
+use Rattle.link_meaning.specs.laws.EmitFaultLaws.{linkable_stands_for}
+use Rattle.link_meaning.specs.laws.LinkLoadableLaws.{is_read_whole}
 use Rattle.omf_io.specs.Counts.{Rose}
 use Rattle.omf_io.specs.Files.{FileMap}
 use Rattle.omf_io.specs.Sinks.{SinkSeen, FailsToPrint}
@@ -35,7 +35,7 @@ use Rattle.loader_agrees.specs.Agrees.{Loaded, Agrees}
 use Rattle.workload_meaning.specs.Object.{object}
 use Rattle.workload.specs.Rounds.{program}
 use Rattle.workload_meaning.specs.Draws.{behind}
-use Rattle.workload_meaning.specs.LinkedLaws.{workload_is_linked}
+use Rattle.workload_meaning.specs.laws.LinkedProofs.{workload_is_linked}
 use Rattle.workload.specs.Work.{HasWorked}
 use Rattle.omf_cli.specs.declared.status.Status.{Status}
 use Rattle.omf_cli.specs.declared.status.Status.TheVariants.{Done, Refused, Usage, CannotRead, CannotWrite, CannotPrint, Memory}

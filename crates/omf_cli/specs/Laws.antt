@@ -1,5 +1,5 @@
 -- How often a run reads.
-use Rattle.std.specs.Prelude.{◌≡◌, ◌≤◌, ℕ, ◌+◌, ◌-◌, ◌^◌, List, [], ◌∷◌, length, map, Option, Some}
+use Rattle.std.specs.Prelude.{◌≡◌, ◌≤◌, ℕ, ◌+◌, ◌-◌, ◌^◌, List, ◌∷◌, length, Option, Some}
 use Rattle.loader_agrees.specs.Agrees.{Loaded}
 use Rattle.omf_io.specs.Outside.{Outside}
 use Rattle.omf_cli.specs.declared.status.Status.TheVariants.{CannotRead, CannotWrite}

@@ -19,3 +19,4 @@ pub mod Tool
 pub mod Code
 pub mod Laws
 pub mod Loads
+pub mod Headline

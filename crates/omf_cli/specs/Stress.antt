@@ -3,7 +3,7 @@ use Rattle.std.specs.Prelude.{◌≡◌, ◌≤◌, ℕ, List, [], ◌∷◌, �
 use Rattle.std.specs.FinMap.{empty, insert}
 use Rattle.omf_base.specs.Digits.{decimal, hexadecimal}
 use Rattle.omf_base.specs.Lines.{line}
-use Rattle.omf_format.specs.HeaderLaws.{IsBytes}
+use Rattle.omf_format.specs.Number.{IsBytes}
 use Rattle.omf_format.specs.File.{Segment, IsFile}
 use Rattle.omf_io.specs.Files.{FileMap}
 use Rattle.omf_io.specs.Sinks.{SinkSeen, with_text, FailsToPrint}

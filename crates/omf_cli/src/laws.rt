@@ -1,9 +1,15 @@
 //! Laws of runs, and of linked files that are loaded. These functions do nothing: each is there for its contract.
 
+ghost use Rattle.omf_cli.specs.Headline.{Headline};
 ghost use Rattle.omf_cli.specs.Laws.{OutputsAreAskedForOnce, LibrariesAreAskedForOnce, ObjectsAreAskedForOnce, ScriptsAreAskedForOnce};
 ghost use Rattle.omf_cli.specs.Loads.{LinkedFilesBegin};
 
-use link_meaning::linked_files_are_loaded;
+use asm_meaning::{objects_are_files, sources_have_one_object};
+use link_meaning::{
+    files_have_one_answer, linked_files_are_loaded, linked_files_have_their_headers_and_cells,
+};
+use loader_agrees::commands_have_one_reply;
+use omf_records::files_are_read_in_one_way;
 
 /// A run that ends with a failed write or a script that couldn't be read has asked the store for each input once, and for
 /// nothing else: that failure, and none of a later read, is the cause.
@@ -20,4 +26,19 @@ pub fn linked_files_begin()
     ensures { LinkedFilesBegin }
 {
     linked_files_are_loaded();
+}
+
+/// The headline: a source has one object, which is a file; files have one load file, or one first fault; the load file stands for the
+/// linked cells, and its load begins a program; a command has one reply; a file has one listing.
+pub fn headline()
+    ensures { Headline }
+{
+    sources_have_one_object();
+    objects_are_files();
+    files_have_one_answer();
+    linked_files_have_their_headers_and_cells();
+    linked_files_are_loaded();
+    linked_files_begin();
+    commands_have_one_reply();
+    files_are_read_in_one_way();
 }

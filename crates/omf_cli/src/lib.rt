@@ -15,6 +15,6 @@ mod status;
 mod stress;
 mod tool;
 
-pub use laws::{inputs_are_asked_for_once, linked_files_begin};
+pub use laws::{headline, inputs_are_asked_for_once, linked_files_begin};
 pub use status::Status;
 pub use tool::run_tool;

@@ -1,7 +1,7 @@
 //! `stress`: a workload of the whole chain.
 
 ghost use Rattle.std.specs.Prelude.{◌≡◌, ◌⊎◌, ◌≤◌, ◌<◌, ◌-◌, ◌^◌, ◌∷◌, [], ℕ, length, None, IfOk};
-ghost use Rattle.omf_format.specs.HeaderLaws.{IsBytes};
+ghost use Rattle.omf_format.specs.Number.{IsBytes};
 ghost use Rattle.omf_io.specs.Counts.{Rose};
 ghost use Rattle.link_meaning.specs.EmitFaults.{IsLinkedTo};
 ghost use Rattle.link_resolve.specs.Resolved.{all_bytes};

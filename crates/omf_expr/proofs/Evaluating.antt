@@ -7,9 +7,9 @@ use Rattle.omf_format.specs.declared.value.Value.{Value}
 use Rattle.omf_format.specs.declared.value.ValueFault.{ValueFault}
 use Rattle.omf_format.specs.Field.{◌>>=◌}
 use Rattle.omf_format.specs.Expression.{Term, Operator, Location, Constant, Named, Offset, operand_count, operands_of, pending_behind, AreTerms, term_text, terms_text, Tree, terms_of, Spells, IsExpression, term_field, Lead}
-use Rattle.omf_format.specs.TermLaws.{term_takes_some}
-use Rattle.omf_format.specs.TreeLaws.{tree_has_terms, operand_counts}
-use Rattle.omf_format.specs.ExpressionLaws.{tree_leads_to_one, one-tree}
+use Rattle.omf_format.specs.laws.TermLaws.{term_takes_some}
+use Rattle.omf_format.specs.laws.TreeLaws.{tree_has_terms, operand_counts}
+use Rattle.omf_format.specs.laws.ExpressionLaws.{tree_leads_to_one, one-tree}
 use Rattle.omf_format.specs.Value.{Environment, operand_value, apply_one, apply_two, value}
 use Rattle.omf_expr.specs.Machine.{step_one, step_two, step, run}
 use Rattle.omf_expr.proofs.TreeRuns.{run-tree}

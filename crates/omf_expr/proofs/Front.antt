@@ -3,9 +3,9 @@ use Rattle.std.proofs.Common.{◌≡◌, ℕ, ◌-◌, List, length, get_or, tak
 use Rattle.std.proofs.lemmas.List.{drop_at}
 use Rattle.omf_format.specs.declared.fault.Flaw.{Flaw}
 use Rattle.omf_format.specs.declared.expression.ExprFault.{ExprFault}
-use Rattle.omf_format.specs.HeaderLaws.{IsBytes}
+use Rattle.omf_format.specs.Number.{IsBytes}
 use Rattle.omf_format.specs.Expression.{BeginsWith, read_all, flaw_of, expression_field}
-use Rattle.omf_format.specs.ExpressionLaws.{read-all-takes, read-all-again, text_before}
+use Rattle.omf_format.specs.laws.ExpressionLaws.{read-all-takes, read-all-again, text_before}
 
 pub are_bytes : (bytes : List ℕ) → ((i : ℕ) → Fits w8 (get_or bytes i 0)) → IsBytes bytes
 are_bytes bytes each i = (each i).fits

@@ -2,7 +2,7 @@
 use Rattle.std.proofs.Common.{◌≡◌, ℕ, zero, suc, ◌+◌, ◌-◌, ◌<◌, ◌≤◌, List, length, Some, None, Ok, Err, refl, sym, ◌∙◌, arith}
 use Rattle.omf_format.specs.declared.expression.ExprFault.{ExprFault}
 use Rattle.omf_format.specs.Expression.{term_step, read_from, read_all}
-use Rattle.omf_format.specs.ExpressionLaws.{read-term, read-end, read-wrong}
+use Rattle.omf_format.specs.laws.ExpressionLaws.{read-term, read-end, read-wrong}
 
 -- the bytes left, where so many values are pending, are read as the whole is
 pub record Reads (lab_len : ℕ) (bytes left : List ℕ) (pending : ℕ) : Type 0 where

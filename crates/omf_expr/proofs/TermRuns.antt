@@ -3,9 +3,9 @@ use Rattle.std.proofs.Common.{◌≡◌, ℕ, ◌+◌, ◌-◌, ◌≤◌, List,
 use Rattle.std.proofs.lemmas.List.{length-append}
 use Rattle.omf_format.specs.declared.fault.Flaw.{Flaw}
 use Rattle.omf_format.specs.Expression.{Term, AreTerms, term_text, terms_text, terms_of, IsExpression, placed_terms, terms_in, term_field}
-use Rattle.omf_format.specs.TermLaws.{term-again, end-again, both_read}
-use Rattle.omf_format.specs.TreeLaws.{tree_has_terms}
-use Rattle.omf_format.specs.ExpressionLaws.{terms_in-again}
+use Rattle.omf_format.specs.laws.TermLaws.{term-again, end-again, both_read}
+use Rattle.omf_format.specs.laws.TreeLaws.{tree_has_terms}
+use Rattle.omf_format.specs.laws.ExpressionLaws.{terms_in-again}
 use Rattle.omf_expr.specs.View.{AreLeft}
 
 -- the term that is read is the first that is left

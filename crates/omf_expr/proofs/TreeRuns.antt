@@ -6,7 +6,7 @@ use Rattle.omf_format.specs.declared.value.Value.{Value}
 use Rattle.omf_format.specs.declared.value.ValueFault.{ValueFault}
 use Rattle.omf_format.specs.Field.{◌>>=◌}
 use Rattle.omf_format.specs.Expression.{Term, Operator, Location, Constant, Named, Offset, operand_count, term_text, terms_text, Tree, Leaf, Unary, Binary, IsOperand, IsTree, terms_of}
-use Rattle.omf_format.specs.TermLaws.{terms_text-append}
+use Rattle.omf_format.specs.laws.TermLaws.{terms_text-append}
 use Rattle.omf_format.specs.Value.{Environment, operand_value, apply_one, apply_two, size_of, value}
 use Rattle.omf_expr.specs.Machine.{step_operand, step, run}
 

@@ -1,7 +1,7 @@
 -- What the laws of expressions say.
 use Rattle.std.specs.Prelude.{◌≡◌, ℕ, List, ◌++◌, Some, Ok, Err}
 use Rattle.omf_format.specs.declared.expression.ExprFault.{ExprFault}
-use Rattle.omf_format.specs.HeaderLaws.{IsBytes}
+use Rattle.omf_format.specs.Number.{IsBytes}
 use Rattle.omf_format.specs.Expression.{Term, IsTerm, term_text, term_field, Tree, Spells, IsExpression, IsFirstFault, BeginsWith, flaw_of, expression_field}
 
 -- bytes that spell an expression spell one tree

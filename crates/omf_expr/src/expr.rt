@@ -13,7 +13,7 @@ use std::marker::Model;
 
 /// An expression: bytes that spell one, lent, with the LABLEN of its names. Contracts see these bytes, the $00 at the end
 /// included, and the LABLEN.
-#[derive(Debug, Drop)]
+#[derive(Drop)]
 pub struct Expr<'a> {
     bytes: &'a [u8],
     lab_len: u8,

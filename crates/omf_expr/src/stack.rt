@@ -6,7 +6,7 @@ use omf_format::Value;
 use std::marker::Model;
 
 /// At most 64 values. Contracts see them as a list, the last one first.
-#[derive(Debug, Drop)]
+#[derive(Drop)]
 pub struct Stack {
     values: [Value; 64],
     height: usize,

@@ -9,7 +9,7 @@ use std::marker::Model;
 
 /// The terms of an expression that are still to come, in order. Contracts see them as a list, each with the displacement of
 /// its first byte in the expression's bytes.
-#[derive(Debug, Drop)]
+#[derive(Drop)]
 pub struct Terms<'a> {
     text: &'a [u8],
     left: &'a [u8],

@@ -145,10 +145,7 @@ terms_in lab_len at bytes = first_terms (length bytes) lab_len at bytes
 -- how many pending values a term takes; it leaves one
 abbrev pub operands_of : Term → ℕ
 operands_of (Operator code) = operand_count code
-operands_of Location = 0
-operands_of (Constant n) = 0
-operands_of (Named code name) = 0
-operands_of (Offset n) = 0
+operands_of _ = 0
 
 -- how many values are pending behind a term where so many are before it
 abbrev pub pending_behind : ℕ → Term → ℕ

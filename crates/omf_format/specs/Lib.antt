@@ -1,3 +1,4 @@
+pub mod Ascii
 pub mod Number
 pub mod Name
 pub mod Lines
@@ -10,13 +11,5 @@ pub mod File
 pub mod Body
 pub mod Expression
 pub mod Value
-pub mod FieldLaws
-pub mod HeaderLaws
 pub mod WrittenHeader
-pub mod RecordLaws
-pub mod FileLaws
-pub mod BodyLaws
-pub mod TermLaws
-pub mod TreeLaws
-pub mod ExpressionLaws
-pub mod SuperLaws
+pub mod laws

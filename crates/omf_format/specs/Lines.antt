@@ -1,86 +1,23 @@
--- Lines of a text, as scripts and assembly sources have them, and their laws.
-use Rattle.std.proofs.Common.{◌≡◌, ℕ, Bool, true, false, cond, List, [], ◌∷◌, ◌++◌, refl, sym, ap, subst, ◌∙◌}
-use Rattle.std.specs.Prelude.{◌||◌, ◌&&◌, ◌==◌, not, slice_index, if◌then◌else◌}
+-- Lines of a text, as scripts and assembly sources have them.
+use Rattle.std.specs.Prelude.{◌≡◌, ℕ, Bool, false, List, [], ◌∷◌, ◌||◌, ◌&&◌, ◌==◌, not, slice_index, if◌then◌else◌}
 use Rattle.std.specs.List.{AllByRecursion, onto_first}
-use Rattle.std.proofs.lemmas.List.{append-nil}
+use Rattle.omf_format.specs.Ascii as ascii
 
 -- a line ends with LF, or with a CR before no LF
 abbrev pub ends_line : ℕ → List ℕ → Bool
-ends_line byte behind = byte == 0x0A || (byte == 0x0D && not (slice_index behind 0 == 0x0A))
+ends_line byte behind = byte == ascii.line_feed || (byte == ascii.carriage_return && not (slice_index behind 0 == ascii.line_feed))
 
 -- The lines of a text, without their ends, which are LF, CR or CR LF. Bytes behind the last end are a line too.
 unfoldable pub lines_of : List ℕ → List (List ℕ)
 lines_of [] = []
 lines_of (byte ∷ behind) =
     if ends_line byte behind then [] ∷ lines_of behind
-    else if byte == 0x0D then lines_of behind
+    else if byte == ascii.carriage_return then lines_of behind
     else onto_first byte (lines_of behind)
 
 abbrev pub is_end_byte : ℕ → Bool
-is_end_byte byte = byte == 0x0A || byte == 0x0D
+is_end_byte byte = byte == ascii.line_feed || byte == ascii.carriage_return
 
 -- no LF and no CR is among the bytes
 abbrev pub HasNoEnd : List ℕ → Type 0
 HasNoEnd line = AllByRecursion (λ byte. is_end_byte byte ≡ false) line
-
--- the bytes stand before the first line
-onto_front : List ℕ → List (List ℕ) → List (List ℕ)
-onto_front [] lines = lines
-onto_front (byte ∷ line) lines = onto_first byte (onto_front line lines)
-
-no_end_step : (x y z : Bool) (a b c : List (List ℕ)) → (x || y) ≡ false → cond (x || (y && z)) a (cond y b c) ≡ c
-no_end_step true y z a b c h = absurd cc
-no_end_step false true z a b c h = absurd cc
-no_end_step false false z a b c h = refl
-
-lines_of-front : (line behind : List ℕ) → HasNoEnd line → lines_of (line ++ behind) ≡ onto_front line (lines_of behind)
-unfolding lines_of onto_front
-lines_of-front [] behind h = refl
-lines_of-front (byte ∷ line) behind h =
-    no_end_step (byte == 0x0A) (byte == 0x0D) (not (slice_index (line ++ behind) 0 == 0x0A)) ([] ∷ lines_of (line ++ behind)) (lines_of (line ++ behind)) (onto_first byte (lines_of (line ++ behind))) h.0
-    ∙ ap (λ (lines : List (List ℕ)). onto_first byte lines) (lines_of-front line behind h.1)
-
-onto_front-first : (line : List ℕ) (lines : List (List ℕ)) → onto_front line ([] ∷ lines) ≡ line ∷ lines
-unfolding onto_front
-onto_front-first [] lines = refl
-onto_front-first (byte ∷ line) lines = ap (λ (all : List (List ℕ)). onto_first byte all) (onto_front-first line lines)
-
-onto_front-last : (byte : ℕ) (line : List ℕ) → onto_front (byte ∷ line) [] ≡ (byte ∷ line) ∷ []
-unfolding onto_front
-onto_front-last byte [] = refl
-onto_front-last byte (next ∷ line) = ap (λ (all : List (List ℕ)). onto_first byte all) (onto_front-last next line)
-
--- a line without an end in it, before the rest of a text that begins with an end
-pub lines_of-ended : (line rest behind : List ℕ) → HasNoEnd line → lines_of rest ≡ [] ∷ lines_of behind
-    → lines_of (line ++ rest) ≡ line ∷ lines_of behind
-lines_of-ended line rest behind h ends =
-    lines_of-front line rest h ∙ ap (onto_front line) ends ∙ onto_front-first line (lines_of behind)
-
--- a line before LF
-pub lines_of-lf : (line behind : List ℕ) → HasNoEnd line → lines_of (line ++ 0x0A ∷ behind) ≡ line ∷ lines_of behind
-unfolding lines_of
-lines_of-lf line behind h = lines_of-ended line (0x0A ∷ behind) behind h refl
-
--- a line before CR LF
-pub lines_of-cr_lf : (line behind : List ℕ) → HasNoEnd line → lines_of (line ++ 0x0D ∷ 0x0A ∷ behind) ≡ line ∷ lines_of behind
-unfolding lines_of
-lines_of-cr_lf line behind h = lines_of-ended line (0x0D ∷ 0x0A ∷ behind) behind h refl
-
--- a line before a CR with no LF behind it
-pub lines_of-cr : (line behind : List ℕ) → HasNoEnd line → (slice_index behind 0 == 0x0A) ≡ false
-    → lines_of (line ++ 0x0D ∷ behind) ≡ line ∷ lines_of behind
-unfolding lines_of
-lines_of-cr line behind h no_lf =
-    lines_of-ended line (0x0D ∷ behind) behind h (rw no_lf refl)
-
--- a line without an end
-pub lines_of-last : (byte : ℕ) (line : List ℕ) → HasNoEnd (byte ∷ line) → lines_of (byte ∷ line) ≡ (byte ∷ line) ∷ []
-unfolding lines_of
-lines_of-last byte line h =
-    subst (λ (text : List ℕ). lines_of text ≡ onto_front (byte ∷ line) []) (append-nil (byte ∷ line)) (lines_of-front (byte ∷ line) [] h)
-    ∙ onto_front-last byte line
-
--- nothing has no line
-pub lines_of-nil : lines_of [] ≡ []
-unfolding lines_of
-lines_of-nil = refl

@@ -138,22 +138,7 @@ fault_at r Broken = BadRecord (place_of r)
 
 abbrev pub is_end : Record → Bool
 is_end End = true
-is_end (Const bytes) = false
-is_end (LongConst bytes) = false
-is_end (Align n) = false
-is_end (Org n) = false
-is_end (Space n) = false
-is_end (Reloc count shift location offset) = false
-is_end (InterSeg count shift location file segment offset) = false
-is_end (ShortReloc count shift location offset) = false
-is_end (ShortInterSeg count shift location segment offset) = false
-is_end (Super form bytes) = false
-is_end (Using name) = false
-is_end (Strong name) = false
-is_end (Label global name size form private) = false
-is_end (Equate global name size form private expr) = false
-is_end (Formula code count n expr) = false
-is_end (Entry segment offset name) = false
+is_end _ = false
 
 abbrev pub told : Reader → Result (Record × List ℕ) Flaw → Result (Option (ℕ × Record)) RecordFault
 told r (Ok found) = Ok (Some (place_of r, found.0))

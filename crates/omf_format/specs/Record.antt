@@ -105,42 +105,9 @@ IsRecord l (Entry segment offset name) = (segment < 2 ^ 16) × (offset < 2 ^ 32)
 
 -- ---- constants
 
--- END, and the records that are constant bytes: CONST, LCONST and DS
-abbrev pub is_constant : Record → Bool
-is_constant End = true
-is_constant (Const bytes) = true
-is_constant (LongConst bytes) = true
-is_constant (Space n) = true
-is_constant (Align n) = false
-is_constant (Org n) = false
-is_constant (Reloc count shift location offset) = false
-is_constant (InterSeg count shift location file segment offset) = false
-is_constant (ShortReloc count shift location offset) = false
-is_constant (ShortInterSeg count shift location segment offset) = false
-is_constant (Super form bytes) = false
-is_constant (Using name) = false
-is_constant (Strong name) = false
-is_constant (Label global name size form private) = false
-is_constant (Equate global name size form private expr) = false
-is_constant (Formula code count n expr) = false
-is_constant (Entry segment offset name) = false
-
 -- the constant bytes of a record: those of CONST and LCONST, and the zeros of DS; every other record has none
 abbrev pub content_of : Record → List ℕ
-content_of End = []
 content_of (Const bytes) = bytes
 content_of (LongConst bytes) = bytes
 content_of (Space n) = replicate n 0
-content_of (Align n) = []
-content_of (Org n) = []
-content_of (Reloc count shift location offset) = []
-content_of (InterSeg count shift location file segment offset) = []
-content_of (ShortReloc count shift location offset) = []
-content_of (ShortInterSeg count shift location segment offset) = []
-content_of (Super form bytes) = []
-content_of (Using name) = []
-content_of (Strong name) = []
-content_of (Label global name size form private) = []
-content_of (Equate global name size form private expr) = []
-content_of (Formula code count n expr) = []
-content_of (Entry segment offset name) = []
+content_of _ = []

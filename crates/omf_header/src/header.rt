@@ -7,7 +7,7 @@ use crate::kind::Kind;
 use omf_base::Name;
 
 /// A segment's header. Displacements are in the segment, counted from its start.
-#[derive(Debug, PartialEq, Eq, Drop)]
+#[derive(PartialEq, Eq, Drop)]
 pub struct Header {
     /// The bytes of the segment in the file (BYTECNT, in version 1 512 times the number of blocks).
     pub byte_count: u32,

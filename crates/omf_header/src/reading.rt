@@ -219,7 +219,7 @@ fn owned_name(alloc: Global, text: &[u8]) -> Result<Name, HeaderFault>
 }
 
 /// The fields, where no check holds.
-#[tactic(auto, using(omf_format::specs::HeaderLaws::sound_from_none), unfolding(omf_format::specs::Header::fields_of, omf_format::specs::Header::names_end))]
+#[tactic(auto, using(omf_format::specs::laws::HeaderLaws::sound_from_none), unfolding(omf_format::specs::Header::fields_of, omf_format::specs::Header::names_end))]
 fn header_of(alloc: Global, bytes: &[u8]) -> Result<Header, HeaderFault>
     requires short { length bytes.now < 2 ^ 32 }
     requires passes { header_fault bytes.now ≡ None }

@@ -157,7 +157,7 @@ fn header_bytes(alloc: Global, header: &Header, body_length: u32) -> Result<Vec<
 /// read; its VERSION has to be 2, since no other version is written.
 ///
 /// Followed by the body, and by whatever else, it is read as a header with these fields.
-#[tactic(auto, using(omf_format::specs::WrittenHeader::written_passes))]
+#[tactic(auto, using(omf_format::specs::laws::WrittenHeaderLaws::written_passes))]
 pub fn write_header(
     alloc: Global,
     header: &Header,

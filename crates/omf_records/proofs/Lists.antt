@@ -8,7 +8,7 @@ use Rattle.omf_format.specs.declared.fault.FileFault.{FileFault}
 use Rattle.omf_format.specs.declared.fault.FileCause.{FileCause}
 use Rattle.omf_format.specs.declared.fault.FileCause.TheVariants as cause
 use Rattle.omf_format.specs.File.{Segment, IsSegment, AreSegments, IsFile, segment_at, HasFault, IsFirstFault}
-use Rattle.omf_format.specs.FileLaws.{LiesIn, header_lies, AreSegments-append, segments_fit}
+use Rattle.omf_format.specs.laws.FileLaws.{LiesIn, header_lies, AreSegments-append, segments_fit}
 use Rattle.omf_records.specs.declared.segment.SegmentView.{SegmentView}
 use Rattle.omf_records.specs.Segments.{placed, shown, IsSound, IsView, FitsViews, UnlessMemory, IsSegmentFault, IsRefused}
 

@@ -7,7 +7,7 @@ use Rattle.omf_format.specs.declared.fault.FileCause.{FileCause}
 use Rattle.omf_format.specs.declared.fault.FileCause.TheVariants as cause
 use Rattle.omf_format.specs.declared.fault.FileFault.{FileFault}
 use Rattle.omf_format.specs.Header.{Fields, version_of, header_fault}
-use Rattle.omf_format.specs.HeaderLaws.{fault_fits}
+use Rattle.omf_format.specs.laws.HeaderLaws.{fault_fits}
 use Rattle.omf_format.specs.Reading.{Reader, HandsOut}
 use Rattle.omf_format.specs.File.{body_reader, IsHeader, Told, told_header, HasFault, InHeader, InRecord}
 use Rattle.omf_header.specs.View.{IsRefused}

@@ -2,7 +2,7 @@
 use Rattle.std.proofs.Common.{◌≡◌, ℕ, List, Result, Ok, sym, ap, ◌∙◌}
 use Rattle.omf_format.specs.declared.fault.Flaw.{Flaw}
 use Rattle.omf_format.specs.Record.{Record}
-use Rattle.omf_format.specs.RecordLaws.{front-takes, front-again}
+use Rattle.omf_format.specs.laws.RecordLaws.{front-takes, front-again}
 use Rattle.omf_format.specs.Reading.{front}
 use Rattle.omf_records.specs.Laws.{ReadIsSpelled, SpelledIsRead, NoneBeginsAnother}
 

@@ -2,7 +2,7 @@
 use Rattle.std.specs.Prelude.{◌≡◌, ℕ, List, ◌++◌, Ok}
 use Rattle.std.specs.List.{flat_map, AllByRecursion}
 use Rattle.omf_format.specs.declared.fault.FileFault.{FileFault}
-use Rattle.omf_format.specs.HeaderLaws.{IsBytes}
+use Rattle.omf_format.specs.Number.{IsBytes}
 use Rattle.omf_format.specs.Field.{Layout}
 use Rattle.omf_format.specs.Record.{Record, spelling, IsRecord}
 use Rattle.omf_format.specs.Reading.{Reader, front, HandsOut}

@@ -1,9 +1,8 @@
 -- What the views of a file's list show: laws for loops over it.
-use Rattle.std.proofs.Common.{◌≡◌, ℕ, zero, suc, ◌+◌, ◌≤◌, List, [], ◌∷◌, length, Option, Some, None, sym, ap, subst, ◌∙◌, arith}
+use Rattle.std.proofs.Common.{◌≡◌, ℕ, zero, suc, ◌+◌, ◌≤◌, List, [], ◌∷◌, length, Some, None, sym, ap, ◌∙◌, arith}
 use Rattle.std.specs.Prelude.{slice_get}
-use Rattle.std.specs.List.{AllByRecursion}
 use Rattle.omf_format.specs.Reading.{IsBody}
-use Rattle.omf_format.specs.File.{Segment, body_reader, IsSegment, AreSegments, segment_at}
+use Rattle.omf_format.specs.File.{Segment, body_reader, segment_at}
 use Rattle.omf_header.specs.View.{fields}
 use Rattle.omf_records.specs.declared.segment.SegmentView.{SegmentView}
 use Rattle.omf_records.specs.Segments.{shown, IsSound}
@@ -28,8 +27,3 @@ none_past list k e = past list k (sym (at_number list k) ∙ sym e)
     past [] k e = omega arith
     past (s ∷ list) zero e = absurd cc
     past (s ∷ list) (suc k) e = let rest = past list k e in omega arith
-
--- each segment of a file stands in it
-pub each_stands : (segments : List Segment) (at : ℕ) (file : List ℕ) (next : ℕ) → AreSegments segments at file next → AllByRecursion (λ s. IsSegment s file) segments
-each_stands [] at file next are = tt
-each_stands (s ∷ segments) at file next are = (are.2, each_stands segments (at + s.fields.byte_count) file next are.3)

@@ -4,7 +4,7 @@ use Rattle.omf_format.specs.declared.fault.HeaderFault.{HeaderFault}
 use Rattle.omf_format.specs.declared.fault.HeaderFault.TheVariants as header
 use Rattle.omf_format.specs.declared.fault.RecordFault.{RecordFault}
 use Rattle.omf_format.specs.declared.fault.FileCause.{FileCause}
-use Rattle.omf_format.specs.declared.fault.FileCause.TheVariants.{Truncated, BadHeader, Unsupported, BadRecord, Memory}
+use Rattle.omf_format.specs.declared.fault.FileCause.TheVariants.{Truncated, Unsupported, Memory}
 use Rattle.omf_format.specs.declared.fault.FileFault.{FileFault}
 use Rattle.omf_format.specs.Record.{Record}
 use Rattle.omf_format.specs.Reading.{Reader, next_answer, HandsOut}
@@ -46,11 +46,8 @@ pub record HasRecordFault (reader : Reader) (told : Told) : Type 0 where
 
 -- a fault of want of memory has no place, and every other one is this
 abbrev pub UnlessMemory : FileCause → FileFault → Type 0 → Type 0
-UnlessMemory Truncated fault P = P
-UnlessMemory BadHeader fault P = P
-UnlessMemory Unsupported fault P = P
-UnlessMemory BadRecord fault P = P
 UnlessMemory Memory fault P = (fault.segment ≡ 0) × (fault.at ≡ 0)
+UnlessMemory _ _ P = P
 
 -- the fault is the first one of the file, unless memory ran out
 abbrev pub IsRefused : FileFault → List ℕ → Type 0

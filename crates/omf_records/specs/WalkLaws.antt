@@ -6,7 +6,7 @@ use Rattle.std.proofs.lemmas.Grind.{flat_map-append}
 use Rattle.omf_format.specs.declared.fault.RecordFault.{RecordFault}
 use Rattle.omf_format.specs.Record.{Record}
 use Rattle.omf_format.specs.Reading.{Reader, next_answer, after_next, HandsOut, records_of, IsBody}
-use Rattle.omf_format.specs.FileLaws.{same_found, ended_at_none, open_at_some, HandsOut-append, HandsOut-rest, HandsOut-same, no_run}
+use Rattle.omf_format.specs.laws.FileLaws.{ended_at_none, HandsOut-append, HandsOut-same, no_run}
 
 -- one record more
 pub walk_on : (start at next : Reader) (before : List (ℕ × Record)) (found : ℕ × Record) → HandsOut start before at → next_answer at ≡ Ok (Some found) → next ≡ after_next at
@@ -16,19 +16,6 @@ walk_on start at next before found run e after = HandsOut-append start before (f
 -- at the end they are all
 pub walk_ends : (start at last : Reader) (before founds : List (ℕ × Record)) → HandsOut start before at → next_answer at ≡ Ok None → HandsOut start founds last → last.ended ≡ true → before ≡ founds
 walk_ends start at last before founds run e all ended = HandsOut-same start before founds at last run all (ended_at_none at e) ended
-
--- the record that comes next stands behind them
-pub walk_goes : (start at last : Reader) (before founds : List (ℕ × Record)) (found : ℕ × Record) → HandsOut start before at → next_answer at ≡ Ok (Some found) → HandsOut start founds last → last.ended ≡ true
-    → (back : List (ℕ × Record)) × (founds ≡ before ++ found ∷ back)
-walk_goes start at last before founds found run e all ended =
-    let rest = HandsOut-rest start before founds at last run all ended (open_at_some at found e) in
-    by_rest rest.0 rest.1 rest.2
-  where
-    by_rest : (back : List (ℕ × Record)) → founds ≡ before ++ back → HandsOut at back last → (more : List (ℕ × Record)) × (founds ≡ before ++ found ∷ more)
-    by_rest [] whole run' = absurd (open_at_some at found e (ap (λ (r : Reader). r.ended) run' ∙ ended))
-    by_rest (other ∷ back) whole run' =
-        let same : other ≡ found = same_found other found (sym run'.0 ∙ e) in
-        (back, whole ∙ ap (λ (f : ℕ × Record). before ++ f ∷ back) same)
 
 -- no fault comes
 pub walk_fails : (start at : Reader) (before : List (ℕ × Record)) (fault : RecordFault) → IsBody start → HandsOut start before at → next_answer at ≡ Err fault → ⊥

@@ -34,7 +34,7 @@ pub fn strong(rest: &[u8], lab_len: u8) -> Result<(Rec<'_>, &[u8]), Flaw>
 
 /// The length of a label: two bytes, and one in version 1.
 #[inline]
-#[tactic(auto, using(omf_format::specs::FieldLaws::number_of_byte), unfolding(omf_format::specs::Field::length_width_of))]
+#[tactic(auto, using(omf_format::specs::laws::FieldLaws::number_of_byte), unfolding(omf_format::specs::Field::length_width_of))]
 fn label_length(rest: &[u8], version: u8) -> Result<(u16, &[u8]), Flaw>
     ensures gives { Gives (λ x. (x.0, x.1.now)) result (number_field (length_width_of version) rest.now) }
     ensures no_longer { IfOk result (λ x. length x.1.now ≤ length rest.now) }

@@ -11,7 +11,7 @@ use std::alloc::Global;
 use std::marker::Model;
 
 /// The segments of a file, in order. Contracts see the list of them: where each starts, its header's fields, and its records.
-#[derive(Debug, Drop)]
+#[derive(Drop)]
 pub struct SegmentList<'a> {
     views: Vec<SegmentView<'a>>,
 }

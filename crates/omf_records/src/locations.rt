@@ -8,7 +8,7 @@ ghost use Rattle.omf_records.specs.View.{first, behind};
 use std::marker::Model;
 
 /// The locations of a SUPER's subrecords that are still to come, in order. Contracts see them as a list.
-#[derive(Debug, Drop)]
+#[derive(Drop)]
 pub struct Locations<'a> {
     left: &'a [u8],
     page: u64,

@@ -13,7 +13,7 @@ use std::marker::Model;
 
 /// A reader of a segment's records, in order. Contracts see where it stands: the displacement in the file at which
 /// the segment ends, the bytes that are left, whether END came, and how names and labels are laid out.
-#[derive(Debug, Drop)]
+#[derive(Drop)]
 pub struct Records<'a> {
     end: u32,
     left: &'a [u8],

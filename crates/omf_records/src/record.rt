@@ -2,7 +2,7 @@
 
 /// A record. Bytes, names and expressions are slices of the file; a name is without what pads it, and an expression is kept
 /// as its bytes, the $00 at its end included. Places and offsets count bytes from the start of a segment in memory.
-#[derive(Clone, Copy, Debug, PartialEq, Eq)]
+#[derive(Clone, Copy)]
 pub enum Rec<'a> {
     /// END: the body ends.
     End,

@@ -8,7 +8,7 @@ use crate::reading::Records;
 use omf_header::Header;
 
 /// A segment of a file: where it starts, its header, and the file that it is in.
-#[derive(Debug, Drop)]
+#[derive(Drop)]
 pub struct SegmentView<'a> {
     /// The displacement of the segment in the file.
     pub start: u32,

@@ -1,9 +1,7 @@
 -- Lines one behind another, and the object that they leave.
-use Rattle.std.proofs.Common.{◌≡◌, ℕ, zero, suc, ◌+◌, ◌<◌, ◌≤◌, Bool, true, false, cond, leb, List, [], ◌∷◌, ◌++◌, length, take, drop, inl, inr, Option, Some, None, Result, Ok, Err, refl, sym, ap, subst, ◌∙◌, arith}
-use Rattle.std.specs.Prelude.{slice_get, ◌⊎◌, IfErr}
+use Rattle.std.proofs.Common.{◌≡◌, ℕ, zero, suc, ◌+◌, List, [], ◌∷◌, ◌++◌, take, drop, inl, inr, Option, Some, None, Result, Ok, Err, refl, sym, ap, subst, ◌∙◌, arith}
+use Rattle.std.specs.Prelude.{slice_get, IfErr}
 use Rattle.std.specs.Global.{Vec}
-use Rattle.std.proofs.lemmas.Bool.{leb-true}
-use Rattle.std.proofs.lemmas.List.{take_all}
 use Rattle.orca_meaning.specs.Line.{Line}
 use Rattle.macro_meaning.specs.declared.faults.MacroCause.{MacroCause}
 use Rattle.macro_meaning.specs.declared.faults.MacroCause.TheVariants as macros_
@@ -11,17 +9,14 @@ use Rattle.macro_meaning.specs.declared.faults.MacroFault.{MacroFault}
 use Rattle.macro_meaning.specs.Expansion as expansion
 use Rattle.macro_meaning.specs.Expansion.{IsExpanded, IsFaultFor}
 use Rattle.asm_meaning.specs.declared.faults.AsmCause.{AsmCause}
-use Rattle.asm_meaning.specs.declared.faults.AsmCause.TheVariants.{Memory, Unclosed, TooLong}
+use Rattle.asm_meaning.specs.declared.faults.AsmCause.TheVariants.{Memory, Unclosed}
 use Rattle.asm_meaning.specs.declared.faults.AsmFault.{AsmFault}
-use Rattle.asm_meaning.specs.Object.{object_text, most_bytes, AreSteps, HasLines, IsObject, cause_of, IsFirstFault, InExpansion, InLine, InSegment, InLength, IsAsmFault, OutOfMemory, First}
+use Rattle.asm_meaning.specs.Object.{AreSteps, HasLines, cause_of, IsFirstFault, InExpansion, InLine, InSegment, InLength, IsAsmFault, OutOfMemory, First}
 use Rattle.asm_meaning.specs.State.{State, Segment, start}
 use Rattle.asm_meaning.specs.Statement.{IsStep}
 use Rattle.orca_asm.specs.declared.kept.Kept.{Kept}
-use Rattle.orca_asm.specs.declared.segment.Open.{Open}
-use Rattle.orca_asm.specs.AssembleView.{Stops, Ends, IsLast, IsLastFault, IsLastOf, IsAssembled}
-use Rattle.orca_asm.specs.StateView.{ShowsState, ShowsOption}
-use Rattle.orca_asm.specs.TextView.{limited, kept_text, kept_by}
-use Rattle.orca_asm.proofs.Limited.{long_text, same_text}
+use Rattle.orca_asm.specs.AssembleView.{Stops, IsLastFault, IsAssembled}
+use Rattle.orca_asm.specs.StateView.{ShowsState}
 
 -- ---- lines
 
@@ -49,9 +44,6 @@ pub record UnderWay (lines : List Line) (place : ℕ) (k : Kept) : Type 0 where
   pub steps : AreSteps start (take place lines) state
   pub shows : ShowsState state k
 
-pub begins : (lines : List Line) (k : Kept) → ShowsState start k → UnderWay lines 0 k
-begins lines k shows = record { state = start; steps = refl; shows = shows }
-
 pub goes_on : (lines : List Line) (place : ℕ) (old k : Kept) (line : Line) (u : UnderWay lines place old) → slice_get lines place ≡ Some line → (next : State) × IsStep u.state line (Ok next) × ShowsState next k → UnderWay lines (place + 1) k
 goes_on lines place old k line u here step = record {
   state = step.0;
@@ -73,63 +65,9 @@ stops lines place k line cause fault u here wrong is = record {
   fault_is = is;
 }
 
-pub ends : (lines : List Line) (place : ℕ) (k : Kept) → UnderWay lines place k → length lines ≤ place → Ends lines k
-ends lines place k u all = record { last = u.state; steps = subst (λ (l : List Line). AreSteps start l u.state) (take_all place lines all) u.steps; shows = u.shows }
-
 -- ---- what is left at the end
 
-pub last_open : (state : State) (k : Kept) (o : Open) (fault : AsmFault) → ShowsState state k → k.segment ≡ Some o → fault ≡ record { cause = Unclosed; file = o.file; line = o.line } → IsLastFault state.segment state fault
-last_open state k o fault shows is e = by_segment state.segment (subst (ShowsOption state.segment) is shows.segment)
-  where
-    unclosed : ℕ → ℕ → AsmFault
-    unclosed file line = record { cause = Unclosed; file = file; line = line }
-
-    by_segment : (found : Option Segment) → ShowsOption found (Some o) → IsLastFault found state fault
-    by_segment None shown = absurd shown
-    by_segment (Some s) shown = e ∙ ap (λ (f : ℕ). unclosed f o.line) shown.file ∙ ap (unclosed s.begun.file) shown.line
-
-closed_is : (state : State) (k : Kept) → ShowsState state k → k.segment ≡ None → state.segment ≡ None
-closed_is state k shows is = by_segment state.segment (subst (ShowsOption state.segment) is shows.segment)
-  where
-    by_segment : (found : Option Segment) → ShowsOption found None → found ≡ None
-    by_segment None shown = refl
-    by_segment (Some s) shown = absurd shown
-
-pub last_long : (state : State) (k : Kept) (fault : AsmFault) → ShowsState state k → k.segment ≡ None → k.object.long ≡ true → fault ≡ record { cause = TooLong; file = 0; line = 0 } → IsLastFault state.segment state fault
-last_long state k fault shows none long e =
-    subst (λ (o : Option Segment). IsLastFault o state fault) (sym (closed_is state k shows none))
-    (long_text (object_text state.ended) (sym (ap (λ (b : Bool). kept_by b k.object.bytes.items) long) ∙ shows.object), e)
-
-few_bytes : (text bytes : List ℕ) → Some bytes ≡ limited text → length text ≤ most_bytes
-few_bytes text bytes e = by_size (leb (length text) most_bytes) refl e
-  where
-    by_size : (b : Bool) → leb (length text) most_bytes ≡ b → Some bytes ≡ cond b (Some text) None → length text ≤ most_bytes
-    by_size true is e = leb-true (length text) most_bytes is
-    by_size false is e = absurd cc
-
-pub last_good : (state : State) (k : Kept) → ShowsState state k → k.segment ≡ None → k.object.long ≡ false → (state.segment ≡ None) × (k.object.bytes.items ≡ object_text state.ended) × (length k.object.bytes.items ≤ most_bytes)
-last_good state k shows none short =
-    let shown : Some k.object.bytes.items ≡ limited (object_text state.ended) = sym (ap (λ (b : Bool). kept_by b k.object.bytes.items) short) ∙ shows.object in
-    let same : object_text state.ended ≡ k.object.bytes.items = same_text (object_text state.ended) k.object.bytes.items shown in
-    (closed_is state k shows none, sym same, omega (arith, ap length same, few_bytes (object_text state.ended) k.object.bytes.items shown))
-
-pub assembled_is : (lines : List Line) (k : Kept) (answer : Result (Vec ℕ) AsmFault) → Ends lines k → ((state : State) → ShowsState state k → IsLast state answer) → IsAssembled lines answer
-assembled_is lines k (Ok object) ended last = record { last = ended.last; steps = ended.steps; is = last ended.last ended.shows }
-assembled_is lines k (Err fault) ended last = inr (record { last = ended.last; steps = ended.steps; is = last ended.last ended.shows })
-
-pub stopped_is : (lines : List Line) (fault : AsmFault) → Stops lines fault → IsAssembled lines (Err fault)
-stopped_is lines fault stopped = inl stopped
-
 -- ---- the object, or the first fault
-
-pub object_is : (source : List ℕ) (macros : List (List ℕ)) (lines : List Line) (object : Vec ℕ) → IsExpanded source macros lines → IsAssembled lines (Ok object) → IsObject source macros object.items
-object_is source macros lines object expanded is = record {
-  last = is.last;
-  has = record { lines = lines; expanded = expanded; steps = is.steps };
-  ended = is.is.0;
-  text = is.is.1;
-  fits = is.is.2;
-}
 
 pub fault_is : (source : List ℕ) (macros : List (List ℕ)) (lines : List Line) (fault : AsmFault) → IsExpanded source macros lines → IsAssembled lines (Err fault) → IsAsmFault source macros fault
 fault_is source macros lines fault expanded (inl s) =

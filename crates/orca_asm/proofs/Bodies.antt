@@ -1,17 +1,15 @@
 -- One more record.
 use Rattle.std.proofs.Common.{◌≡◌, ℕ, ◌+◌, List, [], ◌∷◌, ◌++◌, refl, sym, ap, ◌∙◌}
-use Rattle.std.specs.List.{flat_map}
 use Rattle.std.proofs.lemmas.List.Concat.{flat_map-append}
 use Rattle.omf_format.specs.Field.{written_layout}
 use Rattle.omf_format.specs.Record.{Record, spelling}
 use Rattle.link_meaning.specs.Sizes.{size_at}
 use Rattle.asm_meaning.specs.Object.{records_text}
 use Rattle.asm_meaning.specs.Pieces.{place_behind}
-use Rattle.asm_meaning.specs.PieceLaws.{place_behind-append}
+use Rattle.asm_meaning.specs.laws.PieceLaws.{place_behind-append}
 use Rattle.orca_asm.specs.declared.body.Body.{Body}
 use Rattle.orca_asm.specs.TextView.{limited, kept_text}
 use Rattle.orca_asm.specs.BodyView.{ShowsBody}
-use Rattle.orca_asm.proofs.Limited.{limited_nothing}
 
 pub records_text-append : (a b : List Record) → records_text (a ++ b) ≡ records_text a ++ records_text b
 unfolding records_text

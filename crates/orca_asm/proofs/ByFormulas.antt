@@ -1,10 +1,10 @@
 -- What the formulas of an operand give.
-use Rattle.std.proofs.Common.{◌≡◌, ◌≢◌, ℕ, ◌≤◌, true, eqb, List, [], ◌∷◌, ◌++◌, length, Option, Some, None, Ok, Err, refl, sym, ap, ◌∙◌, arith}
+use Rattle.std.proofs.Common.{◌≡◌, ℕ, true, eqb, List, [], ◌∷◌, ◌++◌, length, Option, Some, None, Ok, Err, refl, sym, ap, ◌∙◌, arith}
 use Rattle.std.specs.Prelude.{find}
 use Rattle.std.proofs.lemmas.Bool.{eqb-true}
 use Rattle.std.proofs.lemmas.List.{length-append}
 use Rattle.omf_format.specs.Field.{◌>>=◌}
-use Rattle.omf_format.specs.Expression.{Term, Tree, Leaf, Unary, Binary, IsTree, terms_of, depth}
+use Rattle.omf_format.specs.Expression.{Term, Tree, Leaf, Unary, Binary, terms_of}
 use Rattle.orca_meaning.specs.declared.forms.Form.{Form}
 use Rattle.orca_meaning.specs.declared.forms.Prefix.{Prefix}
 use Rattle.orca_meaning.specs.declared.forms.Prefix.TheVariants.{Bare}
@@ -16,12 +16,11 @@ use Rattle.asm_meaning.specs.declared.faults.AsmCause.TheVariants.{BadMode}
 use Rattle.asm_meaning.specs.Answer.{Answer}
 use Rattle.asm_meaning.specs.Constant as meaning
 use Rattle.asm_meaning.specs.Constant.{Constants, amount}
-use Rattle.asm_meaning.specs.Instruction.{Widths, operand_bytes, with_number, with_amount, without_amount, in_modes, moved, offered, instruction}
+use Rattle.asm_meaning.specs.Instruction.{Widths, operand_bytes, with_number, with_amount, without_amount, in_modes, offered, instruction}
 use Rattle.asm_meaning.specs.Pieces.{Piece}
 use Rattle.orca_text.specs.declared.operand.Operand.{Operand}
 use Rattle.orca_text.specs.OperandView.{IsWritten, first_terms, second_terms}
-use Rattle.orca_asm.specs.AmountView.{IsFormulaOf, Kept, kept_of, kept_answer}
-use Rattle.orca_asm.specs.Chosen.{chosen_amount, by_trees, AreGoodTrees}
+use Rattle.orca_asm.specs.Chosen.{chosen_amount, by_trees}
 
 not_empty : (a : List Term) (t : Term) → a ++ t ∷ [] ≡ [] → ⊥
 not_empty a t e = let size : length (a ++ t ∷ []) ≡ 0 = ap length e in omega (arith, size, length-append a (t ∷ []))
@@ -41,22 +40,6 @@ none = None
 no_some : (x : List Term) → none ≡ Some x → ⊥
 no_some x e = absurd cc
 
-same_some : (x y : List Term) → Some x ≡ Some y → x ≡ y
-same_some x y e = cc
-
-is_formula : (terms : List Term) (t : Tree) → terms ≡ terms_of t → IsTree 0 t × (depth t ≤ 64) → IsFormulaOf terms t
-is_formula terms t is fine = record { terms_are = is; formed = fine.0; shallow = fine.1 }
-
--- two formulas
-pub moved_case : (o : Operand) (mn : Meaning) (terms : List Term) (cs : Constants) (w : Widths) (m : Mnemonic) (first : Mode) (modes : List Mode) (r : Answer (List Piece)) → o.second ≡ Some terms
-    → ((s d : Tree) → IsFormulaOf o.first s → IsFormulaOf terms d → r ≡ moved cs m first s d) → IsWritten o mn → AreGoodTrees mn.trees → r ≡ by_trees cs w m mn.prefix first modes mn.trees
-moved_case o mn terms cs w m first modes r second is written good = by_count mn.trees (sym second ∙ written.second_is) written.first_is good
-  where
-    by_count : (trees : List Tree) → Some terms ≡ second_terms trees → o.first ≡ first_terms trees → AreGoodTrees trees → r ≡ by_trees cs w m mn.prefix first modes trees
-    by_count [] e f good = absurd (no_some terms (sym e))
-    by_count (t ∷ []) e f good = absurd (no_some terms (sym e))
-    by_count (s ∷ d ∷ trees) e f good = is s d (is_formula o.first s f good.0) (is_formula terms d (same_some terms (terms_of d) e) good.1.0)
-
 -- none
 pub bare_case : (o : Operand) (mn : Meaning) (cs : Constants) (w : Widths) (m : Mnemonic) (first : Mode) (modes : List Mode) (r : Answer (List Piece)) → o.second ≡ None → o.first ≡ []
     → r ≡ Ok (with_number m first Bare (operand_bytes w m first) 0) → IsWritten o mn → r ≡ by_trees cs w m mn.prefix first modes mn.trees
@@ -68,54 +51,8 @@ bare_case o mn cs w m first modes r second empty is written = by_count mn.trees 
     by_count (t ∷ []) e f = absurd (some_terms t (sym f))
     by_count (s ∷ d ∷ trees) e f = absurd (no_some (terms_of d) e)
 
--- one
-abbrev kept : Kept → Answer Kept
-kept k = Ok k
-
-abbrev bad : AsmCause → Answer Kept
-bad cause = Err cause
-
 abbrev refused : AsmCause → Answer (List Piece)
 refused cause = Err cause
-
-same_kept : (x y : Kept) → kept x ≡ kept y → x ≡ y
-same_kept x y e = cc
-
-same_bad : (x y : AsmCause) → bad x ≡ bad y → x ≡ y
-same_bad x y e = cc
-
-amount_chosen : (w : Widths) (m : Mnemonic) (p : Prefix) (first : Mode) (modes : List Mode) (a : Answer meaning.Amount) (k : Kept) (r : Answer (List Piece)) → kept k ≡ kept_answer 1 a
-    → ((meant : meaning.Amount) → k ≡ kept_of 1 meant → r ≡ chosen_amount w m p first modes meant) → r ≡ (a >>= chosen_amount w m p first modes)
-amount_chosen w m p first modes (Ok meant) k r e is = is meant (same_kept k (kept_of 1 meant) e)
-amount_chosen w m p first modes (Err cause) k r e is = absurd cc
-
-amount_refused : (w : Widths) (m : Mnemonic) (p : Prefix) (first : Mode) (modes : List Mode) (a : Answer meaning.Amount) (cause : AsmCause) → bad cause ≡ kept_answer 1 a
-    → refused cause ≡ (a >>= chosen_amount w m p first modes)
-amount_refused w m p first modes (Ok meant) cause e = absurd cc
-amount_refused w m p first modes (Err other) cause e = ap refused (same_bad cause other e)
-
-pub one_case : (o : Operand) (mn : Meaning) (cs : Constants) (w : Widths) (m : Mnemonic) (first : Mode) (modes : List Mode) (k : Kept) (r : Answer (List Piece)) → o.second ≡ None → o.first ≢ []
-    → ((t : Tree) → IsFormulaOf o.first t → kept k ≡ kept_answer 1 (amount cs t)) → ((meant : meaning.Amount) → k ≡ kept_of 1 meant → r ≡ chosen_amount w m mn.prefix first modes meant)
-    → IsWritten o mn → AreGoodTrees mn.trees → r ≡ by_trees cs w m mn.prefix first modes mn.trees
-one_case o mn cs w m first modes k r second some amount_is is written good = by_count mn.trees (sym second ∙ written.second_is) written.first_is good
-  where
-    by_count : (trees : List Tree) → None ≡ second_terms trees → o.first ≡ first_terms trees → AreGoodTrees trees → r ≡ by_trees cs w m mn.prefix first modes trees
-    by_count [] e f good = absurd (some f)
-    by_count (t ∷ []) e f good = amount_chosen w m mn.prefix first modes (amount cs t) k r (amount_is t (is_formula o.first t f good.0)) is
-    by_count (s ∷ d ∷ trees) e f good = absurd (no_some (terms_of d) e)
-
-pub fault_case : (o : Operand) (mn : Meaning) (cs : Constants) (w : Widths) (m : Mnemonic) (first : Mode) (modes : List Mode) (cause : AsmCause) → o.second ≡ None → o.first ≢ []
-    → ((t : Tree) → IsFormulaOf o.first t → bad cause ≡ kept_answer 1 (amount cs t)) → IsWritten o mn → AreGoodTrees mn.trees → refused cause ≡ by_trees cs w m mn.prefix first modes mn.trees
-fault_case o mn cs w m first modes cause second some amount_is written good = by_count mn.trees (sym second ∙ written.second_is) written.first_is good
-  where
-    by_count : (trees : List Tree) → None ≡ second_terms trees → o.first ≡ first_terms trees → AreGoodTrees trees → refused cause ≡ by_trees cs w m mn.prefix first modes trees
-    by_count [] e f good = absurd (some f)
-    by_count (t ∷ []) e f good = amount_refused w m mn.prefix first modes (amount cs t) cause (amount_is t (is_formula o.first t f good.0))
-    by_count (s ∷ d ∷ trees) e f good = absurd (no_some (terms_of d) e)
-
-pub empty_terms : (terms : List Term) (n : ℕ) → n ≡ length terms → eqb n 0 ≡ true → terms ≡ []
-empty_terms [] n is none = refl
-empty_terms (t ∷ terms) n is none = let zero_is : n ≡ 0 = eqb-true n 0 none in absurd (omega (arith, is, zero_is))
 
 -- ---- the modes
 

@@ -1,18 +1,17 @@
 -- How often elements stand.
-use Rattle.std.proofs.Common.{◌≡◌, ◌≢◌, ℕ, ◌^◌, ◌<◌, ◌≤◌, Bool, true, false, cond, ltb, leb, List, [], ◌∷◌, length, Option, Some, None, Ok, Err, refl, sym, ap, subst, ◌∙◌, arith}
+use Rattle.std.proofs.Common.{◌≡◌, ◌≢◌, ℕ, ◌^◌, Bool, true, false, ltb, leb, List, ◌∷◌, Option, Some, None, refl, sym, ap, subst, ◌∙◌}
 use Rattle.std.specs.Prelude.{IfSome, IfNone}
 use Rattle.std.proofs.lemmas.Bool.{ltb-true, ltb-false, le-leb, lt-leb}
 use Rattle.omf_format.specs.Expression.{Tree, Term}
 use Rattle.orca_meaning.specs.declared.operators.Operands.TheVariants.{Labels}
 use Rattle.orca_meaning.specs.Formula.{MeansAt}
-use Rattle.orca_meaning.specs.FormulaLaws.{one_tree}
+use Rattle.orca_meaning.specs.laws.FormulaLaws.{one_tree}
 use Rattle.orca_meaning.specs.Token.{Found, seen_as, digits_at}
 use Rattle.orca_text.specs.FormulaAt.{IsFormulaAt, HasNoFormula}
 use Rattle.orca_text.specs.Kept.{fitting}
-use Rattle.asm_meaning.specs.declared.faults.AsmCause.TheVariants.{BadNumber}
 use Rattle.asm_meaning.specs.Answer.{Answer}
 use Rattle.asm_meaning.specs.Constant.{Constants}
-use Rattle.asm_meaning.specs.Elements.{Repeat, Once, Digits, Computed, behind_parenthesis, IsRepeatBy, IsRepeatAt, in_range, count_of}
+use Rattle.asm_meaning.specs.Elements.{Repeat, Digits, Computed, behind_parenthesis, IsRepeatBy, IsRepeatAt, count_of}
 use Rattle.orca_asm.specs.DcView.{IsComputed, IsCounted, HasCount, count_by}
 
 pub if_some : {A : Type 0} (P Q : A → Type 0) (o : Option A) → IfSome o P → ((x : A) → P x → Q x) → IfSome o Q
@@ -51,9 +50,6 @@ fitting_by cs n = by_size (ltb n (2 ^ 32)) refl
     by_size : (b : Bool) → ltb n (2 ^ 32) ≡ b → count_by (fitting n) ≡ count_of cs (Digits n)
     by_size true is = let other : leb (2 ^ 32) n ≡ false = lt-leb (2 ^ 32) n (ltb-true n (2 ^ 32) is) in rw (is, other) refl
     by_size false is = let other : leb (2 ^ 32) n ≡ true = le-leb (2 ^ 32) n (ltb-false n (2 ^ 32) is) in rw (is, other) refl
-
-abbrev found : Option ℕ → List ℕ → Found (Option ℕ)
-found n rest = Some (n, rest)
 
 pub counted : (text : List ℕ) (n : Option ℕ) (answer : Answer ℕ) (rest : List ℕ) → seen_as fitting (digits_at 10 text) ≡ Some (n, rest) → answer ≡ count_by n → IsCounted text answer rest
 counted text n answer rest seen is = by_digits (digits_at 10 text) refl seen

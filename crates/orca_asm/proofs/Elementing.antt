@@ -1,17 +1,16 @@
 -- What the elements of DC give.
-use Rattle.std.proofs.Common.{◌≡◌, ◌≢◌, ℕ, ◌<◌, ◌≤◌, Bool, true, false, List, [], ◌∷◌, ◌++◌, length, map, Option, Some, None, Ok, Err, refl, sym, ap, subst, ◌∙◌, append-nil, arith}
+use Rattle.std.proofs.Common.{◌≡◌, ◌≢◌, ℕ, ◌≤◌, Bool, List, [], ◌∷◌, ◌++◌, length, map, Option, Some, None, Ok, refl, sym, ap, subst, ◌∙◌, append-nil, arith}
 use Rattle.std.specs.List.{AllByRecursion}
-use Rattle.std.specs.Prelude.{IsTrue}
 use Rattle.std.proofs.lemmas.Bool.{and_parts, leb-true}
 use Rattle.omf_format.specs.Expression.{Leaf, Named, term_text}
 use Rattle.orca_meaning.specs.Token.{digits_at}
 use Rattle.asm_meaning.specs.Answer.{Answer}
 use Rattle.asm_meaning.specs.Constant.{Constants}
-use Rattle.asm_meaning.specs.Elements.{Repeat, Value, Numbers, Fixed, Text, Asked, Weak, Element, Kind, Number, Hexadecimal, Binary, Characters, References, WeakReferences, closed_at, text_at, kind_at, bytes_of_digits, AreNames, IsRepeatAt, IsElementAt, IsValueAt, behind_parenthesis, text_byte, strong_piece, weak_piece, element_pieces}
+use Rattle.asm_meaning.specs.Elements.{Repeat, Numbers, Fixed, Text, Asked, Weak, Element, Kind, Number, Hexadecimal, Binary, Characters, References, WeakReferences, closed_at, text_at, kind_at, bytes_of_digits, AreNames, IsRepeatAt, IsElementAt, IsValueAt, behind_parenthesis, text_byte, strong_piece, weak_piece, element_pieces}
 use Rattle.asm_meaning.specs.Formulas.{expression_text}
-use Rattle.asm_meaning.specs.GivenLaws.{IsNameLength, closed-le, names_length, repeat-le, kind_is, IsWidth}
+use Rattle.asm_meaning.specs.laws.GivenLaws.{IsNameLength, closed-le, names_length, repeat-le, kind_is, IsWidth}
 use Rattle.asm_meaning.specs.Pieces.{Piece, Bytes}
-use Rattle.asm_meaning.specs.StatementLaws.{same_found, repeat_once}
+use Rattle.asm_meaning.specs.laws.StatementLaws.{same_found, repeat_once}
 use Rattle.orca_asm.specs.declared.element.ElementKind as kinds
 use Rattle.orca_asm.specs.declared.element.ElementKind.TheVariants as kind_names
 use Rattle.orca_asm.specs.DcView.{HasNumbers, HasCount, HasValue, HasNoValue, HasElement, repeated}

@@ -1,7 +1,7 @@
 -- The expressions of EQU and GEQU.
-use Rattle.std.proofs.Common.{◌≡◌, ℕ, ◌^◌, ◌<◌, ◌≤◌, List, ◌∷◌, ◌++◌, [], refl, sym, ap, subst, ◌∙◌, arith}
-use Rattle.omf_format.specs.Expression.{Tree, Leaf, Constant, IsTree, IsExpression, depth, terms_of, terms_text}
-use Rattle.asm_meaning.specs.AmountLaws.{is_written}
+use Rattle.std.proofs.Common.{◌≡◌, ℕ, ◌^◌, ◌<◌, ◌≤◌, List, sym, ap, subst, ◌∙◌, arith}
+use Rattle.omf_format.specs.Expression.{Tree, Leaf, Constant, IsTree, IsExpression, depth}
+use Rattle.asm_meaning.specs.laws.AmountLaws.{is_written}
 use Rattle.asm_meaning.specs.Constant as meaning
 use Rattle.asm_meaning.specs.Constant.{tree_of_amount}
 use Rattle.asm_meaning.specs.Formulas.{expression_text}
@@ -11,9 +11,6 @@ use Rattle.orca_asm.specs.AmountView.{Kept, kept_of}
 abbrev number : ℕ → Kept
 number n = view.Number n
 
-abbrev text : List ℕ → Kept
-text bytes = view.Text bytes
-
 -- a number's expression is that of the amount that it is
 pub number_spelled : (n : ℕ) (bytes : List ℕ) (meant : meaning.Amount) → bytes ≡ expression_text (Leaf (Constant n)) → number n ≡ kept_of 0 meant → bytes ≡ expression_text (tree_of_amount meant)
 number_spelled n bytes (meaning.Known m) is e = is ∙ ap (λ (k : ℕ). expression_text (Leaf (Constant k))) (same n m e)
@@ -21,14 +18,6 @@ number_spelled n bytes (meaning.Known m) is e = is ∙ ap (λ (k : ℕ). express
     same : (x y : ℕ) → number x ≡ number y → x ≡ y
     same x y e = cc
 number_spelled n bytes (meaning.Written tree) is e = absurd cc
-
--- and that of terms
-pub terms_spelled : (old bytes : List ℕ) (meant : meaning.Amount) → ((tree : Tree) → old ≡ terms_text 0 (terms_of tree) → bytes ≡ expression_text tree) → text old ≡ kept_of 0 meant → bytes ≡ expression_text (tree_of_amount meant)
-terms_spelled old bytes (meaning.Known m) is e = absurd cc
-terms_spelled old bytes (meaning.Written tree) is e = is tree (same old (terms_text 0 (terms_of tree)) e)
-  where
-    same : (x y : List ℕ) → text x ≡ text y → x ≡ y
-    same x y e = cc
 
 pub number_fine : (n : ℕ) (bytes : List ℕ) → n < 2 ^ 32 → bytes ≡ expression_text (Leaf (Constant n)) → IsExpression 0 bytes
 number_fine n bytes fits is = subst (IsExpression 0) (sym is) (is_written (Leaf (Constant n)) fits (omega arith))

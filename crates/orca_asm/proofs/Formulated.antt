@@ -1,30 +1,30 @@
 -- Whether a text is a formula, and what it amounts to.
-use Rattle.std.proofs.Common.{◌≡◌, ◌≢◌, ℕ, ◌<◌, ◌≤◌, Bool, true, false, cond, eqb, ltb, List, [], ◌∷◌, length, Option, Some, None, Ok, Err, refl, sym, ap, subst, ◌∙◌, arith}
+use Rattle.std.proofs.Common.{◌≡◌, ℕ, ◌<◌, ◌≤◌, Bool, true, false, cond, eqb, ltb, List, [], ◌∷◌, length, Some, None, Ok, Err, refl, sym, ap, subst, ◌∙◌, arith}
 use Rattle.std.proofs.lemmas.Bool.{lt-ltb, ltb-false}
 use Rattle.omf_format.specs.Field.{◌>>=◌}
-use Rattle.omf_format.specs.Expression.{Term, Tree, AreTerms, terms_of, terms_text, depth}
-use Rattle.omf_format.specs.TreeLaws.{tree_has_terms}
+use Rattle.omf_format.specs.Expression.{Term, Tree, AreTerms, terms_of, terms_text}
+use Rattle.omf_format.specs.laws.TreeLaws.{tree_has_terms}
 use Rattle.orca_meaning.specs.declared.operators.Operands.TheVariants.{Labels}
-use Rattle.orca_meaning.specs.Formula.{MeansAt, pending, has_large}
-use Rattle.orca_meaning.specs.FormulaLaws.{formed, one_tree, pending-one}
+use Rattle.orca_meaning.specs.Formula.{pending, has_large}
+use Rattle.orca_meaning.specs.laws.FormulaLaws.{formed, one_tree, pending-one}
 use Rattle.orca_text.specs.FormulaAt.{IsFormulaAt, HasNoFormula}
 use Rattle.orca_text.specs.Peak.{peak}
 use Rattle.orca_text.proofs.OperandIs.{peak_is, terms_are}
 use Rattle.asm_meaning.specs.declared.faults.AsmCause.{AsmCause}
 use Rattle.asm_meaning.specs.declared.faults.AsmCause.TheVariants.{BadOperand, BadNumber, UnknownConstant, DivideByZero}
 use Rattle.std.specs.Prelude.{Result, IfOk}
-use Rattle.asm_meaning.specs.AmountLaws.{AreSmall, tree-with_values, pending-with_values}
+use Rattle.asm_meaning.specs.laws.AmountLaws.{AreSmall, tree-with_values, pending-with_values}
 use Rattle.asm_meaning.specs.Answer.{Answer}
 use Rattle.orca_asm.specs.FineView.{IsFineAmount}
 use Rattle.asm_meaning.specs.Constant as meaning
 use Rattle.asm_meaning.specs.Constant.{Constants, with_values, worth, needed, amount, amount_by}
-use Rattle.asm_meaning.specs.Formulas.{IsFormula, judged, formula_of}
+use Rattle.asm_meaning.specs.Formulas.{judged, formula_of}
 use Rattle.orca_asm.specs.declared.amount.Amount.{Amount}
 use Rattle.orca_asm.specs.declared.amount.Amount.TheVariants as amounts
 use Rattle.orca_asm.specs.AmountView as view
-use Rattle.orca_asm.specs.AmountView.{IsFormulaOf, Kept, kept_of, kept_answer, kept_view, amount_view}
+use Rattle.orca_asm.specs.AmountView.{IsFormulaOf, Kept, kept_answer, amount_view}
 use Rattle.orca_asm.proofs.ByFormulas.{empty_list}
-use Rattle.orca_asm.specs.NumberView.{AreTermsOf, IsTerms, HasAmount, HasNumber, amount_found, number_found}
+use Rattle.orca_asm.specs.NumberView.{IsTerms, HasAmount, HasNumber}
 
 abbrev bad : AsmCause → Answer Tree
 bad cause = Err cause
@@ -95,17 +95,6 @@ pub terms_formed : (text : List ℕ) (terms : List Term) → IsTerms text (Ok te
 terms_formed text terms is = subst (AreTerms 0) (sym is.terms.2.terms_are) (tree_has_terms 0 is.terms.0 is.terms.2.formed)
 
 -- ---- amounts
-
-pub amount_bad : (constants : Constants) (text : List ℕ) (cause : AsmCause) → IsTerms text (Err cause) → HasAmount constants text (Err cause)
-amount_bad constants text cause is = record { found = is.found; formula = is.formula; amount' = ap (λ (a : Answer Tree). kept_answer 0 (a >>= amount constants)) (sym is.terms) }
-
-pub amount_good : (constants : Constants) (text : List ℕ) (terms : List Term) (answer : Rattle.std.specs.Prelude.Result Amount AsmCause) → IsTerms text (Ok terms)
-    → ((tree : Tree) → IsFormulaOf terms tree → amount_view answer ≡ kept_answer 0 (amount constants tree)) → HasAmount constants text answer
-amount_good constants text terms answer is meant = record {
-  found = is.found;
-  formula = is.formula;
-  amount' = meant is.terms.0 is.terms.2 ∙ ap (λ (a : Answer Tree). kept_answer 0 (a >>= amount constants)) (sym is.terms.1);
-}
 
 abbrev kept_number : ℕ → Answer Kept
 kept_number n = Ok (view.Number n)

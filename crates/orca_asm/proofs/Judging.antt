@@ -1,27 +1,25 @@
 -- Formulas of a line that are judged.
-use Rattle.std.proofs.Common.{◌≡◌, ◌≢◌, ℕ, ◌^◌, ◌<◌, ◌≤◌, Bool, true, false, cond, ltb, List, [], ◌∷◌, ◌++◌, length, map, Option, Some, None, Ok, Err, refl, sym, ap, subst, ◌∙◌, arith}
+use Rattle.std.proofs.Common.{◌≡◌, ℕ, ◌<◌, ◌≤◌, Bool, true, false, ltb, List, [], ◌∷◌, length, map, Option, Some, None, Ok, Err, refl, sym, ap, subst, ◌∙◌}
 use Rattle.std.specs.Prelude.{Result, IsTrue, ◌↔◌}
 use Rattle.std.proofs.lemmas.Bool.{lt-ltb, le-ltb, ltb-true, ltb-false}
 use Rattle.omf_format.specs.Field.{◌>>=◌}
-use Rattle.omf_format.specs.Expression.{Term, Tree, Leaf, Constant, AreTerms, terms_of, terms_text, depth}
-use Rattle.omf_format.specs.Record.{Formula}
-use Rattle.omf_format.specs.TreeLaws.{tree_has_terms}
+use Rattle.omf_format.specs.Expression.{Term, Tree, AreTerms}
+use Rattle.omf_format.specs.laws.TreeLaws.{tree_has_terms}
 use Rattle.orca_meaning.specs.declared.operators.Operands.TheVariants.{Labels}
 use Rattle.orca_meaning.specs.Formula.{MeansAt, pending, has_large}
-use Rattle.orca_meaning.specs.FormulaLaws.{formed, one_tree, pending-one}
-use Rattle.orca_text.specs.FormulaAt.{IsFormulaAt, HasNoFormula}
+use Rattle.orca_meaning.specs.laws.FormulaLaws.{formed, one_tree, pending-one}
+use Rattle.orca_text.specs.FormulaAt.{IsFormulaAt}
 use Rattle.orca_text.specs.Peak.{peak}
 use Rattle.orca_text.proofs.OperandIs.{peak_is, terms_are}
 use Rattle.asm_meaning.specs.declared.faults.AsmCause.{AsmCause}
-use Rattle.asm_meaning.specs.declared.faults.AsmCause.TheVariants.{BadOperand, BadNumber, UnknownConstant, DivideByZero}
+use Rattle.asm_meaning.specs.declared.faults.AsmCause.TheVariants.{BadOperand, BadNumber, UnknownConstant}
 use Rattle.asm_meaning.specs.Answer.{Answer}
 use Rattle.asm_meaning.specs.Constant as meaning
 use Rattle.asm_meaning.specs.Constant.{Constants, Known, Written, Number, Open, Divided, Worth, worth, amount, amount_by, needed, with_values}
 use Rattle.asm_meaning.specs.Elements.{number_piece, numbered}
-use Rattle.asm_meaning.specs.Formulas.{AreFormulas, judged, number_of, expression_text}
-use Rattle.asm_meaning.specs.Pieces.{Piece, Bytes, Whole}
-use Rattle.orca_asm.specs.AmountView as view
-use Rattle.orca_asm.specs.AmountView.{IsFormulaOf, Kept, Text, kept_of, kept_answer}
+use Rattle.asm_meaning.specs.Formulas.{AreFormulas, judged, number_of}
+use Rattle.asm_meaning.specs.Pieces.{Piece}
+use Rattle.orca_asm.specs.AmountView.{IsFormulaOf, Kept, kept_of, kept_answer}
 use Rattle.orca_asm.specs.DcView.{IsKeptOf, HasNumbers, all_or}
 use Rattle.orca_asm.specs.PieceView.{piece, pieces_answer}
 use Rattle.orca_asm.specs.declared.piece.Piece as piece_type
@@ -41,12 +39,6 @@ pub fine_terms : (text : List ℕ) (terms : List Term) (large : Bool) (rest : Li
 fine_terms text terms large rest short f is =
     let small : has_large f.tree ≡ false = sym f.large_is ∙ is in
     subst (AreTerms 0) (sym (terms_are text terms large rest f is)) (tree_has_terms 0 f.tree (formed Labels text f.tree rest short f.means small))
-
-bad : AsmCause → Answer Tree
-bad cause = Err cause
-
-good : Tree → Answer Tree
-good tree = Ok tree
 
 judged_deep : (tree : Tree) → 64 < pending 1 tree → judged tree ≡ Err BadOperand
 unfolding judged
@@ -126,9 +118,6 @@ number_is cs tree = by_judged (judged tree)
     by_judged (Ok t) = needed_amount cs t
     by_judged (Err cause) = refl
 
-abbrev number : ℕ → Answer ℕ
-number n = Ok n
-
 abbrev no_number : AsmCause → Answer ℕ
 no_number cause = Err cause
 
@@ -162,24 +151,6 @@ pub refused_number : (cs : Constants) (cause : AsmCause) (tree : Tree) → refus
 refused_number cs cause tree e = refused_by cause (judged_amount cs tree) e ∙ sym (number_is cs tree)
 
 -- ---- numbers of so many bytes
-
-pub piece_known : (width n : ℕ) (bytes : List ℕ) (meant : meaning.Amount) → bytes ≡ Rattle.byteorder.specs.Endian.little_bytes width n → view.Number n ≡ kept_of 0 meant → Bytes bytes ≡ number_piece width meant
-piece_known width n bytes (Known m) is e = ap (λ (b : List ℕ). Bytes b) is ∙ ap (λ (k : ℕ). Bytes (Rattle.byteorder.specs.Endian.little_bytes width k)) (same n m e)
-  where
-    same : (n m : ℕ) → view.Number n ≡ view.Number m → n ≡ m
-    same n m e = cc
-piece_known width n bytes (Written tree) is e = absurd cc
-
-abbrev expr_piece : ℕ → List ℕ → Piece
-expr_piece width expr = Whole (Formula 0xEB width 0 expr)
-
-pub piece_written : (width : ℕ) (text expr : List ℕ) (meant : meaning.Amount) → ((tree : Tree) → text ≡ terms_text 0 (terms_of tree) → expr ≡ expression_text tree) → Text text ≡ kept_of 0 meant
-    → expr_piece width expr ≡ number_piece width meant
-piece_written width text expr (Known m) is e = absurd cc
-piece_written width text expr (Written tree) is e = ap (expr_piece width) (is tree (same text (terms_text 0 (terms_of tree)) e))
-  where
-    same : (a b : List ℕ) → Text a ≡ Text b → a ≡ b
-    same a b e = cc
 
 numbered_is : (cs : Constants) (width : ℕ) (tree : Tree) → numbered cs width tree ≡ (judged_amount cs tree >>= λ a. Ok (number_piece width a))
 numbered_is cs width tree = by_judged (judged tree)

@@ -1,6 +1,5 @@
 -- The label of a statement.
-use Rattle.std.proofs.Common.{◌≡◌, ℕ, ◌≤◌, Bool, true, false, cond, eqb, List, [], ◌∷◌, length, Ok, Err, refl, sym, ap, subst, ◌∙◌, arith}
-use Rattle.std.proofs.lemmas.List.{length-map}
+use Rattle.std.proofs.Common.{◌≡◌, ℕ, ◌≤◌, Bool, true, false, cond, eqb, List, [], ◌∷◌, length, Ok, Err, sym, ap, subst, ◌∙◌, arith}
 use Rattle.orca_meaning.specs.Characters.{is_name, folded}
 use Rattle.asm_meaning.specs.declared.directives.Operation.{Operation}
 use Rattle.asm_meaning.specs.declared.faults.AsmCause.TheVariants.{BadLabel, Duplicate}

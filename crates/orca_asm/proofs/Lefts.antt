@@ -1,23 +1,21 @@
 -- What directives leave, as the definition says it.
-use Rattle.std.proofs.Common.{◌≡◌, ℕ, Bool, true, false, List, [], ◌∷◌, Option, Some, None, Result, Ok, Err, refl, sym, ap, subst, cond, arith, ◌∙◌}
+use Rattle.std.proofs.Common.{◌≡◌, ℕ, Bool, true, false, List, [], ◌∷◌, Result, Ok, Err, refl, sym, ap, subst, cond, arith, ◌∙◌}
 use Rattle.omf_format.specs.Field.{◌>>=◌}
-use Rattle.omf_format.specs.Expression.{Tree}
-use Rattle.omf_format.specs.Record.{Record, End, Using}
+use Rattle.omf_format.specs.Record.{End, Using}
 use Rattle.orca_meaning.specs.Line.{Line}
 use Rattle.asm_meaning.specs.declared.directives.Class.{Class}
 use Rattle.asm_meaning.specs.declared.directives.Switch.{Switch}
 use Rattle.asm_meaning.specs.declared.directives.Directive.TheVariants as directives
-use Rattle.asm_meaning.specs.declared.directives.Operation.TheVariants.{Instruct, Direct}
+use Rattle.asm_meaning.specs.declared.directives.Operation.TheVariants.{Direct}
 use Rattle.asm_meaning.specs.declared.faults.AsmCause.{AsmCause}
 use Rattle.asm_meaning.specs.declared.faults.AsmCause.TheVariants.{BadOperand}
 use Rattle.asm_meaning.specs.Answer.{Answer, both, earlier}
 use Rattle.asm_meaning.specs.Constant as meaning
-use Rattle.asm_meaning.specs.Constant.{Constants, amount}
-use Rattle.asm_meaning.specs.Formulas.{IsFormula, formula_of}
-use Rattle.asm_meaning.specs.State.{State, Segment, in_segment, marked, begun, closed, within_length}
+use Rattle.asm_meaning.specs.Constant.{Constants}
+use Rattle.asm_meaning.specs.State.{State, in_segment, begun, within_length}
 use Rattle.orca_meaning.specs.Characters.{is_name, folded}
-use Rattle.asm_meaning.specs.InstructionLaws.{both_ok}
-use Rattle.asm_meaning.specs.Statement.{IsDone, IsMove, IsMoveText, constants_of, marking, entering, turning, beginning, equated, equating, equating_outside, name_of, load_name_of, behind_here}
+use Rattle.asm_meaning.specs.laws.InstructionLaws.{both_ok}
+use Rattle.asm_meaning.specs.Statement.{IsDone, constants_of, marking, entering, turning, beginning, equated, name_of, load_name_of}
 use Rattle.orca_asm.specs.declared.amount.Amount.{Amount}
 use Rattle.orca_asm.specs.declared.kept.Kept.{Kept}
 use Rattle.orca_asm.specs.AmountView.{Kept as Amount_kept, kept_view, kept_of, kept_answer, amount_view}
@@ -128,12 +126,6 @@ fault_of_both (Err other) (Ok x) (Ok m) cause e b = told other other cause refl 
 fault_of_both (Err other) (Ok x) (Err d) cause e b = absurd cc
 fault_of_both (Err other) (Err c) (Ok m) cause e b = absurd cc
 fault_of_both (Err other) (Err c) (Err d) cause e b = told (earlier other c) (earlier other d) cause (ap (earlier other) (same_cause c d e)) b
-
-then_length : Answer State → Answer State
-then_length a = a >>= within_length
-
-state_fault : AsmCause → Answer State
-state_fault cause = Err cause
 
 pub equ_fault : (state : State) (cs : Constants) (global : Bool) (label : Answer (List ℕ)) (a : Result Amount AsmCause) (text : List ℕ) (k : Kept) (cause : AsmCause) → HasAmount cs text a → cs ≡ constants_of state → both label a ≡ Err cause
     → IsEquated {U = Unit {0}} state global label text (Err cause) k

@@ -1,12 +1,9 @@
 -- Bytes that are kept as long as a file may have them.
-use Rattle.std.proofs.Common.{◌≡◌, ℕ, ◌<◌, ◌≤◌, Bool, true, false, cond, leb, List, [], ◌++◌, length, Option, Some, None, refl, sym, ap, ◌∙◌, arith}
+use Rattle.std.proofs.Common.{◌≡◌, ℕ, ◌<◌, ◌≤◌, Bool, true, false, cond, leb, List, [], ◌++◌, length, Some, None, refl, sym, ap, ◌∙◌, arith}
 use Rattle.std.proofs.lemmas.Bool.{leb-true, leb-false, le-leb}
 use Rattle.std.proofs.lemmas.List.{length-append}
 use Rattle.asm_meaning.specs.Object.{most_bytes}
 use Rattle.orca_asm.specs.TextView.{limited}
-
-none : Option (List ℕ)
-none = None
 
 pub limited_nothing : limited [] ≡ Some []
 limited_nothing = refl

@@ -5,9 +5,7 @@ use Rattle.std.specs.Global.{Vec}
 use Rattle.std.specs.Cmp.Lexicographic.{bytes_decides, nat_list_eq_equiv}
 use Rattle.std.specs.Map.{IsKeyTest, AreApart, KeepsOthers, lookup}
 use Rattle.indexmap.specs.IndexMap.{IndexMap, UpdatesBy, IsEmpty, IsUnchanged}
-use Rattle.std.specs.Option.{option_map}
 use Rattle.std.proofs.Math.Path.{fun_ext}
-use Rattle.macro_meaning.specs.Symbol.{with_name}
 use Rattle.asm_meaning.specs.State.{no_names, no_constants}
 use Rattle.orca_asm.specs.Held.{held}
 use Rattle.orca_asm.specs.NamesView.{names_of, outside_of}
@@ -28,15 +26,6 @@ updated name m n w h q = by_test (bytes_eq name q) refl
     by_test : (b : Bool) → bytes_eq name q ≡ b → held n q ≡ cond b w (held m q)
     by_test true is = subst (λ (l : List ℕ). held n l ≡ w) ((bytes_decides name q).0 is) h.1
     by_test false is = others (λ x y. bytes_eq x.items y.items) (λ k. bytes_eq name k.items) m.entries n.entries h.3 (λ k. bytes_eq q k.items) (λ x y. nat_list_eq_equiv.congr q x.items y.items) (λ k. apart name q k.items is)
-
--- as it is seen
-pub named : {V B S : Type 0} (f : V → B) (name : List ℕ) (value : V) (m n : IndexMap (Vec ℕ) V S) → ((q : List ℕ) → held n q ≡ cond (bytes_eq name q) (Some value) (held m q))
-    → (λ (q : List ℕ). option_map f (held n q)) ≡ with_name name (f value) (λ (q : List ℕ). option_map f (held m q))
-named {V = V} {B = B} f name value m n h = fun_ext (λ q. ap (option_map f) (h q) ∙ by_test (bytes_eq name q) (held m q))
-  where
-    by_test : (b : Bool) (old : Option V) → option_map f (cond b (Some value) old) ≡ cond b (Some (f value)) (option_map f old)
-    by_test true old = refl
-    by_test false old = refl
 
 -- a map without entries
 pub empty_held : {V S : Type 0} (m : IndexMap (Vec ℕ) V S) → IsEmpty m → (q : List ℕ) → held m q ≡ None

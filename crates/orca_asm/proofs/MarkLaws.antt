@@ -1,5 +1,5 @@
 -- Statements of instructions and DC, with their labels.
-use Rattle.std.proofs.Common.{◌≡◌, ℕ, ◌+◌, ◌<◌, ◌≤◌, min, Bool, true, false, cond, ltb, List, [], ◌∷◌, ◌++◌, length, Option, Some, None, Result, Ok, Err, refl, sym, ap, subst, ◌∙◌, arith}
+use Rattle.std.proofs.Common.{◌≡◌, ℕ, ◌≤◌, min, Bool, true, cond, List, length, Option, Some, None, Result, Ok, Err, refl, sym, ap, subst, ◌∙◌, arith}
 use Rattle.std.proofs.lemmas.Bool.{lt-ltb}
 use Rattle.std.specs.Option.{option_map}
 use Rattle.omf_format.specs.Field.{◌>>=◌}
@@ -14,15 +14,14 @@ use Rattle.asm_meaning.specs.declared.directives.Operation.TheVariants.{Instruct
 use Rattle.asm_meaning.specs.declared.faults.AsmCause.{AsmCause}
 use Rattle.asm_meaning.specs.declared.faults.AsmCause.TheVariants.{BadOperand, BadNumber, SegmentTooLong}
 use Rattle.asm_meaning.specs.Answer.{Answer}
-use Rattle.asm_meaning.specs.AmountLaws.{AreSmall}
+use Rattle.asm_meaning.specs.laws.AmountLaws.{AreSmall}
 use Rattle.asm_meaning.specs.Constant.{Constants}
 use Rattle.asm_meaning.specs.Elements.{list_pieces}
-use Rattle.asm_meaning.specs.GivenLaws.{IsNameLength, instruction_plain, list_plain}
+use Rattle.asm_meaning.specs.laws.GivenLaws.{instruction_plain, list_plain}
 use Rattle.asm_meaning.specs.Instruction.{Widths, instruction}
-use Rattle.asm_meaning.specs.LabelLaws.{lengths_add}
-use Rattle.asm_meaning.specs.PieceLaws.{ArePlainPieces}
+use Rattle.asm_meaning.specs.laws.LabelProofs.{lengths_add}
+use Rattle.asm_meaning.specs.laws.PieceLaws.{ArePlainPieces}
 use Rattle.asm_meaning.specs.Pieces.{Piece, length_at, records_of}
-use Rattle.asm_meaning.specs.Sound.{IsLabelText}
 use Rattle.asm_meaning.specs.State.{State, Segment, cells_of, marked, in_segment, within_length, greatest_length, is_too_long}
 use Rattle.asm_meaning.specs.Statement.{IsDone, IsOperandOf, Good, Bad, Large, constants_of, marking}
 use Rattle.orca_asm.specs.declared.given.Given.{Given}
@@ -51,11 +50,6 @@ given_too_long state k o label form size records shown is cells many =
     by_segment : (found : Option Segment) → ShowsOption found (Some o) → is_too_long (option_map (marked label form records) found) ≡ true
     by_segment None shows = absurd shows
     by_segment (Some s) shows = lt-ltb (greatest_length s.class) (cells_of (marked label form records s)) (omega (arith, greatest-le s.class, lengths_add label form records s, cells (cells_of s), many))
-
--- a label fits a record
-pub label_text : (label : List ℕ) → length label ≤ 255 → IsLabelText label
-label_text [] short = tt
-label_text (byte ∷ label) short = (omega arith, short)
 
 abbrev pieces_ok : List Piece → Answer (List Piece)
 pieces_ok pieces = Ok pieces

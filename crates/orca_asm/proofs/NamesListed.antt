@@ -12,13 +12,6 @@ pub record Reads (text : List ℕ) (out : List (List ℕ)) (left : List ℕ) : T
   pub only : (all : List (List ℕ)) → AreNames text all → (ns : List (List ℕ)) × AreNames left ns
   pub short : length left ≤ length text
 
-pub reads_nothing : (text : List ℕ) (out : List (List ℕ)) → out ≡ [] → Reads text out text
-reads_nothing text out none = record {
-  makes = λ n ns are. subst (λ (o : List (List ℕ)). AreNames text (o ++ n ∷ ns)) (sym none) are;
-  only = λ all are. (all, are);
-  short = omega arith;
-}
-
 one_found : (o : Found (List ℕ)) (m n r s : List ℕ) → o ≡ Some (m, r) → o ≡ Some (n, s) → r ≡ s
 one_found o m n r s p q = ap (λ (x : List ℕ × List ℕ). x.1) (same (m, r) (n, s) (sym p ∙ q))
   where
@@ -66,10 +59,6 @@ reads_more text out new left rest behind name reads is push comma =
     behind_first left behind name (u ∷ v ∷ us) here are =
         let same = same_behind behind are.0 (one_found (name_at left) name u (0x2C ∷ behind) (0x2C ∷ are.0) here are.1) in
         (v ∷ us, subst (λ (b : List ℕ). AreNames b (v ∷ us)) (sym same) are.2)
-
-pub reads_last : (text : List ℕ) (out new : List (List ℕ)) (left rest name : List ℕ) → Reads text out left → name_at left ≡ Some (name, rest) → new ≡ out ++ name ∷ [] → rest ≡ [] → AreNames text new
-reads_last text out new left rest name reads is push end =
-    subst (AreNames text) (sym push) (reads.makes name [] (is ∙ ap (λ (r : List ℕ). found (name, r)) end))
 
 pub reads_none : (text : List ℕ) (out : List (List ℕ)) (left : List ℕ) → Reads text out left → name_at left ≡ None → (all : List (List ℕ)) → AreNames text all → ⊥
 reads_none text out left reads none all are = let found' = reads.only all are in by_count found'.0 found'.1

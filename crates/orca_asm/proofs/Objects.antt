@@ -1,10 +1,10 @@
 -- One more segment behind those that have ended.
-use Rattle.std.proofs.Common.{◌≡◌, ℕ, ◌+◌, ◌<◌, ◌≤◌, Bool, true, false, List, [], ◌∷◌, ◌++◌, length, Option, Some, None, refl, sym, ap, subst, ◌∙◌, append-nil, append_assoc, arith}
+use Rattle.std.proofs.Common.{◌≡◌, ℕ, ◌+◌, ◌<◌, Bool, true, false, List, [], ◌∷◌, ◌++◌, length, Option, sym, ap, ◌∙◌, append-nil, append_assoc, arith}
 use Rattle.std.specs.List.{flat_map}
 use Rattle.std.proofs.lemmas.List.{length-append}
 use Rattle.std.proofs.lemmas.List.Concat.{flat_map-append}
 use Rattle.omf_format.specs.Header.{Fields, header_bytes}
-use Rattle.omf_format.specs.WrittenHeader.{length-header}
+use Rattle.omf_format.specs.laws.WrittenHeaderLaws.{length-header}
 use Rattle.asm_meaning.specs.Object.{records_text, segment_text, object_text, most_bytes}
 use Rattle.asm_meaning.specs.State.{Ended}
 use Rattle.orca_asm.specs.declared.text.Text.{Text}

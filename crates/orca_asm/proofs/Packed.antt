@@ -1,16 +1,15 @@
 -- Digits that are packed into bytes.
-use Rattle.std.proofs.Common.{◌≡◌, ◌≢◌, ℕ, zero, suc, ◌+◌, ◌-◌, ◌*◌, ◌/◌, ◌^◌, ◌<◌, ◌≤◌, Bool, true, false, cond, eqb, List, [], ◌∷◌, ◌++◌, length, take, drop, Some, None, inl, inr, refl, sym, ap, subst, ◌∙◌, append_assoc, append-nil, arith}
-use Rattle.std.specs.Prelude.{◌&&◌, not, filter, replicate, ◌⊎◌, ltb, Option}
+use Rattle.std.proofs.Common.{◌≡◌, ◌≢◌, ℕ, zero, suc, ◌+◌, ◌-◌, ◌*◌, ◌/◌, ◌^◌, ◌<◌, ◌≤◌, Bool, true, false, eqb, List, [], ◌∷◌, ◌++◌, length, take, drop, None, inl, inr, refl, sym, ap, subst, ◌∙◌, append_assoc, append-nil, arith}
+use Rattle.std.specs.Prelude.{◌&&◌, replicate, ◌⊎◌}
 use Rattle.std.specs.Char.{is_digit, digit_value}
 use Rattle.std.specs.Str.Parse.{digits_value, digits_value_after, AllDigits}
 use Rattle.std.proofs.Math.Nat.{mul-le-mul_left}
-use Rattle.std.proofs.Math.Seq.{drop-nil}
-use Rattle.std.proofs.lemmas.Bool.{ltb-true, and_parts, eq-eqb}
+use Rattle.std.proofs.lemmas.Bool.{ltb-true, and_parts}
 use Rattle.orca_asm.proofs.Quoted.{neq-eqb}
 use Rattle.std.proofs.lemmas.Int.Digits.{digits_value-lt}
 use Rattle.std.proofs.lemmas.List.{take-replicate, length-take, length-append, length-drop}
 use Rattle.std.proofs.lemmas.List.Folds.{list_all-append}
-use Rattle.asm_meaning.specs.Elements.{packed, packed_digits, without_spaces, is_space}
+use Rattle.asm_meaning.specs.Elements.{packed, packed_digits, without_spaces}
 use Rattle.orca_asm.specs.DigitsView.{are_digits, groups}
 
 -- ---- padding
@@ -32,9 +31,6 @@ pub record GroupLeft (base each : ℕ) (digits left : List ℕ) (value count : �
   pub rest : drop count left ≡ drop each digits
   pub fine : are_digits base left ≡ true
 
-pub group_starts : (base each : ℕ) (digits : List ℕ) → are_digits base digits ≡ true → GroupLeft base each digits digits 0 each
-group_starts base each digits fine = record { number = refl; rest = refl; fine = fine }
-
 pub group_more : (base each : ℕ) (digits left behind : List ℕ) (byte value count k more : ℕ) → count ≡ k + 1 → left ≡ byte ∷ behind → more ≡ digit_value byte → GroupLeft base each digits left value count
     → GroupLeft base each digits behind (value * base + more) k
 group_more base each digits left behind byte value count k more is parts more_is g =
@@ -44,18 +40,6 @@ group_more base each digits left behind byte value count k more is parts more_is
       number = ap (digits_value_after base (value * base + digit_value byte)) (sym (pad k (suc k) behind (omega arith))) ∙ g'.number;
       rest = g'.rest;
       fine = (and_parts (is_digit byte base) (are_digits base behind) g'.fine).1;
-    })
-
-pub group_missing : (base each : ℕ) (digits left : List ℕ) (value count k : ℕ) → count ≡ k + 1 → left ≡ [] → GroupLeft base each digits left value count
-    → GroupLeft base each digits left (value * base) k
-group_missing base each digits left value count k is none g =
-    let next : count ≡ suc k = omega (arith, is) in
-    let g' = subst (λ (l : List ℕ). GroupLeft base each digits l value (suc k)) none (subst (λ (n : ℕ). GroupLeft base each digits left value n) next g) in
-    let same : value * base + 0 ≡ value * base = omega arith in
-    subst (λ (l : List ℕ). GroupLeft base each digits l (value * base) k) (sym none) (record {
-      number = ap (λ (v : ℕ). digits_value_after base v (take k (zeros k))) (sym same) ∙ g'.number;
-      rest = drop-nil k ∙ g'.rest;
-      fine = refl;
     })
 
 after-le : (base n : ℕ) (digits : List ℕ) → 1 ≤ base → n ≤ digits_value_after base n digits
@@ -132,9 +116,6 @@ pub record PackedLeft (base each : ℕ) (digits out left : List ℕ) : Type 0 wh
   pub text : out ++ packed base each (groups each left) left ≡ packed base each (groups each digits) digits
   pub fine : are_digits base left ≡ true
 
-pub packed_starts : (base each : ℕ) (digits out : List ℕ) → out ≡ [] → are_digits base digits ≡ true → PackedLeft base each digits out digits
-packed_starts base each digits out none fine = record { text = ap (λ (o : List ℕ). o ++ packed base each (groups each digits) digits) none; fine = fine }
-
 one_more : (base each n : ℕ) (l : List ℕ) → packed base each (suc n) l ≡ digits_value base (take each (l ++ zeros each)) ∷ packed base each n (drop each l)
 unfolding packed
 one_more base each n l = refl
@@ -152,15 +133,6 @@ packed_more base each digits out new left rest byte each_is p some byte_is rest_
     more : List ℕ
     more = packed base each (groups each (drop each left)) (drop each left)
 
-none_packed : (base each : ℕ) → (each ≡ 2) ⊎ (each ≡ 8) → packed base each (groups each []) [] ≡ []
-unfolding packed
-none_packed base each (inl is) = subst (λ (e : ℕ). packed base each ((0 + (e - 1)) / e) [] ≡ []) (sym is) refl
-none_packed base each (inr is) = subst (λ (e : ℕ). packed base each ((0 + (e - 1)) / e) [] ≡ []) (sym is) refl
-
-pub packed_ends : (base each : ℕ) (digits out left : List ℕ) → (each ≡ 2) ⊎ (each ≡ 8) → PackedLeft base each digits out left → left ≡ [] → out ≡ packed base each (groups each digits) digits
-packed_ends base each digits out left each_is p none =
-    sym (append-nil out) ∙ ap (λ (l : List ℕ). out ++ l) (sym (ap (λ (l : List ℕ). packed base each (groups each l) l) none ∙ none_packed base each each_is)) ∙ p.text
-
 -- ---- digits with spaces between them
 
 -- these digits were found, and this text is left
@@ -168,28 +140,8 @@ pub record FoundLeft (base : ℕ) (text out left : List ℕ) : Type 0 where
   pub same : out ++ without_spaces left ≡ without_spaces text
   pub fine : are_digits base out ≡ true
 
-pub found_starts : (base : ℕ) (text out : List ℕ) → out ≡ [] → FoundLeft base text out text
-found_starts base text out none = record { same = ap (λ (o : List ℕ). o ++ without_spaces text) none; fine = ap (are_digits base) none }
-
-pub found_space : (base : ℕ) (text out left behind : List ℕ) (byte : ℕ) → FoundLeft base text out left → left ≡ byte ∷ behind → byte ≡ 0x20 → FoundLeft base text out behind
-found_space base text out left behind byte f parts space =
-    let is : eqb byte 0x20 ≡ true = eq-eqb byte 0x20 space in
-    let skip : without_spaces (byte ∷ behind) ≡ without_spaces behind = rw is refl in
-    record { same = ap (λ (l : List ℕ). out ++ l) (sym skip) ∙ ap (λ (l : List ℕ). out ++ without_spaces l) (sym parts) ∙ f.same; fine = f.fine }
-
 kept : (byte : ℕ) (behind : List ℕ) → byte ≢ 0x20 → without_spaces (byte ∷ behind) ≡ byte ∷ without_spaces behind
 kept byte behind other = let is : eqb byte 0x20 ≡ false = neq-eqb byte 0x20 other in rw is refl
-
-pub found_digit : (base : ℕ) (text out new left behind : List ℕ) (byte : ℕ) → FoundLeft base text out left → left ≡ byte ∷ behind → byte ≢ 0x20 → is_digit byte base ≡ true → new ≡ out ++ byte ∷ []
-    → FoundLeft base text new behind
-found_digit base text out new left behind byte f parts other is push = record {
-  same = ap (λ (o : List ℕ). o ++ without_spaces behind) push ∙ append_assoc out (byte ∷ []) (without_spaces behind)
-      ∙ ap (λ (l : List ℕ). out ++ l) (sym (kept byte behind other)) ∙ ap (λ (l : List ℕ). out ++ without_spaces l) (sym parts) ∙ f.same;
-  fine = ap (are_digits base) push ∙ list_all-append (λ byte. is_digit byte base) out (byte ∷ []) ∙ both (are_digits base out) (is_digit byte base) f.fine is;
-}
-  where
-    both : (a b : Bool) → a ≡ true → b ≡ true → (a && (b && true)) ≡ true
-    both a b p q = rw (p, q) refl
 
 found_none : (base each : ℕ) (l : List ℕ) → are_digits base l ≡ false → packed_digits base each l ≡ None
 found_none base each [] is = absurd cc
@@ -207,27 +159,6 @@ found_other base text out left behind byte f parts other is each =
 
 whole : (base : ℕ) (text out left : List ℕ) → FoundLeft base text out left → left ≡ [] → out ≡ without_spaces text
 whole base text out left f none = sym (append-nil out) ∙ ap (λ (l : List ℕ). out ++ without_spaces l) (sym none) ∙ f.same
-
-pub found_nothing : (base : ℕ) (text out left : List ℕ) → FoundLeft base text out left → left ≡ [] → out ≡ [] → (each : ℕ) → packed_digits base each (without_spaces text) ≡ None
-found_nothing base text out left f none empty each = ap (packed_digits base each) (sym (whole base text out left f none) ∙ empty)
-
-pub found_all : (base : ℕ) (text out left : List ℕ) → FoundLeft base text out left → left ≡ [] → out ≢ [] → (out ≡ without_spaces text) × (are_digits base out ≡ true) × (1 ≤ length out)
-found_all base text out left f none some = (whole base text out left f none, f.fine, size out some)
-  where
-    size : (l : List ℕ) → l ≢ [] → 1 ≤ length l
-    size [] some = absurd (some refl)
-    size (c ∷ l) some = omega arith
-
-pub packed_is : (base each : ℕ) (text out bytes : List ℕ) → out ≡ without_spaces text → are_digits base out ≡ true → 1 ≤ length out → bytes ≡ packed base each (groups each out) out
-    → packed_digits base each (without_spaces text) ≡ Some bytes
-packed_is base each text out bytes same fine some is = ap (packed_digits base each) (sym same) ∙ by_digits out fine some ∙ sym (ap just is)
-  where
-    just : List ℕ → Option (List ℕ)
-    just l = Some l
-
-    by_digits : (l : List ℕ) → are_digits base l ≡ true → 1 ≤ length l → packed_digits base each l ≡ just (packed base each (groups each l) l)
-    by_digits [] is some = absurd (omega (arith, some))
-    by_digits (c ∷ l) is some = rw is refl
 
 pub some_length : (l : List ℕ) (b : Bool) → b ≡ eqb (length l) 0 → b ≡ false → 1 ≤ length l
 some_length [] b is some = let clash : true ≡ false = sym is ∙ some in absurd cc

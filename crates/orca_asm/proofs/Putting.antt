@@ -1,15 +1,14 @@
 -- How the records of statements are written.
-use Rattle.std.proofs.Common.{◌≡◌, ◌≢◌, ℕ, zero, suc, ◌+◌, ◌^◌, ◌<◌, ◌≤◌, min, Bool, true, false, cond, leb, List, [], ◌∷◌, ◌++◌, length, Option, Some, None, refl, sym, ap, subst, ◌∙◌, append_assoc, append-nil, arith}
+use Rattle.std.proofs.Common.{◌≡◌, ◌≢◌, ℕ, suc, ◌+◌, ◌<◌, ◌≤◌, min, Bool, true, false, cond, leb, List, [], ◌∷◌, ◌++◌, length, Option, Some, None, refl, sym, ap, subst, ◌∙◌, append_assoc, append-nil, arith}
 use Rattle.std.proofs.lemmas.Bool.{leb-true, le-leb, lt-leb}
 use Rattle.std.proofs.lemmas.List.{length-append}
 use Rattle.std.proofs.lemmas.List.Concat.{flat_map-cons, flat_map-append}
 use Rattle.byteorder.specs.Endian.{little_bytes}
 use Rattle.omf_format.specs.Field.{written_layout}
-use Rattle.omf_format.specs.Record.{Record, Const, LongConst, Label, IsRecord, spelling}
+use Rattle.omf_format.specs.Record.{Record, Const, LongConst, Label, spelling}
 use Rattle.asm_meaning.specs.Object.{records_text, most_bytes}
-use Rattle.asm_meaning.specs.PieceLaws.{IsPlainPiece, ArePlainPieces}
+use Rattle.asm_meaning.specs.laws.PieceLaws.{IsPlainPiece, ArePlainPieces}
 use Rattle.asm_meaning.specs.Pieces.{Piece, Bytes, Whole, constant_records, records_behind, copies}
-use Rattle.asm_meaning.specs.Sound.{IsLabelText}
 use Rattle.asm_meaning.specs.State.{local_of}
 use Rattle.std.specs.Global.{Vec}
 use Rattle.omf_format.specs.Record as record_
@@ -24,9 +23,6 @@ use Rattle.orca_asm.specs.TextView.{limited}
 -- what a text is where bytes were appended to it
 abbrev pub Grows : Option (List ℕ) → Option (List ℕ) → List ℕ → Type 0
 Grows old new more = (text : List ℕ) → old ≡ limited text → new ≡ limited (text ++ more)
-
-text_of : List Record → List ℕ
-text_of rs = records_text rs
 
 one_text : (r : Record) → records_text (r ∷ []) ≡ spelling written_layout r
 unfolding records_text
@@ -60,9 +56,6 @@ long_text (byte ∷ bytes) many =
 
 pub put_long : (bytes : List ℕ) (old new : Option (List ℕ)) → 223 < length bytes → Grows old new (spelling written_layout (LongConst bytes)) → Grows old new (records_text (constant_records bytes))
 put_long bytes old new many grows text is = grows text is ∙ ap (λ (l : List ℕ). limited (text ++ l)) (sym (long_text bytes many))
-
-nothing : Option (List ℕ)
-nothing = None
 
 is_too_long : (text : List ℕ) → most_bytes < length text → limited text ≡ None
 is_too_long text many = by_size (leb (length text) most_bytes) refl
@@ -124,25 +117,9 @@ wrote_start text kept pending rest is none =
 abbrev pub Puts : Option (List ℕ) → List ℕ → List Piece → Option (List ℕ) → List ℕ → Type 0
 Puts old pending pieces new left = (whole : List ℕ) (rest : List Piece) → Wrote whole old pending (pieces ++ rest) → Wrote whole new left rest
 
-pub puts_nothing : (old : Option (List ℕ)) (pending : List ℕ) → Puts old pending [] old pending
-puts_nothing old pending whole rest w = w
-
-pub puts_both : (old one two : Option (List ℕ)) (p q r : List ℕ) (a b : List Piece) → Puts old p a one q → Puts one q b two r → Puts old p (a ++ b) two r
-puts_both old one two p q r a b first second whole rest w =
-    second whole rest (first whole (b ++ rest) (subst (λ (l : List Piece). Wrote whole old p l) (append_assoc a b rest) w))
-
 plain_append : (a b : List Piece) → ArePlainPieces (a ++ b) → ArePlainPieces a × ArePlainPieces b
 plain_append [] b all = (tt, all)
 plain_append (p ∷ a) b all = let both = plain_append a b all.1 in ((all.0, both.0), both.1)
-
-pub first_plain : (count : ℕ) (l : List Piece) → 0 < count → ArePlainPieces (copies count l) → ArePlainPieces l
-first_plain zero l some all = absurd (omega (arith, some))
-first_plain (suc n) l some all = (plain_append l (copies n l) all).0
-
-pub others_plain : (count less : ℕ) (l : List Piece) → count ≡ less + 1 → ArePlainPieces (copies count l) → ArePlainPieces (copies less l)
-others_plain count less l is all =
-    let next : count ≡ suc less = omega (arith, is) in
-    (plain_append l (copies less l) (subst (λ (n : ℕ). ArePlainPieces (copies n l)) next all)).1
 
 pub copies_next : (count less : ℕ) (l : List Piece) → count ≡ less + 1 → copies count l ≡ l ++ copies less l
 copies_next count less l is = let next : count ≡ suc less = omega (arith, is) in ap (λ (n : ℕ). copies n l) next
@@ -150,22 +127,10 @@ copies_next count less l is = let next : count ≡ suc less = omega (arith, is) 
 pub parts_split : (p : Part) (parts : List Part) → all_pieces (p ∷ parts) ≡ part_pieces p ++ all_pieces parts
 parts_split p parts = flat_map-cons part_pieces p parts
 
-pub parts_plain : (p : Part) (parts : List Part) → ArePlainPieces (all_pieces (p ∷ parts)) → ArePlainPieces (part_pieces p) × ArePlainPieces (all_pieces parts)
-parts_plain p parts all = plain_append (part_pieces p) (all_pieces parts) (subst ArePlainPieces (parts_split p parts) all)
-
 -- what is still to be put, of pieces that were put from here on
 pub record PutLeft (old : Option (List ℕ)) (pending : List ℕ) (all : List Piece) (now : Option (List ℕ)) (waits : List ℕ) (left : List Piece) : Type 0 where
   pub puts : (whole : List ℕ) (rest : List Piece) → Wrote whole old pending (all ++ rest) → Wrote whole now waits (left ++ rest)
   pub plain : ArePlainPieces left
-
-pub left_all : (old : Option (List ℕ)) (pending : List ℕ) (all : List Piece) → ArePlainPieces all → PutLeft old pending all old pending all
-left_all old pending all plain = record { puts = λ whole rest w. w; plain = plain }
-
-pub left_one : (old now new : Option (List ℕ)) (pending waits more : List ℕ) (all left others : List Piece) (p : Piece) → PutLeft old pending all now waits left → left ≡ p ∷ others
-    → ((whole : List ℕ) (rest : List Piece) → Wrote whole now waits (p ∷ rest) → Wrote whole new more rest) → PutLeft old pending all new more others
-left_one old now new pending waits more all left others p l parts step =
-    let plain = subst ArePlainPieces parts l.plain in
-    record { puts = λ whole rest w. step whole (others ++ rest) (subst (λ (x : List Piece). Wrote whole now waits (x ++ rest)) parts (l.puts whole rest w)); plain = plain.1 }
 
 pub left_more : (old now new : Option (List ℕ)) (pending waits more : List ℕ) (all left a others : List Piece) → PutLeft old pending all now waits left → left ≡ a ++ others → Puts now waits a new more → PutLeft old pending all new more others
 left_more old now new pending waits more all left a others l parts step = record {
@@ -173,9 +138,6 @@ left_more old now new pending waits more all left a others l parts step = record
       step whole (others ++ rest) (subst (λ (x : List Piece). Wrote whole now waits x) (append_assoc a others rest) (subst (λ (x : List Piece). Wrote whole now waits (x ++ rest)) parts (l.puts whole rest w)));
   plain = (plain_append a others (subst ArePlainPieces parts l.plain)).1;
 }
-
-pub left_none : (old now : Option (List ℕ)) (pending waits : List ℕ) (all left : List Piece) → PutLeft old pending all now waits left → left ≡ [] → Puts old pending all now waits
-left_none old now pending waits all left l none whole rest w = subst (λ (x : List Piece). Wrote whole now waits (x ++ rest)) none (l.puts whole rest w)
 
 -- ---- labels
 
@@ -187,10 +149,6 @@ pub some_local : (label : List ℕ) (form size : ℕ) (old new : Option (List �
 some_local [] form size old new some grows text is = absurd (some refl)
 some_local (byte ∷ label) form size old new some grows text is =
     grows text is ∙ ap (λ (l : List ℕ). limited (text ++ l)) (sym (one_text (Label false (byte ∷ label) (min size 0xFFFF) form 0)))
-
-pub label_record : (label : List ℕ) (form size : ℕ) → IsLabelText label → label ≢ [] → form < 2 ^ 8 → IsRecord written_layout (Label false label (min size 0xFFFF) form 0)
-label_record [] form size is some fits = absurd (some refl)
-label_record (byte ∷ label) form size is some fits = ((is.0, is.1), (omega arith, fits, omega arith))
 
 pub both_grow : (old one two : Option (List ℕ)) (a b c : List Record) → Grows old one (records_text a) → Grows one two (records_text b) → a ≡ c → Grows old two (records_text (c ++ b))
 both_grow old one two a b c first second same text is =

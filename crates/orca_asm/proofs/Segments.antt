@@ -1,18 +1,12 @@
 -- Changes of the segment that is open.
-use Rattle.std.proofs.Common.{◌≡◌, ℕ, ◌+◌, ◌-◌, min, List, [], ◌∷◌, ◌++◌, length, Option, Some, None, refl, sym, ap, subst, ◌∙◌, append_assoc, append-nil, arith}
+use Rattle.std.proofs.Common.{◌≡◌, ℕ, ◌+◌, List, [], ◌∷◌, ◌++◌, None, sym, ap, subst, ◌∙◌, append_assoc, append-nil, arith}
 use Rattle.std.specs.Prelude.{Result, Ok, Err, OnOk, IfOk}
 use Rattle.omf_format.specs.Record.{Record}
 use Rattle.link_meaning.specs.Sizes.{size_at}
-use Rattle.macro_meaning.specs.Symbol.{with_name}
 use Rattle.asm_meaning.specs.Pieces.{place_behind, length_at}
-use Rattle.asm_meaning.specs.PieceLaws.{place_behind-append}
-use Rattle.asm_meaning.specs.State.{Segment, cells_of, with_label, local_of, grown, marked}
-use Rattle.orca_asm.specs.declared.body.Body.{Body}
-use Rattle.orca_asm.specs.declared.names.Names.{Names}
+use Rattle.asm_meaning.specs.State.{Segment, cells_of, with_label, local_of, marked}
 use Rattle.orca_asm.specs.declared.segment.Open.{Open}
-use Rattle.orca_asm.specs.NamesView.{names_of}
-use Rattle.orca_asm.specs.BodyView.{ShowsBody}
-use Rattle.orca_asm.specs.StateView.{ShowsSegment, named, with_records, labelled}
+use Rattle.orca_asm.specs.StateView.{ShowsSegment, with_records, labelled}
 
 no_more : (s : Segment) → with_records [] s ≡ s
 no_more s = ap (λ (b : List Record). record s { body = b }) (append-nil s.body)
@@ -20,22 +14,6 @@ no_more s = ap (λ (b : List Record). record s { body = b }) (append-nil s.body)
 -- nothing more
 pub no_records_more : (s : Segment) (o : Open) → ShowsSegment s o → ShowsSegment (with_records [] s) o
 no_records_more s o shows = subst (λ (t : Segment). ShowsSegment t o) (sym (no_more s)) shows
-
--- no label
-pub no_label : (label : List ℕ) (value : Option ℕ) (s : Segment) (o : Open) → label ≡ [] → ShowsSegment s o → ShowsSegment (named label value s) o
-no_label label value s o none shows = subst (λ (l : List ℕ). ShowsSegment (named l value s) o) (sym none) shows
-
-no_local : (label : List ℕ) (form size : ℕ) (s : Segment) (o : Open) → label ≡ [] → ShowsSegment s o → ShowsSegment (with_records (local_of label form size) s) o
-no_local label form size s o none shows = subst (λ (l : List ℕ). ShowsSegment (with_records (local_of l form size) s) o) (sym none) (no_records_more s o shows)
-
--- LOCAL gives no cells
-local_cells : (at : ℕ) (label : List ℕ) (form size : ℕ) → place_behind at (local_of label form size) ≡ at
-unfolding place_behind
-local_cells at [] form size = refl
-local_cells at (byte ∷ label) form size = omega arith
-
-pub cells_labelled : (label : List ℕ) (form size : ℕ) (s : Segment) → cells_of (labelled label form size s) ≡ cells_of s
-cells_labelled label form size s = place_behind-append 0 s.body (local_of label form size) ∙ local_cells (cells_of s) label form size
 
 -- the length of one record, and of none
 pub length_at-one : (at : ℕ) (r : Record) → length_at at (r ∷ []) ≡ size_at at r

@@ -1,12 +1,12 @@
 -- What a formula of one term amounts to.
-use Rattle.std.proofs.Common.{◌≡◌, ℕ, ◌+◌, Bool, true, false, cond, eqb, List, [], ◌∷◌, ◌++◌, length, Option, Some, None, Ok, refl, sym, ap, subst, ◌∙◌, arith}
+use Rattle.std.proofs.Common.{◌≡◌, ℕ, ◌+◌, Bool, true, false, cond, eqb, List, [], ◌∷◌, ◌++◌, length, Option, Some, None, Ok, sym, ap, subst, ◌∙◌, arith}
 use Rattle.std.specs.Prelude.{◌&&◌}
 use Rattle.std.proofs.lemmas.List.{length-append}
-use Rattle.omf_format.specs.Expression.{Term, Operator, Location, Constant, Named, Offset, Tree, Leaf, Unary, Binary, IsTree, terms_of, terms_text}
+use Rattle.omf_format.specs.Expression.{Term, Operator, Location, Constant, Named, Offset, Tree, Leaf, Unary, Binary, terms_of, terms_text}
 use Rattle.asm_meaning.specs.Answer.{Answer}
 use Rattle.asm_meaning.specs.Constant as meaning
 use Rattle.asm_meaning.specs.Constant.{Constants, number_or, number_or_open, worth, amount}
-use Rattle.orca_asm.specs.AmountView.{written_term, written_terms, all_written, is_number_term, are_numbers, IsFormulaOf, Kept, Number, Text, kept_answer}
+use Rattle.orca_asm.specs.AmountView.{written_term, written_terms, is_number_term, IsFormulaOf, Kept, Number, Text, kept_answer}
 use Rattle.orca_asm.proofs.Values.{one_written}
 use Rattle.orca_asm.proofs.Written.{amount_open, number_is}
 

@@ -1,12 +1,10 @@
 -- How many cells statements give.
 use Rattle.std.proofs.Common.{◌≡◌, ℕ, zero, suc, ◌+◌, ◌*◌, ◌^◌, ◌<◌, ◌≤◌, min, Bool, true, false, cond, leb, List, [], ◌∷◌, ◌++◌, length, take, map, refl, sym, ap, ◌∙◌, arith}
-use Rattle.std.proofs.Math.Nat.{mul-le-mul_left}
-use Rattle.std.proofs.lemmas.Bool.{leb-true, leb-false}
 use Rattle.std.proofs.lemmas.List.{map-append, length-append}
 use Rattle.std.proofs.lemmas.List.Concat.{flat_map-cons}
 use Rattle.omf_format.specs.Record as record_
-use Rattle.omf_format.specs.Record.{Record, Const, LongConst}
-use Rattle.asm_meaning.specs.PieceLaws.{place_behind-append}
+use Rattle.omf_format.specs.Record.{Const, LongConst}
+use Rattle.asm_meaning.specs.laws.PieceLaws.{place_behind-append}
 use Rattle.asm_meaning.specs.Pieces as meaning
 use Rattle.asm_meaning.specs.Pieces.{constant_records, records_behind, copies, place_behind, length_at}
 use Rattle.std.specs.Global.{Vec}
@@ -121,29 +119,6 @@ cells_operand at n opcode code count distance g expr g_is small is =
 
 -- ---- counting up to a limit
 
-pub product_fits : (n each : ℕ) → n < 2 ^ 32 → each ≤ 0x1000000 → n * each < 2 ^ 64
-product_fits n each small few = let most : n * each ≤ n * 0x1000000 = mul-le-mul_left n few in omega (arith, most, small)
-
-pub product_small : (n each size all : ℕ) → each ≡ min size 0x1000000 → all ≡ n * each → all < 0x1000000 → all ≡ min (n * size) 0x1000000
-product_small zero each size all e is less = omega (arith, e, is, less)
-product_small (suc n) each size all e is less = by_order (leb size 0x1000000) refl
-  where
-    by_order : (b : Bool) → leb size 0x1000000 ≡ b → all ≡ min (suc n * size) 0x1000000
-    by_order true few =
-        let same : each ≡ size = omega (arith, e, leb-true size 0x1000000 few) in
-        let product : all ≡ suc n * size = is ∙ ap (λ (k : ℕ). suc n * k) same in
-        omega (arith, product, less)
-    by_order false many =
-        let most : each ≡ 0x1000000 = omega (arith, e, leb-false size 0x1000000 many) in
-        let product : all ≡ suc n * 0x1000000 = is ∙ ap (λ (k : ℕ). suc n * k) most in
-        absurd (omega (arith, product, less))
-
-pub product_large : (n each size all : ℕ) → each ≡ min size 0x1000000 → all ≡ n * each → 0x1000000 ≤ all → 0x1000000 ≡ min (n * size) 0x1000000
-product_large n each size all e is more =
-    let less : each ≤ size = omega (arith, e) in
-    let most : n * each ≤ n * size = mul-le-mul_left n less in
-    omega (arith, most, is, more)
-
 -- so many cells were counted, and so many are left
 pub record SumLeft (total left all : ℕ) : Type 0 where
   pub sum : min (total + left) 0x1000000 ≡ min all 0x1000000
@@ -154,11 +129,3 @@ sum_starts n = record { sum = omega arith; few = omega arith }
 
 pub sum_more : (total size rest left all one now : ℕ) → SumLeft total left all → left ≡ size + rest → one ≡ min size 0x1000000 → now ≡ min (total + one) 0x1000000 → SumLeft now rest all
 sum_more total size rest left all one now s parts one_is is = record { sum = omega (arith, s.sum, parts, one_is, is); few = omega (arith, is) }
-
-pub pieces_end : (total all : ℕ) (left : List Piece) → SumLeft total (pieces_size left) all → length left ≡ 0 → total ≡ min all 0x1000000
-pieces_end total all [] s none = omega (arith, s.sum, s.few)
-pieces_end total all (p ∷ left) s none = absurd (omega (arith, none))
-
-pub parts_end : (total all : ℕ) (left : List Part) → SumLeft total (parts_size left) all → length left ≡ 0 → total ≡ min all 0x1000000
-parts_end total all [] s none = omega (arith, s.sum, s.few)
-parts_end total all (p ∷ left) s none = absurd (omega (arith, none))

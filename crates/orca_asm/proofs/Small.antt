@@ -1,8 +1,8 @@
 -- The values of known constants have 32 bits.
-use Rattle.std.proofs.Common.{◌≡◌, ℕ, ◌^◌, ◌<◌, List, Option, Some, None, refl}
+use Rattle.std.proofs.Common.{◌≡◌, ℕ, ◌^◌, ◌<◌, List, Option, Some, None}
 use Rattle.std.specs.Prelude.{option_copied}
 use Rattle.std.specs.Option.{option_or}
-use Rattle.asm_meaning.specs.AmountLaws.{AreSmall}
+use Rattle.asm_meaning.specs.laws.AmountLaws.{AreSmall}
 use Rattle.asm_meaning.specs.Statement.{value_in}
 use Rattle.orca_asm.specs.declared.names.Names.{Names}
 use Rattle.orca_asm.specs.declared.names.Outside.{Outside}

@@ -13,7 +13,6 @@ use Rattle.asm_meaning.specs.State.{Segment, Ended, State, start, no_constants, 
 use Rattle.std.specs.Option.{option_map}
 use Rattle.std.proofs.lemmas.List.{length-append}
 use Rattle.asm_meaning.specs.Statement.{equate}
-use Rattle.orca_asm.specs.declared.kept.Kept.{Kept}
 use Rattle.orca_asm.specs.declared.names.Outside.{Outside}
 use Rattle.orca_asm.specs.declared.text.Text.{Text}
 use Rattle.orca_asm.specs.EquateView.{with_constant}

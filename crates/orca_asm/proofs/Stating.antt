@@ -1,38 +1,37 @@
 -- What statements give by their operands.
-use Rattle.std.proofs.Common.{◌≡◌, ◌≢◌, ℕ, suc, ◌<◌, ◌≤◌, max, Bool, true, false, List, [], ◌∷◌, ◌++◌, length, map, Option, Some, None, Ok, Err, refl, sym, ap, subst, ◌∙◌, append-nil, arith}
+use Rattle.std.proofs.Common.{◌≡◌, ℕ, ◌≤◌, Bool, List, [], ◌∷◌, ◌++◌, length, map, Option, Some, None, Ok, Err, refl, sym, ap, subst, ◌∙◌, arith}
 use Rattle.std.specs.Global.{Vec}
-use Rattle.std.specs.List.{AllByRecursion, flat_map}
+use Rattle.std.specs.List.{flat_map}
 use Rattle.std.specs.Prelude.{Result, IfSome}
 use Rattle.std.proofs.lemmas.List.Concat.{flat_map-cons}
-use Rattle.omf_format.specs.Expression.{Tree, Leaf, Unary, Binary, IsTree, AreTerms, Term, terms_of, depth}
+use Rattle.omf_format.specs.Expression.{Tree, Leaf, Unary, Binary, AreTerms, Term}
 use Rattle.omf_format.specs.Expression as expression
 use Rattle.omf_format.specs.Field.{◌>>=◌}
-use Rattle.omf_format.specs.TreeLaws.{tree_has_terms}
+use Rattle.omf_format.specs.laws.TreeLaws.{tree_has_terms}
 use Rattle.orca_meaning.specs.declared.lines.TextCause.{TextCause}
 use Rattle.orca_meaning.specs.declared.lines.TextCause.TheVariants as text_causes
 use Rattle.orca_meaning.specs.declared.lines.TextFault.{TextFault}
 use Rattle.orca_meaning.specs.declared.mnemonics.Mnemonic.{Mnemonic}
 use Rattle.orca_meaning.specs.Formula.{pending}
-use Rattle.orca_meaning.specs.FormulaLaws.{pending-one}
+use Rattle.orca_meaning.specs.laws.FormulaLaws.{pending-one}
 use Rattle.orca_meaning.specs.Operand.{Meaning, IsGoodOperand, IsBadOperand, HasBadNumber, IsRefusedFor}
 use Rattle.orca_text.specs.declared.line.SourceLine.{SourceLine}
 use Rattle.orca_text.specs.declared.operand.Operand.{Operand}
 use Rattle.orca_text.specs.OperandView.{IsRead, IsWritten, IsOperandFault, first_terms, second_terms, line_mnemonic, line_operand}
 use Rattle.asm_meaning.specs.declared.faults.AsmCause.{AsmCause}
 use Rattle.asm_meaning.specs.declared.faults.AsmCause.TheVariants.{BadOperand, BadNumber}
-use Rattle.asm_meaning.specs.Answer.{Answer, all_of}
+use Rattle.asm_meaning.specs.Answer.{Answer}
 use Rattle.asm_meaning.specs.Constant.{Constants}
-use Rattle.asm_meaning.specs.Elements.{Element, IsElementAt, AreElements, IsList, joined, element_pieces, list_pieces}
-use Rattle.asm_meaning.specs.GivenLaws.{IsFineOperand, fine_operand, element-le}
+use Rattle.asm_meaning.specs.Elements.{Element, IsElementAt, AreElements, joined, element_pieces}
+use Rattle.asm_meaning.specs.laws.GivenLaws.{fine_operand}
 use Rattle.asm_meaning.specs.Instruction.{Widths, instruction}
-use Rattle.asm_meaning.specs.InstructionLaws.{AreFineTrees}
-use Rattle.asm_meaning.specs.Pieces as pieces
-use Rattle.asm_meaning.specs.Pieces.{Piece, copies}
+use Rattle.asm_meaning.specs.laws.InstructionLaws.{AreFineTrees}
+use Rattle.asm_meaning.specs.Pieces.{Piece}
 use Rattle.asm_meaning.specs.Statement.{Good, Bad, Large}
-use Rattle.asm_meaning.specs.StatementLaws.{element_once}
+use Rattle.asm_meaning.specs.laws.StatementLaws.{element_once}
 use Rattle.orca_asm.specs.declared.given.Part.{Part}
 use Rattle.orca_asm.specs.Chosen.{AreGoodTrees}
-use Rattle.orca_asm.specs.DcView.{all_or, mapped, part_answer}
+use Rattle.orca_asm.specs.DcView.{all_or}
 use Rattle.orca_asm.specs.GivenBy.{IsByInstruction, IsByList, HasElements}
 use Rattle.orca_asm.specs.GivenView.{part_pieces, parts_answer}
 use Rattle.orca_asm.proofs.Gathering.{AreItems, IsOnce, GathersAll}
@@ -41,9 +40,6 @@ use Rattle.orca_asm.proofs.Gathering.{AreItems, IsOnce, GathersAll}
 
 abbrev given : List Piece → Answer (List Piece)
 given p = Ok p
-
-pub once : (p : List Piece) → flat_map (λ (x : List Piece). copies 1 x) (p ∷ []) ≡ p
-once p = flat_map-cons (λ (x : List Piece). copies 1 x) p [] ∙ append-nil (copies 1 p) ∙ append-nil p
 
 depth-le : (t : Tree) → pending 1 t ≤ pending 2 t
 depth-le (Leaf (expression.Operator code)) = omega arith
@@ -73,9 +69,6 @@ second_fine : (trees : List Tree) → AreGoodTrees trees → IsSecond (second_te
 second_fine [] good = tt
 second_fine (t ∷ []) good = tt
 second_fine (s ∷ d ∷ trees) good = tree_has_terms 0 d good.1.0.0
-
-abbrev with_mnemonic : Mnemonic → Option Mnemonic
-with_mnemonic m = Some m
 
 good_for : (w : Widths) (line : SourceLine) (m : Mnemonic) (o : Operand) → line_mnemonic line ≡ Some m → length (line_operand line) ≤ 255 → (r : IsRead (line_mnemonic line) (line_operand line) o) → IsGoodOperand (Some m) (line_operand line) r.meaning
 good_for w line m o is short r = subst (λ (x : Option Mnemonic). IsGoodOperand x (line_operand line) r.meaning) is r.good
@@ -111,12 +104,6 @@ bad_number cs w line m fault is f cause =
     let large : HasBadNumber (Some m) (line_operand line) =
     subst (λ (x : Option Mnemonic). HasBadNumber x (line_operand line)) is (subst (λ (c : TextCause). IsRefusedFor c (line_mnemonic line) (line_operand line)) cause f.cause_is) in
     record { operand = Err BadNumber; is = Large large refl; gives = refl }
-
-pub no_line : (line : SourceLine) (fault : TextFault) → IsOperandFault line fault → fault.cause ≡ text_causes.LineTooLong → ⊥
-no_line line fault f cause = subst (λ (c : TextCause). IsRefusedFor c (line_mnemonic line) (line_operand line)) cause f.cause_is
-
-pub no_count : (line : SourceLine) (fault : TextFault) → IsOperandFault line fault → fault.cause ≡ text_causes.TooManyLines → ⊥
-no_count line fault f cause = subst (λ (c : TextCause). IsRefusedFor c (line_mnemonic line) (line_operand line)) cause f.cause_is
 
 -- ---- elements that commas part
 

@@ -1,6 +1,5 @@
 -- What a line leaves, or its first fault.
-use Rattle.std.proofs.Common.{◌≡◌, ℕ, Bool, true, false, cond, List, [], ◌∷◌, Option, Some, None, Result, Ok, Err, refl, sym, ap, subst, ◌∙◌}
-use Rattle.omf_format.specs.Field.{◌>>=◌}
+use Rattle.std.proofs.Common.{◌≡◌, ℕ, Bool, true, false, List, [], ◌∷◌, Option, Some, None, Result, Ok, Err, refl, sym, subst}
 use Rattle.orca_meaning.specs.declared.mnemonics.Mnemonic.{Mnemonic}
 use Rattle.orca_meaning.specs.Line.{Line, part}
 use Rattle.std.specs.Prelude.{is_some}
@@ -12,21 +11,14 @@ use Rattle.asm_meaning.specs.declared.directives.Directive.TheVariants as direct
 use Rattle.asm_meaning.specs.declared.directives.Operation.{Operation}
 use Rattle.asm_meaning.specs.declared.directives.Operation.TheVariants.{Instruct, Direct}
 use Rattle.asm_meaning.specs.declared.faults.AsmCause.{AsmCause}
-use Rattle.asm_meaning.specs.declared.faults.AsmCause.TheVariants.{UnknownOperation, OutsideSegment, SegmentTooLong}
 use Rattle.asm_meaning.specs.Answer.{Answer}
 use Rattle.asm_meaning.specs.Operations.{operation_of, directives}
-use Rattle.asm_meaning.specs.State.{State, Segment, within_length, is_too_long}
-use Rattle.asm_meaning.specs.Statement.{IsDone, IsKnown, IsPlaced, IsStep, label_of, is_misplaced, equating, equating_outside, equating_global}
+use Rattle.asm_meaning.specs.State.{State, Segment}
+use Rattle.asm_meaning.specs.Statement.{IsDone, IsKnown, IsPlaced, IsStep, label_of, is_misplaced, equating, equating_global}
 use Rattle.orca_asm.specs.declared.kept.Kept.{Kept}
 use Rattle.orca_asm.specs.DoingView.{IsEquated, IsConstant}
-use Rattle.orca_asm.specs.StateView.{ShowsState, ShowsOption, Leaves, IsLeft}
+use Rattle.orca_asm.specs.StateView.{Leaves, IsLeft}
 use Rattle.orca_asm.specs.StepView.{IsJudged, IsPlacedAs, Steps}
-
-abbrev fault : AsmCause → Answer State
-fault cause = Err cause
-
-abbrev state_ok : State → Answer State
-state_ok s = Ok s
 
 -- ---- EQU and GEQU
 
@@ -82,35 +74,10 @@ instruct_is (byte ∷ text) m e = by_mnemonic (mnemonic_of (byte ∷ text)) (bes
 
 -- ---- the length
 
-pub judged_ok : {U : Type 0} (state : State) (line : Line) (operation : Operation) (label : Answer (List ℕ)) (text : List ℕ) (u : U) (k : Kept) (long : Bool) → IsLeft {U = U} state line operation label text (Ok u) k
-    → ((s : State) → ShowsState s k → long ≡ is_too_long s.segment) → long ≡ false → IsPlacedAs {U = U} state line operation label text (Ok u) k
-judged_ok state line operation label text u k long is test short =
-    let next = is.leaves.0 in
-    (next, (is.left, is.is, sym (ap (λ (a : Answer State). a >>= within_length) is.leaves.1 ∙ ap (λ (b : Bool). cond b (fault SegmentTooLong) (Ok next)) (sym (test next is.leaves.2) ∙ short))), is.leaves.2)
-
-pub judged_long : {U : Type 0} (state : State) (line : Line) (operation : Operation) (label : Answer (List ℕ)) (text : List ℕ) (u : U) (k : Kept) (long : Bool) → IsLeft {U = U} state line operation label text (Ok u) k
-    → ((s : State) → ShowsState s k → long ≡ is_too_long s.segment) → long ≡ true → IsJudged state line operation label text (fault SegmentTooLong)
-judged_long state line operation label text u k long is test many =
-    let next = is.leaves.0 in
-    (is.left, is.is, sym (ap (λ (a : Answer State). a >>= within_length) is.leaves.1 ∙ ap (λ (b : Bool). cond b (fault SegmentTooLong) (Ok next)) (sym (test next is.leaves.2) ∙ many)))
-
-pub judged_bad : {U : Type 0} (state : State) (line : Line) (operation : Operation) (label : Answer (List ℕ)) (text : List ℕ) (cause : AsmCause) (k : Kept) → IsLeft {U = U} state line operation label text (Err cause) k
-    → IsJudged state line operation label text (fault cause)
-judged_bad state line operation label text cause k is = (is.left, is.is, sym is.leaves)
-
 -- ---- lines
 
 abbrev at_step : State → Line → Option Operation → Answer State → Type 0
 at_step state line o answer = IsKnown state line o (part line.text line.fields.label) (part line.text line.fields.operand) answer
-
-pub unknown_step : (state : State) (line : Line) → operation_of (part line.text line.fields.operation) ≡ None → IsStep state line (fault UnknownOperation)
-unknown_step state line none = subst (λ (o : Option Operation). at_step state line o (fault UnknownOperation)) (sym none) refl
-
-pub misplaced_step : (state : State) (line : Line) (operation : Operation) → operation_of (part line.text line.fields.operation) ≡ Some operation
-    → is_misplaced state.segment operation (part line.text line.fields.label) (part line.text line.fields.operand) ≡ true → IsStep state line (fault OutsideSegment)
-misplaced_step state line operation is wrong =
-    subst (λ (o : Option Operation). at_step state line o (fault OutsideSegment)) (sym is)
-    (subst (λ (b : Bool). IsPlaced state line operation (part line.text line.fields.label) (part line.text line.fields.operand) b (fault OutsideSegment)) (sym wrong) refl)
 
 judged_step : (state : State) (line : Line) (operation : Operation) (label : Answer (List ℕ)) (answer : Answer State) → operation_of (part line.text line.fields.operation) ≡ Some operation
     → is_misplaced state.segment operation (part line.text line.fields.label) (part line.text line.fields.operand) ≡ false → label ≡ label_of state operation (part line.text line.fields.label)

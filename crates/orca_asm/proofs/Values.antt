@@ -77,9 +77,6 @@ same_two code r s v w (IsDivided p q) (IsNumber b p' q') =
 same_two code r s v w (IsDivided p q) (IsDivided p' q') =
     IsDivided (ap (λ (x : Result Value ValueFault). two code x s) p) (ap (λ (x : Worth). worth_of_two code x w) q ∙ ap (worth_of_two code Divided) q')
 
-test : Constants → Term → Bool
-test constants t = is_number_term (written_term constants t)
-
 pub numbers_append : (constants : Constants) (a b : List Term) → are_numbers constants (a ++ b) ≡ (are_numbers constants a && are_numbers constants b)
 numbers_append constants a b = list_all-append (λ t. is_number_term (written_term constants t)) a b
 

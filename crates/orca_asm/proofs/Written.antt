@@ -5,10 +5,10 @@ use Rattle.std.proofs.lemmas.List.{map-append}
 use Rattle.omf_format.specs.Expression.{Term, Operator, Location, Constant, Named, Offset, Tree, Leaf, Unary, Binary, IsTree, IsTerm, AreTerms, terms_of, terms_text, depth, Spells}
 use Rattle.omf_format.specs.Value.{value}
 use Rattle.orca_meaning.specs.Formula.{placed}
-use Rattle.orca_meaning.specs.FormulaLaws.{pending-one}
+use Rattle.orca_meaning.specs.laws.FormulaLaws.{pending-one}
 use Rattle.asm_meaning.specs.declared.faults.AsmCause.TheVariants.{DivideByZero}
 use Rattle.asm_meaning.specs.Answer.{Answer}
-use Rattle.asm_meaning.specs.AmountLaws.{pending-with_values}
+use Rattle.asm_meaning.specs.laws.AmountLaws.{pending-with_values}
 use Rattle.asm_meaning.specs.Constant as meaning
 use Rattle.asm_meaning.specs.Constant.{Constants, number_or, with_values, worth, amount, amount_by}
 use Rattle.orca_asm.specs.AmountView.{written_term, written_terms, with_terms, all_written, is_number_term, are_numbers, worth_of_value, nowhere, placed_by, IsFormulaOf, Kept, Number, Text, kept_answer}

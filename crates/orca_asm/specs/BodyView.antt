@@ -1,5 +1,5 @@
 -- How the records of a segment are kept.
-use Rattle.std.specs.Prelude.{◌≡◌, ℕ, List}
+use Rattle.std.specs.Prelude.{◌≡◌, List}
 use Rattle.omf_format.specs.Record.{Record}
 use Rattle.asm_meaning.specs.Object.{records_text}
 use Rattle.asm_meaning.specs.Pieces.{place_behind}

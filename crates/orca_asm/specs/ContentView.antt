@@ -1,5 +1,5 @@
 -- What a directive gives besides the LOCAL of its label.
-use Rattle.std.specs.Prelude.{ℕ, ◌≤◌, ◌<◌, ◌^◌, List, [], ◌∷◌, length}
+use Rattle.std.specs.Prelude.{◌≤◌, ◌<◌, ◌^◌, List, [], ◌∷◌, length}
 use Rattle.omf_format.specs.Record as format
 use Rattle.omf_format.specs.Record.{Record}
 use Rattle.orca_asm.specs.declared.segment.Content.{Content}

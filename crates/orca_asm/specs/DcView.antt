@@ -1,5 +1,5 @@
 -- What is read of DC's operand, as it is kept.
-use Rattle.std.specs.Prelude.{◌≡◌, ◌≤◌, ℕ, Bool, List, [], ◌∷◌, ◌++◌, length, map, Option, Some, None, Result, Ok, Err}
+use Rattle.std.specs.Prelude.{◌≡◌, ◌≤◌, ℕ, Bool, List, [], ◌∷◌, ◌++◌, length, Option, Some, None, Result, Ok, Err}
 use Rattle.omf_format.specs.Field.{◌>>=◌}
 use Rattle.omf_format.specs.Expression.{Term, Tree, terms_of}
 use Rattle.orca_meaning.specs.declared.operators.Operands.TheVariants.{Labels}
@@ -11,7 +11,7 @@ use Rattle.asm_meaning.specs.declared.faults.AsmCause.TheVariants.{BadNumber}
 use Rattle.asm_meaning.specs.Answer.{Answer, both, earlier, all_of}
 use Rattle.asm_meaning.specs.Constant.{Constants}
 use Rattle.asm_meaning.specs.Elements as meaning
-use Rattle.asm_meaning.specs.Elements.{Repeat, Digits, Value, Element, IsRepeatAt, IsValueAt, IsElementAt, AreElements, in_range, count_of, numbered, value_pieces, element_pieces, list_pieces}
+use Rattle.asm_meaning.specs.Elements.{Repeat, Digits, Value, Element, IsRepeatAt, IsValueAt, IsElementAt, in_range, count_of, numbered, value_pieces, element_pieces}
 use Rattle.asm_meaning.specs.Formulas.{AreFormulas, number_of}
 use Rattle.asm_meaning.specs.Pieces.{Piece, copies}
 use Rattle.orca_asm.specs.declared.given.Part.{Part}

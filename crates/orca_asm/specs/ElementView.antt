@@ -21,8 +21,4 @@ with_bytes (byte ∷ bytes) found = meaning.with_byte byte (with_bytes bytes fou
 -- the numbers of I and A have at most four bytes
 abbrev pub HasWidth : ElementKind → Type 0
 HasWidth (Number width) = width ≤ 4
-HasWidth Hexadecimal = Unit {0}
-HasWidth Binary = Unit {0}
-HasWidth Characters = Unit {0}
-HasWidth References = Unit {0}
-HasWidth WeakReferences = Unit {0}
+HasWidth _ = Unit {0}

@@ -1,5 +1,5 @@
 -- Amounts whose expressions can be written.
-use Rattle.std.specs.Prelude.{◌≡◌, ℕ, ◌≤◌}
+use Rattle.std.specs.Prelude.{◌≡◌, ◌≤◌}
 use Rattle.omf_format.specs.Expression.{Tree, IsTree, depth, terms_of, terms_text}
 use Rattle.orca_asm.specs.declared.amount.Amount.{Amount}
 use Rattle.orca_asm.specs.declared.amount.Amount.TheVariants as amounts

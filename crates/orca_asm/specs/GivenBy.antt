@@ -1,5 +1,5 @@
 -- What the operands of instructions and of DC give.
-use Rattle.std.specs.Prelude.{◌≡◌, ℕ, Bool, List, Option, Ok}
+use Rattle.std.specs.Prelude.{◌≡◌, ℕ, Bool, List, Option}
 use Rattle.omf_format.specs.Field.{◌>>=◌}
 use Rattle.orca_meaning.specs.declared.mnemonics.Mnemonic.{Mnemonic}
 use Rattle.orca_meaning.specs.Operand.{Meaning}

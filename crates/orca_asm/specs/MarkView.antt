@@ -3,7 +3,7 @@ use Rattle.std.specs.Prelude.{ℕ, List, Result, Ok, Err}
 use Rattle.omf_format.specs.Field.{◌>>=◌}
 use Rattle.asm_meaning.specs.declared.faults.AsmCause.{AsmCause}
 use Rattle.asm_meaning.specs.Answer.{Answer}
-use Rattle.asm_meaning.specs.PieceLaws.{ArePlainPieces}
+use Rattle.asm_meaning.specs.laws.PieceLaws.{ArePlainPieces}
 use Rattle.asm_meaning.specs.Pieces.{records_of}
 use Rattle.asm_meaning.specs.State.{State}
 use Rattle.asm_meaning.specs.Statement.{marking}

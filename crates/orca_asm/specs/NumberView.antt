@@ -1,5 +1,5 @@
 -- What the formula of an operand is.
-use Rattle.std.specs.Prelude.{◌≡◌, ℕ, List, Option, Some, Result, Ok, Err}
+use Rattle.std.specs.Prelude.{◌≡◌, ℕ, List, Option, Result, Ok, Err}
 use Rattle.omf_format.specs.Field.{◌>>=◌}
 use Rattle.omf_format.specs.Expression.{Term, Tree}
 use Rattle.asm_meaning.specs.declared.faults.AsmCause.{AsmCause}

@@ -1,5 +1,5 @@
 -- How what lines leave is kept: the bytes of records in place of records, and maps in place of the names and constants.
-use Rattle.std.specs.Prelude.{◌≡◌, ℕ, ◌+◌, ◌%◌, ◌≤◌, List, [], ◌∷◌, ◌++◌, length, min, Option, Some, None, Result, Ok, Err}
+use Rattle.std.specs.Prelude.{◌≡◌, ℕ, ◌+◌, ◌%◌, ◌≤◌, List, ◌++◌, length, Option, Some, None, Result, Ok, Err}
 use Rattle.omf_format.specs.Header.{Fields}
 use Rattle.omf_format.specs.Record.{Record}
 use Rattle.asm_meaning.specs.Answer.{Answer}
@@ -11,7 +11,6 @@ use Rattle.orca_meaning.specs.Line.{Line}
 use Rattle.asm_meaning.specs.declared.directives.Operation.{Operation}
 use Rattle.asm_meaning.specs.State.{Segment, State, bank_size_of, with_label, local_of, within_length}
 use Rattle.asm_meaning.specs.Statement.{IsDone}
-use Rattle.orca_asm.specs.declared.body.Body.{Body}
 use Rattle.orca_asm.specs.declared.segment.Open.{Open}
 use Rattle.orca_asm.specs.declared.kept.Kept.{Kept}
 use Rattle.orca_asm.specs.ModeView.{widths}

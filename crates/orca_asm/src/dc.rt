@@ -12,7 +12,7 @@ ghost use Rattle.orca_asm.specs.DcView.{HasValue, HasNoValue, HasElement, repeat
 ghost use Rattle.orca_asm.specs.ElementView.{element_kind, HasWidth};
 ghost use Rattle.orca_asm.specs.NamesView.{constants};
 ghost use Rattle.orca_asm.specs.PieceView.{piece, pieces_answer};
-ghost use Rattle.asm_meaning.specs.GivenLaws.{IsNameLength};
+ghost use Rattle.asm_meaning.specs.laws.GivenLaws.{IsNameLength};
 ghost use Rattle.std.specs.List.{AllByRecursion};
 
 use crate::causes::earlier;

@@ -17,7 +17,6 @@ mod element;
 mod ending;
 mod equate;
 mod few;
-mod gap;
 mod gather;
 mod given;
 mod held;

@@ -5,7 +5,7 @@ ghost use Rattle.orca_meaning.specs.Line.{Line, LiesIn};
 ghost use Rattle.orca_text.specs.OperandView.{line_mnemonic, line_operand};
 ghost use Rattle.asm_meaning.specs.declared.directives.Operation.TheVariants.{Instruct, Direct};
 ghost use Rattle.asm_meaning.specs.declared.directives.Directive.TheVariants.{Constants};
-ghost use Rattle.asm_meaning.specs.Sound.{IsLabelText};
+ghost use Rattle.asm_meaning.specs.laws.Sound.{IsLabelText};
 ghost use Rattle.asm_meaning.specs.State.{State};
 ghost use Rattle.orca_asm.specs.GivenView.{given_pieces};
 ghost use Rattle.orca_asm.specs.MarkView.{giving, IsPlainAnswer};
@@ -26,7 +26,7 @@ const TOO_MANY: u32 = 0x100_0000;
 impl Open {
     ghost use Rattle.std.specs.Prelude.{◌<◌, ◌^◌, min};
     ghost use Rattle.asm_meaning.specs.Pieces.{length_at};
-    ghost use Rattle.asm_meaning.specs.PieceLaws.{ArePlainPieces};
+    ghost use Rattle.asm_meaning.specs.laws.PieceLaws.{ArePlainPieces};
     ghost use Rattle.asm_meaning.specs.State.{Segment, marked};
     ghost use Rattle.orca_asm.specs.GivenView.{given_records};
     ghost use Rattle.orca_asm.specs.StateView.{ShowsSegment};
@@ -58,7 +58,7 @@ impl Open {
 }
 
 impl Kept {
-    ghost use Rattle.asm_meaning.specs.PieceLaws.{ArePlainPieces};
+    ghost use Rattle.asm_meaning.specs.laws.PieceLaws.{ArePlainPieces};
     ghost use Rattle.asm_meaning.specs.State.{in_segment, marked};
     ghost use Rattle.orca_asm.specs.GivenView.{given_records};
     ghost use Rattle.std.specs.Prelude.{Ok};

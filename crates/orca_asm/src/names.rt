@@ -33,7 +33,7 @@ impl Names {
     ghost use Rattle.std.specs.Prelude.{◌≡◌, [], length, bytes_eq, None, IfOk, OnOk, MatchOption, is_some, option_copied};
     ghost use Rattle.macro_meaning.specs.Symbol.{with_name};
     ghost use Rattle.asm_meaning.specs.State.{no_names, no_constants};
-    ghost use Rattle.asm_meaning.specs.AmountLaws.{AreSmall};
+    ghost use Rattle.asm_meaning.specs.laws.AmountLaws.{AreSmall};
     ghost use Rattle.orca_asm.specs.NamesView.{names_of, outside_of, constants, value_in_names};
 
     /// None.
@@ -90,7 +90,7 @@ impl Outside {
     ghost use Rattle.std.specs.Prelude.{◌≡◌, [], length, bytes_eq, None, IfOk, OnOk, MatchOption, is_some, option_copied};
     ghost use Rattle.macro_meaning.specs.Symbol.{with_name};
     ghost use Rattle.asm_meaning.specs.State.{no_names, no_constants};
-    ghost use Rattle.asm_meaning.specs.AmountLaws.{AreSmall};
+    ghost use Rattle.asm_meaning.specs.laws.AmountLaws.{AreSmall};
     ghost use Rattle.orca_asm.specs.NamesView.{names_of, outside_of, constants, value_in_names};
 
     /// None.
@@ -125,7 +125,7 @@ impl<'a> Known<'a> {
     ghost use Rattle.std.specs.Prelude.{◌≡◌, [], length, bytes_eq, None, IfOk, OnOk, MatchOption, is_some, option_copied};
     ghost use Rattle.macro_meaning.specs.Symbol.{with_name};
     ghost use Rattle.asm_meaning.specs.State.{no_names, no_constants};
-    ghost use Rattle.asm_meaning.specs.AmountLaws.{AreSmall};
+    ghost use Rattle.asm_meaning.specs.laws.AmountLaws.{AreSmall};
     ghost use Rattle.orca_asm.specs.NamesView.{names_of, outside_of, constants, value_in_names};
 
     /// The value of a name in the open segment.

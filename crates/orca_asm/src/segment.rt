@@ -4,10 +4,9 @@ ghost use Rattle.std.specs.Prelude.{◌≡◌, true};
 ghost use Rattle.omf_format.specs.Header.{is_listed, form_of};
 
 use crate::body::Body;
-use crate::gap::padding;
 use crate::names::Names;
 use asm_meaning::Class;
-use omf_base::Name;
+use omf_base::{Name, padding};
 use omf_records::Rec;
 use std::alloc::{AllocError, Global};
 
@@ -158,7 +157,7 @@ impl Open {
             Content::Using(name) => self.give_record(alloc, label, &Rec::Using { name }, 0),
             Content::Space(n) => self.give_record(alloc, label, &Rec::Space { n }, u64::from(n)),
             Content::Align(n) => {
-                let size = padding(n, self.body.cells);
+                let size = u64::from(padding(n, self.body.cells as u32));
                 self.give_record(alloc, label, &Rec::Align { n }, size)
             }
             Content::Org(n) => self.give_record(alloc, label, &Rec::Org { n }, u64::from(n)),

@@ -1,7 +1,7 @@
 -- No line has want of memory as its fault.
-use Rattle.std.proofs.Common.{◌≡◌, ℕ, zero, suc, ◌+◌, Bool, true, false, cond, eqb, ltb, ℤ, pos, negsuc, List, [], ◌∷◌, ◌++◌, length, Option, Some, None, refl, sym, ap, subst, ◌∙◌}
+use Rattle.std.proofs.Common.{◌≡◌, ℕ, zero, suc, ◌+◌, Bool, true, false, cond, eqb, ltb, ℤ, pos, negsuc, List, [], ◌∷◌, ◌++◌, length, Option, Some, None, refl, sym, subst}
 use Rattle.std.specs.Prelude.{not, slice_get, int_le, Result, Ok, Err}
-use Rattle.std.specs.List.{list_all, list_any}
+use Rattle.std.specs.List.{list_all}
 use Rattle.omf_format.specs.declared.value.Value.{Value}
 use Rattle.omf_format.specs.declared.value.Value.TheVariants.{Fixed, At}
 use Rattle.omf_format.specs.declared.value.ValueFault.{ValueFault}
@@ -21,13 +21,13 @@ use Rattle.macro_meaning.specs.declared.statements.Statement.{Statement}
 use Rattle.macro_meaning.specs.declared.statements.Statement.TheVariants.{Declare, Set, Middle, BranchIf, Branch, Count, Nothing, Leave, Note, Define}
 use Rattle.macro_meaning.specs.Call.{bound, names_count}
 use Rattle.macro_meaning.specs.Condition.{Answer, answer_of, number_of, environment, is_declared, IsNumber, Formula, NoFormula, IsCondition, IsConditionBy, comparison}
-use Rattle.macro_meaning.specs.Deed.{Deed, Rests, Gives, Declares, Sets, Goes, Counts, Leaves, Calls, Fails, Setting, earlier, both, or_bad, again, first_time, or_deed, declaring, of_kind, settable, set_to, setting, printed_answer, middle_from, middle_of, go_if, going, going_to, counting, noted, noting, IsBranchIf, IsMiddle, IsNote, IsSetting, IsDone, resting, called, calling, calling_if, calling_at, IsDoneBy, operation_or_anop, IsAfterCut, cut, IsAfterText, begins_definition, IsShort, IsWithTexts, shown, IsWritten, IsDeed}
-use Rattle.macro_meaning.specs.Definition.{Definition, Part, Plain, Closed, Open, Model, model_of, model_fault, part_fault, first_part_fault, parts_of, or_else, first_named, counts}
-use Rattle.macro_meaning.specs.Expansion.{fault_at, line_fault_of, file_parts, file_part_fault, first_in, first_of_files, next_file, HasVisits, StopsAt}
+use Rattle.macro_meaning.specs.Deed.{Deed, Rests, Gives, Declares, Sets, Goes, Counts, Leaves, Calls, Fails, Setting, earlier, both, or_bad, again, first_time, or_deed, declaring, of_kind, settable, set_to, setting, printed_answer, middle_from, middle_of, going, going_to, counting, noting, IsBranchIf, IsMiddle, IsNote, IsSetting, IsDone, resting, called, calling_if, calling_at, IsDoneBy, operation_or_anop, IsAfterCut, cut, IsAfterText, begins_definition, IsShort, IsWithTexts, shown, IsWritten, IsDeed}
+use Rattle.macro_meaning.specs.Definition.{Definition, Part, Plain, Closed, Open, Model, model_of, model_fault, part_fault, first_part_fault, or_else, first_named, counts}
+use Rattle.macro_meaning.specs.Expansion.{line_fault_of, file_parts, file_part_fault, first_in, first_of_files, next_file, StopsAt}
 use Rattle.macro_meaning.specs.Pieces.{pieces, quoted, joined}
 use Rattle.macro_meaning.specs.Statements.{symbol_name, target_name}
 use Rattle.macro_meaning.specs.Symbol.{Symbol, Symbols, Values, is_count, kind_of, declaration_of, is_kind, is_declaration}
-use Rattle.macro_meaning.specs.Visit.{Program, Visit, Move, On, Ends, Stops, IsVisitOf, IsVisitAt, IsVisit, Follow, line_at, if_line, onward, resumed, returned, next_line, branch_to, target_of, body_of, call_of, move_of, after, setting_of, root_by, most_visits, first_visit}
+use Rattle.macro_meaning.specs.Visit.{Program, Visit, Move, On, Ends, Stops, IsVisitOf, IsVisitAt, IsVisit, Follow, line_at, if_line, onward, resumed, returned, next_line, branch_to, target_of, body_of, call_of, move_of, after, setting_of, most_visits, first_visit}
 
 unfoldable pub is_memory : MacroCause → Bool
 is_memory LineTooLong = false

@@ -13,9 +13,6 @@ front_more a b (Some text) = ap (λ (t : List ℕ). Some t) (append_assoc a b te
 front_end : (a : List ℕ) → with_front a (Some []) ≡ Some a
 front_end a = ap (λ (t : List ℕ). Some t) (append-nil a)
 
-pub front_none : (a : List ℕ) → with_front a None ≡ None
-front_none a = refl
-
 pub front_start : (out : List ℕ) (rest : Option (List ℕ)) → out ≡ [] → with_front out rest ≡ rest
 front_start out None e = refl
 front_start out (Some text) e = ap (λ (o : List ℕ). Some (o ++ text)) e

@@ -10,7 +10,6 @@ use Rattle.orca_meaning.specs.declared.lines.Span.{Span}
 use Rattle.orca_meaning.specs.Characters.{is_blank, folded}
 use Rattle.orca_meaning.specs.Line.{Fields, Line, part, three_fields, is_comment, is_ink, next_blank, next_ink, span}
 use Rattle.macro_meaning.specs.declared.statements.Statement.{Statement}
-use Rattle.macro_meaning.specs.Deed as meaning
 use Rattle.macro_meaning.specs.Deed.{Setting, cut, operation_or_anop, IsDone, IsDoneBy, IsStatement, IsAfterCut, IsAfterText, IsShort, begins_definition, calling_at}
 use Rattle.macro_meaning.specs.Definition.{first_named}
 use Rattle.macro_meaning.specs.Statements.{statement_of, sequence_name}
@@ -61,11 +60,6 @@ operation_order xs = omega arith
 label_from : (xs : List ℕ) → (three_fields xs).label.from ≡ 0
 unfolding three_fields
 label_from xs = refl
-
-label_part : (xs ys : List ℕ) → (three_fields xs).operation.to < length xs → part (xs ++ ys) (three_fields (xs ++ ys)).label ≡ part xs (three_fields xs).label
-label_part xs ys within =
-    ap (part (xs ++ ys)) (same xs ys within).label
-    ∙ part_within (three_fields xs).label xs ys (omega (arith, label_from xs)) (omega (arith, within, label_before xs))
 
 operation_part : (xs ys : List ℕ) → (three_fields xs).operation.to < length xs → part (xs ++ ys) (three_fields (xs ++ ys)).operation ≡ part xs (three_fields xs).operation
 operation_part xs ys within =

@@ -1,19 +1,19 @@
 -- What follows on a visit, by where the code stands.
-use Rattle.std.proofs.Common.{◌≡◌, ◌≢◌, ◌≤◌, ◌<◌, ℕ, zero, suc, ◌+◌, ◌-◌, Bool, true, false, cond, eqb, List, [], ◌∷◌, ◌++◌, length, Option, Some, None, refl, sym, ap, subst, ◌∙◌, arith}
+use Rattle.std.proofs.Common.{◌≡◌, ◌≢◌, ℕ, zero, suc, ◌+◌, ◌-◌, Bool, false, cond, eqb, List, [], ◌∷◌, ◌++◌, length, Option, Some, None, refl, sym, ap, subst, ◌∙◌, arith}
 use Rattle.std.proofs.lemmas.Bool.{ne_eqb}
 use Rattle.std.specs.Prelude.{slice_get}
 use Rattle.orca_meaning.specs.Line.{Line}
-use Rattle.macro_meaning.specs.declared.faults.MacroCause.TheVariants.{NoSequenceSymbol, Counter, TooNested}
+use Rattle.macro_meaning.specs.declared.faults.MacroCause.TheVariants.{Counter, TooNested}
 use Rattle.macro_meaning.specs.declared.statements.Kind.{Kind}
 use Rattle.macro_meaning.specs.declared.statements.Declaration.{Declaration}
 use Rattle.macro_meaning.specs.declared.statements.Declaration.TheVariants.{Local, Shared}
 use Rattle.macro_meaning.specs.Deed as deeds
 use Rattle.macro_meaning.specs.Symbol.{Symbol, Own, Common, Symbols, SharedTexts, with_name, first_text}
-use Rattle.macro_meaning.specs.Visit.{Program, Visit, Move, On, Ends, Stops, line_at, body_of, target_of, if_line, onward, after, returned, next_line, branch_to, call_of, move_of, root_by, shared_first, set_by}
+use Rattle.macro_meaning.specs.Visit.{Program, Visit, Move, On, Stops, line_at, body_of, target_of, if_line, onward, after, returned, next_line, branch_to, call_of, move_of, root_by, shared_first, set_by}
 use Rattle.orca_macro.specs.declared.visits.Outcome.{Outcome}
 use Rattle.orca_macro.specs.declared.visits.Outcome.TheVariants as outcomes
 use Rattle.orca_macro.specs.Changes.{IsDeclared, IsAssigned}
-use Rattle.orca_macro.specs.Stacks.{Frame, HasRoot, Stacks, Stands, MovesTo, IsBack}
+use Rattle.orca_macro.specs.Stacks.{Frame, Stacks, Stands, MovesTo, IsBack}
 
 get_front : (before : List Visit) (place : ℕ) (v w : Visit) → slice_get before place ≡ Some v → slice_get (before ++ w ∷ []) place ≡ Some v
 get_front [] place v w is = absurd cc
@@ -103,18 +103,6 @@ onward_ends program before v f fs texts calls s is =
 target_by : (program : Program) (before : List Visit) (v : Visit) (name : List ℕ) (f : Frame) (fs : List Frame) (texts : SharedTexts) (calls : ℕ) (found : Option ℕ) → Stands before v f fs texts calls
     → found ≡ target_of (body_of program f.macro) name → target_of (body_of program v.macro) name ≡ found
 target_by program before v name f fs texts calls found s is = ap (λ (m : Option ℕ). target_of (body_of program m) name) s.macro ∙ sym is
-
-pub branch_lost : (program : Program) (before : List Visit) (v : Visit) (line : Line) (name : List ℕ) (f : Frame) (fs : List Frame) (texts : SharedTexts) (calls : ℕ) → Stands before v f fs texts calls
-    → None ≡ target_of (body_of program f.macro) name
-    → branch_to v line (target_of (body_of program v.macro) name) ≡ Stops line NoSequenceSymbol
-branch_lost program before v line name f fs texts calls s is = ap (branch_to v line) (target_by program before v name f fs texts calls None s is)
-
-pub branch_spent : (program : Program) (before : List Visit) (v : Visit) (line : Line) (name : List ℕ) (f : Frame) (fs : List Frame) (texts : SharedTexts) (calls place : ℕ) → Stands before v f fs texts calls
-    → Some place ≡ target_of (body_of program f.macro) name → f.counter ≡ 0
-    → branch_to v line (target_of (body_of program v.macro) name) ≡ Stops line Counter
-branch_spent program before v line name f fs texts calls place s is spent =
-    ap (branch_to v line) (target_by program before v name f fs texts calls (Some place) s is)
-    ∙ ap (λ (k : ℕ). cond (eqb k 0) (Stops line Counter) (On (record v { line = place; counter = v.counter - 1 }))) (s.counter ∙ spent)
 
 pub branch_goes : (program : Program) (before : List Visit) (v : Visit) (line : Line) (name : List ℕ) (f : Frame) (fs : List Frame) (texts : SharedTexts) (calls place : ℕ) → Stands before v f fs texts calls
     → Some place ≡ target_of (body_of program f.macro) name → f.counter ≢ 0

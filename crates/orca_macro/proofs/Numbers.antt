@@ -1,5 +1,5 @@
 -- The value of a formula.
-use Rattle.std.proofs.Common.{◌≡◌, ◌≢◌, ◌≤◌, ◌<◌, ℕ, Bool, true, false, not, cond, ltb, eqb, List, [], ◌∷◌, ◌++◌, map, length, Option, Some, None, refl, sym, ap, subst, ◌∙◌, append-nil, arith}
+use Rattle.std.proofs.Common.{◌≡◌, ◌≢◌, ◌≤◌, ◌<◌, ℕ, Bool, true, false, ltb, eqb, List, [], ◌∷◌, ◌++◌, length, refl, sym, ap, subst, ◌∙◌, append-nil, arith}
 use Rattle.std.specs.Prelude.{Result, Ok, Err, IfOk, ◌&&◌}
 use Rattle.std.specs.List.{list_all}
 use Rattle.std.proofs.Common.{◌⊎◌, inl, inr}
@@ -9,16 +9,16 @@ use Rattle.omf_format.specs.declared.value.Value.{Value}
 use Rattle.omf_format.specs.declared.value.ValueFault.{ValueFault}
 use Rattle.omf_format.specs.declared.expression.ExprFault.{ExprFault}
 use Rattle.omf_format.specs.Expression.{Term, Operator, Location, Constant, Named, Offset, Tree, terms_of, terms_text, depth, Spells, Expression, BeginsWith, AreTerms}
-use Rattle.omf_format.specs.TreeLaws.{tree_has_terms}
+use Rattle.omf_format.specs.laws.TreeLaws.{tree_has_terms}
 use Rattle.omf_format.specs.Value.{Environment, value}
 use Rattle.orca_meaning.specs.declared.operators.Operands.TheVariants.{Symbols}
-use Rattle.orca_meaning.specs.Formula.{MeansAt, has_large, pending}
-use Rattle.orca_meaning.specs.FormulaLaws.{formed, one_tree, pending-one}
+use Rattle.orca_meaning.specs.Formula.{MeansAt, has_large}
+use Rattle.orca_meaning.specs.laws.FormulaLaws.{formed, one_tree, pending-one}
 use Rattle.macro_meaning.specs.declared.faults.MacroCause.TheVariants.{NoSuchSymbol, BadSetting}
 use Rattle.macro_meaning.specs.Condition.{Answer, environment, is_declared, number_of, answer_of, IsNumber, Formula, NoFormula}
 use Rattle.macro_meaning.specs.Symbol.{Values}
 use Rattle.orca_text.specs.FormulaAt.{IsFormulaAt, HasNoFormula}
-use Rattle.orca_text.specs.Kept.{kept_term, kept_terms}
+use Rattle.orca_text.specs.Kept.{kept_terms}
 use Rattle.orca_text.specs.Peak.{peak}
 use Rattle.orca_text.proofs.OperandIs.{peak_is, terms_are}
 

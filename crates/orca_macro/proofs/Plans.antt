@@ -3,9 +3,8 @@ use Rattle.std.proofs.Common.{◌≡◌, ◌≤◌, ℕ, zero, suc, Bool, true, 
 use Rattle.std.specs.Prelude.{Result, Ok, Err, IfOk, nat_lt, slice_get, codes}
 use Rattle.std.proofs.lemmas.Bool.{le-ltb, eqb-true}
 use Rattle.orca_meaning.specs.Line.{Fields, Line, part, three_fields, is_comment}
-use Rattle.macro_meaning.specs.declared.faults.MacroCause.TheVariants.{NoSuchSymbol}
 use Rattle.macro_meaning.specs.Deed as meaning
-use Rattle.macro_meaning.specs.Deed.{Setting, IsDone, IsStatement, IsDeed, IsShort, IsAfterText, IsAfterCut, IsWritten, IsWithTexts, begins_definition, cut}
+use Rattle.macro_meaning.specs.Deed.{Setting, IsStatement, IsDeed, IsShort, IsAfterText, IsAfterCut, IsWritten, IsWithTexts, begins_definition, cut}
 use Rattle.macro_meaning.specs.Definition.{operation_is}
 use Rattle.macro_meaning.specs.Statements.{statement_of}
 use Rattle.macro_meaning.specs.Substitution.{naming_at, substituted}
@@ -14,12 +13,10 @@ use Rattle.macro_meaning.specs.Visit.{Program, line_at, body_of}
 use Rattle.macro_meaning.specs.declared.statements.Statement.{Statement}
 use Rattle.orca_macro.specs.Plain.{plain_len}
 use Rattle.orca_macro.specs.Plan.{known, FitsDone, FitsStatement, FitsLine, IsAlways, IsPlain, Fits, FitsAt, HavePlans}
-use Rattle.orca_macro.specs.Template.{HasParts, followed}
 use Rattle.orca_macro.specs.DeedView.{deed}
 use Rattle.orca_macro.specs.declared.deed.Deed.{Deed}
 use Rattle.orca_macro.specs.declared.plan.Known.{Known}
 use Rattle.orca_macro.specs.declared.plan.Plan.{Plan}
-use Rattle.orca_macro.specs.declared.template.Part.{Part}
 use Rattle.orca_macro.proofs.Both.{plain_is, statement_is}
 use Rattle.orca_macro.proofs.Fronts.{plain_text}
 
@@ -45,17 +42,6 @@ plain_does s l text (Ok d) same plain short =
   where
     shown_is : (t : List ℕ) (fields : Fields) → plain_len t ≡ length t → substituted (text_of s.values) (naming_at t fields) 0 0 t ≡ Some t
     shown_is t fields whole = plain_text (text_of s.values) (naming_at t fields) t whole
-
--- a line with its parts
-pub parts_do : {E : Type 0} (s : Setting) (l : Line) (parts : List Part) (text : List ℕ) (r : Result Deed E) → is_comment l.text ≡ false → HasParts l parts → followed (text_of s.values) parts (Some []) ≡ Some text
-    → IfOk r (λ (d : Deed). IsShort s l (nat_lt 255 (length text)) text (deed d)) → IfOk r (λ (d : Deed). IsDeed s l (deed d))
-parts_do s l parts text (Err e) other have filled short = short
-parts_do s l parts text (Ok d) other have filled short =
-    subst (λ (b : Bool). IsWritten s l b (deed d)) (sym other) (subst (λ (o : Option (List ℕ)). IsWithTexts s l o (deed d)) (sym filled ∙ have.is (text_of s.values)) short)
-
-pub parts_fail : (s : Setting) (l : Line) (parts : List Part) → is_comment l.text ≡ false → HasParts l parts → followed (text_of s.values) parts (Some []) ≡ None → IsDeed s l (meaning.Fails NoSuchSymbol)
-parts_fail s l parts other have filled =
-    subst (λ (b : Bool). IsWritten s l b (meaning.Fails NoSuchSymbol)) (sym other) (subst (λ (o : Option (List ℕ)). IsWithTexts s l o (meaning.Fails NoSuchSymbol)) (sym filled ∙ have.is (text_of s.values)) refl)
 
 -- ---- what is known of a line is right
 

@@ -24,10 +24,6 @@ renewed_in name kind text was now old new back found is so = subst (λ (o : Opti
     by_symbol (Own other before) found so = (is ∙ ap (λ (s : Symbol). with_name name s old) so.0, so.1)
     by_symbol (Common other) found so = (is ∙ ap (λ (s : Symbol). with_name name s old) so.0 ∙ with_same name (Common other) old found, so.1)
 
--- none that is there
-pub renewed_none : (name : List ℕ) (kind : Kind) (text : List ℕ) (old new : Symbols) → old name ≡ None → new ≡ old → IsRenewedIn name kind text (old name) old new None
-renewed_none name kind text old new none same = subst (λ (o : Option Symbol). IsRenewedIn name kind text o old new None) (sym none) (same, refl)
-
 -- a setting that hands nothing back
 pub assigned_own : (name : List ℕ) (kind : Kind) (text : List ℕ) (found : Option Symbol) (old new : Symbols) (texts : SharedTexts) → IsRenewedIn name kind text found old new None → IsAssigned name kind text found old new texts texts
 assigned_own name kind text None old new texts is = (is.0, refl)

@@ -1,8 +1,8 @@
 -- What is behind an expansion, by the stack.
-use Rattle.std.proofs.Common.{◌≡◌, ℕ, zero, suc, ◌+◌, List, [], ◌∷◌, ◌++◌, Option, Some, None, refl, sym, ap, subst, ◌∙◌, arith}
+use Rattle.std.proofs.Common.{◌≡◌, ℕ, zero, suc, ◌+◌, List, [], ◌∷◌, Option, Some, None, refl, sym, ap, subst, ◌∙◌}
 use Rattle.std.specs.Prelude.{slice_get}
 use Rattle.orca_meaning.specs.Line.{Line}
-use Rattle.macro_meaning.specs.Visit.{Program, Visit, Move, On, Ends, line_at, resumed, if_line, returned}
+use Rattle.macro_meaning.specs.Visit.{Program, Visit, On, Ends, line_at, resumed, if_line, returned}
 use Rattle.orca_macro.specs.Stacks.{Frame, Stacks, HasRoot, IsBack}
 
 -- an empty stack is the source's

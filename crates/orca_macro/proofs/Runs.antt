@@ -1,5 +1,5 @@
 -- The run of the visits.
-use Rattle.std.proofs.Common.{◌≡◌, ◌≢◌, ◌≤◌, ◌<◌, ℕ, zero, suc, ◌+◌, Bool, true, false, eqb, List, [], ◌∷◌, ◌++◌, length, Option, Some, None, refl, sym, ap, subst, ◌∙◌, arith, append_assoc, append-nil, length-append}
+use Rattle.std.proofs.Common.{◌≡◌, ◌≢◌, ◌≤◌, ℕ, ◌+◌, Bool, true, false, eqb, List, [], ◌∷◌, ◌++◌, length, Option, Some, None, refl, sym, ap, subst, ◌∙◌, arith, append_assoc, append-nil, length-append}
 use Rattle.std.proofs.lemmas.Bool.{eq-eqb, ne_eqb}
 use Rattle.std.specs.Prelude.{◌==◌}
 use Rattle.orca_meaning.specs.Line.{Line}
@@ -7,59 +7,17 @@ use Rattle.macro_meaning.specs.declared.faults.MacroCause.{MacroCause}
 use Rattle.macro_meaning.specs.declared.faults.MacroCause.TheVariants.{TooManyLines}
 use Rattle.macro_meaning.specs.declared.faults.MacroFault.{MacroFault}
 use Rattle.macro_meaning.specs.Call.{no_symbols}
-use Rattle.macro_meaning.specs.Deed.{Deed, Setting, IsDeed}
+use Rattle.macro_meaning.specs.Deed.{Deed, IsDeed}
 use Rattle.macro_meaning.specs.Expansion.{HasVisits, fault_at}
-use Rattle.macro_meaning.specs.Symbol.{Symbols, SharedTexts}
-use Rattle.macro_meaning.specs.Visit.{Program, Visit, Move, On, Ends, Stops, line_at, is_source, root_by, setting_of, given_by, move_of, most_visits, IsVisitOf, IsVisitAt, IsVisit, Follow, no_texts, first_visit}
+use Rattle.macro_meaning.specs.Visit.{Program, Visit, Move, Ends, Stops, line_at, setting_of, given_by, move_of, most_visits, IsVisitOf, IsVisitAt, IsVisit, Follow, no_texts, first_visit}
 use Rattle.orca_macro.specs.declared.frames.State.{State}
 use Rattle.orca_macro.specs.declared.visits.Outcome.TheVariants as outcomes
 use Rattle.orca_macro.specs.Files.{IsStopped}
-use Rattle.orca_macro.specs.Stacks.{Frame, frame, stack_of, HasRoot, Stacks, Stands}
-use Rattle.orca_macro.specs.StateView.{StandsIn, MovesIn, Visited}
+use Rattle.orca_macro.specs.Stacks.{Frame, frame, stack_of, Stacks}
+use Rattle.orca_macro.specs.StateView.{StandsIn, Visited}
 use Rattle.orca_macro.specs.View.{texts_of}
 
 -- ---- where a line stands
-
--- an empty stack is that of the source
-pub root_outside : (before : List Visit) (v : Visit) (f : Frame) (fs : List Frame) (texts : SharedTexts) (calls number : ℕ) → Stands before v f fs texts calls → length fs ≡ 0 → number ≡ root_by v.caller v.root number
-root_outside before v f fs texts calls number s none = by_caller v.depth v.caller fs s.callers none
-  where
-    by_caller : (depth : ℕ) (caller : Option ℕ) (fs : List Frame) → Stacks before depth caller fs → length fs ≡ 0 → number ≡ root_by caller v.root number
-    by_caller zero None [] is none = refl
-    by_caller zero None (g ∷ gs) is none = absurd is
-    by_caller zero (Some place) gs is none = absurd is
-    by_caller (suc depth) None gs is none = absurd is
-    by_caller (suc depth) (Some place) [] is none = absurd is
-    by_caller (suc depth) (Some place) (g ∷ gs) is none = absurd (omega (arith, none))
-
-pub root_inside : (before : List Visit) (v : Visit) (f : Frame) (fs : List Frame) (texts : SharedTexts) (calls number : ℕ) → Stands before v f fs texts calls → length fs ≢ 0 → f.root ≡ root_by v.caller v.root number
-root_inside before v f fs texts calls number s some = by_caller v.depth v.caller fs s.callers s.root some
-  where
-    by_caller : (depth : ℕ) (caller : Option ℕ) (fs : List Frame) → Stacks before depth caller fs → HasRoot caller v.root f.root → length fs ≢ 0 → f.root ≡ root_by caller v.root number
-    by_caller zero None [] is root some = absurd (some refl)
-    by_caller zero None (g ∷ gs) is root some = absurd is
-    by_caller zero (Some place) gs is root some = absurd is
-    by_caller (suc depth) None gs is root some = absurd is
-    by_caller (suc depth) (Some place) gs is root some = sym root
-
-made : Program → ℕ → Bool → Symbols → SharedTexts → ℕ → Setting
-made program root in_source symbols texts calls =
-    record { definitions = program.definitions; root = root; in_source = in_source; values = record { symbols = symbols; texts = texts; calls = calls } }
-
-pub deed_stands : (program : Program) (before : List Visit) (v : Visit) (f : Frame) (fs : List Frame) (texts : SharedTexts) (calls root : ℕ) (in_source : Bool) (line : Line) (deed : Deed) → Stands before v f fs texts calls
-    → root ≡ root_by v.caller v.root line.number → in_source ≡ is_source f.macro
-    → IsDeed (record { definitions = program.definitions; root = root; in_source = in_source; values = record { symbols = f.symbols; texts = texts; calls = calls } }) line deed
-    → IsDeed (setting_of program v line.number) line deed
-unfolding made
-deed_stands program before v f fs texts calls root in_source line deed s root_is source_is is = subst (λ (x : Setting). IsDeed x line deed) same is
-  where
-    same : made program root in_source f.symbols texts calls ≡ setting_of program v line.number
-    same =
-        ap (λ (r : ℕ). made program r in_source f.symbols texts calls) root_is
-        ∙ ap (λ (b : Bool). made program (root_by v.caller v.root line.number) b f.symbols texts calls) (source_is ∙ sym (ap is_source s.macro))
-        ∙ ap (λ (m : Symbols). made program (root_by v.caller v.root line.number) (is_source v.macro) m texts calls) (sym s.symbols)
-        ∙ ap (λ (t : SharedTexts). made program (root_by v.caller v.root line.number) (is_source v.macro) v.symbols t calls) (sym s.texts_are)
-        ∙ ap (λ (n : ℕ). made program (root_by v.caller v.root line.number) (is_source v.macro) v.symbols v.texts n) (sym s.calls_are)
 
 -- what a visit gives, and what follows on it
 pub visit_is : (program : Program) (before : List Visit) (v : Visit) (line : Line) (deed : Deed) → line_at program v.macro v.line ≡ Some line → (length before == most_visits) ≡ false

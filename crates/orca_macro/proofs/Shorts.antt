@@ -1,6 +1,6 @@
 -- The value of formulas of one or two numbers.
-use Rattle.std.proofs.Common.{◌≡◌, ℕ, ◌<◌, Bool, true, false, leb, List, [], ◌^◌, refl}
-use Rattle.std.specs.Prelude.{Result, Ok}
+use Rattle.std.proofs.Common.{◌≡◌, ℕ, ◌<◌, List, [], ◌^◌, refl}
+use Rattle.std.specs.Prelude.{Ok}
 use Rattle.std.proofs.lemmas.Bool.{lt-leb}
 use Rattle.omf_format.specs.declared.value.Value.TheVariants.{Fixed}
 use Rattle.omf_format.specs.Expression.{Leaf, Binary, Constant}
@@ -8,7 +8,7 @@ use Rattle.omf_format.specs.Value.{operand_value, apply_two}
 use Rattle.orca_meaning.specs.declared.operators.Operands.TheVariants.{Symbols}
 use Rattle.orca_meaning.specs.declared.operators.Operator.{Operator}
 use Rattle.orca_meaning.specs.Formula.{MeansAt, operator_code}
-use Rattle.macro_meaning.specs.Condition.{IsNumber, Formula, answer_of}
+use Rattle.macro_meaning.specs.Condition.{Formula, answer_of}
 use Rattle.orca_macro.specs.Short.{HasNumber}
 
 pub one_number : (text : List ℕ) (n : ℕ) → n < 2 ^ 32 → MeansAt Symbols text (Leaf (Constant n)) [] → HasNumber text n

@@ -1,17 +1,17 @@
 -- Sources of untouched lines, without macros.
-use Rattle.std.proofs.Common.{◌≡◌, ◌≤◌, ◌<◌, ◌≢◌, ℕ, zero, suc, ◌+◌, Bool, true, false, cond, eqb, List, [], ◌∷◌, ◌++◌, length, map, Option, Some, None, refl, sym, ap, subst, ◌∙◌, arith, append-nil, length-append}
+use Rattle.std.proofs.Common.{◌≡◌, ◌≤◌, ◌<◌, ℕ, zero, suc, ◌+◌, Bool, true, false, cond, eqb, List, [], ◌∷◌, ◌++◌, length, Option, Some, None, refl, sym, ap, subst, ◌∙◌, arith, append-nil, length-append}
 use Rattle.std.proofs.lemmas.Bool.{ne_eqb, eqb-true, eqb-false}
 use Rattle.std.specs.Prelude.{slice_get, codes, Ok, ◌==◌, ◌||◌, not}
 use Rattle.std.specs.Global.{Vec}
 use Rattle.std.specs.List.{list_any, filter}
 use Rattle.omf_format.specs.Lines.{lines_of}
 use Rattle.orca_meaning.specs.Characters.{folded}
-use Rattle.orca_meaning.specs.Line.{Fields, Line, part, numbered, fields_of, is_comment}
+use Rattle.orca_meaning.specs.Line.{Fields, Line, part, numbered, is_comment}
 use Rattle.macro_meaning.specs.Call.{no_symbols}
 use Rattle.macro_meaning.specs.Deed as meaning
-use Rattle.macro_meaning.specs.Definition.{Definition, operation_is, first_named}
+use Rattle.macro_meaning.specs.Definition.{operation_is, first_named}
 use Rattle.macro_meaning.specs.Expansion.{HasVisits, IsExpanded, file_text_fault, first_in}
-use Rattle.macro_meaning.specs.Visit.{Program, Visit, Move, On, Ends, line_at, given_by, move_of, next_line, returned, if_line, most_visits, onward, setting_of, IsVisit, IsVisitAt, Follow, no_texts, first_visit}
+use Rattle.macro_meaning.specs.Visit.{Program, Visit, Move, On, Ends, given_by, move_of, next_line, returned, if_line, most_visits, setting_of, IsVisit, IsVisitAt, Follow, no_texts}
 use Rattle.orca_macro.specs.Files.{texts_of_files, lines_from, first_part_in, definitions_of, IsProgram}
 use Rattle.orca_macro.specs.Parts.{HaveOwn}
 use Rattle.orca_macro.specs.Untouched.{IsUntouched, AreUntouched}

@@ -1,16 +1,14 @@
 -- Parts of a line.
-use Rattle.std.proofs.Common.{◌≡◌, ℕ, zero, suc, ◌+◌, ◌-◌, ◌≤◌, Bool, true, false, cond, eqb, take, drop, subst, length-drop, List, [], ◌∷◌, ◌++◌, Option, Some, None, refl, sym, ap, ◌∙◌, length, arith, append_assoc, append-nil}
+use Rattle.std.proofs.Common.{◌≡◌, ℕ, ◌+◌, ◌-◌, ◌≤◌, true, false, eqb, take, drop, subst, length-drop, List, [], ◌∷◌, ◌++◌, Option, Some, None, refl, sym, ap, ◌∙◌, length, arith, append-nil}
 use Rattle.std.proofs.Math.Seq.{drop-append_seam}
 use Rattle.std.proofs.lemmas.Bool.{eqb-true}
 use Rattle.orca_meaning.specs.Characters.{is_letter, is_name_start, folded}
-use Rattle.orca_meaning.specs.Line.{Line}
-use Rattle.macro_meaning.specs.Substitution.{Naming, Replaced, Named, Declared, with_front, in_place, substituted, first_passes, name_length, taken_length, naming_at}
+use Rattle.macro_meaning.specs.Substitution.{Naming, Replaced, Named, Declared, with_front, in_place, substituted, first_passes, name_length, taken_length}
 use Rattle.orca_macro.specs.Plain.{plain_len}
-use Rattle.orca_macro.specs.Template.{where_some, part_text, join, followed, HasParts, BeginWith, placed, more_of, with_more}
+use Rattle.orca_macro.specs.Template.{where_some, part_text, join, followed, BeginWith, placed, more_of, with_more}
 use Rattle.orca_macro.specs.declared.template.Part.{Part}
-use Rattle.orca_macro.specs.declared.template.Part.TheVariants.{Plain, Put, Need}
+use Rattle.orca_macro.specs.declared.template.Part.TheVariants.{Plain, Need}
 use Rattle.orca_macro.specs.declared.template.Place.{Place}
-use Rattle.orca_macro.specs.declared.template.Place.TheVariants as places
 use Rattle.orca_macro.proofs.Fronts.{front_more, front_start, plain_front, plain_most, behind_run, skipped, nothing_left}
 
 -- ---- what comes in place of an `&`
@@ -82,14 +80,6 @@ adds_asked text_of old new run longer name tail part is push more =
 -- so far, where so many bytes of a line are left
 abbrev pub AreSoFar : (ℕ → Naming) → List ℕ → List ℕ → List Part → List ℕ → Type 0
 AreSoFar naming text left parts run = (text_of : List ℕ → Option (List ℕ)) → followed text_of parts (with_front run (substituted text_of naming (length text - length left) 0 left)) ≡ substituted text_of naming 0 0 text
-
-pub parts_start : (naming : ℕ → Naming) (text run : List ℕ) (parts : List Part) → parts ≡ [] → run ≡ [] → AreSoFar naming text text parts run
-parts_start naming text run parts no_parts no_run = λ text_of.
-    ap (λ (ps : List Part). followed text_of ps (with_front run (substituted text_of naming (length text - length text) 0 text))) no_parts
-    ∙ front_start run (substituted text_of naming (length text - length text) 0 text) no_run ∙ ap (λ (n : ℕ). substituted text_of naming n 0 text) (none (length text))
-  where
-    none : (n : ℕ) → n - n ≡ 0
-    none n = omega arith
 
 -- a run is copied
 parts_run : (naming : ℕ → Naming) (text left rest run new : List ℕ) (parts : List Part) → length left ≤ length text → AreSoFar naming text left parts run

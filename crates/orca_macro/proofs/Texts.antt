@@ -1,10 +1,10 @@
 -- Joined texts are no longer than what they are read from, and parts of texts.
-use Rattle.std.proofs.Common.{◌≡◌, ◌≤◌, ◌<◌, ℕ, zero, suc, ◌+◌, ◌-◌, Bool, true, false, cond, ltb, eqb, ℤ, pos, negsuc, ◌≤ℤ◌, ◌<ℤ◌, List, [], ◌∷◌, ◌++◌, length, take, drop, Option, Some, None, refl, sym, ap, subst, ◌∙◌, arith, length-append}
+use Rattle.std.proofs.Common.{◌≡◌, ◌≤◌, ◌<◌, ℕ, zero, suc, ◌+◌, ◌-◌, Bool, true, false, cond, ltb, eqb, ℤ, pos, negsuc, ◌≤ℤ◌, ◌<ℤ◌, List, [], ◌∷◌, ◌++◌, length, take, drop, Option, Some, None, refl, ap, arith, length-append}
 use Rattle.std.proofs.lemmas.List.{length-take-le}
 use Rattle.std.proofs.lemmas.Bool.{ltb-true}
 use Rattle.std.proofs.lemmas.Int.{ints}
 use Rattle.std.specs.List.{position_or_len}
-use Rattle.std.specs.Prelude.{Result, Ok, Err, ◌||◌, unsigned_abs}
+use Rattle.std.specs.Prelude.{Ok, Err, ◌||◌, unsigned_abs}
 use Rattle.orca_meaning.specs.Quotes.{quote_behind}
 use Rattle.macro_meaning.specs.declared.faults.MacroCause.TheVariants.{BadSetting}
 use Rattle.macro_meaning.specs.Deed.{middle_from}
@@ -91,10 +91,6 @@ take_whole [] zero few = refl
 take_whole [] (suc k) few = refl
 take_whole (x ∷ l) zero few = absurd (omega (arith, few))
 take_whole (x ∷ l) (suc k) few = ap (λ (t : List ℕ). x ∷ t) (take_whole l k (omega (arith, few)))
-
-pub take_none : (k : ℕ) (l : List ℕ) → l ≡ [] → take k l ≡ []
-take_none zero l is = refl
-take_none (suc k) l is = ap (take (suc k)) is
 
 pub middle_good : (text : List ℕ) (s n : ℤ) → pos 1 ≤ℤ s → pos 0 ≤ℤ n → Ok (take (unsigned_abs n) (drop (unsigned_abs s - 1) text)) ≡ middle_from text s n
 middle_good text (pos zero) n some few = absurd (omega (arith, ints, some))

@@ -1,6 +1,6 @@
 -- Files that are read one behind another.
-use Rattle.std.proofs.Common.{◌≡◌, ℕ, zero, suc, ◌+◌, Bool, true, false, List, [], ◌∷◌, ◌++◌, length, map, Option, Some, None, refl, sym, ap, subst, ◌∙◌, arith, append_assoc, append-nil}
-use Rattle.std.specs.Prelude.{slice_get, Result, Ok, Err, IfOk, IfErr}
+use Rattle.std.proofs.Common.{◌≡◌, ℕ, zero, suc, ◌+◌, true, false, List, [], ◌∷◌, ◌++◌, length, map, Option, Some, None, refl, sym, ap, subst, ◌∙◌, arith, append_assoc, append-nil}
+use Rattle.std.specs.Prelude.{Result, Ok, Err, IfOk, IfErr}
 use Rattle.std.specs.Global.{Vec}
 use Rattle.std.proofs.lemmas.List.{length-map}
 use Rattle.omf_format.specs.Lines.{lines_of}
@@ -9,7 +9,7 @@ use Rattle.macro_meaning.specs.declared.faults.MacroCause.{MacroCause}
 use Rattle.macro_meaning.specs.declared.faults.MacroCause.TheVariants.{LineTooLong, TooManyLines, NoSuchSymbol, BadSetting, BadArguments, NoSequenceSymbol, Unclosed, Counter, TooNested, Noted, Memory}
 use Rattle.macro_meaning.specs.declared.faults.MacroFault.{MacroFault}
 use Rattle.macro_meaning.specs.Definition.{Definition, Part, parts_of, definitions_in, source_body, source_line, first_part_fault, or_else}
-use Rattle.macro_meaning.specs.Expansion.{line_fault_of, next_file, fault_at, HasVisits, StopsAt, file_text_fault, file_part_fault, first_in, macros_in, program_of, first_of_files, IsExpanded, IsFirstFault, InText, InDefinition, InVisit, IsFaultFor, IsMacroFault, AreGoodFiles}
+use Rattle.macro_meaning.specs.Expansion.{line_fault_of, next_file, HasVisits, StopsAt, file_text_fault, file_part_fault, first_in, macros_in, program_of, first_of_files, IsExpanded, IsFirstFault, InDefinition, InVisit, IsFaultFor, IsMacroFault, AreGoodFiles}
 use Rattle.macro_meaning.specs.Visit.{Program, Ends}
 use Rattle.orca_macro.specs.Parts.{HaveOwn}
 use Rattle.orca_macro.proofs.Free.{is_memory, parts_free, stops_free}
@@ -183,31 +183,6 @@ module _ (source : List ℕ) (macros : List (List ℕ)) (lines : List Line) (fil
 -- no fault of reading
 pub texts_good : (source : List ℕ) (macros : List (List ℕ)) → first_in file_text_fault 1 macros ≡ None → file_text_fault 0 source ≡ None → first_of_files file_text_fault source macros ≡ None
 texts_good source macros good source_good = ap (λ (o : Option MacroFault). or_else o (file_text_fault 0 source)) good ∙ source_good
-
-text_refused : (source : List ℕ) (macros : List (List ℕ)) (cause : MacroCause) (fault : MacroFault) → IsTextFaultFor cause (first_of_files file_text_fault source macros) fault → IsFaultFor cause source macros fault
-text_refused source macros LineTooLong fault is = InText is
-text_refused source macros TooManyLines fault is = InText is
-text_refused source macros NoSuchSymbol fault is = absurd is
-text_refused source macros BadSetting fault is = absurd is
-text_refused source macros BadArguments fault is = absurd is
-text_refused source macros NoSequenceSymbol fault is = absurd is
-text_refused source macros Unclosed fault is = absurd is
-text_refused source macros Counter fault is = absurd is
-text_refused source macros TooNested fault is = absurd is
-text_refused source macros (Noted n) fault is = absurd is
-text_refused source macros Memory fault is = is
-
--- a macro file can't be read
-pub macros_refused : (source : List ℕ) (macros : List (List ℕ)) (fault : MacroFault) → IsTextFault (first_in file_text_fault 1 macros) fault → IsMacroFault source macros fault
-macros_refused source macros fault is =
-    text_refused source macros fault.cause fault
-    (text_fault_as (first_in file_text_fault 1 macros) (first_of_files file_text_fault source macros) fault.cause fault (comes_first (first_in file_text_fault 1 macros) (file_text_fault 0 source) fault) is)
-
--- the source can't be read
-pub source_refused : (source : List ℕ) (macros : List (List ℕ)) (fault : MacroFault) → first_in file_text_fault 1 macros ≡ None → IsTextFault (file_text_fault 0 source) fault → IsMacroFault source macros fault
-source_refused source macros fault good is =
-    text_refused source macros fault.cause fault
-    (text_fault_as (file_text_fault 0 source) (first_of_files file_text_fault source macros) fault.cause fault (λ e. ap (λ (o : Option MacroFault). or_else o (file_text_fault 0 source)) good ∙ e) is)
 
 clash : is_memory Memory ≡ false → ⊥
 unfolding is_memory

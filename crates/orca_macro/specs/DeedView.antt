@@ -1,5 +1,4 @@
 -- How deeds are seen, and where a line stands.
-use Rattle.std.specs.Prelude.{ℕ, List}
 use Rattle.macro_meaning.specs.Deed as meaning
 use Rattle.orca_macro.specs.declared.deed.Deed.{Deed}
 use Rattle.orca_macro.specs.declared.deed.Deed.TheVariants.{Rests, Gives, Declares, Sets, Goes, Counts, Leaves, Calls, Fails}

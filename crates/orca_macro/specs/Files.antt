@@ -1,12 +1,12 @@
 -- The files of an expansion, as they are read.
-use Rattle.std.specs.Prelude.{◌≡◌, ℕ, true, false, List, [], ◌∷◌, ◌++◌, map, length, Option, Some, None, Result, Ok, Err}
+use Rattle.std.specs.Prelude.{◌≡◌, ℕ, true, false, List, [], ◌∷◌, ◌++◌, map, Option, Some, None, Result, Ok, Err}
 use Rattle.std.specs.Global.{Vec}
 use Rattle.omf_format.specs.Lines.{lines_of}
 use Rattle.orca_meaning.specs.declared.lines.TextCause.{TextCause}
 use Rattle.orca_meaning.specs.declared.lines.TextCause.TheVariants as texts
 use Rattle.orca_meaning.specs.Line.{Line, numbered}
 use Rattle.macro_meaning.specs.declared.faults.MacroCause.{MacroCause}
-use Rattle.macro_meaning.specs.declared.faults.MacroCause.TheVariants.{LineTooLong, TooManyLines, NoSuchSymbol, BadSetting, BadArguments, NoSequenceSymbol, Unclosed, Counter, TooNested, Noted, Memory}
+use Rattle.macro_meaning.specs.declared.faults.MacroCause.TheVariants.{LineTooLong, TooManyLines, Memory}
 use Rattle.macro_meaning.specs.declared.faults.MacroFault.{MacroFault}
 use Rattle.macro_meaning.specs.Definition.{Definition, parts_of, definitions_in, source_body, first_part_fault, or_else}
 use Rattle.macro_meaning.specs.Expansion.{line_fault_of, next_file, fault_at, HasVisits, StopsAt}
@@ -21,15 +21,8 @@ texts_of_files files = map (λ (file : Vec ℕ). file.items) files
 abbrev pub IsTextFaultFor : MacroCause → Option MacroFault → MacroFault → Type 0
 IsTextFaultFor LineTooLong first fault = first ≡ Some fault
 IsTextFaultFor TooManyLines first fault = first ≡ Some fault
-IsTextFaultFor NoSuchSymbol first fault = ⊥
-IsTextFaultFor BadSetting first fault = ⊥
-IsTextFaultFor BadArguments first fault = ⊥
-IsTextFaultFor NoSequenceSymbol first fault = ⊥
-IsTextFaultFor Unclosed first fault = ⊥
-IsTextFaultFor Counter first fault = ⊥
-IsTextFaultFor TooNested first fault = ⊥
-IsTextFaultFor (Noted n) first fault = ⊥
 IsTextFaultFor Memory first fault = (fault.file ≡ 0) × (fault.line ≡ 0)
+IsTextFaultFor _ _ _ = ⊥
 
 abbrev pub IsTextFault : Option MacroFault → MacroFault → Type 0
 IsTextFault first fault = IsTextFaultFor fault.cause first fault

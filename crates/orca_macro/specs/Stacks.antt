@@ -1,5 +1,5 @@
 -- A stack of expansions stands for the callers of a visit.
-use Rattle.std.proofs.Common.{◌≡◌, ℕ, zero, suc, ◌+◌, Bool, true, false, List, [], ◌∷◌, ◌++◌, length, map, Option, Some, None, refl, sym, ap, ◌∙◌}
+use Rattle.std.proofs.Common.{◌≡◌, ℕ, zero, suc, ◌+◌, List, [], ◌∷◌, ◌++◌, length, map, Option, Some, None, sym, ap, ◌∙◌}
 use Rattle.std.specs.Prelude.{slice_get, reverse}
 use Rattle.std.proofs.lemmas.List.{reverse-append, map-append, length-reverse, length-map}
 use Rattle.orca_meaning.specs.Line.{Line}
@@ -43,13 +43,10 @@ HasRoot (Some place) root kept = root ≡ kept
 -- the stack, its top first, has the calls of these expansions
 abbrev pub Stacks : List Visit → ℕ → Option ℕ → List Frame → Type 0
 Stacks before zero None [] = Unit {0}
-Stacks before zero None (f ∷ fs) = ⊥
-Stacks before zero (Some place) fs = ⊥
-Stacks before (suc depth) None fs = ⊥
-Stacks before (suc depth) (Some place) [] = ⊥
 Stacks before (suc depth) (Some place) (f ∷ fs) =
     (v : Visit) × (slice_get before place ≡ Some v) × (v.macro ≡ f.macro) × (v.line + 1 ≡ f.line) × (v.counter ≡ f.counter)
     × (v.symbols ≡ f.symbols) × HasRoot v.caller v.root f.root × (v.depth ≡ depth) × Stacks before depth v.caller fs
+Stacks _ _ _ _ = ⊥
 
 -- the visit stands here, and the stack has its callers
 pub record Stands (before : List Visit) (v : Visit) (f : Frame) (fs : List Frame) (texts : SharedTexts) (calls : ℕ) : Type 0 where

@@ -1,5 +1,5 @@
 -- Where the expansion stands.
-use Rattle.std.specs.Prelude.{◌≡◌, ℕ, List, [], ◌∷◌, ◌++◌}
+use Rattle.std.specs.Prelude.{◌≡◌, List, [], ◌∷◌, ◌++◌}
 use Rattle.macro_meaning.specs.Visit.{Program, Visit, Move, IsVisit}
 use Rattle.orca_meaning.specs.Line.{Line}
 use Rattle.orca_macro.specs.declared.frames.State.{State}

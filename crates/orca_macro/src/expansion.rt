@@ -1,16 +1,20 @@
 //! The expansion of a source with macro files.
 
 ghost use Rattle.std.specs.Prelude.{◌≡◌, ◌≤◌, ◌<◌, ◌+◌, ◌++◌, ◌^◌, ◌==◌, [], List, ℕ, map, length, false, Some, None, IfOk, IfErr, IfSome, OnOk, MatchOption};
+ghost use Rattle.std.specs.Prelude.{IfNone, Ok, Err};
+ghost use Rattle.macro_meaning.specs.Call.{no_symbols};
 ghost use Rattle.macro_meaning.specs.Deed as deeds;
 ghost use Rattle.macro_meaning.specs.Expansion.{IsExpanded, IsMacroFault, fault_at, file_text_fault, first_in};
-ghost use Rattle.macro_meaning.specs.Visit.{Visit, line_at, given_by, root_by, setting_of, most_visits};
+ghost use Rattle.macro_meaning.specs.Visit.{Visit, no_texts, line_at, given_by, root_by, setting_of, most_visits};
 ghost use Rattle.omf_format.specs.Lines.{lines_of};
 ghost use Rattle.orca_meaning.specs.Line.{HaveFields, fields_of, numbered};
 ghost use Rattle.orca_macro.specs.DeedView.{deed};
 ghost use Rattle.orca_macro.specs.Files.{texts_of_files, CanRead, lines_from, IsTextFault, AllOwn, first_part_in, definitions_of, IsProgram, HasVisited};
 ghost use Rattle.orca_macro.specs.Parts.{definition, HaveOwn};
 ghost use Rattle.orca_macro.specs.Plan.{Fits, IsGiven};
+ghost use Rattle.orca_macro.specs.Stacks.{frame, stack_of};
 ghost use Rattle.orca_macro.specs.StateView.{StandsIn, Visited};
+ghost use Rattle.orca_macro.specs.View.{texts_of};
 ghost use Rattle.orca_text.specs.Refusals.{IsRefused};
 ghost use Rattle.orca_text.specs.View.{line};
 
@@ -265,7 +269,13 @@ fn carry_out(
 {
     let root = root_of(state, of.line);
     let found = deed_at(alloc, program, state, root, of, plan, buffer, spare)?;
-    give(alloc, out, of, &found)?;
+    match give(alloc, out, of, &found) {
+        Ok(()) => {}
+        Err(error) => {
+            drop(found);
+            return Err(error);
+        }
+    }
     let outcome = step(alloc, program, state, root, found, spare)?;
     Ok(outcome)
 }
@@ -300,39 +310,63 @@ fn visit(
     carry_out(alloc, program, state, of, plan, buffer, spare, out)
 }
 
-/// The lines that the visits give, or the fault of the first that has one.
+/// Makes the visits from the first line of the source on. None where they end, and else the fault of the first line that has one.
 #[tactic(auto, using(crate::proofs::Runs::finished, crate::proofs::Runs::full))]
-fn visit_all(alloc: Global, program: &Program) -> Result<Result<Lines, MacroFault>, AllocError>
-    ensures { IfOk result (λ found. HasVisited program.now found) }
+fn visits(
+    alloc: Global,
+    program: &Program,
+    state: &mut State,
+    buffer: &mut Vec<u8>,
+    spare: &mut Symbols,
+    out: &mut Lines,
+) -> Result<Option<MacroFault>, AllocError>
+    requires scope { frame state.old.scope ≡ record { macro = None; line = 0; root = 0; counter = 255; symbols = no_symbols } }
+    requires frames { stack_of state.old.frames ≡ [] }
+    requires texts { texts_of state.old.texts ≡ no_texts }
+    requires calls { state.old.calls ≡ 0 }
+    requires none { out.old ≡ [] }
+    ensures lines { IfOk result (λ stopped. IfNone stopped (HasVisited program.now (Ok out.new))) }
+    ensures refused { IfOk result (λ stopped. IfSome stopped (λ fault. HasVisited program.now (Err fault))) }
 {
-    let mut out = Lines::new(alloc);
-    let mut buffer = Vec::new(alloc);
-    let mut spare = Symbols::new(alloc);
-    let mut state = State::new(alloc)?;
     let mut count: u32 = 0;
     'visits: loop {
         let Some((line, plan)) = program.visited(state.scope.place, state.scope.line) else {
-            return Ok(Ok(out));
+            return Ok(None);
         };
         if count == MOST_VISITS {
-            return Ok(Err(fault_at(line, MacroCause::TooManyLines)));
+            return Ok(Some(fault_at(line, MacroCause::TooManyLines)));
         }
-        let outcome = visit(
-            alloc,
-            program,
-            &mut state,
-            line,
-            plan,
-            &mut buffer,
-            &mut spare,
-            &mut out,
-        )?;
-        match outcome {
+        match visit(alloc, program, state, line, plan, buffer, spare, out)? {
             Outcome::Goes => {}
-            Outcome::Ends => return Ok(Ok(out)),
-            Outcome::Stops(cause) => return Ok(Err(fault_at(line, cause))),
+            Outcome::Ends => return Ok(None),
+            Outcome::Stops(cause) => return Ok(Some(fault_at(line, cause))),
         }
         count += 1;
+    }
+}
+
+/// The lines that the visits give, or the fault of the first that has one.
+fn visit_all(alloc: Global, program: &Program) -> Result<Result<Lines, MacroFault>, AllocError>
+    ensures { IfOk result (λ found. HasVisited program.now found) }
+{
+    let mut state = State::new(alloc)?;
+    let mut buffer = Vec::new(alloc);
+    let mut spare = Symbols::new(alloc);
+    let mut out = Lines::new(alloc);
+    let found = visits(
+        alloc,
+        program,
+        &mut state,
+        &mut buffer,
+        &mut spare,
+        &mut out,
+    );
+    drop(state);
+    drop(buffer);
+    drop(spare);
+    match found? {
+        None => Ok(Ok(out)),
+        Some(fault) => Ok(Err(fault)),
     }
 }
 
@@ -349,10 +383,14 @@ pub fn expand(alloc: Global, source: &[u8], macros: &Vec<Vec<u8>>) -> Result<Lin
     };
     let mut lines = match read_file(alloc, 0, source) {
         Ok(lines) => lines,
-        Err(fault) => return Err(fault),
+        Err(fault) => {
+            drop(files);
+            return Err(fault);
+        }
     };
     if texts.is_empty() {
         if are_untouched(&lines) {
+            drop(files);
             lines.drop_comments();
             return Ok(lines);
         }
@@ -360,10 +398,19 @@ pub fn expand(alloc: Global, source: &[u8], macros: &Vec<Vec<u8>>) -> Result<Lin
     let parts = files.as_slice();
     let program = match program_of(alloc, lines, parts) {
         Ok(Ok(program)) => program,
-        Ok(Err(fault)) => return Err(fault),
-        Err(_) => return Err(no_memory()),
+        Ok(Err(fault)) => {
+            drop(files);
+            return Err(fault);
+        }
+        Err(_) => {
+            drop(files);
+            return Err(no_memory());
+        }
     };
-    match visit_all(alloc, &program) {
+    let visited = visit_all(alloc, &program);
+    drop(program);
+    drop(files);
+    match visited {
         Ok(found) => found,
         Err(_) => Err(no_memory()),
     }

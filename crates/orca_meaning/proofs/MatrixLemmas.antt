@@ -3,7 +3,7 @@ use Rattle.std.proofs.Common.{◌≡◌, ℕ, zero, suc, ◌+◌, Bool, true, fa
 use denote.Enum.Bare.{same_true, sameb}
 use Rattle.std.proofs.lemmas.Bool.{and_parts}
 use Rattle.std.proofs.lemmas.List.Quantifiers.{position-Some}
-use Rattle.std.proofs.lemmas.Option.{slice_get-get_or, slice_get_within}
+use Rattle.std.proofs.lemmas.Option.{slice_get-get_or}
 use Rattle.orca_meaning.specs.contracts.mnemonics.Mnemonic as mnemonic_type
 use Rattle.orca_meaning.specs.contracts.modes.Mode as mode_type
 use Rattle.orca_meaning.specs.declared.mnemonics.Mnemonic.{Mnemonic}
@@ -82,12 +82,6 @@ none_twice i j d below within same =
 -- a byte has the instruction that stands there
 pub entry_at : (byte : ℕ) (d : Instruction) → byte < 256 → slice_get matrix byte ≡ Some (get_or matrix byte d)
 entry_at byte d small = slice_get-get_or matrix byte d (omega (arith, length-matrix))
-
--- an opcode is a byte
-pub opcode_below : (m : Mnemonic) (n : Mode) (opcode : ℕ) → opcode_of m n ≡ Some opcode → opcode < 256
-opcode_below m n opcode e =
-    let within = slice_get_within matrix opcode (m, n) (instruction_at m n opcode e) in
-    omega (arith, length-matrix)
 
 -- what has no opcode stands nowhere
 pub no_opcode : (m : Mnemonic) (n : Mode) → opcode_of m n ≡ None → ¬ Contains matrix (m, n)

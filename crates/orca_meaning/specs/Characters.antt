@@ -2,20 +2,21 @@
 use Rattle.std.specs.Prelude.{ℕ, Bool, false, ◌&&◌, ◌||◌, ◌==◌, nat_le, List, [], ◌∷◌, map}
 use Rattle.std.specs.Char.{to_ascii_uppercase}
 use Rattle.std.specs.List.{list_all}
+use Rattle.omf_format.specs.Ascii as ascii
 
 -- fields are parted by spaces and tabs
 abbrev pub is_blank : ℕ → Bool
-is_blank byte = byte == 0x20 || byte == 0x09
+is_blank byte = byte == ascii.space || byte == ascii.tab
 
 abbrev pub is_letter : ℕ → Bool
-is_letter byte = (nat_le 0x41 byte && nat_le byte 0x5A) || (nat_le 0x61 byte && nat_le byte 0x7A)
+is_letter byte = (nat_le ascii.capital_a byte && nat_le byte ascii.capital_z) || (nat_le ascii.small_a byte && nat_le byte ascii.small_z)
 
 abbrev pub is_decimal_digit : ℕ → Bool
-is_decimal_digit byte = nat_le 0x30 byte && nat_le byte 0x39
+is_decimal_digit byte = nat_le ascii.digit_0 byte && nat_le byte ascii.digit_9
 
 -- a name begins with a letter, `_` or `~`
 abbrev pub is_name_start : ℕ → Bool
-is_name_start byte = is_letter byte || byte == 0x5F || byte == 0x7E
+is_name_start byte = is_letter byte || byte == ascii.underscore || byte == ascii.tilde
 
 -- and goes on with these and digits
 abbrev pub is_name_byte : ℕ → Bool

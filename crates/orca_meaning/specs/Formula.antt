@@ -111,11 +111,8 @@ pub record MeansAt (operands : Operands) (text : List ℕ) (tree : expression.Tr
 
 -- how many values are pending at once at an operand, where the location counter counts so many
 abbrev pub values_of : ℕ → expression.Term → ℕ
-values_of here (expression.Operator code) = 1
 values_of here expression.Location = here
-values_of here (expression.Constant n) = 1
-values_of here (expression.Named code name) = 1
-values_of here (expression.Offset n) = 1
+values_of _ _ = 1
 
 -- the most values that are pending at once
 abbrev pub pending : ℕ → expression.Tree → ℕ
@@ -135,11 +132,8 @@ placed back (expression.Binary code left right) = expression.Binary code (placed
 
 -- a number above 4,294,967,295
 abbrev pub is_large : expression.Term → Bool
-is_large (expression.Operator code) = false
-is_large expression.Location = false
 is_large (expression.Constant n) = nat_le (2 ^ 32) n
-is_large (expression.Named code name) = false
-is_large (expression.Offset n) = false
+is_large _ = false
 
 -- whether such a number stands in it
 abbrev pub has_large : expression.Tree → Bool

@@ -1,6 +1,7 @@
 -- Source lines and their fields (ORCA/M reference manual, "The assembly language statement").
 use Rattle.std.specs.Prelude.{◌≡◌, ℕ, ◌+◌, ◌-◌, ◌≤◌, Bool, true, false, not, ◌||◌, ◌==◌, nat_lt, List, [], ◌∷◌, ◌++◌, length, take, drop, slice_index, Option, Some, None, if◌then◌else◌}
 use Rattle.std.specs.List.{AllByRecursion, position_or_len, list_all}
+use Rattle.omf_format.specs.Ascii as ascii
 use Rattle.orca_meaning.specs.declared.forms.OperandUse.{OperandUse}
 use Rattle.orca_meaning.specs.declared.forms.OperandUse.TheVariants.{Never, Accumulator, Signature, Always}
 use Rattle.orca_meaning.specs.declared.lines.Span.{Span}
@@ -19,7 +20,7 @@ is_ink byte = not (is_blank byte)
 -- a line that is blank, or begins with `*`, `;` or `!`
 abbrev pub is_comment : List ℕ → Bool
 is_comment [] = true
-is_comment (first ∷ behind) = first == 0x2A || first == 0x3B || first == 0x21 || list_all is_blank (first ∷ behind)
+is_comment (first ∷ behind) = first == ascii.star || first == ascii.semicolon || first == ascii.exclamation || list_all is_blank (first ∷ behind)
 
 -- the places of a line's fields
 pub record Fields : Type 0 where
@@ -58,8 +59,8 @@ three_fields text =
 -- the third field, or nothing where the operation takes no operand, or may lack it and a comment begins there
 abbrev pub operand_span : OperandUse → List ℕ → Span → Span
 operand_span Never text third = span third.from third.from
-operand_span Accumulator text third = if slice_index text third.from == 0x3B then span third.from third.from else third
-operand_span Signature text third = if slice_index text third.from == 0x3B then span third.from third.from else third
+operand_span Accumulator text third = if slice_index text third.from == ascii.semicolon then span third.from third.from else third
+operand_span Signature text third = if slice_index text third.from == ascii.semicolon then span third.from third.from else third
 operand_span Always text third = third
 
 abbrev pub statement_fields : List ℕ → Fields → Fields

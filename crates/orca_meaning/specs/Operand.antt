@@ -3,6 +3,7 @@ use Rattle.std.specs.Prelude.{◌≡◌, ℕ, ◌≤◌, Bool, true, false, ◌&
 use Rattle.std.specs.Char.{to_ascii_uppercase}
 use Rattle.std.specs.List.{list_any, AllByRecursion}
 use Rattle.std.specs.Option.{option_map}
+use Rattle.omf_format.specs.Ascii as ascii
 use Rattle.omf_format.specs.Expression.{Tree}
 use Rattle.orca_meaning.specs.declared.forms.Form.{Form}
 use Rattle.orca_meaning.specs.declared.forms.Form.TheVariants.{Nothing, Accumulator, Immediate, Plain, IndexX, IndexY, IndexS, Paren, ParenY, ParenX, ParenSY, Bracket, BracketY, Pair, Other}
@@ -28,9 +29,9 @@ use Rattle.orca_meaning.specs.Operation.{use_of}
 abbrev pub opening_of : Bool → List ℕ → Opening
 opening_of is_instruction [] = Open
 opening_of is_instruction (byte ∷ behind) =
-    if byte == 0x23 then Hash
-    else if byte == 0x28 && is_instruction then Round
-    else if byte == 0x5B then Square
+    if byte == ascii.number_sign then Hash
+    else if byte == ascii.opening_round && is_instruction then Round
+    else if byte == ascii.opening_square then Square
     else Open
 
 abbrev pub behind_opening : Opening → List ℕ → List ℕ
@@ -41,12 +42,12 @@ behind_opening Square text = drop 1 text
 
 -- `<`, `>` and `^` behind `#`
 abbrev pub immediate_prefix : ℕ → Prefix
-immediate_prefix byte = if byte == 0x3C then Less else if byte == 0x3E then Greater else if byte == 0x5E then Caret else Bare
+immediate_prefix byte = if byte == ascii.less then Less else if byte == ascii.greater then Greater else if byte == ascii.caret then Caret else Bare
 
 -- `<`, `>`, and `|` or `!` elsewhere
 abbrev pub address_prefix : ℕ → Prefix
 address_prefix byte =
-    if byte == 0x3C then Less else if byte == 0x3E then Greater else if byte == 0x7C || byte == 0x21 then Bar else Bare
+    if byte == ascii.less then Less else if byte == ascii.greater then Greater else if byte == ascii.bar || byte == ascii.exclamation then Bar else Bare
 
 abbrev pub prefix_by : Opening → ℕ → Prefix
 prefix_by Open byte = address_prefix byte
@@ -71,7 +72,7 @@ behind_prefix Caret text = drop 1 text
 abbrev pub register_of : ℕ → Option Index
 register_of letter =
     let capital = to_ascii_uppercase letter in
-    if capital == 0x58 then Some X else if capital == 0x59 then Some Y else if capital == 0x53 then Some S else None
+    if capital == ascii.capital_x then Some X else if capital == ascii.capital_y then Some Y else if capital == ascii.capital_s then Some S else None
 
 abbrev pub index_or : Option Index → List ℕ → List ℕ → Index × List ℕ
 index_or (Some index) text behind = (index, behind)
@@ -82,7 +83,7 @@ unfoldable pub index_at : List ℕ → Index × List ℕ
 index_at [] = (Absent, [])
 index_at (byte ∷ []) = (Absent, byte ∷ [])
 index_at (comma ∷ letter ∷ behind) =
-    index_or (if comma == 0x2C then register_of letter else None) (comma ∷ letter ∷ behind) behind
+    index_or (if comma == ascii.comma then register_of letter else None) (comma ∷ letter ∷ behind) behind
 
 -- the index of a whole text, if it is one or nothing
 abbrev pub index_alone : Index × List ℕ → Option Index
@@ -127,8 +128,8 @@ immediate_form (byte ∷ behind) = None
 abbrev pub form_behind : Opening → List ℕ → Option Form
 form_behind Open rest = option_map plain_form (whole_index rest)
 form_behind Hash rest = immediate_form rest
-form_behind Round rest = option_map round_form (indexes_around 0x29 rest)
-form_behind Square rest = option_map square_form (indexes_around 0x5D rest)
+form_behind Round rest = option_map round_form (indexes_around ascii.closing_round rest)
+form_behind Square rest = option_map square_form (indexes_around ascii.closing_square rest)
 
 -- ---- operands
 
@@ -168,7 +169,7 @@ pub data IsOperand (mnemonic : Option Mnemonic) (text : List ℕ) (meaning : Mea
       → MeansAt Labels (body mnemonic text) tree rest → form_behind (opening mnemonic text) rest ≡ Some form
       → meaning ≡ record { form = form; prefix = prefix mnemonic text; trees = tree ∷ [] } → IsOperand mnemonic text meaning
   IsTwo : is_accumulator mnemonic text ≡ false → opening mnemonic text ≡ Open → (first second : Tree) (behind : List ℕ)
-      → MeansAt Labels (body mnemonic text) first (0x2C ∷ behind) → whole_index (0x2C ∷ behind) ≡ None
+      → MeansAt Labels (body mnemonic text) first (ascii.comma ∷ behind) → whole_index (ascii.comma ∷ behind) ≡ None
       → MeansAt Labels behind second [] → meaning ≡ record { form = Pair; prefix = prefix mnemonic text; trees = first ∷ second ∷ [] }
       → IsOperand mnemonic text meaning
 

@@ -1,9 +1,10 @@
 -- Quotes in a line: `'` and `"`. A blank or a comma in quotes is text.
 use Rattle.std.specs.Prelude.{ℕ, ◌+◌, Bool, true, false, ◌||◌, ◌&&◌, ◌==◌, List, [], ◌∷◌, Option, Some, None, if◌then◌else◌}
+use Rattle.omf_format.specs.Ascii as ascii
 
 -- the quote that is open behind a byte
 abbrev pub quote_behind : Option ℕ → ℕ → Option ℕ
-quote_behind None byte = if byte == 0x27 || byte == 0x22 then Some byte else None
+quote_behind None byte = if byte == ascii.apostrophe || byte == ascii.double_quote then Some byte else None
 quote_behind (Some quote) byte = if byte == quote then None else Some quote
 
 abbrev pub is_closed : Option ℕ → Bool

@@ -4,6 +4,7 @@ use Rattle.std.specs.Char.{is_digit, to_ascii_uppercase}
 use Rattle.std.specs.List.{prefix_len, position_or_len}
 use Rattle.std.specs.Option.{option_map, option_or}
 use Rattle.std.specs.Str.Parse.{digits_value}
+use Rattle.omf_format.specs.Ascii as ascii
 use Rattle.byteorder.specs.Endian.{little_number}
 use Rattle.orca_meaning.specs.declared.operators.Operands.{Operands}
 use Rattle.orca_meaning.specs.declared.operators.Operands.TheVariants.{Labels, Symbols}
@@ -54,10 +55,10 @@ text_at quote behind =
 unfoldable pub number_at : List ℕ → Found ℕ
 number_at [] = None
 number_at (byte ∷ behind) =
-    if byte == 0x24 then digits_at 16 behind
-    else if byte == 0x25 then digits_at 2 behind
-    else if byte == 0x40 then digits_at 8 behind
-    else if byte == 0x27 || byte == 0x22 then text_at byte behind
+    if byte == ascii.dollar then digits_at 16 behind
+    else if byte == ascii.percent then digits_at 2 behind
+    else if byte == ascii.at_sign then digits_at 8 behind
+    else if byte == ascii.apostrophe || byte == ascii.double_quote then text_at byte behind
     else digits_at 10 (byte ∷ behind)
 
 -- ---- names
@@ -72,27 +73,27 @@ name_at (byte ∷ behind) =
 -- the name of a symbol behind `&`
 unfoldable pub symbol_at : List ℕ → Found (List ℕ)
 symbol_at [] = None
-symbol_at (byte ∷ behind) = if byte == 0x26 then name_at behind else None
+symbol_at (byte ∷ behind) = if byte == ascii.ampersand then name_at behind else None
 
 -- what is asked of a name by this letter before a colon
 abbrev pub asked_by : ℕ → Found (List ℕ) → Found Operand
 asked_by letter name =
-    if to_ascii_uppercase letter == 0x4C then seen_as LengthOf name
-    else if to_ascii_uppercase letter == 0x43 then seen_as CountOf name
+    if to_ascii_uppercase letter == ascii.capital_l then seen_as LengthOf name
+    else if to_ascii_uppercase letter == ascii.capital_c then seen_as CountOf name
     else None
 
 -- `L:` or `C:` before what a reader finds
 unfoldable pub attribute_at : (List ℕ → Found (List ℕ)) → List ℕ → Found Operand
 attribute_at name [] = None
 attribute_at name (letter ∷ []) = None
-attribute_at name (letter ∷ colon ∷ behind) = if colon == 0x3A then asked_by letter (name behind) else None
+attribute_at name (letter ∷ colon ∷ behind) = if colon == ascii.colon then asked_by letter (name behind) else None
 
 -- ---- operands
 
 -- the location counter `*`
 unfoldable pub location_at : List ℕ → Found Operand
 location_at [] = None
-location_at (byte ∷ behind) = if byte == 0x2A then Some (Here, behind) else None
+location_at (byte ∷ behind) = if byte == ascii.star then Some (Here, behind) else None
 
 -- the operand at the front that isn't a number
 abbrev pub other_operand_at : Operands → List ℕ → Found Operand
@@ -136,11 +137,11 @@ byte_at wanted token (byte ∷ behind) = if byte == wanted then Some (token, beh
 -- the token at the front where an operand is expected: a parenthesis, an operator before an operand, or an operand
 unfoldable pub operand_token_at : Operands → List ℕ → Found Token
 operand_token_at operands text =
-    option_or (byte_at 0x28 Opens text) (option_or (seen_as Before (sign_at text)) (seen_as Value (operand_at operands text)))
+    option_or (byte_at ascii.opening_round Opens text) (option_or (seen_as Before (sign_at text)) (seen_as Value (operand_at operands text)))
 
 -- the token behind an operand: a parenthesis, or an operator between two
 unfoldable pub operator_token_at : List ℕ → Found Token
-operator_token_at text = option_or (byte_at 0x29 Closes text) (seen_as Between (operator_at text))
+operator_token_at text = option_or (byte_at ascii.closing_round Closes text) (seen_as Between (operator_at text))
 
 abbrev pub token_at : Operands → Bool → List ℕ → Found Token
 token_at operands true text = operand_token_at operands text

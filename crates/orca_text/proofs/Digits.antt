@@ -1,11 +1,11 @@
 -- Digits read one by one.
-use Rattle.std.proofs.Common.{◌≡◌, ℕ, zero, suc, ◌+◌, ◌*◌, ◌^◌, ◌<◌, ◌≤◌, Bool, true, false, cond, ltb, List, [], ◌∷◌, length, drop, take, Option, Some, None, refl, sym, ap, subst, ◌∙◌, arith, eqb}
+use Rattle.std.proofs.Common.{◌≡◌, ℕ, suc, ◌+◌, ◌*◌, ◌^◌, ◌<◌, ◌≤◌, true, false, ltb, List, [], ◌∷◌, length, drop, take, Some, None, refl, sym, ap, subst, ◌∙◌, arith, eqb}
 use Rattle.std.specs.Char.{is_digit, digit_value}
 use Rattle.std.specs.List.{prefix_len}
 use Rattle.std.specs.Str.Parse.{digits_value, digits_value_after}
 use Rattle.std.specs.Prelude.{◌≢◌}
 use Rattle.std.proofs.Math.Nat.{mul-le-mul_left}
-use Rattle.std.proofs.lemmas.Bool.{le-ltb, lt-ltb, ne_eqb}
+use Rattle.std.proofs.lemmas.Bool.{le-ltb, ne_eqb}
 use Rattle.orca_meaning.specs.Token.{digits_at, seen_as}
 use Rattle.orca_text.specs.Kept.{fitting}
 
@@ -20,14 +20,8 @@ pub record HasDigits (base : ℕ) (text left : List ℕ) (value : ℕ) : Type 0 
   pub short : length left ≤ length text
   pub fits : value < 2 ^ 32
 
-pub digits_none : (base : ℕ) (text : List ℕ) → HasDigits base text text 0
-digits_none base text = record { number = refl; rest = refl; some = refl; short = omega arith; fits = Rattle.std.proofs.Common.lit< tt }
-
 count-digit : (base byte : ℕ) (behind : List ℕ) → is_digit byte base ≡ true → count base (byte ∷ behind) ≡ 1 + count base behind
 count-digit base byte behind is = rw is refl
-
-count-other : (base byte : ℕ) (behind : List ℕ) → is_digit byte base ≡ false → count base (byte ∷ behind) ≡ 0
-count-other base byte behind is = rw is refl
 
 -- more digits make no smaller number
 pub after-le : (base n : ℕ) (digits : List ℕ) → 1 ≤ base → n ≤ digits_value_after base n digits
@@ -51,9 +45,6 @@ digits_on base text byte value behind has is fits =
 seen_large : (n : ℕ) (rest : List ℕ) → 2 ^ 32 ≤ n → seen_as fitting (Some (n, rest)) ≡ Some (None, rest)
 seen_large n rest large = let test : ltb n (2 ^ 32) ≡ false = le-ltb n (2 ^ 32) large in rw test refl
 
-seen_small : (n : ℕ) (rest : List ℕ) → n < 2 ^ 32 → seen_as fitting (Some (n, rest)) ≡ Some (Some n, rest)
-seen_small n rest small = let test : ltb n (2 ^ 32) ≡ true = lt-ltb n (2 ^ 32) small in rw test refl
-
 found_digits : (base : ℕ) (text : List ℕ) → count base text ≢ 0 → digits_at base text ≡ Some (digits_value base (take (count base text) text), drop (count base text) text)
 unfolding digits_at
 found_digits base text some = let test : eqb (count base text) 0 ≡ false = ne_eqb _ _ some in rw test refl
@@ -71,28 +62,6 @@ digits_large base text byte value behind rest one has is large are =
     let all : 2 ^ 32 ≤ digits_value base (take (count base text) text) = omega (arith, after-le base (value * base + digit_value byte) (take (count base behind) behind) one, number') in
     let some : count base text ≢ 0 = λ none. absurd (omega (arith, has.some, has.short, first, none)) in
     ap (seen_as fitting) (found_digits base text some) ∙ seen_large _ _ all ∙ ap (λ (r : List ℕ). Some (None, r)) (sym (are ∙ behind_is'))
-
--- no more digits
-pub digits_end : (base : ℕ) (text left : List ℕ) (value : ℕ) → HasDigits base text left value → count base left ≡ 0 → length left ≢ length text
-    → seen_as fitting (digits_at base text) ≡ Some (Some value, left)
-digits_end base text left value has none some =
-    let number : value ≡ digits_value base (take (count base text) text) = rw none at has.number in
-    let rest : drop 0 left ≡ drop (count base text) text = rw none at has.rest in
-    let count_some : count base text ≢ 0 = λ e. some (omega (arith, has.some, none, e)) in
-    ap (seen_as fitting) (found_digits base text count_some) ∙ ap (λ (n : ℕ). seen_as fitting (Some (n, drop (count base text) text))) (sym number) ∙ seen_small value _ has.fits
-    ∙ ap (λ (r : List ℕ). Some (Some value, r)) (sym rest)
-
-pub digits_missing : (base : ℕ) (text left : List ℕ) (value : ℕ) → HasDigits base text left value → count base left ≡ 0 → length left ≡ length text → digits_at base text ≡ None
-unfolding digits_at
-digits_missing base text left value has none same =
-    let zero_is : count base text ≡ 0 = omega (arith, has.some, none) in
-    rw zero_is refl
-
-pub count-nil : (base : ℕ) (left : List ℕ) → left ≡ [] → count base left ≡ 0
-count-nil base left e = rw e refl
-
-pub count-none : (base byte : ℕ) (left behind : List ℕ) → left ≡ byte ∷ behind → is_digit byte base ≡ false → count base left ≡ 0
-count-none base byte left behind e is = rw e (count-other base byte behind is)
 
 -- the same of what is left, at its first byte
 pub digits_step : (base : ℕ) (text left behind : List ℕ) (byte value next : ℕ) → HasDigits base text left value → left ≡ byte ∷ behind → is_digit byte base ≡ true

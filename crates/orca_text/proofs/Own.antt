@@ -1,9 +1,9 @@
 -- Lines with the fields of their own bytes.
-use Rattle.std.proofs.Common.{◌≡◌, ℕ, zero, suc, Bool, true, false, cond, List, [], ◌∷◌, ◌++◌, map, slice_get, Some, refl, sym, ap, subst, ◌∙◌, length, ◌≤◌}
+use Rattle.std.proofs.Common.{◌≡◌, ℕ, zero, suc, Bool, true, false, cond, List, [], ◌∷◌, map, slice_get, Some, refl, sym, ap, subst, ◌∙◌}
 use Rattle.std.specs.Prelude.{not}
 use Rattle.std.specs.List.{filter}
-use Rattle.orca_meaning.specs.Line.{Line, line_of, is_comment, HaveFields}
-use Rattle.orca_meaning.specs.LineLaws.{have_fields}
+use Rattle.orca_meaning.specs.Line.{Line, is_comment, HaveFields}
+use Rattle.orca_meaning.specs.laws.LineLaws.{have_fields}
 use Rattle.orca_text.specs.OwnFields.{HasOwnFields, HaveOwnFields}
 use Rattle.orca_text.specs.View.{line}
 use Rattle.orca_text.specs.declared.line.SourceLine.{SourceLine}
@@ -18,14 +18,6 @@ own_at (x ∷ lines) (suc i) l own e = own_at lines i l own.1 e
 
 pub fields_at : (lines : List Line) (i : ℕ) (l : Line) → HaveOwnFields lines → slice_get lines i ≡ Some l → HaveFields l.text l.fields
 fields_at lines i l own e = rw (own_at lines i l own e).0 (have_fields l.text)
-
-pub own_more : (lines : List Line) (l : Line) → HaveOwnFields lines → HasOwnFields l → HaveOwnFields (lines ++ l ∷ [])
-own_more [] l own this = (this, tt)
-own_more (x ∷ lines) l own this = (own.0, own_more lines l own.1 this)
-
-pub own_push : (lines : List Line) (file number : ℕ) (text : List ℕ) → HaveOwnFields lines → length text ≤ 255 → HaveOwnFields (lines ++ line_of file number text ∷ [])
-own_push [] file number text own short = ((refl, short), tt)
-own_push (x ∷ lines) file number text own short = (own.0, own_push lines file number text own.1 short)
 
 -- ---- lines without comments
 

@@ -2,7 +2,8 @@
 use Rattle.std.proofs.Common.{◌≡◌, ℕ, ◌+◌, ◌≤◌, Bool, true, false, cond, ltb, List, [], ◌∷◌, ◌++◌, length, Option, Some, None, refl, sym, ap, ◌∙◌, append_assoc, append-nil, arith}
 use Rattle.std.proofs.lemmas.Bool.{ltb-false}
 use Rattle.std.proofs.lemmas.List.{length-append}
-use Rattle.omf_format.specs.Lines.{lines_of, lines_of-nil}
+use Rattle.omf_format.specs.Lines.{lines_of}
+use Rattle.omf_format.specs.laws.LinesLaws.{lines_of-nil}
 use Rattle.orca_meaning.specs.declared.lines.TextCause.{TextCause}
 use Rattle.orca_meaning.specs.declared.lines.TextCause.TheVariants.{LineTooLong, TooManyLines, BadOperand, BadNumber, Memory}
 use Rattle.orca_meaning.specs.Line.{Line, line_of, line_fault, numbered, first_line_fault, or_later}
@@ -82,6 +83,3 @@ read_all file source [] number lines read none =
     let last : numbered file number (lines_of []) ≡ [] = ap (numbered file number) lines_of-nil ∙ numbered-nil file number in
     (sym (append-nil lines) ∙ ap (λ (l : List Line). lines ++ l) (sym last) ∙ read.all, sym read.fault ∙ ap (first_line_fault number) lines_of-nil ∙ fault-nil number)
 read_all file source (byte ∷ rest) number lines read none = absurd (omega arith)
-
-pub read_none : (file : ℕ) (source : List ℕ) (lines : List Line) → lines ≡ [] → HasRead file source source 1 lines
-read_none file source lines e = record { all = ap (λ (l : List Line). l ++ numbered file 1 (lines_of source)) e; fault = refl; count = ap (λ (l : List Line). length l + 1) e; few = omega arith }

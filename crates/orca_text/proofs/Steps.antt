@@ -8,8 +8,8 @@ use Rattle.orca_meaning.specs.declared.operators.Operator as operators
 use Rattle.orca_meaning.specs.Formula.{operator_code, operator_level}
 use Rattle.orca_meaning.specs.declared.operators.Operands.{Operands}
 use Rattle.orca_meaning.specs.Token.{Between, Closes, operator_token_at}
-use Rattle.orca_meaning.specs.Machine.{Wait, Bracket, Pending, state, reduced, closed, step, ended}
-use Rattle.orca_meaning.specs.Complete.{stuck}
+use Rattle.orca_meaning.specs.laws.Machine.{Wait, Bracket, Pending, state, reduced, closed, step, ended}
+use Rattle.orca_meaning.specs.laws.Complete.{stuck}
 use Rattle.orca_text.specs.declared.formula_term.FormulaTerm.{FormulaTerm}
 use Rattle.orca_text.specs.declared.formula_term.FormulaTerm.TheVariants as coded
 use Rattle.orca_text.specs.Next.{Steps, IsEnd, Unmatched, IsStuck, NotWhole}

@@ -1,7 +1,7 @@
 -- A text of one to four bytes as a number.
 use Rattle.std.proofs.Common.{◌≡◌, ℕ, ◌+◌, ◌<◌, ◌≤◌, Bool, true, false, cond, ltb, leb, eqb, List, length, drop, Some, None, refl, sym, ap, ◌∙◌, arith, ◌⊎◌, inl, inr}
 use Rattle.std.specs.List.{position, position_or_len}
-use Rattle.std.proofs.lemmas.Bool.{ltb-true, lt-ltb, le-leb}
+use Rattle.std.proofs.lemmas.Bool.{le-leb}
 use Rattle.omf_format.specs.Number.{number_at}
 use Rattle.orca_meaning.specs.Token.{text_at}
 use Rattle.orca_text.proofs.Places.{found}

@@ -12,10 +12,10 @@ use Rattle.orca_meaning.specs.declared.operators.Operands.{Operands}
 use Rattle.orca_meaning.specs.declared.operators.Operator as operators
 use Rattle.orca_meaning.specs.Token.{Found, seen_as, byte_at, operator_at, spelled_at, Operand, Here, Number, Label, LengthOf, CountOf, Token, Value, Before, Between, Opens, Closes, token_at, operand_token_at, operator_token_at, Stand}
 use Rattle.orca_meaning.specs.Formula.{Formula, tokens_of, tree_of, term_of, sign_code, operator_code, operator_level, is_large}
-use Rattle.orca_meaning.specs.Machine.{Wait, Bracket, Pending, State, state, reduced, closed, step, run, ended, finish, start, postfix}
-use Rattle.orca_meaning.specs.Complete.{complete}
-use Rattle.orca_meaning.specs.Sound.{sound}
-use Rattle.orca_meaning.specs.Front.{expects_after, stand_push, run-push, run-fails, runs_expect, byte-found, Compared, Longer, Shorter, compared, Taken, taken, formula_ends}
+use Rattle.orca_meaning.specs.laws.Machine.{Wait, Bracket, Pending, State, state, reduced, closed, step, run, ended, finish, start, postfix}
+use Rattle.orca_meaning.specs.laws.Complete.{complete}
+use Rattle.orca_meaning.specs.laws.Sound.{sound}
+use Rattle.orca_meaning.specs.laws.Front.{expects_after, stand_push, run-push, run-fails, runs_expect, byte-found, Compared, Longer, Shorter, compared, Taken, taken, formula_ends}
 use Rattle.orca_text.specs.Kept.{kept_number, kept_value, kept_token, kept_term, kept_terms}
 use Rattle.orca_text.specs.FormulaAt.{IsFormulaAt, HasNoFormula}
 use Rattle.orca_text.specs.Next.{Steps, Stops, NoToken, Unmatched, IsEnd, IsStuck, NoOperand, NotWhole}
@@ -214,9 +214,6 @@ goes_on o text left behind kept new large larger u s =
 step_fails : (s : State) (t : Token) → t ≡ Closes → s.expects ≡ false → closed (reduced 6 s.out s.waiting) ≡ None → step s t ≡ None
 unfolding step
 step_fails s t is expects none = rw (is, expects) none
-
-abbrev Pair : Type 0
-Pair = List Term × List Wait
 
 ended-kept : (out kept : List Term) (ws : List Wait) → ended (kept_terms out, ws) ≡ Some kept → (ended (out, ws) ≡ Some out) × (kept ≡ kept_terms out)
 unfolding ended

@@ -1,7 +1,7 @@
 -- What closing operators and a parenthesis leaves.
 use Rattle.std.specs.Prelude.{◌≡◌, false, List, Some, None}
 use Rattle.omf_format.specs.Expression.{Term}
-use Rattle.orca_meaning.specs.Machine.{Wait, state, closed, ended}
+use Rattle.orca_meaning.specs.laws.Machine.{Wait, state, closed, ended}
 use Rattle.orca_text.specs.declared.formula.Closing.{Closing}
 use Rattle.orca_text.specs.declared.formula.Closing.TheVariants.{Shut, Whole, Open}
 

@@ -3,7 +3,7 @@ use Rattle.std.specs.Prelude.{◌≡◌, ℕ, Bool, true, false, ◌||◌, List,
 use Rattle.omf_format.specs.Expression.{Term}
 use Rattle.orca_meaning.specs.declared.operators.Operands.{Operands}
 use Rattle.orca_meaning.specs.Token.{Token, Closes, operator_token_at, operand_token_at, token_at}
-use Rattle.orca_meaning.specs.Machine.{Wait, State, state, reduced, closed, step, ended}
+use Rattle.orca_meaning.specs.laws.Machine.{Wait, State, state, reduced, closed, step, ended}
 use Rattle.orca_text.specs.declared.formula.Next.{Next}
 use Rattle.orca_text.specs.declared.formula.Next.TheVariants.{Goes, Ends, Fails}
 use Rattle.orca_text.specs.Kept.{kept_token}

@@ -46,11 +46,8 @@ line_operand line = part line.text line.operand
 
 -- where a fault for this cause lies: in the line, or nowhere for want of memory
 abbrev pub line_for : TextCause → ℕ → ℕ
-line_for LineTooLong line = line
-line_for TooManyLines line = line
-line_for BadOperand line = line
-line_for BadNumber line = line
 line_for Memory line = 0
+line_for _ line = line
 
 -- a line's operand is refused for this fault
 pub record IsOperandFault (line : SourceLine) (fault : TextFault) : Type 0 where

@@ -3,7 +3,7 @@ use Rattle.std.proofs.Common.{◌≡◌, List, [], ◌∷◌, ◌++◌, map, ap,
 use Rattle.std.specs.Prelude.{reverse}
 use Rattle.std.proofs.lemmas.List.{reverse-append, map-append}
 use Rattle.orca_meaning.specs.Formula.{sign_code, operator_code, operator_level}
-use Rattle.orca_meaning.specs.Machine as machine
+use Rattle.orca_meaning.specs.laws.Machine as machine
 use Rattle.orca_text.specs.declared.waiting.Wait.{Wait}
 use Rattle.orca_text.specs.declared.waiting.Wait.TheVariants.{Bracket, Before, Between}
 

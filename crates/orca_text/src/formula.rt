@@ -2,7 +2,7 @@
 
 ghost use Rattle.std.specs.Prelude.{◌≡◌, ℕ, List, Bool, ◌≤◌, ◌<◌, ◌∷◌, ◌++◌, ◌&&◌, [], map, length, IfOk, OnOk, IfSome, IfNone, MatchOption, Some, None, true, false};
 ghost use Rattle.orca_meaning.specs.Formula.{sign_code, operator_code, operator_level, term_of};
-ghost use Rattle.orca_meaning.specs.Machine.{Bracket, Pending, state, reduced, step, closed, ended};
+ghost use Rattle.orca_meaning.specs.laws.Machine.{Bracket, Pending, state, reduced, step, closed, ended};
 ghost use Rattle.orca_text.specs.TokenView.{operand, operand_token, operator_token};
 ghost use Rattle.orca_meaning.specs.Token.{Between};
 ghost use Rattle.orca_text.specs.Closing.{Closes};
@@ -171,7 +171,7 @@ fn is_too_large(next: &OperandToken) -> bool
 }
 
 /// Takes a token where an operand is expected: whether one is expected behind it too.
-#[tactic(auto, using(crate::proofs::Steps::map_push), unfolding(orca_meaning::specs::Machine::step))]
+#[tactic(auto, using(crate::proofs::Steps::map_push), unfolding(orca_meaning::specs::laws::Machine::step))]
 #[inline(always)]
 fn take_operand(
     out: &mut Vec<FormulaTerm>,
@@ -291,7 +291,7 @@ fn take_next<'a>(
 }
 
 /// A formula at the front of a text.
-#[derive(Debug, Drop)]
+#[derive(Drop)]
 pub struct FormulaAt<'a> {
     /// Its terms in postfix order, with 0 for each number that is too large.
     pub formula: Formula,

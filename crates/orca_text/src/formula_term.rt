@@ -7,7 +7,7 @@ use omf_base::Name;
 use std::marker::Model;
 
 /// A term of a formula in postfix order, as a term of an expression (GS/OS Reference, appendix F, "Expressions").
-#[derive(Debug, Drop)]
+#[derive(Drop)]
 pub enum FormulaTerm {
     /// An operator, by its code.
     Operator(u8),
@@ -22,7 +22,7 @@ pub enum FormulaTerm {
 }
 
 /// A formula: its terms in postfix order. Contracts see the list of them as terms of an expression.
-#[derive(Debug, Drop)]
+#[derive(Drop)]
 pub struct Formula {
     terms: Vec<FormulaTerm>,
 }

@@ -10,7 +10,7 @@ use std::alloc::{AllocError, Global};
 
 /// A line of a source, or one that the expansion of macros gave, with the places of its fields. A comment has three empty
 /// fields. Only a line with a label, or with what begins with a comment sign, lacks an operation.
-#[derive(Debug, Drop)]
+#[derive(Drop)]
 pub struct SourceLine {
     /// The file: 0 is the source, and macro files count from 1.
     pub file: u32,

@@ -22,7 +22,7 @@ const MOST_BYTES: usize = 255;
 const MOST_LINES: u32 = 65536;
 
 /// Lines in order. Contracts see the list of them. Their fields are those of their bytes.
-#[derive(Debug, Drop)]
+#[derive(Drop)]
 pub struct Lines {
     lines: Vec<SourceLine>,
 }

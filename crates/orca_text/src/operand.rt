@@ -20,7 +20,7 @@ use orca_meaning::{Form, Mnemonic, Opening, OperandUse, Operands, Prefix, TextCa
 use std::alloc::{AllocError, Global};
 
 /// An operand as it is written.
-#[derive(Debug, Drop)]
+#[derive(Drop)]
 pub struct Operand {
     /// Which of the forms it has.
     pub form: Form,

@@ -12,7 +12,7 @@ use crate::tokens::number_at;
 use orca_meaning::{Operands, Operator};
 
 /// A formula of one number, of two, or of three.
-#[derive(Clone, Copy, Debug)]
+#[derive(Clone, Copy)]
 pub enum ShortFormula {
     /// A number.
     One(u32),

@@ -26,7 +26,7 @@ pub(crate) struct Waiting {
 
 impl Model for Waiting {
     ghost use Rattle.std.specs.Prelude.{List, map, reverse};
-    ghost use Rattle.orca_meaning.specs.Machine as machine;
+    ghost use Rattle.orca_meaning.specs.laws.Machine as machine;
     ghost use Rattle.orca_text.specs.WaitView.{wait};
 
     ghost Value = { List machine.Wait };

@@ -1,5 +1,5 @@
 -- Items of lists by their numbers.
-use Rattle.std.proofs.Common.{◌≡◌, ℕ, zero, suc, ◌+◌, ◌-◌, ◌≤◌, ◌<◌, List, [], ◌∷◌, ◌++◌, length, map, take, drop, Some, ◌⊎◌, inl, inr, refl, ap, subst, ◌∙◌, arith}
+use Rattle.std.proofs.Common.{◌≡◌, ℕ, zero, suc, ◌+◌, ◌-◌, ◌≤◌, List, [], ◌∷◌, ◌++◌, length, take, drop, Some, ◌⊎◌, inl, inr, refl, ap, subst, ◌∙◌, arith}
 use Rattle.std.specs.Prelude.{slice_get}
 use Rattle.std.proofs.lemmas.List.{length-append}
 use Rattle.rings.specs.Graphs.{IsIn, at_or}
@@ -56,11 +56,6 @@ front_same (x ∷ ends) row (suc from) n within = front_same ends row from n (om
 
 row_same : (ends row : List ℕ) (span : Span) → Fits ends span → ends_of (ends ++ row) span ≡ ends_of ends span
 row_same ends row span fits = front_same ends row span.from (span.to - span.from) (omega (arith, fits.ordered, fits.within))
-
-rows_same : (ends row : List ℕ) (spans : List Span) → AllFit ends spans → rows_in (ends ++ row) spans ≡ rows_in ends spans
-rows_same ends row [] fit = refl
-rows_same ends row (span ∷ spans) fit =
-    ap (λ (r : List ℕ). r ∷ rows_in (ends ++ row) spans) (row_same ends row span fit.0) ∙ ap (λ (l : List (List ℕ)). ends_of ends span ∷ l) (rows_same ends row spans fit.1)
 
 pub fit_more : (ends row : List ℕ) (spans : List Span) → AllFit ends spans → AllFit (ends ++ row) spans
 fit_more ends row [] fit = tt

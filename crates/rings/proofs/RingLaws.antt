@@ -1,7 +1,7 @@
 -- Ranks and searches tell which vertices lead back to themselves.
-use Rattle.std.proofs.Common.{◌≡◌, ◌⊎◌, inl, inr, ℕ, zero, suc, ◌+◌, ◌≤◌, ◌<◌, Bool, true, false, List, [], ◌∷◌, ◌++◌, length, Option, Some, None, refl, sym, ap, subst, ◌∙◌, arith}
-use Rattle.std.specs.Prelude.{slice_get, slice_set, replicate}
-use Rattle.rings.specs.Graphs.{IsIn, at_or, row_at, Way, Last, Through, IsOnRing, AreInside}
+use Rattle.std.proofs.Common.{◌≡◌, ◌⊎◌, inl, inr, ℕ, zero, suc, ◌+◌, ◌≤◌, ◌<◌, Bool, true, false, List, [], ◌∷◌, ◌++◌, length, Some, refl, sym, ap, subst, ◌∙◌, arith}
+use Rattle.std.specs.Prelude.{slice_get, slice_set}
+use Rattle.rings.specs.Graphs.{IsIn, row_at, Way, Last, Through, IsOnRing}
 use Rattle.std.proofs.lemmas.Bool.{cases_lt}
 use Rattle.std.proofs.lemmas.List.{length-append}
 use Rattle.rings.specs.Ranks.{rank_at, Falls, FallsFrom, AreRanks, unseen, IsSeen, Visits, Visiting, Searching}
@@ -74,9 +74,6 @@ unseen_set (true ∷ seen) (suc k) e = unseen_set seen k e
 unseen_set (false ∷ seen) (suc k) e = omega (arith, unseen_set seen k e)
 
 -- ---- visits
-
-unseen_at : (seen : List Bool) (k : ℕ) (b : Bool) → slice_get seen k ≡ Some b → b ≡ false → slice_get seen k ≡ Some false
-unseen_at seen k b at is = at ∙ ap (λ (x : Bool). Some x) is
 
 -- before the first edge
 pub visiting_all : (row : List ℕ) (vertex : ℕ) (seen : List Bool) (queue : List ℕ) → Visiting row vertex row seen seen queue queue
@@ -169,38 +166,12 @@ visited row vertex left seen new queue added none v = record {
 
 -- ---- searches
 
-no_seen : (n k : ℕ) → IsSeen (replicate n false) k → ⊥
-no_seen zero k e = absurd cc
-no_seen (suc n) zero e = true_false (sym (bools false true e))
-no_seen (suc n) (suc k) e = no_seen n k e
-
-all_false : (n : ℕ) → length (replicate n false) ≡ n
-all_false zero = refl
-all_false (suc n) = ap suc (all_false n)
-
-pub searching_all : (rows : List (List ℕ)) (vertex : ℕ) (seen : List Bool) (queue : List ℕ) → seen ≡ replicate (length rows) false → queue ≡ vertex ∷ [] → Searching rows vertex seen queue 0
-searching_all rows vertex seen queue none one = record {
-  first = subst (λ (l : List ℕ). IsIn l vertex) (sym one) (inl refl);
-  reached = λ x is. by_one x (subst (λ (l : List ℕ). IsIn l x) one is);
-  marked = λ x is. absurd (no_seen (length rows) x (subst (λ (l : List Bool). IsSeen l x) none is));
-  done = λ k x lt e to is. absurd (omega (arith, lt));
-  size = ap length none ∙ all_false (length rows);
-  within = omega arith;
-}
-  where
-    by_one : (x : ℕ) → IsIn (vertex ∷ []) x → (x ≡ vertex) ⊎ Way rows vertex x
-    by_one x (inl e) = inl (sym e)
-    by_one x (inr more) = absurd more
-
 reach_more : (rows : List (List ℕ)) (vertex x to : ℕ) → (x ≡ vertex) ⊎ Way rows vertex x → IsIn (row_at rows x) to → Way rows vertex to
 reach_more rows vertex x to (inl e) is = Last vertex to (subst (λ (v : ℕ). IsIn (row_at rows v) to) e is)
 reach_more rows vertex x to (inr way) is = way_more rows vertex x to way is
 
 pub ring_found : (rows : List (List ℕ)) (vertex x : ℕ) (seen : List Bool) (queue : List ℕ) (next : ℕ) → Searching rows vertex seen queue next → slice_get queue next ≡ Some x → IsIn (row_at rows x) vertex → IsOnRing rows vertex
 ring_found rows vertex x seen queue next s at is = reach_more rows vertex x vertex (s.reached x (in_at queue next x at)) is
-
-get_at : (xs ys : List ℕ) (k x : ℕ) → slice_get xs k ≡ Some x → ((j y : ℕ) → slice_get xs j ≡ Some y → slice_get ys j ≡ Some y) → slice_get ys k ≡ Some x
-get_at xs ys k x e go = go k x e
 
 nat_same : (x y : ℕ) → Some x ≡ Some y → x ≡ y
 nat_same x y e = cc

@@ -24,17 +24,17 @@ use Rattle.loader_machine.specs.Heads.{head_of, at_number, want_of}
 use Rattle.loader_machine.specs.State.{Machine, Seen, fresh, first_id, handles_of}
 use Rattle.loader_machine.specs.Presences.{handle_at, presence, presence_at, lies_in, lies_at, active_at}
 use Rattle.loader_machine.specs.Found.{HoldsLoad, Bad, Good}
-use Rattle.loader_machine.specs.OnceLaws.{one_load, found_once}
+use Rattle.loader_machine.specs.laws.OnceLaws.{one_load, found_once}
 use Rattle.loader_machine.specs.Commands.{Reply, LoadSegment, MadeActive, Refused}
 use Rattle.loader_machine.specs.Refusals.{Refuse, load_segment_refusal}
 use Rattle.loader_machine.specs.Steps.{Sees, seen_of, Outcome, OutOfSlots, OutOfRoom, Made, Activates, Answers, MakesActive, active_block, changed, with_slots, with_both, with_segment}
 use Rattle.loader_machine.specs.Needs.{Needs, is_read, path_if}
 use Rattle.loader_agrees.specs.Agrees.{Loaded, Outline, seen_in, Agrees, Has, IsSound, Meets}
-use Rattle.loader_agrees.specs.Reads.{headed}
-use Rattle.loader_agrees.specs.Seeing.{made_at, IsKept, kept_is, refuses, does}
+use Rattle.loader_agrees.specs.laws.Reads.{headed}
+use Rattle.loader_agrees.specs.laws.Seeing.{made_at, IsKept, kept_is, refuses, does}
 use Rattle.sys_loader.specs.Replies.{activation_reply}
 use Rattle.sys_loader.specs.Lives.{HasShifted}
-use Rattle.sys_loader.specs.Activating.{IsChanged, CanLoad, IsBringRefusal, HasCome, HasComeFrom, IsComeRefusal, IsReadRefusal, CantRead, LacksMemory, CantCome, DidCome, HasActivated, DidActivate}
+use Rattle.sys_loader.specs.Activating.{IsChanged, CanLoad, IsBringRefusal, HasCome, IsComeRefusal, IsReadRefusal, CantRead, LacksMemory, CantCome, DidCome, HasActivated, DidActivate}
 use Rattle.sys_loader.proofs.Came.{came_agrees}
 use Rattle.sys_loader.proofs.Shifting.{IsTurn, shifted_agrees}
 

@@ -14,10 +14,10 @@ use Rattle.loader_machine.specs.Commands.{Started}
 use Rattle.loader_machine.specs.Steps.{PutIn, Begins, started_user, dropped_state}
 use Rattle.loader_agrees.specs.Agrees.{Kept, Loaded, outline, outline_of, UserAgrees, Agrees, IsSound}
 use Rattle.loader_agrees.specs.Acts.{IsAdded, started_kept}
-use Rattle.loader_agrees.specs.Begun.{user_agrees, others_agree}
-use Rattle.loader_agrees.specs.BegunSound.{sound_placed}
-use Rattle.loader_agrees.specs.Lists.{set_map, set_at, set_apart, length_set}
-use Rattle.loader_agrees.specs.Seeing.{made_at}
+use Rattle.loader_agrees.specs.laws.Begun.{user_agrees, others_agree}
+use Rattle.loader_agrees.specs.laws.BegunSound.{sound_placed}
+use Rattle.loader_agrees.specs.laws.Lists.{set_map, set_at, set_apart, length_set}
+use Rattle.loader_agrees.specs.laws.Seeing.{made_at}
 use Rattle.sys_loader.specs.declared.answers.Started as answers
 use Rattle.sys_loader.specs.Lives.{HasDropped}
 use Rattle.sys_loader.specs.Restarting.{released_memory, HasBegunAnew}

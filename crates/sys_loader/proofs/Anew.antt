@@ -16,7 +16,7 @@ use Rattle.loader_machine.specs.Heads.{head_of, wants_of, entry_in}
 use Rattle.loader_machine.specs.State.{no_pokes, with_user}
 use Rattle.loader_machine.specs.Stands.{setting, stands, place_in}
 use Rattle.loader_agrees.specs.Agrees.{Kept, Loaded}
-use Rattle.loader_agrees.specs.BegunSound.{rest_apart}
+use Rattle.loader_agrees.specs.laws.BegunSound.{rest_apart}
 use Rattle.sys_loader.specs.declared.answers.Started.{Started}
 use Rattle.sys_loader.specs.declared.user.User.{User}
 use Rattle.sys_loader.specs.View.{kept}

@@ -11,25 +11,24 @@ use Rattle.iigs_meaning.specs.declared.handles.Handle.{Handle}
 use Rattle.iigs_meaning.specs.declared.wants.Want.{Want}
 use Rattle.iigs_meaning.specs.Fits.{Slots}
 use Rattle.iigs_meaning.specs.declared.faults.PlaceFault.TheVariants as place
-use Rattle.iigs_meaning.specs.Puts.{Purges, PutsAll, slots_for, IsPlaceAllRefusal}
-use Rattle.loader_machine.specs.declared.faults.LoaderFault.TheVariants as fault
+use Rattle.iigs_meaning.specs.Puts.{Purges, PutsAll}
 use Rattle.iigs_meaning.specs.Memory.{Memory, AreAllPlaced, bytes_at}
 use Rattle.loader_machine.specs.declared.seen.Head.{Head}
 use Rattle.loader_machine.specs.declared.seen.Life.{Life}
 use Rattle.loader_machine.specs.declared.seen.Life.TheVariants.{Running}
-use Rattle.loader_machine.specs.Heads.{head_of, at_number, is_stack, stack_want, plain_want, want_of, wants_of, number_of, entry_in}
+use Rattle.loader_machine.specs.Heads.{head_of, at_number, is_stack, stack_want, plain_want, want_of, wants_of, entry_in}
 use Rattle.loader_machine.specs.State.{no_pokes, first_id, max_users}
 use Rattle.loader_machine.specs.Presences.{handle_at}
 use Rattle.loader_machine.specs.Stands.{setting, stands, place_in}
 use Rattle.loader_agrees.specs.Agrees.{Kept, Loaded, IsSound}
 use Rattle.loader_agrees.specs.Acts.{HasBegun, started_kept}
-use Rattle.loader_agrees.specs.Begun.{all_placed, all_length, decide}
-use Rattle.loader_agrees.specs.BegunSound.{AreDistinct, rest_apart, all_distinct, spread_want, spread_index, spread_once, want_size, sound_begun}
+use Rattle.loader_agrees.specs.laws.Begun.{all_placed, all_length, decide}
+use Rattle.loader_agrees.specs.laws.BegunSound.{AreDistinct, rest_apart, all_distinct, spread_want, spread_index, spread_once, want_size, sound_begun}
 use Rattle.sys_loader.specs.declared.user.Segment as users
 use Rattle.sys_loader.specs.declared.user.User.{User}
 use Rattle.sys_loader.specs.View.{kept, loaded}
 use Rattle.sys_loader.specs.Filling.{IsReady, AreReady, AreFilled}
-use Rattle.sys_loader.specs.Calls.{spread_handles, IsSettled, IsBeginRefusal}
+use Rattle.sys_loader.specs.Calls.{spread_handles, IsSettled}
 use Rattle.sys_loader.proofs.Written.{heads_of, handles_of}
 use Rattle.sys_loader.proofs.Settling.{addresses, is_setting}
 
@@ -145,19 +144,6 @@ module _ (memory middle new : Memory) (users' : List (Option User)) (user : User
   }
 
 -- ---- why no program begins
-
-pub begin_full : (memory : Memory) (user : ℕ) (heads : List Head) (wants : List Want) → wants ≡ wants_of heads → IsPlaceAllRefusal Purges memory.banks user (slots_for memory.slots user false) wants place.NoHandle
-    → IsBeginRefusal memory user heads fault.NoHandle
-begin_full memory user gs wants same is = inl (refl, subst (λ (ws : List Want). IsPlaceAllRefusal Purges memory.banks user memory.slots ws place.NoHandle) same is)
-
-pub begin_lacks : (memory : Memory) (user : ℕ) (heads : List Head) (wants : List Want) (i number : ℕ) → wants ≡ wants_of heads → number ≡ number_of 1 heads i
-    → IsPlaceAllRefusal Purges memory.banks user (slots_for memory.slots user false) wants (place.NoRoom i) → IsBeginRefusal memory user heads (fault.NoRoom number)
-begin_lacks memory user gs wants i number same number_is is =
-    inr (i, ap (λ (n : ℕ). fault.NoRoom n) number_is, subst (λ (ws : List Want). IsPlaceAllRefusal Purges memory.banks user memory.slots ws (place.NoRoom i)) same is)
-
-pub lacks_inside : (banks : List ℕ) (user : ℕ) (slots : Slots) (heads : List Head) (wants : List Want) (i : ℕ) → wants ≡ wants_of heads → IsPlaceAllRefusal Purges banks user slots wants (place.NoRoom i) → i < length (wants_of heads)
-lacks_inside banks user slots gs wants i same is =
-    subst (λ (ws : List Want). i < length ws) same (slice_get_within wants i is.1.want is.1.is)
 
 -- the same, as the loader's fields are
 module _ (old : Loaded) (memory middle new : Memory) (users' users'' : List (Option User)) (user : User) (load : List Segment) (path : List ℕ) (wants : List Want) (hs given : List Handle) (id count : ℕ) (entry : Option ℕ)

@@ -18,11 +18,11 @@ use Rattle.loader_machine.specs.Heads.{want_of}
 use Rattle.loader_machine.specs.Presences.{presence, there_at, lies_in}
 use Rattle.loader_machine.specs.Steps.{active_block}
 use Rattle.loader_agrees.specs.Agrees.{Loaded, Has, IsSound}
-use Rattle.loader_agrees.specs.Begun.{puts_here}
-use Rattle.loader_agrees.specs.Frame.{Keeps, Same, Gone}
-use Rattle.loader_agrees.specs.ScriptBlocks.{placed_kept}
-use Rattle.loader_agrees.specs.Slotted.{slot_apart, live_block, in_put, in_emptied}
-use Rattle.loader_agrees.specs.Stay.{put_apart, get_emptied, gone_can, is_there, slot_map}
+use Rattle.loader_agrees.specs.laws.Begun.{puts_here}
+use Rattle.loader_agrees.specs.laws.Frame.{Keeps, Same, Gone}
+use Rattle.loader_agrees.specs.laws.ScriptBlocks.{placed_kept}
+use Rattle.loader_agrees.specs.laws.Slotted.{slot_apart, live_block, in_put, in_emptied}
+use Rattle.loader_agrees.specs.laws.Stay.{put_apart, get_emptied, gone_can, is_there, slot_map}
 use Rattle.sys_loader.proofs.Shifting.{value_here, value_in}
 
 -- what a placed block of a segment is, and what is left of the others

@@ -10,7 +10,7 @@ use Rattle.omf_format.specs.Header.{is_dynamic}
 use Rattle.omf_format.specs.File.{Segment, segment_at}
 use Rattle.omf_io.specs.Counts.{IsFront}
 use Rattle.load_meaning.specs.declared.table.Target.{Target}
-use Rattle.load_meaning.specs.CellLaws.{loadable_has}
+use Rattle.load_meaning.specs.laws.CellLaws.{loadable_has}
 use Rattle.load_meaning.specs.Loadable.{IsLoadable}
 use Rattle.load_meaning.specs.LoadTable.{targets_of}
 use Rattle.omf_cells.specs.Places.{address_in}
@@ -25,13 +25,13 @@ use Rattle.loader_machine.specs.State.{no_pokes, first_id, user_of, with_user}
 use Rattle.loader_machine.specs.Presences.{handle_at, presence, there_at, lies_in, lies_at}
 use Rattle.loader_machine.specs.Stands as machine
 use Rattle.loader_machine.specs.Stands.{Setting, setting, stands}
-use Rattle.loader_machine.specs.StandsLaws.{AreAlike, stands_alike}
+use Rattle.loader_machine.specs.laws.StandsLaws.{AreAlike, stands_alike}
 use Rattle.loader_agrees.specs.Agrees.{Kept, Loaded, Has, IsSound}
-use Rattle.loader_agrees.specs.BegunSound.{want_size}
-use Rattle.loader_agrees.specs.Keeping.{of_kept}
-use Rattle.loader_agrees.specs.Lists.{set_map}
-use Rattle.loader_agrees.specs.Reads.{head_at, headed}
-use Rattle.loader_agrees.specs.Seeing.{made_at, has_any}
+use Rattle.loader_agrees.specs.laws.BegunSound.{want_size}
+use Rattle.loader_agrees.specs.laws.Keeping.{of_kept}
+use Rattle.loader_agrees.specs.laws.Lists.{set_map}
+use Rattle.loader_agrees.specs.laws.Reads.{head_at, headed}
+use Rattle.loader_agrees.specs.laws.Seeing.{made_at, has_any}
 use Rattle.sys_loader.specs.declared.user.Segment as users
 use Rattle.sys_loader.specs.Renewing.{AreRoomy, AreRenewed}
 use Rattle.sys_loader.specs.Lives.{with_bytes}

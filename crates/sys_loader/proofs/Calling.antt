@@ -8,8 +8,8 @@ use Rattle.omf_format.specs.File.{Segment, segment_at}
 use Rattle.omf_io.specs.Files.{FileMap}
 use Rattle.load_meaning.specs.declared.table.Target.{Target}
 use Rattle.load_meaning.specs.Cells.{Byte, cells}
-use Rattle.load_meaning.specs.CellLaws.{length-cells}
-use Rattle.load_meaning.specs.LayingLaws.{get-take, get-drop}
+use Rattle.load_meaning.specs.laws.CellLaws.{length-cells}
+use Rattle.load_meaning.specs.laws.LayingLaws.{get-take, get-drop}
 use Rattle.load_meaning.specs.Table.{entry_place}
 use Rattle.load_meaning.specs.LoadTable.{targets_of}
 use Rattle.iigs_meaning.specs.Slots.{slot_at}
@@ -27,11 +27,11 @@ use Rattle.loader_machine.specs.Stands.{setting, place_in, stands}
 use Rattle.loader_machine.specs.Found.{HoldsLoad}
 use Rattle.loader_machine.specs.Refusals.{Refuse, bytes_refusal}
 use Rattle.loader_machine.specs.Commands.{Reply, Bytes, Jsl, Where, Entered, Lies, Shown, Refused}
-use Rattle.loader_machine.specs.OnceLaws.{one_load}
+use Rattle.loader_machine.specs.laws.OnceLaws.{one_load}
 use Rattle.loader_machine.specs.Steps.{Sees, seen_of, StandsIn, IsAt, Place, Nowhere, In, IsLocated, place_reply, Decides, Either, no_jsl, address_of, target_at_code, Enters, EntersEntry, EntersSegment, StepsJsl, Outcome, OutOfSlots, OutOfRoom, Made, Answers, Steps}
 use Rattle.loader_agrees.specs.Agrees.{Loaded, Agrees, IsSound, Meets}
-use Rattle.loader_agrees.specs.Apart.{steps_once_there}
-use Rattle.loader_agrees.specs.Reads.{head_at}
+use Rattle.loader_agrees.specs.laws.Apart.{steps_once_there}
+use Rattle.loader_agrees.specs.laws.Reads.{head_at}
 use Rattle.sys_loader.specs.declared.answers.Entered as answers
 use Rattle.sys_loader.specs.Naming.{HasAddress}
 use Rattle.sys_loader.specs.Calling.{HasCall, EntersTarget}

@@ -16,7 +16,7 @@ use Rattle.loader_machine.specs.Presences.{handle_at, presence, there_at}
 use Rattle.loader_machine.specs.Steps.{with_both, with_segment}
 use Rattle.loader_machine.specs.Needs.{is_read}
 use Rattle.loader_agrees.specs.Agrees.{Kept, Loaded, Agrees, Has, IsSound}
-use Rattle.loader_agrees.specs.Seeing.{made_at, kept_is}
+use Rattle.loader_agrees.specs.laws.Seeing.{made_at, kept_is}
 use Rattle.sys_loader.specs.Activating.{CanLoad, IsBrought, HasCome}
 use Rattle.sys_loader.proofs.Bringing.{Brings, brings_first, first_apart, brings_anew}
 use Rattle.sys_loader.proofs.Coming.{come_sound, come_agrees}

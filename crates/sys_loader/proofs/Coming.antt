@@ -10,7 +10,7 @@ use Rattle.omf_format.specs.Header.{is_dynamic, is_skipped}
 use Rattle.omf_format.specs.File.{Segment, segment_at}
 use Rattle.omf_io.specs.Counts.{IsFront}
 use Rattle.omf_io.specs.Files.{FileMap}
-use Rattle.load_meaning.specs.CellLaws.{loadable_has}
+use Rattle.load_meaning.specs.laws.CellLaws.{loadable_has}
 use Rattle.load_meaning.specs.LoadTable as load
 use Rattle.iigs_meaning.specs.declared.handles.Handle.{Handle}
 use Rattle.iigs_meaning.specs.declared.wants.Block.{Block}
@@ -25,14 +25,14 @@ use Rattle.loader_machine.specs.Presences.{handle_at, presence, presence_at, the
 use Rattle.loader_machine.specs.Stands.{setting, stands}
 use Rattle.loader_machine.specs.Steps.{with_both, with_segment}
 use Rattle.loader_agrees.specs.Agrees.{Kept, Loaded, Outline, outline, outline_of, UserAgrees, Agrees, IsOf, Has, IsSound}
-use Rattle.loader_agrees.specs.Begun.{decide}
-use Rattle.loader_agrees.specs.BegunSound.{want_size}
-use Rattle.loader_agrees.specs.Frame.{Keeps, Same, Gone, unlocked, agrees_still}
-use Rattle.loader_agrees.specs.Keeping.{of_kept}
-use Rattle.loader_agrees.specs.Lists.{set_map, set_at, set_apart, length_set}
-use Rattle.loader_agrees.specs.Reads.{head_at}
-use Rattle.loader_agrees.specs.Seeing.{made_at, IsKept, kept_is, has_any}
-use Rattle.sys_loader.specs.Renewing.{is_chosen, AreRenewed}
+use Rattle.loader_agrees.specs.laws.Begun.{decide}
+use Rattle.loader_agrees.specs.laws.BegunSound.{want_size}
+use Rattle.loader_agrees.specs.laws.Frame.{Keeps, Same, Gone, unlocked, agrees_still}
+use Rattle.loader_agrees.specs.laws.Keeping.{of_kept}
+use Rattle.loader_agrees.specs.laws.Lists.{set_map, set_at, set_apart, length_set}
+use Rattle.loader_agrees.specs.laws.Reads.{head_at}
+use Rattle.loader_agrees.specs.laws.Seeing.{made_at, IsKept, kept_is, has_any}
+use Rattle.sys_loader.specs.Renewing.{AreRenewed}
 use Rattle.sys_loader.specs.Lives.{with_bytes}
 use Rattle.sys_loader.specs.Activating.{with_handle}
 use Rattle.sys_loader.proofs.Beginning.{want_some}

@@ -5,7 +5,7 @@ use Rattle.std.proofs.lemmas.Option.{same_Some, slice_get_within, slice_get-map,
 use Rattle.std.proofs.lemmas.List.{take_all}
 use Rattle.omf_format.specs.Header.{Fields}
 use Rattle.omf_format.specs.File.{Segment}
-use Rattle.load_meaning.specs.LayingLaws.{get-take}
+use Rattle.load_meaning.specs.laws.LayingLaws.{get-take}
 use Rattle.omf_cells.specs.Load.{HasFields}
 use Rattle.loader_machine.specs.declared.seen.Head.{Head}
 use Rattle.loader_machine.specs.Heads.{head_of, at_number}

@@ -1,21 +1,21 @@
 -- Handles dealt out one by one, and the search for where a program begins.
-use Rattle.std.proofs.Common.{◌≡◌, ℕ, zero, suc, Bool, true, false, cond, ◌+◌, ◌-◌, ◌<◌, ◌≤◌, ◌==◌, ◌%◌, List, [], ◌∷◌, ◌++◌, length, drop, take, map, get_or, Option, Some, None, refl, sym, ap, subst, ◌∙◌, arith, append_assoc, append-nil}
+use Rattle.std.proofs.Common.{◌≡◌, ℕ, zero, suc, Bool, true, false, ◌+◌, ◌<◌, ◌==◌, ◌%◌, List, [], ◌∷◌, ◌++◌, length, drop, take, map, get_or, Option, Some, None, refl, sym, ap, ◌∙◌, arith, append_assoc}
 use Rattle.std.specs.Prelude.{◌&&◌, slice_get, unwrap_or}
 use Rattle.std.specs.Option.{option_map, option_and_then}
-use Rattle.std.proofs.Math.Seq.{drop-cons, take-suc}
-use Rattle.std.proofs.Math.ListN.{drop_of_length-le, set, length-set}
+use Rattle.std.proofs.Math.Seq.{drop-cons}
+use Rattle.std.proofs.Math.ListN.{set, length-set}
 use Rattle.std.proofs.lemmas.Option.{same_Some, slice_get-get_or, slice_get-map}
 use Rattle.std.proofs.lemmas.List.{length-map, map-append}
 use Rattle.omf_format.specs.Header.{form_of}
 use Rattle.iigs_meaning.specs.declared.handles.Handle.{Handle}
 use Rattle.iigs_meaning.specs.Fits.{Slots}
 use Rattle.loader_machine.specs.declared.seen.Head.{Head}
-use Rattle.loader_machine.specs.Heads.{at_number, is_static, want_of, wants_of, number_of, entry_in}
+use Rattle.loader_machine.specs.Heads.{at_number, is_static, wants_of, entry_in}
 use Rattle.loader_machine.specs.State.{Held}
 use Rattle.loader_machine.specs.Presences.{presence, there_at, handle_at}
 use Rattle.loader_machine.specs.Stands.{place_in}
 use Rattle.loader_machine.specs.Steps.{spread}
-use Rattle.loader_agrees.specs.Lists.{number_map}
+use Rattle.loader_agrees.specs.laws.Lists.{number_map}
 use Rattle.sys_loader.specs.declared.user.Segment.{Segment}
 use Rattle.sys_loader.proofs.Wants.{heads}
 
@@ -37,16 +37,9 @@ module _ (place : ℕ → ℕ) (segments xs : List Segment) (i : ℕ) (d : Segme
   whole : entry_in ((get_or xs i d).head ∷ heads (drop (i + 1) segments)) place (i + 1) ≡ entry_in (heads segments) place 1
   whole = ap (λ (l : List Segment). entry_in (heads l) place (i + 1)) (sym from_here) ∙ sought
 
-  pub sought_more : (is_static (get_or xs i d).head && (form_of (get_or xs i d).head.kind == 0x00)) ≡ false → Sought place segments (i + 1)
-  sought_more not = rw not at whole
-
   pub sought_here : (is_static (get_or xs i d).head && (form_of (get_or xs i d).head.kind == 0x00)) ≡ true
       → entry_in (heads segments) place 1 ≡ Some ((place (i + 1) + (get_or xs i d).head.entry) % 0x1000000)
   sought_here is = sym (rw is at whole)
-
-pub sought_none : (place : ℕ → ℕ) (segments xs : List Segment) (i : ℕ) → xs ≡ segments → Sought place segments i → length xs ≤ i → entry_in (heads segments) place 1 ≡ None
-sought_none place segments xs i same sought past =
-    sym sought ∙ ap (λ (l : List Segment). entry_in (heads l) place (i + 1)) (drop_of_length-le segments {i = i} (omega (arith, past, ap (λ (l : List Segment). length l) same)))
 
 -- the place of the segment after so many
 pub place_here : (slots : Slots) (segments xs : List Segment) (i : ℕ) (d : Segment) → xs ≡ segments → i < length xs
@@ -77,9 +70,6 @@ pub record Dealt (before : List Segment) (hs : List Handle) (place next count : 
   pub front : handles_of (take place now) ++ held_handles (spread (heads (drop place before)) (drop next hs)) ≡ held_handles (spread (heads before) hs)
   pub left : next + length (wants_of (heads (drop place before))) ≡ length hs
   pub long : count ≡ length now
-
-pub dealt_none : (before : List Segment) (hs : List Handle) → length hs ≡ length (wants_of (heads before)) → Dealt before hs 0 0 (length before) before
-dealt_none before hs long = record { same = refl; front = refl; left = omega (arith, long); long = refl }
 
 spread_static : (g : Head) (gs : List Head) (h : Handle) (ks : List Handle) → is_static g ≡ true → held_handles (spread (g ∷ gs) (h ∷ ks)) ≡ Some h ∷ held_handles (spread gs ks)
 spread_static g gs h ks static = rw static refl
@@ -189,42 +179,3 @@ set_room before now hs place next count s dealt less is static =
     let head : s.head ≡ (get_or now place s).head = ap (λ (x : Segment). x.head) is in
     let x : Segment = record { handle = None; head = s.head } in
     room_left before now (set now place x) hs place next count s x dealt inside (set_taken now place x inside) (set_heads now place x s inside head) (length-set now place x) (sym (ap is_static head) ∙ static)
-
--- ---- numbers of static segments
-
-module _ (segments xs : List Segment) (i left : ℕ) (d : Segment) (same : xs ≡ segments) (inside : i < length xs) (room : left < length (wants_of (heads (drop i segments)))) (total : ℕ)
-    (sought : number_of (i + 1) (heads (drop i segments)) left ≡ total) where
-  here : drop i segments ≡ get_or xs i d ∷ drop (i + 1) segments
-  here =
-      let more : i + 1 ≡ suc i = omega arith in
-      ap (λ (l : List Segment). drop i l) (sym same) ∙ drop-cons xs i d inside ∙ ap (λ (n : ℕ). get_or xs i d ∷ drop n xs) (sym more) ∙ ap (λ (l : List Segment). get_or xs i d ∷ drop (i + 1) l) same
-
-  whole_number : number_of (i + 1) ((get_or xs i d).head ∷ heads (drop (i + 1) segments)) left ≡ total
-  whole_number = ap (λ (l : List Segment). number_of (i + 1) (heads l) left) (sym here) ∙ sought
-
-  whole_room : left < length (wants_of ((get_or xs i d).head ∷ heads (drop (i + 1) segments)))
-  whole_room = subst (λ (l : List Segment). left < length (wants_of (heads l))) here room
-
-  pub number_here : is_static (get_or xs i d).head ≡ true → left ≡ 0 → i + 1 ≡ total
-  number_here static none = let at = subst (λ (n : ℕ). number_of (i + 1) ((get_or xs i d).head ∷ heads (drop (i + 1) segments)) n ≡ total) none whole_number in rw static at at
-
-  pub number_past : is_static (get_or xs i d).head ≡ false → (number_of (i + 1 + 1) (heads (drop (i + 1) segments)) left ≡ total) × (left < length (wants_of (heads (drop (i + 1) segments))))
-  number_past other = (go left whole_number, rw other at whole_room)
-    where
-      go : (n : ℕ) → number_of (i + 1) ((get_or xs i d).head ∷ heads (drop (i + 1) segments)) n ≡ total → number_of (i + 1 + 1) (heads (drop (i + 1) segments)) n ≡ total
-      go zero e = rw other at e
-      go (suc n) e = rw other at e
-
-  pub number_next : (less : ℕ) → left ≡ less + 1 → is_static (get_or xs i d).head ≡ true
-      → (number_of (i + 1 + 1) (heads (drop (i + 1) segments)) less ≡ total) × (less < length (wants_of (heads (drop (i + 1) segments))))
-  number_next less is static =
-      let more : left ≡ suc less = omega (arith, is) in
-      let at = subst (λ (n : ℕ). number_of (i + 1) ((get_or xs i d).head ∷ heads (drop (i + 1) segments)) n ≡ total) more whole_number in
-      let size : length (wants_of ((get_or xs i d).head ∷ heads (drop (i + 1) segments))) ≡ suc (length (wants_of (heads (drop (i + 1) segments)))) = wants_static (get_or xs i d).head (heads (drop (i + 1) segments)) static in
-      (rw static at at, omega (arith, whole_room, size, more))
-
-pub number_none : (segments : List Segment) (i left : ℕ) → left < length (wants_of (heads (drop i segments))) → length segments ≤ i → ⊥
-number_none segments i left room past =
-    let none : drop i segments ≡ [] = drop_of_length-le segments {i = i} past in
-    let room' = subst (λ (l : List Segment). left < length (wants_of (heads l))) none room in
-    omega (arith, room')

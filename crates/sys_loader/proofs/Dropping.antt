@@ -21,12 +21,12 @@ use Rattle.loader_machine.specs.Refusals.{shut_down_refusal}
 use Rattle.loader_machine.specs.Commands.{Okay, ShutDown}
 use Rattle.loader_machine.specs.Steps.{dropped_state}
 use Rattle.loader_agrees.specs.Agrees.{Kept, Loaded, outline, outline_of, seen_in, seen_by, UserAgrees, Agrees, IsOf, Has, IsSound, Met}
-use Rattle.loader_agrees.specs.Frame.{Same, agrees_still}
-use Rattle.loader_agrees.specs.Lists.{set_map, set_at, set_apart, length_set}
-use Rattle.loader_agrees.specs.Seeing.{made_at, IsKept, kept_is, does, has_any}
-use Rattle.loader_agrees.specs.ScriptBlocks.{released_none}
-use Rattle.loader_agrees.specs.Slotted.{live_block}
-use Rattle.loader_agrees.specs.Stay.{get_is, in_slot, slot_map, is_there}
+use Rattle.loader_agrees.specs.laws.Frame.{Same, agrees_still}
+use Rattle.loader_agrees.specs.laws.Lists.{set_map, set_at, set_apart, length_set}
+use Rattle.loader_agrees.specs.laws.Seeing.{made_at, IsKept, kept_is, does, has_any}
+use Rattle.loader_agrees.specs.laws.ScriptBlocks.{released_none}
+use Rattle.loader_agrees.specs.laws.Slotted.{live_block}
+use Rattle.loader_agrees.specs.laws.Stay.{get_is, in_slot, slot_map, is_there}
 use Rattle.sys_loader.specs.Lives.{HasDropped}
 use Rattle.sys_loader.proofs.Shifting.{there_block}
 

@@ -1,18 +1,18 @@
 -- A JSL that is followed is the machine's step.
-use Rattle.std.proofs.Common.{◌≡◌, ◌≢◌, ◌⊎◌, inl, inr, ℕ, zero, suc, Bool, true, false, cond, ◌+◌, ◌-◌, ◌%◌, ◌^◌, ◌<◌, ◌≤◌, List, [], ◌∷◌, ◌++◌, length, map, take, drop, Option, Some, None, IsSome, Result, Ok, Err, refl, sym, ap, subst, ◌∙◌, arith}
+use Rattle.std.proofs.Common.{◌≡◌, ◌≢◌, inl, inr, ℕ, zero, suc, Bool, true, false, ◌+◌, ◌-◌, ◌%◌, ◌^◌, ◌<◌, List, [], ◌∷◌, length, map, take, drop, Option, Some, None, Result, Ok, Err, refl, sym, ap, subst, ◌∙◌, arith}
 use Rattle.std.specs.Prelude.{slice_get}
-use Rattle.std.specs.Option.{option_map, option_map_or}
+use Rattle.std.specs.Option.{option_map}
 use Rattle.std.specs.List.{AllByRecursion}
-use Rattle.std.proofs.lemmas.Option.{same_Some, slice_get_within}
+use Rattle.std.proofs.lemmas.Option.{same_Some}
 use Rattle.omf_format.specs.Header.{is_dynamic, is_skipped}
 use Rattle.omf_format.specs.File.{Segment, segment_at}
-use Rattle.omf_io.specs.Counts.{IsFront, one_more}
+use Rattle.omf_io.specs.Counts.{IsFront}
 use Rattle.omf_io.specs.Files.{FileMap}
 use Rattle.load_meaning.specs.declared.table.Target.{Target}
-use Rattle.load_meaning.specs.Table.{entry_start, entry_place, table_bytes}
+use Rattle.load_meaning.specs.Table.{entry_place, table_bytes}
 use Rattle.load_meaning.specs.LoadTable as load
 use Rattle.load_meaning.specs.LoadTable.{entry_count, target_at, targets_of}
-use Rattle.load_meaning.specs.CellLaws.{loadable_has}
+use Rattle.load_meaning.specs.laws.CellLaws.{loadable_has}
 use Rattle.load_meaning.specs.Loadable.{IsTarget}
 use Rattle.iigs_meaning.specs.declared.handles.Handle.{Handle}
 use Rattle.iigs_meaning.specs.declared.wants.Want.{Want}
@@ -22,31 +22,30 @@ use Rattle.iigs_meaning.specs.Fits.{Slots, HoldsByte}
 use Rattle.iigs_meaning.specs.Puts.{Purges}
 use Rattle.iigs_meaning.specs.Memory.{bytes_at}
 use Rattle.loader_machine.specs.declared.faults.LoaderFault.{LoaderFault}
-use Rattle.loader_machine.specs.declared.faults.LoaderFault.TheVariants as fault
 use Rattle.loader_machine.specs.declared.seen.Head.{Head}
 use Rattle.loader_machine.specs.declared.seen.Life.TheVariants.{Running}
 use Rattle.loader_machine.specs.Heads.{head_of, at_number, is_table}
-use Rattle.loader_machine.specs.State.{User, Machine, Seen, no_pokes, first_id, user_of, handles_of, held_at}
+use Rattle.loader_machine.specs.State.{Machine, Seen, first_id, handles_of, held_at}
 use Rattle.loader_machine.specs.declared.seen.Presence.{Presence}
 use Rattle.loader_machine.specs.declared.seen.Presence.TheVariants.{Absent, Purged, Idle, Active}
-use Rattle.loader_machine.specs.Presences.{presence, presence_at, there_at, handle_at, lies_in, lies_at}
-use Rattle.loader_machine.specs.Stands.{Setting, setting, entry_for, stands}
-use Rattle.loader_machine.specs.Refusals.{Refuse, bytes_refusal, load_segment_refusal, of_user, of_running, of_segment, of_dynamic}
-use Rattle.loader_machine.specs.Steps.{Sees, StandsIn, IsAt, Place, Nowhere, In, IsLocated, Decides, Either, no_jsl, address_of, target_at_code, Enters, EntersEntry, MakesActive, StepsJsl, seen_of}
+use Rattle.loader_machine.specs.Presences.{presence, presence_at, there_at, lies_in, lies_at}
+use Rattle.loader_machine.specs.Stands.{setting, entry_for, stands}
+use Rattle.loader_machine.specs.Refusals.{Refuse, bytes_refusal, load_segment_refusal}
+use Rattle.loader_machine.specs.Steps.{Sees, StandsIn, IsAt, Place, Nowhere, In, IsLocated, Decides, Either, no_jsl, address_of, target_at_code, Enters, EntersEntry, MakesActive, StepsJsl}
 use Rattle.loader_machine.specs.Needs.{Needs, Reaches, is_read, path_if}
 use Rattle.loader_machine.specs.Commands.{Reply, Jsl, Entered, Refused}
-use Rattle.loader_agrees.specs.Agrees.{Kept, Loaded, Outline, seen_in, seen_by, Agrees, Has, IsOf, IsSound, Met, Meets}
-use Rattle.loader_agrees.specs.Acts.{IsActive, HasLent, LiesIn}
-use Rattle.loader_agrees.specs.Reads.{its_segment, begins, stands_there, stands_size, at_there, within_front, lies_back, sees_of, one, user}
-use Rattle.loader_agrees.specs.BegunSound.{want_size}
-use Rattle.loader_agrees.specs.Slotted.{live_block}
-use Rattle.loader_agrees.specs.Seeing.{made_at, IsKept, kept_is, is_seen, refuses, does}
+use Rattle.loader_agrees.specs.Agrees.{Kept, Loaded, seen_in, seen_by, Agrees, Has, IsSound, Meets}
+use Rattle.loader_agrees.specs.Acts.{HasLent, LiesIn}
+use Rattle.loader_agrees.specs.laws.Reads.{its_segment, begins, stands_there, stands_size, at_there, within_front, lies_back, sees_of, one, user}
+use Rattle.loader_agrees.specs.laws.BegunSound.{want_size}
+use Rattle.loader_agrees.specs.laws.Slotted.{live_block}
+use Rattle.loader_agrees.specs.laws.Seeing.{made_at, IsKept, kept_is, is_seen, refuses, does}
 use Rattle.sys_loader.specs.declared.answers.Entered as answers
 use Rattle.sys_loader.specs.Replies.{activation_reply}
 use Rattle.sys_loader.specs.Activating.{CanLoad, HasCome, HasActivated, DidActivate}
-use Rattle.sys_loader.specs.Following.{jsl_reply, HasJsl, LeadsTo, IsEntry, IsJslRefusal, NoBytes, NoJsl, NoPlace, NoEntry, EntersPlace, CallsEntry, entered_at, DidJsl, Stops, Leads, Calls}
+use Rattle.sys_loader.specs.Following.{jsl_reply, HasJsl, IsEntry, IsJslRefusal, NoBytes, NoJsl, NoPlace, NoEntry, EntersPlace, entered_at, DidJsl, Stops, Leads, Calls}
 use Rattle.sys_loader.proofs.Activated.{IsMet, activated, presence_same}
-use Rattle.sys_loader.proofs.Came.{IsNew, is_new}
+use Rattle.sys_loader.proofs.Came.{is_new}
 use Rattle.sys_loader.proofs.Entries.{segment_read, offset_read, found_code, no_code}
 use Rattle.sys_loader.proofs.Turned.{table_stands, targets_count, number_within}
 
@@ -186,7 +185,7 @@ module _ (held : FileMap) (old : Loaded) (state : Machine) (sound : IsSound old.
 
       module _ (k : ℕ) (inside : k < entry_count lies.is.head.length) (code : entry_place k ≡ offset) where
         pub entry : (t : Target) × (slice_get (targets_of s) k ≡ Some t)
-        entry = Rattle.loader_agrees.specs.Lists.get_inside (targets_of s) k (omega (arith, inside, count))
+        entry = Rattle.loader_agrees.specs.laws.Lists.get_inside (targets_of s) k (omega (arith, inside, count))
 
         by_code : target_at_code (targets_of s) 0 offset ≡ Some entry.0
         by_code = found_code (targets_of s) 0 k offset entry.0 entry.1 (omega (arith, code))
@@ -217,7 +216,7 @@ module _ (held : FileMap) (old : Loaded) (state : Machine) (sound : IsSound old.
 
         head_there : at_number lies.is.kept.heads entry.0.segment ≡ Some (head_of is_target.segment')
         head_there = ap (λ (hs : List Head). at_number hs entry.0.segment) its.does_agree.heads
-            ∙ Rattle.loader_agrees.specs.Reads.head_at its.does_agree.segments entry.0.segment is_target.segment' is_target.is
+            ∙ Rattle.loader_agrees.specs.laws.Reads.head_at its.does_agree.segments entry.0.segment is_target.segment' is_target.is
 
         -- so its segment can be made active
         pub can_load : load_segment_refusal (seen_by old owner) entry.0.segment ≡ None

@@ -15,7 +15,7 @@ use Rattle.iigs_meaning.specs.Memory.{Memory, IsThere, Changes}
 use Rattle.loader_machine.specs.declared.seen.Presence.TheVariants.{Absent, Purged, Idle, Active}
 use Rattle.loader_machine.specs.Presences.{presence, lies_in, lies_at}
 use Rattle.loader_machine.specs.Steps.{changed, changed_all, let_go, idle_block}
-use Rattle.loader_agrees.specs.Slotted.{slot_set, live_block}
+use Rattle.loader_agrees.specs.laws.Slotted.{slot_set, live_block}
 use Rattle.sys_loader.specs.declared.user.Segment as users
 use Rattle.sys_loader.specs.Lives.{AreIdled}
 use Rattle.sys_loader.proofs.Written.{handles_of}

@@ -1,5 +1,5 @@
 -- An address that lies in none of the segments so far, and then in one or in none.
-use Rattle.std.proofs.Common.{◌≡◌, ◌≢◌, inl, inr, ℕ, zero, suc, Bool, true, false, ◌+◌, ◌-◌, ◌<◌, ◌≤◌, List, length, map, get_or, Option, Some, None, IsSomeAnd, nat_lt, refl, sym, ap, subst, ◌∙◌, arith}
+use Rattle.std.proofs.Common.{◌≡◌, ◌≢◌, inl, inr, ℕ, zero, suc, Bool, true, false, ◌+◌, ◌-◌, ◌<◌, List, length, map, get_or, Option, Some, None, IsSomeAnd, nat_lt, refl, sym, ap, subst, ◌∙◌, arith}
 use Rattle.std.specs.Prelude.{slice_get, option_map, ◌^◌}
 use Rattle.std.proofs.lemmas.List.{length-map}
 use Rattle.std.specs.Option.{option_and_then}
@@ -17,16 +17,13 @@ use Rattle.loader_machine.specs.State.{first_id, user_of}
 use Rattle.loader_machine.specs.Presences.{handle_at, presence, lies_in, lies_at}
 use Rattle.loader_agrees.specs.Agrees.{Kept, Loaded, IsSound}
 use Rattle.loader_agrees.specs.Acts.{LiesIn}
-use Rattle.loader_agrees.specs.Lists.{number_map}
-use Rattle.loader_agrees.specs.Seeing.{made_at, its_block}
+use Rattle.loader_agrees.specs.laws.Lists.{number_map}
+use Rattle.loader_agrees.specs.laws.Seeing.{made_at, its_block}
 use Rattle.iigs_memory.specs.Holder.{Has, IsHolder}
 use Rattle.sys_loader.specs.View.{kept, loaded}
 use Rattle.sys_loader.specs.declared.user.User.{User}
 use Rattle.sys_loader.specs.declared.user.Segment.{Segment}
 use Rattle.sys_loader.specs.Lying.{LiesAt, LiesInNone, IsSomewhereOf, IsNowhereFor, IsSomewhere}
-
-pub none_yet : (slots : Slots) (segments : List Segment) (h : Handle) (address : ℕ) → LiesInNone slots segments 0 h address
-none_yet slots segments h address k s offset less is = absurd (omega (arith, less))
 
 module _ (slots : Slots) (segments xs : List Segment) (h : Handle) (place address : ℕ) (d : Segment) (same : xs ≡ segments) (inside : place < length xs) where
   here : slice_get segments place ≡ Some (get_or xs place d)
@@ -40,9 +37,6 @@ module _ (slots : Slots) (segments xs : List Segment) (h : Handle) (place addres
         let it : t ≡ get_or xs place d = same_Some t (get_or xs place d) (sym found ∙ ap (slice_get segments) at ∙ here) in
         not offset (subst (λ (x : Segment). LiesAt slots x h address offset) it lies)
   ]
-
-pub none_all : (slots : Slots) (segments : List Segment) (h : Handle) (place address : ℕ) → LiesInNone slots segments place h address → length segments ≤ place → LiesInNone slots segments (length segments) h address
-none_all slots segments h place address none past k s offset less is = none k s offset (omega (arith, less, past)) is
 
 -- ---- users
 

@@ -1,52 +1,32 @@
 -- A load is the machine's step.
-use Rattle.std.proofs.Common.{◌≡◌, ◌≢◌, ◌⊎◌, inl, inr, ℕ, true, false, ◌+◌, ◌<◌, ◌≤◌, List, [], ◌∷◌, ◌++◌, length, map, Option, Some, None, nat_lt, Result, Ok, Err, refl, sym, ap, subst, ◌∙◌, arith}
+use Rattle.std.proofs.Common.{◌≡◌, inl, inr, ℕ, false, ◌+◌, ◌<◌, ◌≤◌, List, [], ◌∷◌, ◌++◌, length, map, Option, Some, None, nat_lt, Result, Ok, Err, refl, sym, ap, subst, ◌∙◌, arith}
 use Rattle.std.specs.Prelude.{IsSomeAnd, IfOk, IfErr, OnErr}
 use Rattle.std.specs.Option.{option_map}
 use Rattle.std.specs.FinMap.{get}
 use Rattle.std.proofs.lemmas.List.{length-map}
 use Rattle.std.proofs.lemmas.Bool.Decides.{nat_tests}
 use Rattle.omf_format.specs.File.{Segment}
-use Rattle.omf_io.specs.Counts.{one_more}
 use Rattle.omf_io.specs.Files.{FileMap, IsRead, IsUnread, max_file}
-use Rattle.load_meaning.specs.declared.load.LoadFault.{LoadFault}
-use Rattle.load_meaning.specs.declared.load.LoadCause.{LoadCause}
-use Rattle.load_meaning.specs.declared.load.LoadCause.TheVariants as causes
-use Rattle.load_meaning.specs.Loadable.{IsLoadable, IsFirstLoadFault}
-use Rattle.omf_cells.specs.Load.{IsRefused, UnlessMemory}
+use Rattle.load_meaning.specs.Loadable.{IsLoadable}
 use Rattle.iigs_meaning.specs.declared.faults.PlaceFault.{PlaceFault}
 use Rattle.iigs_meaning.specs.declared.faults.PlaceFault.TheVariants as place
 use Rattle.iigs_meaning.specs.Fits.{Slots}
 use Rattle.iigs_meaning.specs.Puts.{Purges, IsPlaceAllRefusal}
 use Rattle.loader_machine.specs.declared.faults.LoaderFault.{LoaderFault}
 use Rattle.loader_machine.specs.declared.faults.LoaderFault.TheVariants as fault
-use Rattle.loader_machine.specs.Heads.{head_of, wants_of, number_of}
+use Rattle.loader_machine.specs.Heads.{head_of, wants_of}
 use Rattle.loader_machine.specs.State.{Machine, User, first_id, max_users}
 use Rattle.loader_machine.specs.Found.{HoldsFile, Unread, Bad, Good}
-use Rattle.loader_machine.specs.Commands.{Reply, Load, Refused}
+use Rattle.loader_machine.specs.Commands.{Load, Refused}
 use Rattle.loader_machine.specs.Refusals.{load_refusal}
 use Rattle.loader_machine.specs.Steps.{NoSlots, Lacks, Begins, Steps}
-use Rattle.loader_machine.specs.Needs.{Needs, path_if}
+use Rattle.loader_machine.specs.Needs.{Needs}
 use Rattle.loader_agrees.specs.Agrees.{Loaded, outline, outline_of, IsSound, Agrees, Meets}
 use Rattle.loader_agrees.specs.Acts.{HasBegun}
-use Rattle.loader_agrees.specs.Begun.{may_load, load_met}
+use Rattle.loader_agrees.specs.laws.Begun.{may_load, load_met}
 use Rattle.sys_loader.specs.declared.answers.Started.{Started}
 use Rattle.sys_loader.specs.Replies.{load_reply}
-use Rattle.sys_loader.specs.Calls.{IsBeginRefusal, IsBadFile, IsStartRefusal, HasStartedFrom, HasStarted, IsLoadRefusal, IsFull, CantRead, LacksMemory, CantStart, HasLoaded}
-
--- the fault of a load file, or want of memory
-pub bad_file_is : (cause : LoadCause) (bad : LoadFault) (file : List ℕ) → cause ≢ causes.Memory → UnlessMemory cause bad (IsFirstLoadFault file bad) → IsFirstLoadFault file bad
-bad_file_is causes.NotLoadFile bad file other is = is
-bad_file_is causes.Truncated bad file other is = is
-bad_file_is causes.BadHeader bad file other is = is
-bad_file_is causes.Unsupported bad file other is = is
-bad_file_is causes.BadRecord bad file other is = is
-bad_file_is causes.Sequence bad file other is = is
-bad_file_is causes.DataTooLong bad file other is = is
-bad_file_is causes.PatchOutside bad file other is = is
-bad_file_is causes.NoSuchTarget bad file other is = is
-bad_file_is causes.DynamicTarget bad file other is = is
-bad_file_is causes.BadTable bad file other is = is
-bad_file_is causes.Memory bad file other is = absurd (other refl)
+use Rattle.sys_loader.specs.Calls.{IsBeginRefusal, IsStartRefusal, HasStartedFrom, IsLoadRefusal, IsFull, CantRead, LacksMemory, CantStart, HasLoaded}
 
 cant_load : (made : ℕ) → max_users ≤ made → load_refusal made ≡ Some fault.TooManyUsers
 unfolding load_refusal
@@ -135,11 +115,6 @@ pub started_from : (file : List ℕ) (old new : Loaded) (path : List ℕ) (segme
     → IfOk r (λ started. HasBegun old path segments started.user started.entry new) → IfOk r (λ started. HasStartedFrom file old path started new)
 started_from file old new path segments (Ok started) loadable begun = (segments, loadable, begun)
 started_from file old new path segments (Err why) loadable begun = tt
-
-pub refused_from : (file : List ℕ) (old : Loaded) (segments : List Segment) (r : Result Started LoaderFault) → IsLoadable file segments
-    → IfErr r (IsBeginRefusal old.memory (first_id + length old.users) (map head_of segments)) → IfErr r (IsStartRefusal file old)
-refused_from file old segments (Ok started) loadable none = tt
-refused_from file old segments (Err why) loadable none = inr (segments, loadable, none)
 
 pub loaded_from : (held : Option FileMap) (old new : Loaded) (path file : List ℕ) (r : Result Started LoaderFault) (before now : ℕ) → length old.users < max_users → IsRead held path file → now ≡ before
     → IfOk r (λ started. HasStartedFrom file old path started new) → IfErr r (IsStartRefusal file old) → OnErr r (new ≡ old) → HasLoaded held old path r new before now

@@ -11,7 +11,7 @@ use Rattle.omf_format.specs.Value.{wrapped, shifted}
 use Rattle.omf_format.specs.File.{Segment, segment_at}
 use Rattle.omf_io.specs.Files.{FileMap}
 use Rattle.load_meaning.specs.Cells.{Cell, Byte, Part, Patch, cells, segment_bytes, parts_from, with_patch, patched, byte_of}
-use Rattle.load_meaning.specs.CellLaws.{cells-bytes, loadable_has}
+use Rattle.load_meaning.specs.laws.CellLaws.{cells-bytes, loadable_has}
 use Rattle.load_meaning.specs.Loadable.{patch_list, IsPatch, IsSoundSegment}
 use Rattle.load_meaning.specs.LoadTable.{is_table, targets_of}
 use Rattle.iigs_meaning.specs.declared.handles.Handle.{Handle}
@@ -31,13 +31,13 @@ use Rattle.loader_machine.specs.Presences.{presence_at, there_at, is_active}
 use Rattle.loader_machine.specs.Stands.{Setting, setting, place_in, over_from, over, read_bytes, stands, entries_bytes}
 use Rattle.loader_machine.specs.Found.{HoldsLoad}
 use Rattle.loader_machine.specs.Commands.{Where, Lies}
-use Rattle.loader_machine.specs.OnceLaws.{one_load}
+use Rattle.loader_machine.specs.laws.OnceLaws.{one_load}
 use Rattle.loader_machine.specs.Steps.{IsAt}
 use Rattle.loader_agrees.specs.Agrees.{Outline, Loaded, Agrees, IsSound, Met}
 use Rattle.loader_agrees.specs.Acts.{LiesIn}
-use Rattle.loader_agrees.specs.Apart.{back, steps_once_there}
-use Rattle.loader_agrees.specs.Reads.{lies_back, lies_met}
-use Rattle.loader_agrees.specs.Seeing.{kept_is}
+use Rattle.loader_agrees.specs.laws.Apart.{back, steps_once_there}
+use Rattle.loader_agrees.specs.laws.Reads.{lies_back, lies_met}
+use Rattle.loader_agrees.specs.laws.Seeing.{kept_is}
 use Rattle.sys_loader.specs.declared.answers.Entered.{Entered}
 use Rattle.sys_loader.specs.Naming.{HasAddress, address_read}
 use Rattle.sys_loader.specs.Replies.{where_reply}

@@ -1,5 +1,5 @@
 -- The files that a call reads are those that the machine's command needs.
-use Rattle.std.proofs.Common.{◌≡◌, ◌≢◌, ◌⊎◌, inl, inr, ℕ, Bool, true, false, cond, not, ◌||◌, ◌<◌, ◌≤◌, ◌^◌, List, [], ◌∷◌, length, map, take, drop, Option, Some, None, IsSome, nat_lt, refl, sym, ap, subst, ◌∙◌, arith}
+use Rattle.std.proofs.Common.{◌≡◌, inl, inr, ℕ, Bool, true, false, cond, not, ◌||◌, ◌<◌, ◌≤◌, ◌^◌, List, [], length, take, drop, Option, Some, None, IsSome, nat_lt, refl, sym, ap, subst, ◌∙◌, arith}
 use Rattle.std.specs.Option.{option_map, option_map_or}
 use Rattle.std.proofs.lemmas.List.{length-map}
 use Rattle.omf_format.specs.File.{Segment}
@@ -7,32 +7,29 @@ use Rattle.omf_io.specs.Counts.{one_more, risen}
 use Rattle.omf_io.specs.Files.{FileMap}
 use Rattle.load_meaning.specs.declared.table.Target.{Target}
 use Rattle.load_meaning.specs.LoadTable.{targets_of}
-use Rattle.iigs_meaning.specs.declared.handles.Handle.{Handle}
 use Rattle.iigs_meaning.specs.Slots.{slot_at}
 use Rattle.iigs_meaning.specs.Fits.{Slots, HoldsByte}
 use Rattle.iigs_meaning.specs.Puts.{Purges}
 use Rattle.iigs_meaning.specs.Blocks.{AreApart}
 use Rattle.loader_machine.specs.declared.faults.LoaderFault.{LoaderFault}
 use Rattle.loader_machine.specs.declared.faults.LoaderFault.TheVariants as fault
-use Rattle.loader_machine.specs.declared.seen.Head.{Head}
-use Rattle.loader_machine.specs.declared.seen.Presence.{Presence}
 use Rattle.loader_machine.specs.Heads.{head_of, is_table}
 use Rattle.loader_machine.specs.State.{User, Machine, Seen, max_users, user_of, handles_of}
 use Rattle.loader_machine.specs.Presences.{presence_at}
-use Rattle.loader_machine.specs.OnceLaws.{IsApartState, segment_same, seen_once, at_once, stands_once}
+use Rattle.loader_machine.specs.laws.OnceLaws.{IsApartState, segment_same, seen_once, at_once, stands_once}
 use Rattle.loader_machine.specs.Commands.{Load, LoadSegment, Jsl, Restart}
 use Rattle.loader_machine.specs.Refusals.{Refuse, load_refusal, bytes_refusal, load_segment_refusal, restart_refusal}
 use Rattle.loader_machine.specs.Steps.{Sees, IsSeen, IsAt, seen_of, are_there, no_jsl, address_of, target_at_code}
 use Rattle.loader_machine.specs.Needs as needs
-use Rattle.loader_machine.specs.Needs.{Needs, NeedsOf, IsReadFor, Reaches, is_read, path_if, some_read_again}
+use Rattle.loader_machine.specs.Needs.{NeedsOf, IsReadFor, Reaches, is_read, path_if, some_read_again}
 use Rattle.loader_agrees.specs.Agrees.{Kept, Loaded, Outline, outline, outline_of, seen_in, seen_by, Agrees, IsSound, ReadsNeeded}
 use Rattle.loader_agrees.specs.Acts.{HasLent, LiesIn}
-use Rattle.loader_agrees.specs.Apart.{is_apart}
-use Rattle.loader_agrees.specs.Reads.{lies_back}
-use Rattle.loader_agrees.specs.Seeing.{IsKept, is_seen}
+use Rattle.loader_agrees.specs.laws.Apart.{is_apart}
+use Rattle.loader_agrees.specs.laws.Reads.{lies_back}
+use Rattle.loader_agrees.specs.laws.Seeing.{IsKept, is_seen}
 use Rattle.sys_loader.specs.declared.answers.Entered as answers
 use Rattle.sys_loader.specs.Activating.{segment_reads}
-use Rattle.sys_loader.specs.Following.{LeadsTo, IsJslRefusal, NoBytes, NoJsl, NoPlace, NoEntry, EntersPlace, CallsEntry, JslReads, JslReadsNone, IsRefused, IsPlace, IsStopped, IsThere, HasAsked}
+use Rattle.sys_loader.specs.Following.{IsJslRefusal, NoBytes, NoJsl, NoPlace, NoEntry, EntersPlace, CallsEntry, IsRefused, IsPlace, IsStopped, IsThere, HasAsked}
 use Rattle.sys_loader.specs.Restarting.{restart_reads}
 use Rattle.sys_loader.proofs.Followed as followed
 

@@ -10,7 +10,7 @@ use Rattle.std.proofs.lemmas.Option.{slice_get_within, same_Some}
 use Rattle.omf_format.specs.File.{Segment, segment_at}
 use Rattle.omf_io.specs.Counts.{IsFront}
 use Rattle.omf_io.specs.Files.{FileMap}
-use Rattle.load_meaning.specs.CellLaws.{loadable_has}
+use Rattle.load_meaning.specs.laws.CellLaws.{loadable_has}
 use Rattle.iigs_meaning.specs.declared.handles.Handle.{Handle}
 use Rattle.iigs_meaning.specs.Fits.{Slots}
 use Rattle.iigs_meaning.specs.Puts.{Purges}
@@ -22,18 +22,18 @@ use Rattle.loader_machine.specs.Heads.{head_of, at_number, is_table}
 use Rattle.loader_machine.specs.State.{Seen, Held, User, Machine, no_pokes, first_id, handles_of, held_at}
 use Rattle.loader_machine.specs.Presences.{handle_at, presence, is_active}
 use Rattle.loader_machine.specs.Stands.{stands, setting}
-use Rattle.loader_machine.specs.StandsLaws.{stands_long}
-use Rattle.loader_machine.specs.PokeLaws.{poked_begins}
+use Rattle.loader_machine.specs.laws.StandsLaws.{stands_long}
+use Rattle.loader_machine.specs.laws.PokeLaws.{poked_begins}
 use Rattle.loader_machine.specs.Refusals.{Refuse, of_user, of_running, of_segment, of_active, of_plain, of_inside, poke_refusal}
 use Rattle.loader_machine.specs.Commands.{Okay, Refused, Poke}
 use Rattle.loader_machine.specs.Steps.{with_segment, with_both}
 use Rattle.loader_agrees.specs.Agrees.{Kept, Loaded, Outline, outline_of, seen_by, UserAgrees, Agrees, IsOf, IsSound, Met}
-use Rattle.loader_agrees.specs.Checks.{PassesRunning, PassesSegment}
-use Rattle.loader_agrees.specs.Checking.{active_none, active_passes, inside_none, inside_passes}
-use Rattle.loader_agrees.specs.Lists.{set_map, set_same, set_at, set_apart, length_set, set_like}
-use Rattle.loader_agrees.specs.Seeing.{made_at, IsKept, kept_is, refuses, does, has, block_room, has_any}
-use Rattle.loader_agrees.specs.Reads.{head_at}
-use Rattle.loader_agrees.specs.Frame.{Same, agrees_still}
+use Rattle.loader_agrees.specs.laws.Checks.{PassesRunning, PassesSegment}
+use Rattle.loader_agrees.specs.laws.Checking.{active_none, active_passes, inside_none, inside_passes}
+use Rattle.loader_agrees.specs.laws.Lists.{set_map, set_same, set_at, set_apart, length_set, set_like}
+use Rattle.loader_agrees.specs.laws.Seeing.{made_at, IsKept, kept_is, refuses, does, has, block_room, has_any}
+use Rattle.loader_agrees.specs.laws.Reads.{head_at}
+use Rattle.loader_agrees.specs.laws.Frame.{Same, agrees_still}
 use Rattle.sys_loader.specs.Replies.{done_reply}
 use Rattle.sys_loader.specs.Lives.{with_bytes, with_byte, CanPoke, DidPoke}
 
@@ -268,9 +268,6 @@ module _ (held : FileMap) (old : Loaded) (state : Machine) (id number at byte : 
 
   state_users : slice_get state.users place ≡ Some (Some is.user)
   state_users = (made_at state.users id is.user is.made).0
-
-  some_user : User → Option User
-  some_user user = Some user
 
   agrees_next : Agrees held new next
   agrees_next = record {

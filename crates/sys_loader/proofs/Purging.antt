@@ -14,11 +14,11 @@ use Rattle.loader_machine.specs.State.{Machine, Seen}
 use Rattle.loader_machine.specs.Refusals.{purge_refusal}
 use Rattle.loader_machine.specs.Commands.{Purge, Refused}
 use Rattle.loader_agrees.specs.Agrees.{Loaded, seen_by, Agrees, IsSound, Met}
-use Rattle.loader_agrees.specs.Seeing.{is_seen}
-use Rattle.loader_agrees.specs.Stay.{slot_map}
-use Rattle.loader_agrees.specs.Slotted.{in_emptied}
-use Rattle.loader_agrees.specs.Keeping.{AllKept, OnlyOld, sound_kept}
-use Rattle.loader_agrees.specs.Purged.{purge_keeps, purge_met}
+use Rattle.loader_agrees.specs.laws.Seeing.{is_seen}
+use Rattle.loader_agrees.specs.laws.Stay.{slot_map}
+use Rattle.loader_agrees.specs.laws.Slotted.{in_emptied}
+use Rattle.loader_agrees.specs.laws.Keeping.{AllKept, OnlyOld, sound_kept}
+use Rattle.loader_agrees.specs.laws.Purged.{purge_keeps, purge_met}
 use Rattle.sys_loader.specs.Lives.{purge_reply, DidPurge}
 
 -- ---- the refusal

@@ -1,5 +1,5 @@
 -- What a JSL reaches, as it is looked up.
-use Rattle.std.proofs.Common.{◌≡◌, ◌≢◌, inl, inr, ℕ, Bool, true, false, ◌+◌, ◌-◌, ◌*◌, ◌<◌, ◌≤◌, length, drop, List, Option, Some, None, IsSome, refl, sym, ap, subst, ◌∙◌, arith}
+use Rattle.std.proofs.Common.{◌≡◌, ◌≢◌, inl, inr, ℕ, Bool, true, false, ◌+◌, ◌*◌, ◌<◌, ◌≤◌, length, drop, List, Option, Some, None, IsSome, refl, sym, ap, subst, ◌∙◌, arith}
 use Rattle.std.specs.Prelude.{IsSomeAnd}
 use Rattle.std.proofs.lemmas.List.{length-take-le, length-drop}
 use Rattle.std.proofs.lemmas.Option.{same_Some}
@@ -18,7 +18,7 @@ use Rattle.loader_machine.specs.Presences.{handle_at}
 use Rattle.loader_machine.specs.Refusals.{load_segment_refusal}
 use Rattle.loader_agrees.specs.Agrees.{Kept, Loaded, IsSound, seen_by}
 use Rattle.loader_agrees.specs.Acts.{HasLent, LiesIn}
-use Rattle.loader_agrees.specs.Seeing.{block_room}
+use Rattle.loader_agrees.specs.laws.Seeing.{block_room}
 use Rattle.sys_loader.specs.declared.answers.Entered.{Entered}
 use Rattle.sys_loader.specs.Activating.{segment_reads}
 use Rattle.sys_loader.specs.Following.{LeadsTo, IsJslRefusal, NoEntry, EntersPlace, CallsEntry, IsStopped, IsThere, HasAsked}

@@ -26,9 +26,9 @@ use Rattle.loader_machine.specs.Refusals.{restart_refusal}
 use Rattle.loader_machine.specs.Stands.{place_in, setting, target_in}
 use Rattle.loader_machine.specs.Steps.{active_block, changed_all, static_handles, is_read_again}
 use Rattle.loader_agrees.specs.Agrees.{Kept, Loaded, Has, IsSound}
-use Rattle.loader_agrees.specs.Lists.{number_map}
-use Rattle.loader_agrees.specs.Reads.{head_at}
-use Rattle.loader_agrees.specs.Seeing.{made_at}
+use Rattle.loader_agrees.specs.laws.Lists.{number_map}
+use Rattle.loader_agrees.specs.laws.Reads.{head_at}
+use Rattle.loader_agrees.specs.laws.Seeing.{made_at}
 use Rattle.sys_loader.specs.declared.answers.Started.{Started}
 use Rattle.sys_loader.specs.declared.user.Segment as users
 use Rattle.sys_loader.specs.declared.user.User.{User}

@@ -1,5 +1,5 @@
 -- A table whose entries follow a segment stands for the new setting.
-use Rattle.std.proofs.Common.{◌≡◌, ℕ, suc, Bool, true, false, cond, ◌+◌, ◌*◌, ◌^◌, ◌%◌, ◌/◌, ◌<◌, List, [], ◌∷◌, ◌++◌, length, drop, map, replicate, Option, Some, None, IsSome, refl, sym, ap, subst, ◌∙◌, arith, append_assoc, append-nil}
+use Rattle.std.proofs.Common.{◌≡◌, ℕ, suc, Bool, true, false, cond, ◌+◌, ◌*◌, ◌^◌, ◌<◌, List, [], ◌∷◌, ◌++◌, length, drop, map, replicate, Option, Some, None, IsSome, refl, sym, ap, subst, ◌∙◌, arith, append_assoc, append-nil}
 use Rattle.std.specs.List.{flat_map, AllByRecursion}
 use Rattle.std.specs.Option.{option_map}
 use Rattle.std.proofs.lemmas.Grind.{flat_map-append}
@@ -11,7 +11,7 @@ use Rattle.omf_io.specs.Counts.{IsFront}
 use Rattle.load_meaning.specs.declared.table.Target.{Target}
 use Rattle.load_meaning.specs.declared.table.Entry.{Entry}
 use Rattle.load_meaning.specs.Table.{entry_start, entry_bytes, table_bytes, code_bytes, written_at}
-use Rattle.load_meaning.specs.TableLaws.{number_part, number_rest, number_written, length-code_bytes, length-entry_bytes}
+use Rattle.load_meaning.specs.laws.TableLaws.{number_part, number_rest, number_written, length-code_bytes, length-entry_bytes}
 use Rattle.loader_machine.specs.Stands.{Setting, entry_for}
 use Rattle.sys_loader.specs.Renewing.{is_chosen, code_for, renewed_at, renewed}
 
@@ -176,16 +176,3 @@ module _ (only address : Option ℕ) (a b : Setting) (id : a.id ≡ b.id) where
       (subst (λ (n : ℕ). IsFront (table_bytes (map (entry_for b) ts ++ [])) (renewed only address n bytes)) none (renewed_from [] ts bytes all is))
 
 -- ---- as it is written
-
--- a code has the low 24 bits of its address
-pub code_mod : (n : ℕ) → code_bytes (Some (n % 2 ^ 24)) ≡ code_bytes (Some n)
-code_mod n = cc (one, two, three)
-  where
-    one : n % 2 ^ 24 % 256 ≡ n % 256
-    one = omega arith
-
-    two : n % 2 ^ 24 / 256 % 256 ≡ n / 256 % 256
-    two = omega arith
-
-    three : n % 2 ^ 24 / 65536 % 256 ≡ n / 65536 % 256
-    three = omega arith

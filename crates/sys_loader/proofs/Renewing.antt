@@ -1,6 +1,6 @@
 -- Tables whose entries follow, one by one.
-use Rattle.std.proofs.Common.{◌≡◌, inl, inr, ℕ, zero, suc, Bool, true, false, ◌+◌, ◌≤◌, List, [], ◌∷◌, length, get_or, Option, Some, None, IsSome, refl, sym, ap, subst, ◌∙◌, arith}
-use Rattle.std.specs.Prelude.{slice_set, IsSomeAnd}
+use Rattle.std.proofs.Common.{◌≡◌, inl, inr, ℕ, Bool, true, false, ◌+◌, ◌≤◌, List, [], ◌∷◌, length, get_or, Option, Some, None, IsSome, refl, sym, ap, subst, ◌∙◌, arith}
+use Rattle.std.specs.Prelude.{slice_set}
 use Rattle.std.proofs.lemmas.Bool.{cases_eq, cases_lt}
 use Rattle.std.proofs.lemmas.Option.{same_Some}
 use Rattle.std.proofs.lemmas.List.{get_or-set_same, get_or-set_other}
@@ -19,18 +19,6 @@ use Rattle.sys_loader.specs.Lives.{with_bytes}
 use Rattle.sys_loader.specs.Renewing.{renewed, IsRenewed, AreRoomy, AreRenewed}
 
 -- ---- one table
-
--- a handle whose presence is somewhere reaches a block that is there
-pub here : (slots : Slots) (o : Option Handle) (h : Handle) → IsSome (there_at (presence slots o)) → o ≡ Some h → IsSomeAnd (get slots h) (λ block. IsSome block.at)
-here slots o h some is = go (get slots h) (subst (λ (x : Option Handle). IsSome (there_at (presence slots x))) is some)
-  where
-    at_block : (at : Option ℕ) (locked : Bool) → IsSome (there_at (lies_at h at locked)) → IsSome at
-    at_block None locked e = absurd cc
-    at_block (Some a) locked e = refl
-
-    go : (b : Option Block) → IsSome (there_at (lies_in h b)) → IsSomeAnd b (λ block. IsSome block.at)
-    go None e = absurd cc
-    go (Some block) e = at_block block.at block.locked e
 
 -- the handle of a presence is the one that was asked for
 pub same_active : (slots : Slots) (o : Option Handle) (h : Handle) (address : ℕ) → presence slots o ≡ Active h address → o ≡ Some h
@@ -106,25 +94,7 @@ renewed_here only address o size old new h is room same new_is = record {
             no_bytes bs [] e same' le' = get_or-eq_default bs [] (omega (arith, same', le'))
             no_bytes bs (x ∷ w) e same' le' = absurd (omega (arith, e))
 
--- it isn't there, and nothing is written
-pub renewed_gone : (only address : Option ℕ) (o : Option Handle) (size : ℕ) (old : Memory) → there_at (presence old.slots o) ≡ None → IsRenewed only address o size old old
-renewed_gone only address o size old none = record {
-  banks = refl;
-  slots = refl;
-  follows = λ h is there. let no : IsSome {T = ℕ} None = subst IsSome none (subst (λ (x : Option Handle). IsSome (there_at (presence old.slots x))) (sym is) there) in absurd cc;
-  stay = λ slot apart. refl;
-  sizes = λ slot. refl;
-}
-
 -- ---- one more
-
-pub tables_none : (heads : List Head) (handles : List (Option Handle)) (only address : Option ℕ) (old : Memory) → AreRenewed heads handles only address old old 0
-tables_none heads handles only address old = record { banks = refl; slots = refl; follow = none; stay = λ slot apart. refl; sizes = λ slot. refl }
-  where
-    none : (n : ℕ) (head : Head) (h : Handle) → n ≤ 0 → at_number heads n ≡ Some head → handle_at handles n ≡ Some h → is_table head ≡ true
-        → IsSome (there_at (presence old.slots (Some h))) → bytes_at old h.slot ≡ renewed only address (entry_count head.length) (bytes_at old h.slot)
-    none zero head h le has is table there = absurd cc
-    none (suc n) head h le has is table there = absurd (omega (arith, le))
 
 module _ (heads : List Head) (handles : List (Option Handle)) (only address : Option ℕ) (old now : Memory) (k : ℕ) (head : Head) (so_far : AreRenewed heads handles only address old now k)
     (has : at_number heads (k + 1) ≡ Some head) where

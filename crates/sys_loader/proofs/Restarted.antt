@@ -20,14 +20,14 @@ use Rattle.loader_machine.specs.declared.seen.Head.{Head}
 use Rattle.loader_machine.specs.Heads.{head_of, at_number, wants_of}
 use Rattle.loader_machine.specs.State.{User, Machine, Seen, with_user, handles_of}
 use Rattle.loader_machine.specs.Found.{HoldsLoad, Bad, Good}
-use Rattle.loader_machine.specs.OnceLaws.{one_load, found_once}
+use Rattle.loader_machine.specs.laws.OnceLaws.{one_load, found_once}
 use Rattle.loader_machine.specs.Commands.{Reply, Started, Restart, Refused}
 use Rattle.loader_machine.specs.Refusals.{Refuse, restart_refusal}
 use Rattle.loader_machine.specs.Steps.{Sees, seen_of, NoSlots, Lacks, Begins, Either, StepsRestart, Steps, active_block, changed_all, are_there, static_handles, is_read_again, entry_of, started_user}
 use Rattle.loader_machine.specs.Needs as needs
 use Rattle.loader_machine.specs.Needs.{Needs, some_read_again, path_if}
 use Rattle.loader_agrees.specs.Agrees.{Kept, Loaded, Outline, seen_in, Agrees, IsSound, Meets}
-use Rattle.loader_agrees.specs.Seeing.{IsKept, kept_is, refuses, does}
+use Rattle.loader_agrees.specs.laws.Seeing.{IsKept, kept_is, refuses, does}
 use Rattle.sys_loader.specs.declared.answers.Started as answers
 use Rattle.sys_loader.specs.Replies.{load_reply}
 use Rattle.sys_loader.specs.Calls.{IsBeginRefusal}
@@ -152,7 +152,7 @@ module _ (held : FileMap) (old : Loaded) (state : Machine) (id : ℕ) (sound : I
     banks = refl;
     slots = refl;
     begins = λ n s h found again has. absurd (none_again kept.heads n (Rattle.loader_machine.specs.Heads.head_of s) none
-        (ap (λ (hs : List Head). at_number hs n) is.does_agree.heads ∙ Rattle.loader_agrees.specs.Reads.head_at is.does_agree.segments n s found) again);
+        (ap (λ (hs : List Head). at_number hs n) is.does_agree.heads ∙ Rattle.loader_agrees.specs.laws.Reads.head_at is.does_agree.segments n s found) again);
     stay = λ slot apart. refl;
     sizes = λ slot. refl;
   }) did

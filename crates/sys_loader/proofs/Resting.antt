@@ -26,13 +26,13 @@ use Rattle.loader_machine.specs.Refusals.{of_user, of_running, shut_down_refusal
 use Rattle.loader_machine.specs.Commands.{Okay, ShutDown}
 use Rattle.loader_machine.specs.Steps.{let_go, changed_all, kept_state}
 use Rattle.loader_agrees.specs.Agrees.{Kept, Loaded, Outline, outline, outline_of, seen_by, UserAgrees, Agrees, IsOf, Has, IsSound, Met}
-use Rattle.loader_agrees.specs.Begun.{decide}
-use Rattle.loader_agrees.specs.Checks.{PassesRunning, StopsRunning}
-use Rattle.loader_agrees.specs.Frame.{Same, agrees_still}
-use Rattle.loader_agrees.specs.Lists.{set_map, set_at, set_apart, length_set}
-use Rattle.loader_agrees.specs.Reads.{head_at}
-use Rattle.loader_agrees.specs.Seeing.{made_at, IsKept, kept_is, does, has_any}
-use Rattle.loader_agrees.specs.Stay.{is_there}
+use Rattle.loader_agrees.specs.laws.Begun.{decide}
+use Rattle.loader_agrees.specs.laws.Checks.{PassesRunning, StopsRunning}
+use Rattle.loader_agrees.specs.laws.Frame.{Same, agrees_still}
+use Rattle.loader_agrees.specs.laws.Lists.{set_map, set_at, set_apart, length_set}
+use Rattle.loader_agrees.specs.laws.Reads.{head_at}
+use Rattle.loader_agrees.specs.laws.Seeing.{made_at, IsKept, kept_is, does, has_any}
+use Rattle.loader_agrees.specs.laws.Stay.{is_there}
 use Rattle.sys_loader.specs.Renewing.{AreRenewed}
 use Rattle.sys_loader.specs.Lives.{AreIdled, HasKept}
 use Rattle.sys_loader.proofs.Shifting.{there_block}

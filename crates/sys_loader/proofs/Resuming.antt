@@ -9,7 +9,7 @@ use Rattle.omf_format.specs.Header.{is_dynamic}
 use Rattle.omf_io.specs.Counts.{IsFront}
 use Rattle.omf_io.specs.Files.{FileMap}
 use Rattle.load_meaning.specs.LoadTable as load
-use Rattle.load_meaning.specs.CellLaws.{loadable_has}
+use Rattle.load_meaning.specs.laws.CellLaws.{loadable_has}
 use Rattle.iigs_meaning.specs.declared.handles.Handle.{Handle}
 use Rattle.iigs_meaning.specs.declared.wants.Block.{Block}
 use Rattle.iigs_meaning.specs.Slots.{slot_at, get}
@@ -18,20 +18,20 @@ use Rattle.iigs_meaning.specs.Memory.{Memory, bytes_at}
 use Rattle.loader_machine.specs.declared.seen.Head.{Head}
 use Rattle.loader_machine.specs.declared.seen.Life.TheVariants.{Running, Dormant}
 use Rattle.loader_machine.specs.Heads.{head_of, at_number, is_static}
-use Rattle.loader_machine.specs.State.{Held, User, Machine, fresh, absent, no_pokes, first_id, user_of, with_user, handles_of, held_at}
+use Rattle.loader_machine.specs.State.{Held, User, Machine, fresh, absent, no_pokes, first_id, user_of, handles_of, held_at}
 use Rattle.loader_machine.specs.declared.seen.Presence.{Presence}
 use Rattle.loader_machine.specs.declared.seen.Presence.TheVariants.{Absent, Purged, Idle, Active}
 use Rattle.loader_machine.specs.Presences.{handle_at, presence, presence_at, there_at, active_at, is_active, is_there, lies_in, lies_at}
 use Rattle.loader_machine.specs.Stands.{Setting, setting, stands}
-use Rattle.loader_machine.specs.StandsLaws.{AreAlike, stands_alike}
+use Rattle.loader_machine.specs.laws.StandsLaws.{AreAlike, stands_alike}
 use Rattle.loader_machine.specs.Steps.{active_block, changed_all, are_there, static_handles, is_read_again, read_again, with_both}
 use Rattle.loader_agrees.specs.Agrees.{Kept, Loaded, Outline, outline, outline_of, IsSegments, AreThere, UserAgrees, Agrees, IsOf, Has, IsSound}
-use Rattle.loader_agrees.specs.Begun.{decide}
-use Rattle.loader_agrees.specs.Frame.{Same, agrees_still}
-use Rattle.loader_agrees.specs.Lists.{set_map, set_at, set_apart, length_set}
-use Rattle.loader_agrees.specs.Reads.{head_at}
-use Rattle.loader_agrees.specs.Seeing.{made_at, IsKept, kept_is, has_any}
-use Rattle.loader_agrees.specs.Stay as stay
+use Rattle.loader_agrees.specs.laws.Begun.{decide}
+use Rattle.loader_agrees.specs.laws.Frame.{Same, agrees_still}
+use Rattle.loader_agrees.specs.laws.Lists.{set_map, set_at, set_apart, length_set}
+use Rattle.loader_agrees.specs.laws.Reads.{head_at}
+use Rattle.loader_agrees.specs.laws.Seeing.{made_at, IsKept, kept_is, has_any}
+use Rattle.loader_agrees.specs.laws.Stay as stay
 use Rattle.sys_loader.specs.declared.answers.Started.{Started}
 use Rattle.sys_loader.specs.Restarting.{AreReread, HasResumed}
 use Rattle.sys_loader.proofs.Shifting.{there_block}

@@ -1,5 +1,5 @@
 -- Calls on the script's own blocks, by their answers.
-use Rattle.std.proofs.Common.{◌≡◌, ◌≢◌, ◌⊎◌, inl, inr, ℕ, Bool, length, true, false, ◌+◌, ◌≤◌, List, Option, Some, None, IsSome, IsSomeAnd, refl, sym, ap, subst, ◌∙◌, arith}
+use Rattle.std.proofs.Common.{◌≡◌, ◌≢◌, inl, inr, ℕ, Bool, length, ◌+◌, ◌≤◌, Option, Some, None, IsSomeAnd, refl, sym, ap, subst, ◌∙◌, arith}
 use Rattle.std.specs.Prelude.{option_map, IfOk, IfErr, OnErr, Result, Ok, Err}
 use Rattle.std.proofs.lemmas.Option.{same_Some}
 use Rattle.omf_io.specs.Files.{FileMap}
@@ -18,17 +18,17 @@ use Rattle.iigs_meaning.specs.Memory.{Memory, IsPlaced, IsFreed, Changes, bytes_
 use Rattle.iigs_meaning.specs.declared.slots.Content.TheVariants.{Used}
 use Rattle.loader_machine.specs.Steps.{StepsChange}
 use Rattle.loader_machine.specs.declared.faults.LoaderFault.{LoaderFault}
-use Rattle.loader_machine.specs.declared.faults.LoaderFault.TheVariants.{Empty, LoaderOwned, Stale}
+use Rattle.loader_machine.specs.declared.faults.LoaderFault.TheVariants.{Empty, LoaderOwned}
 use Rattle.loader_machine.specs.State.{Machine}
 use Rattle.loader_machine.specs.Commands.{Alloc, Free, Placed, Refused}
 use Rattle.loader_machine.specs.Refusals.{free_refusal, change_refusal}
 use Rattle.loader_agrees.specs.Agrees.{Loaded, Agrees, IsSound, Met}
 use Rattle.loader_agrees.specs.Acts.{CanRead}
-use Rattle.loader_agrees.specs.Begun.{puts_here}
-use Rattle.loader_agrees.specs.Keeping.{sound_kept}
-use Rattle.loader_agrees.specs.ScriptBlocks.{placed_kept, placed_only, changed_kept, changed_only, released_none, alloc_met, change_met, alloc_full, alloc_lacks, free_met, decides_refused}
-use Rattle.loader_agrees.specs.Checking as checking
-use Rattle.loader_agrees.specs.Seeing.{block_room}
+use Rattle.loader_agrees.specs.laws.Begun.{puts_here}
+use Rattle.loader_agrees.specs.laws.Keeping.{sound_kept}
+use Rattle.loader_agrees.specs.laws.ScriptBlocks.{placed_kept, placed_only, changed_kept, changed_only, released_none, alloc_met, change_met, alloc_full, alloc_lacks, free_met, decides_refused}
+use Rattle.loader_agrees.specs.laws.Checking as checking
+use Rattle.loader_agrees.specs.laws.Seeing.{block_room}
 use Rattle.sys_loader.specs.Replies.{done_reply, IsAllocRefusal}
 
 pub if_ok : {X E : Type 0} (r : Result X E) (P Q : X → Type 0) → IfOk r P → ((x : X) → P x → Q x) → IfOk r Q
@@ -147,9 +147,6 @@ there_is slots h is = go (get slots h) is
     go None is = is
     go (Some block) is = is.0
 
-pub its_there : (slots : Slots) (h : Handle) → IsSomeAnd (get slots h) (λ (block : Block). (block.user ≡ 0) × ((address : ℕ) × (block.at ≡ Some address))) → IsSomeAnd (get slots h) (λ (block : Block). block.user ≡ 0)
-its_there slots h is = there_is slots h is
-
 pub changed_sound : (old : Loaded) (new : Memory) (h : Handle) (change : Block → Block) → ((b : Block) → (change b).user ≡ b.user) → IsSound old.memory old.users
     → IsSomeAnd (get old.memory.slots h) (λ (block : Block). (block.user ≡ 0) × ((address : ℕ) × (block.at ≡ Some address))) → Changes old.memory h change new → IsSound new old.users
 changed_sound old new h change keeps sound is changes =
@@ -169,21 +166,6 @@ change_meets old new h change (Ok done) sound did refused err held state agrees 
 change_meets old new h change (Err fault) sound did refused err held state agrees =
     subst (λ (l : Loaded). (next : Machine) × StepsChange state h change (Refused fault) next × Agrees held l next) (sym err)
     (state, decides_refused held old state agrees (λ (t : Slots). change_refusal t h) fault _ refused, agrees)
-
--- a block that is there isn't refused
-pub not_stale : (slots : Slots) (h : Handle) → IsSomeAnd (get slots h) (λ (block : Block). (block.user ≡ 0) × ((address : ℕ) × (block.at ≡ Some address))) → get slots h ≡ None → ⊥
-not_stale slots h is none = go (get slots h) is none
-  where
-    go : (o : Option Block) → IsSomeAnd o (λ (block : Block). (block.user ≡ 0) × ((address : ℕ) × (block.at ≡ Some address))) → o ≡ None → ⊥
-    go None is e = is
-    go (Some block) is e = cc
-
-pub not_empty : (slots : Slots) (h : Handle) → IsSomeAnd (get slots h) (λ (block : Block). (block.user ≡ 0) × ((address : ℕ) × (block.at ≡ Some address))) → IsSomeAnd (get slots h) (λ (block : Block). block.at ≡ None) → ⊥
-not_empty slots h is none = go (get slots h) is none
-  where
-    go : (o : Option Block) → IsSomeAnd o (λ (block : Block). (block.user ≡ 0) × ((address : ℕ) × (block.at ≡ Some address))) → IsSomeAnd o (λ (block : Block). block.at ≡ None) → ⊥
-    go None is e = is
-    go (Some block) is e = let clash : Some is.1.0 ≡ None = sym is.1.1 ∙ e in cc
 
 -- ---- bytes
 

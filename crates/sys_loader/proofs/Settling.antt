@@ -1,37 +1,36 @@
 -- Segments of a load file in their new blocks: what is written there is what stands in them.
-use Rattle.std.proofs.Common.{◌≡◌, ◌≢◌, ◌⊎◌, inl, inr, ℕ, zero, suc, Bool, true, false, cond, ◌==◌, ◌+◌, ◌*◌, ◌<◌, ◌≤◌, List, [], ◌∷◌, ◌++◌, length, map, Option, Some, None, IsSome, refl, sym, ap, subst, ◌∙◌, arith}
-use Rattle.std.specs.Prelude.{slice_get, unwrap_or, IsSomeAnd, not, ◌&&◌}
+use Rattle.std.proofs.Common.{◌≡◌, inl, inr, ℕ, zero, suc, Bool, true, false, cond, ◌==◌, ◌+◌, ◌*◌, ◌≤◌, List, [], ◌∷◌, ◌++◌, length, map, Option, Some, None, refl, sym, ap, subst, ◌∙◌, arith}
+use Rattle.std.specs.Prelude.{slice_get, unwrap_or, IsSomeAnd}
 use Rattle.std.specs.List.{AllByRecursion}
 use Rattle.std.specs.Option.{option_map, option_map_or, option_and_then}
 use Rattle.std.proofs.lemmas.Option.{same_Some}
 use Rattle.std.proofs.lemmas.List.{length-map}
 use Rattle.omf_format.specs.Header.{form_of, is_dynamic}
 use Rattle.omf_format.specs.File.{Segment, segment_at}
-use Rattle.omf_format.specs.Body.{body_bytes}
 use Rattle.omf_io.specs.Counts.{IsFront}
 use Rattle.load_meaning.specs.declared.table.Target.{Target}
 use Rattle.load_meaning.specs.declared.table.Entry.{Entry}
 use Rattle.load_meaning.specs.Cells as load
 use Rattle.load_meaning.specs.Cells.{segment_bytes}
-use Rattle.load_meaning.specs.CellLaws.{loadable_has, length-segment_bytes}
-use Rattle.load_meaning.specs.Table.{entry_bytes, table_bytes, file_entry}
-use Rattle.load_meaning.specs.LoadTable.{is_table, table_of, targets_of}
-use Rattle.load_meaning.specs.Loadable.{IsLoadable, IsSoundSegment, IsTable, IsTarget}
-use Rattle.omf_cells.specs.Load.{HasLength, table_targets}
+use Rattle.load_meaning.specs.laws.CellLaws.{loadable_has, length-segment_bytes}
+use Rattle.load_meaning.specs.Table.{table_bytes, file_entry}
+use Rattle.load_meaning.specs.LoadTable.{is_table, targets_of}
+use Rattle.load_meaning.specs.Loadable.{IsLoadable, IsSoundSegment, IsTarget}
+use Rattle.omf_cells.specs.Load.{table_targets}
 use Rattle.omf_cells.specs.Places.{place_in, address_in}
 use Rattle.iigs_meaning.specs.declared.handles.Handle.{Handle}
 use Rattle.iigs_meaning.specs.Fits.{Slots}
 use Rattle.loader_machine.specs.declared.seen.Head.{Head}
-use Rattle.loader_machine.specs.Heads.{head_of, at_number, is_static}
+use Rattle.loader_machine.specs.Heads.{head_of, is_static}
 use Rattle.loader_machine.specs.State.{Held, no_pokes}
 use Rattle.loader_machine.specs.Presences.{handle_at, presence, presence_at, there_at, active_at}
 use Rattle.loader_machine.specs.Stands as machine
 use Rattle.loader_machine.specs.Stands.{Setting, setting, entry_for, entries_bytes, read_bytes, stands, target_in}
-use Rattle.loader_machine.specs.PokeLaws.{over_none}
+use Rattle.loader_machine.specs.laws.PokeLaws.{over_none}
 use Rattle.loader_machine.specs.Steps.{spread}
-use Rattle.loader_agrees.specs.Begun.{decide}
-use Rattle.loader_agrees.specs.Filled.{plain_stands}
-use Rattle.loader_agrees.specs.Lists.{number_map}
+use Rattle.loader_agrees.specs.laws.Begun.{decide}
+use Rattle.loader_agrees.specs.laws.Filled.{plain_stands}
+use Rattle.loader_agrees.specs.laws.Lists.{number_map}
 use Rattle.sys_loader.specs.declared.user.Segment as users
 use Rattle.sys_loader.specs.Calls.{spread_handles}
 use Rattle.sys_loader.specs.Filling.{own_entry, AreSound, HasHead, IsSetting, IsFilled}
@@ -52,9 +51,6 @@ front_of None bytes front rest is = absurd is
 front_of (Some s) bytes front rest is = (rest, ap (λ (l : List ℕ). l ++ rest) is)
 
 module _ (segments : List Segment) (number : ℕ) (head : Head) (s : Segment) (there : segment_at segments number ≡ Some s) (is_head : head ≡ head_of s) where
-  length_is : HasLength segments number head.length
-  length_is = rw there (ap (λ (x : Head). x.length) (sym is_head))
-
   module _ (sound : AreSound segments) (is : (form_of head.kind == 0x02) ≡ true) where
     its_table : is_table s ≡ true
     its_table = ap (λ (x : Head). form_of x.kind == 0x02) (sym is_head) ∙ is
@@ -99,9 +95,6 @@ module _ (segments : List Segment) (number : ℕ) (head : Head) (s : Segment) (t
 module _ (segments : List Segment) (number : ℕ) (head : Head) (has : HasHead segments number head) where
   found : (s : Segment) × (segment_at segments number ≡ Some s) × (head ≡ head_of s)
   found = some_and (segment_at segments number) (λ s. head ≡ head_of s) has
-
-  pub has_length : HasLength segments number head.length
-  has_length = length_is segments number head found.0 found.1 found.2
 
   -- a table has room for its entries
   pub table_room : AreSound segments → (form_of head.kind == 0x02) ≡ true → (size : ℕ) → head.length ≤ size → 12 + 14 * length (table_targets segments) ≤ size

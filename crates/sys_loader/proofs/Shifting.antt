@@ -24,12 +24,12 @@ use Rattle.loader_machine.specs.Presences.{handle_at, presence, presence_at, the
 use Rattle.loader_machine.specs.Stands.{setting}
 use Rattle.loader_machine.specs.Steps.{changed, with_slots}
 use Rattle.loader_agrees.specs.Agrees.{Kept, Loaded, outline, UserAgrees, Agrees, IsSegments, IsOf, Has, IsSound}
-use Rattle.loader_agrees.specs.Begun.{decide}
-use Rattle.loader_agrees.specs.Frame.{Same, agrees_still}
-use Rattle.loader_agrees.specs.Reads.{head_at}
-use Rattle.loader_agrees.specs.Seeing.{made_at, IsKept, kept_is, has_any}
-use Rattle.loader_agrees.specs.Slotted.{slot_apart, slot_set}
-use Rattle.loader_agrees.specs.Stay.{is_there}
+use Rattle.loader_agrees.specs.laws.Begun.{decide}
+use Rattle.loader_agrees.specs.laws.Frame.{Same, agrees_still}
+use Rattle.loader_agrees.specs.laws.Reads.{head_at}
+use Rattle.loader_agrees.specs.laws.Seeing.{made_at, IsKept, kept_is, has_any}
+use Rattle.loader_agrees.specs.laws.Slotted.{slot_apart, slot_set}
+use Rattle.loader_agrees.specs.laws.Stay.{is_there}
 use Rattle.sys_loader.specs.Renewing.{is_chosen}
 use Rattle.sys_loader.specs.Lives.{HasShifted}
 use Rattle.sys_loader.proofs.Turned.{Becomes, Stays, Turns, Turned, turned_agrees}

@@ -16,9 +16,9 @@ use Rattle.loader_machine.specs.Heads.{at_number, is_static}
 use Rattle.loader_machine.specs.Presences.{handle_at, presence, is_there, lies_in, lies_at}
 use Rattle.loader_machine.specs.Steps.{active_block, changed, changed_all, are_there, static_handles, is_read_again}
 use Rattle.loader_machine.specs.Needs.{some_read_again}
-use Rattle.loader_agrees.specs.Begun.{decide}
-use Rattle.loader_agrees.specs.Lists.{number_map}
-use Rattle.loader_agrees.specs.Slotted.{slot_set, live_block}
+use Rattle.loader_agrees.specs.laws.Begun.{decide}
+use Rattle.loader_agrees.specs.laws.Lists.{number_map}
+use Rattle.loader_agrees.specs.laws.Slotted.{slot_set, live_block}
 use Rattle.sys_loader.specs.declared.user.Segment.{Segment}
 use Rattle.sys_loader.specs.Restarting.{static_handle, AreActivated}
 use Rattle.sys_loader.proofs.Written.{heads_of, handles_of}

@@ -8,7 +8,7 @@ use Rattle.loader_machine.specs.State.{Machine}
 use Rattle.loader_machine.specs.Refusals.{shut_down_refusal}
 use Rattle.loader_machine.specs.Commands.{Refused, ShutDown}
 use Rattle.loader_agrees.specs.Agrees.{Loaded, seen_by, Agrees, IsSound, Met}
-use Rattle.loader_agrees.specs.Seeing.{refuses}
+use Rattle.loader_agrees.specs.laws.Seeing.{refuses}
 use Rattle.sys_loader.specs.Replies.{done_reply}
 use Rattle.sys_loader.specs.Lives.{DidShutDown}
 use Rattle.sys_loader.proofs.Dropping.{drop_met}

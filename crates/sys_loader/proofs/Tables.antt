@@ -1,5 +1,5 @@
 -- A table written entry by entry.
-use Rattle.std.proofs.Common.{◌≡◌, ℕ, zero, suc, ◌+◌, ◌-◌, ◌*◌, ◌<◌, ◌≤◌, List, [], ◌∷◌, ◌++◌, length, take, drop, map, replicate, Some, None, refl, sym, ap, subst, ◌∙◌, arith, append_assoc, append-nil}
+use Rattle.std.proofs.Common.{◌≡◌, ℕ, zero, suc, ◌+◌, ◌-◌, ◌*◌, ◌<◌, ◌≤◌, List, [], ◌∷◌, ◌++◌, length, take, drop, map, replicate, Some, None, refl, sym, ap, ◌∙◌, arith, append_assoc, append-nil}
 use Rattle.std.specs.Prelude.{slice_get}
 use Rattle.std.specs.List.{flat_map}
 use Rattle.std.proofs.lemmas.Option.{same_Some}
@@ -8,7 +8,7 @@ use Rattle.std.proofs.lemmas.List.{take_at, take_all, length-append, length-repl
 use Rattle.omf_io.specs.Counts.{IsFront}
 use Rattle.load_meaning.specs.declared.table.Target.{Target}
 use Rattle.load_meaning.specs.Table.{entry_bytes, table_bytes, written_at}
-use Rattle.load_meaning.specs.TableLaws.{length-entry_bytes}
+use Rattle.load_meaning.specs.laws.TableLaws.{length-entry_bytes}
 use Rattle.sys_loader.specs.Filling.{own_entry}
 
 abbrev entries : ℕ → List Target → List ℕ
@@ -92,9 +92,6 @@ entered_more user ts k out t room has so_far =
       size = omega (arith, size, room, so_far.size, inside, ap length made, length-append (front ++ piece) (replicate (so_far.rest - length piece) 0), length-append front piece, long, length-replicate {A = ℕ} (so_far.rest - length piece) 0);
       is = made ∙ ap (λ (l : List ℕ). l ++ replicate (so_far.rest - length piece) 0) next;
     }
-
-pub entered_room : (user : ℕ) (ts : List Target) (k : ℕ) (out : List ℕ) → 12 + 14 * length ts ≤ length out → k < length ts → Entered user ts k out → 8 + 14 * k + 14 ≤ length out
-entered_room user ts k out room inside so_far = omega (arith, room, inside)
 
 -- where all stand there, the bytes begin with the table
 pub entered_all : (user : ℕ) (ts : List Target) (k : ℕ) (out : List ℕ) → 12 + 14 * length ts ≤ length out → length ts ≤ k → Entered user ts k out → IsFront (table_bytes (map (own_entry user) ts)) out

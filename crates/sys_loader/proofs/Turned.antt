@@ -9,9 +9,9 @@ use Rattle.omf_io.specs.Counts.{IsFront}
 use Rattle.omf_io.specs.Files.{FileMap}
 use Rattle.load_meaning.specs.declared.table.Target.{Target}
 use Rattle.load_meaning.specs.Cells.{byte_of, cells}
-use Rattle.load_meaning.specs.CellLaws.{loadable_has}
+use Rattle.load_meaning.specs.laws.CellLaws.{loadable_has}
 use Rattle.load_meaning.specs.LoadTable.{is_table, entry_count, targets_of}
-use Rattle.load_meaning.specs.LoadTableLaws.{length-targets_from}
+use Rattle.load_meaning.specs.laws.LoadTableLaws.{length-targets_from}
 use Rattle.load_meaning.specs.Cells.{segment_bytes}
 use Rattle.load_meaning.specs.Table.{table_bytes}
 use Rattle.load_meaning.specs.Loadable.{IsSoundSegment, IsTarget}
@@ -22,8 +22,8 @@ use Rattle.loader_machine.specs.Heads.{head_of, is_static}
 use Rattle.loader_machine.specs.State.{User, no_pokes, held_at}
 use Rattle.loader_machine.specs.Presences.{handle_at, presence_at, there_at, active_at, is_active}
 use Rattle.loader_machine.specs.Stands.{Setting, setting, place_in, entry_for, entries_bytes, read_bytes, stands}
-use Rattle.loader_machine.specs.StandsLaws.{AreAlike, stands_alike}
-use Rattle.loader_machine.specs.PokeLaws.{over_none}
+use Rattle.loader_machine.specs.laws.StandsLaws.{AreAlike, stands_alike}
+use Rattle.loader_machine.specs.laws.PokeLaws.{over_none}
 use Rattle.loader_machine.specs.Found.{HoldsLoad}
 use Rattle.loader_agrees.specs.Agrees.{Kept, outline, outline_of, AreThere, UserAgrees}
 use Rattle.sys_loader.specs.Renewing.{is_chosen, renewed}

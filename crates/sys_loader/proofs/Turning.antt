@@ -1,6 +1,6 @@
 -- Blocks of segments that wake or idle.
 use Rattle.std.proofs.Common.{◌≡◌, inl, inr, ℕ, zero, suc, List, [], ◌∷◌, Option, Some, IsSome, refl, sym, ap, subst, ◌∙◌}
-use Rattle.std.specs.Prelude.{slice_set, IsSomeAnd}
+use Rattle.std.specs.Prelude.{slice_set}
 use Rattle.std.proofs.lemmas.Option.{same_Some}
 use Rattle.iigs_meaning.specs.declared.handles.Handle.{Handle}
 use Rattle.iigs_meaning.specs.declared.slots.Content.TheVariants.{Used}
@@ -9,7 +9,7 @@ use Rattle.iigs_meaning.specs.Slots.{slot_at, get, with_value}
 use Rattle.iigs_meaning.specs.Fits.{Slots}
 use Rattle.iigs_meaning.specs.Blocks.{address_in}
 use Rattle.iigs_meaning.specs.Memory.{Memory, IsThere, Changes}
-use Rattle.loader_agrees.specs.Slotted.{slot_set, live_block}
+use Rattle.loader_agrees.specs.laws.Slotted.{slot_set, live_block}
 use Rattle.sys_loader.proofs.Shifting.{set_is, value_here}
 
 set_again : {X : Type 0} (xs : List X) (k : ℕ) (x y : X) → slice_set (slice_set xs k x) k y ≡ slice_set xs k y
@@ -51,10 +51,3 @@ module _ (h : Handle) (one two : Block → Block) (a b c : Memory) (first : Chan
       bytes = λ place apart there. second.kept.bytes place apart there ∙ first.kept.bytes place apart (was_there place there);
     };
   }
-
--- a block that was changed is there still
-pub changed_there : (h : Handle) (one : Block → Block) (a b : Memory) → Changes a h one b → ((x : Block) → (one x).at ≡ x.at) → IsSomeAnd (get b.slots h) (λ block. IsSome block.at)
-changed_there h one a b first same_at =
-    let now : get b.slots h ≡ Some (one first.block) = ap (λ (t : Slots). get t h) first.slots ∙ value_here a.slots h first.block (one first.block) first.was in
-    let at : IsSome (one first.block).at = subst (λ (o : Option ℕ). IsSome o) (sym (same_at first.block)) first.there in
-    rw now at

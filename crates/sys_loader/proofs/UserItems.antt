@@ -5,7 +5,7 @@ use Rattle.std.proofs.lemmas.Option.{slice_get-map, slice_get-get_or, slice_get_
 use Rattle.std.proofs.lemmas.List.{length-map}
 use Rattle.loader_machine.specs.State.{first_id, user_of}
 use Rattle.loader_agrees.specs.Agrees.{Kept}
-use Rattle.loader_agrees.specs.Seeing.{made_at}
+use Rattle.loader_agrees.specs.laws.Seeing.{made_at}
 use Rattle.sys_loader.specs.View.{kept}
 use Rattle.sys_loader.specs.declared.user.User.{User}
 

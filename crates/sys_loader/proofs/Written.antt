@@ -14,8 +14,8 @@ use Rattle.iigs_meaning.specs.Memory.{Memory, bytes_at}
 use Rattle.loader_machine.specs.declared.seen.Head.{Head}
 use Rattle.loader_machine.specs.Heads.{head_of, at_number}
 use Rattle.loader_machine.specs.Presences.{handle_at}
-use Rattle.loader_agrees.specs.Lists.{number_map}
-use Rattle.loader_agrees.specs.Reads.{headed}
+use Rattle.loader_agrees.specs.laws.Lists.{number_map}
+use Rattle.loader_agrees.specs.laws.Reads.{headed}
 use Rattle.sys_loader.specs.declared.user.Segment as users
 use Rattle.sys_loader.specs.Filling.{HasHead, IsFilled, IsWritten, IsReady, AreReady, AreFilled}
 
@@ -55,13 +55,6 @@ set_here [] slot w same = sym (empty w same)
     empty (x ∷ v) e = absurd (omega (arith, e))
 set_here (x ∷ all) zero w same = refl
 set_here (x ∷ all) (suc k) w same = set_here all k w same
-
-pub filled_none : (load : List Segment) (handles : List (Option Handle)) (user : ℕ) (places : List (Option ℕ)) (old : Memory) → AreFilled load handles user places old old 0
-filled_none load handles user places old = record { banks = refl; slots = refl; filled = none; stay = λ place apart. refl; sizes = λ place. refl }
-  where
-    none : (n : ℕ) (h : Handle) → n ≤ 0 → handle_at handles n ≡ Some h → IsFilled load n user places (bytes_at old h.slot)
-    none zero h le is = absurd cc
-    none (suc n) h le is = absurd (omega (arith, le))
 
 pub filled_skip : (load : List Segment) (handles : List (Option Handle)) (user : ℕ) (places : List (Option ℕ)) (old now : Memory) (k : ℕ) → AreFilled load handles user places old now k
     → handle_at handles (k + 1) ≡ None → AreFilled load handles user places old now (k + 1)

@@ -1,11 +1,9 @@
 //! Calls that are followed: a JSL in an active segment, and the entry of a jump table to which it may lead.
 
-ghost use Rattle.std.specs.Prelude.{◌≡◌, ◌≢◌, ◌+◌, ◌*◌, ◌<◌, ◌≤◌, ◌^◌, ℕ, Some, None, IsSome, IsSomeAnd, Result, length, true, false, IfOk, IfErr, OnErr, MatchOption};
+ghost use Rattle.std.specs.Prelude.{◌≡◌, ◌<◌, ◌≤◌, ℕ, Some, None, IsSome, IsSomeAnd, Result, length, true, false, IfOk, IfErr, OnErr};
 ghost use Rattle.omf_io.specs.Counts.{one_more};
 ghost use Rattle.omf_io.specs.Files.{FileMap};
-ghost use Rattle.load_meaning.specs.Table.{entry_place};
-ghost use Rattle.load_meaning.specs.LoadTable as tables;
-ghost use Rattle.load_meaning.specs.LoadTable.{target_at};
+ghost use Rattle.load_meaning.specs.declared.table.Target.{Target};
 ghost use Rattle.iigs_meaning.specs.Puts.{Purges};
 ghost use Rattle.iigs_meaning.specs.Slots.{get};
 ghost use Rattle.iigs_meaning.specs.Memory.{bytes_at};
@@ -25,13 +23,14 @@ ghost use Rattle.sys_loader.specs.Following.{jsl_reply, LeadsTo, IsJslRefusal, H
 use crate::answers::Entered;
 use crate::head::is_table;
 use crate::loader::Loader;
-use crate::renew::{address_in, entry_count, number};
+use crate::renew::address_in;
 use crate::user::{Segment, User};
 use crate::users::user_in;
 use iigs_meaning::{BlockFault, Handle};
 use iigs_memory::Banks;
-use load_meaning::Target;
+use jump_table::{entry_at, target_at};
 use loader_machine::LoaderFault;
+use omf_base::number;
 use omf_io::Files;
 
 /// The code of a JSL.
@@ -58,38 +57,6 @@ fn called(four: &[u8]) -> Result<u32, LoaderFault>
         return Err(LoaderFault::NotJsl);
     }
     Ok(number(four, 1, 3))
-}
-
-/// The place, from 0, of the entry whose code is at an offset of a table of so many bytes.
-fn entry_at(size: u32, offset: u32) -> Option<usize>
-    ensures { MatchOption result ((k : ℕ) → k < tables.entry_count size → entry_place k ≢ offset)
-        (λ k. (k < tables.entry_count size) × (entry_place k ≡ offset)) }
-{
-    if offset < 18 {
-        return None;
-    }
-    if (offset - 18) % 14 != 0 {
-        return None;
-    }
-    let k = ((offset - 18) / 14) as usize;
-    if k >= entry_count(size) {
-        return None;
-    }
-    Some(k)
-}
-
-/// Where the entry at a place of a table leads.
-#[tactic(auto, unfolding(load_meaning::specs::LoadTable::target_at))]
-fn target_in(bytes: &[u8], k: usize) -> Target
-    requires { 22 + 14 * k ≤ length bytes.now }
-    ensures { result ≡ target_at bytes.now k }
-{
-    let start = 8 + 14 * k;
-    Target {
-        file: number(bytes, start + 2, 2) as u16,
-        segment: number(bytes, start + 4, 2) as u16,
-        offset: number(bytes, start + 6, 4),
-    }
 }
 
 /// The bytes of a block that is there.
@@ -154,7 +121,7 @@ impl Loader {
             Some(k) => k,
             None => return Err(LoaderFault::NotEntry),
         };
-        let target = target_in(block_of(&self.banks, found.handle), k);
+        let target = target_at(block_of(&self.banks, found.handle), k);
         Ok(Reached::Entry {
             user: place.user,
             segment: target.segment,

@@ -1,6 +1,6 @@
 //! Programs that are loaded.
 
-ghost use Rattle.std.specs.Prelude.{◌≡◌, ◌+◌, ◌<◌, ◌≤◌, ◌^◌, ℕ, List, map, length, All, Some, false, IfOk, IfErr, OnOk, OnErr};
+ghost use Rattle.std.specs.Prelude.{◌≡◌, ◌⊎◌, ◌+◌, ◌<◌, ◌≤◌, ◌^◌, ℕ, List, map, length, All, Some, false, IfOk, IfErr, OnOk, OnErr};
 ghost use Rattle.omf_io.specs.Counts.{one_more};
 ghost use Rattle.omf_io.specs.Files.{FileMap};
 ghost use Rattle.load_meaning.specs.Loadable.{IsLoadable};
@@ -81,7 +81,9 @@ pub fn settle(
 
 /// What the loader says of a load file's fault.
 pub fn bad_file(fault: LoadFault) -> LoaderFault
-    ensures { (file : List ℕ) → IsRefused fault file → IsBadFile file result }
+    ensures told { (file : List ℕ) → IsRefused fault file → IsBadFile file result }
+    ensures memory { result ≡ LoaderFault.Memory → fault.cause ≡ LoadCause.Memory }
+    ensures other { (result ≡ LoaderFault.Memory) ⊎ (result ≡ LoaderFault.BadFile fault) }
 {
     match fault.cause {
         LoadCause::Memory => LoaderFault::Memory,

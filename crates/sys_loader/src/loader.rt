@@ -14,7 +14,7 @@ ghost use Rattle.loader_machine.specs.Commands as commands;
 ghost use Rattle.loader_machine.specs.Commands.{Bytes, Shown, Refused};
 ghost use Rattle.loader_agrees.specs.Agrees.{Loaded, seen_in, seen_by, IsSound, Agrees, Met};
 ghost use Rattle.loader_agrees.specs.Acts.{CanRead, HasLent, HasTold, LiesIn};
-ghost use Rattle.loader_agrees.specs.Checks.{PassesRunning, StopsRunning};
+ghost use Rattle.loader_agrees.specs.laws.Checks.{PassesRunning, StopsRunning};
 ghost use Rattle.sys_loader.specs.View.{kept};
 ghost use Rattle.sys_loader.specs.Replies.{info_reply, where_reply};
 ghost use Rattle.sys_loader.specs.Naming.{NamesPlace};

@@ -1,8 +1,6 @@
 //! Entries of tables in memory that follow the segments to which they lead.
 
 ghost use Rattle.std.specs.Prelude.{◌≡◌, ◌+◌, ◌-◌, ◌*◌, ◌%◌, ◌<◌, ◌≤◌, ◌^◌, ℕ, length, map, IsSome, IsSomeAnd};
-ghost use Rattle.omf_format.specs.Number as numbers;
-ghost use Rattle.load_meaning.specs.LoadTable as tables;
 ghost use Rattle.iigs_meaning.specs.Slots.{get};
 ghost use Rattle.iigs_meaning.specs.Memory.{bytes_at};
 ghost use Rattle.loader_machine.specs.Presences as presences;
@@ -14,30 +12,9 @@ use crate::memory::presence;
 use crate::user::Segment;
 use iigs_meaning::Handle;
 use iigs_memory::Banks;
-use jump_table::{set_loaded, set_unloaded};
+use jump_table::{entry_count, set_loaded, set_unloaded};
 use loader_machine::Presence;
-use omf_base::number_at;
-
-/// The number of so many bytes, 1 to 4, at a displacement.
-pub fn number(bytes: &[u8], at: usize, width: usize) -> u32
-    requires some { 1 ≤ width }
-    requires few { width ≤ 4 }
-    requires inside { at + width ≤ length bytes.now }
-    ensures is { result ≡ numbers.number_at width at bytes.now }
-    ensures fits { result < 256 ^ width }
-{
-    match number_at(bytes, at, width) {
-        Some(number) => number,
-        None => unreachable!(),
-    }
-}
-
-/// How many entries a table of so many bytes has.
-pub fn entry_count(size: u32) -> usize
-    ensures is { result ≡ tables.entry_count size }
-{
-    (size.saturating_sub(12) / 14) as usize
-}
+use omf_base::number;
 
 /// The entries for this segment follow.
 fn chosen(only: Option<u16>, segment: u32) -> bool
@@ -101,7 +78,7 @@ fn renew_table(banks: &mut Banks, table: &Segment, only: Option<u16>, place: Opt
         → table.now.head.length ≤ length (bytes_at banks.old h.slot) }
     ensures { IsRenewed only place table.now.handle table.now.head.length banks.old banks.new }
 {
-    let count = entry_count(table.head.length);
+    let count = entry_count(table.head.length) as usize;
     match presence(banks, table.handle) {
         Presence::Active(h, _) => renew_block(banks, h, count, only, place),
         Presence::Idle(h, _) => renew_block(banks, h, count, only, place),

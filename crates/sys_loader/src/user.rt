@@ -4,7 +4,7 @@ ghost use Rattle.std.specs.Prelude.{◌≡◌, ◌≤◌, length, map, option_ma
 ghost use Rattle.loader_machine.specs.Heads.{at_number};
 ghost use Rattle.loader_machine.specs.Presences.{handle_at};
 ghost use Rattle.loader_agrees.specs.Agrees.{seen_in};
-ghost use Rattle.loader_agrees.specs.Checks.{PassesSegment, StopsSegment};
+ghost use Rattle.loader_agrees.specs.laws.Checks.{PassesSegment, StopsSegment};
 ghost use Rattle.sys_loader.specs.View.{kept};
 ghost use Rattle.sys_loader.specs.Activating.{with_handle};
 

@@ -71,12 +71,12 @@ fn handed_out(
     sink: &[u32],
 ) -> Result<(Status, Option<Option<u8>>), Fail> {
     let held = [("s", File::Of(script)), ("prog", PROGRAM)];
-    let (run, last) = run_whole(alloc, "run s", &held, &[], sink)?;
+    let (status, last) = run_whole(alloc, "run s", &held, &[], sink)?;
     let byte = match &last {
         Some(loader) => Some(first_byte(loader)),
         None => None,
     };
-    Ok((run.status, byte))
+    Ok((status, byte))
 }
 
 /// The place of the first script with which this isn't so.

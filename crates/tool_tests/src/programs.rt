@@ -1,4 +1,4 @@
-// Load files of several segments, made by hand from the format.
+// A load file of several segments, made by hand from the format.
 use std::test::Fail;
 
 /// A load segment, whose name is empty.
@@ -23,7 +23,7 @@ pub(crate) struct Segment {
 }
 
 /// A first code segment without bytes, which stays in a bank.
-pub(crate) const CODE: Segment = Segment {
+const CODE: Segment = Segment {
     number: 1,
     kind: [0, 0],
     length: [0; 4],
@@ -32,20 +32,6 @@ pub(crate) const CODE: Segment = Segment {
     org: [0; 4],
     entry: 0,
     body: &[0],
-};
-
-/// A code segment of one zero.
-pub(crate) const BYTE: Segment = Segment {
-    length: [1, 0, 0, 0],
-    body: &[0xF1, 1, 0, 0, 0, 0],
-    ..CODE
-};
-
-/// A program that has room alone in a bank.
-pub(crate) const BIG: Segment = Segment {
-    length: [0, 0xC0, 0, 0],
-    body: &[0xF1, 0, 0xC0, 0, 0, 0],
-    ..CODE
 };
 
 /// A program of six segments: code with patches to the others, data, a dynamic one, a jump table of one entry, a skipped
@@ -104,12 +90,8 @@ pub(crate) static SIX: [Segment; 6] = [
     },
 ];
 
-/// Where KIND's high byte stands of its segments 2, 3 and 4.
+/// Where KIND's high byte stands of its segment 2.
 pub(crate) const DATA_KIND: usize = 0x87;
-
-pub(crate) const DYNAMIC_KIND: usize = 0xC6;
-
-pub(crate) const TABLE_KIND: usize = 0x105;
 
 /// The second byte of its data.
 pub(crate) const DATA_BYTE: usize = 0x72 + 0x37 + 6;

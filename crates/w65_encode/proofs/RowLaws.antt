@@ -1,13 +1,8 @@
 -- The opcodes of a mnemonic, by a test that computes over the whole matrix.
-use Rattle.std.proofs.Common.{◌≡◌, ℕ, zero, suc, ◌+◌, Bool, true, false, ◌&&◌, not, List, [], ◌∷◌, length, slice_get, get_or, ◌<◌, refl, ap, sym, ◌∙◌, Some, None, Option, nat_eq, arith, zero-add, inl, inr, position, subst, ◌≤◌}
+use Rattle.std.proofs.Common.{◌≡◌, ℕ, zero, suc, ◌+◌, true, false, not, List, [], ◌∷◌, slice_get, get_or, ◌<◌, refl, ap, sym, ◌∙◌, Some, None, Option, arith, zero-add, inl, inr, subst}
 use Rattle.std.specs.Prelude.{◌||◌, ◌==◌}
-use Rattle.std.specs.List.{list_any, position_or_len}
 use denote.Enum.Bare.{same_true, true_same, sameb}
 use Rattle.std.proofs.lemmas.Bool.{and_parts, cases_Bool, eqb-true}
-use Rattle.std.proofs.lemmas.Grind.{common_steps}
-use Rattle.std.proofs.lemmas.List.Sums.{fails_before_first}
-use Rattle.std.proofs.lemmas.List.Quantifiers.{position-Some}
-use Rattle.std.proofs.lemmas.Map.Views.{Contains-from_any}
 use Rattle.std.proofs.lemmas.Option.{slice_get-get_or, slice_get_within}
 use Rattle.orca_meaning.specs.contracts.mnemonics.Mnemonic as mnemonic_type
 use Rattle.orca_meaning.specs.contracts.modes.Mode as mode_type

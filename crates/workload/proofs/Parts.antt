@@ -8,14 +8,14 @@ use Rattle.byteorder.specs.Numbers.{length-bytes_low_first}
 use Rattle.omf_format.specs.Field.{written_layout, name_text}
 use Rattle.omf_format.specs.Expression.{term_text}
 use Rattle.omf_format.specs.Header.{header_bytes}
-use Rattle.omf_format.specs.WrittenHeader.{length-header}
+use Rattle.omf_format.specs.laws.WrittenHeaderLaws.{length-header}
 use Rattle.omf_format.specs.Record.{Record, End, Const, LongConst, Formula, spelling}
 use Rattle.asm_meaning.specs.State.{Ended}
 use Rattle.asm_meaning.specs.Object.{records_text, segment_text, object_text}
 use Rattle.workload_meaning.specs.Draws.{next, draws, behind}
 use Rattle.workload_meaning.specs.Object.{name_of, value_of, calls, main_segment, dynamic_segment, dynamic_segments, object}
-use Rattle.workload_meaning.specs.NameLaws.{name_short, length-padded}
-use Rattle.workload_meaning.specs.ObjectLaws.{length-draws}
+use Rattle.workload_meaning.specs.laws.NameLaws.{name_short, length-padded}
+use Rattle.workload_meaning.specs.laws.ObjectLaws.{length-draws}
 
 -- the bytes of a JSL to a dynamic segment
 abbrev pub call_text : ℕ → List ℕ

@@ -1,11 +1,10 @@
 -- One call of the workload, and one call more.
-use Rattle.std.proofs.Common.{◌≡◌, ◌≢◌, ◌⊎◌, inl, inr, ℕ, zero, suc, ◌+◌, ◌-◌, ◌*◌, ◌/◌, ◌%◌, ◌<◌, ◌≤◌, Bool, true, false, cond, List, [], ◌∷◌, ◌++◌, length, map, Option, Some, None, Result, Ok, Err, refl, sym, ap, subst, ◌∙◌, arith, add-one}
+use Rattle.std.proofs.Common.{◌≡◌, ◌≢◌, inl, inr, ℕ, zero, suc, ◌+◌, ◌-◌, ◌*◌, ◌/◌, ◌%◌, ◌≤◌, Bool, true, cond, List, [], ◌∷◌, ◌++◌, map, Some, Result, Ok, Err, refl, sym, ap, subst, ◌∙◌, arith, add-one}
 use Rattle.std.specs.Prelude.{count_by, IfOk, OnOk, nat_le}
 use Rattle.std.proofs.lemmas.Bool.{le-leb}
-use Rattle.std.proofs.lemmas.Option.{same_Some}
 use Rattle.std.proofs.lemmas.List.{map-append}
 use Rattle.std.proofs.lemmas.List.Sums.{sum_by-append}
-use Rattle.omf_io.specs.Counts.{one_more, risen}
+use Rattle.omf_io.specs.Counts.{one_more}
 use Rattle.omf_io.specs.Files.{FileMap}
 use Rattle.iigs_meaning.specs.Puts.{Purges}
 use Rattle.loader_machine.specs.declared.faults.LoaderFault.{LoaderFault}
@@ -89,10 +88,6 @@ module _ (command : Command) (old new : Loaded) (before now : Held) where
       same_fault : (f : LoaderFault) → commands.Refused f ≡ commands.Refused faults.Memory → f ≡ faults.Memory
       same_fault f e = cc
   reading_refused fault E (Err short) other is meets needed = tt
-
--- the store's files stay
-pub same_files : (before now : Held) → (seen now).held ≡ (seen before).held → now.files ≡ before.files
-same_files before now e = same_Some now.files before.files e
 
 -- ---- one call more
 

@@ -1,5 +1,5 @@
 -- A run of the workload on its way. No public clause cites this module.
-use Rattle.std.specs.Prelude.{◌≡◌, ℕ, zero, suc, ◌+◌, ◌*◌, List, [], ◌∷◌, ◌++◌, map, count_by}
+use Rattle.std.specs.Prelude.{◌≡◌, ℕ, ◌+◌, List, ◌∷◌, map, count_by}
 use Rattle.omf_io.specs.Files.{FileMap}
 use Rattle.loader_machine.specs.State.{Machine, empty_of}
 use Rattle.loader_machine.specs.Commands.{Command, Load, Reply, Refused}

@@ -18,7 +18,7 @@ use omf_records::{Rec, put_record};
 use std::alloc::{AllocError, Global};
 
 /// The name of a dynamic segment.
-#[tactic(auto, using(workload_meaning::specs::NameLaws::name_short, workload_meaning::specs::NameLaws::is_name))]
+#[tactic(auto, using(workload_meaning::specs::laws::NameLaws::name_short, workload_meaning::specs::laws::NameLaws::is_name))]
 fn name_of(alloc: Global, i: u32) -> Result<Line, AllocError>
     requires { i ≤ 64 }
     ensures name { IfOk result (λ name. name ≡ name_of i) }
@@ -42,7 +42,7 @@ fn padded(name: &[u8]) -> [u8; 10]
 }
 
 /// An expression that is a name alone.
-#[tactic(auto, using(workload_meaning::specs::NameLaws::is_value), unfolding(workload_meaning::specs::Object::value_of))]
+#[tactic(auto, using(workload_meaning::specs::laws::NameLaws::is_value), unfolding(workload_meaning::specs::Object::value_of))]
 fn value_of(alloc: Global, name: &[u8]) -> Result<Vec<u8>, AllocError>
     requires { IsName 0 name.now }
     ensures value { IfOk result (λ expr. expr.items ≡ value_of name.now) }

@@ -1,6 +1,6 @@
 //! The calls of the workload.
 
-ghost use Rattle.std.specs.Prelude.{◌≡◌, ◌≢◌, ◌≤◌, ◌<◌, ◌+◌, ◌*◌, ◌-◌, IfOk, OnOk};
+ghost use Rattle.std.specs.Prelude.{◌≡◌, ◌≢◌, ◌≤◌, ◌<◌, ◌+◌, ◌*◌, ◌-◌, IfOk, OnOk, OnErr};
 ghost use Rattle.omf_io.specs.Files.{FileMap};
 ghost use Rattle.loader_machine.specs.State.{first_id};
 ghost use Rattle.loader_machine.specs.Commands as commands;
@@ -52,6 +52,7 @@ impl Counts {
 fn refused(fault: LoaderFault) -> Result<Outcome, AllocError>
     ensures refused { IfOk result (λ outcome. outcome ≡ Outcome.Refused) }
     ensures other { OnOk result (fault ≢ LoaderFault.Memory) }
+    ensures memory { OnErr result (fault ≡ LoaderFault.Memory) }
 {
     match fault {
         LoaderFault::Memory => Err(AllocError),

@@ -1,9 +1,4 @@
 pub mod Draws
 pub mod Object
-pub mod NameLaws
-pub mod ObjectLaws
-pub mod SearchLaws
-pub mod ResolvedLaws
-pub mod CallLaws
-pub mod SizeLaws
 pub mod LinkedLaws
+pub mod laws

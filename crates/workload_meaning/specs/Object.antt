@@ -1,5 +1,6 @@
 -- The object of the workload: a segment that calls dynamic segments, and these (GS/OS Reference, appendix F).
 use Rattle.std.specs.Prelude.{ℕ, zero, suc, ◌+◌, ◌-◌, ◌*◌, ◌%◌, List, [], ◌∷◌, ◌++◌, codes, length, replicate}
+use Rattle.omf_format.specs.Ascii as ascii
 use Rattle.omf_base.specs.Digits.{decimal}
 use Rattle.omf_format.specs.Header.{Fields}
 use Rattle.omf_format.specs.Expression.{Named, term_text}
@@ -14,7 +15,7 @@ name_of i = codes "D" ++ decimal i
 
 -- a load name: ten bytes, the last of them spaces
 abbrev pub padded : List ℕ → List ℕ
-padded name = name ++ replicate (10 - length name) 0x20
+padded name = name ++ replicate (10 - length name) ascii.space
 
 -- an expression that is a name alone
 unfoldable pub value_of : List ℕ → List ℕ

@@ -1,4 +1,4 @@
-use Rattle.asm_meaning.specs.LabelLaws.{lengths_add, local_stands_before, linker_sees_place}
+use Rattle.asm_meaning.specs.laws.LabelProofs.{lengths_add, local_stands_before, linker_sees_place}
 use Rattle.asm_meaning.proofs.laws.labels_stand_at_their_places.Goals as goal
 
 pub returns-clause-lengths : goal.returns-clause-lengths

@@ -1,4 +1,4 @@
-use Rattle.asm_meaning.specs.ObjectFile.{object_is_file}
+use Rattle.asm_meaning.specs.laws.ObjectFileLaws.{object_is_file}
 use Rattle.asm_meaning.proofs.laws.objects_are_files.Goals as goal
 
 pub returns : goal.returns

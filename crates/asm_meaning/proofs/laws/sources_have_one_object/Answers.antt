@@ -1,4 +1,4 @@
-use Rattle.asm_meaning.specs.ObjectLaws.{one_object, no_fault_beside', one_first_fault'}
+use Rattle.asm_meaning.specs.laws.ObjectProofs.{one_object, no_fault_beside', one_first_fault'}
 use Rattle.asm_meaning.proofs.laws.sources_have_one_object.Goals as goal
 
 pub returns-clause-object : goal.returns-clause-object

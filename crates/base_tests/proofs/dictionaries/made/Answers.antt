@@ -1,4 +1,4 @@
-use Rattle.std.proofs.Common.{◌<◌, ◌^◌, length, All, sym, subst, arith}
+use Rattle.std.proofs.Common.{◌<◌, ◌^◌, length, All, sym, subst}
 use Rattle.std.proofs.lemmas.List.Elements.{All-nil, All-push}
 use Rattle.lib_dict.specs.declared.member.Member.{Member}
 use Rattle.base_tests.proofs.dictionaries.made.Goals as goal

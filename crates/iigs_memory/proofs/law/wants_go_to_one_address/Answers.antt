@@ -1,4 +1,4 @@
-use Rattle.iigs_meaning.specs.PlacementLaws.{goes_once, purges_once, no_room, lacks_room}
+use Rattle.iigs_meaning.specs.laws.PlacementLaws.{goes_once, purges_once, no_room, lacks_room}
 use Rattle.iigs_memory.proofs.law.wants_go_to_one_address.Goals as goal
 
 pub returns : goal.returns

@@ -1,5 +1,4 @@
-use Rattle.std.proofs.Common.{arith}
-use Rattle.iigs_memory.proofs.Marked.{none_behind, others_before}
+use Rattle.iigs_memory.proofs.Marked.{none_behind}
 use Rattle.iigs_memory.proofs.marks.place_of.Goals as goal
 
 pub returns-then-marks-place-2 : goal.returns-then-marks-place-2

@@ -1,4 +1,4 @@
-use Rattle.std.proofs.Common.{arith, ◌<◌, ◌≤◌, ◌+◌, length, get_or, ◌≡◌}
+use Rattle.std.proofs.Common.{arith, ◌<◌, length, get_or, ◌≡◌}
 use Rattle.std.proofs.lemmas.Grind.{common_steps}
 use Rattle.iigs_memory.proofs.Beside.{least_before, none_before, past_there}
 use Rattle.iigs_memory.proofs.search.least_among.Goals as goal

@@ -1,8 +1,7 @@
-use Rattle.std.proofs.Common.{◌≡◌, arith, inl, inr, ap}
+use Rattle.std.proofs.Common.{arith, inl, inr}
 use Rattle.std.proofs.lemmas.Bool.{cases_lt}
 use Rattle.std.proofs.lemmas.Grind.{common_steps}
-use Rattle.iigs_memory.specs.declared.spots.Spot.{Spot}
-use Rattle.iigs_memory.proofs.Beside.{none_beside, past_later, past_first, past_next}
+use Rattle.iigs_memory.proofs.Beside.{none_beside, past_first, past_next}
 use Rattle.iigs_memory.proofs.search.run_from.Goals.{then-limit-spot+else-end-size, else-limit-spot}
 use Rattle.iigs_memory.proofs.search.run_from.Goals as goal
 

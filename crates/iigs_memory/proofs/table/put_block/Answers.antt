@@ -1,6 +1,6 @@
 use Rattle.std.proofs.Common.{◌≡◌, ◌∙◌, sym, refl, nat_lt, None, IsSome, arith}
 use Rattle.iigs_meaning.specs.declared.handles.Handle.{Handle}
-use Rattle.iigs_meaning.specs.PlacementLaws.{lacks_room}
+use Rattle.iigs_meaning.specs.laws.PlacementLaws.{lacks_room}
 use Rattle.iigs_meaning.specs.Slots.{new_handle}
 use Rattle.iigs_memory.specs.declared.table.Put.{Put}
 use Rattle.iigs_memory.specs.Spots.{turn_of}

@@ -1,5 +1,5 @@
 use Rattle.std.proofs.Common.{◌≡◌, ◌∙◌, sym, refl, None, arith}
-use Rattle.iigs_meaning.specs.PlacementLaws.{lacks_room}
+use Rattle.iigs_meaning.specs.laws.PlacementLaws.{lacks_room}
 use Rattle.iigs_memory.specs.Table.{IsReput}
 use Rattle.iigs_memory.proofs.Puts.{PutFacts, reput_facts, free_limit, is_none}
 use Rattle.iigs_memory.proofs.Quick.{reput_done, have_reput}

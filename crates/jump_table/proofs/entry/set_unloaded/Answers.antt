@@ -1,6 +1,6 @@
 use Rattle.std.proofs.Common.{rules, ◌≡◌, ◌+◌, None}
 use Rattle.load_meaning.specs.Table.{code_bytes, written_at}
-use Rattle.load_meaning.specs.TableLaws.{entry_of_code}
+use Rattle.load_meaning.specs.laws.TableLaws.{entry_of_code}
 use Rattle.jump_table.proofs.entry.set_unloaded.Goals as goal
 
 pub returns-clause-entry : goal.returns-clause-entry

@@ -1,7 +1,7 @@
 use Rattle.std.proofs.Common.{rules, ◌≡◌}
 use Rattle.byteorder.specs.Endian.{little_bytes}
 use Rattle.load_meaning.specs.Table.{written_at}
-use Rattle.load_meaning.specs.TableLaws.{entry_of_user}
+use Rattle.load_meaning.specs.laws.TableLaws.{entry_of_user}
 use Rattle.jump_table.proofs.entry.set_user.Goals as goal
 
 pub returns-clause-entry : goal.returns-clause-entry

@@ -1,5 +1,5 @@
 use Rattle.std.proofs.Common.{map, arith}
-use Rattle.omf_format.specs.FileLaws.{header_lies}
+use Rattle.omf_format.specs.laws.FileLaws.{header_lies}
 use Rattle.omf_header.specs.View.{fields}
 use Rattle.lib_dict.specs.View.{outer_row}
 use Rattle.lib_dict.proofs.FileLaws.{file_next, file_all}

@@ -1,5 +1,5 @@
 use Rattle.std.proofs.Common.{arith}
-use Rattle.omf_format.specs.FileLaws.{header_lies}
+use Rattle.omf_format.specs.laws.FileLaws.{header_lies}
 use Rattle.omf_header.specs.View.{fields}
 use Rattle.lib_dict.proofs.names_behind.put_other.Goals as goal
 

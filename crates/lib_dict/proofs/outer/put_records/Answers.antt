@@ -3,7 +3,7 @@ use Rattle.std.proofs.lemmas.List.{map-append}
 use Rattle.omf_format.specs.Record.{Record}
 use Rattle.omf_format.specs.Field.{Layout}
 use Rattle.omf_format.specs.Reading.{Reader, records_of}
-use Rattle.omf_format.specs.BodyLaws.{found_by}
+use Rattle.omf_format.specs.laws.BodyLaws.{found_by}
 use Rattle.omf_records.specs.View.{view}
 use Rattle.omf_records.specs.WalkLaws.{walk_on, walk_ends, walk_fails}
 use Rattle.lib_dict.specs.Library.{LibraryRow}

@@ -1,7 +1,5 @@
-use Rattle.std.proofs.Common.{List, Some, None, map, drop, IfOk, IfErr, sym, subst, arith}
-use Rattle.lib_dict.specs.Library.{LibraryRow}
-use Rattle.lib_dict.specs.View.{outer_row}
-use Rattle.lib_dict.specs.Tables.{AreNumbers, AreStarts, HoldsRows, AreRowsIn, IsRowFault}
+use Rattle.std.proofs.Common.{Some, None, drop, IfOk, IfErr, sym, subst, arith}
+use Rattle.lib_dict.specs.Tables.{AreNumbers, AreStarts, AreRowsIn, IsRowFault}
 use Rattle.lib_dict.proofs.ReadLaws.{Answer, no_numbers, no_rows, no_names, all_forms, numbers_fit, names_named, starts_fit, few_segments}
 use Rattle.lib_dict.proofs.reading.rows_in.Goals as goal
 
@@ -20,26 +18,26 @@ returns-then-parts-ne0-clause-err c =
 pub name_starts-requires : goal.name_starts-requires
 name_starts-requires c = c.requires.place.third'
 
-pub returns-in-None-2-clause-err : goal.returns-in-None-2-clause-err
-returns-in-None-2-clause-err c =
+pub returns-in-Ok-None-clause-err : goal.returns-in-Ok-None-clause-err
+returns-in-Ok-None-clause-err c =
     let p = c.args.parts in
     let numbers : AreNumbers (Some c.in-Some.numbers.keys) p.first.now = rw c.in-Some.is at c.in_ok-numbers.ensures in
-    let none : AreStarts None p.third.now = rw c.in-None-2.is at c.in_ok-starts.ensures in
+    let none : AreStarts None p.third.now = rw c.in-Ok-None.field-0-is at c.in-Ok-None.ensures in
     no_names c.args.start p.at p.first.now p.second.now p.third.now (drop 1 c.args.list.now) numbers.0 numbers.1 (omega (arith, c.if-parts-ne0.false)) none
 
-pub names_behind-requires : goal.names_behind-requires
-names_behind-requires c = few_segments c.args.list.now c.requires.file
+pub known_in-requires : goal.known_in-requires
+known_in-requires c = few_segments c.args.list.now c.requires.file
 
-pub rows_of-requires-clause-fits : goal.rows_of-requires-clause-fits
-rows_of-requires-clause-fits c =
+pub rows_of-rows-requires-clause-fits : goal.rows_of-rows-requires-clause-fits
+rows_of-rows-requires-clause-fits c =
     let p = c.args.parts in
     let numbers : AreNumbers (Some c.in-Some.numbers.keys) p.first.now = rw c.in-Some.is at c.in_ok-numbers.ensures in
-    let starts : AreStarts (Some c.in-Some-2.starts.keys) p.third.now = rw c.in-Some-2.is at c.in_ok-starts.ensures in
+    let starts : AreStarts (Some c.in-Ok-Some.starts.keys) p.third.now = rw c.in-Ok-Some.field-0-is at c.in-Ok-Some.ensures in
     record {
       numbers = numbers_fit c.in-Some.numbers.keys p.first.now numbers;
-      starts = starts_fit c.in-Some-2.starts.keys p.third.now starts;
-      named = names_named c.in-Some-2.starts.keys p.third.now starts;
-      known = subst (λ (rows : List LibraryRow). HoldsRows (map outer_row c.in_ok-known.known.keys) rows) c.in_ok-outers.ensures c.in_ok-known.ensures;
+      starts = starts_fit c.in-Ok-Some.starts.keys p.third.now starts;
+      named = names_named c.in-Ok-Some.starts.keys p.third.now starts;
+      known = c.in-Ok.ensures;
       file = c.requires.file;
     }
 
@@ -47,14 +45,14 @@ pub returns-clause-ok : goal.returns-clause-ok
 returns-clause-ok c =
     let p = c.args.parts in
     let numbers : AreNumbers (Some c.in-Some.numbers.keys) p.first.now = rw c.in-Some.is at c.in_ok-numbers.ensures in
-    let starts : AreStarts (Some c.in-Some-2.starts.keys) p.third.now = rw c.in-Some-2.is at c.in_ok-starts.ensures in
+    let starts : AreStarts (Some c.in-Ok-Some.starts.keys) p.third.now = rw c.in-Ok-Some.field-0-is at c.in-Ok-Some.ensures in
     let same = all_forms c.args.start p.at p.first.now p.second.now p.third.now (drop 1 c.args.list.now) numbers.0 starts.0 numbers.1 (omega (arith, c.if-parts-ne0.false)) starts.1 in
-    subst (λ (a : Answer). IfOk c.rows_of.result (λ rows. AreRowsIn c.args.list.now a rows.items)) (sym same) c.rows_of.ensures.ok
+    subst (λ (a : Answer). IfOk c.rows_of-rows.result (λ rows. AreRowsIn c.args.list.now a rows.items)) (sym same) c.rows_of-rows.ensures.ok
 
 pub returns-clause-err : goal.returns-clause-err
 returns-clause-err c =
     let p = c.args.parts in
     let numbers : AreNumbers (Some c.in-Some.numbers.keys) p.first.now = rw c.in-Some.is at c.in_ok-numbers.ensures in
-    let starts : AreStarts (Some c.in-Some-2.starts.keys) p.third.now = rw c.in-Some-2.is at c.in_ok-starts.ensures in
+    let starts : AreStarts (Some c.in-Ok-Some.starts.keys) p.third.now = rw c.in-Ok-Some.field-0-is at c.in-Ok-Some.ensures in
     let same = all_forms c.args.start p.at p.first.now p.second.now p.third.now (drop 1 c.args.list.now) numbers.0 starts.0 numbers.1 (omega (arith, c.if-parts-ne0.false)) starts.1 in
-    subst (λ (a : Answer). IfErr c.rows_of.result (λ fault. IsRowFault fault a)) (sym same) c.rows_of.ensures.err
+    subst (λ (a : Answer). IfErr c.rows_of-rows.result (λ fault. IsRowFault fault a)) (sym same) c.rows_of-rows.ensures.err

@@ -1,4 +1,4 @@
-use Rattle.std.proofs.Common.{◌≡◌, ℕ, zero, suc, ◌+◌, ◌-◌, arith, List, refl, sym, ap, subst, ◌∙◌}
+use Rattle.std.proofs.Common.{◌≡◌, ℕ, zero, suc, ◌+◌, ◌-◌, arith, refl}
 use Rattle.omf_format.specs.Record.{Record}
 use Rattle.omf_records.specs.Segments.{shown}
 use Rattle.omf_records.specs.View.{view}

@@ -1,17 +1,11 @@
-use Rattle.std.proofs.Common.{◌≡◌, ◌+◌, ◌≤◌, ◌<◌, ◌^◌, ℕ, List, Vec, Global, Result, Err, length, map, refl, sym, ap, subst, ◌∙◌, arith}
-use Rattle.omf_header.specs.View.{fields}
-use Rattle.link_meaning.specs.declared.fault.LinkFault.{LinkFault}
+use Rattle.std.proofs.Common.{◌+◌, ℕ, Vec, Global, Result, Err, map, sym, ap, subst, ◌∙◌, arith}
 use Rattle.link_meaning.specs.Search.{entries}
-use Rattle.link_meaning.specs.LinkedCells.{targets}
-use Rattle.link_emit.specs.Holding.{Holding}
 use Rattle.link_emit.specs.declared.image.ImageFault.{ImageFault}
-use Rattle.link_emit.specs.declared.slots.Slot.{Slot}
 use Rattle.link_emit.specs.Answers.{IsEmitRefused}
 use Rattle.link_emit.specs.Equates.{AreValues}
 use Rattle.link_emit.specs.Fits.{told_load}
-use Rattle.link_emit.specs.Images.{HoldLinked, AreReady, AreLoads}
+use Rattle.link_emit.specs.Images.{AreReady, AreLoads}
 use Rattle.link_emit.specs.Slots.{rows_of}
-use Rattle.link_emit.specs.Walks.{IsFilled}
 use Rattle.link_emit.proofs.FileFacts.{few_of}
 use Rattle.link_emit.proofs.LoadLaws.{headers_size, loads_ready}
 use Rattle.link_emit.proofs.EmitLaws.{refused_ring, refused_value, refused_size, written_is}

@@ -1,4 +1,4 @@
-use Rattle.std.proofs.Common.{◌⊎◌, ℕ, length}
+use Rattle.std.proofs.Common.{ℕ, length}
 use Rattle.rings.specs.Graphs.{IsIn}
 use Rattle.link_emit.specs.Equates.{IsOpen}
 use Rattle.link_emit.proofs.equates.first_open.Given as goal

@@ -1,7 +1,4 @@
-use Rattle.std.proofs.Common.{◌≡◌, ℕ, Some, sym, ap, subst, ◌∙◌}
-use Rattle.omf_format.specs.declared.value.Value.{Value}
-use Rattle.link_meaning.specs.Member.{Member}
-use Rattle.link_meaning.specs.Search.{Found}
+use Rattle.std.proofs.Common.{ℕ, ap, ◌∙◌}
 use Rattle.link_meaning.specs.LinkValues.{place_value}
 use Rattle.link_resolve.specs.Definitions.{ToldDefinition}
 use Rattle.link_emit.proofs.EquateLaws.{no_text, first_label, no_seat, its_seat, seat_near}

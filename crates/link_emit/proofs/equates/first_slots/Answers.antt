@@ -1,4 +1,4 @@
-use Rattle.std.proofs.Common.{◌≡◌, ◌++◌, ◌∷◌, [], ℕ, take, length, List, Some, sym, ap, subst, ◌∙◌}
+use Rattle.std.proofs.Common.{take, length, List, sym, ap, subst, ◌∙◌}
 use Rattle.std.specs.Prelude.{slice_get}
 use Rattle.link_meaning.specs.Search.{entries}
 use Rattle.link_resolve.specs.Definitions.{definition_of}

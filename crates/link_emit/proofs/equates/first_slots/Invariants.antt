@@ -1,4 +1,4 @@
-use Rattle.std.proofs.Common.{◌≤◌, ◌-◌, take, length}
+use Rattle.std.proofs.Common.{◌-◌, take, length}
 use Rattle.link_meaning.specs.Search.{entries}
 use Rattle.link_emit.specs.Equates.{AreFirstSlots}
 use Rattle.link_emit.proofs.equates.first_slots.Given as goal

@@ -1,14 +1,13 @@
-use Rattle.std.proofs.Common.{◌≡◌, ◌<◌, ℕ, List, true, false, Option, Some, refl, sym, ap, subst, ◌∙◌}
-use Rattle.std.specs.Prelude.{slice_get, Result}
+use Rattle.std.proofs.Common.{◌≡◌, ◌<◌, ℕ, List, Option, Some, refl, sym, ap, subst, ◌∙◌}
+use Rattle.std.specs.Prelude.{Result}
 use Rattle.omf_format.specs.declared.value.Value.{Value}
 use Rattle.omf_format.specs.declared.value.ValueFault.{ValueFault}
-use Rattle.link_meaning.specs.Search.{Found, entries}
-use Rattle.link_meaning.specs.Rings.{is_equate}
+use Rattle.link_meaning.specs.Search.{entries}
 use Rattle.link_meaning.specs.LinkValues.{equate_value}
 use Rattle.rings.specs.Graphs as rings
 use Rattle.link_emit.specs.declared.slots.Slot.{Slot}
 use Rattle.link_emit.specs.Slots.{rows_of, answer_of}
-use Rattle.link_emit.specs.Equates.{IsOpen, AreTrue, open_count, with_slot}
+use Rattle.link_emit.specs.Equates.{IsOpen, AreTrue, open_count}
 use Rattle.link_emit.proofs.EquateLaws.{true_set, fewer_set, value_by, open_equate}
 use Rattle.link_emit.proofs.equates.settle.Goals as goal
 

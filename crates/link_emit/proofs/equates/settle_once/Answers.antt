@@ -1,4 +1,4 @@
-use Rattle.std.proofs.Common.{◌≡◌, Bool, true, false, sym, ap, ◌∙◌, arith}
+use Rattle.std.proofs.Common.{◌≡◌, true, false, sym, ap, ◌∙◌, arith}
 use Rattle.link_emit.specs.Equates.{open_count}
 use Rattle.link_emit.proofs.EquateLaws.{fewer_on, settled_on, all_settled}
 use Rattle.link_emit.proofs.equates.settle_once.Goals as goal

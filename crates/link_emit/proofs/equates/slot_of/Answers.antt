@@ -1,7 +1,7 @@
-use Rattle.std.proofs.Common.{◌≡◌, ℕ, Option, Some, Result, Ok, Err, sym, ap, ◌∙◌}
+use Rattle.std.proofs.Common.{Option, Some, Result, Ok, Err, ap, ◌∙◌}
 use Rattle.omf_format.specs.declared.value.Value.{Value}
 use Rattle.omf_format.specs.declared.value.ValueFault.{ValueFault}
-use Rattle.link_meaning.specs.Search.{Found, entries}
+use Rattle.link_meaning.specs.Search.{entries}
 use Rattle.link_meaning.specs.LinkValues.{equate_value}
 use Rattle.link_resolve.specs.Definitions.{ToldDefinition, definition_of}
 use Rattle.link_emit.specs.Slots.{rows_of}

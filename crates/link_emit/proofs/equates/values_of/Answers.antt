@@ -1,8 +1,8 @@
-use Rattle.std.proofs.Common.{◌≡◌, ◌<◌, List, Option, Some, None, ℕ, length, refl, sym, ap, subst, ◌∙◌, arith}
+use Rattle.std.proofs.Common.{List, refl, sym, subst, arith}
 use Rattle.link_meaning.specs.Search.{entries}
 use Rattle.rings.specs.Ranks.{IsFirstRing}
 use Rattle.link_emit.specs.declared.slots.Slot.{Slot}
-use Rattle.link_emit.specs.Equates.{IsOpen, AreTrue}
+use Rattle.link_emit.specs.Equates.{IsOpen}
 use Rattle.link_emit.proofs.EquateLaws.{firsts_true, all_valued, inside, rows_size, first_circular, none_open}
 use Rattle.link_emit.proofs.equates.values_of.Goals as goal
 

@@ -1,8 +1,6 @@
-use Rattle.std.proofs.Common.{◌≡◌, ◌+◌, ◌<◌, ◌≤◌, ◌++◌, List, length, drop, arith}
+use Rattle.std.proofs.Common.{◌+◌, ◌++◌, drop, arith}
 use Rattle.std.proofs.lemmas.List.{length-append}
-use Rattle.omf_header.specs.declared.header.Header.{Header}
 use Rattle.load_meaning.specs.WrittenFile.{file_text}
-use Rattle.link_emit.specs.Holding.{Holding}
 use Rattle.link_emit.specs.Images.{images_in}
 use Rattle.link_emit.proofs.ImageLaws.{one_image, long_image, more_ready, none_left, drop_next, ready_size}
 use Rattle.link_emit.proofs.image.put_images.Goals as goal

@@ -1,4 +1,4 @@
-use Rattle.std.proofs.Common.{◌≡◌, ◌++◌, ℕ, List}
+use Rattle.std.proofs.Common.{◌++◌, ℕ}
 use Rattle.std.specs.List.{flat_map}
 use Rattle.omf_format.specs.Expression.{Term}
 use Rattle.omf_expr.specs.View.{view}

@@ -1,4 +1,4 @@
-use Rattle.std.proofs.Common.{◌≡◌, ◌∙◌, ℕ, List, Result, Ok, Err, Some, sym, ap}
+use Rattle.std.proofs.Common.{◌≡◌, ◌∙◌, ℕ, Result, Ok, Err, Some, ap}
 use Rattle.std.specs.Prelude.{OnOk, slice_get}
 use Rattle.link_meaning.specs.Search.{Found, entries}
 use Rattle.link_resolve.specs.Definitions.{ToldDefinition, definition_of, told_definition}

@@ -1,10 +1,6 @@
-use Rattle.std.proofs.Common.{◌≡◌, Some, refl, sym, ap, ◌∙◌, ℕ}
-use Rattle.std.specs.Prelude.{Option, option_map}
-use Rattle.omf_format.specs.File.{Segment}
+use Rattle.std.proofs.Common.{refl, sym, ◌∙◌}
 use Rattle.omf_records.specs.Segments.{shown}
-use Rattle.omf_records.specs.declared.segment.SegmentView.{SegmentView}
-use Rattle.link_resolve.specs.declared.program.LinkMember.{LinkMember}
-use Rattle.link_emit.proofs.SeatLaws.{no_member, no_segment, seated}
+use Rattle.link_emit.proofs.SeatLaws.{no_member, seated}
 use Rattle.link_emit.proofs.seat.seat_of.Goals as goal
 
 pub returns-in-None : goal.returns-in-None

@@ -1,4 +1,4 @@
-use Rattle.std.proofs.Common.{◌≡◌, Some, None, sym, ap, ◌∙◌}
+use Rattle.std.proofs.Common.{Some, None, sym, ap, ◌∙◌}
 use Rattle.omf_expr.specs.View.{view}
 use Rattle.omf_expr.specs.declared.term.Term as declared
 use Rattle.omf_format.specs.Expression.{Operator, Location, Constant, Named, Offset}

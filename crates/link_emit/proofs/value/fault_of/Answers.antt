@@ -6,7 +6,7 @@ use Rattle.link_emit.specs.declared.slots.Slot.{Slot}
 use Rattle.link_emit.specs.declared.slots.Slot.TheVariants.{Open, Done, Failed}
 use Rattle.link_resolve.specs.Finding.{IsFirstOf}
 use Rattle.link_emit.proofs.SlotLaws.{no_label}
-use Rattle.link_emit.proofs.ValueLaws.{fault_says, fault_none}
+use Rattle.link_emit.proofs.ValueLaws.{fault_says}
 use Rattle.link_emit.proofs.value.fault_of.Goals as goal
 
 pub returns-in-Some-Open : goal.returns-in-Some-Open

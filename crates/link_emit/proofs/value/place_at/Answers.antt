@@ -1,5 +1,4 @@
-use Rattle.std.proofs.Common.{◌≡◌, ◌+◌, pos, ℕ, sym, ap, ◌∙◌}
-use Rattle.omf_format.specs.declared.value.Value.{Value}
+use Rattle.std.proofs.Common.{◌+◌, pos, ℕ, ap, ◌∙◌}
 use Rattle.omf_format.specs.declared.value.Value.TheVariants.{At}
 use Rattle.link_meaning.specs.LinkValues.{place_value}
 use Rattle.link_meaning.specs.Layout.{load_of}

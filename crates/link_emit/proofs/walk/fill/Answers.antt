@@ -1,4 +1,4 @@
-use Rattle.std.proofs.Common.{◌≡◌, [], ℕ, length, ap, sym, subst, ◌∙◌, arith, List}
+use Rattle.std.proofs.Common.{ℕ, length, ap, sym, subst, ◌∙◌, arith, List}
 use Rattle.std.proofs.lemmas.List.{length-map}
 use Rattle.load_meaning.specs.declared.table.Target.{Target}
 use Rattle.link_meaning.specs.Search.{entries}

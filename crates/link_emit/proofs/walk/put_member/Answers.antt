@@ -1,10 +1,9 @@
-use Rattle.std.proofs.Common.{◌≡◌, ◌⊎◌, inl, inr, ◌+◌, ◌-◌, ◌≤◌, ◌<◌, ℕ, List, Some, length, get_or, refl, ap, sym, subst, ◌∙◌, arith}
+use Rattle.std.proofs.Common.{◌≡◌, inl, inr, ◌+◌, ◌-◌, ◌≤◌, ℕ, Some, length, get_or, refl, ap, sym, subst, ◌∙◌, arith}
 use Rattle.std.specs.Prelude.{slice_get, slice_set}
 use Rattle.std.proofs.lemmas.Option.{slice_get_read}
 use Rattle.omf_records.specs.Segments.{shown}
-use Rattle.link_meaning.specs.Member.{Member}
 use Rattle.link_meaning.specs.Search.{entries}
-use Rattle.link_meaning.specs.LinkedWalk.{linked_behind}
+use Rattle.link_meaning.specs.laws.LinkedWalk.{linked_behind}
 use Rattle.link_meaning.specs.declared.fault.LinkFault.{LinkFault}
 use Rattle.link_resolve.specs.Linked.{member_at}
 use Rattle.link_emit.specs.Slots.{rows_of}

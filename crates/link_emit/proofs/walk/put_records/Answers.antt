@@ -1,17 +1,15 @@
-use Rattle.std.proofs.Common.{◌≡◌, ◌⊎◌, inl, inr, ◌+◌, ◌≤◌, ◌<◌, ◌++◌, ◌∷◌, [], ℕ, List, length, refl, sym, ap, subst, ◌∙◌, append_assoc, append-nil, arith}
+use Rattle.std.proofs.Common.{◌≡◌, inl, inr, ◌+◌, ◌++◌, ◌∷◌, [], ℕ, List, length, refl, sym, ap, subst, ◌∙◌, append_assoc, append-nil, arith}
 use Rattle.std.proofs.lemmas.List.{length-append}
 use Rattle.omf_format.specs.Record.{Record}
 use Rattle.omf_records.specs.Segments.{shown}
 use Rattle.omf_records.specs.View.{view}
-use Rattle.load_meaning.specs.Cells.{Cell}
 use Rattle.link_meaning.specs.Sizes.{size_at, place_behind}
-use Rattle.link_meaning.specs.Member.{Member}
 use Rattle.link_meaning.specs.Layout.{load_headers}
 use Rattle.link_meaning.specs.Search.{entries}
 use Rattle.link_meaning.specs.LinkedCells.{made}
-use Rattle.link_meaning.specs.LinkedRuns.{item}
+use Rattle.link_meaning.specs.laws.LinkedRuns.{item}
 use Rattle.link_emit.specs.Slots.{rows_of}
-use Rattle.link_emit.specs.Walks.{Begins, Puts, cells_there, behind}
+use Rattle.link_emit.specs.Walks.{Puts, cells_there, behind}
 use Rattle.link_emit.proofs.Coming.{coming_view, body_lab_len, found_next, found_end}
 use Rattle.link_emit.proofs.LocatedLaws.{one_located, behind-append}
 use Rattle.link_emit.proofs.WalkLaws.{puts_none, puts_more, unmade, stands_at, holds_size, within_load}

@@ -1,7 +1,7 @@
 use Rattle.std.proofs.Common.{◌≡◌, ℕ, zero, suc, ◌+◌, List, [], ◌∷◌, take, Some, refl, sym, subst, arith}
 use Rattle.std.specs.Prelude.{slice_get}
 use Rattle.std.specs.List.{AllByRecursion}
-use Rattle.omf_format.specs.HeaderLaws.{IsBytes}
+use Rattle.omf_format.specs.Number.{IsBytes}
 use Rattle.link_resolve.specs.Resolved.{all_bytes}
 use Rattle.link_resolve.proofs.ResolveLaws.{file_there}
 use Rattle.link_resolve.proofs.bytes.know_bytes.Goals as goal

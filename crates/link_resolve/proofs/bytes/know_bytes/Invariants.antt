@@ -1,6 +1,6 @@
 use Rattle.std.proofs.Common.{take}
 use Rattle.std.specs.List.{AllByRecursion}
-use Rattle.omf_format.specs.HeaderLaws.{IsBytes}
+use Rattle.omf_format.specs.Number.{IsBytes}
 use Rattle.link_resolve.specs.Resolved.{all_bytes}
 use Rattle.link_resolve.proofs.bytes.know_bytes.Given as goal
 

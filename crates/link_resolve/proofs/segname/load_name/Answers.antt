@@ -1,6 +1,6 @@
 use Rattle.std.proofs.Common.{◌∙◌, arith}
 use Rattle.omf_header.specs.View.{fields}
-use Rattle.omf_format.specs.FileLaws.{header_lies}
+use Rattle.omf_format.specs.laws.FileLaws.{header_lies}
 use Rattle.link_resolve.proofs.SegmentName.{load_name_lies}
 use Rattle.link_resolve.proofs.segname.load_name.Goals as goal
 

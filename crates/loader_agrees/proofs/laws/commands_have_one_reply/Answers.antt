@@ -1,4 +1,4 @@
-use Rattle.loader_agrees.specs.Apart.{steps_once_there}
+use Rattle.loader_agrees.specs.laws.Apart.{steps_once_there}
 use Rattle.loader_agrees.proofs.laws.commands_have_one_reply.Goals as goal
 
 pub returns : goal.returns

@@ -1,5 +1,5 @@
-use Rattle.loader_machine.specs.ScriptLaws.{IsScript-same, IsFirstBadLine-same, no_script}
-use Rattle.loader_machine.specs.ScriptCommandLaws.{IsScript-keeps}
+use Rattle.loader_machine.specs.laws.ScriptLaws.{IsScript-same, IsFirstBadLine-same, no_script}
+use Rattle.loader_machine.specs.laws.ScriptCommandLaws.{IsScript-keeps}
 use Rattle.loader_script.proofs.laws.scripts_are_read_in_one_way.Goals as goal
 
 pub returns-clause-one_list : goal.returns-clause-one_list

@@ -1,4 +1,4 @@
-use Rattle.omf_format.specs.Lines.{lines_of-lf, lines_of-cr_lf, lines_of-cr, lines_of-last}
+use Rattle.omf_format.specs.laws.LinesLaws.{lines_of-lf, lines_of-cr_lf, lines_of-cr, lines_of-last}
 use Rattle.loader_script.proofs.JoinedWords.{words_make_line}
 use Rattle.loader_script.proofs.laws.texts_are_lines.Goals as goal
 

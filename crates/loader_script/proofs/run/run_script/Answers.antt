@@ -1,4 +1,4 @@
-use Rattle.loader_machine.specs.ScriptCommandLaws.{IsScript-keeps}
+use Rattle.loader_machine.specs.laws.ScriptCommandLaws.{IsScript-keeps}
 use Rattle.loader_script.proofs.run.run_script.Goals as goal
 
 pub run_commands-requires : goal.run_commands-requires

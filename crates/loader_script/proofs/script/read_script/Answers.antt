@@ -1,7 +1,7 @@
 use Rattle.std.proofs.Common.{map, arith, sym, ◌∙◌}
 use Rattle.std.proofs.lemmas.Bool.{eqb-true}
 use Rattle.std.proofs.lemmas.List.{length-map}
-use Rattle.loader_machine.specs.ScriptLaws.{AreGood-few}
+use Rattle.loader_machine.specs.laws.ScriptLaws.{AreGood-few}
 use Rattle.loader_script.specs.View.{command}
 use Rattle.loader_script.proofs.Come.{come_on, come_through}
 use Rattle.loader_script.proofs.script.read_script.Goals as goal

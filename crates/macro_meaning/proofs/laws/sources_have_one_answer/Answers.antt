@@ -1,4 +1,4 @@
-use Rattle.macro_meaning.specs.ExpansionLaws.{one_expansion, no_fault_beside, one_first_fault}
+use Rattle.macro_meaning.specs.laws.ExpansionProofs.{one_expansion, no_fault_beside, one_first_fault}
 use Rattle.macro_meaning.proofs.laws.sources_have_one_answer.Goals as goal
 
 pub returns-clause-expansion : goal.returns-clause-expansion

@@ -1,4 +1,4 @@
-use Rattle.load_meaning.specs.LoadableLaws.{header_fault-told, record_fault-told}
+use Rattle.load_meaning.specs.laws.LoadableLaws.{header_fault-told, record_fault-told}
 use Rattle.omf_cells.proofs.laws.faults_keep_their_places.Goals as goal
 
 pub returns-clause-header : goal.returns-clause-header

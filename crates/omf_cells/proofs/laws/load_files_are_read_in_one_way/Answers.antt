@@ -1,4 +1,4 @@
-use Rattle.load_meaning.specs.LoadableLaws.{loadable_same, loadable_sound, first_fault_same}
+use Rattle.load_meaning.specs.laws.LoadableLaws.{loadable_same, loadable_sound, first_fault_same}
 use Rattle.omf_cells.proofs.laws.load_files_are_read_in_one_way.Goals as goal
 
 pub returns-clause-one_list : goal.returns-clause-one_list

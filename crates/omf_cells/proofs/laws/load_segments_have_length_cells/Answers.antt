@@ -1,4 +1,4 @@
-use Rattle.load_meaning.specs.CellLaws.{cells-bytes, length-cells, loadable_has}
+use Rattle.load_meaning.specs.laws.CellLaws.{cells-bytes, length-cells, loadable_has}
 use Rattle.omf_cells.proofs.laws.load_segments_have_length_cells.Goals as goal
 
 pub returns-clause-length : goal.returns-clause-length

@@ -2,7 +2,7 @@ use Rattle.std.proofs.Common.{◌≡◌, ℕ, ◌-◌, ◌++◌, List, length, r
 use Rattle.omf_format.specs.Reading.{Reader}
 use Rattle.omf_format.specs.File.{Segment, body_reader}
 use Rattle.load_meaning.specs.Cells.{segment_bytes}
-use Rattle.load_meaning.specs.CellLaws.{length-segment_bytes}
+use Rattle.load_meaning.specs.laws.CellLaws.{length-segment_bytes}
 use Rattle.omf_records.specs.declared.segment.SegmentView.{SegmentView}
 use Rattle.omf_records.specs.Segments.{placed, shown}
 use Rattle.omf_cells.specs.declared.spots.Spot.{Spot}

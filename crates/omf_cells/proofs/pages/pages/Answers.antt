@@ -3,7 +3,7 @@ use Rattle.std.specs.List.{flat_map, AllByRecursion}
 use Rattle.omf_format.specs.Super.{page_text}
 use Rattle.load_meaning.specs.WrittenPages.{passing, by_page, pages_from, pages_of, pages_text}
 use Rattle.omf_cells.specs.WrittenParts.{run}
-use Rattle.load_meaning.specs.PageLaws.{Climb, IsGroup, climb_all, sized_all}
+use Rattle.load_meaning.specs.laws.PageLaws.{Climb, IsGroup, climb_all, sized_all}
 use Rattle.omf_cells.proofs.PageTexts.{lows, page_done, whole_again}
 use Rattle.omf_cells.proofs.pages.pages.Goals as goal
 

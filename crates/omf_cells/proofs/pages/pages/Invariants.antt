@@ -2,7 +2,7 @@ use Rattle.std.proofs.Common.{◌≡◌, ◌++◌, length}
 use Rattle.std.specs.List.{flat_map, AllByRecursion}
 use Rattle.omf_format.specs.Super.{page_text}
 use Rattle.load_meaning.specs.WrittenPages.{by_page, pages_from, pages_text}
-use Rattle.load_meaning.specs.PageLaws.{Climb, IsGroup}
+use Rattle.load_meaning.specs.laws.PageLaws.{Climb, IsGroup}
 use Rattle.omf_cells.proofs.pages.pages.Given as goal
 
 -- what was written and the pages that are left are the whole

@@ -1,4 +1,4 @@
-use Rattle.std.proofs.Common.{◌≡◌, ℕ, length, sym, arith}
+use Rattle.std.proofs.Common.{◌≡◌, length, arith}
 use Rattle.omf_cells.specs.Joined.{joined}
 use Rattle.omf_cells.proofs.PlainLaws.{plain_is, plain_zeros}
 use Rattle.omf_cells.proofs.plain_body.put_plain_body.Goals as goal

@@ -1,7 +1,7 @@
 use Rattle.std.proofs.Common.{◌-◌, ℕ, length, map, ap, ◌∙◌, arith}
 use Rattle.omf_cells.specs.WrittenParts.{seen}
-use Rattle.load_meaning.specs.WrittenBodyLaws.{length-written}
-use Rattle.load_meaning.specs.StoredLaws.{zeros_left}
+use Rattle.load_meaning.specs.laws.WrittenBodyLaws.{length-written}
+use Rattle.load_meaning.specs.laws.StoredLaws.{zeros_left}
 use Rattle.omf_cells.proofs.written.put_body.Goals as goal
 
 pub overflow_sub-result : goal.overflow_sub-result

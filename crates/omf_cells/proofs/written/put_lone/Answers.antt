@@ -4,7 +4,7 @@ use Rattle.omf_format.specs.Record.{IsRecord}
 use Rattle.omf_cells.specs.declared.written.Patch.{Patch}
 use Rattle.omf_cells.specs.WrittenParts.{seen}
 use Rattle.load_meaning.specs.WrittenBody.{AreWritten}
-use Rattle.load_meaning.specs.FormLaws.{lone_fits}
+use Rattle.load_meaning.specs.laws.FormLaws.{lone_fits}
 use Rattle.omf_cells.proofs.written.put_lone.Goals as goal
 
 pub put_record-requires : goal.put_record-requires

@@ -7,7 +7,7 @@ use Rattle.load_meaning.specs.Cells as format
 use Rattle.load_meaning.specs.WrittenPages.{pages_text, Rise}
 use Rattle.omf_cells.specs.WrittenParts.{seen}
 use Rattle.load_meaning.specs.WrittenBody.{of_form}
-use Rattle.load_meaning.specs.WrittenBodyLaws.{places, rise_form, super_record_fits}
+use Rattle.load_meaning.specs.laws.WrittenBodyLaws.{places, rise_form, super_record_fits}
 use Rattle.omf_cells.proofs.written.put_super.Goals as goal
 
 pub pages-requires : goal.pages-requires

@@ -1,6 +1,6 @@
 use Rattle.std.proofs.Common.{sym, ◌∙◌, arith}
 use Rattle.omf_cells.specs.WrittenParts.{seen}
-use Rattle.load_meaning.specs.FormLaws.{type_two, stored_two}
+use Rattle.load_meaning.specs.laws.FormLaws.{type_two, stored_two}
 use Rattle.omf_cells.proofs.written_data.low_bytes.Goals as goal
 
 pub overflow_cast-result : goal.overflow_cast-result

@@ -1,4 +1,4 @@
-use Rattle.std.proofs.Common.{◌≡◌, ◌-◌, ℕ, length, map, sym, ap, subst, ◌∙◌, arith}
+use Rattle.std.proofs.Common.{◌≡◌, ◌-◌, ℕ, length, map, ap, subst, arith}
 use Rattle.omf_cells.specs.WrittenParts.{seen}
 use Rattle.load_meaning.specs.WrittenBody.{AreWritten}
 use Rattle.omf_cells.proofs.DataLaws.{room, stored_over}

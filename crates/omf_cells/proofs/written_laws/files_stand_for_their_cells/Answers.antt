@@ -1,5 +1,5 @@
-use Rattle.load_meaning.specs.WrittenFileLaws.{file_stands_for}
-use Rattle.load_meaning.specs.WrittenTableLaws.{table_stands_for}
+use Rattle.load_meaning.specs.laws.WrittenFileLaws.{file_stands_for}
+use Rattle.load_meaning.specs.laws.WrittenTableLaws.{table_stands_for}
 use Rattle.omf_cells.proofs.written_laws.files_stand_for_their_cells.Goals as goal
 
 pub returns-clause-files : goal.returns-clause-files

@@ -1,4 +1,4 @@
-use Rattle.load_meaning.specs.PageLaws.{read_again}
+use Rattle.load_meaning.specs.laws.PageLaws.{read_again}
 use Rattle.omf_cells.proofs.written_laws.locations_are_read_again.Goals as goal
 
 pub returns : goal.returns

@@ -1,4 +1,4 @@
-use Rattle.omf_format.specs.ExpressionLaws.{expression-takes, expression-again, expression-flaw}
+use Rattle.omf_format.specs.laws.ExpressionLaws.{expression-takes, expression-again, expression-flaw}
 use Rattle.omf_expr.proofs.laws.field_is_expression.Goals as goal
 
 pub returns-clause-takes : goal.returns-clause-takes

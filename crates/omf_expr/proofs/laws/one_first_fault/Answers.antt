@@ -1,4 +1,4 @@
-use Rattle.omf_format.specs.ExpressionLaws.{one-fault, no-fault}
+use Rattle.omf_format.specs.laws.ExpressionLaws.{one-fault, no-fault}
 use Rattle.omf_expr.proofs.laws.one_first_fault.Goals as goal
 
 pub returns-clause-one : goal.returns-clause-one

@@ -1,5 +1,5 @@
 use Rattle.std.proofs.Common.{Some}
-use Rattle.omf_format.specs.TermLaws.{term-takes, term-again}
+use Rattle.omf_format.specs.laws.TermLaws.{term-takes, term-again}
 use Rattle.omf_expr.proofs.laws.term_is_read.Goals as goal
 
 pub returns-clause-takes : goal.returns-clause-takes

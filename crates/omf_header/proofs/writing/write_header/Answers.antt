@@ -1,4 +1,4 @@
-use Rattle.omf_format.specs.WrittenHeader.{written_reads}
+use Rattle.omf_format.specs.laws.WrittenHeaderLaws.{written_reads}
 use Rattle.omf_header.specs.View.{fields}
 use Rattle.omf_header.proofs.writing.write_header.Goals as goal
 

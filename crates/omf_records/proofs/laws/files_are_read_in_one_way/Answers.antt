@@ -1,4 +1,4 @@
-use Rattle.omf_format.specs.FileLaws.{file_same, no_file, one_first_fault}
+use Rattle.omf_format.specs.laws.FileLaws.{file_same, no_file, one_first_fault}
 use Rattle.omf_records.proofs.laws.files_are_read_in_one_way.Goals as goal
 
 pub returns-clause-one_list : goal.returns-clause-one_list

@@ -1,6 +1,6 @@
 use Rattle.std.proofs.Common.{◌≡◌, true}
 use Rattle.omf_format.specs.Field.{is_shift}
-use Rattle.omf_format.specs.FieldLaws.{shift_back}
+use Rattle.omf_format.specs.laws.FieldLaws.{shift_back}
 use Rattle.omf_format.specs.Record.{spelling}
 use Rattle.omf_records.proofs.writing.put_record.Goals as goal
 

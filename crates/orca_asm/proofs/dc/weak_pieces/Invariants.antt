@@ -1,7 +1,7 @@
 use Rattle.std.proofs.Common.{◌≡◌, ◌++◌, map, length}
 use Rattle.std.specs.List.{AllByRecursion}
 use Rattle.asm_meaning.specs.Elements.{weak_piece}
-use Rattle.asm_meaning.specs.GivenLaws.{IsNameLength}
+use Rattle.asm_meaning.specs.laws.GivenLaws.{IsNameLength}
 use Rattle.orca_asm.specs.PieceView.{piece}
 use Rattle.orca_asm.proofs.dc.weak_pieces.Given as goal
 

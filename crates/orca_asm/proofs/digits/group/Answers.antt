@@ -1,4 +1,4 @@
-use Rattle.std.proofs.Common.{◌≡◌, ◌<◌, ◌≤◌, ◌+◌, ◌-◌, ◌*◌, ◌∷◌, ◌^◌, arith}
+use Rattle.std.proofs.Common.{◌-◌, arith}
 use Rattle.orca_asm.proofs.Packed.{group_more, value_small, product_small}
 use Rattle.orca_asm.proofs.digits.group.Goals as goal
 

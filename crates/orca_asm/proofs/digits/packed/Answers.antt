@@ -1,4 +1,3 @@
-use Rattle.std.proofs.Common.{◌≡◌}
 use Rattle.orca_asm.proofs.Packed.{packed_more, some_length}
 use Rattle.orca_asm.proofs.digits.packed.Goals as goal
 

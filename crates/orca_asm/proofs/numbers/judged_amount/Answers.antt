@@ -1,4 +1,3 @@
-use Rattle.std.proofs.Common.{map, ap}
 use Rattle.orca_asm.specs.AmountView.{amount_view}
 use Rattle.orca_asm.specs.NamesView.{constants}
 use Rattle.orca_asm.proofs.Judging.{too_deep, too_large, well_judged, more_than, at_most, same_formula}

@@ -1,10 +1,9 @@
-use Rattle.std.proofs.Common.{◌≡◌, ◌∷◌, ◌≤◌, map, length, Some, sym, ap, subst, ◌∙◌, arith}
+use Rattle.std.proofs.Common.{◌≡◌, ◌∷◌, ◌≤◌, map, length, sym, ap, subst, ◌∙◌, arith}
 use Rattle.asm_meaning.specs.Elements.{numbered}
-use Rattle.orca_asm.specs.DcView.{all_or}
 use Rattle.orca_asm.specs.NamesView.{constants}
 use Rattle.orca_asm.specs.PieceView.{piece}
 use Rattle.orca_asm.proofs.ByFormulas.{empty_list}
-use Rattle.orca_asm.proofs.Gathering.{Gathers, gathers_nothing, gathers_more, gathers_last, gathers_none, gathers_wrong, GathersAll}
+use Rattle.orca_asm.proofs.Gathering.{gathers_more, gathers_last, gathers_none, gathers_wrong, GathersAll}
 use Rattle.orca_asm.proofs.Judging.{FormulaStands, formula_once, has_numbers, no_formulas, fine_terms, kept_from, all_pieces, nothing_yet}
 use Rattle.orca_asm.proofs.Listed.{some_list}
 use Rattle.orca_asm.proofs.numbers.numbers_in.Goals as goal

@@ -1,4 +1,4 @@
-use Rattle.std.proofs.Common.{refl, sym, ap, ◌∙◌, arith}
+use Rattle.std.proofs.Common.{refl, ◌∙◌, arith}
 use Rattle.omf_header.specs.View.{fields}
 use Rattle.orca_asm.specs.TextView.{kept_text}
 use Rattle.orca_asm.proofs.Objects.{body_long, body_many, segment_long, segment_put}

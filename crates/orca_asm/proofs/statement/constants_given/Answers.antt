@@ -1,4 +1,3 @@
-use Rattle.orca_asm.specs.GivenView.{parts_answer}
 use Rattle.orca_asm.specs.NamesView.{constants}
 use Rattle.orca_asm.proofs.Stating.{by_parts, by_fault, by_nothing, with_answer}
 use Rattle.orca_asm.proofs.statement.constants_given.Goals as goal

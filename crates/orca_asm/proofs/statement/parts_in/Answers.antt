@@ -1,6 +1,6 @@
-use Rattle.std.proofs.Common.{◌≡◌, ◌∷◌, ◌≤◌, map, length, sym, ap, subst, ◌∙◌, arith}
+use Rattle.std.proofs.Common.{◌≡◌, ◌∷◌, map, length, sym, ap, subst, ◌∙◌, arith}
 use Rattle.asm_meaning.specs.Elements.{IsElementAt, element_pieces}
-use Rattle.asm_meaning.specs.GivenLaws.{element-le}
+use Rattle.asm_meaning.specs.laws.GivenLaws.{element-le}
 use Rattle.orca_asm.specs.GivenView.{part_pieces}
 use Rattle.orca_asm.specs.NamesView.{constants}
 use Rattle.orca_asm.proofs.ByFormulas.{empty_list}

@@ -1,4 +1,3 @@
-use Rattle.orca_macro.specs.Short.{HasNumber}
 use Rattle.orca_macro.specs.View.{values}
 use Rattle.orca_macro.proofs.condition.number.Goals as goal
 

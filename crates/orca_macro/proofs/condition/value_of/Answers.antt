@@ -1,4 +1,4 @@
-use Rattle.std.proofs.Common.{ap, ◌∙◌}
+use Rattle.std.proofs.Common.{◌∙◌}
 use Rattle.macro_meaning.specs.Condition.{environment}
 use Rattle.orca_macro.specs.View.{values}
 use Rattle.orca_macro.proofs.Numbers.{evaluated, not_refused, written_is}

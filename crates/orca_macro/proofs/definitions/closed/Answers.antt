@@ -1,4 +1,4 @@
-use Rattle.std.proofs.Common.{◌≡◌, ◌+◌, ◌<◌, Some, None, ap, sym, ◌∙◌, arith}
+use Rattle.std.proofs.Common.{ap, sym, ◌∙◌, arith}
 use Rattle.macro_meaning.specs.Definition.{model_of}
 use Rattle.orca_text.specs.View.{line}
 use Rattle.orca_macro.specs.DefinitionView.{model}

@@ -1,4 +1,4 @@
-use Rattle.std.proofs.Common.{◌≡◌, ◌≤◌, ◌<◌, ◌-◌, map, length}
+use Rattle.std.proofs.Common.{◌≤◌, ◌<◌, ◌-◌, map, length}
 use Rattle.std.specs.Prelude.{IfSome}
 use Rattle.orca_macro.specs.Parts.{definition, IsScanned}
 use Rattle.orca_macro.proofs.definitions.scan_file.Given as goal

@@ -11,6 +11,6 @@ returns-clause-visited c = λ before v stands here few.
       given = given_by (line c.args.of.now) (deed c.in_ok-found.found);
       move = move_of c.args.program.now before v (line c.args.of.now) (deed c.in_ok-found.found);
       is = visit_is c.args.program.now before v (line c.args.of.now) (deed c.in_ok-found.found) here few (c.in_ok-found.ensures before v stands root);
-      new_is = c.in_ok-give.ensures.lines;
+      new_is = c.in-Ok.ensures.lines;
       moves = c.in_ok-outcome.ensures.moves before v (line c.args.of.now) stands root;
     }

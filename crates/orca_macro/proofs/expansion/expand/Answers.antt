@@ -1,4 +1,4 @@
-use Rattle.std.proofs.Common.{◌≡◌, Option, None, length, sym, ap, ◌∙◌}
+use Rattle.std.proofs.Common.{◌≡◌, None, length, sym, ap, ◌∙◌}
 use Rattle.std.proofs.lemmas.Bool.{eqb-true}
 use Rattle.macro_meaning.specs.Expansion.{first_in, file_text_fault}
 use Rattle.orca_macro.specs.Files.{texts_of_files, lines_from}
@@ -20,21 +20,21 @@ returns-in-Ok-Err-clause-refused c =
     parts_refused c.args.source.now (texts_of_files c.args.macros.now.items) c.in-Ok-read_file.lines c.as_slice-parts.result.now c.in-Ok-Err.fault c.in-Ok-read_file.ensures.lines files_are good c.in-Ok-read_file.ensures.good
     (rw c.in-Ok-Err.field-0-is at c.in-Ok-Err.ensures)
 
-pub returns-in-Ok-visit_all-clause-lines : goal.returns-in-Ok-visit_all-clause-lines
-returns-in-Ok-visit_all-clause-lines c =
+pub returns-in-Ok-visited-clause-lines : goal.returns-in-Ok-visited-clause-lines
+returns-in-Ok-visited-clause-lines c =
     let texts = ap texts_of_files c.as_slice-texts.ensures.value in
     let files_are : c.as_slice-parts.result.now ≡ lines_from 1 (texts_of_files c.args.macros.now.items) = c.as_slice-parts.ensures.value ∙ c.in-Ok.ensures.lines ∙ ap (lines_from 1) texts in
     let good : first_in file_text_fault 1 (texts_of_files c.args.macros.now.items) ≡ None = sym (ap (first_in file_text_fault 1) texts) ∙ c.in-Ok.ensures.good in
     all_expand c.args.source.now (texts_of_files c.args.macros.now.items) c.in-Ok-read_file.lines c.as_slice-parts.result.now c.in-Ok-read_file.ensures.lines files_are good c.in-Ok-read_file.ensures.good c.in-Ok-Ok.program
-    (rw c.in-Ok-Ok.field-0-is at c.in-Ok-Ok.ensures) c.in-Ok-visit_all.found c.in-Ok-visit_all.ensures
+    (rw c.in-Ok-Ok.field-0-is at c.in-Ok-Ok.ensures) c.in-Ok-visited.found c.in-Ok-visited.ensures
 
-pub returns-in-Ok-visit_all-clause-refused : goal.returns-in-Ok-visit_all-clause-refused
-returns-in-Ok-visit_all-clause-refused c =
+pub returns-in-Ok-visited-clause-refused : goal.returns-in-Ok-visited-clause-refused
+returns-in-Ok-visited-clause-refused c =
     let texts = ap texts_of_files c.as_slice-texts.ensures.value in
     let files_are : c.as_slice-parts.result.now ≡ lines_from 1 (texts_of_files c.args.macros.now.items) = c.as_slice-parts.ensures.value ∙ c.in-Ok.ensures.lines ∙ ap (lines_from 1) texts in
     let good : first_in file_text_fault 1 (texts_of_files c.args.macros.now.items) ≡ None = sym (ap (first_in file_text_fault 1) texts) ∙ c.in-Ok.ensures.good in
     all_refused c.args.source.now (texts_of_files c.args.macros.now.items) c.in-Ok-read_file.lines c.as_slice-parts.result.now c.in-Ok-read_file.ensures.lines files_are good c.in-Ok-read_file.ensures.good c.in-Ok-Ok.program
-    (rw c.in-Ok-Ok.field-0-is at c.in-Ok-Ok.ensures) c.in-Ok-visit_all.found c.in-Ok-visit_all.ensures
+    (rw c.in-Ok-Ok.field-0-is at c.in-Ok-Ok.ensures) c.in-Ok-visited.found c.in-Ok-visited.ensures
 
 pub returns-then-are_untouched-clause-lines : goal.returns-then-are_untouched-clause-lines
 returns-then-are_untouched-clause-lines c =

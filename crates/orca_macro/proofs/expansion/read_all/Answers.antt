@@ -1,4 +1,4 @@
-use Rattle.std.proofs.Common.{◌≡◌, ◌++◌, ◌∷◌, ℕ, List, length, sym, ap, subst, ◌∙◌}
+use Rattle.std.proofs.Common.{◌≡◌, ◌++◌, ◌∷◌, ℕ, List, sym, ap, subst, ◌∙◌}
 use Rattle.macro_meaning.specs.Expansion.{first_in, file_text_fault, next_file}
 use Rattle.orca_macro.specs.Files.{texts_of_files, lines_from}
 use Rattle.orca_macro.proofs.Whole.{lines_more, good_more, lines_end, good_end, bad_file, none_left}

@@ -1,4 +1,4 @@
-use Rattle.std.proofs.Common.{◌≡◌, ◌≤◌, ◌+◌, map, length, ap, sym, arith}
+use Rattle.std.proofs.Common.{◌≤◌, ◌+◌, map, length, arith}
 use Rattle.std.proofs.lemmas.List.{length-map}
 use Rattle.orca_macro.specs.Held.{held}
 use Rattle.orca_macro.specs.Parts.{definition}

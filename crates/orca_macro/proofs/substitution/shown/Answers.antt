@@ -1,4 +1,4 @@
-use Rattle.std.proofs.Common.{◌≡◌, ◌-◌, List, ℕ, length, None, Some, ap, subst, sym, ◌∙◌, arith, length-drop}
+use Rattle.std.proofs.Common.{◌≡◌, ◌-◌, length, None, Some, ap, subst, ◌∙◌, arith, length-drop}
 use Rattle.macro_meaning.specs.Substitution.{Naming, naming_at, in_place}
 use Rattle.macro_meaning.specs.Symbol.{text_of}
 use Rattle.orca_macro.specs.Plain.{plain_len}

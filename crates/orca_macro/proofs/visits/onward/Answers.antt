@@ -1,4 +1,4 @@
-use Rattle.std.proofs.Common.{List, ◌++◌, ◌∷◌, [], subst}
+use Rattle.std.proofs.Common.{◌++◌, ◌∷◌, [], subst}
 use Rattle.macro_meaning.specs.Visit.{Move}
 use Rattle.orca_macro.specs.Stacks.{frame, stack_of, MovesTo}
 use Rattle.orca_macro.proofs.Moves.{onward_goes, onward_ends}

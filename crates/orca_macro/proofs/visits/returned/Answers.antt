@@ -1,5 +1,5 @@
 use Rattle.orca_macro.specs.Stacks.{frame, stack_of}
-use Rattle.orca_macro.proofs.Returns.{comes_back, goes_further, ended_so}
+use Rattle.orca_macro.proofs.Returns.{comes_back, goes_further}
 use Rattle.orca_macro.proofs.visits.returned.Goals as goal
 
 pub returns-in-Some-line : goal.returns-in-Some-line

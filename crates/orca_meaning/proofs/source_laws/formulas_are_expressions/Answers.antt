@@ -1,4 +1,4 @@
-use Rattle.orca_meaning.specs.FormulaLaws.{one_tree, spells, pending-one, pending-two}
+use Rattle.orca_meaning.specs.laws.FormulaLaws.{one_tree, spells, pending-one, pending-two}
 use Rattle.orca_meaning.proofs.source_laws.formulas_are_expressions.Goals as goal
 
 pub returns-clause-one_tree : goal.returns-clause-one_tree

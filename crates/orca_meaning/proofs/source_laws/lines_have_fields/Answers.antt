@@ -1,6 +1,6 @@
 use Rattle.std.specs.Prelude.{None}
-use Rattle.omf_format.specs.Lines.{lines_of-lf, lines_of-cr_lf, lines_of-cr, lines_of-last}
-use Rattle.orca_meaning.specs.LineLaws.{have_fields, are_parted, outside_is_first}
+use Rattle.omf_format.specs.laws.LinesLaws.{lines_of-lf, lines_of-cr_lf, lines_of-cr, lines_of-last}
+use Rattle.orca_meaning.specs.laws.LineLaws.{have_fields, are_parted, outside_is_first}
 use Rattle.orca_meaning.proofs.source_laws.lines_have_fields.Goals as goal
 
 pub returns-clause-lf : goal.returns-clause-lf

@@ -1,5 +1,5 @@
 use Rattle.std.proofs.Common.{arith, ap, map}
-use Rattle.orca_meaning.specs.TokenLaws.{token-shorter}
+use Rattle.orca_meaning.specs.laws.TokenLaws.{token-shorter}
 use Rattle.orca_text.specs.View.{term}
 use Rattle.orca_text.proofs.Whole.{under_way, goes_on, found_as, no_formula}
 use Rattle.orca_text.proofs.formula.formula_at.Goals as goal

@@ -1,5 +1,5 @@
 use Rattle.std.proofs.Common.{length, map, ◌≤◌}
-use Rattle.orca_meaning.specs.Machine.{state}
+use Rattle.orca_meaning.specs.laws.Machine.{state}
 use Rattle.orca_text.proofs.Whole.{UnderWay}
 use Rattle.orca_text.specs.View.{term}
 use Rattle.orca_text.proofs.formula.formula_at.Given as goal

@@ -1,5 +1,5 @@
 use Rattle.std.proofs.Common.{◌≡◌, length, map}
-use Rattle.orca_meaning.specs.Machine.{reduced}
+use Rattle.orca_meaning.specs.laws.Machine.{reduced}
 use Rattle.orca_text.specs.View.{term}
 use Rattle.orca_text.proofs.formula.reduce.Given as goal
 

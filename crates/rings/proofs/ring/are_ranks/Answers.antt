@@ -1,6 +1,5 @@
-use Rattle.std.proofs.Common.{◌≡◌, ◌⊎◌, inl, inr, ◌<◌, ◌≤◌, length, ℕ, [], arith}
+use Rattle.std.proofs.Common.{◌⊎◌, inl, inr, ◌<◌, ◌≤◌, ℕ, [], arith}
 use Rattle.std.proofs.lemmas.Bool.{cases_lt}
-use Rattle.rings.specs.Graphs.{row_at}
 use Rattle.rings.specs.Ranks.{Falls}
 use Rattle.rings.proofs.Lists.{at_none}
 use Rattle.rings.proofs.RingLaws.{none_outside}

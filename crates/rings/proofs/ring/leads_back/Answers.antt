@@ -1,9 +1,9 @@
-use Rattle.std.proofs.Common.{◌≡◌, ◌<◌, ◌∷◌, [], true, false, ℕ, Bool, List, Some, length, refl, sym, ap, subst, ◌∙◌, arith}
+use Rattle.std.proofs.Common.{◌≡◌, ◌<◌, true, false, ℕ, List, Some, length, refl, ap, subst, arith}
 use Rattle.std.specs.Prelude.{slice_get}
 use Rattle.std.proofs.lemmas.Option.{slice_get_read}
-use Rattle.rings.specs.Graphs.{IsIn, row_at}
-use Rattle.rings.specs.Ranks.{Visits, Searching}
-use Rattle.rings.proofs.RingLaws.{searching_all, searching_more, ring_found, none_found}
+use Rattle.rings.specs.Graphs.{IsIn}
+use Rattle.rings.specs.Ranks.{Visits}
+use Rattle.rings.proofs.RingLaws.{searching_more, ring_found, none_found}
 use Rattle.rings.proofs.ring.leads_back.Goals as goal
 
 pub returns-then-branch : goal.returns-then-branch

@@ -1,6 +1,6 @@
 use Rattle.std.proofs.Common.{◌≡◌, ◌<◌, Bool, true, false, ℕ, List, sym, subst, arith}
 use Rattle.std.specs.Bool.{OnTrue}
-use Rattle.rings.specs.Graphs.{IsIn, row_at}
+use Rattle.rings.specs.Graphs.{IsIn}
 use Rattle.rings.specs.Ranks.{rank_at, AreRanks, TellsRing}
 use Rattle.rings.proofs.RingLaws.{none_by_rank}
 use Rattle.rings.proofs.ring.passes.Goals as goal

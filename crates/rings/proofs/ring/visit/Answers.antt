@@ -1,8 +1,8 @@
-use Rattle.std.proofs.Common.{◌≡◌, ◌<◌, ◌++◌, ◌∷◌, [], inl, true, false, ℕ, Bool, List, Some, length, refl, sym, ap, subst, ◌∙◌, arith}
+use Rattle.std.proofs.Common.{◌≡◌, ◌<◌, ◌∷◌, inl, true, false, ℕ, Bool, List, Some, length, refl, sym, ap, subst, ◌∙◌, arith}
 use Rattle.std.specs.Prelude.{slice_get, slice_set}
 use Rattle.std.proofs.lemmas.Option.{slice_get_read}
 use Rattle.rings.specs.Graphs.{IsIn}
-use Rattle.rings.specs.Ranks.{IsSeen, Visiting, Visits}
+use Rattle.rings.specs.Ranks.{IsSeen, Visiting}
 use Rattle.rings.proofs.Lists.{empty}
 use Rattle.rings.proofs.RingLaws.{visiting_all, visiting_seen, visiting_new, visited}
 use Rattle.rings.proofs.ring.visit.Goals as goal

@@ -1,5 +1,4 @@
-use Rattle.std.proofs.Common.{◌≡◌, ◌⊎◌, ◌+◌, length, ℕ}
-use Rattle.rings.specs.Graphs.{IsIn}
+use Rattle.std.proofs.Common.{length}
 use Rattle.rings.specs.Ranks.{Visiting}
 use Rattle.rings.proofs.ring.visit.Given as goal
 

@@ -1,7 +1,6 @@
-use Rattle.std.proofs.Common.{◌≡◌, ◌++◌, List, [], ◌∷◌, None, ap, ◌∙◌}
+use Rattle.std.proofs.Common.{◌++◌, [], ◌∷◌, None, ap, ◌∙◌}
 use Rattle.omf_header.specs.View.{fields}
 use Rattle.loader_machine.specs.declared.seen.Head.{Head}
-use Rattle.sys_loader.specs.declared.user.Segment.{Segment}
 use Rattle.sys_loader.proofs.Written.{heads_of}
 use Rattle.sys_loader.proofs.Heading.{head_more}
 use Rattle.sys_loader.proofs.file.segments_of.Goals as goal

@@ -1,5 +1,5 @@
-use Rattle.std.proofs.Common.{◌≡◌, length, sym, ◌∙◌}
-use Rattle.sys_loader.proofs.Settling.{has_length, table_room, table_filled, plain_filled}
+use Rattle.std.proofs.Common.{length, sym, ◌∙◌}
+use Rattle.sys_loader.proofs.Settling.{table_room, table_filled, plain_filled}
 use Rattle.sys_loader.proofs.fill.fill.Goals as goal
 
 pub fill_table-requires : goal.fill_table-requires

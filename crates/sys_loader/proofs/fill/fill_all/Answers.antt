@@ -1,4 +1,4 @@
-use Rattle.std.proofs.Common.{◌≡◌, ℕ, ◌+◌, ◌<◌, Some, None, length, sym, subst, ◌∙◌, arith}
+use Rattle.std.proofs.Common.{◌+◌, ◌<◌, length, sym, subst, ◌∙◌, arith}
 use Rattle.iigs_meaning.specs.Memory.{Memory}
 use Rattle.sys_loader.specs.Filling.{AreFilled}
 use Rattle.sys_loader.proofs.Written.{heads_of, handles_of, head_here, handle_here, has_head, filled_skip, filled_more, there_now, fits_now}

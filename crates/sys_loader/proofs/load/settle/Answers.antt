@@ -1,10 +1,9 @@
-use Rattle.std.proofs.Common.{◌≡◌, ℕ, List, length, map, Option, sym, ap, subst, ◌∙◌}
-use Rattle.iigs_meaning.specs.declared.handles.Handle.{Handle}
+use Rattle.std.proofs.Common.{ℕ, List, length, map, Option, sym, ap, subst, ◌∙◌}
 use Rattle.loader_machine.specs.declared.seen.Head.{Head}
 use Rattle.loader_machine.specs.Heads.{head_of, wants_of}
 use Rattle.loader_machine.specs.State.{Held}
 use Rattle.loader_machine.specs.Steps.{spread}
-use Rattle.loader_agrees.specs.Begun.{all_length}
+use Rattle.loader_agrees.specs.laws.Begun.{all_length}
 use Rattle.sys_loader.specs.Filling.{AreFilled}
 use Rattle.sys_loader.proofs.Written.{handles_of}
 use Rattle.sys_loader.proofs.Settling.{are_sound}

@@ -1,4 +1,4 @@
-use Rattle.std.proofs.Common.{◌≡◌, ℕ, ◌+◌, ◌<◌, List, Vec, Global, length, sym, ap, subst, ◌∙◌, arith}
+use Rattle.std.proofs.Common.{ℕ, ◌+◌, Vec, Global, sym, subst, ◌∙◌}
 use Rattle.sys_loader.specs.declared.user.Segment.{Segment}
 use Rattle.sys_loader.proofs.Dealing.{Dealt, set_static, set_other, set_room}
 use Rattle.sys_loader.proofs.place.deal.Goals.{then-is_static, else-is_static}

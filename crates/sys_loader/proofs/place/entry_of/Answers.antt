@@ -1,4 +1,4 @@
-use Rattle.std.proofs.Common.{◌≡◌, ℕ, ◌+◌, ◌%◌, List, Some, map, sym, ap, ◌∙◌}
+use Rattle.std.proofs.Common.{ℕ, ◌+◌, ◌%◌, Some, map, sym, ap, ◌∙◌}
 use Rattle.loader_machine.specs.Stands.{place_in}
 use Rattle.sys_loader.specs.declared.user.Segment.{Segment}
 use Rattle.sys_loader.proofs.Dealing.{sought_here, place_here, and_true}

@@ -1,6 +1,6 @@
 use Rattle.std.proofs.Common.{ℕ, None, ap, ◌∙◌, map}
 use Rattle.std.specs.Prelude.{option_map, slice_set}
-use Rattle.loader_agrees.specs.Lists.{set_map}
+use Rattle.loader_agrees.specs.laws.Lists.{set_map}
 use Rattle.sys_loader.specs.View.{kept}
 use Rattle.sys_loader.proofs.users.remove.Goals as goal
 

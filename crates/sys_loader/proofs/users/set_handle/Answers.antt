@@ -3,7 +3,7 @@ use Rattle.std.specs.Prelude.{option_map, slice_set}
 use Rattle.std.proofs.lemmas.List.{length-map}
 use Rattle.loader_machine.specs.State.{user_of}
 use Rattle.loader_agrees.specs.Agrees.{Kept}
-use Rattle.loader_agrees.specs.Lists.{set_map}
+use Rattle.loader_agrees.specs.laws.Lists.{set_map}
 use Rattle.sys_loader.specs.View.{kept}
 use Rattle.sys_loader.specs.Activating.{with_handle}
 use Rattle.sys_loader.proofs.UserItems.{item_is, some_is}

@@ -1,7 +1,7 @@
 use Rattle.std.proofs.Common.{ℕ, Some, ap, ◌∙◌, map}
 use Rattle.std.specs.Prelude.{option_map, slice_set}
 use Rattle.loader_agrees.specs.Agrees.{Kept}
-use Rattle.loader_agrees.specs.Lists.{set_map}
+use Rattle.loader_agrees.specs.laws.Lists.{set_map}
 use Rattle.sys_loader.specs.View.{kept}
 use Rattle.sys_loader.specs.declared.user.User.{User}
 use Rattle.sys_loader.proofs.UserItems.{item_is}

@@ -1,4 +1,4 @@
-use Rattle.std.proofs.Common.{List, length, replicate, subst, ◌≡◌, ◌++◌, ◌∷◌, [], ℕ, ℤ, w8, to_z, of_z, arith}
+use Rattle.std.proofs.Common.{replicate, subst, ◌≡◌, ◌++◌, ◌∷◌, [], ℕ, ℤ, w8, to_z, of_z, arith}
 use Rattle.std.specs.Prelude.{OnOk}
 use Rattle.std.proofs.Math.Facts.{to_z-of_z}
 use Rattle.omf_cells.specs.declared.written.Patch.{Patch}

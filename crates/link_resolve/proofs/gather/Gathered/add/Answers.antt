@@ -1,6 +1,6 @@
 use Rattle.std.proofs.Common.{◌+◌, ◌++◌, ◌∷◌, [], List, length, ap, subst, ◌∙◌, arith}
 use Rattle.omf_format.specs.File.{Segment}
-use Rattle.omf_format.specs.FileLaws.{segments_fit}
+use Rattle.omf_format.specs.laws.FileLaws.{segments_fit}
 use Rattle.link_resolve.specs.declared.gather.Gathered.{Gathered}
 use Rattle.link_resolve.specs.Reading.{IsFileRefused}
 use Rattle.link_resolve.proofs.GatherLaws.{gathered_more}

@@ -1,5 +1,5 @@
 use Rattle.std.proofs.Common.{refl}
-use Rattle.omf_format.specs.ExpressionLaws.{read-all-fault}
+use Rattle.omf_format.specs.laws.ExpressionLaws.{read-all-fault}
 use Rattle.omf_expr.proofs.Front.{are_bytes, begins, front_is, none_begins, field_is, flaw_is}
 use Rattle.omf_expr.proofs.expr.Expr.of.Goals as goal
 

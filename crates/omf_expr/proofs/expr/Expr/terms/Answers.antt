@@ -1,6 +1,6 @@
 use Rattle.std.proofs.Common.{◌∙◌, ap}
 use Rattle.omf_format.specs.Expression.{Expression, terms_in}
-use Rattle.omf_format.specs.ExpressionLaws.{terms_are}
+use Rattle.omf_format.specs.laws.ExpressionLaws.{terms_are}
 use Rattle.omf_expr.proofs.expr.Expr.terms.Goals as goal
 
 pub returns-clause-tree : goal.returns-clause-tree

@@ -1,6 +1,6 @@
 use Rattle.std.proofs.Common.{ap, ◌∙◌}
 use Rattle.omf_format.specs.Super.{locations_left}
-use Rattle.omf_format.specs.SuperLaws.{locations_are}
+use Rattle.omf_format.specs.laws.SuperLaws.{locations_are}
 use Rattle.omf_records.proofs.locations.Locations.of.Goals as goal
 
 pub returns-clause-pages : goal.returns-clause-pages

@@ -1,5 +1,5 @@
 use Rattle.std.proofs.Common.{arith}
-use Rattle.omf_format.specs.FileLaws.{header_lies}
+use Rattle.omf_format.specs.laws.FileLaws.{header_lies}
 use Rattle.omf_header.specs.View.{fields}
 use Rattle.omf_records.proofs.segment.SegmentView.records.Goals as goal
 

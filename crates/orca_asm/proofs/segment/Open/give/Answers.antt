@@ -1,5 +1,3 @@
-use Rattle.std.proofs.Common.{[], sym}
-use Rattle.orca_asm.specs.StateView.{labelled}
 use Rattle.orca_asm.proofs.Segments.{then_ok, marked_none}
 use Rattle.orca_asm.proofs.segment.Open.give.Goals as goal
 

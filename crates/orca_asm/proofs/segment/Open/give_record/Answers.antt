@@ -1,4 +1,3 @@
-use Rattle.std.proofs.Common.{◌∷◌, [], refl, sym, ap, ◌∙◌}
 use Rattle.omf_records.specs.View.{view}
 use Rattle.orca_asm.specs.StateView.{labelled}
 use Rattle.orca_asm.proofs.Segments.{then_ok, marked_one}

@@ -1,5 +1,5 @@
 use Rattle.std.proofs.Common.{List, ℕ, ◌++◌, None, sym, ap, ◌∙◌, arith}
-use Rattle.asm_meaning.specs.LabelLaws.{lengths_add}
+use Rattle.asm_meaning.specs.laws.LabelProofs.{lengths_add}
 use Rattle.asm_meaning.specs.Object.{records_text}
 use Rattle.asm_meaning.specs.Pieces.{length_at}
 use Rattle.asm_meaning.specs.State.{cells_of, with_label, local_of}

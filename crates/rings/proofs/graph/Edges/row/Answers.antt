@@ -1,9 +1,8 @@
-use Rattle.std.proofs.Common.{◌≡◌, ◌-◌, ◌≤◌, length, List, get_or, ℕ, take, drop, ap, sym, refl, subst, ◌∙◌, Some, arith}
+use Rattle.std.proofs.Common.{◌≡◌, ◌-◌, ◌≤◌, length, List, ℕ, take, drop, ap, sym, subst, ◌∙◌, Some, arith}
 use Rattle.std.specs.Prelude.{slice_get}
 use Rattle.std.proofs.lemmas.Bool.{ltb-false}
 use Rattle.std.proofs.lemmas.Option.{slice_get-get_or}
-use Rattle.rings.specs.Graphs.{row_at, at_or}
-use Rattle.rings.specs.Kept.{ends_of, rows_in, Fits, AllFit}
+use Rattle.rings.specs.Graphs.{row_at}
 use Rattle.rings.specs.declared.graph.Span.{Span}
 use Rattle.rings.proofs.Lists.{fits_at, row_there, row_gone}
 use Rattle.rings.proofs.graph.Edges.row.Goals as goal

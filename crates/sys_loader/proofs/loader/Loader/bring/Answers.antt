@@ -6,7 +6,7 @@ use Rattle.loader_machine.specs.State.{first_id, user_of}
 use Rattle.loader_machine.specs.Presences.{presence, there_at}
 use Rattle.loader_machine.specs.Needs.{is_read}
 use Rattle.loader_agrees.specs.Agrees.{Kept, Loaded}
-use Rattle.loader_agrees.specs.Seeing.{made_at}
+use Rattle.loader_agrees.specs.laws.Seeing.{made_at}
 use Rattle.sys_loader.specs.View.{kept, loaded}
 use Rattle.sys_loader.specs.Filling.{HasHead, IsWritten}
 use Rattle.sys_loader.specs.Activating.{HasCome}

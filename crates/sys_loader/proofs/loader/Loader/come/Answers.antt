@@ -3,14 +3,14 @@ use Rattle.std.proofs.lemmas.List.{length-map}
 use Rattle.loader_machine.specs.Heads.{head_of}
 use Rattle.loader_machine.specs.State.{first_id, user_of}
 use Rattle.loader_agrees.specs.Agrees.{Kept, Loaded}
-use Rattle.loader_agrees.specs.Seeing.{made_at}
+use Rattle.loader_agrees.specs.laws.Seeing.{made_at}
 use Rattle.sys_loader.specs.View.{kept, loaded}
 use Rattle.sys_loader.specs.Activating.{IsChanged}
 use Rattle.sys_loader.proofs.Waking.{one_kept, come_from, brings_none, file_changed}
 use Rattle.sys_loader.proofs.loader.Loader.come.Goals as goal
 
 pub returns-in-Err-clause-refused : goal.returns-in-Err-clause-refused
-returns-in-Err-clause-refused c = λ k made. inl (c.bad_file.ensures c.args.file.now c.in-Err.ensures.refused)
+returns-in-Err-clause-refused c = λ k made. inl (c.bad_file.ensures.told c.args.file.now c.in-Err.ensures.refused)
 
 pub returns-in-Err-places_of-clause-refused : goal.returns-in-Err-places_of-clause-refused
 returns-in-Err-places_of-clause-refused c = λ k made. inl (inl c.in-Err-places_of.ensures.err)

@@ -1,17 +1,9 @@
-use Rattle.std.proofs.Common.{◌≡◌, ◌≢◌, ◌≤◌, inl, inr, ℕ, true, false, ◌+◌, List, Option, Some, None, map, refl, sym, ap, subst, ◌∙◌, arith}
-use Rattle.std.specs.Prelude.{option_map, IfErr}
-use Rattle.iigs_meaning.specs.declared.handles.Handle.{Handle}
-use Rattle.iigs_meaning.specs.declared.wants.BlockState.{BlockState}
-use Rattle.iigs_meaning.specs.Slots.{get}
-use Rattle.iigs_meaning.specs.Fits.{Slots}
+use Rattle.std.proofs.Common.{◌≡◌, ℕ, Some}
+use Rattle.std.specs.Prelude.{IfErr}
 use Rattle.iigs_meaning.specs.Puts.{Purges}
-use Rattle.iigs_meaning.specs.Blocks.{state_of}
-use Rattle.iigs_meaning.specs.Memory.{Memory}
-use Rattle.loader_machine.specs.Refusals.{free_refusal, change_refusal, state_refusal, info_refusal}
+use Rattle.loader_machine.specs.Refusals.{info_refusal}
 use Rattle.loader_machine.specs.Presences.{presence}
-use Rattle.loader_agrees.specs.Agrees.{Kept, Loaded, Agrees, IsSound, seen_in, seen_by}
-use Rattle.sys_loader.specs.View.{kept, loaded}
-use Rattle.sys_loader.specs.Replies.{IsAllocRefusal}
+use Rattle.loader_agrees.specs.Agrees.{Loaded, Agrees, seen_by}
 use Rattle.std.specs.Prelude.{Result, Ok, Err, IfOk}
 use Rattle.omf_io.specs.Files.{FileMap}
 use Rattle.loader_machine.specs.declared.faults.LoaderFault.{LoaderFault}
@@ -19,7 +11,7 @@ use Rattle.loader_machine.specs.State.{Machine}
 use Rattle.loader_machine.specs.Commands as commands
 use Rattle.loader_agrees.specs.Agrees.{Met}
 use Rattle.loader_agrees.specs.Acts.{HasTold}
-use Rattle.loader_agrees.specs.Reads.{told_met, told_refused}
+use Rattle.loader_agrees.specs.laws.Reads.{told_met, told_refused}
 use Rattle.sys_loader.specs.declared.answers.Info.{Info}
 use Rattle.sys_loader.specs.Replies.{info_reply}
 use Rattle.sys_loader.proofs.loader.Loader.info.Goals as goal

@@ -2,7 +2,7 @@ use Rattle.std.proofs.Common.{◌≡◌, ◌-◌, length, Some, refl, sym, subst
 use Rattle.std.proofs.lemmas.List.{length-map}
 use Rattle.loader_machine.specs.State.{first_id, user_of}
 use Rattle.loader_agrees.specs.Agrees.{Loaded, seen_in, seen_by}
-use Rattle.loader_agrees.specs.Seeing.{made_at}
+use Rattle.loader_agrees.specs.laws.Seeing.{made_at}
 use Rattle.sys_loader.specs.View.{kept, loaded}
 use Rattle.sys_loader.specs.Lives.{HasKept}
 use Rattle.sys_loader.proofs.Unloading.{roomy}

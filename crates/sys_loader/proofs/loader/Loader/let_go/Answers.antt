@@ -3,7 +3,7 @@ use Rattle.std.proofs.lemmas.List.{length-map}
 use Rattle.iigs_meaning.specs.declared.handles.Handle.{Handle}
 use Rattle.loader_machine.specs.State.{first_id}
 use Rattle.loader_agrees.specs.Agrees.{Loaded}
-use Rattle.loader_agrees.specs.Seeing.{made_at}
+use Rattle.loader_agrees.specs.laws.Seeing.{made_at}
 use Rattle.sys_loader.specs.View.{kept, loaded}
 use Rattle.sys_loader.specs.Lives.{CanUnload, HasUnloaded}
 use Rattle.sys_loader.proofs.Unloading.{roomy, has_unloaded, unloaded_sound}

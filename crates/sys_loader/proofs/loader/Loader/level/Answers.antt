@@ -1,4 +1,3 @@
-use Rattle.std.proofs.Common.{true, false}
 use Rattle.sys_loader.proofs.Script.{change_meets}
 use Rattle.sys_loader.proofs.loader.Loader.level.Goals as goal
 

@@ -6,7 +6,7 @@ use Rattle.loader_machine.specs.State.{Machine}
 use Rattle.loader_machine.specs.Commands as commands
 use Rattle.loader_agrees.specs.Agrees.{Loaded, Agrees, IsSound, Met}
 use Rattle.loader_agrees.specs.Acts.{LiesIn}
-use Rattle.loader_agrees.specs.Reads.{lies_met, nowhere_met}
+use Rattle.loader_agrees.specs.laws.Reads.{lies_met, nowhere_met}
 use Rattle.sys_loader.specs.declared.answers.Entered.{Entered}
 use Rattle.sys_loader.specs.Replies.{where_reply}
 use Rattle.sys_loader.proofs.Naming.{names_place}

@@ -1,10 +1,10 @@
-use Rattle.std.proofs.Common.{◌≡◌, ℕ, true, false, Some, refl, sym, subst}
+use Rattle.std.proofs.Common.{◌≡◌, ℕ, true, Some, refl, sym, subst}
 use Rattle.std.specs.Prelude.{IsSomeAnd}
 use Rattle.iigs_meaning.specs.declared.wants.Block.{Block}
 use Rattle.iigs_meaning.specs.Slots.{get}
 use Rattle.loader_agrees.specs.Agrees.{Loaded}
 use Rattle.sys_loader.specs.View.{loaded}
-use Rattle.sys_loader.proofs.Script.{changed_sound, not_stale, not_empty, its_there}
+use Rattle.sys_loader.proofs.Script.{changed_sound}
 use Rattle.sys_loader.proofs.loader.Loader.lock_block.Goals as goal
 
 pub invariant_of-self : goal.invariant_of-self

@@ -1,7 +1,7 @@
-use Rattle.std.proofs.Common.{◌≡◌, ◌≤◌, List, Option, map, refl, sym, ap, subst, ◌∙◌, arith}
+use Rattle.std.proofs.Common.{List, Option, map, sym, subst, arith}
 use Rattle.std.specs.Prelude.{option_map}
-use Rattle.loader_agrees.specs.Agrees.{Kept, IsSound}
-use Rattle.loader_agrees.specs.Empty.{sound_empty}
+use Rattle.loader_agrees.specs.Agrees.{IsSound}
+use Rattle.loader_agrees.specs.laws.Empty.{sound_empty}
 use Rattle.sys_loader.specs.View.{kept}
 use Rattle.sys_loader.specs.declared.user.User.{User}
 use Rattle.sys_loader.proofs.loader.Loader.new.Goals as goal

@@ -20,8 +20,8 @@ returns-in-None-clause-refused c user segment at leads =
     let made : user_of c.args.self.now.users p.user ≡ Some (kept c.user_in.result.now) = ap (λ (l : Loaded). user_of l.users p.user) (sym c.self.view_is) ∙ c.user_in.ensures in
     no_entry c.args.self.now user segment at p leads (kept c.user_in.result.now) made c.segment_in-found.result.head c.segment_in-found.ensures.head (sym c.is_table.ensures ∙ c.if-not-is_table.false) c.in-None.ensures
 
-pub target_in-target-requires : goal.target_in-target-requires
-target_in-target-requires c =
+pub target_at-target-requires : goal.target_at-target-requires
+target_at-target-requires c =
     let p = c.args.place in
     let made : user_of c.args.self.now.users p.user ≡ Some (kept c.user_in.result.now) = ap (λ (l : Loaded). user_of l.users p.user) (sym c.self.view_is) ∙ c.user_in.ensures in
     let head = head_same c.args.self.now p.address p.user p.segment p.offset c.requires.lies (kept c.user_in.result.now) made c.segment_in-found.result.head c.segment_in-found.ensures.head in
@@ -37,4 +37,4 @@ returns-clause-reached c user segment at leads =
     calls_entry c.args.self.now user segment at p leads (kept c.user_in.result.now) made c.segment_in-found.result.head c.segment_in-found.ensures.head
     c.segment_in-found.result.handle c.segment_in-found.ensures.handle (sym c.is_table.ensures ∙ c.if-not-is_table.false) c.in-Some.k c.in-Some.ensures.0 c.in-Some.ensures.1
     c.block_of.result.now (subst (λ (l : Loaded). IsSomeAnd c.segment_in-found.result.handle (λ h. c.block_of.result.now ≡ bytes_at l.memory h.slot)) c.self.view_is c.block_of.ensures)
-    c.target_in-target.result c.target_in-target.ensures
+    c.target_at-target.result c.target_at-target.ensures

@@ -1,9 +1,9 @@
-use Rattle.std.proofs.Common.{◌≡◌, ◌≤◌, ◌<◌, true, ◌+◌, Option, Some, sym, ap, ◌∙◌, arith}
+use Rattle.std.proofs.Common.{◌≡◌, ◌≤◌, true, ◌+◌, Option, Some, sym, ap, ◌∙◌, arith}
 use Rattle.iigs_meaning.specs.declared.handles.Handle.{Handle}
 use Rattle.iigs_meaning.specs.Fits.{Slots}
 use Rattle.loader_machine.specs.Presences.{presence, is_active}
 use Rattle.loader_agrees.specs.Agrees.{Loaded, seen_in, seen_by}
-use Rattle.loader_agrees.specs.Checking.{stops_running, stops_segment, stops_active, stops_inside, passes}
+use Rattle.loader_agrees.specs.laws.Checking.{stops_running, stops_segment, stops_active, stops_inside, passes}
 use Rattle.sys_loader.specs.View.{kept}
 use Rattle.sys_loader.proofs.loader.Loader.readable.Goals as goal
 

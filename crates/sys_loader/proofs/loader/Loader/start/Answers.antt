@@ -1,4 +1,4 @@
-use Rattle.std.proofs.Common.{◌≡◌, ℕ, ◌+◌, ◌≤◌, Some, refl, sym, ◌∙◌, arith}
+use Rattle.std.proofs.Common.{◌+◌, refl, sym, ◌∙◌, arith}
 use Rattle.loader_machine.specs.declared.seen.Life.TheVariants.{Running}
 use Rattle.sys_loader.specs.declared.user.User.{User}
 use Rattle.sys_loader.proofs.Beginning.{started, started_sound, same_handles}

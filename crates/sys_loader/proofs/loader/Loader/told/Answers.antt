@@ -1,19 +1,10 @@
-use Rattle.std.proofs.Common.{◌≡◌, ◌≢◌, ◌≤◌, inl, inr, ℕ, true, false, ◌+◌, List, Option, Some, None, map, refl, sym, ap, subst, ◌∙◌, arith}
-use Rattle.std.specs.Prelude.{option_map, IfErr}
-use Rattle.iigs_meaning.specs.declared.handles.Handle.{Handle}
-use Rattle.iigs_meaning.specs.declared.wants.BlockState.{BlockState}
-use Rattle.iigs_meaning.specs.Slots.{get}
-use Rattle.iigs_meaning.specs.Fits.{Slots}
-use Rattle.iigs_meaning.specs.Puts.{Purges}
-use Rattle.iigs_meaning.specs.Blocks.{state_of}
-use Rattle.iigs_meaning.specs.Memory.{Memory}
-use Rattle.loader_machine.specs.Refusals.{free_refusal, change_refusal, state_refusal, info_refusal}
+use Rattle.std.proofs.Common.{Option, refl, sym, ap, ◌∙◌}
+use Rattle.std.specs.Prelude.{option_map}
+use Rattle.loader_machine.specs.Refusals.{info_refusal}
 use Rattle.loader_machine.specs.Presences.{presence}
-use Rattle.loader_agrees.specs.Agrees.{Kept, Loaded, Agrees, IsSound, seen_in, seen_by}
-use Rattle.sys_loader.specs.View.{kept, loaded}
-use Rattle.sys_loader.specs.Replies.{IsAllocRefusal}
-use Rattle.loader_agrees.specs.Acts.{HasTold}
-use Rattle.loader_agrees.specs.Checking.{info_no_user, info_stops, info_passes}
+use Rattle.loader_agrees.specs.Agrees.{Kept, Loaded, seen_in}
+use Rattle.sys_loader.specs.View.{kept}
+use Rattle.loader_agrees.specs.laws.Checking.{info_no_user, info_stops, info_passes}
 use Rattle.sys_loader.proofs.loader.Loader.told.Goals as goal
 
 pub returns-in_default-clause-refused : goal.returns-in_default-clause-refused

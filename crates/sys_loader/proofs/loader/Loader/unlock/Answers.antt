@@ -1,4 +1,4 @@
-use Rattle.std.proofs.Common.{true, false}
+use Rattle.std.proofs.Common.{false}
 use Rattle.sys_loader.proofs.Script.{change_meets}
 use Rattle.sys_loader.proofs.loader.Loader.unlock.Goals as goal
 

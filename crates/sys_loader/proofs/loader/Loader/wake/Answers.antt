@@ -5,7 +5,7 @@ use Rattle.loader_machine.specs.State.{first_id}
 use Rattle.loader_machine.specs.Presences.{presence}
 use Rattle.loader_machine.specs.Steps.{active_block}
 use Rattle.loader_agrees.specs.Agrees.{Kept, Loaded}
-use Rattle.loader_agrees.specs.Seeing.{made_at}
+use Rattle.loader_agrees.specs.laws.Seeing.{made_at}
 use Rattle.sys_loader.specs.View.{kept, loaded}
 use Rattle.sys_loader.specs.Lives.{HasShifted}
 use Rattle.sys_loader.proofs.Unloading.{roomy}

@@ -3,7 +3,7 @@ use Rattle.std.specs.Prelude.{slice_set, option_map}
 use Rattle.std.proofs.lemmas.List.{length-set}
 use Rattle.iigs_meaning.specs.Memory.{Memory, bytes_at}
 use Rattle.loader_agrees.specs.Agrees.{Loaded, IsSound}
-use Rattle.loader_agrees.specs.Seeing.{block_room}
+use Rattle.loader_agrees.specs.laws.Seeing.{block_room}
 use Rattle.sys_loader.specs.View.{kept}
 use Rattle.sys_loader.proofs.Poking.{sound_written}
 use Rattle.sys_loader.proofs.loader.Loader.write_byte.Goals as goal

@@ -3,7 +3,7 @@ use Rattle.std.specs.Prelude.{slice_set, string_bytes}
 use Rattle.iigs_meaning.specs.declared.handles.Handle.{Handle}
 use Rattle.loader_machine.specs.declared.seen.Head.{Head}
 use Rattle.loader_agrees.specs.Agrees.{Kept}
-use Rattle.loader_agrees.specs.Lists.{set_map, set_same}
+use Rattle.loader_agrees.specs.laws.Lists.{set_map, set_same}
 use Rattle.sys_loader.specs.declared.user.Segment.{Segment}
 use Rattle.sys_loader.proofs.Comparing.{head_get}
 use Rattle.sys_loader.proofs.Written.{heads_of, handles_of}

@@ -1,7 +1,0 @@
-//! Tests of the assembler.
-#![tactic(auto)]
-
-#[cfg(test)]
-mod opcodes;
-#[cfg(test)]
-mod statements;

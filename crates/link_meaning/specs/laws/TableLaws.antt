@@ -1,0 +1,342 @@
+-- A list in which no equate leads back to itself has one table of values at most.
+use Rattle.std.proofs.Common.{◌≡◌, ◌⊎◌, inl, inr, ℕ, zero, suc, ◌+◌, ◌<◌, ◌≤◌, Bool, true, false, eqb, List, [], ◌∷◌, ◌++◌, length, Option, Some, None, Result, Ok, Err, refl, sym, ap, subst, ◌∙◌, arith}
+use Rattle.std.specs.Prelude.{◌||◌, filter, slice_get, nat_le, ◌==◌, if◌then◌else◌}
+use Rattle.std.specs.List.{AllByRecursion, list_any}
+use Rattle.std.specs.Option.{option_or}
+use Rattle.std.specs.List.{IsDistinct}
+use Rattle.std.proofs.lemmas.Bool.{eqb-true}
+use Rattle.std.proofs.lemmas.Map.Steps.{length-le_from_distinct_below}
+use Rattle.omf_format.specs.declared.value.Value.{Value}
+use Rattle.omf_format.specs.declared.value.ValueFault.{ValueFault}
+use Rattle.omf_format.specs.declared.value.ValueFault.TheVariants.{DivideByZero, NotRelocatable, Unknown}
+use Rattle.omf_format.specs.Field.{◌>>=◌}
+use Rattle.omf_format.specs.Expression.{Term, Operator, Location, Constant, Named, Offset, Tree, Leaf, Unary, Binary}
+use Rattle.omf_format.specs.Value.{known, operand_value, apply_one, apply_two, size_of, value}
+use Rattle.link_meaning.specs.First.{IsIn}
+use Rattle.link_meaning.specs.laws.MemberLists.{in_filter, filter_in}
+use Rattle.link_meaning.specs.Member.{Member}
+use Rattle.link_meaning.specs.Terms.{asks_value, asked_by, asked_in, term_at, tree_in}
+use Rattle.link_meaning.specs.declared.search.Step.{Step}
+use Rattle.link_meaning.specs.Search.{Found, sees, or_else, decided, steps_of, named, entries, finds}
+use Rattle.link_meaning.specs.Rings.{is_equate, equates, names_in, LeadsTo, Path, Last, Through, IsCircular}
+use Rattle.link_meaning.specs.LinkValues.{Told, told, found_value, if_ok, label_value, environment, fault_found, fault_named, settled, tree_value, value_in, equate_value, AreTold, IsTable}
+
+-- ---- members of lists
+
+in_either : (a b : List Found) (f : Found) → IsIn (or_else a b) f → IsIn a f ⊎ IsIn b f
+in_either [] b f is = inr is
+in_either (g ∷ a) b f is = inl is
+
+in_decided : (steps : List Step) (all : List Found) (f : Found) → IsIn (decided steps all) f → IsIn all f
+in_decided [] all f is = absurd is
+in_decided (s ∷ steps) all f is = settle (in_either (filter (sees s) all) (decided steps all) f is) (λ more. in_decided steps all f more)
+  where
+    settle : IsIn (filter (sees s) all) f ⊎ IsIn (decided steps all) f → (IsIn (decided steps all) f → IsIn all f) → IsIn all f
+    settle (inl here) go = in_filter (sees s) all f here
+    settle (inr more) go = go more
+
+-- what a name finds is an entry
+pub in_entries : (list : List Member) (place : ℕ) (m : Member) (name : List ℕ) (f : Found) → IsIn (finds list place m name) f → IsIn (entries list) f
+unfolding finds named
+in_entries list place m name f is =
+    in_filter _ (entries list) f (in_decided (steps_of list place m) (named name (entries list)) f is)
+
+pub in_equates : (list : List Member) (e f : Found) → LeadsTo list e f → IsIn (equates list) f
+unfolding equates
+in_equates list e f leads = filter_in is_equate (entries list) f (in_entries list e.place e.member leads.name f leads.found) leads.equate
+
+-- ---- the same value where the same names are told
+
+-- two tables tell the same of what a name found first
+abbrev pub Alike : List Member → List Told → List Told → List Found → Type 0
+Alike list a b [] = Unit {0}
+Alike list a b (f ∷ found) = found_value list a f ≡ found_value list b f
+
+abbrev pub AreAlike : List Member → List Told → List Told → ℕ → Member → List (List ℕ) → Type 0
+AreAlike list a b place m names = AllByRecursion (λ name. Alike list a b (finds list place m name)) names
+
+pub all_front : {A : Type 0} → (P : A → Type 0) (xs ys : List A) → AllByRecursion P (xs ++ ys) → AllByRecursion P xs
+all_front P [] ys all = tt
+all_front P (x ∷ xs) ys all = (all.0, all_front P xs ys all.1)
+
+pub all_behind : {A : Type 0} → (P : A → Type 0) (xs ys : List A) → AllByRecursion P (xs ++ ys) → AllByRecursion P ys
+all_behind P [] ys all = all
+all_behind P (x ∷ xs) ys all = all_behind P xs ys all.1
+
+label_same : (list : List Member) (a b : List Told) (weak : Bool) (found : List Found) → Alike list a b found → label_value list a weak found ≡ label_value list b weak found
+label_same list a b weak [] same = refl
+label_same list a b weak (f ∷ found) same = ap if_ok same
+
+fault_same : (list : List Member) (a b : List Told) (fault : ValueFault) (found : List Found) → Alike list a b found → fault_found list a fault found ≡ fault_found list b fault found
+fault_same list a b fault [] same = refl
+fault_same list a b fault (f ∷ found) same = ap (λ (r : Result Value ValueFault). elim r [ Ok v ↦ fault | Err of ↦ of ]) same
+
+operand_same : (list : List Member) (a b : List Told) (place : ℕ) (m : Member) (location at : ℕ) (term : Term) → AreAlike list a b place m (asks_value term)
+    → operand_value (environment list a place m location) at term ≡ operand_value (environment list b place m location) at term
+unfolding operand_value environment
+operand_same list a b place m location at (Operator code) all = refl
+operand_same list a b place m location at Location all = refl
+operand_same list a b place m location at (Constant n) all = refl
+operand_same list a b place m location at (Offset n) all = refl
+operand_same list a b place m location at (Named code name) all = by_code (nat_le code 0x83) all
+  where
+    by_code : (v : Bool) → AreAlike list a b place m (if v then name ∷ [] else [])
+        → (if v then known at (label_value list a (code == 0x82) (finds list place m name))
+        else known at ((environment list a place m location).attribute code name) >>= λ n. Ok (Rattle.omf_format.specs.declared.value.Value.TheVariants.Fixed n))
+        ≡ (if v then known at (label_value list b (code == 0x82) (finds list place m name))
+        else known at ((environment list b place m location).attribute code name) >>= λ n. Ok (Rattle.omf_format.specs.declared.value.Value.TheVariants.Fixed n))
+    by_code true all = ap (known at) (label_same list a b (code == 0x82) (finds list place m name) all.0)
+    by_code false all = refl
+
+value_same : (list : List Member) (a b : List Told) (place : ℕ) (m : Member) (location l at : ℕ) (tree : Tree) → AreAlike list a b place m (asked_by tree)
+    → value (environment list a place m location) l at tree ≡ value (environment list b place m location) l at tree
+value_same list a b place m location l at (Leaf term) all = operand_same list a b place m location at term all
+value_same list a b place m location l at (Unary code x) all = ap (λ (r : Result Value ValueFault). r >>= λ v. apply_one code v) (value_same list a b place m location l at x all)
+value_same list a b place m location l at (Binary code x y) all =
+    let P = λ (name : List ℕ). Alike list a b (finds list place m name) in
+    let left = value_same list a b place m location l at x (all_front P (asked_by x) (asked_by y) all) in
+    let right = value_same list a b place m location l (at + size_of l x) y (all_behind P (asked_by x) (asked_by y) all) in
+    ap (λ (r : Result Value ValueFault). r >>= λ v. value (environment list a place m location) l (at + size_of l x) y >>= λ w. apply_two code v w) left
+    ∙ ap (λ (r : Result Value ValueFault). value (environment list b place m location) l at x >>= λ v. r >>= λ w. apply_two code v w) right
+
+-- a term of the tree asks for what the tree asks for
+abbrev AlikeAt : List Member → List Told → List Told → ℕ → Member → Option Term → Type 0
+AlikeAt list a b place m None = Unit {0}
+AlikeAt list a b place m (Some term) = AreAlike list a b place m (asks_value term)
+
+either_alike : (list : List Member) (a b : List Told) (place : ℕ) (m : Member) (x y : Option Term) → AlikeAt list a b place m x → AlikeAt list a b place m y → AlikeAt list a b place m (option_or x y)
+either_alike list a b place m None y p q = q
+either_alike list a b place m (Some t) y p q = p
+
+term_alike : (list : List Member) (a b : List Told) (place : ℕ) (m : Member) (l want at : ℕ) (tree : Tree) → AreAlike list a b place m (asked_by tree)
+    → AlikeAt list a b place m (term_at l want at tree)
+term_alike list a b place m l want at (Leaf term) all = by_place (at == want)
+  where
+    by_place : (v : Bool) → AlikeAt list a b place m (if v then Some term else None)
+    by_place true = all
+    by_place false = tt
+term_alike list a b place m l want at (Unary code x) all = term_alike list a b place m l want at x all
+term_alike list a b place m l want at (Binary code x y) all =
+    let P = λ (name : List ℕ). Alike list a b (finds list place m name) in
+    either_alike list a b place m (term_at l want at x) (term_at l want (at + size_of l x) y)
+    (term_alike list a b place m l want at x (all_front P (asked_by x) (asked_by y) all))
+    (term_alike list a b place m l want (at + size_of l x) y (all_behind P (asked_by x) (asked_by y) all))
+
+named_same : (list : List Member) (a b : List Told) (place : ℕ) (m : Member) (fault : ValueFault) (term : Option Term) → AlikeAt list a b place m term
+    → fault_named list a place m fault term ≡ fault_named list b place m fault term
+named_same list a b place m fault None all = refl
+named_same list a b place m fault (Some (Operator code)) all = refl
+named_same list a b place m fault (Some Location) all = refl
+named_same list a b place m fault (Some (Constant n)) all = refl
+named_same list a b place m fault (Some (Offset n)) all = refl
+named_same list a b place m fault (Some (Named code name)) all = by_code (nat_le code 0x83) all
+  where
+    by_code : (v : Bool) → AreAlike list a b place m (if v then name ∷ [] else [])
+        → (if v then fault_found list a fault (finds list place m name) else fault) ≡ (if v then fault_found list b fault (finds list place m name) else fault)
+    by_code true all = fault_same list a b fault (finds list place m name) all.0
+    by_code false all = refl
+
+settled_same : (list : List Member) (a b : List Told) (place : ℕ) (m : Member) (tree : Tree) (r : Result Value ValueFault) → AreAlike list a b place m (asked_by tree)
+    → settled list a place m tree r ≡ settled list b place m tree r
+settled_same list a b place m tree (Ok v) all = refl
+settled_same list a b place m tree (Err DivideByZero) all = refl
+settled_same list a b place m tree (Err NotRelocatable) all = refl
+settled_same list a b place m tree (Err (Unknown at)) all =
+    ap (λ (f : ValueFault). failed f) (named_same list a b place m (Unknown at) (term_at m.segment.fields.lab_len at 0 tree) (term_alike list a b place m m.segment.fields.lab_len at 0 tree all))
+  where
+    failed : ValueFault → Result Value ValueFault
+    failed f = Err f
+
+tree_same : (list : List Member) (a b : List Told) (place : ℕ) (m : Member) (location : ℕ) (tree : Option Tree) → AreAlike list a b place m (asked_in tree)
+    → tree_value list a place m location tree ≡ tree_value list b place m location tree
+tree_same list a b place m location None all = refl
+tree_same list a b place m location (Some tree) all =
+    ap (settled list a place m tree) (value_same list a b place m location m.segment.fields.lab_len 0 tree all)
+    ∙ settled_same list a b place m tree (value (environment list b place m location) m.segment.fields.lab_len 0 tree) all
+
+pub equate_same : (list : List Member) (a b : List Told) (e : Found) → AreAlike list a b e.place e.member (names_in e.member.segment.fields.lab_len e.definition.expr)
+    → equate_value list a e ≡ equate_value list b e
+unfolding value_in
+equate_same list a b e all = by_expr e.definition.expr all
+  where
+    by_expr : (x : Option (List ℕ)) → AreAlike list a b e.place e.member (names_in e.member.segment.fields.lab_len x)
+        → elim x as (λ y. Result Value ValueFault) [ None ↦ Err NotRelocatable | Some text ↦ value_in list a e.place e.member e.definition.place text ]
+        ≡ elim x as (λ y. Result Value ValueFault) [ None ↦ Err NotRelocatable | Some text ↦ value_in list b e.place e.member e.definition.place text ]
+    by_expr None all = refl
+    by_expr (Some text) all = tree_same list a b e.place e.member e.definition.place (tree_in e.member.segment.fields.lab_len text) all
+
+all_from : {A : Type 0} → (P : A → Type 0) (xs : List A) → ((x : A) → IsIn xs x → P x) → AllByRecursion P xs
+all_from P [] f = tt
+all_from P (x ∷ xs) f = (f x (inl refl), all_from P xs (λ y is. f y (inr is)))
+
+-- ---- ways between equates
+
+pub path_on : (list : List Member) (x y z : Found) → Path list x y → LeadsTo list y z → Path list x z
+path_on list x y z (Last from to leads) on = Through x y z leads (Last y z on)
+path_on list x y z (Through from next to leads path) on = Through x next z leads (path_on list next y z path on)
+
+position_of : {A : Type 0} → (xs : List A) (x : A) → IsIn xs x → (k : ℕ) × (slice_get xs k ≡ Some x)
+position_of [] x is = absurd is
+position_of (y ∷ ys) x (inl e) = (0, ap Some e)
+position_of (y ∷ ys) x (inr more) = let rest = position_of ys x more in (suc rest.0, rest.1)
+
+below_length : {A : Type 0} → (xs : List A) (k : ℕ) (x : A) → slice_get xs k ≡ Some x → k < length xs
+below_length [] k x e = absurd cc
+below_length (y ∷ ys) zero x e = omega arith
+below_length (y ∷ ys) (suc k) x e = omega (arith, below_length ys k x e)
+
+-- an equate stands at this place from which the other is reached
+abbrev Before : List Member → Found → ℕ → Type 0
+Before list e v = (g : Found) × (slice_get (equates list) v ≡ Some g) × Path list g e
+
+all_on : (list : List Member) (e f : Found) (visited : List ℕ) → AllByRecursion (Before list e) visited → LeadsTo list e f → AllByRecursion (Before list f) visited
+all_on list e f [] all leads = tt
+all_on list e f (v ∷ visited) all leads = ((all.0.0, all.0.1, path_on list all.0.0 e f all.0.2 leads), all_on list e f visited all.1 leads)
+
+abbrev some : Found → Option Found
+some f = Some f
+
+one_found : (f g : Found) → some f ≡ some g → f ≡ g
+one_found f g e = cc
+
+-- without rings an equate isn't among those before it
+apart : (list : List Member) (f : Found) (j : ℕ) (visited : List ℕ) → (IsCircular list f → ⊥) → slice_get (equates list) j ≡ Some f
+    → AllByRecursion (Before list f) visited → AllByRecursion (λ v. eqb j v ≡ false) visited
+apart list f j [] straight at all = tt
+apart list f j (v ∷ visited) straight at all = (by_test (eqb j v) refl, apart list f j visited straight at all.1)
+  where
+    by_test : (t : Bool) → eqb j v ≡ t → eqb j v ≡ false
+    by_test false is = is
+    by_test true is =
+        let place : j ≡ v = eqb-true j v is in
+        let same : all.0.0 ≡ f = one_found all.0.0 f (sym all.0.1 ∙ ap (slice_get (equates list)) (sym place) ∙ at) in
+        absurd (straight (subst (λ (g : Found). Path list g f) same all.0.2))
+
+all_below : (list : List Member) (e : Found) (visited : List ℕ) → AllByRecursion (Before list e) visited → AllByRecursion (λ v. v < length (equates list)) visited
+all_below list e [] all = tt
+all_below list e (v ∷ visited) all = (below_length (equates list) v all.0.0 all.0.1, all_below list e visited all.1)
+
+one_below : (n : ℕ) (xs : List ℕ) → AllByRecursion (λ v. v < n) xs → (q : ℕ) → list_any (eqb q) xs ≡ true → q < n
+one_below n [] all q is = let clash : false ≡ true = is in absurd cc
+one_below n (x ∷ xs) all q is = by_test (eqb q x) refl is (λ more. one_below n xs all.1 q more)
+  where
+    by_test : (t : Bool) → eqb q x ≡ t → (t || list_any (eqb q) xs) ≡ true → (list_any (eqb q) xs ≡ true → q < n) → q < n
+    by_test true e is go = omega (arith, eqb-true q x e, all.0)
+    by_test false e is go = go is
+
+-- ---- the law
+
+abbrev Tells : List Member → List Told → Type 0
+Tells list table = (e : Found) → IsIn (equates list) e → told table e.place e.definition.at ≡ equate_value list table e
+
+is_in_at : {A : Type 0} → (xs : List A) (k : ℕ) (x : A) → slice_get xs k ≡ Some x → IsIn xs x
+is_in_at [] k x e = absurd cc
+is_in_at {A} (y ∷ ys) zero x e = inl (some_same y x e)
+  where
+    some_same : (y x : A) → slice_get (y ∷ []) 0 ≡ Some x → y ≡ x
+    some_same y x e = cc
+is_in_at (y ∷ ys) (suc k) x e = inr (is_in_at ys k x e)
+
+found_same : (list : List Member) (a b : List Told) (e f : Found) (name : List ℕ)
+    → IsIn (names_in e.member.segment.fields.lab_len e.definition.expr) name → IsIn (finds list e.place e.member name) f
+    → ((g : Found) → LeadsTo list e g → told a g.place g.definition.at ≡ told b g.place g.definition.at) → found_value list a f ≡ found_value list b f
+found_same list a b e f name asked found go = by_test (is_equate f) refl
+  where
+    no_expr : (x : Option (List ℕ)) (p r s : Result Value ValueFault) → Rattle.link_meaning.specs.Rings.has_expr x ≡ false
+        → elim x as (λ y. Result Value ValueFault) [ None ↦ p | Some text ↦ r ] ≡ elim x as (λ y. Result Value ValueFault) [ None ↦ p | Some text ↦ s ]
+    no_expr None p r s is = refl
+    no_expr (Some text) p r s is = let clash : true ≡ false = is in absurd cc
+
+    by_test : (t : Bool) → is_equate f ≡ t → found_value list a f ≡ found_value list b f
+    by_test false is = no_expr f.definition.expr _ _ _ is
+    by_test true is =
+        let leads : LeadsTo list e f = record { name = name; asked = asked; found = found; equate = is } in
+        ap (λ (r : Result Value ValueFault). elim f.definition.expr as (λ y. Result Value ValueFault) [ None ↦ Ok (Rattle.link_meaning.specs.LinkValues.place_value list f.place f.member f.definition.place) | Some text ↦ r ]) (go f leads)
+
+pub alike_from : (list : List Member) (a b : List Told) (e : Found)
+    → ((g : Found) → LeadsTo list e g → told a g.place g.definition.at ≡ told b g.place g.definition.at)
+    → AreAlike list a b e.place e.member (names_in e.member.segment.fields.lab_len e.definition.expr)
+alike_from list a b e go =
+    all_from (λ name. Alike list a b (finds list e.place e.member name)) (names_in e.member.segment.fields.lab_len e.definition.expr)
+    (λ name asked. by_found (finds list e.place e.member name) (λ f is. found_same list a b e f name asked is go))
+  where
+    by_found : (found : List Found) → ((f : Found) → IsIn found f → found_value list a f ≡ found_value list b f) → Alike list a b found
+    by_found [] each = tt
+    by_found (f ∷ found) each = each f (inl refl)
+
+told_same : (n : ℕ) (list : List Member) (a b : List Told) (visited : List ℕ) (e : Found) (k : ℕ) → Tells list a → Tells list b
+    → ((g : Found) → IsIn (equates list) g → IsCircular list g → ⊥) → slice_get (equates list) k ≡ Some e → AllByRecursion (Before list e) visited
+    → IsDistinct eqb (k ∷ visited) → length visited + n ≡ length (equates list) → told a e.place e.definition.at ≡ told b e.place e.definition.at
+unfolding IsDistinct
+told_same zero list a b visited e k p q straight at before distinct size =
+    let within = one_below (length (equates list)) (k ∷ visited) (below_length (equates list) k e at, all_below list e visited before) in
+    let few : length (k ∷ visited) ≤ length (equates list) = length-le_from_distinct_below (k ∷ visited) (length (equates list)) distinct within in
+    absurd (omega (arith, few, size))
+told_same (suc n) list a b visited e k p q straight at before distinct size =
+    let here = is_in_at (equates list) k e at in
+    p e here
+    ∙ equate_same list a b e (alike_from list a b e (λ f leads.
+    let inside = in_equates list e f leads in
+    let place = position_of (equates list) f inside in
+    let reached : AllByRecursion (Before list f) (k ∷ visited) = ((e, at, Last e f leads), all_on list e f visited before leads) in
+    told_same n list a b (k ∷ visited) f place.0 p q straight place.1 reached
+    (apart list f place.0 (k ∷ visited) (straight f inside) place.1 reached, distinct) (omega (arith, size))))
+    ∙ sym (q e here)
+
+pub tells_of : (list : List Member) (table : List Told) (es : List Found) (rows : List Told) → AreTold list table es rows
+    → (e : Found) → IsIn es e → told table e.place e.definition.at ≡ equate_value list table e
+tells_of list table [] rows are e is = absurd is
+tells_of list table (x ∷ es) [] are e is = absurd are
+tells_of list table (x ∷ es) (t ∷ rows) are e (inl same) =
+    subst (λ (y : Found). told table y.place y.definition.at ≡ equate_value list table y) same are.3
+tells_of list table (x ∷ es) (t ∷ rows) are e (inr more) = tells_of list table es rows are.4 e more
+
+rows_same : (list : List Member) (a b : List Told) (es : List Found) (xs ys : List Told) → AreTold list a es xs → AreTold list b es ys
+    → ((e : Found) → IsIn es e → told a e.place e.definition.at ≡ told b e.place e.definition.at) → xs ≡ ys
+rows_same list a b [] [] [] p q same = refl
+rows_same list a b [] [] (y ∷ ys) p q same = absurd q
+rows_same list a b [] (x ∷ xs) ys p q same = absurd p
+rows_same list a b (e ∷ es) [] ys p q same = absurd p
+rows_same list a b (e ∷ es) (x ∷ xs) [] p q same = absurd q
+rows_same list a b (e ∷ es) (x ∷ xs) (y ∷ ys) p q same =
+    let answer : x.answer ≡ y.answer = p.2 ∙ same e (inl refl) ∙ sym q.2 in
+    let head : x ≡ y = ap (λ (n : ℕ). row n x.at x.answer) (p.0 ∙ sym q.0) ∙ ap (λ (n : ℕ). row y.place n x.answer) (p.1 ∙ sym q.1) ∙ ap (row y.place y.at) answer in
+    ap (λ (t : Told). t ∷ xs) head ∙ ap (λ (l : List Told). y ∷ l) (rows_same list a b es xs ys p.4 q.4 (λ f is. same f (inr is)))
+  where
+    row : ℕ → ℕ → Result Value ValueFault → Told
+    row place at answer = record { place = place; at = at; answer = answer }
+
+pub one_table : (list : List Member) (a b : List Told) → IsTable list a → IsTable list b → a ≡ b
+unfolding IsDistinct
+one_table list a b p q =
+    let tells_a = tells_of list a (equates list) a p.rows in
+    let tells_b = tells_of list b (equates list) b q.rows in
+    rows_same list a b (equates list) a b p.rows q.rows (λ e is.
+    let place = position_of (equates list) e is in
+    told_same (length (equates list)) list a b [] e place.0 tells_a tells_b p.straight place.1 tt (tt, tt) (omega arith))
+
+-- ---- from equates to those that lead to them
+
+by_rings_from : (n : ℕ) (list : List Member) (P : Found → Type 0) (visited : List ℕ) (e : Found) (k : ℕ) → ((g : Found) → IsIn (equates list) g → IsCircular list g → ⊥)
+    → ((g : Found) → IsIn (equates list) g → ((f : Found) → LeadsTo list g f → P f) → P g) → slice_get (equates list) k ≡ Some e → AllByRecursion (Before list e) visited
+    → IsDistinct eqb (k ∷ visited) → length visited + n ≡ length (equates list) → P e
+unfolding IsDistinct
+by_rings_from zero list P visited e k straight step at before distinct size =
+    let within = one_below (length (equates list)) (k ∷ visited) (below_length (equates list) k e at, all_below list e visited before) in
+    let few : length (k ∷ visited) ≤ length (equates list) = length-le_from_distinct_below (k ∷ visited) (length (equates list)) distinct within in
+    absurd (omega (arith, few, size))
+by_rings_from (suc n) list P visited e k straight step at before distinct size =
+    step e (is_in_at (equates list) k e at) (λ f leads.
+    let inside = in_equates list e f leads in
+    let place = position_of (equates list) f inside in
+    let reached : AllByRecursion (Before list f) (k ∷ visited) = ((e, at, Last e f leads), all_on list e f visited before leads) in
+    by_rings_from n list P (k ∷ visited) f place.0 straight step place.1 reached
+    (apart list f place.0 (k ∷ visited) (straight f inside) place.1 reached, distinct) (omega (arith, size)))
+
+-- Without rings, what holds of an equate where it holds of all to which it leads, holds of every equate.
+pub by_rings : (list : List Member) (P : Found → Type 0) → ((g : Found) → IsIn (equates list) g → IsCircular list g → ⊥)
+    → ((g : Found) → IsIn (equates list) g → ((f : Found) → LeadsTo list g f → P f) → P g) → (e : Found) → IsIn (equates list) e → P e
+unfolding IsDistinct
+by_rings list P straight step e is =
+    let place = position_of (equates list) e is in
+    by_rings_from (length (equates list)) list P [] e place.0 straight step place.1 tt (tt, tt) (omega arith)

@@ -1,0 +1,13 @@
+pub mod LayingLaws
+pub mod LoadableLaws
+pub mod TableLaws
+pub mod LoadTableLaws
+pub mod CellLaws
+pub mod PageLaws
+pub mod FormLaws
+pub mod StoredLaws
+pub mod PageSizeLaws
+pub mod RunLaws
+pub mod WrittenBodyLaws
+pub mod WrittenFileLaws
+pub mod WrittenTableLaws

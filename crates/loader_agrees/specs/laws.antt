@@ -1,0 +1,16 @@
+pub mod Lists
+pub mod Frame
+pub mod Stay
+pub mod Seeing
+pub mod Apart
+pub mod Begun
+pub mod Purged
+pub mod Checks
+pub mod Reads
+pub mod Slotted
+pub mod Keeping
+pub mod ScriptBlocks
+pub mod Checking
+pub mod Empty
+pub mod BegunSound
+pub mod Filled

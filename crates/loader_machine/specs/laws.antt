@@ -1,0 +1,6 @@
+pub mod PokeLaws
+pub mod StandsLaws
+pub mod PutLaws
+pub mod OnceLaws
+pub mod ScriptLaws
+pub mod ScriptCommandLaws

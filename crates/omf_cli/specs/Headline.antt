@@ -1,0 +1,33 @@
+-- The headline on one page: what an object, a load file, a load of it, a reply and a listing are, as laws about the definitions that
+-- the contracts of the commands cite. The contracts tie these to the bytes that are written and the lines that are printed.
+use Rattle.std.specs.Prelude.{◌≡◌, ℕ, List}
+use Rattle.asm_meaning.specs.ObjectLaws.{OneObject, NoFaultBeside}
+use Rattle.asm_meaning.specs.ObjectFile.{ObjectIsFile}
+use Rattle.link_meaning.specs.EmitFaults.{OneLinkAnswer}
+use Rattle.link_meaning.specs.LinkLoadable.{StandsForLinkedCells, OnlyCallsReachDynamic, IsLoadedWhereNoneSkipped}
+use Rattle.loader_agrees.specs.StepsOnce.{StepsOnce}
+use Rattle.omf_listing.specs.Listing.{IsListing}
+use Rattle.omf_cli.specs.Loads.{LinkedFilesBegin}
+
+-- a file has one listing at most
+abbrev pub OneListing : Type 0
+OneListing = (file one other : List ℕ) → IsListing file one → IsListing file other → one ≡ other
+
+pub record Headline : Type 0 where
+  -- a source with macro files has one object at most, and then no fault
+  pub assembled : OneObject × NoFaultBeside
+  -- the object is a file of the segments that the source's lines leave
+  pub written : ObjectIsFile
+  -- files have one answer at most: their load file, or their first fault
+  pub linked : OneLinkAnswer
+  -- the segments of the load file, read back, have the headers of the layout and the linked cells
+  pub stands_for : StandsForLinkedCells
+  -- of another dynamic segment nothing but a call through the jump table names a place
+  pub reached : OnlyCallsReachDynamic
+  -- where nothing in it names a skipped segment it is a load file
+  pub loadable : IsLoadedWhereNoneSkipped
+  -- and a load of it is answered by its program, or refused for a reason outside the file
+  pub loaded : LinkedFilesBegin
+  -- a command of a script has one reply and one next state at most
+  pub answered : StepsOnce
+  pub listed : OneListing

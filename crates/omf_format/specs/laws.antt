@@ -1,0 +1,11 @@
+pub mod FieldLaws
+pub mod RecordLaws
+pub mod FileLaws
+pub mod BodyLaws
+pub mod TermLaws
+pub mod TreeLaws
+pub mod ExpressionLaws
+pub mod SuperLaws
+pub mod HeaderLaws
+pub mod LinesLaws
+pub mod WrittenHeaderLaws

@@ -1,0 +1,69 @@
+-- Laws of lines: where one ends, and what a line before others is.
+use Rattle.std.proofs.Common.{◌≡◌, ℕ, Bool, true, false, cond, List, [], ◌∷◌, ◌++◌, refl, ap, subst, ◌∙◌}
+use Rattle.std.specs.Prelude.{◌||◌, ◌&&◌, ◌==◌, not, slice_index}
+use Rattle.std.specs.List.{onto_first}
+use Rattle.std.proofs.lemmas.List.{append-nil}
+use Rattle.omf_format.specs.Ascii as ascii
+use Rattle.omf_format.specs.Lines.{lines_of, HasNoEnd}
+
+-- the bytes stand before the first line
+onto_front : List ℕ → List (List ℕ) → List (List ℕ)
+onto_front [] lines = lines
+onto_front (byte ∷ line) lines = onto_first byte (onto_front line lines)
+
+no_end_step : (x y z : Bool) (a b c : List (List ℕ)) → (x || y) ≡ false → cond (x || (y && z)) a (cond y b c) ≡ c
+no_end_step true y z a b c h = absurd cc
+no_end_step false true z a b c h = absurd cc
+no_end_step false false z a b c h = refl
+
+lines_of-front : (line behind : List ℕ) → HasNoEnd line → lines_of (line ++ behind) ≡ onto_front line (lines_of behind)
+unfolding lines_of onto_front
+lines_of-front [] behind h = refl
+lines_of-front (byte ∷ line) behind h =
+    no_end_step (byte == ascii.line_feed) (byte == ascii.carriage_return) (not (slice_index (line ++ behind) 0 == ascii.line_feed)) ([] ∷ lines_of (line ++ behind)) (lines_of (line ++ behind)) (onto_first byte (lines_of (line ++ behind))) h.0
+    ∙ ap (λ (lines : List (List ℕ)). onto_first byte lines) (lines_of-front line behind h.1)
+
+onto_front-first : (line : List ℕ) (lines : List (List ℕ)) → onto_front line ([] ∷ lines) ≡ line ∷ lines
+unfolding onto_front
+onto_front-first [] lines = refl
+onto_front-first (byte ∷ line) lines = ap (λ (all : List (List ℕ)). onto_first byte all) (onto_front-first line lines)
+
+onto_front-last : (byte : ℕ) (line : List ℕ) → onto_front (byte ∷ line) [] ≡ (byte ∷ line) ∷ []
+unfolding onto_front
+onto_front-last byte [] = refl
+onto_front-last byte (next ∷ line) = ap (λ (all : List (List ℕ)). onto_first byte all) (onto_front-last next line)
+
+-- a line without an end in it, before the rest of a text that begins with an end
+pub lines_of-ended : (line rest behind : List ℕ) → HasNoEnd line → lines_of rest ≡ [] ∷ lines_of behind
+    → lines_of (line ++ rest) ≡ line ∷ lines_of behind
+lines_of-ended line rest behind h ends =
+    lines_of-front line rest h ∙ ap (onto_front line) ends ∙ onto_front-first line (lines_of behind)
+
+-- a line before LF
+pub lines_of-lf : (line behind : List ℕ) → HasNoEnd line → lines_of (line ++ ascii.line_feed ∷ behind) ≡ line ∷ lines_of behind
+unfolding lines_of
+lines_of-lf line behind h = lines_of-ended line (ascii.line_feed ∷ behind) behind h refl
+
+-- a line before CR LF
+pub lines_of-cr_lf : (line behind : List ℕ) → HasNoEnd line → lines_of (line ++ ascii.carriage_return ∷ ascii.line_feed ∷ behind) ≡ line ∷ lines_of behind
+unfolding lines_of
+lines_of-cr_lf line behind h = lines_of-ended line (ascii.carriage_return ∷ ascii.line_feed ∷ behind) behind h refl
+
+-- a line before a CR with no LF behind it
+pub lines_of-cr : (line behind : List ℕ) → HasNoEnd line → (slice_index behind 0 == ascii.line_feed) ≡ false
+    → lines_of (line ++ ascii.carriage_return ∷ behind) ≡ line ∷ lines_of behind
+unfolding lines_of
+lines_of-cr line behind h no_lf =
+    lines_of-ended line (ascii.carriage_return ∷ behind) behind h (rw no_lf refl)
+
+-- a line without an end
+pub lines_of-last : (byte : ℕ) (line : List ℕ) → HasNoEnd (byte ∷ line) → lines_of (byte ∷ line) ≡ (byte ∷ line) ∷ []
+unfolding lines_of
+lines_of-last byte line h =
+    subst (λ (text : List ℕ). lines_of text ≡ onto_front (byte ∷ line) []) (append-nil (byte ∷ line)) (lines_of-front (byte ∷ line) [] h)
+    ∙ onto_front-last byte line
+
+-- nothing has no line
+pub lines_of-nil : lines_of [] ≡ []
+unfolding lines_of
+lines_of-nil = refl

@@ -1,0 +1,330 @@
+//! What a line does.
+
+use crate::asking::{ask, ask_number, asked};
+use crate::bench::Bench;
+use crate::expanding::tell_expanded;
+use crate::failing::run_each;
+use crate::fronts::dump_fronts;
+use crate::loading::load;
+use crate::pieces::{
+    displacement, hex, number, put_again, put_at, put_hex, put_series, put_text, text_of,
+};
+use crate::running::{run, words_of};
+use crate::shelf::{Held, Shelf};
+use crate::telling::{tell, tell_bytes, tell_run, tell_text};
+use std::alloc::{AllocError, Global};
+
+/// Where the body of a segment with a name of one letter begins.
+const BODY: &str = "38";
+
+/// A word, and what stands behind the space behind it.
+fn first_word(line: &str) -> (&str, &str) {
+    match line.split_once(' ') {
+        Some((word, rest)) => (word, rest),
+        None => (line, ""),
+    }
+}
+
+/// Does what a line says.
+pub fn act(alloc: Global, bench: &mut Bench, line: &str) -> Result<(), AllocError> {
+    let (word, rest) = first_word(line);
+    match word {
+        "" | ";" => Ok(()),
+        "==" => begin(bench, line),
+        "let" | "file" | "+" | "put" => open(alloc, &mut bench.shelf, word, rest),
+        "|" | "text" | "x" | "fill" | "repeat" | "series" | "cut" => match bench.shelf.last() {
+            Some(bytes) => put_piece(alloc, bytes, word, rest),
+            None => Ok(()),
+        },
+        "at" | "count" => change(alloc, &mut bench.shelf, word, rest),
+        "store" | "sink" | "last" => set(alloc, bench, word, rest),
+        "bytes" | "end" | "body" | "show" => ask(alloc, bench, word, rest),
+        "size" | "reads" => ask_number(alloc, bench, word),
+        "hold" => hold(alloc, bench, rest),
+        _ => do_row(alloc, bench, line, word, rest),
+    }
+}
+
+/// Begins a row, whose title is told.
+fn begin(bench: &mut Bench, line: &str) -> Result<(), AllocError> {
+    bench.begin();
+    tell(bench.out(), "")?;
+    tell(bench.out(), line)
+}
+
+/// Begins a file of all rows or of the row, a segment, or nothing, and appends pieces that are named.
+fn open(alloc: Global, shelf: &mut Shelf, word: &str, rest: &str) -> Result<(), AllocError> {
+    let (name, behind) = first_word(rest);
+    let pieces = match word {
+        "let" | "file" => behind,
+        _ => rest,
+    };
+    match word {
+        "let" => shelf.put_common(alloc, name)?,
+        "file" => shelf.put(alloc, name, Vec::new(alloc))?,
+        "+" => shelf.begin_segment(),
+        _ => {}
+    }
+    for piece in pieces.split(' ') {
+        put_named(alloc, shelf, piece)?;
+    }
+    Ok(())
+}
+
+/// Appends a copy of a file to the last one.
+fn put_named(alloc: Global, shelf: &mut Shelf, name: &str) -> Result<(), AllocError> {
+    let bytes = shelf.copy_of(alloc, name)?;
+    match shelf.last() {
+        Some(last) => last.extend_from_slice(&bytes),
+        None => Ok(()),
+    }
+}
+
+/// Appends a piece to a file, or cuts it.
+fn put_piece(alloc: Global, bytes: &mut Vec<u8>, word: &str, rest: &str) -> Result<(), AllocError> {
+    let (count, what) = first_word(rest);
+    match word {
+        "|" => {
+            bytes.extend_from_slice(rest.as_bytes())?;
+            bytes.push(b'\n')?;
+            Ok(())
+        }
+        "text" => put_text(bytes, rest),
+        "x" => put_hex(bytes, rest),
+        "fill" => {
+            let size = bytes.len().saturating_add(number(count));
+            bytes.resize(size, (hex(what) % 256) as u8)
+        }
+        "repeat" => put_again(alloc, bytes, number(count), what),
+        "series" => put_series(bytes, (number(count) % 0x1_0000) as u32, what),
+        _ => {
+            bytes.truncate(number(rest));
+            Ok(())
+        }
+    }
+}
+
+/// Changes bytes of the segment, or sets BYTECNT to its size.
+fn change(alloc: Global, shelf: &mut Shelf, word: &str, rest: &str) -> Result<(), AllocError> {
+    if word == "count" {
+        let size = (shelf.size() % 0x1_0000_0000) as u32;
+        shelf.change(0, &size.to_le_bytes());
+        return Ok(());
+    }
+    let (at, words) = first_word(rest);
+    let mut bytes = Vec::new(alloc);
+    put_hex(&mut bytes, words)?;
+    shelf.change(displacement(at), &bytes);
+    Ok(())
+}
+
+/// The numbers of calls.
+fn calls_of(alloc: Global, words: &str) -> Result<Vec<u32>, AllocError> {
+    let mut calls = Vec::new(alloc);
+    for word in words.split(' ') {
+        calls.push((number(word) % 0x1_0000) as u32)?;
+    }
+    Ok(calls)
+}
+
+/// Sets which calls fail, or how many of the last lines are told.
+fn set(alloc: Global, bench: &mut Bench, word: &str, rest: &str) -> Result<(), AllocError> {
+    match word {
+        "store" => bench.store = calls_of(alloc, rest)?,
+        "sink" => bench.sink = calls_of(alloc, rest)?,
+        _ => bench.lines = number(rest),
+    }
+    Ok(())
+}
+
+/// Holds what stands at `out` at a path of the row.
+fn hold(alloc: Global, bench: &mut Bench, path: &str) -> Result<(), AllocError> {
+    let bytes = match bench.outcome.output() {
+        Some(bytes) => bytes.to_vec(alloc)?,
+        None => Vec::new(alloc),
+    };
+    bench.shelf.put(alloc, path, bytes)
+}
+
+/// Does what a line says that is told itself.
+fn do_row(
+    alloc: Global,
+    bench: &mut Bench,
+    line: &str,
+    word: &str,
+    rest: &str,
+) -> Result<(), AllocError> {
+    tell(bench.out(), line)?;
+    let (what, behind) = first_word(rest);
+    match (word, what) {
+        (">", "") => run_list(alloc, bench, &Vec::new(alloc)),
+        (">", _) => run_list(alloc, bench, &words_of(alloc, rest)?),
+        ("each", _) => run_each(alloc, bench, what == "store", behind),
+        ("fronts", _) => dump_fronts(alloc, bench, what == "counted", behind),
+        ("records", _) => link_records(alloc, bench, what, behind),
+        ("asm", _) => assemble(alloc, bench, what, behind),
+        ("forms", _) => assemble_forms(alloc, bench, what, behind),
+        ("load", _) => load(alloc, bench, what),
+        ("script", _) => run_script(alloc, bench, rest),
+        ("expand" | "expands" | "places", _) => expand(alloc, bench, word, what, behind),
+        _ => tell(bench.out(), "? no such line"),
+    }
+}
+
+/// Runs words over the row's files, and tells what they did.
+fn run_list(alloc: Global, bench: &mut Bench, words: &Vec<String>) -> Result<(), AllocError> {
+    let run = run(alloc, words, bench.shelf.row(), &bench.store, &bench.sink)?;
+    let lines = bench.lines;
+    tell_run(alloc, bench.out(), &run, lines)?;
+    bench.outcome = run;
+    Ok(())
+}
+
+/// Runs words over one file, and tells this part of what stands at `out` then, or else what was printed.
+fn run_one(
+    alloc: Global,
+    bench: &mut Bench,
+    words: &str,
+    file: Held,
+    part: (&str, &str),
+) -> Result<(), AllocError> {
+    let mut row = Vec::new(alloc);
+    row.push(file)?;
+    let run = run(alloc, &words_of(alloc, words)?, &row, &[], &[])?;
+    match asked(&run, part.0, part.1) {
+        Some(made) => tell_bytes(bench.out(), made)?,
+        None => tell_text(bench.out(), &run.text)?,
+    }
+    bench.outcome = run;
+    Ok(())
+}
+
+/// A file at a path.
+fn held(alloc: Global, path: &str, bytes: Vec<u8>) -> Result<Held, AllocError> {
+    let path = String::from_str(alloc, path)?;
+    Ok(Held { path, bytes })
+}
+
+/// A text between two files.
+fn between(
+    alloc: Global,
+    shelf: &Shelf,
+    front: &str,
+    text: &str,
+    behind: &str,
+) -> Result<Vec<u8>, AllocError> {
+    let mut bytes = shelf.copy_of(alloc, front)?;
+    put_text(&mut bytes, text)?;
+    bytes.extend_from_slice(&shelf.copy_of(alloc, behind)?)?;
+    Ok(bytes)
+}
+
+/// The source that two words and what stands behind them say: the file of the first word, the text, and the file of the second.
+fn source_of(alloc: Global, bench: &Bench, front: &str, rest: &str) -> Result<Vec<u8>, AllocError> {
+    let (behind, text) = first_word(rest);
+    between(alloc, &bench.shelf, front, text, behind)
+}
+
+/// Assembles a source, and tells the records of its first segment.
+fn assemble(alloc: Global, bench: &mut Bench, front: &str, rest: &str) -> Result<(), AllocError> {
+    let source = source_of(alloc, bench, front, rest)?;
+    let file = held(alloc, "src", source)?;
+    run_one(alloc, bench, "asm src out", file, ("bytes", BODY))
+}
+
+/// What the tool prints for a source of one statement, which is the front and a mnemonic with an operand.
+fn said_of(
+    alloc: Global,
+    front: &[u8],
+    mnemonic: &str,
+    operand: &str,
+) -> Result<Vec<u8>, AllocError> {
+    let operand = if operand == "''" { "" } else { operand };
+    let mut source = Vec::from_slice(alloc, front)?;
+    let line = format!(in alloc; " {mnemonic} {operand}\n")?;
+    source.extend_from_slice(line.as_bytes())?;
+    let mut row = Vec::new(alloc);
+    row.push(held(alloc, "src", source)?)?;
+    let run = run(alloc, &words_of(alloc, "asm src out")?, &row, &[], &[])?;
+    Ok(run.text)
+}
+
+/// Assembles a mnemonic with each of several operands behind the line `START`, and tells what is printed: once for neighbours that have it in
+/// common.
+fn assemble_forms(
+    alloc: Global,
+    bench: &mut Bench,
+    mnemonic: &str,
+    operands: &str,
+) -> Result<(), AllocError> {
+    let front = bench.shelf.copy_of(alloc, "START")?;
+    let mut last = Vec::new(alloc);
+    for operand in operands.split(' ') {
+        let said = said_of(alloc, &front, mnemonic, operand)?;
+        if said.as_slice() != last.as_slice() {
+            tell_form(alloc, bench.out(), operand, &said)?;
+            last = said;
+        }
+    }
+    Ok(())
+}
+
+/// Tells what is printed from an operand on.
+fn tell_form(
+    alloc: Global,
+    out: &mut Vec<u8>,
+    operand: &str,
+    said: &[u8],
+) -> Result<(), AllocError> {
+    tell(out, format!(in alloc; "from {operand}")?.as_str())?;
+    tell_text(out, said)
+}
+
+/// Runs a script.
+fn run_script(alloc: Global, bench: &mut Bench, text: &str) -> Result<(), AllocError> {
+    let file = held(alloc, "s", text_of(alloc, text)?)?;
+    run_one(alloc, bench, "run s", file, ("", ""))
+}
+
+/// Expands a source with the row's files.
+fn expand(
+    alloc: Global,
+    bench: &mut Bench,
+    word: &str,
+    front: &str,
+    rest: &str,
+) -> Result<(), AllocError> {
+    let source = source_of(alloc, bench, front, rest)?;
+    let mut told = Vec::new(alloc);
+    tell_expanded(alloc, &mut told, word, &source, bench.shelf.row())?;
+    bench.out().extend_from_slice(&told)
+}
+
+/// The object of a segment M of so many cells with these records, and of the segments that the file `OTHERS` has.
+fn object_of(
+    alloc: Global,
+    shelf: &Shelf,
+    cells: usize,
+    records: &str,
+) -> Result<Vec<u8>, AllocError> {
+    let mut object = shelf.copy_of(alloc, "M")?;
+    put_hex(&mut object, records)?;
+    object.push(0)?;
+    let size = (object.len() % 0x1_0000) as u32;
+    put_at(&mut object, 0, &size.to_le_bytes());
+    put_at(&mut object, 8, &((cells % 0x1_0000) as u32).to_le_bytes());
+    object.extend_from_slice(&shelf.copy_of(alloc, "OTHERS")?)?;
+    Ok(object)
+}
+
+/// Links records, and tells the body of the first load segment.
+fn link_records(
+    alloc: Global,
+    bench: &mut Bench,
+    cells: &str,
+    records: &str,
+) -> Result<(), AllocError> {
+    let object = object_of(alloc, &bench.shelf, number(cells), records)?;
+    let file = held(alloc, "obj", object)?;
+    run_one(alloc, bench, "link out obj", file, ("body", ""))
+}

@@ -1,0 +1,69 @@
+//! What is asked of what a run left.
+
+use crate::bench::Bench;
+use crate::pieces::{hex, number};
+use crate::running::Outcome;
+use crate::telling::{tell, tell_bytes};
+use std::alloc::{AllocError, Global};
+
+/// Where the body of a load segment without a name begins.
+const LOAD_BODY: usize = 0x37;
+
+/// The bytes from a displacement on, all or so many.
+fn part_of<'a>(bytes: &'a [u8], words: &str) -> Option<&'a [u8]> {
+    match words.split_once(' ') {
+        Some((at, count)) => {
+            let at = hex(at);
+            bytes.get(at..at.saturating_add(number(count)))
+        }
+        None => bytes.get(hex(words)..),
+    }
+}
+
+/// The last bytes, so many of them.
+fn end_of(bytes: &[u8], count: usize) -> Option<&[u8]> {
+    bytes.get(bytes.len().saturating_sub(count)..)
+}
+
+/// The body of the first load segment, which has no name.
+fn body_of(bytes: &[u8]) -> Option<&[u8]> {
+    match bytes {
+        [a, b, c, d, ..] => {
+            let size = u32::from_le_bytes([*a, *b, *c, *d]) as usize;
+            bytes.get(LOAD_BODY..size)
+        }
+        _ => None,
+    }
+}
+
+/// What is asked for by a word of what stands at `out`.
+pub fn asked<'a>(run: &'a Outcome, word: &str, rest: &str) -> Option<&'a [u8]> {
+    let bytes = run.output()?;
+    match word {
+        "bytes" => part_of(bytes, rest),
+        "end" => end_of(bytes, number(rest)),
+        "body" => body_of(bytes),
+        _ => Some(bytes),
+    }
+}
+
+/// Tells what is asked for by a word and what stands behind it.
+pub fn ask(alloc: Global, bench: &mut Bench, word: &str, rest: &str) -> Result<(), AllocError> {
+    let mut told = Vec::new(alloc);
+    match asked(&bench.outcome, word, rest) {
+        Some(bytes) => tell_bytes(&mut told, bytes)?,
+        None => tell(&mut told, "nothing")?,
+    }
+    bench.out().extend_from_slice(&told)
+}
+
+/// Tells how many bytes stand at `out`, or how often the store was read.
+pub fn ask_number(alloc: Global, bench: &mut Bench, word: &str) -> Result<(), AllocError> {
+    let number = match (word, bench.outcome.output()) {
+        ("size", Some(bytes)) => bytes.len() as u64,
+        ("size", None) => 0,
+        _ => bench.outcome.reads,
+    };
+    let line = format!(in alloc; "{word} {number}")?;
+    tell(bench.out(), line.as_str())
+}

@@ -1,0 +1,78 @@
+//! Sources that are expanded.
+
+use crate::shelf::Held;
+use crate::telling::tell;
+use orca_macro::expand;
+use orca_text::Lines;
+use std::alloc::{AllocError, Global};
+
+/// The row's files but the one at `src`.
+fn macros_of(alloc: Global, row: &[Held]) -> Result<Vec<Vec<u8>>, AllocError> {
+    let mut macros = Vec::new(alloc);
+    for held in row {
+        if held.path.as_str() != "src" {
+            macros.push(held.bytes.to_vec(alloc)?)?;
+        }
+    }
+    Ok(macros)
+}
+
+/// Tells the lines.
+fn tell_lines(out: &mut Vec<u8>, lines: &Lines) -> Result<(), AllocError> {
+    for place in 0..lines.count() {
+        if let Some(line) = lines.get(place) {
+            out.extend_from_slice(b"| ")?;
+            out.extend_from_slice(line.text.bytes())?;
+            out.push(b'\n')?;
+        }
+    }
+    Ok(())
+}
+
+/// Tells the file and the number of each line.
+fn tell_places(alloc: Global, out: &mut Vec<u8>, lines: &Lines) -> Result<(), AllocError> {
+    for place in 0..lines.count() {
+        if let Some(line) = lines.get(place) {
+            let place = format!(in alloc; "{} {}", line.file, line.line)?;
+            tell(out, place.as_str())?;
+        }
+    }
+    Ok(())
+}
+
+/// Tells of the lines what a word asks for: the lines, or only where they are from, or only that there are some.
+fn tell_given(
+    alloc: Global,
+    out: &mut Vec<u8>,
+    word: &str,
+    lines: &Lines,
+) -> Result<(), AllocError> {
+    match word {
+        "expand" => tell_lines(out, lines),
+        "places" => tell_places(alloc, out, lines),
+        _ => tell(out, "expanded"),
+    }
+}
+
+/// Expands a source with the row's files, and tells what a word asks for, or the fault.
+pub fn tell_expanded(
+    alloc: Global,
+    out: &mut Vec<u8>,
+    word: &str,
+    source: &[u8],
+    row: &[Held],
+) -> Result<(), AllocError> {
+    let macros = macros_of(alloc, row)?;
+    match expand(alloc, source, &macros) {
+        Ok(lines) => {
+            let told = tell_given(alloc, out, word, &lines);
+            drop(lines);
+            told
+        }
+        Err(fault) => {
+            let (cause, file, line) = (fault.cause, fault.file, fault.line);
+            let told = format!(in alloc; "refused {cause:?} {file} {line}")?;
+            tell(out, told.as_str())
+        }
+    }
+}

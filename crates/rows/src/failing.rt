@@ -1,0 +1,83 @@
+//! Runs in which one call fails, the number of the call rising until a run meets no failure.
+
+use crate::bench::Bench;
+use crate::running::{Outcome, run, words_of};
+use crate::shelf::Held;
+use crate::telling::{tell, tell_text};
+use std::alloc::{AllocError, Global};
+
+/// More calls than any run here makes.
+const MOST: u32 = 64;
+
+/// What stands at `out`, beside what stands there where nothing fails.
+fn left_of(run: &Outcome, whole: &Outcome) -> &'static str {
+    match (run.output(), whole.output()) {
+        (Some(left), Some(bytes)) if left == bytes => ", all at out",
+        (Some(left), Some(bytes)) if bytes.starts_with(left) => ", a front at out",
+        (Some(_), _) => ", other bytes at out",
+        (None, _) => "",
+    }
+}
+
+/// Tells a run in which a call was to fail.
+fn tell_failing(
+    alloc: Global,
+    out: &mut Vec<u8>,
+    call: u32,
+    run: &Outcome,
+    whole: &Outcome,
+) -> Result<(), AllocError> {
+    let (status, reads, left) = (run.status, run.reads, left_of(run, whole));
+    let line = format!(in alloc; "call {call}: {status:?}, reads {reads}{left}")?;
+    tell(out, line.as_str())?;
+    if !run.is_kept {
+        tell(out, "a file changed that was held")?;
+    }
+    tell_text(out, &run.text)
+}
+
+/// A run in which a call of the store or of the sink fails.
+fn run_failing(
+    alloc: Global,
+    words: &Vec<String>,
+    row: &[Held],
+    of_store: bool,
+    call: u32,
+) -> Result<Outcome, AllocError> {
+    if of_store {
+        run(alloc, words, row, &[call], &[])
+    } else {
+        run(alloc, words, row, &[], &[call])
+    }
+}
+
+/// Tells the runs up to the one that meets no failure.
+fn tell_all(
+    alloc: Global,
+    words: &Vec<String>,
+    row: &[Held],
+    of_store: bool,
+) -> Result<Vec<u8>, AllocError> {
+    let mut told = Vec::new(alloc);
+    let whole = run(alloc, words, row, &[], &[])?;
+    for call in 1..MOST {
+        let run = run_failing(alloc, words, row, of_store, call)?;
+        tell_failing(alloc, &mut told, call, &run, &whole)?;
+        if run.faults == 0 {
+            break;
+        }
+    }
+    Ok(told)
+}
+
+/// Runs words while each call fails in turn: those of the store, or those of the sink.
+pub fn run_each(
+    alloc: Global,
+    bench: &mut Bench,
+    of_store: bool,
+    words: &str,
+) -> Result<(), AllocError> {
+    let words = words_of(alloc, words)?;
+    let told = tell_all(alloc, &words, bench.shelf.row(), of_store)?;
+    bench.out().extend_from_slice(&told)
+}

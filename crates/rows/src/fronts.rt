@@ -1,0 +1,75 @@
+//! Files that are cut anywhere.
+
+use crate::bench::Bench;
+use crate::pieces::put_at;
+use crate::running::{Outcome, run, words_of};
+use crate::shelf::Held;
+use crate::telling::{tell, tell_text};
+use std::alloc::{AllocError, Global};
+
+/// Dumps a file.
+fn dump(alloc: Global, bytes: Vec<u8>) -> Result<Outcome, AllocError> {
+    let mut row = Vec::new(alloc);
+    let path = String::from_str(alloc, "obj")?;
+    row.push(Held { path, bytes })?;
+    run(alloc, &words_of(alloc, "dump obj")?, &row, &[], &[])
+}
+
+/// Dumps the front of a file, as it is or with its length as BYTECNT.
+fn dump_front(alloc: Global, front: &[u8], counted: bool) -> Result<Outcome, AllocError> {
+    let mut bytes = front.to_vec(alloc)?;
+    if counted {
+        let size = (front.len() % 0x1_0000_0000) as u32;
+        put_at(&mut bytes, 0, &size.to_le_bytes());
+    }
+    dump(alloc, bytes)
+}
+
+/// Tells what is printed for the front of so many bytes, unless it is that the file is cut there: then the answer is that.
+fn is_cut(
+    alloc: Global,
+    out: &mut Vec<u8>,
+    front: &[u8],
+    counted: bool,
+) -> Result<bool, AllocError> {
+    let size = front.len();
+    let run = dump_front(alloc, front, counted)?;
+    let line = format!(in alloc; "refused Truncated 1 1 {size:08X}\n")?;
+    if run.text.as_slice() == line.as_bytes() {
+        return Ok(true);
+    }
+    out.extend_from_slice(format!(in alloc; "{size:08X} ")?.as_bytes())?;
+    tell_text(out, &run.text)?;
+    Ok(false)
+}
+
+/// Tells it of all fronts of a file from so many bytes on, and how many are cut.
+fn tell_fronts(
+    alloc: Global,
+    file: &[u8],
+    from: usize,
+    counted: bool,
+) -> Result<Vec<u8>, AllocError> {
+    let mut told = Vec::new(alloc);
+    let mut cut = 0u64;
+    for size in from..file.len() {
+        if is_cut(alloc, &mut told, &file[..size], counted)? {
+            cut = cut.wrapping_add(1);
+        }
+    }
+    tell(&mut told, format!(in alloc; "{cut} are cut")?.as_str())?;
+    Ok(told)
+}
+
+/// Dumps the fronts of the file at a path: all as they are, or those with a whole header with their length as BYTECNT.
+pub fn dump_fronts(
+    alloc: Global,
+    bench: &mut Bench,
+    counted: bool,
+    path: &str,
+) -> Result<(), AllocError> {
+    let file = bench.shelf.copy_of(alloc, path)?;
+    let from = if counted { 44 } else { 1 };
+    let told = tell_fronts(alloc, &file, from, counted)?;
+    bench.out().extend_from_slice(&told)
+}

@@ -1,0 +1,34 @@
+//! Load files that are read.
+
+use crate::bench::Bench;
+use crate::telling::tell;
+use omf_cells::{LoadFault, read_load};
+use std::alloc::{AllocError, Global};
+
+/// The most bytes of a file that is read.
+const MOST: usize = 0x100_0000;
+
+/// The fault of a load file that isn't too long, if it has one.
+fn fault_in(alloc: Global, file: &[u8]) -> Option<LoadFault> {
+    if file.len() > MOST {
+        return None;
+    }
+    match read_load(alloc, file) {
+        Ok(load) => {
+            drop(load);
+            None
+        }
+        Err(fault) => Some(fault),
+    }
+}
+
+/// Reads the load file at a path, and tells its fault or that it has none.
+pub fn load(alloc: Global, bench: &mut Bench, path: &str) -> Result<(), AllocError> {
+    let file = bench.shelf.copy_of(alloc, path)?;
+    let Some(fault) = fault_in(alloc, &file) else {
+        return tell(bench.out(), "loaded");
+    };
+    let (cause, segment, at) = (fault.cause, fault.segment, fault.at);
+    let told = format!(in alloc; "refused {cause:?} {segment} {at:08X}")?;
+    tell(bench.out(), told.as_str())
+}

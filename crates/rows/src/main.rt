@@ -1,0 +1,35 @@
+//! Tests as rows: reads rows from standard input, each of files and of words of the tool, runs the tool on them over stores and sinks in
+//! memory, and prints what it did. The file `stdin` beside `src/` says how a row is written, and `stdout` is what is expected.
+#![tactic(auto)]
+
+mod acts;
+mod asking;
+mod bench;
+mod expanding;
+mod failing;
+mod fronts;
+mod loading;
+mod pieces;
+mod running;
+mod shelf;
+mod telling;
+
+use acts::act;
+use bench::Bench;
+use std::alloc::{AllocError, Global};
+use std::io::{self, Write};
+
+/// What the rows of a text tell.
+fn told(alloc: Global, text: &str) -> Result<Vec<u8>, AllocError> {
+    let mut bench = Bench::new(alloc);
+    for line in text.split('\n') {
+        act(alloc, &mut bench, line)?;
+    }
+    Ok(bench.into_told())
+}
+
+fn main(rt: HostRuntime) -> io::Result<()> {
+    let text = io::read_to_string(rt.alloc(), rt.reader())?;
+    let told = told(rt.alloc(), text.as_str())?;
+    io::writer(&rt).write_all(&told)
+}

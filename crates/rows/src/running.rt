@@ -1,0 +1,119 @@
+//! Runs of the tool over stores and sinks in memory.
+
+use crate::shelf::Held;
+use omf_cli::{Status, run_tool};
+use omf_io::{MemoryFiles, MemorySink};
+use std::alloc::{AllocError, Global};
+
+/// What a run left.
+#[derive(Drop)]
+pub struct Outcome {
+    /// How it ended.
+    pub status: Status,
+    /// What was printed.
+    pub text: Vec<u8>,
+    /// What stands at `out`.
+    pub made: Option<Vec<u8>>,
+    /// Whether the files that the store held at first are as they were.
+    pub is_kept: bool,
+    /// How often the store was read.
+    pub reads: u64,
+    /// How many calls of the store and of the sink failed.
+    pub faults: u64,
+}
+
+impl Outcome {
+    /// No run.
+    pub fn none(alloc: Global) -> Outcome {
+        Outcome {
+            status: Status::Done,
+            text: Vec::new(alloc),
+            made: None,
+            is_kept: true,
+            reads: 0,
+            faults: 0,
+        }
+    }
+
+    /// What stands at `out`.
+    pub fn output(&self) -> Option<&[u8]> {
+        match &self.made {
+            Some(bytes) => Some(bytes.as_slice()),
+            None => None,
+        }
+    }
+}
+
+/// Words with spaces between them; `''` is a word without letters.
+pub fn words_of(alloc: Global, words: &str) -> Result<Vec<String>, AllocError> {
+    let mut list = Vec::new(alloc);
+    for word in words.split(' ') {
+        let word = if word == "''" { "" } else { word };
+        list.push(String::from_str(alloc, word)?)?;
+    }
+    Ok(list)
+}
+
+/// A store that holds these files, and whose calls with these numbers fail.
+fn store_of(alloc: Global, row: &[Held], store: &[u32]) -> Result<MemoryFiles, AllocError> {
+    let mut files = MemoryFiles::new(alloc, store.to_vec(alloc)?);
+    for held in row {
+        if files.set(held.path.as_str(), &held.bytes).is_err() {
+            return Err(AllocError);
+        }
+    }
+    Ok(files)
+}
+
+/// Whether a store holds these files.
+fn holds(files: &MemoryFiles, row: &[Held]) -> bool {
+    for held in row {
+        if files.get(held.path.as_str()) != Some(held.bytes.as_slice()) {
+            return false;
+        }
+    }
+    true
+}
+
+/// What stands at `out`.
+fn made_in(alloc: Global, files: &MemoryFiles) -> Result<Option<Vec<u8>>, AllocError> {
+    match files.get("out") {
+        Some(bytes) => Ok(Some(bytes.to_vec(alloc)?)),
+        None => Ok(None),
+    }
+}
+
+/// What a run left that ended so.
+fn outcome_of(
+    alloc: Global,
+    status: Status,
+    files: &MemoryFiles,
+    text: &MemorySink,
+    row: &[Held],
+) -> Result<Outcome, AllocError> {
+    Ok(Outcome {
+        status,
+        text: text.bytes().to_vec(alloc)?,
+        made: made_in(alloc, files)?,
+        is_kept: holds(files, row),
+        reads: files.asked(),
+        faults: files.faults().saturating_add(text.faults()),
+    })
+}
+
+/// Runs the tool on words, over a store that holds these files. The calls of the store and of the sink that fail are given by their
+/// numbers.
+pub fn run(
+    alloc: Global,
+    words: &Vec<String>,
+    row: &[Held],
+    store: &[u32],
+    sink: &[u32],
+) -> Result<Outcome, AllocError> {
+    let mut files = store_of(alloc, row, store)?;
+    let mut text = MemorySink::new(alloc, sink.to_vec(alloc)?);
+    let mut last = None;
+    let status = run_tool(alloc, words, &mut files, &mut text, &mut last);
+    drop(last);
+    outcome_of(alloc, status, &files, &text, row)
+}

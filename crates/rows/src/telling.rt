@@ -1,0 +1,113 @@
+//! What is told of a run.
+
+use crate::running::Outcome;
+use std::alloc::{AllocError, Global};
+
+/// How many bytes a line has.
+const WIDTH: usize = 32;
+
+/// Tells a line.
+pub fn tell(out: &mut Vec<u8>, line: &str) -> Result<(), AllocError> {
+    out.extend_from_slice(line.as_bytes())?;
+    out.push(b'\n')?;
+    Ok(())
+}
+
+/// A digit of a number up to 15.
+fn digit(number: u8) -> u8 {
+    match number {
+        0..=9 => b'0'.saturating_add(number),
+        _ => b'7'.saturating_add(number),
+    }
+}
+
+fn tell_byte(out: &mut Vec<u8>, byte: u8) -> Result<(), AllocError> {
+    out.push(digit(byte / 16))?;
+    out.push(digit(byte % 16))?;
+    Ok(())
+}
+
+/// Tells some bytes in a line.
+fn tell_some(out: &mut Vec<u8>, bytes: &[u8]) -> Result<(), AllocError> {
+    let mut between = false;
+    for byte in bytes {
+        if between {
+            out.push(b' ')?;
+        }
+        tell_byte(out, *byte)?;
+        between = true;
+    }
+    out.push(b'\n')?;
+    Ok(())
+}
+
+/// Tells bytes in lines.
+pub fn tell_bytes(out: &mut Vec<u8>, bytes: &[u8]) -> Result<(), AllocError> {
+    for line in bytes.chunks(WIDTH) {
+        tell_some(out, line)?;
+    }
+    Ok(())
+}
+
+/// Tells a text, each line behind `|`; where the last one has no end, `~` is behind it.
+pub fn tell_text(out: &mut Vec<u8>, text: &[u8]) -> Result<(), AllocError> {
+    let mut begins = true;
+    for byte in text {
+        if begins {
+            out.extend_from_slice(b"| ")?;
+        }
+        out.push(*byte)?;
+        begins = *byte == b'\n';
+    }
+    if !begins {
+        out.extend_from_slice(b"~\n")?;
+    }
+    Ok(())
+}
+
+/// The last lines of a text, so many of them.
+fn last_lines(text: &[u8], count: usize) -> &[u8] {
+    let mut left = count;
+    let mut from = text.len();
+    for (at, byte) in text.iter().enumerate().rev() {
+        if *byte == b'\n' {
+            if left == 0 {
+                break;
+            }
+            left = left.saturating_sub(1);
+        }
+        from = at;
+    }
+    match text.get(from..) {
+        Some(lines) => lines,
+        None => text,
+    }
+}
+
+/// Tells how a run ended, what it printed, or of this only the last lines, and whether something stands at `out`.
+pub fn tell_run(
+    alloc: Global,
+    out: &mut Vec<u8>,
+    run: &Outcome,
+    lines: usize,
+) -> Result<(), AllocError> {
+    tell(out, format!(in alloc; "{:?}", run.status)?.as_str())?;
+    if lines == 0 {
+        tell_text(out, &run.text)?;
+    } else {
+        tell(out, "..")?;
+        tell_text(out, last_lines(&run.text, lines))?;
+    }
+    tell_left(out, run)
+}
+
+/// Tells whether something stands at `out`, and where a file changed that the store held.
+fn tell_left(out: &mut Vec<u8>, run: &Outcome) -> Result<(), AllocError> {
+    if run.made.is_some() {
+        tell(out, "written")?;
+    }
+    if !run.is_kept {
+        tell(out, "a file changed that was held")?;
+    }
+    Ok(())
+}
