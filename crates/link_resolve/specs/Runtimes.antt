@@ -1,0 +1,35 @@
+-- Reading run-time library files.
+use Rattle.std.specs.Prelude.{◌≡◌, ◌⊎◌, ◌+◌, ℕ, List, [], ◌∷◌, length, map}
+use Rattle.omf_format.specs.File.{Segment}
+use Rattle.lib_dict.specs.declared.member.Member.{Member}
+use Rattle.link_meaning.specs.declared.fault.LinkFault.{LinkFault}
+use Rattle.link_meaning.specs.First.{IsFirst}
+use Rattle.link_meaning.specs.Member.{RuntimeFile}
+use Rattle.link_meaning.specs.Search.{outside_from}
+use Rattle.link_meaning.specs.LinkFaults.{HasRuntimeFault, AreRuntimes}
+use Rattle.link_resolve.specs.declared.outside.Outside.{Outside}
+use Rattle.link_resolve.specs.Reading.{memory_fault}
+use Rattle.link_resolve.specs.Outside.{AreOutside}
+
+-- the files that are held, each with its path and its bytes
+abbrev pub files_of : List Member → List (List ℕ × List ℕ)
+files_of given = map (λ m. (m.name, m.bytes.items)) given
+
+-- run-time library files with these segments, each with the path by which it is known
+abbrev pub runtimes_of : List (List Segment) → List Member → List RuntimeFile
+runtimes_of (segments ∷ loads) (one ∷ given) = record { path = one.name; segments = segments } ∷ runtimes_of loads given
+runtimes_of _ _ = []
+
+-- the file with this number has this fault, unless memory ran out
+abbrev pub IsFileRefused : ℕ → List ℕ → LinkFault → Type 0
+IsFileRefused file bytes fault = (fault ≡ memory_fault) ⊎ HasRuntimeFault file bytes fault
+
+-- these were read of the files that are given, and the table has their names
+pub record AreRead (given : List Member) (loads : List (List Segment)) (table : Outside) : Type 0 where
+  pub count : length loads ≡ length given
+  pub are : AreRuntimes (files_of given) (runtimes_of loads given)
+  pub table' : AreOutside (outside_from 2 (runtimes_of loads given)) table
+
+-- the first of these files that is at fault has this fault, where they are numbered behind so many inputs, unless memory ran out
+abbrev pub IsFirstRefused : ℕ → List (List ℕ × List ℕ) → LinkFault → Type 0
+IsFirstRefused inputs files fault = (fault ≡ memory_fault) ⊎ IsFirst (λ fronts file. HasRuntimeFault (inputs + length fronts + 1) file.1) files fault
