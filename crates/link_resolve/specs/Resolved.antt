@@ -1,5 +1,5 @@
 -- What resolving answers.
-use Rattle.std.specs.Prelude.{◌≡◌, ◌⊎◌, ◌<◌, ◌≤◌, ◌^◌, ℕ, ◌+◌, ◌*◌, List, [], ◌∷◌, length, map, Vec}
+use Rattle.std.specs.Prelude.{◌≡◌, ◌⊎◌, ◌++◌, ◌<◌, ◌≤◌, ◌^◌, ℕ, ◌+◌, ◌*◌, List, [], ◌∷◌, length, map, Vec}
 use Rattle.std.specs.Global.{Global}
 use Rattle.omf_format.specs.File.{Segment}
 use Rattle.link_meaning.specs.declared.fault.LinkFault.{LinkFault}
@@ -8,7 +8,7 @@ use Rattle.lib_dict.specs.declared.member.Member as given
 use Rattle.link_meaning.specs.declared.form.LinkForm.{LinkForm}
 use Rattle.link_meaning.specs.Member.{Input, Setting, Member, objects}
 use Rattle.link_meaning.specs.LinkedList.{asked}
-use Rattle.link_meaning.specs.LinkFaults.{Given, MayHave, AreInputs, HasFileFault, HasPartFault, parts_of, HasUseFault, IsFirstResolveFault, IsResolved}
+use Rattle.link_meaning.specs.LinkFaults.{Given, MayHave, AreInputs, HasFileFault, HasUseFault, IsFirstResolveFault, IsResolved}
 use Rattle.link_resolve.specs.declared.gather.Gathered as gathered
 use Rattle.link_resolve.specs.declared.layout.Layout as laid
 use Rattle.link_resolve.specs.declared.linked.Linked.{Linked}
@@ -94,13 +94,19 @@ pub record IsLaidOut (given : Given) (list : List Member) (layout : laid.Layout)
   pub few : length layout.loads.items ≤ 254
   pub short : AllShort layout.loads.items
 
+-- the inputs before one were read, and that one has this fault
+pub record IsFirstInput (files : List (List ℕ)) (fault : LinkFault) : Type 0 where
+  pub before : List (List ℕ)
+  pub item : List ℕ
+  pub after : List (List ℕ)
+  pub parts : files ≡ before ++ item ∷ after
+  pub inputs : List Input
+  pub are : AreInputs before inputs
+  pub here : HasFileFault (length before + 1) item fault
+
 -- the first input at fault has this fault, unless memory ran out
 abbrev pub IsInputFault : List (List ℕ) → LinkFault → Type 0
-IsInputFault files fault = (fault ≡ memory_fault) ⊎ IsFirst (λ fronts bytes. HasFileFault (length fronts + 1) bytes) files fault
-
--- the first file at fault has this fault, unless memory ran out
-abbrev pub IsReadingFault : Given → LinkFault → Type 0
-IsReadingFault given fault = (fault ≡ memory_fault) ⊎ IsFirst HasPartFault (parts_of given) fault
+IsInputFault files fault = (fault ≡ memory_fault) ⊎ IsFirstInput files fault
 
 -- the first use that doesn't resolve has this fault, unless memory ran out
 abbrev pub IsUseFault : List Member → LinkFault → Type 0

@@ -1,9 +1,8 @@
 -- Reading run-time library files.
-use Rattle.std.specs.Prelude.{◌≡◌, ◌⊎◌, ◌+◌, ℕ, List, [], ◌∷◌, length, map}
+use Rattle.std.specs.Prelude.{◌≡◌, ◌⊎◌, ◌+◌, ◌++◌, ℕ, List, [], ◌∷◌, length, map}
 use Rattle.omf_format.specs.File.{Segment}
 use Rattle.lib_dict.specs.declared.member.Member.{Member}
 use Rattle.link_meaning.specs.declared.fault.LinkFault.{LinkFault}
-use Rattle.link_meaning.specs.First.{IsFirst}
 use Rattle.link_meaning.specs.Member.{RuntimeFile}
 use Rattle.link_meaning.specs.Search.{outside_from}
 use Rattle.link_meaning.specs.LinkFaults.{HasRuntimeFault, AreRuntimes}
@@ -30,6 +29,16 @@ pub record AreRead (given : List Member) (loads : List (List Segment)) (table : 
   pub are : AreRuntimes (files_of given) (runtimes_of loads given)
   pub table' : AreOutside (outside_from 2 (runtimes_of loads given)) table
 
--- the first of these files that is at fault has this fault, where they are numbered behind so many inputs, unless memory ran out
+-- the files before one were read, and that one has this fault, where they are numbered behind so many inputs
+pub record IsFirstFile (inputs : ℕ) (files : List (List ℕ × List ℕ)) (fault : LinkFault) : Type 0 where
+  pub before : List (List ℕ × List ℕ)
+  pub item : List ℕ × List ℕ
+  pub after : List (List ℕ × List ℕ)
+  pub parts : files ≡ before ++ item ∷ after
+  pub runtimes : List RuntimeFile
+  pub are : AreRuntimes before runtimes
+  pub here : HasRuntimeFault (inputs + length before + 1) item.1 fault
+
+-- the first of these files that is at fault has this fault, unless memory ran out
 abbrev pub IsFirstRefused : ℕ → List (List ℕ × List ℕ) → LinkFault → Type 0
-IsFirstRefused inputs files fault = (fault ≡ memory_fault) ⊎ IsFirst (λ fronts file. HasRuntimeFault (inputs + length fronts + 1) file.1) files fault
+IsFirstRefused inputs files fault = (fault ≡ memory_fault) ⊎ IsFirstFile inputs files fault

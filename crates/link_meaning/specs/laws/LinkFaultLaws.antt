@@ -74,7 +74,7 @@ one_input bytes a b p q =
     input : List Segment → List Row → Input
     input segments rows = record { segments = segments; rows = rows }
 
-inputs_same : (files : List (List ℕ)) (a b : List Input) → AreInputs files a → AreInputs files b → a ≡ b
+pub inputs_same : (files : List (List ℕ)) (a b : List Input) → AreInputs files a → AreInputs files b → a ≡ b
 inputs_same [] [] [] p q = refl
 inputs_same [] [] (b ∷ bs) p q = absurd q
 inputs_same [] (a ∷ as') bs p q = absurd p
@@ -83,7 +83,7 @@ inputs_same (f ∷ files) (a ∷ as') [] p q = absurd q
 inputs_same (f ∷ files) (a ∷ as') (b ∷ bs) p q =
     ap (λ (i : Input). i ∷ as') (one_input f a b p.0 q.0) ∙ ap (λ (l : List Input). b ∷ l) (inputs_same files as' bs p.1 q.1)
 
-runtimes_same : (files : List (List ℕ × List ℕ)) (a b : List RuntimeFile) → AreRuntimes files a → AreRuntimes files b → a ≡ b
+pub runtimes_same : (files : List (List ℕ × List ℕ)) (a b : List RuntimeFile) → AreRuntimes files a → AreRuntimes files b → a ≡ b
 runtimes_same [] [] [] p q = refl
 runtimes_same [] [] (y ∷ b) p q = absurd q
 runtimes_same [] (x ∷ a) b p q = absurd p
@@ -97,7 +97,7 @@ runtimes_same (f ∷ files) (x ∷ a) (y ∷ b) p q =
     runtime_of : List ℕ → List Segment → RuntimeFile
     runtime_of path segments = record { path = path; segments = segments }
 
-setting_same : (given : Given) (a b : Setting) → IsSetting given a → IsSetting given b → a ≡ b
+pub setting_same : (given : Given) (a b : Setting) → IsSetting given a → IsSetting given b → a ≡ b
 setting_same given a b p q =
     ap (λ (f : LinkForm). setting_of f a.runtimes) (p.form' ∙ sym q.form') ∙ ap (λ (r : List RuntimeFile). setting_of b.form r) (runtimes_same given.runtimes a.runtimes b.runtimes p.runtimes' q.runtimes')
   where
