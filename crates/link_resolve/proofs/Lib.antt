@@ -30,6 +30,7 @@ pub mod LoadNames
 pub mod LaidLaws
 pub mod InputLaws
 pub mod PartLaws
+pub mod RuntimeLaws
 pub mod PhaseLaws
 pub mod AmongLaws
 pub mod LayoutFaults
