@@ -84,7 +84,9 @@ pub record SoFar (most : ℕ) (bytes : List ℕ) (rows at : ℕ) (rest : List �
 
 pub so_none : (most : ℕ) (bytes : List ℕ) → SoFar most bytes 0 0 bytes []
 unfolding flaw_in rows_in
-so_none most bytes = record { within = omega arith; place = omega arith; flaw = refl; paths' = refl }
+so_none most bytes =
+    let all : most ≡ most - 0 = omega arith in
+    record { within = omega arith; place = omega arith; flaw = ap (λ (n : ℕ). rows_flaw n 0 0 bytes) all; paths' = ap (λ (n : ℕ). paths_in n bytes) all }
 
 pub so_cut : (most : ℕ) (bytes : List ℕ) (rows at : ℕ) (rest : List ℕ) (paths : List (List ℕ)) → SoFar most bytes rows at rest paths → length rest < 2 → flaw_in most bytes ≡ Some at
 so_cut most bytes rows at rest paths so short = so.flaw ∙ opened (most - rows) rows at rest ∙ end_cut rows at rest (row_then (most - rows) rows at rest) short
@@ -142,3 +144,12 @@ so_more most bytes rows at rest paths so long open' is none inside =
           so.paths' ∙ ap (λ (l : List (List ℕ)). paths ++ l) (one_path (most - rows) (most - (rows + 1)) rest left (not_zero rows (number_at 2 0 rest) next.1))
           ∙ sym (append_assoc paths (first_path rest ∷ []) (paths_in (most - (rows + 1)) (behind_path rest)));
     }
+
+pub so_next : (most : ℕ) (bytes : List ℕ) (rows at : ℕ) (rest : List ℕ) (paths : List (List ℕ)) (next : ℕ) (left path : List ℕ) (more : List (List ℕ)) → SoFar most bytes rows at rest paths → 2 ≤ length rest → at_end rows rest ≡ false
+    → (ltb rows most && eqb (number_at 2 0 rest) (rows + 2)) ≡ true → row_flaw at rest ≡ None → path_start + path_size rest ≤ length rest
+    → next ≡ at + (path_start + path_size rest) → left ≡ behind_path rest → path ≡ first_path rest → more ≡ paths ++ path ∷ [] → SoFar most bytes (rows + 1) next left more
+so_next most bytes rows at rest paths next left path more so long open' is none inside next_is left_is path_is more_is =
+    let all : more ≡ paths ++ first_path rest ∷ [] = more_is ∙ ap (λ (p : List ℕ). paths ++ p ∷ []) path_is in
+    subst (λ (n : ℕ). SoFar most bytes (rows + 1) n left more) (sym next_is)
+    (subst (λ (l : List ℕ). SoFar most bytes (rows + 1) (at + (path_start + path_size rest)) l more) (sym left_is)
+    (subst (λ (l : List (List ℕ)). SoFar most bytes (rows + 1) (at + (path_start + path_size rest)) (behind_path rest) l) (sym all) (so_more most bytes rows at rest paths so long open' is none inside)))

@@ -8,8 +8,10 @@ use Rattle.std.proofs.lemmas.List.{length-append, append-nil}
 use Rattle.omf_format.specs.declared.fault.RecordFault.{RecordFault}
 use Rattle.omf_format.specs.Header.{first_of, is_dynamic, is_skipped}
 use Rattle.omf_format.specs.Record.{Record, End, Const, LongConst, Align, Org, Space, Reloc, InterSeg, ShortReloc, ShortInterSeg, Super, Using, Strong, Label, Equate, Formula, Entry, content_of}
-use Rattle.omf_format.specs.Reading.{Reader, next_answer, after_next, HandsOut}
-use Rattle.omf_format.specs.File.{Segment}
+use Rattle.omf_format.specs.Reading.{Reader, next_answer, after_next, HandsOut, records_of}
+use Rattle.omf_format.specs.File.{Segment, body_reader}
+use Rattle.omf_records.specs.declared.segment.SegmentView.{SegmentView}
+use Rattle.omf_records.specs.Segments.{placed, shown}
 use Rattle.omf_format.specs.Body.{body_bytes}
 use Rattle.omf_format.specs.laws.FileLaws.{Answer, gave, same_found, open_at_some, open_at_fault}
 use Rattle.omf_format.specs.laws.BodyLaws.{none_at_end}
@@ -57,6 +59,10 @@ lone_other r last found (a ∷ b ∷ []) run e long =
     let same : a ≡ found = same_found a found (sym run.0 ∙ e) in
     ap (λ (f : ℕ × Record). long_bytes f.1) same ∙ long
 lone_other r last found (a ∷ b ∷ c ∷ rest) run e long = refl
+
+-- what was told of the records that a view shows
+pub shown_lone : (v : SegmentView) (reader : Reader) (answer : Option (List ℕ)) → reader ≡ body_reader v.start (placed v).fields v.file.now → answer ≡ lone_bytes (records_of reader) → lone_bytes (shown v).records ≡ answer
+shown_lone v reader answer at is = ap (λ (r : Reader). lone_bytes (records_of r)) (sym at) ∙ sym is
 
 pub lone_none : (r last : Reader) (founds : List (ℕ × Record)) → HandsOut r founds last → next_answer r ≡ Ok None → lone_bytes founds ≡ None
 lone_none r last [] run e = refl
@@ -131,6 +137,16 @@ is_lone size (a ∷ b ∷ c ∷ rest) bytes e = absurd cc
 
 -- ---- what is wrong with the segment
 
+pub either_left : (a b : Bool) → a ≡ true → (a || b) ≡ true
+either_left a b e = ap (λ (x : Bool). x || b) e
+
+pub either_right : (a b : Bool) → b ≡ true → (a || b) ≡ true
+either_right true b e = refl
+either_right false b e = e
+
+pub neither_kind : (a b : Bool) → a ≡ false → b ≡ false → (a || b) ≡ false
+neither_kind a b p q = ap (λ (x : Bool). x || b) p ∙ q
+
 module _ (s : Segment) where
   rows_of : Option ℕ
   rows_of = flaw_in most_paths (segment_bytes s)
@@ -200,6 +216,10 @@ phase_behind segments number s second is =
 
 -- ---- the paths of a file
 
+pub paths_none : paths_of [] ≡ []
+unfolding paths_of
+paths_none = refl
+
 segment_is : (s t : Segment) → Some s ≡ Some t → s ≡ t
 segment_is s t e = cc
 
@@ -213,23 +233,24 @@ pub paths_more : (segments : List Segment) (i : ℕ) (s : Segment) → slice_get
 unfolding paths_of paths_then rows_in
 paths_more [] i s e first = absurd cc
 paths_more (t ∷ segments) zero s e first = ap (λ (u : Segment). paths_of (u ∷ [])) (segment_is t s e)
-paths_more (t ∷ segments) (suc i) s e first = ap (λ (n : ℕ). paths_of (take n (t ∷ segments))) step ∙ by_first (has_pathnames t) refl
+paths_more (t ∷ segments) (suc i) s e first = ap (λ (n : ℕ). paths_of (take n (t ∷ segments))) step ∙ by_first (λ others. paths_more segments i s e others) (has_pathnames t) refl
   where
     step : suc i + 1 ≡ suc (i + 1)
     step = omega arith
     rows : List (List ℕ)
     rows = rows_in most_paths (segment_bytes t)
-    by_first : (b : Bool) → has_pathnames t ≡ b → paths_of (t ∷ take (i + 1) segments) ≡ paths_then s (paths_of (t ∷ take i segments))
-    by_first true is = by_last (has_pathnames s) refl
+    by_first : ((has_pathnames s ≡ true → list_any has_pathnames (take i segments) ≡ false) → paths_of (take (i + 1) segments) ≡ paths_then s (paths_of (take i segments)))
+        → (b : Bool) → has_pathnames t ≡ b → paths_of (t ∷ take (i + 1) segments) ≡ paths_then s (paths_of (t ∷ take i segments))
+    by_first more true is = by_last (has_pathnames s) refl
       where
         by_last : (b : Bool) → has_pathnames s ≡ b → paths_of (t ∷ take (i + 1) segments) ≡ paths_then s (paths_of (t ∷ take i segments))
         by_last true other = let clash : true ≡ false = sym is ∙ (neither (has_pathnames t) (list_any has_pathnames (take i segments)) (first other)).0 in absurd cc
         by_last false other =
             ap (λ (b : Bool). if b then rows else paths_of (take (i + 1) segments)) is
             ∙ sym (ap (λ (b : Bool). if b then rows_in most_paths (segment_bytes s) else paths_of (t ∷ take i segments)) other ∙ ap (λ (b : Bool). if b then rows else paths_of (take i segments)) is)
-    by_first false is =
+    by_first more false is =
         ap (λ (b : Bool). if b then rows else paths_of (take (i + 1) segments)) is
-        ∙ paths_more segments i s e (λ last. (neither (has_pathnames t) (list_any has_pathnames (take i segments)) (first last)).1)
+        ∙ more (λ last. (neither (has_pathnames t) (list_any has_pathnames (take i segments)) (first last)).1)
         ∙ sym (ap (λ (b : Bool). paths_then s (if b then rows else paths_of (take i segments))) is)
 
 -- all segments
@@ -237,6 +258,7 @@ pub paths_all : (segments : List Segment) (i : ℕ) → length segments ≤ i �
 paths_all segments i le = ap paths_of (whole segments i le)
   where
     whole : (l : List Segment) (n : ℕ) → length l ≤ n → take n l ≡ l
-    whole [] n h = refl
+    whole [] zero h = refl
+    whole [] (suc n) h = refl
     whole (x ∷ l) zero h = absurd (omega (arith, h))
     whole (x ∷ l) (suc n) h = ap (λ (r : List Segment). x ∷ r) (whole l n (omega (arith, h)))

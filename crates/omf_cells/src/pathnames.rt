@@ -302,7 +302,10 @@ pub fn check_pathnames<'a>(
     let mut number = 1;
     let mut second = false;
     'views: for view in views {
-        take_paths(alloc, view, number, second, &mut paths)?;
+        match take_paths(alloc, view, number, second, &mut paths) {
+            Ok(()) => {}
+            Err(fault) => return Err(fault),
+        }
         second = second || has_pathnames(view);
         number += 1;
     }

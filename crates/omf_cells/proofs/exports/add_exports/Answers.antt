@@ -22,9 +22,9 @@ records-preserved c =
     let old = map seen_export c.records.exports.items in
     let more = exported_more c.args.holder c.args.records c.records.records found front old c.records.invariant.added (sym (rw c.in-Ok-Some.field-0-is at c.in-Ok-Some.ensures.answer)) in
     record {
-      added = subst (λ (l : List Export). Exported c.args.holder c.args.records c.next.new.self front l) (sym c.in_ok-add_export.ensures.value)
+      added = subst (λ (l : List Export). Exported c.args.holder c.args.records c.next.new.self front l) (sym c.in_ok-add_export-in-Ok-Some.ensures.value)
           (subst (λ (r : Reader). Exported c.args.holder c.args.records r front (old ++ exported c.args.holder found.1)) (sym c.in-Ok-Some.ensures.after) more);
-      few = omega (arith, c.records.invariant.few, c.in_ok-add_export.ensures.one, rw c.in-Ok-Some.field-0-is at c.in-Ok-Some.ensures.shorter);
+      few = omega (arith, c.records.invariant.few, c.in_ok-add_export-in-Ok-Some.ensures.one, rw c.in-Ok-Some.field-0-is at c.in-Ok-Some.ensures.shorter);
     }
 
 pub unreachable-requires : goal.unreachable-requires
