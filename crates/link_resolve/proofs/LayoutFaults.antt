@@ -19,7 +19,7 @@ use Rattle.link_meaning.specs.Layout.{load_names, load_length, load_members, lea
 use Rattle.link_meaning.specs.LinkFaults.{HasOrgFault, HasLengthFault, HasKindFault, HasLayoutFault, is_too_long, may_not_stand, LayoutCheck, Orgs, Count, Lengths, Kinds}
 use Rattle.link_resolve.specs.declared.layout.Load.{Load}
 use Rattle.link_resolve.specs.declared.layout.Layout as kept
-use Rattle.link_resolve.specs.Laid.{IsLoad, IsConflict, org_fault, Laid, layout_checks, is_long, AllShort, IsFirstLong, is_runtime, AllDynamic, IsFirstOther, ShowsLoad, AreHeaders}
+use Rattle.link_resolve.specs.Laid.{IsLoad, IsConflict, org_fault, Laid, layout_checks, is_long, AllShort, IsFirstLong, is_other, AllDynamic, IsFirstOther, ShowsLoad, AreHeaders}
 use Rattle.link_resolve.proofs.Lists.{drop_at}
 use Rattle.link_resolve.proofs.LibraryLaws.{take_more}
 
@@ -187,9 +187,6 @@ long_fails list before f its has = has.long
 
 -- ---- kinds
 
-abbrev is_other : Load → Bool
-is_other load = not (is_runtime load)
-
 kind_test : (list : List Member) → IsTest list is_other (may_not_stand LibraryForm)
 unfolding load_fields
 kind_test list n load is = ap (λ (kind : ℕ). not (is_dynamic kind && not (is_skipped kind))) is.kind
@@ -212,13 +209,10 @@ abbrev pub FineKinds : LinkForm → List Load → Type 0
 FineKinds Program loads = Unit {0}
 FineKinds LibraryForm loads = AllDynamic loads
 
-not_other : (load : Load) → is_runtime load ≡ true → is_other load ≡ false
-not_other load e = ap not e
-
 pub no_kinds : (form : LinkForm) (list : List Member) (layout : kept.Layout) (before : List LayoutCheck) (its : LinkFault) → form_in list ≡ form → Laid list layout → FineKinds form layout.loads.items → HasLayoutFault list before Kinds its → ⊥
 no_kinds Program list layout before its is laid fine p = let clash : false ≡ true = kind_fails list Program is p.before p.item its p.here in absurd cc
 no_kinds LibraryForm list layout before its is laid fine p =
-    none_bad is_other (may_not_stand LibraryForm) (HasKindFault list) list layout (load_headers list) (kind_test list) (kind_fails list LibraryForm is) laid (λ j f e. e) (λ j load within there. not_other load (fine j load there))
+    none_bad is_other (may_not_stand LibraryForm) (HasKindFault list) list layout (load_headers list) (kind_test list) (kind_fails list LibraryForm is) laid (λ j f e. e) (λ j load within there. fine j load there)
     p.before p.item p.after its p.parts p.here
 
 abbrev upto_orgs : List LayoutCheck
@@ -333,9 +327,9 @@ at_kinds list layout spot fault form laid none few short first told =
       parts = refl;
       none = none_lengths list layout laid none few short;
       here = first_bad is_other (may_not_stand LibraryForm) (HasKindFault list) list layout first.k first.load fault (kind_test list) (kind_fails list LibraryForm form) laid first.at
-          (λ j load found. not_other load (first.before j load found))
+          (λ j load found. first.before j load found)
           record {
-            other = ap (λ (f : LinkForm). may_not_stand f (fields_of list (1 + first.k) x)) form ∙ sym (kind_test list (1 + first.k) first.load is) ∙ ap not first.other;
+            other = ap (λ (f : LinkForm). may_not_stand f (fields_of list (1 + first.k) x)) form ∙ sym (kind_test list (1 + first.k) first.load is) ∙ first.other;
             told = told ∙ ap kind_fault (first.spot' ∙ is.first);
           };
     }

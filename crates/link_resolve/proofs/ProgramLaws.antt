@@ -145,9 +145,9 @@ unfolding load_headers
 headers-length list = headers-from-length list 1 (load_names list)
 
 pub kept_is : (list : List Member) (kept : Kept) (layout : laid.Layout) → Holds list kept.linked → AllAmong kept.files.items list → length list < 2 ^ 32 → Laid list layout → AllShort layout.loads.items
-    → length (load_names list) ≤ 254 → kept.places.items ≡ layout.places.items → map fields kept.headers.items ≡ load_headers list → setting_of kept ≡ setting_in list → IsOutsideOf list kept.outside → IsOfFiles list
-    → IsKept list kept
-kept_is list kept layout holds among short laid lengths few places headers setting table of_files = record {
+    → length (load_names list) ≤ 254 → kept.places.items ≡ layout.places.items → map fields kept.headers.items ≡ load_headers list → setting_of kept ≡ setting_in list → IsOutsideOf list kept.outside
+    → length kept.runtimes.items ≡ length kept.given.now → length kept.given.now < 2 ^ 32 → IsOfFiles list → IsKept list kept
+kept_is list kept layout holds among short laid lengths few places headers setting table read few_runtimes of_files = record {
   holds = holds;
   among = among;
   few = short;
@@ -157,6 +157,8 @@ kept_is list kept layout holds among short laid lengths few places headers setti
   headers = headers;
   setting = setting;
   table = table;
+  read = read;
+  few_runtimes = few_runtimes;
   of_files = of_files;
 }
 

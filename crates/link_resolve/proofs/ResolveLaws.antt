@@ -8,11 +8,14 @@ use Rattle.std.proofs.lemmas.Option.{slice_get_within, slice_get-map, slice_get_
 use Rattle.omf_format.specs.File.{Segment}
 use Rattle.link_meaning.specs.declared.fault.LinkCause.TheVariants.{Empty}
 use Rattle.link_meaning.specs.declared.fault.LinkFault.{LinkFault}
+use Rattle.link_meaning.specs.declared.form.LinkForm.{LinkForm}
+use Rattle.link_meaning.specs.declared.form.LinkForm.TheVariants.{Program, Runtime as LibraryForm}
+use Rattle.lib_dict.specs.declared.member.Member as held
 use Rattle.link_meaning.specs.First.{HasNone, IsFirst}
 use Rattle.link_meaning.specs.Member.{Input, Setting, alone, Member, setting_in, objects}
 use Rattle.link_meaning.specs.Search.{outside, outside_from}
 use Rattle.link_meaning.specs.LinkedList.{asked}
-use Rattle.link_meaning.specs.LinkFaults.{Given, HasBytes, nowhere, IsInput, AreInputs, IsSetting, AreRuntimes, IsProgram, HasFileFault, HasRuntimeFault, HasUseFault, HasLayoutFault}
+use Rattle.link_meaning.specs.LinkFaults.{Given, HasBytes, MayHave, nowhere, IsInput, AreInputs, IsSetting, AreRuntimes, IsProgram, HasFileFault, HasRuntimeFault, HasUseFault, HasLayoutFault}
 use Rattle.link_resolve.specs.declared.gather.Gathered as gathered
 use Rattle.link_resolve.specs.declared.linked.Linked.{Linked}
 use Rattle.link_resolve.specs.Reading.{IsFileRefused}
@@ -226,6 +229,10 @@ size_more items k bytes at = ap total_size (take_more (all_bytes items) k bytes 
     snoc [] = omega arith
     snoc (x ∷ xs) = let rest = snoc xs in omega arith
 
+few_files : (form : LinkForm) (runtimes : List (List ℕ × List ℕ)) → MayHave form runtimes → length runtimes < 2 ^ 32
+few_files Program runtimes may = omega (arith, may)
+few_files LibraryForm runtimes may = omega (arith, ap (λ (l : List (List ℕ × List ℕ)). length l) may)
+
 -- what is kept, where the load segments have no fault
 pub is_kept : (given : Given) (grown : Grown) (kept : Kept) (layout : laid.Layout) (of : IsListOf given grown) → HasBytes given → IsLaidOut given of.grown.list layout → kept.files.items ≡ grown.files.items → kept.linked ≡ grown.linked
     → kept.places.items ≡ layout.places.items → AreHeaders 1 layout.loads.items (map fields kept.headers.items) → kept.form ≡ grown.form → kept.given.now ≡ grown.given.now → kept.runtimes.items ≡ grown.runtimes.loads.items
@@ -234,6 +241,10 @@ is_kept given grown kept layout of bytes out files linked places headers form me
     let list = of.grown.list in
     let setting : setting_of kept ≡ setting_in list =
     ap (λ f. setting_as f kept.runtimes.items kept.given.now) form ∙ ap (λ r. setting_as grown.form r kept.given.now) loads ∙ ap (λ l. setting_as grown.form grown.runtimes.loads.items l) members ∙ sym (list_setting given grown of) in
+    let read : length kept.runtimes.items ≡ length kept.given.now =
+    ap (λ (l : List (List Segment)). length l) loads ∙ of.runtimes'.count ∙ ap (λ (l : List held.Member). length l) (sym members) in
+    let few : length kept.given.now < 2 ^ 32 =
+    omega (arith, few_files given.form given.runtimes bytes.2.2.2, ap (λ (l : List (List ℕ × List ℕ)). length l) of.files, length-map grown.given.now (λ (m : held.Member). (m.name, m.bytes.items)), ap (λ (l : List held.Member). length l) members) in
     kept_is list kept layout (subst (Holds list) (sym linked) of.grown.holds) (subst (λ (l : List (List Segment)). AllAmong l list) (sym files) of.grown.among) (omega (arith, of.grown.few)) out.laid out.short
     (omega (arith, out.few, loads_are list layout out.laid)) places (all_headers list layout (map fields kept.headers.items) out.laid out.short headers) setting
-    (subst (IsOutsideOf list) (sym table) (list_outside given grown of)) (record { given = given; bytes = bytes; resolved = out.resolved })
+    (subst (IsOutsideOf list) (sym table) (list_outside given grown of)) read few (record { given = given; bytes = bytes; resolved = out.resolved })

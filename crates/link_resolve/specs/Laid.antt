@@ -139,19 +139,19 @@ pub record IsFirstLong (loads : List Load) (spot : Spot) : Type 0 where
   pub spot' : spot ≡ load.first
   pub before : AllShort (take k loads)
 
--- the load segment may stand in a run-time library file
-abbrev pub is_runtime : Load → Bool
-is_runtime load = is_dynamic load.kind.bits && not (is_skipped load.kind.bits)
+-- the load segment may not stand in a run-time library file
+abbrev pub is_other : Load → Bool
+is_other load = not (is_dynamic load.kind.bits && not (is_skipped load.kind.bits))
 
 abbrev pub AllDynamic : List Load → Type 0
-AllDynamic loads = (k : ℕ) (load : Load) → slice_get loads k ≡ Some load → is_runtime load ≡ true
+AllDynamic loads = (k : ℕ) (load : Load) → slice_get loads k ≡ Some load → is_other load ≡ false
 
 -- the first one that may not starts there
 pub record IsFirstOther (loads : List Load) (spot : Spot) : Type 0 where
   pub k : ℕ
   pub load : Load
   pub at : slice_get loads k ≡ Some load
-  pub other : is_runtime load ≡ false
+  pub other : is_other load ≡ true
   pub spot' : spot ≡ load.first
   pub before : AllDynamic (take k loads)
 

@@ -48,6 +48,8 @@ pub record IsKept (list : List Member) (kept : Kept) : Type 0 where
   pub headers : map fields kept.headers.items ≡ load_headers list
   pub setting : setting_of kept ≡ setting_in list
   pub table : IsOutsideOf list kept.outside
+  pub read : length kept.runtimes.items ≡ length kept.given.now
+  pub few_runtimes : length kept.given.now < 2 ^ 32
   pub of_files : IsOfFiles list
 
 -- a definition as a program tells it: of a member its load segment in the file itself, else the file and the segment of its value

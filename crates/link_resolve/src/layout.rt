@@ -8,7 +8,7 @@ ghost use Rattle.link_meaning.specs.Member.{Member, form_in};
 ghost use Rattle.link_meaning.specs.Layout.{aligned_from, lesser_bank, cleared, load_headers, load_names};
 ghost use Rattle.link_meaning.specs.LinkFaults.{HasLayoutFault};
 ghost use Rattle.link_resolve.specs.Definitions.{IsOf};
-ghost use Rattle.link_resolve.specs.Laid.{Laid, IsFresh, IsJoined, IsAt, IsSpotOf, conflict_with, has, is_long, AllShort, IsFirstLong, AllDynamic, IsFirstOther, layout_checks, ShowsLoad, AreHeaders};
+ghost use Rattle.link_resolve.specs.Laid.{Laid, IsFresh, IsJoined, IsAt, IsSpotOf, conflict_with, has, is_long, is_other, AllShort, IsFirstLong, AllDynamic, IsFirstOther, layout_checks, ShowsLoad, AreHeaders};
 
 use crate::definitions::Origin;
 use crate::names::{Key, Names, Outcome};
@@ -143,6 +143,13 @@ fn is_long(load: &Load) -> bool
     load.length == TOO_LONG || (load.bank_size != 0 && load.bank_size < load.length)
 }
 
+/// It isn't dynamic, or is skipped, as no load segment of a run-time library file may be.
+fn is_other(load: &Load) -> bool
+    ensures { result ≡ is_other load.now }
+{
+    !(load.kind.is_dynamic() && !load.kind.is_skip())
+}
+
 impl<'a> Layout<'a> {
     pub fn new(alloc: Global) -> Layout<'a>
         ensures { Laid [] result }
@@ -230,7 +237,7 @@ impl<'a> Layout<'a> {
         ensures { MatchOption result (AllDynamic self.now.loads.items) (λ spot. IsFirstOther self.now.loads.items spot) }
     {
         'loads: for load in &self.loads {
-            if !load.kind.is_dynamic() || load.kind.is_skip() {
+            if is_other(load) {
                 return Some(load.first);
             }
         }
