@@ -9,7 +9,8 @@ use Rattle.omf_format.specs.File.{Segment}
 use Rattle.omf_format.specs.Header.{Fields, alignment_of}
 use Rattle.omf_header.specs.View.{fields}
 use Rattle.link_meaning.specs.First.{IsIn}
-use Rattle.link_meaning.specs.Member.{Setting, Member, setting_in}
+use Rattle.lib_dict.specs.declared.member.Member as held
+use Rattle.link_meaning.specs.Member.{RuntimeFile, Setting, Member, setting_in}
 use Rattle.link_meaning.specs.laws.SettingLaws.{one_setting}
 use Rattle.link_resolve.specs.Outside.{IsOutsideOf}
 use Rattle.link_meaning.specs.Layout.{in_load, aligned_from, end_from, load_length, load_names, load_of, offset_of, headers_from, load_headers}
@@ -21,6 +22,7 @@ use Rattle.link_resolve.specs.Linked.{origin_of, Holds, OriginOf, member_at}
 use Rattle.link_resolve.specs.Gathered.{segment_in, IsAmong, AllAmong}
 use Rattle.link_resolve.specs.Laid.{has, AllShort, Laid}
 use Rattle.link_resolve.specs.OfFiles.{IsOfFiles}
+use Rattle.link_resolve.specs.Runtimes.{runtimes_of}
 use Rattle.link_resolve.specs.Programs.{setting_of, member_in, list_of, StandsAt, IsKept, linked_at, header_at}
 use Rattle.link_resolve.specs.Definitions.{IsOf}
 use Rattle.link_resolve.specs.declared.definitions.Origin.{Origin}
@@ -237,3 +239,24 @@ laid_more files list k origin s old new told among is laid add =
     let same : told.k ≡ k = omega (arith, told.place') in
     let at : slice_get list k ≡ Some told.member = ap (slice_get list) (sym same) ∙ told.at in
     subst (λ (l : List Member). Laid l new) (sym (take_more list k told.member at)) (add (take k list) told.member told.of (view_told files list (k + 1) origin told s among is) laid)
+
+-- ---- run-time library files
+
+pub runtimes_count : (loads : List (List Segment)) (given : List held.Member) → length loads ≡ length given → length (runtimes_of loads given) ≡ length loads
+runtimes_count [] given e = refl
+runtimes_count (s ∷ loads) [] e = absurd cc
+runtimes_count (s ∷ loads) (one ∷ given) e = let less : length loads ≡ length given = omega (arith, e) in ap suc (runtimes_count loads given less)
+
+pub segments_at : (loads : List (List Segment)) (given : List held.Member) (k : ℕ) → length loads ≡ length given → option_map (λ (r : RuntimeFile). r.segments) (slice_get (runtimes_of loads given) k) ≡ slice_get loads k
+segments_at [] given k e = refl
+segments_at (s ∷ loads) [] k e = absurd cc
+segments_at (s ∷ loads) (one ∷ given) zero e = refl
+segments_at (s ∷ loads) (one ∷ given) (suc k) e = let less : length loads ≡ length given = omega (arith, e) in segments_at loads given k less
+
+pub path_at : (loads : List (List Segment)) (given : List held.Member) (k : ℕ) → length loads ≡ length given
+    → option_map (λ (r : RuntimeFile). r.path) (slice_get (runtimes_of loads given) k) ≡ option_map (λ (m : held.Member). m.name) (slice_get given k)
+path_at [] [] k e = refl
+path_at [] (one ∷ given) k e = absurd cc
+path_at (s ∷ loads) [] k e = absurd cc
+path_at (s ∷ loads) (one ∷ given) zero e = refl
+path_at (s ∷ loads) (one ∷ given) (suc k) e = let less : length loads ≡ length given = omega (arith, e) in path_at loads given k less

@@ -5,17 +5,21 @@ use Rattle.std.specs.List.{filter_map}
 use Rattle.std.proofs.lemmas.List.{length-map, length-take-le, take-append-drop}
 use Rattle.std.proofs.lemmas.Option.{slice_get-map, slice_get_within}
 use Rattle.omf_format.specs.File.{Segment}
+use Rattle.load_meaning.specs.declared.load.LoadCause.{LoadCause}
+use Rattle.load_meaning.specs.declared.load.LoadCause.TheVariants.{Truncated, BadHeader, Unsupported, BadRecord, NotLoadFile, Sequence, DataTooLong, PatchOutside, NoSuchTarget, DynamicTarget, BadTable, Memory}
 use Rattle.load_meaning.specs.declared.load.LoadFault.{LoadFault}
 use Rattle.load_meaning.specs.Exports.{exports_of}
 use Rattle.load_meaning.specs.Runtime.{IsRuntime, IsFirstRuntimeFault}
+use Rattle.omf_cells.specs.Load.{UnlessMemory, IsRuntimeRefused}
 use Rattle.lib_dict.specs.declared.member.Member.{Member}
+use Rattle.link_meaning.specs.declared.fault.LinkCause.{LinkCause}
 use Rattle.link_meaning.specs.declared.fault.LinkFault.{LinkFault}
 use Rattle.link_meaning.specs.Member.{RuntimeFile}
 use Rattle.link_meaning.specs.Search.{Found, outside_of, outside_from}
-use Rattle.link_meaning.specs.LinkFaults.{AreRuntimes, HasRuntimeFault}
+use Rattle.link_meaning.specs.LinkFaults.{runtime_cause, AreRuntimes, HasRuntimeFault}
 use Rattle.link_resolve.specs.declared.outside.Outside.{Outside}
 use Rattle.link_resolve.specs.Outside.{AreOutside}
-use Rattle.link_resolve.specs.Runtimes.{files_of, runtimes_of, IsFileRefused, AreRead, IsFirstFile, IsFirstRefused}
+use Rattle.link_resolve.specs.Runtimes.{files_of, runtimes_of, told_cause, IsFileRefused, AreRead, IsFirstFile, IsFirstRefused}
 use Rattle.link_resolve.proofs.Lists.{drop_at}
 use Rattle.link_resolve.proofs.LibraryLaws.{take_more, take_all}
 
@@ -116,3 +120,32 @@ first_refused given inputs place loads table m fault so at (inr has) =
       are = so.are;
       here = subst (λ (n : ℕ). HasRuntimeFault (inputs + n + 1) m.bytes.items fault) (sym size) has;
     })
+
+-- ---- faults
+
+same : (a b : LinkCause) → Some a ≡ Some b → b ≡ a
+same a b e = cc
+
+known : (c : LoadCause) (cause : LinkCause) (fault : LoadFault) (P : Type 0) → told_cause c ≡ Some cause → UnlessMemory c fault P → P × (cause ≡ runtime_cause c)
+known Truncated cause fault P e is = (is, same (runtime_cause Truncated) cause e)
+known BadHeader cause fault P e is = (is, same (runtime_cause BadHeader) cause e)
+known Unsupported cause fault P e is = (is, same (runtime_cause Unsupported) cause e)
+known BadRecord cause fault P e is = (is, same (runtime_cause BadRecord) cause e)
+known NotLoadFile cause fault P e is = (is, same (runtime_cause NotLoadFile) cause e)
+known Sequence cause fault P e is = (is, same (runtime_cause Sequence) cause e)
+known DataTooLong cause fault P e is = (is, same (runtime_cause DataTooLong) cause e)
+known PatchOutside cause fault P e is = (is, same (runtime_cause PatchOutside) cause e)
+known NoSuchTarget cause fault P e is = (is, same (runtime_cause NoSuchTarget) cause e)
+known DynamicTarget cause fault P e is = (is, same (runtime_cause DynamicTarget) cause e)
+known BadTable cause fault P e is = (is, same (runtime_cause BadTable) cause e)
+known Memory cause fault P e is = absurd cc
+
+-- the fault of a file as one of the file with this number
+pub file_refused : (fault : LoadFault) (file : ℕ) (bytes : List ℕ) (cause : LinkCause) (its : LinkFault) → told_cause fault.cause ≡ Some cause
+    → its ≡ record { cause = cause; name = None; spot = record { file = file; segment = fault.segment; at = fault.at } } → IsRuntimeRefused fault bytes → IsFileRefused file bytes its
+file_refused fault file bytes cause its is told refused =
+    let both = known fault.cause cause fault (IsFirstRuntimeFault bytes fault) is refused in
+    inr (record { found = fault; first = both.0; told = told ∙ ap at both.1 })
+  where
+    at : LinkCause → LinkFault
+    at c = record { cause = c; name = None; spot = record { file = file; segment = fault.segment; at = fault.at } }

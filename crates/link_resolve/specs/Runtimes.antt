@@ -1,11 +1,14 @@
 -- Reading run-time library files.
-use Rattle.std.specs.Prelude.{◌≡◌, ◌⊎◌, ◌+◌, ◌++◌, ℕ, List, [], ◌∷◌, length, map}
+use Rattle.std.specs.Prelude.{◌≡◌, ◌⊎◌, ◌+◌, ◌++◌, ℕ, List, [], ◌∷◌, length, map, Option, Some, None}
 use Rattle.omf_format.specs.File.{Segment}
 use Rattle.lib_dict.specs.declared.member.Member.{Member}
+use Rattle.load_meaning.specs.declared.load.LoadCause.{LoadCause}
+use Rattle.load_meaning.specs.declared.load.LoadCause.TheVariants.{Memory}
+use Rattle.link_meaning.specs.declared.fault.LinkCause.{LinkCause}
 use Rattle.link_meaning.specs.declared.fault.LinkFault.{LinkFault}
 use Rattle.link_meaning.specs.Member.{RuntimeFile}
 use Rattle.link_meaning.specs.Search.{outside_from}
-use Rattle.link_meaning.specs.LinkFaults.{HasRuntimeFault, AreRuntimes}
+use Rattle.link_meaning.specs.LinkFaults.{runtime_cause, HasRuntimeFault, AreRuntimes}
 use Rattle.link_resolve.specs.declared.outside.Outside.{Outside}
 use Rattle.link_resolve.specs.Reading.{memory_fault}
 use Rattle.link_resolve.specs.Outside.{AreOutside}
@@ -18,6 +21,11 @@ files_of given = map (λ m. (m.name, m.bytes.items)) given
 abbrev pub runtimes_of : List (List Segment) → List Member → List RuntimeFile
 runtimes_of (segments ∷ loads) (one ∷ given) = record { path = one.name; segments = segments } ∷ runtimes_of loads given
 runtimes_of _ _ = []
+
+-- how a run-time library file's cause is told, unless memory ran out
+abbrev pub told_cause : LoadCause → Option LinkCause
+told_cause Memory = None
+told_cause cause = Some (runtime_cause cause)
 
 -- the file with this number has this fault, unless memory ran out
 abbrev pub IsFileRefused : ℕ → List ℕ → LinkFault → Type 0

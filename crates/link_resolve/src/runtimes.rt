@@ -3,8 +3,7 @@
 ghost use Rattle.std.specs.Prelude.{◌≡◌, ◌+◌, ◌<◌, ◌^◌, List, ℕ, None, length, IfOk, IfErr};
 ghost use Rattle.std.specs.List.{AllByRecursion};
 ghost use Rattle.omf_cells.specs.Load.{IsRuntimeRefused};
-ghost use Rattle.link_meaning.specs.LinkFaults.{runtime_cause};
-ghost use Rattle.link_resolve.specs.Runtimes.{files_of, IsFileRefused, AreRead, IsFirstRefused};
+ghost use Rattle.link_resolve.specs.Runtimes.{files_of, told_cause, IsFileRefused, AreRead, IsFirstRefused};
 
 use crate::input::{fault_in, memory_fault};
 use crate::outside::Outside;
@@ -21,23 +20,23 @@ pub struct Runtimes<'a> {
     pub outside: Outside<'a>,
 }
 
-/// How a run-time library file's cause is told.
-fn runtime_cause(cause: LoadCause) -> LinkCause
-    ensures { result ≡ runtime_cause cause }
+/// How a run-time library file's cause is told; None where memory ran out.
+fn told_cause(cause: LoadCause) -> Option<LinkCause>
+    ensures { result ≡ told_cause cause }
 {
     match cause {
-        LoadCause::Truncated => LinkCause::Truncated,
-        LoadCause::BadHeader => LinkCause::BadHeader,
-        LoadCause::Unsupported => LinkCause::Unsupported,
-        LoadCause::BadRecord => LinkCause::BadRecord,
+        LoadCause::Truncated => Some(LinkCause::Truncated),
+        LoadCause::BadHeader => Some(LinkCause::BadHeader),
+        LoadCause::Unsupported => Some(LinkCause::Unsupported),
+        LoadCause::BadRecord => Some(LinkCause::BadRecord),
         LoadCause::NotLoadFile
         | LoadCause::Sequence
         | LoadCause::DataTooLong
         | LoadCause::PatchOutside
         | LoadCause::NoSuchTarget
         | LoadCause::DynamicTarget
-        | LoadCause::BadTable => LinkCause::BadRuntime,
-        LoadCause::Memory => LinkCause::Memory,
+        | LoadCause::BadTable => Some(LinkCause::BadRuntime),
+        LoadCause::Memory => None,
     }
 }
 
@@ -45,10 +44,10 @@ fn runtime_cause(cause: LoadCause) -> LinkCause
 fn file_fault(fault: LoadFault, file: u32) -> LinkFault
     ensures { (bytes : List ℕ) → IsRuntimeRefused fault bytes → IsFileRefused file bytes result }
 {
-    if fault.cause == LoadCause::Memory {
-        return memory_fault();
+    match told_cause(fault.cause) {
+        Some(cause) => fault_in(file, fault.segment, fault.at, cause),
+        None => memory_fault(),
     }
-    fault_in(file, fault.segment, fault.at, runtime_cause(fault.cause))
 }
 
 /// Reads the run-time library files, which are numbered behind so many inputs; in values the first is 2.
