@@ -1,14 +1,17 @@
 -- Tables of the names that run-time library files export, and numbers of all that a name can find.
-use Rattle.std.proofs.Common.{◌≡◌, ℕ, zero, suc, ◌+◌, ◌<◌, ◌≤◌, Bool, List, [], ◌∷◌, ◌++◌, length, map, Option, Some, None, refl, sym, ap, subst, ◌∙◌, append_assoc, append-nil, arith}
+use Rattle.std.proofs.Common.{◌≡◌, ℕ, zero, suc, ◌+◌, ◌<◌, ◌≤◌, Bool, List, [], ◌∷◌, ◌++◌, length, map, take, Option, Some, None, refl, sym, ap, subst, ◌∙◌, append_assoc, append-nil, arith}
 use Rattle.std.specs.Prelude.{filter, ◌&&◌, if◌then◌else◌, slice_get, option_map}
-use Rattle.std.specs.List.{AllByRecursion, filter_map}
+use Rattle.std.specs.List.{AllByRecursion, filter_map, cons_option}
 use Rattle.std.specs.Str.{bytes_eq}
 use Rattle.std.proofs.lemmas.List.{map-append, length-map}
+use Rattle.std.proofs.lemmas.List.Elements.{filter_map-append}
 use Rattle.std.proofs.lemmas.Option.{slice_get-map, slice_get_within}
 use Rattle.link_meaning.specs.declared.search.Step.TheVariants.{Everyone}
-use Rattle.link_meaning.specs.Member.{Member, setting_in}
-use Rattle.link_meaning.specs.Defines.{Scope}
-use Rattle.link_meaning.specs.Search.{Found, step_for, step_of, is_step, named, or_else, entries, outside, finds_inside, finds}
+use Rattle.omf_format.specs.File.{Segment}
+use Rattle.load_meaning.specs.Exports.{Export, exports_of}
+use Rattle.link_meaning.specs.Member.{RuntimeFile, Member, alone, setting_in}
+use Rattle.link_meaning.specs.Defines.{Scope, ForAll}
+use Rattle.link_meaning.specs.Search.{Found, step_for, step_of, is_step, named, or_else, entries, outside_of, outside, finds_inside, finds}
 use Rattle.link_resolve.specs.declared.names.Outcome.{Outcome}
 use Rattle.link_resolve.specs.declared.names.Outcome.TheVariants.{Nothing, One, Several}
 use Rattle.link_resolve.specs.declared.outside.Far.{Far}
@@ -17,6 +20,7 @@ use Rattle.link_resolve.specs.Names.{Named, Row, Indexes, outcome}
 use Rattle.link_resolve.specs.Definitions.{key_of_found, is_found, numbered, Seen, Sees}
 use Rattle.link_resolve.specs.Outside.{all_found, far_of, IsFar, AreOutside, IsBelow, moved}
 use Rattle.link_resolve.proofs.DefinitionLaws.{seen_under, numbered-snoc}
+use Rattle.link_resolve.proofs.LibraryLaws.{take_more}
 
 abbrev all_key : List ℕ → Named
 all_key name = record { step = Everyone; name = name }
@@ -122,3 +126,42 @@ found_outside list place m name n inside answer seen none size far = by_found (f
     by_found [] s = sees_behind (entries list) (outside (setting_in list)) (named name (outside (setting_in list))) n answer size far
     by_found (f ∷ []) s = let clash : One s.0 ≡ Nothing = sym s.1 ∙ none in absurd cc
     by_found (f ∷ g ∷ more) s = let clash : Several s.0 ≡ Nothing = sym s.1 ∙ none in absurd cc
+
+-- ---- the names of a file
+
+-- an ENTRY name as something that is found
+abbrev pub found_of : ℕ → Export → Segment → Found
+found_of file e s = record {
+  place = 0;
+  member = record { file = file; number = e.segment; from = 0; segment = s; setting = alone };
+  definition = record { name = e.name; scope = ForAll; place = e.offset; at = s.start; expr = None; size = 0; form = 0x4E };
+}
+
+is_far : (file : ℕ) (e : Export) (s : Segment) → IsFar (found_of file e s)
+is_far file e s = record { place = refl; scope = refl; expr = refl; size = refl; form = refl }
+
+-- a name whose segment is there
+pub added_export : (fs : List Found) (file : ℕ) (r : RuntimeFile) (e : Export) (found : Option Segment) (s : Segment) (old new : Outside) (name : List ℕ) (place : Far) → AreOutside fs old
+    → outside_of file r e ≡ option_map (found_of file e) found → found ≡ Some s → e.name ≡ name → record { file = file; segment = e.segment; offset = e.offset } ≡ place
+    → ((fs : List Found) (f : Found) → AreOutside fs old → IsFar f → f.definition.name ≡ name → far_of f ≡ place → AreOutside (fs ++ f ∷ []) new) → AreOutside (fs ++ filter_map (outside_of file r) (e ∷ [])) new
+added_export fs file r e found s old new name place are is there named placed adds =
+    let one : filter_map (outside_of file r) (e ∷ []) ≡ found_of file e s ∷ [] =
+    ap (λ (o : Option Found). cons_option o []) (is ∙ ap (option_map (found_of file e)) there) in
+    subst (λ (l : List Found). AreOutside (fs ++ l) new) (sym one) (adds fs (found_of file e s) are (is_far file e s) named placed)
+
+-- a name whose segment isn't there adds nothing
+pub no_export : (fs : List Found) (file : ℕ) (r : RuntimeFile) (e : Export) (found : Option Segment) (table : Outside) → AreOutside fs table → outside_of file r e ≡ option_map (found_of file e) found → found ≡ None
+    → AreOutside (fs ++ filter_map (outside_of file r) (e ∷ [])) table
+no_export fs file r e found table are is none =
+    let nothing : filter_map (outside_of file r) (e ∷ []) ≡ [] = ap (λ (o : Option Found). cons_option o []) (is ∙ ap (option_map (found_of file e)) none) in
+    subst (λ (l : List Found). AreOutside l table) (sym (append-nil fs) ∙ ap (λ (l : List Found). fs ++ l) (sym nothing)) are
+
+-- one name more of a file
+pub added_more : (fs : List Found) (file : ℕ) (r : RuntimeFile) (k : ℕ) (e : Export) (old new : Outside) → slice_get (exports_of r.segments) k ≡ Some e → AreOutside (fs ++ filter_map (outside_of file r) (take k (exports_of r.segments))) old
+    → ((fs : List Found) → AreOutside fs old → AreOutside (fs ++ filter_map (outside_of file r) (e ∷ [])) new) → AreOutside (fs ++ filter_map (outside_of file r) (take (k + 1) (exports_of r.segments))) new
+added_more fs file r k e old new at are adds =
+    let es = exports_of r.segments in
+    let front = filter_map (outside_of file r) (take k es) in
+    let one = filter_map (outside_of file r) (e ∷ []) in
+    let all : filter_map (outside_of file r) (take (k + 1) es) ≡ front ++ one = ap (filter_map (outside_of file r)) (take_more es k e at) ∙ filter_map-append (outside_of file r) (take k es) (e ∷ []) in
+    subst (λ (l : List Found). AreOutside l new) (append_assoc fs front one ∙ ap (λ (l : List Found). fs ++ l) (sym all)) (adds (fs ++ front) are)

@@ -88,7 +88,7 @@ impl<'a> Outside<'a> {
         file: u16,
     ) -> Result<(), AllocError>
         ensures { OnOk result ((fs : List Found) (r : RuntimeFile) → r.segments ≡ load.now → AreOutside fs self.old
-            → AreOutside (fs ++ filter_map (outside_of file r) (seen_export export ∷ [])) self.new) }
+            → AreOutside (fs ++ filter_map (outside_of file r) (seen_export export.entry ∷ [])) self.new) }
     {
         match load.header(u32::from(export.segment)) {
             Some(_) => self.push(

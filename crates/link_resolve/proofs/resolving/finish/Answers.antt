@@ -32,8 +32,8 @@ of-requires c =
     } in
     (c.requires.2.grown.list, is_kept c.requires.0 grown kept layout c.requires.2 c.requires.1 out refl refl refl c.in-Ok-headers.ensures refl refl refl refl)
 
-pub returns-in-Ok-headers-clause-resolved : goal.returns-in-Ok-headers-clause-resolved
-returns-in-Ok-headers-clause-resolved c = λ given bytes of.
+pub returns-clause-resolved : goal.returns-clause-resolved
+returns-clause-resolved c = λ given bytes of.
     let grown = c.args.grown in
     let layout = c.in-Ok.layout in
     let out = c.in-Ok.ensures.laid given of in
@@ -49,5 +49,5 @@ returns-in-Ok-headers-clause-resolved c = λ given bytes of.
     } in
     subst (IsResolved given) (sym (c.of.ensures of.grown.list (is_kept given grown kept layout of bytes out refl refl refl c.in-Ok-headers.ensures refl refl refl refl))) out.resolved
 
-pub returns-clause-refused : goal.returns-clause-refused
-returns-clause-refused c = λ given of. inl c.memory_fault.ensures
+pub returns-in-Err-headers-clause-refused : goal.returns-in-Err-headers-clause-refused
+returns-in-Err-headers-clause-refused c = λ given of. inl c.memory_fault.ensures

@@ -9,7 +9,7 @@ use Rattle.link_resolve.proofs.outside.Outside.push.Goals as goal
 pub returns : goal.returns
 returns c = λ fs f are far name place.
     let new : Outside = record { names = c.add.new.self; places = c.push.new.self } in
-    let size : c.len-number.result ≡ length c.args.self.now.places.items = c.len-number.ensures ∙ ap (λ (l : List Far). length l) c.as_slice.ensures.value in
+    let size : length c.as_slice-number.result.now ≡ length c.args.self.now.places.items = ap (λ (l : List Far). length l) c.as_slice-number.ensures.value in
     pushed_far fs f c.args.self.now new c.args.name.now c.args.place are far name place
     (λ rows is. subst (λ (n : ℕ). Indexes (rows ++ (record { step = Everyone; name = c.args.name.now }, n) ∷ []) c.add.new.self) size (c.in_ok-add.ensures rows is))
     c.in_ok-push.ensures.items
