@@ -83,7 +83,7 @@ read_more given place loads old new m segments so at is adds =
     let more = runtimes_more loads given segments m there in
     let files = take_more (files_of given) place (m.name, m.bytes.items) (file_at given place m at) in
     let within = slice_get_within given place m at in
-    let size : length runtimes ≡ place = runtimes_count (take place (files_of given)) runtimes so.are ∙ length-take-le place (files_of given) (omega (arith, within, length-map given (λ (x : Member). (x.name, x.bytes.items)))) in
+    let size : length runtimes ≡ place = runtimes_count (take place (files_of given)) runtimes so.are ∙ length-take-le place (files_of given) (omega (arith, within, length-map {B = List ℕ × List ℕ} given (λ (x : Member). (x.name, x.bytes.items)))) in
     let number : place + 2 ≡ 2 + length runtimes = omega (arith, size) in
     record {
       within = omega (arith, within);
@@ -98,7 +98,7 @@ read_more given place loads old new m segments so at is adds =
 pub read_all : (given : List Member) (place : ℕ) (loads : List (List Segment)) (table : Outside) → ReadSoFar given place loads table → length given ≤ place → AreRead given loads table
 read_all given place loads table so past = record {
   count = omega (arith, so.count, so.within, past);
-  are = subst (λ (l : List (List ℕ × List ℕ)). AreRuntimes l (runtimes_of loads given)) (take_all (files_of given) place (omega (arith, past, length-map given (λ (x : Member). (x.name, x.bytes.items))))) so.are;
+  are = subst (λ (l : List (List ℕ × List ℕ)). AreRuntimes l (runtimes_of loads given)) (take_all (files_of given) place (omega (arith, past, length-map {B = List ℕ × List ℕ} given (λ (x : Member). (x.name, x.bytes.items))))) so.are;
   table' = so.table';
 }
 

@@ -9,5 +9,6 @@ overflow_cast-result c = omega (arith, c.len.ensures, c.self.invariant.read, c.s
 pub returns : goal.returns
 returns c =
     let kept = c.self.inside.kept in
+    let size : c.len.result ≡ length kept.runtimes.items = omega (arith, c.len.ensures) in
     subst (λ (l : List Member). c.len.result ≡ length (setting_in l).runtimes) c.self.view_is
-    (c.len.ensures ∙ sym (runtimes_count kept.runtimes.items kept.given.now c.self.invariant.read) ∙ ap (λ (s : Setting). length s.runtimes) c.self.invariant.setting)
+    (size ∙ sym (runtimes_count kept.runtimes.items kept.given.now c.self.invariant.read) ∙ ap (λ (s : Setting). length s.runtimes) c.self.invariant.setting)
