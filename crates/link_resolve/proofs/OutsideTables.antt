@@ -1,13 +1,13 @@
 -- Tables of the names that run-time library files export, and numbers of all that a name can find.
-use Rattle.std.proofs.Common.{◌≡◌, ℕ, zero, suc, ◌+◌, ◌<◌, ◌≤◌, Bool, List, [], ◌∷◌, ◌++◌, length, map, take, Option, Some, None, refl, sym, ap, subst, ◌∙◌, append_assoc, append-nil, arith}
-use Rattle.std.specs.Prelude.{filter, ◌&&◌, if◌then◌else◌, slice_get, option_map}
+use Rattle.std.proofs.Common.{◌≡◌, ◌⊎◌, inl, inr, ℕ, zero, suc, ◌+◌, ◌<◌, ◌≤◌, Bool, List, [], ◌∷◌, ◌++◌, length, map, take, Option, Some, None, refl, sym, ap, subst, ◌∙◌, append_assoc, append-nil, arith}
+use Rattle.std.specs.Prelude.{filter, ◌&&◌, if◌then◌else◌, slice_get, option_map, IsSomeAnd}
 use Rattle.std.specs.List.{AllByRecursion, filter_map, cons_option}
 use Rattle.std.specs.Str.{bytes_eq}
 use Rattle.std.proofs.lemmas.List.{map-append, length-map}
 use Rattle.std.proofs.lemmas.List.Elements.{filter_map-append}
-use Rattle.std.proofs.lemmas.Option.{slice_get-map, slice_get_within}
+use Rattle.std.proofs.lemmas.Option.{slice_get-map, slice_get_within, slice_get_past}
 use Rattle.link_meaning.specs.declared.search.Step.TheVariants.{Everyone}
-use Rattle.omf_format.specs.File.{Segment}
+use Rattle.omf_format.specs.File.{Segment, segment_at}
 use Rattle.load_meaning.specs.Exports.{Export, exports_of}
 use Rattle.link_meaning.specs.Member.{RuntimeFile, Member, alone, setting_in}
 use Rattle.link_meaning.specs.Defines.{Scope, ForAll}
@@ -148,6 +148,15 @@ added_export fs file r e found s old new name place are is there named placed ad
     let one : filter_map (outside_of file r) (e ∷ []) ≡ found_of file e s ∷ [] =
     ap (λ (o : Option Found). cons_option o []) (is ∙ ap (option_map (found_of file e)) there) in
     subst (λ (l : List Found). AreOutside (fs ++ l) new) (sym one) (adds fs (found_of file e s) are (is_far file e s) named placed)
+
+pub segment_there : (P : Segment → Type 0) (o : Option Segment) → IsSomeAnd o P → (s : Segment) × (o ≡ Some s)
+segment_there P None is = absurd is
+segment_there P (Some s) is = (s, refl)
+
+pub no_segment : (segments : List Segment) (number : ℕ) → (number ≡ 0) ⊎ (length segments < number) → segment_at segments number ≡ None
+no_segment segments zero is = refl
+no_segment segments (suc k) (inl e) = absurd cc
+no_segment segments (suc k) (inr less) = slice_get_past segments k (omega (arith, less))
 
 -- a name whose segment isn't there adds nothing
 pub no_export : (fs : List Found) (file : ℕ) (r : RuntimeFile) (e : Export) (found : Option Segment) (table : Outside) → AreOutside fs table → outside_of file r e ≡ option_map (found_of file e) found → found ≡ None

@@ -107,6 +107,9 @@ all_sound given inputs setting list with' are some is none sound = record {
 
 -- ---- uses
 
+abbrev some : {A : Type 0} → A → Option A
+some x = Some x
+
 pub middle_at : {A : Type 0} → (xs : List A) (y : A) (ys : List A) → slice_get (xs ++ y ∷ ys) (length xs) ≡ Some y
 middle_at [] y ys = refl
 middle_at (x ∷ xs) y ys = middle_at xs y ys

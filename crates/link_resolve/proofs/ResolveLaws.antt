@@ -244,7 +244,7 @@ is_kept given grown kept layout of bytes out files linked places headers form me
     let read : length kept.runtimes.items ≡ length kept.given.now =
     ap (λ (l : List (List Segment)). length l) loads ∙ of.runtimes'.count ∙ ap (λ (l : List held.Member). length l) (sym members) in
     let few : length kept.given.now < 2 ^ 32 =
-    omega (arith, few_files given.form given.runtimes bytes.2.2.2, ap (λ (l : List (List ℕ × List ℕ)). length l) of.files, length-map {B = List ℕ × List ℕ} grown.given.now (λ (m : held.Member). (m.name, m.bytes.items)), ap (λ (l : List held.Member). length l) members) in
+    omega (arith, few_files given.form given.runtimes bytes.3, ap (λ (l : List (List ℕ × List ℕ)). length l) of.files, length-map {B = List ℕ × List ℕ} grown.given.now (λ (m : held.Member). (m.name, m.bytes.items)), ap (λ (l : List held.Member). length l) members) in
     kept_is list kept layout (subst (Holds list) (sym linked) of.grown.holds) (subst (λ (l : List (List Segment)). AllAmong l list) (sym files) of.grown.among) (omega (arith, of.grown.few)) out.laid out.short
     (omega (arith, out.few, loads_are list layout out.laid)) places (all_headers list layout (map fields kept.headers.items) out.laid out.short headers) setting
     (subst (IsOutsideOf list) (sym table) (list_outside given grown of)) read few (record { given = given; bytes = bytes; resolved = out.resolved })

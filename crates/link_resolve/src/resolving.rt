@@ -174,8 +174,7 @@ fn grow_whole<'a>(alloc: Global, read: Read<'a>) -> Result<Grown<'a>, AllocError
 
 /// The first use that doesn't resolve, as a fault; Ok where each does.
 fn check_names(alloc: Global, linked: &Linked, outside: &Outside) -> Result<(), LinkFault>
-    requires held { IsHeld linked.now }
-    requires table { IsTable outside.now }
+    requires { (list : List meaning.Member) × Holds list linked.now × IsOutsideOf list outside.now }
     ensures fine { OnOk result ((list : List meaning.Member) → Holds list linked.now → IsOutsideOf list outside.now → HasNone (HasUseFault list) (asked list)) }
     ensures refused { IfErr result (λ fault. (list : List meaning.Member) → Holds list linked.now → IsOutsideOf list outside.now → IsUseFault list fault) }
 {

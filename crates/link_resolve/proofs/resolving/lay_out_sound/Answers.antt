@@ -1,14 +1,11 @@
 use Rattle.std.proofs.Common.{inl, refl, sym, ap, ◌∙◌, arith}
 use Rattle.link_meaning.specs.Member.{Setting, form_in}
 use Rattle.link_resolve.proofs.LinkedLaws.{count_is}
-use Rattle.link_resolve.proofs.ResolveLaws.{list_held, list_table, list_outside, list_setting, refused_use, refused_layout, laid_out}
+use Rattle.link_resolve.proofs.ResolveLaws.{list_outside, list_setting, refused_use, refused_layout, laid_out}
 use Rattle.link_resolve.proofs.resolving.lay_out_sound.Goals as goal
 
-pub check_names-requires-clause-held : goal.check_names-requires-clause-held
-check_names-requires-clause-held c = list_held c.requires.0 c.args.grown.now c.requires.1
-
-pub check_names-requires-clause-table : goal.check_names-requires-clause-table
-check_names-requires-clause-table c = list_table c.requires.0 c.args.grown.now c.requires.1
+pub check_names-requires : goal.check_names-requires
+check_names-requires c = let grown = c.requires.1.grown in (grown.list, grown.holds, list_outside c.requires.0 c.args.grown.now c.requires.1)
 
 pub returns-in-Err-clause-refused : goal.returns-in-Err-clause-refused
 returns-in-Err-clause-refused c = λ given of.
@@ -19,3 +16,18 @@ lay_out-requires-clause-few c = let grown = c.requires.1.grown in omega (arith, 
 
 pub returns-in-Err-lay_out-clause-refused : goal.returns-in-Err-lay_out-clause-refused
 returns-in-Err-lay_out-clause-refused c = λ given of. inl c.memory_fault.ensures
+
+pub returns-in-Some-clause-refused : goal.returns-in-Some-clause-refused
+returns-in-Some-clause-refused c = λ given of.
+    let kept = c.args.grown.now in
+    let g = of.grown in
+    let laid = c.in-Ok-lay_out.ensures g.list g.holds g.among in
+    refused_layout given kept c.in-Some.fault of (c.in-Ok.ensures.fine g.list g.holds (list_outside given kept of)) (c.in-Some.ensures.told g.list (ap (λ (s : Setting). s.form) (list_setting given kept of)) laid)
+
+pub returns-clause-laid : goal.returns-clause-laid
+returns-clause-laid c = λ given of.
+    let kept = c.args.grown.now in
+    let g = of.grown in
+    let laid = c.in-Ok-lay_out.ensures g.list g.holds g.among in
+    laid_out given kept c.in-Ok-lay_out.layout of (c.in-Ok.ensures.fine g.list g.holds (list_outside given kept of)) (c.in-None.ensures.told g.list (ap (λ (s : Setting). s.form) (list_setting given kept of)) laid) laid
+    (c.in-None.ensures.fine refl)
