@@ -1,4 +1,6 @@
-use Rattle.std.proofs.Common.{inr, refl, ◌∙◌, arith}
+use Rattle.std.proofs.Common.{inr, refl, length, ap, ◌∙◌, arith}
+use Rattle.std.proofs.lemmas.List.{length-map}
+use Rattle.link_resolve.specs.Uses.{told_use}
 use Rattle.std.proofs.lemmas.Option.{slice_get_within}
 use Rattle.link_meaning.specs.Member.{setting_in}
 use Rattle.link_meaning.specs.Search.{outside}
@@ -20,7 +22,7 @@ used-at-requires-clause-within c =
     let list = c.requires.0 in
     let first = c.in-Some.ensures list c.requires.1 c.requires.2 in
     let within = slice_get_within (asked list) c.in-Some.found.1 first.use' (use_at list c.in-Some.found.0 c.in-Some.found.1 first) in
-    ?
+    omega (arith, within, ap length c.requires.1.uses, length-map (asked list) told_use)
 
 pub returns-clause-refused : goal.returns-clause-refused
 returns-clause-refused c = λ list holds far.

@@ -1,4 +1,6 @@
-use Rattle.std.proofs.Common.{inl, refl, sym, ap, ◌∙◌, arith}
+use Rattle.std.proofs.Common.{inl, refl, List, sym, ap, subst, ◌∙◌, arith}
+use Rattle.omf_format.specs.File.{Segment}
+use Rattle.link_resolve.specs.Gathered.{AllAmong}
 use Rattle.link_meaning.specs.Member.{Setting, form_in}
 use Rattle.link_resolve.proofs.LinkedLaws.{count_is}
 use Rattle.link_resolve.proofs.ResolveLaws.{list_outside, list_setting, refused_use, refused_layout, laid_out}
@@ -21,13 +23,15 @@ pub returns-in-Some-clause-refused : goal.returns-in-Some-clause-refused
 returns-in-Some-clause-refused c = λ given of.
     let kept = c.args.grown.now in
     let g = of.grown in
-    let laid = c.in-Ok-lay_out.ensures g.list g.holds g.among in
+    let among = subst (λ (l : List (List Segment)). AllAmong l g.list) (sym c.as_slice.ensures.value) g.among in
+    let laid = c.in-Ok-lay_out.ensures g.list g.holds among in
     refused_layout given kept c.in-Some.fault of (c.in-Ok.ensures.fine g.list g.holds (list_outside given kept of)) (c.in-Some.ensures.told g.list (ap (λ (s : Setting). s.form) (list_setting given kept of)) laid)
 
 pub returns-clause-laid : goal.returns-clause-laid
 returns-clause-laid c = λ given of.
     let kept = c.args.grown.now in
     let g = of.grown in
-    let laid = c.in-Ok-lay_out.ensures g.list g.holds g.among in
+    let among = subst (λ (l : List (List Segment)). AllAmong l g.list) (sym c.as_slice.ensures.value) g.among in
+    let laid = c.in-Ok-lay_out.ensures g.list g.holds among in
     laid_out given kept c.in-Ok-lay_out.layout of (c.in-Ok.ensures.fine g.list g.holds (list_outside given kept of)) (c.in-None.ensures.told g.list (ap (λ (s : Setting). s.form) (list_setting given kept of)) laid) laid
     (c.in-None.ensures.fine refl)
