@@ -1,0 +1,6 @@
+pub mod Listed
+pub mod Listing
+pub mod Flat
+pub mod Given
+pub mod ListingLaws
+pub mod laws
