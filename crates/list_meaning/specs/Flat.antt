@@ -111,3 +111,9 @@ pub record AreAlike (a b : Segment) : Type 0 where
   pub defined : definitions a ≡ definitions b
   pub using' : usings a ≡ usings b
   pub strong : strongs a ≡ strongs b
+
+-- the same for the segments of two files, one after another
+abbrev pub AreAllAlike : List Segment → List Segment → Type 0
+AreAllAlike [] [] = Unit {0}
+AreAllAlike (a ∷ more) (b ∷ others) = AreAlike a b × AreAllAlike more others
+AreAllAlike _ _ = ⊥

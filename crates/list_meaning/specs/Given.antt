@@ -1,5 +1,5 @@
 -- What a line of a listing stands for: the records that it gives to its segment, the name that it defines, and what it leaves.
-use Rattle.std.specs.Prelude.{◌≡◌, ℕ, Bool, true, false, List, [], ◌∷◌, ◌++◌, Option, Some, None}
+use Rattle.std.specs.Prelude.{◌≡◌, ℕ, ◌-◌, Bool, true, false, List, [], ◌∷◌, ◌++◌, length, replicate, Option, Some, None, if◌then◌else◌}
 use Rattle.byteorder.specs.Endian.{little_bytes}
 use Rattle.omf_format.specs.Expression as expression
 use Rattle.omf_format.specs.Expression.{Tree, Leaf, Binary}
@@ -13,7 +13,8 @@ use Rattle.asm_meaning.specs.declared.directives.Switch.{Switch}
 use Rattle.asm_meaning.specs.declared.directives.Switch.TheVariants.{LongA, LongI, Msb}
 use Rattle.asm_meaning.specs.Formulas.{expression_text}
 use Rattle.asm_meaning.specs.Instruction.{Widths, kind_of, operand_bytes, operand_record, opcode_in}
-use Rattle.asm_meaning.specs.State.{State, Segment, Names}
+use Rattle.asm_meaning.specs.Pieces.{place_behind}
+use Rattle.asm_meaning.specs.State.{State, Segment, Names, no_names}
 use Rattle.list_meaning.specs.Listed.{Said, NextAlign, NextOrg, Begins, Kinds, Turns, Spaces, Aligns, Moves, Uses, Asks, Labels, Equates, Instructs, Bytes, Weakly, Sums, Ends, Wanted, None', Number, Banks, Label, Moved}
 
 -- ---- records
@@ -104,3 +105,34 @@ pub record Leaves (said : Said) (state : State) (s : Segment) (next : State) : T
   pub align : next.align ≡ state.align
   pub front : next.front ≡ state.front
   pub ended : next.ended ≡ state.ended
+
+-- ---- what any line leaves
+
+-- START or DATA opens a segment with this name and this LOADNAME, and with the ORG and the ALIGN that wait for it
+pub record Opens (crosses : Bool) (name load_name : List ℕ) (state next : State) : Type 0 where
+  pub after : Segment
+  pub was : state.segment ≡ None
+  pub here : next.segment ≡ Some after
+  pub name_is : after.header.name ≡ name
+  pub load_name_is : after.header.load_name ≡ load_name ++ replicate (10 - length load_name) 0x20
+  pub bank_size : after.header.bank_size ≡ (if crosses then 0 else 0x10000)
+  pub org : after.header.org ≡ state.org
+  pub align : after.header.align ≡ state.align
+  pub names : after.names ≡ with_name name None no_names
+  pub body : after.body ≡ []
+  pub ended : next.ended ≡ state.ended
+
+-- END ends it, and LENGTH is the number of its cells
+pub record Closes (state next : State) : Type 0 where
+  pub s : Segment
+  pub was : state.segment ≡ Some s
+  pub here : next.segment ≡ None
+  pub ended : next.ended ≡ state.ended ++ record { header = record s.header { length = place_behind 0 (s.body ++ End ∷ []) }; body = s.body ++ End ∷ [] } ∷ []
+
+-- what a line was written for: ALIGN and ORG before START wait for the next segment, and all lines behind it give to the open one
+abbrev pub IsLeft : Said → State → State → Type 0
+IsLeft (NextAlign n) state next = next ≡ record state { align = n }
+IsLeft (NextOrg n) state next = next ≡ record state { org = n }
+IsLeft (Begins crosses name load_name) state next = Opens crosses name load_name state next
+IsLeft Ends state next = Closes state next
+IsLeft said state next = (s : Segment) × (state.segment ≡ Some s) × Leaves said state s next

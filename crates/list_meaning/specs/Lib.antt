@@ -2,5 +2,6 @@ pub mod Listed
 pub mod Listing
 pub mod Flat
 pub mod Given
+pub mod Answer
 pub mod ListingLaws
 pub mod laws

@@ -201,9 +201,13 @@ abbrev pub is_among : List (List ℕ) → List ℕ → Bool
 is_among names name = list_any (bytes_eq name) names
 
 -- the last byte of a run, and those before it
+abbrev pub behind_byte : ℕ → Option (List ℕ × ℕ) → Option (List ℕ × ℕ)
+behind_byte byte None = Some ([], byte)
+behind_byte byte (Some found) = Some (byte ∷ found.0, found.1)
+
 unfoldable pub split_last : List ℕ → Option (List ℕ × ℕ)
 split_last [] = None
-split_last (byte ∷ behind) = elim (split_last behind) [ None ↦ Some ([], byte) | Some found ↦ Some (byte ∷ found.0, found.1) ]
+split_last (byte ∷ behind) = behind_byte byte (split_last behind)
 
 -- the opcode is held back: the run without it, and one instruction
 abbrev pub held_back : Before → List ℕ → ℕ → Wanted → Given

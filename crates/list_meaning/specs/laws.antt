@@ -18,3 +18,10 @@ pub mod NumberLine
 pub mod LineGives
 pub mod Behind
 pub mod RunGives
+pub mod FormulaCan
+pub mod Content
+pub mod RecordLines
+pub mod ReadFacts
+pub mod SegmentLines
+pub mod SaidLines
+pub mod ListingProofs

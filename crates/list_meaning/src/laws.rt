@@ -1,12 +1,11 @@
 //! What holds of listings. This function does nothing: it is there for its contract.
 
-ghost use Rattle.list_meaning.specs.ListingLaws.{PlainSourceExpands, FormulaReadsBack, HeldLine, RunIsWhole};
+ghost use Rattle.list_meaning.specs.ListingLaws.{LineIsRead, ListingIsReadAgain};
 
-/// A listing needs no macros, its formulas are read again as they were, an instruction with a name gives its opcode and its
-/// record, and the lines of constant bytes give these bytes.
+/// Each line of a file's listing, read by the assembler with what the lines before it left, has no fault and leaves what it was
+/// written for. And assembled without macros the whole gives an object whose segments stand for the same, unless that object
+/// would exceed 16,777,216 bytes.
 pub fn listings_are_read_again()
-    ensures expands { PlainSourceExpands }
-    ensures formula { FormulaReadsBack }
-    ensures held { HeldLine }
-    ensures run { RunIsWhole }
+    ensures line { LineIsRead }
+    ensures whole { ListingIsReadAgain }
 {}

@@ -19,7 +19,7 @@ use Rattle.asm_meaning.specs.State.{State, Segment, Ended, Names, greatest_lengt
 use Rattle.asm_meaning.specs.Statement.{IsStep, constants_of, constants_in, value_in}
 use Rattle.list_meaning.specs.Listed.{Said, NextAlign, NextOrg, Begins, Kinds, Turns, Spaces, Aligns, Moves, Uses, Asks, Labels, Equates, Instructs, Bytes, Weakly, Sums, Ends, said_text}
 use Rattle.list_meaning.specs.Listing.{is_among}
-use Rattle.list_meaning.specs.Given.{records_said, name_said, names_said, widths_said, header_said, Leaves}
+use Rattle.list_meaning.specs.Given.{records_said, name_said, names_said, widths_said, header_said, Leaves, IsLeft}
 use Rattle.list_meaning.specs.laws.FormulaLaw.{CanWrite, IsPlainName}
 use Rattle.list_meaning.specs.laws.SumLaw.{AreUnknown, has_open}
 use Rattle.list_meaning.specs.laws.ConstantLines.{IsCount}
@@ -31,7 +31,8 @@ use Rattle.list_meaning.specs.laws.LineGives.{IsInstruction, AreSome, CanStand, 
 -- lines of which the first has this number have no fault, and leave this
 abbrev pub Leads : State → ℕ → List Said → State → Type 0
 Leads state number [] last = state ≡ last
-Leads state number (said ∷ rest) last = (next : State) × IsStep state (line_of 0 number (said_text said)) (Ok next) × Leads next (number + 1) rest last
+Leads state number (said ∷ rest) last =
+    (next : State) × (IsStep state (line_of 0 number (said_text said)) (Ok next) × IsLeft said state next) × Leads next (number + 1) rest last
 
 pub leads_on : (a b c : State) (number : ℕ) (xs ys : List Said) → Leads a number xs b → Leads b (number + length xs) ys c → Leads a number (xs ++ ys) c
 leads_on a b c number [] ys p q =
@@ -44,7 +45,7 @@ leads_on a b c number (x ∷ xs) ys p q =
 pub leads_steps : (a b : State) (number : ℕ) (all : List Said) → Leads a number all b → AreSteps a (numbered 0 number (map said_text all)) b
 unfolding numbered
 leads_steps a b number [] p = p
-leads_steps a b number (said ∷ all) p = (p.0, p.1, leads_steps p.0 b (number + 1) all p.2)
+leads_steps a b number (said ∷ all) p = (p.0, p.1.0, leads_steps p.0 b (number + 1) all p.2)
 
 -- ---- lines and their records
 
@@ -60,10 +61,6 @@ widths_after w (said ∷ rest) = widths_after (widths_said said w) rest
 abbrev pub names_after : List (List ℕ) → List Said → List (List ℕ)
 names_after names [] = names
 names_after names (said ∷ rest) = names_after (name_said said ++ names) rest
-
-abbrev pub header_after : Fields → List Said → Fields
-header_after header [] = header
-header_after header (said ∷ rest) = header_after (header_said said header) rest
 
 pub given-append : (w : Widths) (a b : List Said) → given w (a ++ b) ≡ given w a ++ given (widths_after w a) b
 given-append w [] b = refl
@@ -93,7 +90,7 @@ abbrev pub IsFine : List (List ℕ) → ℕ → List (List ℕ) → Widths → S
 IsFine equates align names w (NextAlign n) = ⊥
 IsFine equates align names w (NextOrg n) = ⊥
 IsFine equates align names w (Begins crosses name load_name) = ⊥
-IsFine equates align names w (Kinds n) = (n ≤ 0xFFFF) × (is_listed (form_of n) ≡ true)
+IsFine equates align names w (Kinds n) = ⊥
 IsFine equates align names w (Turns switch on) = Unit {0}
 IsFine equates align names w (Spaces n) = n < 2 ^ 32
 IsFine equates align names w (Aligns n) = (n < 2 ^ 32) × (is_power_of_two n ≡ true) × (n ≤ alignment_of align)
@@ -143,7 +140,7 @@ can_stand equates align names w state s said holds fine = by said fine
     by (NextAlign n) fine = fine
     by (NextOrg n) fine = fine
     by (Begins crosses name load_name) fine = fine
-    by (Kinds n) fine = fine
+    by (Kinds n) fine = absurd fine
     by (Turns switch on) fine = fine
     by (Spaces n) fine = fine
     by (Aligns n) fine = (fine.0, fine.1, subst (λ (k : ℕ). n ≤ alignment_of k) (sym holds.aligned) fine.2)
@@ -170,7 +167,7 @@ same_bytes a b = by (bytes_eq a b) (bytes_eq b a) refl refl
     by false true e f = sym e ∙ (bytes_eq-Decides a b).1 (sym ((bytes_eq-Decides b a).0 f))
     by false false e f = refl
 
-one_more : (name asked : List ℕ) (value : Option ℕ) (names : Names) (before : List (List ℕ)) → is_some (names asked) ≡ is_among before asked
+pub one_more : (name asked : List ℕ) (value : Option ℕ) (names : Names) (before : List (List ℕ)) → is_some (names asked) ≡ is_among before asked
     → is_some (with_name name value names asked) ≡ is_among (name ∷ before) asked
 one_more name asked value names before same = rw (same_bytes asked name) (by (bytes_eq name asked))
   where
@@ -202,6 +199,10 @@ same_align : (said : Said) (header : Fields) → (header_said said header).align
 same_align (Kinds n) header = refl
 same_align _ header = refl
 
+same_header : (equates : List (List ℕ)) (align : ℕ) (names : List (List ℕ)) (w : Widths) (said : Said) (header : Fields) → IsFine equates align names w said → header_said said header ≡ header
+same_header equates align names w (Kinds n) header fine = absurd fine
+same_header equates align names w _ header fine = refl
+
 holds_on : (equates : List (List ℕ)) (align : ℕ) (names : List (List ℕ)) (w : Widths) (state next : State) (s : Segment) (said : Said) → Holds equates align names w state s → IsFine equates align names w said
     → (leaves : Leaves said state s next) → Holds equates align (name_said said ++ names) (widths_said said w) next leaves.after
 holds_on equates align names w state next s said holds fine leaves = record {
@@ -213,6 +214,14 @@ holds_on equates align names w state next s said holds fine leaves = record {
   widths = leaves.widths ∙ ap (widths_said said) holds.widths;
 }
 
+left_inside : (equates : List (List ℕ)) (align : ℕ) (names : List (List ℕ)) (w : Widths) (said : Said) (state next : State) (s : Segment) → IsFine equates align names w said → state.segment ≡ Some s → Leaves said state s next
+    → IsLeft said state next
+left_inside equates align names w (NextAlign n) state next s fine here leaves = absurd fine
+left_inside equates align names w (NextOrg n) state next s fine here leaves = absurd fine
+left_inside equates align names w (Begins crosses name load_name) state next s fine here leaves = absurd fine
+left_inside equates align names w Ends state next s fine here leaves = absurd fine
+left_inside equates align names w _ state next s fine here leaves = (s, here, leaves)
+
 -- ---- lines one behind another
 
 -- what lines leave
@@ -222,7 +231,7 @@ pub record Ran (w : Widths) (lines : List Said) (state : State) (s : Segment) (n
   pub after : Segment
   pub here : last.segment ≡ Some after
   pub class : after.class ≡ s.class
-  pub header : after.header ≡ header_after s.header lines
+  pub header : after.header ≡ s.header
   pub body : after.body ≡ s.body ++ given w lines
   pub outside : last.outside ≡ state.outside
   pub org : last.org ≡ state.org
@@ -261,11 +270,11 @@ lines_run equates align names w state s number (said ∷ lines) holds fine room 
     let others = lines_run equates align (name_said said ++ names) (widths_said said w) first.next leaves.after (number + 1) lines (holds_on equates align names w state first.next s said holds fine.0 leaves) fine.1 next_room in
     record {
       last = others.last;
-      leads = (first.next, first.step, others.leads);
+      leads = (first.next, (first.step, left_inside equates align names w said state first.next s fine.0 holds.here leaves), others.leads);
       after = others.after;
       here = others.here;
       class = others.class ∙ leaves.class;
-      header = others.header ∙ ap (λ (h : Fields). header_after h lines) leaves.header;
+      header = others.header ∙ leaves.header ∙ same_header equates align names w said s.header fine.0;
       body = others.body ∙ ap (λ (l : List Record). l ++ rest) body ∙ whole;
       outside = others.outside ∙ leaves.outside;
       org = others.org ∙ leaves.org;

@@ -37,7 +37,7 @@ two_of byte (x ∷ y ∷ z ∷ more) = false
 abbrev is_two : ℕ → Bool
 is_two byte = two_of byte (hexadecimal 2 byte)
 
-abbrev up_from : ℕ → ℕ → List ℕ
+abbrev pub up_from : ℕ → ℕ → List ℕ
 up_from at zero = []
 up_from at (suc n) = at ∷ up_from (at + 1) n
 
@@ -45,7 +45,7 @@ all_two : list_all is_two (up_from 0 256) ≡ true
 unfolding digits.hexadecimal fmt.digits
 all_two = refl
 
-within : (p : ℕ → Bool) (at n k : ℕ) → list_all p (up_from at n) ≡ true → k < n → p (at + k) ≡ true
+pub within : (p : ℕ → Bool) (at n k : ℕ) → list_all p (up_from at n) ≡ true → k < n → p (at + k) ≡ true
 within p at zero k holds less = absurd (omega (arith, less))
 within p at (suc n) zero holds less = let same : at ≡ at + 0 = omega arith in subst (λ (x : ℕ). p x ≡ true) same (and_parts (p at) (list_all p (up_from (at + 1) n)) holds).0
 within p at (suc n) (suc k) holds less =

@@ -72,7 +72,7 @@ module _ (p : ℕ → Bool) (named : (byte : ℕ) → is_name_byte byte ≡ true
       behind [] are = tt
       behind (byte ∷ name) are = (named byte are.0, behind name are.1)
 
-  in_digits : (ds : List ℕ) → AllDigits 16 ds → AllByRecursion (λ byte. p byte ≡ false) ds
+  pub in_digits : (ds : List ℕ) → AllDigits 16 ds → AllByRecursion (λ byte. p byte ≡ false) ds
   in_digits [] are = tt
   in_digits (d ∷ ds) are = (digit d are.0, in_digits ds are.1)
 

@@ -60,7 +60,7 @@ not_start byte k is none = by (eqb byte k) refl
     by true e = let clash : true ≡ false = sym is ∙ ap is_name_start (eqb-true byte k e) ∙ none in absurd cc
     by false e = e
 
-front_is : (name : List ℕ) → IsPlainName name → IsLabelFront name
+pub front_is : (name : List ℕ) → IsPlainName name → IsLabelFront name
 front_is [] is = absurd is
 front_is (byte ∷ name) is = (not_start byte 0x2A is.0 refl, not_start byte 0x3B is.0 refl, not_start byte 0x21 is.0 refl, not_start byte 0x2E is.0 refl, name_ink (byte ∷ name) is)
 
