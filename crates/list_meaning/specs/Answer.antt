@@ -19,6 +19,7 @@ pub record IsListing (file text : List ℕ) : Type 0 where
   pub small : is_small all ≡ true
   pub is : text ≡ listing_text all
 
+-- a fault of the file has its own cause
 abbrev pub cause_of : FileCause → ListCause
 cause_of files.Truncated = Truncated
 cause_of files.BadHeader = BadHeader

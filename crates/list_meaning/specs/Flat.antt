@@ -21,13 +21,16 @@ abbrev pub text_or : List ℕ → Option Tree → List ℕ
 text_or expr None = expr
 text_or expr (Some tree) = expression_text tree
 
+-- an expression in the spelling for LABLEN 0
 abbrev pub respelled : ℕ → List ℕ → List ℕ
 respelled lab_len expr = text_or expr (tree_in lab_len expr)
 
+-- the bytes of the number that an expression record stands for
 abbrev pub parts_from : ℕ → ℕ → ℕ → List ℕ → ℕ → ℕ → List Place
 parts_from code count n expr index zero = []
 parts_from code count n expr index (suc left) = Part code count n expr index ∷ parts_from code count n expr (index + 1) left
 
+-- so many bytes 0
 abbrev pub zeros : ℕ → List Place
 zeros n = replicate n (One 0)
 
@@ -56,9 +59,11 @@ unfoldable pub places_from : ℕ → ℕ → List Record → List Place
 places_from lab_len at [] = []
 places_from lab_len at (content ∷ contents) = places_at lab_len at content ++ places_from lab_len (at + size_at at content) contents
 
+-- the records of a segment without their displacements
 abbrev pub contents_of : Segment → List Record
 contents_of s = map (λ found. found.1) s.records
 
+-- what a segment gives place by place, the zeros of RESSPC last
 unfoldable pub flat : Segment → List Place
 flat s = places_from s.fields.lab_len 0 (contents_of s) ++ zeros s.fields.res_spc
 
@@ -71,10 +76,12 @@ pub record Defined : Type 0 where
   pub place : ℕ
   pub value : Option Tree
 
+-- the value of an equate
 abbrev pub value_in : ℕ → Option (List ℕ) → Option Tree
 value_in lab_len None = None
 value_in lab_len (Some expr) = tree_in lab_len expr
 
+-- a definition as it is compared
 abbrev pub told : ℕ → Definition → Defined
 told lab_len d = record { name = d.name; scope = d.scope; place = d.place; value = value_in lab_len d.expr }
 
@@ -82,17 +89,21 @@ told lab_len d = record { name = d.name; scope = d.scope; place = d.place; value
 abbrev pub definitions : Segment → List Defined
 definitions s = map (told s.fields.lab_len) (defined_in s)
 
+-- the name that a USING names
 abbrev pub used_by : Record → List (List ℕ)
 used_by (Using name) = name ∷ []
 used_by _ = []
 
+-- the name that a STRONG asks for
 abbrev pub asked_by : Record → List (List ℕ)
 asked_by (Strong name) = name ∷ []
 asked_by _ = []
 
+-- the names of USING, in order
 abbrev pub usings : Segment → List (List ℕ)
 usings s = flat_map used_by (contents_of s)
 
+-- the names of STRONG, in order
 abbrev pub strongs : Segment → List (List ℕ)
 strongs s = flat_map asked_by (contents_of s)
 

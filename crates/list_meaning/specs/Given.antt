@@ -1,6 +1,7 @@
 -- What a line of a listing stands for: the records that it gives to its segment, the name that it defines, and what it leaves.
-use Rattle.std.specs.Prelude.{◌≡◌, ℕ, ◌-◌, Bool, true, false, List, [], ◌∷◌, ◌++◌, length, replicate, Option, Some, None, if◌then◌else◌}
+use Rattle.std.specs.Prelude.{◌≡◌, ℕ, ◌-◌, Bool, true, false, List, [], ◌∷◌, ◌++◌, length, replicate, Some, None, if◌then◌else◌}
 use Rattle.byteorder.specs.Endian.{little_bytes}
+use Rattle.omf_format.specs.Ascii as ascii
 use Rattle.omf_format.specs.Expression as expression
 use Rattle.omf_format.specs.Expression.{Tree, Leaf, Binary}
 use Rattle.omf_format.specs.Header.{Fields}
@@ -24,6 +25,7 @@ abbrev pub code_of : Bool → ℕ
 code_of true = 0x01
 code_of false = 0x02
 
+-- that expression; the other operands are constant bytes
 abbrev pub tree_of : Wanted → Tree
 tree_of None' = Leaf (expression.Constant 0)
 tree_of (Number bytes n) = Leaf (expression.Constant n)
@@ -68,6 +70,7 @@ name_said (Labels global name) = name ∷ []
 name_said (Equates global name n) = name ∷ []
 name_said _ = []
 
+-- the names behind a line, of which an equate's has its value
 abbrev pub names_said : Said → Names → Names
 names_said (Labels global name) names = with_name name None names
 names_said (Equates global name n) names = with_name name (Some n) names
@@ -79,6 +82,7 @@ switched LongA on w = record w { long_a = on }
 switched LongI on w = record w { long_i = on }
 switched Msb on w = w
 
+-- the widths behind a line
 abbrev pub widths_said : Said → Widths → Widths
 widths_said (Turns switch on) w = switched switch on w
 widths_said _ w = w
@@ -114,7 +118,7 @@ pub record Opens (crosses : Bool) (name load_name : List ℕ) (state next : Stat
   pub was : state.segment ≡ None
   pub here : next.segment ≡ Some after
   pub name_is : after.header.name ≡ name
-  pub load_name_is : after.header.load_name ≡ load_name ++ replicate (10 - length load_name) 0x20
+  pub load_name_is : after.header.load_name ≡ load_name ++ replicate (10 - length load_name) ascii.space
   pub bank_size : after.header.bank_size ≡ (if crosses then 0 else 0x10000)
   pub org : after.header.org ≡ state.org
   pub align : after.header.align ≡ state.align

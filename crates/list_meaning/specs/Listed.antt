@@ -24,6 +24,7 @@ pub data Wanted : Type 0 where
   Label : (name : List ℕ) → Wanted
   Moved : (name : List ℕ) (adds : Bool) (n : ℕ) → Wanted
 
+-- what a line of a listing says
 pub data Said : Type 0 where
   -- ALIGN and ORG of the segment that follows
   NextAlign : (n : ℕ) → Said
@@ -68,6 +69,7 @@ abbrev pub second_or : Option (List ℕ × Mnemonic) → List ℕ
 second_or None = []
 second_or (Some row) = row.0
 
+-- the spelling of a mnemonic in upper case
 unfoldable pub spelling_of : Mnemonic → List ℕ
 spelling_of mnemonic = second_or (find (λ row. sameb mnemonic_type.the_type row.1 mnemonic) mnemonics)
 
@@ -99,6 +101,7 @@ shape_of Relative16 = ([], [])
 shape_of Move = ([], [])
 shape_of Signature = ([], [])
 
+-- the sign before a number behind a name
 abbrev pub sign_text : Bool → List ℕ
 sign_text true = codes "+"
 sign_text false = codes "-"
@@ -111,6 +114,7 @@ wanted_text (Banks source destination) = number_text 2 source ++ (codes "," ++ n
 wanted_text (Label name) = name
 wanted_text (Moved name adds n) = name ++ (sign_text adds ++ number_text 8 n)
 
+-- an operand in its mode
 abbrev pub operand_text : Mode → Wanted → List ℕ
 operand_text mode wanted = (shape_of mode).0 ++ (wanted_text wanted ++ (shape_of mode).1)
 
@@ -124,6 +128,7 @@ operator_text code =
     else if code == 0x0E then codes "<>" else if code == 0x0F then codes "<" else if code == 0x10 then codes ">"
     else if code == 0x11 then codes "=" else []
 
+-- a term of a formula; a listing has no other ones
 abbrev pub term_text : Term → List ℕ
 term_text (Operator code) = []
 term_text Location = codes "*"
@@ -137,15 +142,18 @@ as_operand (Leaf term) text = text
 as_operand (Unary code a) text = codes "(" ++ (text ++ codes ")")
 as_operand (Binary code a b) text = codes "(" ++ (text ++ codes ")")
 
+-- the formula of an expression
 abbrev pub formula_text : Tree → List ℕ
 formula_text (Leaf term) = term_text term
 formula_text (Unary code a) = operator_text code ++ as_operand a (formula_text a)
 formula_text (Binary code a b) = as_operand a (formula_text a) ++ (operator_text code ++ as_operand b (formula_text b))
 
+-- what a width is turned to
 abbrev pub on_text : Bool → List ℕ
 on_text true = codes "ON"
 on_text false = codes "OFF"
 
+-- what is turned on or off
 abbrev pub switch_text : Switch → List ℕ
 switch_text LongA = codes "LONGA"
 switch_text LongI = codes "LONGI"
@@ -155,6 +163,7 @@ switch_text Msb = codes "MSB"
 abbrev pub quoted : List ℕ → List ℕ → List ℕ
 quoted form value = form ++ (codes "'" ++ (value ++ codes "'"))
 
+-- the line without its end
 unfoldable pub said_text : Said → List ℕ
 said_text (NextAlign n) = statement_text [] (codes "ALIGN") (number_text 8 n)
 said_text (NextOrg n) = statement_text [] (codes "ORG") (number_text 8 n)
@@ -178,5 +187,6 @@ said_text Ends = statement_text [] (codes "END") []
 abbrev pub line_text : Said → List ℕ
 line_text said = said_text said ++ ascii.line_feed ∷ []
 
+-- the lines one behind another
 unfoldable pub listing_text : List Said → List ℕ
 listing_text all = flat_map line_text all

@@ -3,6 +3,7 @@ use Rattle.std.specs.Prelude.{ℕ, zero, suc, ◌+◌, ◌==◌, Bool, true, fal
 use Rattle.std.specs.Int.{is_power_of_two}
 use Rattle.std.specs.List.{list_all, list_any, position_or_len, flat_map}
 use Rattle.byteorder.specs.Endian.{little_number}
+use Rattle.omf_format.specs.Ascii as ascii
 use Rattle.omf_format.specs.Field.{◌>>=◌}
 use Rattle.omf_format.specs.Expression.{Tree, Leaf, Binary, Term, Operator, Location, Constant, Named, Offset, terms_of}
 use Rattle.omf_format.specs.File.{Segment}
@@ -29,19 +30,23 @@ is_listable name = is_name name && bytes_eq (folded name) name
 
 -- LOADNAME without the spaces behind it
 abbrev pub unpadded : List ℕ → List ℕ
-unpadded text = take (position_or_len (λ byte. byte == 0x20) text) text
+unpadded text = take (position_or_len (λ byte. byte == ascii.space) text) text
 
+-- behind the first space all are spaces
 abbrev pub is_padded : List ℕ → Bool
-is_padded text = list_all (λ byte. byte == 0x20) (drop (position_or_len (λ byte. byte == 0x20) text) text)
+is_padded text = list_all (λ byte. byte == ascii.space) (drop (position_or_len (λ byte. byte == ascii.space) text) text)
 
 -- ---- the front of a segment
 
+-- code, data, initialization, and direct page and stack
 abbrev pub is_listed_form : ℕ → Bool
 is_listed_form form = list_any (λ t. t == form) (0x00 ∷ 0x01 ∷ 0x10 ∷ 0x12 ∷ [])
 
+-- LOADNAME is spaces, or a name that is written as it stands with spaces behind it
 abbrev pub is_listable_load_name : List ℕ → Bool
 is_listable_load_name text = is_padded text && (bytes_eq (unpadded text) [] || is_listable (unpadded text))
 
+-- the greatest LENGTH, where the segment may cross banks and where it may not
 abbrev pub greatest_length : ℕ → ℕ
 greatest_length bank_size = if bank_size == 0 then 0xFFFFFF else 0x10000
 
@@ -50,9 +55,11 @@ abbrev pub is_lost : ℕ → Record → Bool
 is_lost at (Align n) = n == 0 && not (at == 0)
 is_lost at _ = false
 
+-- an ALIGN of 0 stands away from place 0
 abbrev pub has_lost_place : Segment → Bool
 has_lost_place s = list_any (λ l. is_lost l.location l.content) (located s)
 
+-- the header can be listed: its type, its names, BANKSIZE, ALIGN and ENTRY, and LENGTH is the number of cells
 abbrev pub has_listable_header : Segment → Bool
 has_listable_header s =
     is_listed_form (form_of s.fields.kind) && is_listable s.fields.name && is_listable_load_name s.fields.load_name
@@ -60,9 +67,11 @@ has_listable_header s =
     && (s.fields.align == 0 || (is_power_of_two s.fields.align && nat_le s.fields.align 0x10000)) && s.fields.entry == 0
     && not (has_lost_place s) && s.fields.length == body_size s + s.fields.res_spc && nat_le s.fields.length (greatest_length s.fields.bank_size)
 
+-- a line with a number that isn't 0
 abbrev pub unless_zero : (ℕ → Said) → ℕ → List Said
 unless_zero said n = if n == 0 then [] else said n ∷ []
 
+-- the lines before those of the records
 unfoldable pub front_of : Fields → List Said
 front_of f =
     unless_zero NextAlign f.align
@@ -75,6 +84,7 @@ abbrev pub or_brk : Option Instruction → Instruction
 or_brk None = (Brk, Signature)
 or_brk (Some i) = i
 
+-- the instruction of an opcode
 abbrev pub decoded : ℕ → Instruction
 decoded opcode = or_brk (slice_get matrix opcode)
 
@@ -86,6 +96,7 @@ behind_opcode w opcode = operand_bytes w (decoded opcode).0 (decoded opcode).1
 abbrev pub width_by : Bool → ℕ → ℕ → Bool → Bool
 width_by on bit operand old = if bit_and operand bit == 0 then old else on
 
+-- REP turns the widths on whose bits are set, and SEP turns them off
 abbrev pub widths_by : Bool → ℕ → Widths → Widths
 widths_by on operand w = record { long_a = width_by on 0x20 operand w.long_a; long_i = width_by on 0x10 operand w.long_i }
 
@@ -95,6 +106,7 @@ widths_behind Rep bytes w = widths_by true (little_number 1 bytes) w
 widths_behind Sep bytes w = widths_by false (little_number 1 bytes) w
 widths_behind _ bytes w = w
 
+-- a width is as it was
 abbrev pub same_bool : Bool → Bool → Bool
 same_bool a b = if a then b else not b
 
@@ -113,6 +125,7 @@ operand_by (Distance n) bytes = None
 operand_by Banks bytes = Some (listed.Banks (little_number 1 (drop 1 bytes)) (little_number 1 bytes))
 operand_by Sign bytes = Some (Number (length bytes) (little_number (length bytes) bytes))
 
+-- an instruction with its operand, or its bytes where it has none that is written
 abbrev pub written_or : Mnemonic → Mode → List ℕ → Option Wanted → List Said
 written_or mnemonic way bytes None = Bytes bytes ∷ []
 written_or mnemonic way bytes (Some wanted) = Instructs mnemonic way wanted ∷ []
@@ -137,6 +150,7 @@ said_rest w zero (opcode ∷ behind) =
     let bytes = take (behind_opcode w opcode) behind in
     said_instruction w opcode bytes ++ said_rest (widths_past w opcode bytes) (length bytes) behind
 
+-- the widths behind the rest of a run
 unfoldable pub widths_rest : Widths → ℕ → List ℕ → Widths
 widths_rest w taken [] = w
 widths_rest w (suc taken) (byte ∷ behind) = widths_rest w taken behind
@@ -154,6 +168,7 @@ simple_of (Binary operator (Leaf (Named code name)) (Leaf (Constant n))) =
     else None
 simple_of _ = None
 
+-- the name where the expression is one weak name
 unfoldable pub weak_of : Tree → Option (List ℕ)
 weak_of (Leaf (Named code name)) = if code == 0x82 then Some name else None
 weak_of _ = None
@@ -167,9 +182,11 @@ record_by mnemonic (Distance n) bytes = Some (0xEE, bytes, bytes)
 record_by mnemonic Banks bytes = None
 record_by mnemonic Sign bytes = Some (0xEB, bytes, 0)
 
+-- the record of an opcode's operand that is no constant
 abbrev pub record_of_opcode : Widths → ℕ → Option (ℕ × ℕ × ℕ)
 record_of_opcode w opcode = record_by (decoded opcode).0 (kind_of (decoded opcode).1) (behind_opcode w opcode)
 
+-- the record has this code, this count and this n
 abbrev pub is_record : ℕ → ℕ → ℕ → Option (ℕ × ℕ × ℕ) → Bool
 is_record code count n None = false
 is_record code count n (Some (a, b, c)) = a == code && b == count && c == n
@@ -194,9 +211,11 @@ flushed b = (said_rest b.widths 0 b.run, record { widths = widths_rest b.widths 
 abbrev pub then_said : List Said → Given → Given
 then_said more given = (given.0 ++ more, given.1)
 
+-- one more name is defined
 abbrev pub with_name : List ℕ → Given → Given
 with_name name given = (given.0, record { widths = given.1.widths; run = given.1.run; names = name ∷ given.1.names })
 
+-- the name is one of these
 abbrev pub is_among : List (List ℕ) → List ℕ → Bool
 is_among names name = list_any (bytes_eq name) names
 
@@ -205,6 +224,7 @@ abbrev pub behind_byte : ℕ → Option (List ℕ × ℕ) → Option (List ℕ �
 behind_byte byte None = Some ([], byte)
 behind_byte byte (Some found) = Some (byte ∷ found.0, found.1)
 
+-- a run without its last byte, and that byte
 unfoldable pub split_last : List ℕ → Option (List ℕ × ℕ)
 split_last [] = None
 split_last (byte ∷ behind) = behind_byte byte (split_last behind)
@@ -220,9 +240,11 @@ abbrev pub apart : ℕ → Tree → Option (List ℕ) → Said
 apart count tree None = Sums count tree
 apart count tree (Some name) = Weakly name
 
+-- the last byte is an opcode that has this record, at the widths behind the run without it
 abbrev pub is_held : Before → ℕ → ℕ → ℕ → List ℕ × ℕ → Bool
 is_held b code count n found = is_record code count n (record_of_opcode (widths_rest b.widths 0 found.0) found.1)
 
+-- the lines of an expression record: an instruction with the byte that is held back, or a DC
 unfoldable pub formula_given : Before → ℕ → ℕ → ℕ → Tree → Option (List ℕ × ℕ) → Option Wanted → Given
 formula_given b code count n tree (Some found) (Some wanted) =
     if is_held b code count n found then held_back b found.0 found.1 wanted else then_said (apart count tree (weak_of tree) ∷ []) (flushed b)
@@ -231,6 +253,7 @@ formula_given b code count n tree None wanted = then_said (apart count tree (wea
 
 -- ---- which records can be listed
 
+-- a name in an expression is written as it stands, and is no equate of the segment
 abbrev pub term_listable : List (List ℕ) → Term → Bool
 term_listable equates (Operator code) = true
 term_listable equates Location = true
@@ -254,14 +277,17 @@ is_open (Constant n) = false
 is_open (Named code name) = code == 0x83
 is_open (Offset n) = false
 
+-- there is a name
 abbrev pub is_some_name : Option (List ℕ) → Bool
 is_some_name None = false
 is_some_name (Some name) = true
 
+-- there is an operand
 abbrev pub is_some_wanted : Option Wanted → Bool
 is_some_wanted None = false
 is_some_wanted (Some wanted) = true
 
+-- an EXPR is one weak name with count 2, or a formula in which a name or the location counter stands
 abbrev pub expr_listable : ℕ → Tree → Bool
 expr_listable count tree =
     if is_some_name (weak_of tree) then count == 2
@@ -271,10 +297,12 @@ expr_listable count tree =
 abbrev pub both_long : Widths
 both_long = record { long_a = true; long_i = true }
 
+-- the record follows directly on an opcode that has it
 abbrev pub follows_opcode : ℕ → ℕ → ℕ → Option (List ℕ × ℕ) → Bool
 follows_opcode code count n None = false
 follows_opcode code count n (Some found) = is_record code count n (record_of_opcode both_long found.1)
 
+-- an expression record can be listed
 unfoldable pub formula_listable : List (List ℕ) → Before → ℕ → ℕ → ℕ → Tree → Bool
 formula_listable equates b code count n tree =
     list_all (term_listable equates) (terms_of tree)
@@ -284,20 +312,25 @@ formula_listable equates b code count n tree =
 abbrev pub is_short : Said → Bool
 is_short said = nat_le (length (said_text said)) 255
 
+-- all lines fit in 255 bytes
 abbrev pub are_short : Given → Bool
 are_short given = list_all is_short given.0
 
+-- the lines, where a test holds and they fit
 abbrev pub if_short : Bool → Given → Option Given
 if_short holds given = if holds && are_short given then Some given else None
 
+-- the number where the expression is one
 abbrev pub number_of : Tree → Option ℕ
 number_of (Leaf (Constant n)) = Some n
 number_of _ = None
 
+-- the lines of EQU or GEQU of a number
 abbrev pub equate_given : Before → Bool → List ℕ → Option ℕ → Option Given
 equate_given b global name None = None
 equate_given b global name (Some n) = if_short (is_listable name && not (is_among b.names name)) (with_name name (then_said (Equates global name n ∷ []) (flushed b)))
 
+-- what is said of an expression's tree
 abbrev pub on_tree : {A : Type 0} → Option Tree → (Tree → Option A) → Option A
 on_tree None f = None
 on_tree (Some tree) f = f tree
@@ -322,13 +355,16 @@ given_by f equates b _ = None
 
 -- ---- a segment
 
+-- the name of an equate
 abbrev pub equate_name : Record → List (List ℕ)
 equate_name (Equate global name size form private expr) = name ∷ []
 equate_name _ = []
 
+-- the names of a segment's equates
 abbrev pub equates_of : Segment → List (List ℕ)
 equates_of s = flat_map (λ found. equate_name found.1) s.records
 
+-- a record without lines can't be listed, at its place
 abbrev pub or_record : {A : Type 0} → ℕ → Option A → Result A ℕ
 or_record at None = Err at
 or_record at (Some a) = Ok a
@@ -339,6 +375,7 @@ said_from f equates b [] = Ok []
 said_from f equates b (found ∷ founds) =
     or_record found.0 (given_by f equates b found.1) >>= λ given. said_from f equates given.1 founds >>= λ more. Ok (given.0 ++ more)
 
+-- before the first record: both registers have 16 bits, and SEGNAME is defined
 abbrev pub at_front : Fields → Before
 at_front f = record { widths = both_long; run = []; names = f.name ∷ [] }
 
@@ -351,6 +388,7 @@ listing_of s =
 
 -- ---- a file
 
+-- a place that can't be listed is told with the number of its segment
 abbrev pub in_segment : {A : Type 0} → ℕ → Result A ℕ → Result A (ℕ × ℕ)
 in_segment number (Ok a) = Ok a
 in_segment number (Err at) = Err (number, at)

@@ -1,10 +1,10 @@
 -- Lines one behind another inside a segment: what the lister keeps beside them, what the assembler has behind them.
-use Rattle.std.proofs.Common.{◌≡◌, ℕ, zero, suc, ◌+◌, ◌^◌, ◌<◌, ◌≤◌, Bool, true, false, List, [], ◌∷◌, ◌++◌, length, Option, Some, None, Ok, refl, sym, ap, subst, ◌∙◌, arith, append_assoc, append-nil}
+use Rattle.std.proofs.Common.{◌≡◌, ℕ, ◌+◌, ◌^◌, ◌<◌, ◌≤◌, Bool, true, false, List, [], ◌∷◌, ◌++◌, length, Option, Some, None, Ok, refl, sym, ap, subst, ◌∙◌, arith, append_assoc, append-nil}
 use Rattle.std.specs.Prelude.{is_some, bytes_eq, ◌||◌, map, cond}
 use Rattle.std.specs.Int.{is_power_of_two}
 use Rattle.std.specs.Option.{option_or}
 use Rattle.std.proofs.lemmas.Slice.Eq.{bytes_eq-Decides}
-use Rattle.omf_format.specs.Header.{Fields, alignment_of, form_of, is_listed}
+use Rattle.omf_format.specs.Header.{Fields, alignment_of}
 use Rattle.omf_format.specs.Record.{Record}
 use Rattle.orca_meaning.specs.Formula.{pending}
 use Rattle.orca_meaning.specs.Line.{line_of, numbered}
@@ -15,7 +15,7 @@ use Rattle.asm_meaning.specs.Instruction.{Widths}
 use Rattle.asm_meaning.specs.Object.{AreSteps}
 use Rattle.asm_meaning.specs.Pieces.{place_behind}
 use Rattle.asm_meaning.specs.laws.PieceLaws.{place_behind-append, place_behind-le}
-use Rattle.asm_meaning.specs.State.{State, Segment, Ended, Names, greatest_length}
+use Rattle.asm_meaning.specs.State.{State, Segment, Names, greatest_length}
 use Rattle.asm_meaning.specs.Statement.{IsStep, constants_of, constants_in, value_in}
 use Rattle.list_meaning.specs.Listed.{Said, NextAlign, NextOrg, Begins, Kinds, Turns, Spaces, Aligns, Moves, Uses, Asks, Labels, Equates, Instructs, Bytes, Weakly, Sums, Ends, said_text}
 use Rattle.list_meaning.specs.Listing.{is_among}
@@ -24,7 +24,7 @@ use Rattle.list_meaning.specs.laws.FormulaLaw.{CanWrite, IsPlainName}
 use Rattle.list_meaning.specs.laws.SumLaw.{AreUnknown, has_open}
 use Rattle.list_meaning.specs.laws.ConstantLines.{IsCount}
 use Rattle.list_meaning.specs.laws.BytesLine.{AreBytes}
-use Rattle.list_meaning.specs.laws.LineGives.{IsInstruction, AreSome, CanStand, Stands, line_gives}
+use Rattle.list_meaning.specs.laws.LineGives.{IsInstruction, AreSome, CanStand, line_gives}
 
 -- ---- steps
 

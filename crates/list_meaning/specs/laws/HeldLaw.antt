@@ -4,7 +4,6 @@ use Rattle.std.specs.Prelude.{◌*◌, codes, ◌==◌, ◌||◌, not, slice_get
 use Rattle.std.specs.List.{AllByRecursion}
 use Rattle.std.proofs.lemmas.Bool.{lt-leb, and_parts, eqb-true}
 use Rattle.omf_format.specs.Field.{◌>>=◌}
-use Rattle.omf_format.specs.Record.{Record, Const}
 use Rattle.orca_meaning.specs.declared.forms.OperandUse.{OperandUse}
 use Rattle.orca_meaning.specs.declared.forms.OperandUse.TheVariants as uses
 use Rattle.orca_meaning.specs.declared.mnemonics.Mnemonic.{Mnemonic}

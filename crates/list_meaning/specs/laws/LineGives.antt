@@ -1,5 +1,5 @@
 -- The law on one line: each line inside a segment has no fault, and leaves what it was written for.
-use Rattle.std.proofs.Common.{◌≡◌, ℕ, zero, suc, ◌+◌, ◌-◌, ◌^◌, ◌<◌, ◌≤◌, Bool, true, false, List, [], ◌∷◌, ◌++◌, length, Option, Some, None, Ok, refl, sym, ap, subst, ◌∙◌, arith}
+use Rattle.std.proofs.Common.{◌≡◌, ℕ, ◌-◌, ◌^◌, ◌<◌, ◌≤◌, Bool, true, false, List, [], ◌∷◌, ◌++◌, length, Option, Some, None, Ok, refl, sym, ap, subst, ◌∙◌, arith}
 use Rattle.std.specs.Prelude.{is_some, slice_get}
 use Rattle.std.specs.Int.{is_power_of_two}
 use Rattle.std.specs.Option.{option_map}
@@ -17,16 +17,14 @@ use Rattle.orca_meaning.specs.Operation.{has_mode}
 use Rattle.macro_meaning.specs.Symbol.{with_name}
 use Rattle.asm_meaning.specs.declared.directives.Switch.{Switch}
 use Rattle.asm_meaning.specs.declared.directives.Switch.TheVariants.{LongA, LongI, Msb}
-use Rattle.asm_meaning.specs.Constant.{Constants, Known}
+use Rattle.asm_meaning.specs.Constant.{Constants}
 use Rattle.asm_meaning.specs.Instruction.{Widths, operand_bytes, opcode_in}
 use Rattle.asm_meaning.specs.Pieces.{place_behind, length_at}
 use Rattle.asm_meaning.specs.State.{State, Segment, cells_of, greatest_length, marked, grown, in_segment, local_of, turned, Names, with_label}
-use Rattle.asm_meaning.specs.Statement.{IsStep, constants_of, equated, with_kind}
-use Rattle.list_meaning.specs.Listed as listed
+use Rattle.asm_meaning.specs.Statement.{IsStep, constants_of, with_kind}
 use Rattle.list_meaning.specs.Listed.{Said, NextAlign, NextOrg, Begins, Kinds, Turns, Spaces, Aligns, Moves, Uses, Asks, Labels, Equates, Instructs, Bytes, Weakly, Sums, Ends, Wanted, None', Number, Banks, Label, Moved, said_text}
 use Rattle.list_meaning.specs.Given.{instruction_records, records_said, names_said, widths_said, header_said, Leaves}
 use Rattle.list_meaning.specs.laws.FormulaLaw.{CanWrite, IsPlainName}
-use Rattle.list_meaning.specs.laws.ModeLaw.{opcode_back}
 use Rattle.list_meaning.specs.laws.OperandLaw.{TakesName, HasName}
 use Rattle.list_meaning.specs.laws.SumLaw.{AreUnknown, has_open}
 use Rattle.list_meaning.specs.laws.HeldLaw.{IsUnknown, held_step}
@@ -178,21 +176,57 @@ left_turned state s number switch on here step = by switch step
       next = turned LongA on (in_segment (marked [] 0x4E []) state);
       step = step;
       leaves = record {
-        after = marked [] 0x4E [] s; here = ap (option_map (marked [] 0x4E [])) here; begun = refl; class = refl; header = refl; names = refl; body = refl; widths = refl; outside = refl; org = refl; align = refl; front = refl; ended = refl;
+        after = marked [] 0x4E [] s;
+        here = ap (option_map (marked [] 0x4E [])) here;
+        begun = refl;
+        class = refl;
+        header = refl;
+        names = refl;
+        body = refl;
+        widths = refl;
+        outside = refl;
+        org = refl;
+        align = refl;
+        front = refl;
+        ended = refl;
       };
     }
     by LongI step = record {
       next = turned LongI on (in_segment (marked [] 0x4E []) state);
       step = step;
       leaves = record {
-        after = marked [] 0x4E [] s; here = ap (option_map (marked [] 0x4E [])) here; begun = refl; class = refl; header = refl; names = refl; body = refl; widths = refl; outside = refl; org = refl; align = refl; front = refl; ended = refl;
+        after = marked [] 0x4E [] s;
+        here = ap (option_map (marked [] 0x4E [])) here;
+        begun = refl;
+        class = refl;
+        header = refl;
+        names = refl;
+        body = refl;
+        widths = refl;
+        outside = refl;
+        org = refl;
+        align = refl;
+        front = refl;
+        ended = refl;
       };
     }
     by Msb step = record {
       next = turned Msb on (in_segment (marked [] 0x4E []) state);
       step = step;
       leaves = record {
-        after = marked [] 0x4E [] s; here = ap (option_map (marked [] 0x4E [])) here; begun = refl; class = refl; header = refl; names = refl; body = refl; widths = refl; outside = refl; org = refl; align = refl; front = refl; ended = refl;
+        after = marked [] 0x4E [] s;
+        here = ap (option_map (marked [] 0x4E [])) here;
+        begun = refl;
+        class = refl;
+        header = refl;
+        names = refl;
+        body = refl;
+        widths = refl;
+        outside = refl;
+        org = refl;
+        align = refl;
+        front = refl;
+        ended = refl;
       };
     }
 

@@ -1,5 +1,5 @@
 -- A listing is assembled to segments that stand for the same.
-use Rattle.std.proofs.Common.{◌≡◌, ℕ, zero, suc, ◌+◌, ◌<◌, ◌≤◌, Bool, true, false, cond, List, [], ◌∷◌, ◌++◌, length, map, Option, Some, None, Ok, refl, sym, ap, subst, ◌∙◌, arith, append-nil, leb}
+use Rattle.std.proofs.Common.{◌≡◌, ℕ, ◌+◌, Bool, true, false, List, [], ◌∷◌, ◌++◌, length, map, None, Ok, refl, sym, ap, subst, ◌∙◌, arith, append-nil, leb}
 use Rattle.std.specs.List.{AllByRecursion, flat_map}
 use Rattle.std.proofs.lemmas.Bool.{leb-true, leb-false}
 use Rattle.std.proofs.lemmas.List.{map-append}
@@ -11,7 +11,7 @@ use Rattle.omf_format.specs.Record.{Record, End}
 use Rattle.link_meaning.specs.Defines.{Definition, defined_by, defined_in, title_of, outer_scope}
 use Rattle.link_meaning.specs.Sizes.{Located, located_from, located, size_at}
 use Rattle.orca_meaning.specs.Line.{Line, line_of, numbered}
-use Rattle.asm_meaning.specs.Object.{AreSteps, HasLines, IsObject, InLength, object_text, most_bytes}
+use Rattle.asm_meaning.specs.Object.{AreSteps, HasLines, InLength, object_text, most_bytes}
 use Rattle.asm_meaning.specs.ObjectFile.{IsReadAs, AreReadAs}
 use Rattle.asm_meaning.specs.laws.ObjectFileLaws.{object_is_file}
 use Rattle.asm_meaning.specs.Answer.{Answer}
@@ -21,7 +21,7 @@ use Rattle.asm_meaning.specs.laws.StatementLaws.{step_once}
 use Rattle.list_meaning.specs.Given.{IsLeft}
 use Rattle.list_meaning.specs.Listed.{Said, said_text, listing_text}
 use Rattle.list_meaning.specs.Listing.{listing_from}
-use Rattle.list_meaning.specs.Flat.{Place, One, zeros, places_from, contents_of, flat, Defined, told, definitions, used_by, asked_by, usings, strongs, AreAlike, AreAllAlike}
+use Rattle.list_meaning.specs.Flat.{zeros, places_from, contents_of, flat, Defined, told, definitions, used_by, asked_by, AreAlike, AreAllAlike}
 use Rattle.list_meaning.specs.ListingLaws.{IsReadAgain, Whole, TooLong, ListingIsReadAgain, LineIsRead}
 use Rattle.list_meaning.specs.laws.WholeLaw.{text_expands}
 use Rattle.list_meaning.specs.laws.Behind.{Leads, leads_steps}

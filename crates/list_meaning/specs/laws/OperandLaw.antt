@@ -4,8 +4,6 @@ use Rattle.std.specs.Prelude.{◌||◌, ◌*◌, codes, ◌&&◌, bytes_eq}
 use Rattle.std.specs.Char.{to_ascii_uppercase}
 use Rattle.std.proofs.lemmas.Bool.{eqb-true}
 use Rattle.std.proofs.lemmas.List.{length-append}
-use Rattle.omf_format.specs.Expression as expression
-use Rattle.omf_format.specs.Expression.{Tree, Leaf, Binary}
 use Rattle.orca_meaning.specs.declared.forms.Opening.{Opening}
 use Rattle.orca_meaning.specs.declared.forms.Opening.TheVariants.{Open, Hash, Round, Square}
 use Rattle.orca_meaning.specs.declared.forms.Prefix.{Prefix}
@@ -24,7 +22,7 @@ use Rattle.orca_meaning.specs.Token.{operator_at}
 use Rattle.omf_base.specs.Digits.{hexadecimal}
 use Rattle.list_meaning.specs.laws.Numbers.{number_means, HasNoDigit}
 use Rattle.list_meaning.specs.laws.FormulaLaw.{no_digit, IsPlainName, EndsName, CanWrite, formula_read}
-use Rattle.list_meaning.specs.Given.{code_of, tree_of}
+use Rattle.list_meaning.specs.Given.{tree_of}
 use Rattle.list_meaning.specs.Listed as listed
 use Rattle.list_meaning.specs.Listed.{Wanted, None', Number, Banks, Label, Moved, wanted_text, operand_text, formula_text}
 use Rattle.list_meaning.specs.laws.ModeLaw.{form_in, prefix_in}

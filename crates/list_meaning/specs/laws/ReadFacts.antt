@@ -1,5 +1,5 @@
 -- What is known of a segment that was read from a file.
-use Rattle.std.proofs.Common.{◌≡◌, ℕ, zero, suc, ◌+◌, ◌^◌, ◌<◌, ◌≤◌, Bool, true, false, List, [], ◌∷◌, ◌++◌, length, take, drop, map, Some, Ok, refl, sym, ap, subst, ◌∙◌, arith, append_assoc}
+use Rattle.std.proofs.Common.{◌≡◌, ℕ, ◌+◌, ◌^◌, ◌<◌, ◌≤◌, Bool, true, false, List, [], ◌∷◌, ◌++◌, length, take, drop, map, Some, Ok, refl, sym, ap, subst, ◌∙◌, arith, append_assoc}
 use Rattle.std.specs.List.{AllByRecursion, flat_map}
 use Rattle.std.proofs.lemmas.List.{length-take, length-drop, drop_at}
 use Rattle.std.proofs.lemmas.List.Concat.{flat_map-cons}
@@ -8,7 +8,6 @@ use Rattle.byteorder.specs.Numbers.{little_from-lt, length-bytes_low_first}
 use Rattle.omf_format.specs.Number.{IsBytes, number_at}
 use Rattle.omf_format.specs.Field.{Layout, layout_of}
 use Rattle.omf_format.specs.Header.{Fields, fields_of, names_end}
-use Rattle.omf_format.specs.Record as records
 use Rattle.omf_format.specs.Record.{Record, End, Const, LongConst, IsRecord, spelling}
 use Rattle.omf_format.specs.Reading.{Reader, HandsOut, next_answer, after_next, is_end}
 use Rattle.omf_format.specs.File.{Segment, body_reader, IsSegment}

@@ -1,6 +1,6 @@
 -- The lines of the rest of a run can stand where they are, and give the run's bytes.
-use Rattle.std.proofs.Common.{◌≡◌, ℕ, zero, suc, ◌+◌, ◌*◌, ◌^◌, ◌<◌, ◌≤◌, Bool, true, false, cond, eqb, List, [], ◌∷◌, ◌++◌, length, take, drop, Some, None, refl, sym, ap, subst, ◌∙◌, arith, append_assoc, append-nil}
-use Rattle.std.specs.Prelude.{slice_get, bit_and, not}
+use Rattle.std.proofs.Common.{◌≡◌, ℕ, zero, suc, ◌^◌, ◌<◌, ◌≤◌, Bool, true, false, cond, eqb, List, [], ◌∷◌, ◌++◌, length, take, drop, Some, refl, sym, ap, subst, ◌∙◌, arith, append-nil}
+use Rattle.std.specs.Prelude.{slice_get}
 use Rattle.std.specs.List.{AllByRecursion, flat_map}
 use Rattle.std.proofs.lemmas.Bool.{eqb-true}
 use Rattle.std.proofs.lemmas.List.{length-take}
@@ -18,8 +18,7 @@ use Rattle.orca_meaning.specs.Matrix.{matrix}
 use Rattle.asm_meaning.specs.declared.directives.Switch.TheVariants.{LongA, LongI}
 use Rattle.asm_meaning.specs.Instruction.{Widths, kind_of, operand_bytes, opcode_in}
 use Rattle.asm_meaning.specs.laws.PieceLaws.{all-append}
-use Rattle.list_meaning.specs.Listed as listed
-use Rattle.list_meaning.specs.Listed.{Said, Turns, Instructs, Bytes, Wanted, None', Number}
+use Rattle.list_meaning.specs.Listed.{Said, Turns, Instructs, Bytes, Number}
 use Rattle.list_meaning.specs.Listing.{decoded, behind_opcode, widths_behind, turns_between, same_bool, operand_by, written_or, said_instruction, widths_past, said_rest, widths_rest}
 use Rattle.list_meaning.specs.laws.ModeLaw.{has_it}
 use Rattle.list_meaning.specs.laws.RunLaw.{decoded_is, opcode_is, two_bytes, no_bytes, rejoined}

@@ -1,8 +1,8 @@
 -- Each line of a listing is a line of source for the assembler: it is short, no comment and no statement of conditional assembly,
 -- and no line end and no `&` is in it.
-use Rattle.std.proofs.Common.{◌≡◌, ℕ, zero, suc, ◌+◌, ◌*◌, ◌^◌, ◌<◌, ◌≤◌, Bool, true, false, cond, eqb, List, [], ◌∷◌, ◌++◌, length, Option, Some, None, refl, sym, ap, subst, ◌∙◌, arith}
-use Rattle.std.specs.Prelude.{codes, ◌==◌, ◌||◌, ◌&&◌, not}
-use Rattle.std.specs.List.{AllByRecursion, list_all, flat_map}
+use Rattle.std.proofs.Common.{◌≡◌, ℕ, ◌*◌, ◌^◌, ◌<◌, ◌≤◌, Bool, true, false, eqb, List, [], ◌∷◌, ◌++◌, length, Some, None, refl, sym, ap, subst, ◌∙◌, arith}
+use Rattle.std.specs.Prelude.{codes, ◌==◌, ◌||◌, not}
+use Rattle.std.specs.List.{AllByRecursion, list_all}
 use Rattle.std.specs.Char.{digit_value}
 use Rattle.std.proofs.lemmas.Bool.{eqb-true, leb-true, and_parts, or_parts, not-true}
 use Rattle.std.proofs.lemmas.List.Concat.{flat_map-cons}
@@ -18,7 +18,6 @@ use Rattle.orca_meaning.specs.Characters.{is_blank, is_name_byte}
 use Rattle.orca_meaning.specs.Formula.{operator_code}
 use Rattle.orca_meaning.specs.Line.{part, three_fields}
 use Rattle.orca_meaning.specs.Operation as operations
-use Rattle.macro_meaning.specs.declared.statements.Statement.{Statement}
 use Rattle.macro_meaning.specs.declared.statements.Statement.TheVariants.{Nothing}
 use Rattle.macro_meaning.specs.Deed.{operation_or_anop}
 use Rattle.macro_meaning.specs.Statements as statements
@@ -29,14 +28,14 @@ use Rattle.asm_meaning.specs.State.{no_constants}
 use Rattle.list_meaning.specs.Listed as listed
 use Rattle.list_meaning.specs.Listed.{Said, NextAlign, NextOrg, Begins, Kinds, Turns, Spaces, Aligns, Moves, Uses, Asks, Labels, Equates, Instructs, Bytes, Weakly, Sums, Ends, Wanted, None', Number, Banks, Label, Moved, said_text, spaced, statement_text, number_text, operand_text, wanted_text, quoted, formula_text, spelling_of}
 use Rattle.list_meaning.specs.Listing.{is_short}
-use Rattle.list_meaning.specs.laws.LineText.{HasNoBlank, IsOperation, IsLabelFront, IsLaid, laid_three, no_comment}
+use Rattle.list_meaning.specs.laws.LineText.{HasNoBlank, IsOperation, IsLabelFront, laid_three, no_comment}
 use Rattle.list_meaning.specs.laws.Expands.{IsPlainLine, IsOfAssembler, Other, Labelled, HasNoSymbol, HasNoDot}
 use Rattle.list_meaning.specs.laws.Numbers.{hexadecimal_is}
 use Rattle.list_meaning.specs.laws.Spelled.{spelled}
 use Rattle.list_meaning.specs.laws.FormulaLaw.{CanWrite, IsPlainName}
 use Rattle.list_meaning.specs.laws.HeldLaw.{byte_ink}
 use Rattle.list_meaning.specs.laws.LineLaw.{ink_of}
-use Rattle.list_meaning.specs.laws.ConstantLines.{IsCount, in_name, in_digits, in_formula}
+use Rattle.list_meaning.specs.laws.ConstantLines.{in_name, in_digits, in_formula}
 use Rattle.list_meaning.specs.laws.BytesLine.{AreBytes, digits_of}
 use Rattle.list_meaning.specs.laws.MoreLines.{IsLoadName, front_is}
 use Rattle.list_meaning.specs.laws.LineGives.{FitsOperand}

@@ -3,9 +3,8 @@ use Rattle.std.proofs.Common.{◌≡◌, ℕ, zero, suc, ◌+◌, ◌-◌, ◌^�
 use Rattle.std.specs.Prelude.{◌&&◌, ◌||◌, ◌==◌, not, nat_le, bytes_eq, is_some, replicate, Result}
 use Rattle.std.specs.Int.{is_power_of_two}
 use Rattle.std.specs.Option.{option_map}
-use Rattle.std.specs.List.{AllByRecursion, list_all, list_any, flat_map, position_or_len}
-use Rattle.std.proofs.lemmas.Bool.{eqb-true, leb-true, ne_eqb, and_parts, not-true}
-use Rattle.std.proofs.lemmas.List.{length-replicate}
+use Rattle.std.specs.List.{AllByRecursion, list_all, flat_map, position_or_len}
+use Rattle.std.proofs.lemmas.Bool.{eqb-true, leb-true, and_parts}
 use Rattle.std.proofs.lemmas.List.Concat.{flat_map-cons}
 use Rattle.std.proofs.lemmas.Slice.Eq.{bytes_eq-Decides}
 use Rattle.omf_format.specs.Field.{◌>>=◌, Layout}
@@ -13,10 +12,9 @@ use Rattle.omf_format.specs.File as format
 use Rattle.omf_format.specs.Header.{Fields, form_of, is_listed}
 use Rattle.omf_format.specs.Record as records
 use Rattle.omf_format.specs.Record.{Record, End, IsRecord}
-use Rattle.omf_format.specs.Reading.{is_end}
 use Rattle.omf_format.specs.laws.FieldLaws.{bind_ok}
 use Rattle.link_meaning.specs.Sizes.{body_size}
-use Rattle.orca_meaning.specs.Line.{Line, line_of}
+use Rattle.orca_meaning.specs.Line.{line_of}
 use Rattle.macro_meaning.specs.Symbol.{with_name}
 use Rattle.asm_meaning.specs.declared.directives.Class.{Class}
 use Rattle.asm_meaning.specs.declared.directives.Class.TheVariants.{Code, Data}
@@ -33,19 +31,19 @@ use Rattle.list_meaning.specs.Listed.{Said, NextAlign, NextOrg, Begins, Kinds, T
 use Rattle.list_meaning.specs.Listing as listing
 use Rattle.list_meaning.specs.Listing.{Before, Given, unpadded, is_padded, is_listable, is_listable_load_name, is_listed_form, greatest_length, has_lost_place, has_listable_header, unless_zero, front_of, widths_rest, said_rest, is_among, is_short, are_short, given_by, flushed, then_said, equate_name, equates_of, or_record, said_from, at_front, both_long, listing_of, listing_from}
 use Rattle.list_meaning.specs.Flat.{contents_of}
-use Rattle.list_meaning.specs.Given.{records_said, name_said, widths_said, Leaves, IsLeft, Opens, Closes}
+use Rattle.list_meaning.specs.Given.{name_said, widths_said, Opens, Closes}
 use Rattle.list_meaning.specs.laws.BytesLine.{AreBytes}
 use Rattle.list_meaning.specs.laws.FormulaLaw.{IsPlainName}
 use Rattle.list_meaning.specs.laws.FormulaCan.{plain_name}
 use Rattle.list_meaning.specs.laws.MoreLines.{IsLoadName, padded, next_align_step, next_org_step, start_step, data_step, end_step}
 use Rattle.list_meaning.specs.laws.LineGives.{Stands, line_gives}
-use Rattle.list_meaning.specs.laws.Behind.{Leads, leads_on, one_more, given, widths_after, names_after, given-append, AreFine, AreFine-append, Holds, Ran, lines_run}
+use Rattle.list_meaning.specs.laws.Behind.{Leads, leads_on, one_more, given, widths_after, given-append, AreFine, AreFine-append, Holds, Ran, lines_run}
 use Rattle.list_meaning.specs.laws.RunGives.{Runs, rest_runs}
 use Rattle.list_meaning.specs.laws.Content.{Alike, alike_cons, alike_end, spaces_of}
-use Rattle.list_meaning.specs.laws.RecordLines.{IsPut, IsGiven, IsKnown, record_given}
+use Rattle.list_meaning.specs.laws.RecordLines.{IsKnown, record_given}
 use Rattle.list_meaning.specs.laws.WholeLaw.{IsSaidLine}
 use Rattle.list_meaning.specs.laws.SaidLines.{front_line, origin_line, begins_line, kind_line, end_line, fine_line}
-use Rattle.list_meaning.specs.laws.ReadFacts.{HasFields, HasBytes, EndsLast, IsReadSegment}
+use Rattle.list_meaning.specs.laws.ReadFacts.{HasBytes, EndsLast, IsReadSegment}
 
 -- ---- the records of a segment
 
