@@ -1,0 +1,4 @@
+pub mod OutputView
+pub mod Kept
+pub mod LineView
+pub mod RunView

@@ -1,0 +1,9 @@
+//! A lister: from an object file to the source that is assembled to the same content (ORCA/M reference manual, "Assembler
+//! directives"; WDC 65C816 data sheet, addressing modes). Which segments can be listed, and how, is this project's own.
+#![tactic(auto)]
+
+mod lines;
+mod output;
+mod run;
+mod spellings;
+mod stop;
