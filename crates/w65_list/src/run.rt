@@ -58,7 +58,7 @@ fn widths_after(widths: Widths, mnemonic: Mnemonic, operand: &[u8]) -> Widths
 }
 
 /// The instruction of an opcode.
-fn instruction_of(opcode: u8) -> (Mnemonic, Mode)
+pub(crate) fn instruction_of(opcode: u8) -> (Mnemonic, Mode)
     ensures { result ≡ decoded opcode }
 {
     decode(opcode)
@@ -66,7 +66,7 @@ fn instruction_of(opcode: u8) -> (Mnemonic, Mode)
 
 /// How many bytes stand behind an opcode.
 #[tactic(auto, unfolding(asm_meaning::specs::Instruction::operand_bytes))]
-fn operand_size(widths: Widths, opcode: u8) -> usize
+pub(crate) fn operand_size(widths: Widths, opcode: u8) -> usize
     ensures size { result ≡ behind_opcode (widths_view widths) opcode }
     ensures few { result ≤ 3 }
 {
