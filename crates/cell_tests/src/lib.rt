@@ -12,6 +12,8 @@ mod order;
 #[cfg(test)]
 mod patches;
 #[cfg(test)]
+mod runtime;
+#[cfg(test)]
 mod tables;
 #[cfg(test)]
 mod written;

@@ -1,6 +1,6 @@
 //! Entries of a jump table, read and changed where they stand.
 
-ghost use Rattle.std.specs.Prelude.{◌≡◌, ◌≢◌, ◌⊎◌, ◌↔◌, ◌+◌, ◌*◌, ◌<◌, ◌≤◌, ℕ, Option, length, IsNone, IfSome, IfNone, MatchOption, None, Some};
+ghost use Rattle.std.specs.Prelude.{◌≡◌, ◌≢◌, ◌⊎◌, ◌↔◌, ◌+◌, ◌*◌, ◌<◌, ◌≤◌, ◌^◌, ℕ, Option, length, IsNone, IfSome, IfNone, MatchOption, None, Some};
 ghost use Rattle.byteorder.specs.Endian.{little_bytes};
 ghost use Rattle.load_meaning.specs.declared.table.Entry.{Entry};
 ghost use Rattle.load_meaning.specs.Table.{HasCode, IsEntryAt, code_bytes, entry_bytes, entry_place, written_at};
