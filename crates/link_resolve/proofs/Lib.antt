@@ -14,6 +14,7 @@ pub mod DefinitionLaws
 pub mod UseLaws
 pub mod UseTables
 pub mod SearchLaws
+pub mod OutsideTables
 pub mod LinkedLaws
 pub mod UsingLaws
 pub mod TitleLaws
@@ -27,6 +28,9 @@ pub mod GrowLaws
 pub mod GatherLaws
 pub mod LoadNames
 pub mod LaidLaws
+pub mod InputLaws
+pub mod PartLaws
+pub mod RuntimeLaws
 pub mod PhaseLaws
 pub mod AmongLaws
 pub mod LayoutFaults

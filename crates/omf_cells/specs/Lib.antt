@@ -3,6 +3,7 @@ pub mod Walk
 pub mod Places
 pub mod Content
 pub mod Load
+pub mod Paths
 pub mod Laws
 pub mod WrittenParts
 pub mod Joined
