@@ -5,8 +5,10 @@ pub mod ContentBytes
 pub mod ImageLaws
 pub mod PutLaws
 pub mod FileLaws
+pub mod PathLaws
 pub mod LoadLaws
 pub mod RecordLaws
+pub mod AllFound
 pub mod SlotLaws
 pub mod SeatLaws
 pub mod ValueLaws
@@ -17,4 +19,5 @@ pub mod LocatedLaws
 pub mod WalkLaws
 pub mod WalkedLaws
 pub mod CircularLaws
+pub mod ExportLaws
 pub mod EmitLaws
