@@ -32,6 +32,7 @@ pub mod LaidLaws
 pub mod InputLaws
 pub mod PartLaws
 pub mod RuntimeLaws
+pub mod GivenLaws
 pub mod PhaseLaws
 pub mod AmongLaws
 pub mod LayoutFaults
