@@ -64,7 +64,7 @@ images_same list table number (x ∷ xs) (h ∷ headers) (content ∷ contents) 
     ap (λ (f : Fields). image_in f content own ∷ images_in [] headers contents) head
     ∙ ap (λ (i : Image). i ∷ images_in [] headers contents) (image_same (load_fields list number x) (linked list table x) content own hold.0)
     ∙ ap (λ (l : List Image). image_of (load_fields list number x) (linked list table x) own ∷ l)
-        (ap (λ (l : List Record). images_in l headers contents) (sym (none_later (form_in list) number (exports list table) some)) ∙ images_same list table (number + 1) xs headers contents (omega (arith, some)) tail hold.1)
+    (ap (λ (l : List Record). images_in l headers contents) (sym (none_later (form_in list) number (exports list table) some)) ∙ images_same list table (number + 1) xs headers contents (omega (arith, some)) tail hold.1)
 
 length-headers_from : (list : List Member) (number : ℕ) (xs : List (List ℕ)) → length (headers_from list number xs) ≡ length xs
 length-headers_from list number [] = refl

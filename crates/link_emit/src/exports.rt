@@ -167,12 +167,7 @@ fn put_export(
 }
 
 /// Appends the ENTRY record of the definition with this number, where all see it and its value is a place that is exported.
-fn put_seen(
-    out: &mut Vec<u8>,
-    whole: &Whole,
-    number: usize,
-    seen: Seen,
-) -> Result<(), PutFault>
+fn put_seen(out: &mut Vec<u8>, whole: &Whole, number: usize, seen: Seen) -> Result<(), PutFault>
     requires whole { IsWhole whole.now.program.now whole.now.slots.now whole.now.loads.now whole.now.table }
     requires named { IsName 0 seen.name.now }
     ensures { OnOk result ((f : Found) → slice_get (entries whole.now.program.now) number ≡ Some f → IsSeen f.definition (seen_name seen.entry)

@@ -121,7 +121,9 @@ pub fn put_record<'a>(
                     count: *count,
                     n: *n,
                 };
-                put_value(content, table, program, loads, site, location, formula, value)
+                put_value(
+                    content, table, program, loads, site, location, formula, value,
+                )
             }
             Err(fault) => Err(cause_of(fault)),
         },

@@ -34,6 +34,17 @@ fill-requires-clause-whole c =
       table' = ap (λ (n : ℕ). n + 1) (headers_size list c.load_headers-headers.result.now c.load_headers-headers.ensures);
     }
 
+pub exports_text-requires : goal.exports_text-requires
+exports_text-requires c =
+    let list = c.args.program.now in
+    let values = subst (AreValues list) (sym c.as_slice.ensures.value) c.in-Ok.ensures.valued in
+    record {
+      files = c.know_files.ensures;
+      known = values.known;
+      loads' = c.as_slice-2.ensures.value ∙ c.in-Ok-loads_of.ensures ∙ ap (map told_load) c.load_headers-headers.ensures;
+      table' = ap (λ (n : ℕ). n + 1) (headers_size list c.load_headers-headers.result.now c.load_headers-headers.ensures);
+    }
+
 pub returns-in-Err-fill-clause-refused : goal.returns-in-Err-fill-clause-refused
 returns-in-Err-fill-clause-refused c =
     let list = c.args.program.now in
@@ -62,7 +73,8 @@ returns-in-Ok-write_linked-clause-written c =
     let filled = c.in-Ok-fill.ensures.ok in
     let loads : AreLoads list told headers c.as_slice-3.result.now =
     subst (AreLoads list told headers) (sym c.as_slice-3.ensures.value) (record { headers' = c.load_headers-headers.ensures; contents' = filled.holds }) in
-    written_is list told values.table filled.made' c.in-Ok-write_linked.output.items (c.in-Ok-write_linked.ensures.ok list told loads filled.targets') c.in-Ok-write_linked.ensures.short
+    let exported = c.as_slice-4.ensures.value ∙ c.in-Ok-exports_text.ensures in
+    written_is list told values.table filled.made' c.in-Ok-write_linked.output.items (c.in-Ok-write_linked.ensures.ok told loads exported filled.targets') c.in-Ok-write_linked.ensures.short
 
 pub returns-in-Err-TooLong-clause-refused : goal.returns-in-Err-TooLong-clause-refused
 returns-in-Err-TooLong-clause-refused c =
@@ -73,5 +85,6 @@ returns-in-Err-TooLong-clause-refused c =
     let filled = c.in-Ok-fill.ensures.ok in
     let loads : AreLoads list told headers c.as_slice-3.result.now =
     subst (AreLoads list told headers) (sym c.as_slice-3.ensures.value) (record { headers' = c.load_headers-headers.ensures; contents' = filled.holds }) in
+    let exported = c.as_slice-4.ensures.value ∙ c.in-Ok-exports_text.ensures in
     subst (IsEmitRefused list) (sym c.too_long.ensures)
-    (refused_size list told values.table filled.made' (c.in-Err-TooLong.ensures.too_long (ap failed c.in-Err-TooLong.field-0-is) list told loads filled.targets'))
+    (refused_size list told values.table filled.made' (c.in-Err-TooLong.ensures.too_long (ap failed c.in-Err-TooLong.field-0-is) told loads exported filled.targets'))
