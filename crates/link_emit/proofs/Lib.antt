@@ -3,6 +3,7 @@ pub mod FitLaws
 pub mod ContentLaws
 pub mod ContentBytes
 pub mod ImageLaws
+pub mod OutsideLengths
 pub mod PutLaws
 pub mod FileLaws
 pub mod PathLaws

@@ -164,7 +164,7 @@ fn is_far(loads: &[Load], own: u16, file: u16, segment: u16) -> bool
 }
 
 /// LENGTH of the load segment with this number.
-fn length_of(loads: &[Load], number: u16) -> u32
+pub fn length_of(loads: &[Load], number: u16) -> u32
     ensures { (headers : List Fields) → loads.now ≡ map told_load headers → result ≡ length_of headers number }
 {
     match loads.get(usize::from(number).saturating_sub(1)) {
