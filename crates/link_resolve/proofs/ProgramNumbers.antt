@@ -1,8 +1,8 @@
 -- What numbers of definitions and of exported names stand for, as a program tells it.
-use Rattle.std.proofs.Common.{◌≡◌, inl, inr, ℕ, zero, suc, ◌+◌, ◌-◌, ◌<◌, ◌≤◌, List, [], ◌∷◌, ◌++◌, length, Option, Some, None, refl, sym, ap, subst, ◌∙◌, arith}
+use Rattle.std.proofs.Common.{◌≡◌, inl, inr, ℕ, zero, suc, ◌+◌, ◌-◌, ◌<◌, ◌≤◌, Bool, false, eqb, cond, List, [], ◌∷◌, ◌++◌, length, Option, Some, None, refl, sym, ap, subst, ◌∙◌, arith}
 use Rattle.std.specs.Prelude.{slice_get, option_map, ◌==◌, if◌then◌else◌}
 use Rattle.std.specs.List.{AllByRecursion}
-use Rattle.std.proofs.lemmas.Option.{slice_get_past, slice_get-get_or}
+use Rattle.std.proofs.lemmas.Bool.{ne_eqb}
 use Rattle.link_meaning.specs.First.{IsIn}
 use Rattle.link_meaning.specs.Member.{Member, setting_in}
 use Rattle.link_meaning.specs.Search.{Found, entries, outside, finds}
@@ -69,7 +69,7 @@ entry_place list k f at =
 
 -- ---- what is told
 
-symbol : List Member → ℕ → Member → ℕ → Option (List ℕ) → ℕ → ℕ → ToldSymbol
+abbrev symbol : List Member → ℕ → Member → ℕ → Option (List ℕ) → ℕ → ℕ → ToldSymbol
 symbol list place m at expr size form = record {
   member = place;
   file = if place == 0 then m.file else 1;
@@ -81,19 +81,29 @@ symbol list place m at expr size form = record {
 }
 
 -- of a definition that a member has
-inside_symbol : ToldDefinition → ℕ → ToldSymbol
+abbrev pub inside_symbol : ToldDefinition → ℕ → ToldSymbol
 inside_symbol d load = record { member = d.member; file = 1; segment = load; at = d.at; expr = d.expr; length = d.length; form = d.form }
 
 some_same : {A : Type 0} → (x y : A) → Some x ≡ Some y → x ≡ y
 some_same x y e = cc
 
+abbrev by_test : List Member → Found → Bool → ToldSymbol
+by_test list f b = record {
+  member = f.place;
+  file = cond b f.member.file 1;
+  segment = cond b f.member.number (load_of list f.member);
+  at = f.definition.place;
+  expr = f.definition.expr;
+  length = f.definition.size;
+  form = f.definition.form;
+}
+
 inside_is : (list : List Member) (f : Found) → HasPlace list f → inside_symbol (told_definition f) (load_of list f.member) ≡ told_symbol list f
 inside_is list f has =
-    let by = λ (p : ℕ). symbol list p f.member f.definition.place f.definition.expr f.definition.size f.definition.form in
-    ap (λ (p : ℕ). inside_symbol (record { member = p; at = f.definition.place; expr = f.definition.expr; length = f.definition.size; form = f.definition.form }) (load_of list f.member)) has.number
-    ∙ sym (ap by has.number)
+    let other : eqb f.place 0 ≡ false = ne_eqb f.place 0 (λ (e : f.place ≡ 0). absurd (omega (arith, has.number, e))) in
+    sym (ap (by_test list f) other)
 
-linked : List Member → ℕ → Member → LinkMember
+abbrev linked : List Member → ℕ → Member → LinkMember
 linked list place m = record { file = m.file; segment = m.number; load_segment = load_of list m; offset = offset_of list place m }
 
 load_is : (list : List Member) (place : ℕ) (m : Member) (lm : LinkMember) → Some lm ≡ linked_at list place → member_at list place ≡ Some m → lm.load_segment ≡ load_of list m
@@ -147,7 +157,7 @@ no_member list k d told is = by_found (slice_get (entries list) k) refl told
 
 -- ---- exported names
 
-outside_symbol : Far → ToldSymbol
+abbrev pub outside_symbol : Far → ToldSymbol
 outside_symbol far = record { member = 0; file = far.file; segment = far.segment; at = far.offset; expr = None; length = 0; form = 0x4E }
 
 outside_is : (list : List Member) (f : Found) → IsFar f → outside_symbol (far_of f) ≡ told_symbol list f

@@ -231,8 +231,14 @@ impl<'a> Program<'a> {
     {
         let count = self.kept.linked.definition_count();
         if number < count {
-            let defined = self.kept.linked.definition(number)?;
-            let member = self.member(defined.member)?;
+            let defined = match self.kept.linked.definition(number) {
+                Some(defined) => defined,
+                None => unreachable!(),
+            };
+            let member = match self.member(defined.member) {
+                Some(member) => member,
+                None => unreachable!(),
+            };
             return Some(definition_of(defined, member.load_segment));
         }
         match self.kept.outside.get(number - count) {
