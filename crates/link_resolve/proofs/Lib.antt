@@ -15,6 +15,8 @@ pub mod UseLaws
 pub mod UseTables
 pub mod SearchLaws
 pub mod OutsideTables
+pub mod FirstFound
+pub mod ProgramNumbers
 pub mod LinkedLaws
 pub mod UsingLaws
 pub mod TitleLaws
