@@ -1,4 +1,4 @@
-use Rattle.std.proofs.Common.{ℕ, List, length, ap, arith}
+use Rattle.std.proofs.Common.{ℕ, List}
 use Rattle.load_meaning.specs.Pathnames.{IsPath}
 use Rattle.link_resolve.specs.Runtimes.{files_of}
 use Rattle.link_resolve.proofs.RuntimeLaws.{file_at}
