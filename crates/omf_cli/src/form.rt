@@ -2,8 +2,7 @@
 
 ghost use Rattle.std.specs.Prelude.{◌≡◌, ◌<◌, ◌^◌};
 ghost use Rattle.std.specs.Option.{option_map};
-ghost use Rattle.load_meaning.specs.Pathnames.{is_path_byte};
-ghost use Rattle.omf_cli.specs.Words.{is_path, are_paths, are_printing, words_of, number_in, number_between, short_number_between};
+ghost use Rattle.omf_cli.specs.Words.{is_path, are_paths, is_printing, are_printing, words_of, number_in, number_between, short_number_between};
 ghost use Rattle.omf_cli.specs.Form.{with_output, source_and_output, inputs_only, count_and_seed, last_inputs, output_and_runtimes, form_of, shown};
 
 /// A command with its paths.
@@ -155,20 +154,20 @@ fn short_number_between(least: u64, most: u64, word: &str) -> Option<u32>
     }
 }
 
-/// A byte of a path that can stand in a pathname segment.
-fn is_printing(byte: u8) -> bool
-    ensures { result ≡ is_path_byte byte }
+/// A path that a pathname segment can hold: printing characters other than a space.
+fn is_printing(word: &str) -> bool
+    ensures { result ≡ is_printing word.now }
 {
-    b'!' <= byte && byte <= b'~'
+    word.as_bytes()
+        .iter()
+        .all(|byte| b'!' <= *byte && *byte <= b'~')
 }
 
 /// Whether a pathname segment can hold all paths.
 fn are_printing(words: &[String]) -> bool
     ensures { result ≡ are_printing (words_of words.now) }
 {
-    words
-        .iter()
-        .all(|word| word.as_bytes().iter().all(|byte| is_printing(*byte)))
+    words.iter().all(|word| is_printing(word.as_str()))
 }
 
 /// The last so many inputs, where there are more, and these have printing paths.
@@ -178,7 +177,7 @@ fn last_inputs(count: usize, inputs: &[String]) -> Option<&[String]>
     if count >= inputs.len() {
         return None;
     }
-    let last = &inputs[inputs.len() - count..];
+    let (_, last) = inputs.split_at(inputs.len() - count);
     if are_printing(last) {
         Some(last)
     } else {
