@@ -15,6 +15,8 @@ pub mod UseLaws
 pub mod UseTables
 pub mod SearchLaws
 pub mod OutsideTables
+pub mod FirstFound
+pub mod ProgramNumbers
 pub mod LinkedLaws
 pub mod UsingLaws
 pub mod TitleLaws
@@ -31,6 +33,7 @@ pub mod LaidLaws
 pub mod InputLaws
 pub mod PartLaws
 pub mod RuntimeLaws
+pub mod GivenLaws
 pub mod PhaseLaws
 pub mod AmongLaws
 pub mod LayoutFaults

@@ -6,18 +6,18 @@ use Rattle.std.specs.Global.{Global}
 use Rattle.std.proofs.lemmas.List.{length-map, length-take-le, take-append-drop}
 use Rattle.std.proofs.lemmas.Option.{slice_get_within, slice_get-map, slice_get_read}
 use Rattle.omf_format.specs.File.{Segment}
+use Rattle.load_meaning.specs.Pathnames.{most_paths}
 use Rattle.link_meaning.specs.declared.fault.LinkCause.TheVariants.{Empty}
 use Rattle.link_meaning.specs.declared.fault.LinkFault.{LinkFault}
 use Rattle.link_meaning.specs.declared.form.LinkForm.{LinkForm}
 use Rattle.link_meaning.specs.declared.form.LinkForm.TheVariants.{Program, Runtime as LibraryForm}
 use Rattle.lib_dict.specs.declared.member.Member as held
 use Rattle.link_meaning.specs.First.{HasNone, IsFirst}
-use Rattle.link_meaning.specs.Member.{Input, Setting, alone, Member, setting_in, objects}
+use Rattle.link_meaning.specs.Member.{Input, Setting, alone, setting_in, objects}
 use Rattle.link_meaning.specs.Search.{outside, outside_from}
 use Rattle.link_meaning.specs.LinkedList.{asked}
-use Rattle.link_meaning.specs.LinkFaults.{Given, HasBytes, MayHave, nowhere, IsInput, AreInputs, IsSetting, AreRuntimes, IsProgram, HasFileFault, HasRuntimeFault, HasUseFault, HasLayoutFault}
+use Rattle.link_meaning.specs.LinkFaults.{Given, HasBytes, MayHave, nowhere, IsInput, AreInputs, IsSetting, AreRuntimes, IsProgram, HasFileFault, HasUseFault, HasLayoutFault}
 use Rattle.link_resolve.specs.declared.gather.Gathered as gathered
-use Rattle.link_resolve.specs.declared.linked.Linked.{Linked}
 use Rattle.link_resolve.specs.Reading.{IsFileRefused}
 use Rattle.omf_header.specs.View.{fields}
 use Rattle.link_resolve.specs.declared.layout.Layout as laid
@@ -99,7 +99,7 @@ refused_file files k file kept fault h at (inr has) = inr (record {
 -- ---- the list
 
 pub few_inputs : (given : Given) → FewGiven given → AreFew given.inputs
-few_inputs given few = (omega (arith, few.files), few.inputs)
+few_inputs given few = (omega (arith, few.files), omega (arith, few.bytes))
 
 no_objects : (setting : Setting) (files : List (List ℕ)) (kept : gathered.Gathered) (h : HasGathered files kept) → length kept.linked.members.items ≡ 0 → objects setting h.0 ≡ []
 no_objects setting files kept h none = empty (objects setting h.0) (omega (arith, count_is (objects setting h.0) kept.linked (h.3.objects' setting), none))
@@ -139,7 +139,7 @@ list_of_read given read grown segments is same files form members runtimes few g
     let setting = setting_as read.form read.runtimes.loads.items read.given.now in
     let same_setting : setting_grown grown ≡ setting =
     ap (λ f. setting_as f grown.runtimes.loads.items grown.given.now) form ∙ ap (λ r. setting_as read.form r.loads.items grown.given.now) runtimes ∙ ap (λ l. setting_as read.form read.runtimes.loads.items l) members in
-    let may = may_grow setting given.inputs read.gathered read.runtimes.outside segments is.inputs' same (far_of_read given read is) few.inputs in
+    let may = may_grow setting given.inputs read.gathered read.runtimes.outside segments is.inputs' same (far_of_read given read is) (few_inputs given few).1 in
     record {
       form' = form ∙ is.form';
       files = ap files_of members ∙ is.files;
@@ -229,9 +229,19 @@ size_more items k bytes at = ap total_size (take_more (all_bytes items) k bytes 
     snoc [] = omega arith
     snoc (x ∷ xs) = let rest = snoc xs in omega arith
 
-few_files : (form : LinkForm) (runtimes : List (List ℕ × List ℕ)) → MayHave form runtimes → length runtimes < 2 ^ 32
-few_files Program runtimes may = omega (arith, may)
-few_files LibraryForm runtimes may = omega (arith, ap (λ (l : List (List ℕ × List ℕ)). length l) may)
+pub at_most : (form : LinkForm) (runtimes : List (List ℕ × List ℕ)) → MayHave form runtimes → length runtimes ≤ most_paths
+at_most Program runtimes may = may
+at_most LibraryForm runtimes may = omega (arith, ap (λ (l : List (List ℕ × List ℕ)). length l) may)
+
+-- each of the run-time library files is short, and their number fits in values
+pub few_runtimes : (given : Given) (members : List held.Member) → files_of members ≡ given.runtimes → MayHave given.form given.runtimes → length members < 2 ^ 15
+few_runtimes given members same may =
+    let most = at_most given.form given.runtimes may in
+    omega (arith, most, length-map {B = List ℕ × List ℕ} members (λ (m : held.Member). (m.name, m.bytes.items)), ap (λ (l : List (List ℕ × List ℕ)). length l) same)
+
+pub short_runtimes : (files : List (List ℕ × List ℕ)) (n : ℕ) → total_size (map (λ file. file.1) files) ≤ n → n < 2 ^ 32 → AllByRecursion (λ (file : List ℕ × List ℕ). length file.1 < 2 ^ 32) files
+short_runtimes [] n less few = tt
+short_runtimes (f ∷ files) n less few = (omega arith, short_runtimes files n (omega arith) few)
 
 -- what is kept, where the load segments have no fault
 pub is_kept : (given : Given) (grown : Grown) (kept : Kept) (layout : laid.Layout) (of : IsListOf given grown) → HasBytes given → IsLaidOut given of.grown.list layout → kept.files.items ≡ grown.files.items → kept.linked ≡ grown.linked
@@ -244,7 +254,7 @@ is_kept given grown kept layout of bytes out files linked places headers form me
     let read : length kept.runtimes.items ≡ length kept.given.now =
     ap (λ (l : List (List Segment)). length l) loads ∙ of.runtimes'.count ∙ ap (λ (l : List held.Member). length l) (sym members) in
     let few : length kept.given.now < 2 ^ 32 =
-    omega (arith, few_files given.form given.runtimes bytes.3, ap (λ (l : List (List ℕ × List ℕ)). length l) of.files, length-map {B = List ℕ × List ℕ} grown.given.now (λ (m : held.Member). (m.name, m.bytes.items)), ap (λ (l : List held.Member). length l) members) in
+    omega (arith, few_runtimes given grown.given.now of.files bytes.3, ap (λ (l : List held.Member). length l) members) in
     kept_is list kept layout (subst (Holds list) (sym linked) of.grown.holds) (subst (λ (l : List (List Segment)). AllAmong l list) (sym files) of.grown.among) (omega (arith, of.grown.few)) out.laid out.short
     (omega (arith, out.few, loads_are list layout out.laid)) places (all_headers list layout (map fields kept.headers.items) out.laid out.short headers) setting
     (subst (IsOutsideOf list) (sym table) (list_outside given grown of)) read few (record { given = given; bytes = bytes; resolved = out.resolved })

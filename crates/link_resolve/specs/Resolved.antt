@@ -11,7 +11,6 @@ use Rattle.link_meaning.specs.LinkedList.{asked}
 use Rattle.link_meaning.specs.LinkFaults.{Given, MayHave, AreInputs, HasFileFault, HasUseFault, IsFirstResolveFault, IsResolved}
 use Rattle.link_resolve.specs.declared.gather.Gathered as gathered
 use Rattle.link_resolve.specs.declared.layout.Layout as laid
-use Rattle.link_resolve.specs.declared.linked.Linked.{Linked}
 use Rattle.link_resolve.specs.Reading.{memory_fault}
 use Rattle.link_resolve.specs.declared.resolving.Read.{Read}
 use Rattle.link_resolve.specs.declared.resolving.Grown.{Grown}
@@ -43,11 +42,10 @@ AreFew files = (length files < 2 ^ 32) × (total_size files < 2 ^ 32)
 abbrev pub HavePaths : Given → Type 0
 HavePaths given = AllByRecursion (λ file. IsPath file.0) given.runtimes × MayHave given.form given.runtimes
 
--- there are fewer than 2^32 files of both kinds; the inputs have fewer than 2^32 bytes together, and so has each run-time library file
+-- there are fewer than 2^32 files, since one list numbers both kinds, and all of them hold together fewer than 2^32 bytes
 pub record FewGiven (given : Given) : Type 0 where
-  pub inputs : total_size given.inputs < 2 ^ 32
   pub files : length given.inputs + length given.runtimes < 2 ^ 32
-  pub each : AllByRecursion (λ file. length file.1 < 2 ^ 32) given.runtimes
+  pub bytes : total_size given.inputs + total_size (map (λ file. file.1) given.runtimes) < 2 ^ 32
 
 -- each library has fewer rows than bytes: each row takes twelve
 abbrev pub FewRows : List Input → List (List ℕ) → Type 0

@@ -109,11 +109,12 @@ impl<'a> Outside<'a> {
             → AreOutside (fs ++ filter_map (outside_of file r) (exports_of r.segments)) self.new) }
     {
         let mut place = 0;
-        'exports: while place < load.exports() {
-            match load.export(place) {
-                Some(export) => self.add_export(load, export, file)?,
+        'names: while place < load.exports() {
+            let export = match load.export(place) {
+                Some(export) => export,
                 None => unreachable!(),
-            }
+            };
+            self.add_export(load, export, file)?;
             place += 1;
         }
         Ok(())

@@ -89,8 +89,13 @@ impl<'a> Model for Program<'a> {
 /// A definition of a member in the load segment with this number.
 fn definition_of(defined: Defined, load_segment: u16) -> Definition
     ensures { result ≡ record {
-        member = defined.entry.member; file = 1; segment = load_segment; at = defined.entry.at; expr = defined.entry.expr;
-        length = defined.entry.length; form = defined.entry.form;
+      member = defined.entry.member;
+      file = 1;
+      segment = load_segment;
+      at = defined.entry.at;
+      expr = defined.entry.expr;
+      length = defined.entry.length;
+      form = defined.entry.form;
     } }
 {
     Definition {
@@ -107,7 +112,13 @@ fn definition_of(defined: Defined, load_segment: u16) -> Definition
 /// A name that stands for a place in a run-time library file.
 fn definition_at<'a>(far: Far) -> Definition<'a>
     ensures { result ≡ record {
-        member = 0; file = far.file; segment = far.segment; at = far.offset; expr = None; length = 0; form = 0x4E;
+      member = 0;
+      file = far.file;
+      segment = far.segment;
+      at = far.offset;
+      expr = None;
+      length = 0;
+      form = 0x4E;
     } }
 {
     Definition {
@@ -220,8 +231,14 @@ impl<'a> Program<'a> {
     {
         let count = self.kept.linked.definition_count();
         if number < count {
-            let defined = self.kept.linked.definition(number)?;
-            let member = self.member(defined.member)?;
+            let defined = match self.kept.linked.definition(number) {
+                Some(defined) => defined,
+                None => unreachable!(),
+            };
+            let member = match self.member(defined.member) {
+                Some(member) => member,
+                None => unreachable!(),
+            };
             return Some(definition_of(defined, member.load_segment));
         }
         match self.kept.outside.get(number - count) {

@@ -50,24 +50,6 @@ struct Grown<'a> {
     form: LinkForm,
 }
 
-/// The most files, and the most bytes that they have together.
-const MOST: usize = 0xFFFF_FFFF;
-
-/// There are fewer than 2^32 files, and they have fewer than 2^32 bytes together, as 255 files of 16,777,216 bytes have.
-pub fn are_few(inputs: &Vec<Vec<u8>>) -> bool
-    ensures few { OnTrue result (AreFew (all_bytes inputs.now.items)) }
-    ensures many { result ≡ false → ¬ AreFew (all_bytes inputs.now.items) }
-{
-    let mut left = MOST;
-    'files: for file in inputs {
-        if file.len() > left {
-            return false;
-        }
-        left -= file.len();
-    }
-    inputs.len() <= MOST
-}
-
 /// Reads all inputs.
 fn gather<'a>(alloc: Global, inputs: &'a Vec<Vec<u8>>) -> Result<Gathered<'a>, LinkFault>
     requires { AreFew (all_bytes inputs.now.items) }
@@ -109,7 +91,8 @@ fn read_all<'a>(
     given: &'a [Member],
     form: LinkForm,
 ) -> Result<Read<'a>, LinkFault>
-    requires { FewGiven (given_of inputs.now.items given.now form) }
+    requires few { FewGiven (given_of inputs.now.items given.now form) }
+    requires paths { HavePaths (given_of inputs.now.items given.now form) }
     ensures read { IfOk result (λ read. IsReadAll (given_of inputs.now.items given.now form) read) }
     ensures refused { IfErr result (λ fault. IsRefused (given_of inputs.now.items given.now form) fault) }
 {
@@ -153,7 +136,13 @@ fn grow_whole<'a>(alloc: Global, read: Read<'a>) -> Result<Grown<'a>, AllocError
         mut linked,
         offers,
     } = gathered;
-    let grown = grow(alloc, files.as_slice(), &runtimes.outside, &offers, &mut linked);
+    let grown = grow(
+        alloc,
+        files.as_slice(),
+        &runtimes.outside,
+        &offers,
+        &mut linked,
+    );
     drop(offers);
     match grown {
         Ok(()) => Ok(Grown {

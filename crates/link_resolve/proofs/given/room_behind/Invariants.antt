@@ -1,6 +1,6 @@
 use Rattle.std.proofs.Common.{◌≡◌, ◌+◌, take}
 use Rattle.link_resolve.specs.Resolved.{all_bytes, total_size}
-use Rattle.link_resolve.proofs.resolving.are_few.Given as goal
+use Rattle.link_resolve.proofs.given.room_behind.Given as goal
 
 -- what is left, and the files so far
 abbrev pub invariant-files : goal.invariant-files
