@@ -1,6 +1,6 @@
 //! `link`, `rtl` and `linkrt`: the load file of objects and libraries, and of run-time library files behind them.
 
-ghost use Rattle.std.specs.Prelude.{◌≡◌, ◌≤◌, length, IfOk, IsTrue};
+ghost use Rattle.std.specs.Prelude.{◌≡◌, ◌≤◌, ◌-◌, length, take, drop, IfOk, IsTrue};
 ghost use Rattle.omf_cli.specs.LinkCauses.{link_cause_name};
 ghost use Rattle.link_resolve.specs.Resolved.{given_of, FewGiven, HavePaths};
 ghost use Rattle.link_resolve.specs.Runtimes.{files_of};
@@ -128,19 +128,42 @@ fn make_of(
     }
 }
 
+/// A file under its path.
+fn under_path(alloc: Global, path: &str, bytes: Vec<u8>) -> Result<Member, AllocError>
+    requires { length path.now ≤ 255 }
+    ensures name { IfOk result (λ member. member.name ≡ path.now) }
+    ensures bytes { IfOk result (λ member. member.bytes.items ≡ bytes.items) }
+{
+    let name = Vec::from_slice(alloc, path.as_bytes())?;
+    Ok(Member {
+        name: Name::from_vec(name),
+        bytes,
+    })
+}
+
 /// The files under their paths.
 fn under_paths(alloc: Global, paths: &[String], files: Vec<Vec<u8>>) -> Result<Vec<Member>, AllocError>
-    ensures { IfOk result (λ members. files_of members.items ≡ under_paths (words_of paths.now) (all_bytes files.entry.items)) }
+    requires { IsTrue (are_paths 1 16 (words_of paths.now)) }
+    ensures { IfOk result (λ members. files_of members.items ≡ under_paths (words_of paths.now) (all_bytes files.items)) }
 {
     let mut members = Vec::new(alloc);
-    for (path, bytes) in paths.iter().zip(files) {
-        let name = Vec::from_slice(alloc, path.as_bytes())?;
-        members.push(Member {
-            name: Name::from_vec(name),
-            bytes,
-        })?;
+    let mut files = files.into_iter();
+    'paths: for path in paths {
+        match files.next() {
+            Some(bytes) => members.push(under_path(alloc, path.as_str(), bytes)?)?,
+            None => return Ok(members),
+        }
     }
     Ok(members)
+}
+
+/// The files but the last so many, and these.
+fn parted(mut files: Vec<Vec<u8>>, count: usize) -> Result<(Vec<Vec<u8>>, Vec<Vec<u8>>), AllocError>
+    ensures front { IfOk result (λ parts. parts.0.items ≡ take (length files.items - count) files.items) }
+    ensures behind { IfOk result (λ parts. parts.1.items ≡ drop (length files.items - count) files.items) }
+{
+    let behind = files.split_off(files.len().saturating_sub(count))?;
+    Ok((files, behind))
 }
 
 /// The load file of all files.
@@ -159,10 +182,9 @@ fn make_with(alloc: Global, files: Vec<Vec<u8>>, paths: &[String]) -> Result<Mak
     requires few { length files.items ≤ 255 }
     requires paths { IsTrue (are_paths 1 16 (words_of paths.now)) }
     requires printing { IsTrue (are_printing (words_of paths.now)) }
-    ensures { IfOk result (λ made. LinkMakes (given_with (words_of paths.now) (all_bytes files.entry.items)) (made_of made)) }
+    ensures { IfOk result (λ made. LinkMakes (given_with (words_of paths.now) (all_bytes files.items)) (made_of made)) }
 {
-    let mut inputs = files;
-    let behind = inputs.split_off(inputs.len().saturating_sub(paths.len()))?;
+    let (inputs, behind) = parted(files, paths.len())?;
     let runtimes = under_paths(alloc, paths, behind)?;
     make_of(alloc, &inputs, &runtimes, LinkForm::Program)
 }
