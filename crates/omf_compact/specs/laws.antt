@@ -1,0 +1,17 @@
+pub mod Walk
+pub mod Writing
+pub mod Sheets
+pub mod StretchLaws
+pub mod PartedLaws
+pub mod SpacedLaws
+pub mod Fronts
+pub mod CellsBack
+pub mod CanonLaws
+pub mod HeldLaws
+pub mod SegmentLists
+pub mod PathnameLaws
+pub mod LoadableAgain
+pub mod AnswerLaws
+pub mod KeptLaws
+pub mod WalkLaws
+pub mod Examples
