@@ -9,6 +9,7 @@ ghost use Rattle.omf_cli.specs.Making.{MakesRun, CanMake};
 ghost use Rattle.omf_cli.specs.Tool.{HasRun, CanSucceed};
 
 use crate::asm::{Asm, inputs_of};
+use crate::compact::Compact;
 use crate::dump::Dump;
 use crate::form::{Form, read_form};
 use crate::library::Lib;
@@ -54,7 +55,8 @@ fn run_asm<F: Files, S: Sink>(
 /// for each segment of a file, and one for each of its records. `run SCRIPT` runs a script of loader commands, which is read
 /// whole before, and prints a line for each. `lib OUT OBJ..` makes a library of 1 to 255 object files, whose paths are their
 /// names in it; all are read in order before anything is written. `stress N SEED` makes a workload of N dynamic segments, 1 to 64,
-/// for a seed of 32 bits, links it, runs it over a store of its own, and prints a line. Other words print the usage line.
+/// for a seed of 32 bits, links it, runs it over a store of its own, and prints a line. `compact IN OUT`
+/// writes a load file in its one fixed form. Other words print the usage line.
 pub fn run_tool<F: Files, S: Sink>(
     alloc: Global,
     words: &Vec<String>,
@@ -91,5 +93,8 @@ pub fn run_tool<F: Files, S: Sink>(
             run_maker(alloc, &Lib { inputs }, Some(output), inputs, files, out)
         }
         Some(Form::Stress { count, seed }) => run_stress(alloc, count, seed, out, last),
+        Some(Form::Compact { inputs, output }) => {
+            run_maker(alloc, &Compact, Some(output), inputs, files, out)
+        }
     }
 }
