@@ -3,4 +3,5 @@ pub mod Canonical
 pub mod Causes
 pub mod Answer
 pub mod Kept
+pub mod Replaced
 pub mod laws

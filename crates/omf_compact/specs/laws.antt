@@ -13,5 +13,8 @@ pub mod PathnameLaws
 pub mod LoadableAgain
 pub mod AnswerLaws
 pub mod KeptLaws
+pub mod Sights
+pub mod SightLaws
+pub mod ReplacedLaws
 pub mod WalkLaws
 pub mod Examples

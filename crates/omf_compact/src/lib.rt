@@ -14,4 +14,6 @@ mod segments;
 
 pub use compacting::canonical;
 pub use fault::{CompactCause, CompactFault};
-pub use laws::{canonical_files_are_load_files, canonical_forms_are_one};
+pub use laws::{
+    canonical_files_are_load_files, canonical_files_are_not_seen, canonical_forms_are_one,
+};
