@@ -1,5 +1,5 @@
 -- What the records of a body export, as far as its reader has come.
-use Rattle.std.proofs.Common.{◌≡◌, ℕ, ◌+◌, ◌-◌, ◌≤◌, true, List, [], ◌∷◌, ◌++◌, length, map, take, drop, Some, None, Ok, Err, refl, sym, ap, ◌∙◌, append_assoc, arith}
+use Rattle.std.proofs.Common.{◌≡◌, ℕ, ◌+◌, ◌≤◌, true, List, [], ◌∷◌, ◌++◌, length, take, Some, None, Ok, Err, refl, sym, ap, ◌∙◌, append_assoc, arith}
 use Rattle.std.specs.List.{flat_map}
 use Rattle.std.proofs.lemmas.List.{append-nil, length-drop, length-take}
 use Rattle.std.proofs.lemmas.List.Concat.{flat_map-cons}
@@ -12,7 +12,7 @@ use Rattle.omf_format.specs.laws.FileLaws.{Answer, gave, same_found, open_at_som
 use Rattle.load_meaning.specs.declared.load.LoadFault.{LoadFault}
 use Rattle.load_meaning.specs.Exports.{Export, exported, exports_from, exports_of}
 use Rattle.load_meaning.specs.Loadable.{Fault, in_segment, first_in, shape_fault, later_fault}
-use Rattle.load_meaning.specs.laws.CellLaws.{IsShaped, shaped, later_none}
+use Rattle.load_meaning.specs.laws.CellLaws.{shaped, later_none}
 use Rattle.std.specs.Option.{option_or}
 use Rattle.std.specs.Prelude.{Option, option_map}
 

@@ -29,3 +29,7 @@ pub mod KeptLaws
 pub mod DataLaws
 pub mod PlainLaws
 pub mod FormLists
+pub mod EndLists
+pub mod FilledLists
+pub mod WholeLists
+pub mod EndShows

@@ -1,9 +1,8 @@
 -- The one record of a pathname segment, and the paths of a file.
-use Rattle.std.proofs.Common.{◌≡◌, ℕ, zero, suc, ◌+◌, ◌-◌, ◌<◌, ◌≤◌, Bool, true, false, eqb, List, [], ◌∷◌, ◌++◌, length, map, take, drop, replicate, Option, Some, None, Ok, Err, refl, sym, ap, subst, ◌∙◌, append_assoc, arith}
+use Rattle.std.proofs.Common.{◌≡◌, ℕ, zero, suc, ◌+◌, ◌-◌, ◌≤◌, Bool, true, false, eqb, List, [], ◌∷◌, ◌++◌, length, take, replicate, Option, Some, None, Ok, Err, refl, sym, ap, ◌∙◌, append_assoc, arith}
 use Rattle.std.specs.Prelude.{◌||◌, not, if◌then◌else◌, option_map, slice_get}
 use Rattle.std.specs.List.{list_any}
 use Rattle.std.specs.Option.{option_or, option_map_or}
-use Rattle.std.proofs.lemmas.Bool.{eqb-true, eq-eqb, ne_eqb}
 use Rattle.std.proofs.lemmas.List.{length-append, append-nil}
 use Rattle.omf_format.specs.declared.fault.RecordFault.{RecordFault}
 use Rattle.omf_format.specs.Header.{first_of, is_dynamic, is_skipped}
@@ -13,12 +12,11 @@ use Rattle.omf_format.specs.File.{Segment, body_reader}
 use Rattle.omf_records.specs.declared.segment.SegmentView.{SegmentView}
 use Rattle.omf_records.specs.Segments.{placed, shown}
 use Rattle.omf_format.specs.Body.{body_bytes}
-use Rattle.omf_format.specs.laws.FileLaws.{Answer, gave, same_found, open_at_some, open_at_fault}
+use Rattle.omf_format.specs.laws.FileLaws.{Answer, gave, same_found, open_at_some}
 use Rattle.omf_format.specs.laws.BodyLaws.{none_at_end}
 use Rattle.load_meaning.specs.declared.load.LoadCause.TheVariants.{BadTable}
-use Rattle.load_meaning.specs.declared.load.LoadFault.{LoadFault}
 use Rattle.load_meaning.specs.Cells.{segment_bytes}
-use Rattle.load_meaning.specs.Loadable.{Fault, in_segment, pathnames_flaw, pathnames_fault}
+use Rattle.load_meaning.specs.Loadable.{in_segment, pathnames_flaw, pathnames_fault}
 use Rattle.load_meaning.specs.Pathnames.{has_pathnames, most_paths, paths_of, long_bytes, is_one_long}
 use Rattle.omf_cells.specs.Paths.{lone_bytes, TakesLast, flaw_in, rows_in, flaw_behind, fault_behind, paths_then, is_second}
 

@@ -7,3 +7,6 @@ pub mod Paths
 pub mod Laws
 pub mod WrittenParts
 pub mod Joined
+pub mod Whole
+pub mod Ends
+pub mod SpacedLaws

@@ -4,7 +4,7 @@ use Rattle.std.specs.Option.{option_map_or}
 use Rattle.omf_format.specs.declared.fault.HeaderFault.{HeaderFault}
 use Rattle.omf_format.specs.declared.fault.HeaderFault.TheVariants as header
 use Rattle.load_meaning.specs.declared.load.LoadCause.{LoadCause}
-use Rattle.load_meaning.specs.declared.load.LoadCause.TheVariants.{Truncated, Unsupported, Memory}
+use Rattle.load_meaning.specs.declared.load.LoadCause.TheVariants.{Memory}
 use Rattle.load_meaning.specs.declared.load.LoadFault.{LoadFault}
 use Rattle.omf_format.specs.Header.{Fields}
 use Rattle.omf_format.specs.File.{Segment, IsHeader, IsSegment, segment_at, told_header}

@@ -1,6 +1,6 @@
 //! A load file, as it was read.
 
-ghost use Rattle.std.specs.Prelude.{◌≡◌, ◌↔◌, length, slice_get, IsTrue, IfSome, MatchOption, option_map};
+ghost use Rattle.std.specs.Prelude.{◌≡◌, ◌↔◌, ◌++◌, length, take, map, slice_get, IsTrue, IfOk, IfSome, OnOk, MatchOption, option_map};
 ghost use Rattle.load_meaning.specs.Cells.{cell_at};
 ghost use Rattle.load_meaning.specs.Exports.{exports_of};
 ghost use Rattle.load_meaning.specs.Pathnames.{paths_of, pathnames_of};
@@ -10,10 +10,14 @@ ghost use Rattle.omf_header.specs.View.{fields};
 ghost use Rattle.omf_cells.specs.View.{view, seen_export};
 ghost use Rattle.omf_cells.specs.Load.{IsOutside, HasFields, HasLength, HasPatches, HasBytes, table_targets, Shows, ShowsContent};
 ghost use Rattle.omf_cells.specs.Places.{Stands};
+ghost use Rattle.omf_cells.specs.Whole.{front_at, data_at, HasData, HasWhole};
+ghost use Rattle.omf_cells.specs.WrittenParts.{seen};
 
 use crate::body::write_body;
 use crate::cell::Cell;
+use crate::ends::{end_from, last_end};
 use crate::exports::Export;
+use crate::filled::{lone_piece, put_bytes};
 use crate::kinds::check_kinds;
 use crate::patches::gives_patches;
 use crate::pathnames::pathnames_of;
@@ -22,10 +26,13 @@ use crate::places::Places;
 use crate::spots::{spot_at, write_spots};
 use crate::table::{table_of, target_from};
 use crate::targets::Content;
+use crate::whole::{are_spaced, in_places, whole_patches};
+use crate::written::Patch;
 use jump_table::entry_count;
 use load_meaning::{LoadCause, LoadFault, Target};
 use omf_header::Header;
 use omf_records::SegmentView;
+use std::alloc::{AllocError, Global};
 use std::marker::Model;
 
 /// A load file. Contracts see the list of its segments. Beside the headers it keeps where the data of each segment stands
@@ -226,6 +233,60 @@ impl<'a> LoadFile<'a> {
         match self.segment(segment) {
             Some(view) => write_body(view.records(), out),
             None => unreachable!(),
+        }
+    }
+
+    /// How many cells the segment with this number, from 1, has up to the last one that isn't a byte 0. No memory is taken.
+    pub fn front(&self, segment: u32) -> u32
+        ensures { result ≡ front_at self.now segment }
+    {
+        let (_, content) = match self.content(segment) {
+            Some(found) => found,
+            None => return 0,
+        };
+        end_from(&content.pieces, last_end(&content.spots)) as u32
+    }
+
+    /// Appends the first bytes of the data of the segment with this number, from 1: so many, or all where there are fewer. These
+    /// are the bytes of its records and zeros behind them up to LENGTH. Where memory runs out, part of them may be appended.
+    pub fn put_data(&self, segment: u32, size: u32, out: &mut Vec<u8>) -> Result<(), AllocError>
+        ensures { OnOk result (out.new.items ≡ out.old.items ++ take size (data_at self.now segment)) }
+    {
+        let (view, content) = match self.content(segment) {
+            Some(found) => found,
+            None => return Ok(()),
+        };
+        put_bytes(&content.pieces, size.min(view.header.length), out)
+    }
+
+    /// The data of the segment with this number, from 1, without zeros at their end, where they stand in the file one behind
+    /// another.
+    pub fn data(&self, segment: u32) -> Option<&'a [u8]>
+        ensures { IfSome result (λ bytes. HasData self.now segment bytes.now) }
+    {
+        match self.content(segment) {
+            Some(found) => lone_piece(&found.1.pieces),
+            None => None,
+        }
+    }
+
+    /// The patches of the segment with this number, from 1, in the order of their offsets, where no two share a byte. Over the data they
+    /// give the segment's cells.
+    pub fn patches(&self, alloc: Global, segment: u32) -> Result<Option<Vec<Patch>>, AllocError>
+        ensures { IfOk result (λ found. IfSome found (λ patches. HasWhole self.now segment (map seen patches.items))) }
+    {
+        let (view, content) = match self.content(segment) {
+            Some(found) => found,
+            None => return Ok(None),
+        };
+        let patches = match whole_patches(alloc, &content.spots)? {
+            Some(patches) => in_places(patches)?,
+            None => return Ok(None),
+        };
+        if are_spaced(&patches, view.header.length) {
+            Ok(Some(patches))
+        } else {
+            Ok(None)
         }
     }
 }

@@ -15,6 +15,8 @@ pub mod LibCauses
 pub mod Library
 pub mod Script
 pub mod Stress
+pub mod CompactCauses
+pub mod Compact
 pub mod Tool
 pub mod Code
 pub mod Laws

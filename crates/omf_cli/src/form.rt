@@ -3,7 +3,7 @@
 ghost use Rattle.std.specs.Prelude.{◌≡◌, ◌<◌, ◌^◌};
 ghost use Rattle.std.specs.Option.{option_map};
 ghost use Rattle.omf_cli.specs.Words.{is_path, are_paths, is_printing, are_printing, words_of, number_in, number_between, short_number_between};
-ghost use Rattle.omf_cli.specs.Form.{with_output, source_and_output, inputs_only, count_and_seed, last_inputs, output_and_runtimes, form_of, shown};
+ghost use Rattle.omf_cli.specs.Form.{with_output, source_and_output, inputs_only, input_and_output, count_and_seed, last_inputs, output_and_runtimes, form_of, shown};
 
 /// A command with its paths.
 pub enum Form<'a> {
@@ -40,6 +40,10 @@ pub enum Form<'a> {
         inputs: &'a [String],
         /// The last of them.
         runtimes: &'a [String],
+    },
+    Compact {
+        inputs: &'a [String],
+        output: &'a str,
     },
 }
 
@@ -89,6 +93,22 @@ fn inputs_only(least: usize, most: usize, words: &[String]) -> Option<&[String]>
 {
     if are_paths(least, most, words) {
         Some(words)
+    } else {
+        None
+    }
+}
+
+/// One input, and an output behind it.
+fn input_and_output(words: &[String]) -> Option<(&[String], &str)>
+    ensures { option_map (λ w. (words_of w.0.now, w.1.now)) result ≡ input_and_output (words_of words.now) }
+{
+    if words.len() != 2 {
+        return None;
+    }
+    let (inputs, outputs) = words.split_at(1);
+    let output = outputs[0].as_str();
+    if are_paths(1, 1, inputs) && is_path(output) {
+        Some((inputs, output))
     } else {
         None
     }
@@ -245,6 +265,10 @@ pub fn read_form(words: &[String]) -> Option<Form<'_>>
                 inputs,
                 runtimes,
             })
+        }
+        "compact" => {
+            let (inputs, output) = input_and_output(words)?;
+            Some(Form::Compact { inputs, output })
         }
         _ => None,
     }

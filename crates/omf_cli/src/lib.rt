@@ -2,6 +2,7 @@
 #![tactic(auto)]
 
 mod asm;
+mod compact;
 mod dump;
 mod form;
 mod laws;

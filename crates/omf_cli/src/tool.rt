@@ -9,6 +9,7 @@ ghost use Rattle.omf_cli.specs.Making.{MakesRun, CanMake};
 ghost use Rattle.omf_cli.specs.Tool.{HasRun, CanSucceed};
 
 use crate::asm::{Asm, inputs_of};
+use crate::compact::Compact;
 use crate::dump::Dump;
 use crate::form::{Form, read_form};
 use crate::library::Lib;
@@ -57,7 +58,7 @@ fn run_asm<F: Files, S: Sink>(
 /// names in it; all are read in order before anything is written. `stress N SEED` makes a workload of N dynamic segments, 1 to 64,
 /// for a seed of 32 bits, links it, runs it over a store of its own, and prints a line. `rtl OUT FILE..` links 1 to 255 files to a run-time library file.
 /// `linkrt OUT K FILE..` links a program of 2 to 255 files, of which the last K, 1 to 16, are run-time library files with their paths.
-/// Other words print the usage line.
+/// `compact IN OUT` writes a load file in its one fixed form. Other words print the usage line.
 pub fn run_tool<F: Files, S: Sink>(
     alloc: Global,
     words: &Vec<String>,
@@ -110,5 +111,8 @@ pub fn run_tool<F: Files, S: Sink>(
                 runtimes,
             },
         ) => run_maker(alloc, &LinkRt { runtimes }, Some(output), inputs, files, out),
+        Some(Form::Compact { inputs, output }) => {
+            run_maker(alloc, &Compact, Some(output), inputs, files, out)
+        }
     }
 }

@@ -1,9 +1,9 @@
-use Rattle.std.proofs.Common.{◌≡◌, ◌+◌, ◌-◌, ◌<◌, List, Some, None, length, get_or, map, take, refl, sym, ap, subst, ◌∙◌, arith}
+use Rattle.std.proofs.Common.{◌≡◌, ◌-◌, ◌<◌, List, Some, length, get_or, map, take, refl, sym, ap, ◌∙◌, arith}
 use Rattle.std.specs.Prelude.{◌||◌, slice_get, option_map}
 use Rattle.std.specs.List.{list_any}
 use Rattle.std.proofs.lemmas.Option.{slice_get_read, slice_get-map}
 use Rattle.std.proofs.lemmas.List.{length-map}
-use Rattle.load_meaning.specs.Pathnames.{has_pathnames, paths_of}
+use Rattle.load_meaning.specs.Pathnames.{has_pathnames}
 use Rattle.load_meaning.specs.Loadable.{in_segment, shape_fault, pathnames_fault}
 use Rattle.load_meaning.specs.laws.CellLaws.{shaped, length-segment_bytes}
 use Rattle.omf_records.specs.declared.segment.SegmentView.{SegmentView}

@@ -1,8 +1,7 @@
-use Rattle.std.proofs.Common.{ℕ, sym, ap, subst, ◌∙◌}
+use Rattle.std.proofs.Common.{ℕ, sym}
 use Rattle.omf_format.specs.Record.{Record}
 use Rattle.omf_format.specs.Reading.{records_of}
 use Rattle.omf_records.specs.View.{view}
-use Rattle.omf_cells.specs.Paths.{TakesLast}
 use Rattle.omf_cells.proofs.PathSegments.{lone_some, lone_more}
 use Rattle.omf_cells.proofs.pathnames.lone_bytes.Goals as goal
 

@@ -1,4 +1,4 @@
-use Rattle.std.proofs.Common.{◌-◌, length}
+use Rattle.std.proofs.Common.{◌-◌}
 use Rattle.omf_cells.specs.Load.{seen_paths}
 use Rattle.omf_cells.proofs.PathRuns.{SoFar}
 use Rattle.omf_cells.proofs.pathnames.paths_in.Given as goal

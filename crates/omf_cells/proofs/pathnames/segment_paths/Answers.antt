@@ -1,8 +1,7 @@
-use Rattle.std.proofs.Common.{◌≡◌, false, true, List, ℕ, Some, None, Option, length, sym, ap, subst, ◌∙◌}
+use Rattle.std.proofs.Common.{◌≡◌, List, ℕ, Some, None, Option, length, sym, subst, ◌∙◌}
 use Rattle.std.specs.Prelude.{OnOk, IfOk, IfErr}
 use Rattle.std.proofs.lemmas.Bool.{eq-eqb, ne_eqb}
 use Rattle.omf_format.specs.Header.{is_dynamic, is_skipped}
-use Rattle.load_meaning.specs.Cells.{segment_bytes}
 use Rattle.load_meaning.specs.Pathnames.{most_paths}
 use Rattle.omf_records.specs.Segments.{shown}
 use Rattle.omf_cells.specs.Load.{seen_paths}

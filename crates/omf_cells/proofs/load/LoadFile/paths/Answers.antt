@@ -1,4 +1,4 @@
-use Rattle.std.proofs.Common.{length, map, arith}
+use Rattle.std.proofs.Common.{map, arith}
 use Rattle.omf_records.specs.Segments.{shown}
 use Rattle.omf_cells.proofs.PathFew.{few_kept}
 use Rattle.omf_cells.proofs.load.LoadFile.paths.Goals as goal

@@ -1,0 +1,7 @@
+pub mod Stretches
+pub mod Canonical
+pub mod Causes
+pub mod Answer
+pub mod Kept
+pub mod Replaced
+pub mod laws
