@@ -17,6 +17,7 @@ use omf_base::{Line, LineFault, Name};
 use std::alloc::{AllocError, Global};
 
 /// All files are inputs, and are linked in this form.
+#[derive(Drop)]
 pub struct Link {
     pub form: LinkForm,
 }
