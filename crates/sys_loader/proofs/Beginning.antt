@@ -10,7 +10,6 @@ use Rattle.loader_machine.specs.Taken.{IsTaken}
 use Rattle.iigs_meaning.specs.declared.handles.Handle.{Handle}
 use Rattle.iigs_meaning.specs.declared.wants.Want.{Want}
 use Rattle.iigs_meaning.specs.Fits.{Slots}
-use Rattle.iigs_meaning.specs.declared.faults.PlaceFault.TheVariants as place
 use Rattle.iigs_meaning.specs.Puts.{Purges, PutsAll}
 use Rattle.iigs_meaning.specs.Memory.{Memory, AreAllPlaced, bytes_at}
 use Rattle.loader_machine.specs.declared.seen.Head.{Head}

@@ -19,7 +19,7 @@ use Rattle.load_meaning.specs.Loadable.{IsSoundSegment, IsOwnTarget}
 use Rattle.loader_machine.specs.Taken.{IsTaken}
 use Rattle.loader_machine.specs.laws.TakenLaws.{own_targets}
 use Rattle.omf_cells.specs.Load.{table_targets}
-use Rattle.omf_cells.specs.Places.{place_in, address_in}
+use Rattle.omf_cells.specs.Places.{address_in}
 use Rattle.iigs_meaning.specs.declared.handles.Handle.{Handle}
 use Rattle.iigs_meaning.specs.Fits.{Slots}
 use Rattle.loader_machine.specs.declared.seen.Head.{Head}
