@@ -1,3 +1,4 @@
+pub mod Causes
 pub mod Walk
 pub mod Writing
 pub mod Sheets
