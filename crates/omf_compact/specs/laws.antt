@@ -18,4 +18,3 @@ pub mod Sights
 pub mod SightLaws
 pub mod ReplacedLaws
 pub mod WalkLaws
-pub mod Examples
