@@ -1,31 +1,30 @@
 -- What a written segment has before its ENTRY records.
-use Rattle.std.proofs.Common.{◌≡◌, ℕ, ℤ, zero, suc, ◌+◌, ◌-◌, ◌<◌, ◌≤◌, true, false, eqb, List, [], ◌∷◌, ◌++◌, length, map, take, drop, replicate, Option, Some, None, refl, sym, ap, subst, ◌∙◌, arith, inl, inr}
-use Rattle.std.specs.Prelude.{◌⊎◌, slice_get, option_map}
+use Rattle.std.proofs.Common.{◌≡◌, ℕ, zero, suc, ◌+◌, ◌-◌, ◌<◌, ◌≤◌, true, false, eqb, List, [], ◌∷◌, ◌++◌, length, map, take, Option, Some, None, refl, sym, ap, subst, ◌∙◌, arith, inl, inr}
+use Rattle.std.specs.Prelude.{slice_get, option_map}
 use Rattle.std.specs.Option.{option_map_or}
 use Rattle.std.specs.List.{flat_map, AllByRecursion}
 use Rattle.std.proofs.lemmas.Bool.{cases_lt}
 use Rattle.std.proofs.lemmas.List.{append-nil, length-append, length-map, length-replicate, length-take, take_all}
 use Rattle.std.proofs.lemmas.List.Concat.{flat_map-cons}
-use Rattle.std.proofs.lemmas.Option.{slice_get_past, slice_get_within, slice_get-map}
+use Rattle.std.proofs.lemmas.Option.{slice_get_past, slice_get-map}
 use Rattle.omf_format.specs.Field.{written_layout}
 use Rattle.omf_format.specs.Header.{Fields, form_of}
 use Rattle.omf_format.specs.Record.{Record, LongConst, spelling}
 use Rattle.omf_format.specs.File.{Segment, segment_at}
 use Rattle.load_meaning.specs.Cells.{Cell, Byte, Part, Patch, parts_from, segment_bytes, patches_of, cells}
 use Rattle.load_meaning.specs.WrittenBody.{AreWritten, with_stored, zeros_behind, written_cells, written_data, data_records, lone, lone_record, supers_from, body_records, body_text}
-use Rattle.load_meaning.specs.Pathnames.{has_pathnames}
 use Rattle.load_meaning.specs.laws.CellLaws.{length-cells, length-segment_bytes}
-use Rattle.load_meaning.specs.laws.LayingLaws.{get-front, get-take, Has, Missed, laid, same_laid}
+use Rattle.load_meaning.specs.laws.LayingLaws.{get-front, get-take, Missed, same_laid}
 use Rattle.load_meaning.specs.laws.StoredLaws.{zeros-le, written_apart, parts, patched-laid, stored-laid, fit-stored, fit-cells}
 use Rattle.load_meaning.specs.WrittenBody.{stored}
 use Rattle.omf_cells.specs.Whole.{front_of, front_at, data_at}
 use Rattle.omf_compact.specs.Stretches.{first_broken, stretches, byte_in, bytes_in, IsWrittenCell}
-use Rattle.omf_compact.specs.Canonical.{Plain, plain_of, is_pathname, canon_records, canon_fields, canon_segment}
-use Rattle.omf_compact.specs.laws.Writing.{IsKnown, HasStretches, first_records, first_text}
+use Rattle.omf_compact.specs.Canonical.{plain_of, is_pathname, canon_fields, canon_segment}
+use Rattle.omf_compact.specs.laws.Writing.{IsKnown, first_records, first_text}
 use Rattle.omf_compact.specs.laws.StretchLaws.{covers, stretches_written}
 use Rattle.omf_compact.specs.laws.Fronts.{front, zero_cells, front-zeros, written-front, unbroken-front, stretches-front, records-front}
-use Rattle.omf_compact.specs.laws.HeldLaws.{Byte-of, cell-of}
-use Rattle.omf_compact.specs.laws.CanonLaws.{IsHeld, records-plain}
+use Rattle.omf_compact.specs.laws.HeldLaws.{cell-of}
+use Rattle.omf_compact.specs.laws.CanonLaws.{records-plain}
 use Rattle.omf_compact.specs.laws.AnswerLaws.{data-length, text-longer, segment-length}
 use Rattle.load_meaning.specs.laws.RunLaws.{text}
 use Rattle.omf_compact.specs.laws.PathnameLaws.{path-is, lone_of, lone_patches, bytes-there}

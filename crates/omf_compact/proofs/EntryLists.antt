@@ -1,15 +1,14 @@
 -- The ENTRY records of a load file, segment by segment.
-use Rattle.std.proofs.Common.{◌≡◌, ℕ, zero, suc, ◌+◌, ◌-◌, ◌<◌, ◌≤◌, Bool, true, false, List, [], ◌∷◌, ◌++◌, length, map, drop, Option, Some, None, refl, sym, ap, subst, ◌∙◌, append_assoc, arith, inl, inr}
-use Rattle.std.specs.Prelude.{◌⊎◌, slice_get}
+use Rattle.std.proofs.Common.{◌≡◌, ℕ, zero, suc, ◌+◌, ◌-◌, ◌<◌, ◌≤◌, List, [], ◌∷◌, ◌++◌, length, map, drop, Option, Some, None, refl, sym, ap, subst, ◌∙◌, append_assoc, arith}
+use Rattle.std.specs.Prelude.{slice_get}
 use Rattle.std.specs.List.{flat_map, filter, AllByRecursion}
 use Rattle.std.proofs.lemmas.List.{append-nil}
 use Rattle.std.proofs.lemmas.List.Concat.{flat_map-cons}
-use Rattle.std.proofs.lemmas.Grind.{flat_map-append}
 use Rattle.omf_format.specs.Field.{written_layout}
 use Rattle.omf_format.specs.Record.{Record, End, Const, LongConst, Align, Org, Space, Reloc, InterSeg, ShortReloc, ShortInterSeg, Super, Using, Strong, Label, Equate, Formula, Entry, IsRecord, spelling}
 use Rattle.omf_format.specs.File.{Segment, segment_at}
 use Rattle.load_meaning.specs.Exports.{Export, exported, exports_from, exports_of}
-use Rattle.omf_compact.specs.Canonical.{is_entry, entries_in}
+use Rattle.omf_compact.specs.Canonical.{is_entry}
 use Rattle.omf_compact.specs.laws.Writing.{IsKnown, entry_of, entries_text, AtExports}
 use Rattle.omf_compact.specs.laws.HeldLaws.{entries-are}
 use Rattle.omf_compact.proofs.KnownLaws.{known_read}
@@ -21,12 +20,6 @@ drop_next : {A : Type 0} (xs : List A) (i : ℕ) (x : A) → slice_get xs i ≡ 
 drop_next [] i x e = absurd cc
 drop_next {A} (y ∷ xs) zero x e = let same : y ≡ x = cc in ap (λ (z : A). z ∷ xs) same
 drop_next (y ∷ xs) (suc i) x e = let step : suc i + 1 ≡ suc (i + 1) = omega arith in rw step (drop_next xs i x e)
-
-drop_none : {A : Type 0} (xs : List A) (i : ℕ) → slice_get xs i ≡ None → drop i xs ≡ []
-drop_none [] zero e = refl
-drop_none [] (suc i) e = refl
-drop_none (x ∷ xs) zero e = absurd cc
-drop_none (x ∷ xs) (suc i) e = drop_none xs i e
 
 -- ---- exports and their records
 

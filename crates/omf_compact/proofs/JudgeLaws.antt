@@ -1,6 +1,6 @@
 -- The patches of all segments of a load file.
-use Rattle.std.proofs.Common.{◌≡◌, ℕ, zero, suc, ◌+◌, ◌<◌, ◌≤◌, List, [], ◌∷◌, ◌++◌, length, Option, Some, None, refl, sym, ap, subst, ◌∙◌, arith, inl, inr}
-use Rattle.std.specs.Prelude.{◌⊎◌, slice_get, option_map, map, Vec, IsSomeAnd, IfSome}
+use Rattle.std.proofs.Common.{◌≡◌, ℕ, zero, suc, ◌+◌, ◌<◌, List, [], ◌∷◌, ◌++◌, length, Option, Some, None, refl, sym, ap, subst, ◌∙◌, arith, inl, inr}
+use Rattle.std.specs.Prelude.{slice_get, option_map, map, Vec, IfSome}
 use Rattle.std.specs.declared.alloc.Global.{Global}
 use Rattle.std.specs.List.{AllByRecursion}
 use Rattle.std.specs.Option.{option_or}
@@ -82,9 +82,6 @@ pub record Judged (segments : List Segment) (n : ℕ) (lists : List (Vec code.Pa
   pub count : length lists ≡ n
   pub each : (k : ℕ) (s : Segment) → k < n → slice_get segments k ≡ Some s → first_broken (cells s) ≡ None
   pub lists' : (k : ℕ) (s : Segment) (patches : Vec code.Patch Global) → slice_get segments k ≡ Some s → slice_get lists k ≡ Some patches → HasStretches s (map seen patches.items)
-
-pub judged_none : (segments : List Segment) → Judged segments 0 []
-judged_none segments = record { count = refl; each = λ k s lt is. absurd (omega arith); lists' = λ k s patches is there. absurd cc }
 
 pub judged_more : (segments : List Segment) (n : ℕ) (lists new : List (Vec code.Patch Global)) (patches : Vec code.Patch Global) → Judged segments n lists → new ≡ lists ++ patches ∷ []
     → ((s : Segment) → slice_get segments n ≡ Some s → (first_broken (cells s) ≡ None) × (map seen patches.items ≡ stretches (cells s))) → Judged segments (n + 1) new

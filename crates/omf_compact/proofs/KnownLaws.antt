@@ -1,5 +1,5 @@
 -- What is known of the segments of a load file.
-use Rattle.std.proofs.Common.{◌≡◌, ℕ, zero, suc, ◌+◌, List, Option, Some, None, refl, sym, subst, ◌∙◌, arith}
+use Rattle.std.proofs.Common.{◌≡◌, ℕ, zero, suc, ◌+◌, List, Option, Some, None, refl, subst, arith}
 use Rattle.std.specs.Prelude.{slice_get, option_and_then, IsSomeAnd, IfSome}
 use Rattle.std.specs.List.{AllByRecursion}
 use Rattle.omf_format.specs.File.{Segment, segment_at}
@@ -31,12 +31,6 @@ known_held segments (suc k) s known at un =
     subst (λ (n : ℕ). IsHeld n (plain_of s)) place (segment_held known.file segments k s known.bytes known.loadable un at)
 
 -- ---- a segment by its number
-
-pub one_segment : (segments : List Segment) (number : ℕ) (s t : Segment) → segment_at segments number ≡ Some s → segment_at segments number ≡ Some t → s ≡ t
-one_segment segments number s t a b = same s t (sym a ∙ b)
-  where
-    same : (x y : Segment) → Some x ≡ Some y → x ≡ y
-    same x y e = cc
 
 -- what holds of the segment with a number
 pub at_some : (P : Segment → Type 0) (segments : List Segment) (number : ℕ) (s : Segment) → segment_at segments number ≡ Some s → IsSomeAnd (segment_at segments number) P → P s

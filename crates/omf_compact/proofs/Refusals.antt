@@ -7,7 +7,7 @@ use Rattle.load_meaning.specs.Loadable.{IsFirstLoadFault}
 use Rattle.omf_cells.specs.Load.{UnlessMemory}
 use Rattle.omf_cells.specs.Load as cells
 use Rattle.omf_compact.specs.declared.fault.CompactFault.{CompactFault}
-use Rattle.omf_compact.specs.Causes.{compact_cause, as_compact}
+use Rattle.omf_compact.specs.laws.Causes.{compact_cause, as_compact}
 use Rattle.omf_compact.specs.Answer.{IsRefusedBy, IsRefused}
 
 fault_with : LoadCause → LoadFault → LoadFault

@@ -1,18 +1,17 @@
 -- Segments written one behind another.
-use Rattle.std.proofs.Common.{◌≡◌, ℕ, zero, suc, ◌+◌, ◌-◌, ◌<◌, ◌≤◌, List, [], ◌∷◌, ◌++◌, length, take, drop, replicate, map, Option, Some, None, Result, Ok, Err, refl, sym, ap, subst, ◌∙◌, append_assoc, arith}
-use Rattle.std.specs.Prelude.{slice_get, OnOk}
-use Rattle.std.specs.List.{flat_map}
+use Rattle.std.proofs.Common.{◌≡◌, ℕ, zero, suc, ◌+◌, ◌-◌, ◌<◌, ◌≤◌, List, [], ◌∷◌, ◌++◌, length, take, drop, replicate, Some, Result, Err, refl, sym, ap, subst, ◌∙◌, append_assoc, arith}
+use Rattle.std.specs.Prelude.{slice_get}
 use Rattle.std.proofs.Math.Seq.{take-append_seam, drop-append_seam}
 use Rattle.std.proofs.lemmas.List.{length-append, length-replicate, append-nil}
 use Rattle.std.proofs.lemmas.Grind.{flat_map-append}
 use Rattle.omf_format.specs.Field.{written_layout}
 use Rattle.omf_format.specs.Header.{Fields, header_bytes}
 use Rattle.omf_format.specs.laws.WrittenHeaderLaws.{length-header}
-use Rattle.omf_format.specs.Record.{Record, End, spelling}
+use Rattle.omf_format.specs.Record.{spelling}
 use Rattle.omf_format.specs.File.{Segment, segment_at}
 use Rattle.load_meaning.specs.Exports.{exports_of, exports_from}
 use Rattle.load_meaning.specs.laws.RunLaws.{text}
-use Rattle.omf_compact.specs.Canonical.{Plain, plain_of, plain, canon_records, canon_fields, canon_segment, canon_from, canon}
+use Rattle.omf_compact.specs.Canonical.{plain_of, plain, canon_records, canon_fields, canon_segment, canon_from, canon}
 use Rattle.omf_compact.specs.laws.Writing.{first_records, first_text, entries_text, fields_with, AtExports}
 use Rattle.omf_cells.specs.Load.{HasFields}
 use Rattle.omf_compact.specs.laws.AnswerLaws.{segment-length}
@@ -62,10 +61,6 @@ segment_text number s front body b h =
     ∙ ap (λ (l : List ℕ). header_bytes (canon_fields number p) (length (text (canon_records number p))) ++ l) whole
 
 -- ---- a header is written into the room before a body
-
-pub on_ok : {A E : Type 0} → (r : Result A E) (P Q : Type 0) → (P → Q) → OnOk r P → OnOk r Q
-on_ok (Ok x) P Q f p = f p
-on_ok (Err e) P Q f p = p
 
 pub behind_size : (old body whole : List ℕ) (n : ℕ) → whole ≡ (old ++ replicate n 0) ++ body → length whole ≡ length old + n + length body
 behind_size old body whole n is = omega (arith, ap length is, length-append (old ++ replicate n 0) body, length-append old (replicate n 0), length-replicate {A = ℕ} n 0)

@@ -3,7 +3,6 @@ use Rattle.std.specs.Prelude.{◌≡◌, ◌≤◌, ◌<◌, ℕ, List, length, 
 use Rattle.omf_io.specs.Files.{max_file}
 use Rattle.load_meaning.specs.declared.load.LoadCause.{LoadCause}
 use Rattle.load_meaning.specs.declared.load.LoadCause.TheVariants as load
-use Rattle.load_meaning.specs.declared.load.LoadFault.{LoadFault}
 use Rattle.omf_format.specs.File.{Segment}
 use Rattle.load_meaning.specs.Loadable.{IsLoadable, IsFirstLoadFault}
 use Rattle.omf_compact.specs.declared.fault.CompactCause.{CompactCause}

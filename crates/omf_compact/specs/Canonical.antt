@@ -1,14 +1,14 @@
 -- What a load file holds, in whatever way it is written, and the one file that is written for it (GS/OS Reference, appendix F;
 -- the one fixed form is this project's own).
 use Rattle.std.specs.Prelude.{ℕ, ◌+◌, ◌==◌, Bool, true, false, List, [], ◌∷◌, ◌++◌, length, map, Option, None, option_map, if◌then◌else◌}
-use Rattle.std.specs.List.{filter}
+use Rattle.std.specs.List.{filter, flat_map}
 use Rattle.std.specs.Option.{option_or}
 use Rattle.omf_format.specs.Header.{Fields, form_of, header_bytes}
-use Rattle.omf_format.specs.Record.{Record, End, Const, LongConst, Align, Org, Space, Reloc, InterSeg, ShortReloc, ShortInterSeg, Super, Using, Strong, Label, Equate, Formula, Entry}
+use Rattle.omf_format.specs.Field.{written_layout}
+use Rattle.omf_format.specs.Record.{Record, spelling, End, Const, LongConst, Align, Org, Space, Reloc, InterSeg, ShortReloc, ShortInterSeg, Super, Using, Strong, Label, Equate, Formula, Entry}
 use Rattle.omf_format.specs.File.{Segment}
 use Rattle.load_meaning.specs.Cells.{Cell, cells}
 use Rattle.load_meaning.specs.WrittenBody.{zeros_behind, body_records}
-use Rattle.load_meaning.specs.laws.RunLaws.{text}
 use Rattle.omf_compact.specs.Stretches.{first_broken, stretches, bytes_in}
 
 -- ---- what is held
@@ -104,7 +104,7 @@ canon_fields number p = record {
 -- the header, and the records up to END behind it
 unfoldable pub canon_segment : ℕ → Plain → List ℕ
 canon_segment number p =
-    let body = text (canon_records number p) in
+    let body = flat_map (spelling written_layout) (canon_records number p) ++ spelling written_layout End in
     header_bytes (canon_fields number p) (length body) ++ body
 
 -- the segments one behind another, where the first has this number

@@ -1,6 +1,5 @@
 pub mod Stretches
 pub mod Canonical
-pub mod Causes
 pub mod Answer
 pub mod Kept
 pub mod Replaced

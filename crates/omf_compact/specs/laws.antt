@@ -1,3 +1,4 @@
+pub mod Causes
 pub mod Walk
 pub mod Writing
 pub mod Sheets
@@ -17,4 +18,3 @@ pub mod Sights
 pub mod SightLaws
 pub mod ReplacedLaws
 pub mod WalkLaws
-pub mod Examples

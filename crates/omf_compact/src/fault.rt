@@ -1,7 +1,7 @@
 //! Why no canonical file is written.
 
 ghost use Rattle.std.specs.Prelude.{◌≡◌};
-ghost use Rattle.omf_compact.specs.Causes.{compact_cause, as_compact};
+ghost use Rattle.omf_compact.specs.laws.Causes.{compact_cause, as_compact};
 
 use load_meaning::{LoadCause, LoadFault};
 use std::alloc::{AllocError, AllocFailed};

@@ -1,5 +1,5 @@
 -- The answer for a load file without a broken part that isn't too long is a load file that holds the same.
-use Rattle.std.proofs.Common.{◌≡◌, ℕ, zero, suc, ◌+◌, ◌≤◌, Bool, true, false, List, [], ◌∷◌, ◌++◌, length, map, Option, Some, None, refl, sym, ap, subst, ◌∙◌, arith}
+use Rattle.std.proofs.Common.{◌≡◌, ℕ, zero, suc, ◌+◌, ◌≤◌, List, [], ◌∷◌, ◌++◌, length, map, Option, Some, None, refl, sym, ap, subst, ◌∙◌, arith}
 use Rattle.std.specs.Prelude.{slice_get, option_map}
 use Rattle.std.specs.List.{flat_map, AllByRecursion}
 use Rattle.std.specs.Option.{option_or}
@@ -24,16 +24,13 @@ use Rattle.load_meaning.specs.laws.RunLaws.{text}
 use Rattle.omf_compact.specs.Stretches.{first_broken, stretches, byte_in, bytes_in, IsWrittenCell}
 use Rattle.omf_compact.specs.laws.StretchLaws.{stretches_written, given_back}
 use Rattle.omf_compact.specs.laws.Fronts.{front, zero_cells, front-zeros}
-use Rattle.omf_compact.specs.Canonical.{Plain, plain_of, plain, broken_in, is_pathname, canon_records, canon_fields, canon_segment, canon_from, canon}
+use Rattle.omf_compact.specs.Canonical.{Plain, plain_of, plain, broken_in, canon_records, canon_fields, canon_segment, canon_from, canon}
 use Rattle.omf_compact.specs.laws.CanonLaws.{IsHeld, AreHeld, IsSmall, AreSmall, records-plain, read_again}
 use Rattle.omf_compact.specs.laws.LoadableAgain.{loadable_again}
 use Rattle.omf_compact.specs.laws.PathnameLaws.{path-is, lone_of, lone_patches, cells-again}
 use Rattle.omf_compact.specs.laws.HeldLaws.{segment-read, cell-written, all-cells, entries-are}
 
 -- ---- what is held
-
-no_place : Option (ℕ × ℕ)
-no_place = None
 
 both_none : (number : ℕ) (o : Option ℕ) (rest : Option (ℕ × ℕ)) → option_or (option_map (λ (at : ℕ). (number, at)) o) rest ≡ None → (o ≡ None) × (rest ≡ None)
 both_none number None rest e = (refl, e)

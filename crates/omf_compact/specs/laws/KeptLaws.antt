@@ -1,17 +1,15 @@
 -- A canonical file is its own canonical form, and the only one of its file.
-use Rattle.std.proofs.Common.{◌≡◌, ℕ, ◌<◌, ◌≤◌, List, length, Option, Some, None, refl, sym, ap, subst, ◌∙◌, arith}
+use Rattle.std.proofs.Common.{◌≡◌, ℕ, ◌≤◌, List, length, Option, Some, None, refl, sym, ap, subst, ◌∙◌, arith}
 use Rattle.omf_io.specs.Files.{max_file}
-use Rattle.omf_format.specs.Number.{IsBytes}
 use Rattle.omf_format.specs.File.{Segment}
 use Rattle.load_meaning.specs.declared.load.LoadFault.{LoadFault}
-use Rattle.load_meaning.specs.declared.load.LoadCause.TheVariants as load
 use Rattle.load_meaning.specs.Loadable.{IsLoadable, IsFirstLoadFault}
 use Rattle.load_meaning.specs.laws.LoadableLaws.{loadable_same, loadable_sound}
 use Rattle.omf_compact.specs.declared.fault.CompactCause.{CompactCause}
 use Rattle.omf_compact.specs.declared.fault.CompactCause.TheVariants.{NotLoadFile, Truncated, BadHeader, Unsupported, BadRecord, Sequence, DataTooLong, PatchOutside, NoSuchTarget, DynamicTarget, BadTable, BrokenPart, TooLong, Memory}
 use Rattle.omf_compact.specs.declared.fault.CompactFault.{CompactFault}
 use Rattle.omf_compact.specs.Canonical.{plain, broken_in, canon}
-use Rattle.omf_compact.specs.Answer.{IsAnswer, IsRefusedBy, IsRefused}
+use Rattle.omf_compact.specs.Answer.{IsAnswer, IsRefusedBy}
 use Rattle.omf_compact.specs.Kept.{SameAnswer, AnswerIsItsOwn, OneAnswer, AnswerOrRefusal}
 use Rattle.omf_compact.specs.laws.AnswerLaws.{answer_is_loaded}
 

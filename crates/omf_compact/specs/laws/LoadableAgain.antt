@@ -13,14 +13,12 @@ use Rattle.omf_format.specs.Record.{Record, End, Const, LongConst, Align, Org, S
 use Rattle.omf_format.specs.File.{Segment, IsFile, segment_at}
 use Rattle.omf_format.specs.Body.{body_bytes}
 use Rattle.load_meaning.specs.declared.load.LoadCause.{LoadCause}
-use Rattle.load_meaning.specs.declared.load.LoadFault.{LoadFault}
 use Rattle.load_meaning.specs.Cells.{Cell, Byte, Part, Patch, parts_from, segment_bytes, patches_in, patches_of, cells}
 use Rattle.load_meaning.specs.declared.load.LoadCause.TheVariants.{NotLoadFile, Unsupported, NoSuchTarget, BadTable}
 use Rattle.load_meaning.specs.Table.{entry_start}
-use Rattle.load_meaning.specs.laws.LoadTableLaws.{first_of-none}
 use Rattle.load_meaning.specs.Pathnames.{has_pathnames, most_paths, rows_flaw, is_one_long, paths_of}
 use Rattle.load_meaning.specs.LoadTable.{Check, is_table, is_called, is_place, entry_count, zero_checks, entry_checks, entries_checks, table_checks}
-use Rattle.load_meaning.specs.Loadable.{Fault, is_express, IsLoadSegment, segment_refusal, record_refusal, in_segment, first_in, shape_fault, is_kept, is_dynamic_at, patch_refusal, first_refusal, entry_refusal, target_refusal, first_target_fault, target_fault, pathnames_flaw, pathnames_fault, table_flaw, table_fault, later_fault, IsLoadable, patch_list, IsPatch, IsSoundSegment}
+use Rattle.load_meaning.specs.Loadable.{Fault, is_express, IsLoadSegment, segment_refusal, record_refusal, shape_fault, is_kept, is_dynamic_at, patch_refusal, first_refusal, entry_refusal, target_refusal, first_target_fault, target_fault, pathnames_flaw, pathnames_fault, table_flaw, table_fault, later_fault, IsLoadable, patch_list, IsPatch, IsSoundSegment}
 use Rattle.load_meaning.specs.WrittenBody.{AreWritten, is_own, is_short, lone, lone_record, super_records, supers_from, of_form, data_records, written_data, body_records}
 use Rattle.load_meaning.specs.laws.FormLaws.{lone_content}
 use Rattle.load_meaning.specs.laws.WrittenBodyLaws.{HasRecords, length-written, by_forms, from_records, patches_are, stands}
@@ -104,9 +102,6 @@ checks_same : (segments others : List Segment) (bytes : List ℕ) (n : ℕ) → 
 checks_same segments others bytes n same paths = ap (λ (l : List Check). zero_checks bytes 0 8 ++ (l ++ zero_checks bytes (entry_start n) 4)) (entries_checks_same segments others bytes 0 n same paths)
 
 -- ---- the segments of two files
-
-some_plain : Plain → Option Plain
-some_plain p = Some p
 
 -- the segment with the same number that holds the same
 held_there : (o : Option Segment) (p : Plain) → option_map plain_of o ≡ Some p → (s : Segment) × (o ≡ Some s) × (plain_of s ≡ p)

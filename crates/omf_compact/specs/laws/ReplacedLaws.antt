@@ -18,8 +18,7 @@ use Rattle.load_meaning.specs.declared.load.LoadFault.{LoadFault}
 use Rattle.load_meaning.specs.Pathnames.{has_pathnames, pathnames_from, pathnames_of}
 use Rattle.omf_io.specs.Files.{FileMap, max_file}
 use Rattle.omf_format.specs.Number.{IsBytes}
-use Rattle.loader_machine.specs.Taken.{IsTaken, IsFirstRefusal, OfLoading, OfPathnames}
-use Rattle.loader_machine.specs.laws.TakenLaws.{taken_same, taken_sound}
+use Rattle.loader_machine.specs.Taken.{IsFirstRefusal, OfLoading, OfPathnames}
 use Rattle.loader_machine.specs.Found.{HoldsFile, HoldsLoad, HoldsFault}
 use Rattle.loader_machine.specs.Heads.{head_of, is_table}
 use Rattle.loader_machine.specs.declared.seen.Head.{Head}

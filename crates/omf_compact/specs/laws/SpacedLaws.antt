@@ -1,12 +1,12 @@
 -- Patches that lie apart over cells that can be written can be written.
-use Rattle.std.proofs.Common.{◌≡◌, ℕ, zero, suc, ◌+◌, ◌-◌, ◌<◌, ◌≤◌, leb, List, [], ◌∷◌, length, map, Some, refl, sym, ap, subst, ◌∙◌, arith, inl, inr}
+use Rattle.std.proofs.Common.{◌≡◌, ℕ, zero, suc, ◌+◌, ◌-◌, ◌<◌, leb, List, [], ◌∷◌, length, map, Some, refl, ap, ◌∙◌, arith, inl, inr}
 use Rattle.std.specs.Prelude.{slice_get}
 use Rattle.std.specs.List.{AllByRecursion}
 use Rattle.std.proofs.lemmas.Bool.{and_from, le-leb}
 use Rattle.std.proofs.lemmas.List.{length-map}
 use Rattle.load_meaning.specs.Cells.{Cell, Byte, Part, Patch, parts_from}
 use Rattle.load_meaning.specs.WrittenBody.{IsWrittenPatch, AreWritten, written_cells}
-use Rattle.load_meaning.specs.laws.LayingLaws.{Covers, Has, Fit, laid, get-found, Apart}
+use Rattle.load_meaning.specs.laws.LayingLaws.{Has, Fit, laid, get-found}
 use Rattle.load_meaning.specs.laws.StoredLaws.{parts, get-parts, patched-laid}
 use Rattle.omf_cells.specs.Whole.{AreSpaced}
 use Rattle.omf_cells.specs.SpacedLaws.{spaced_is, spaced_apart}

@@ -54,9 +54,6 @@ is_same (Part f s o sh i) =
 
 -- ---- runs
 
-part_at : (f s o : ℕ) (sh : ℤ) (i : ℕ) → Option Cell
-part_at f s o sh i = Some (Part f s o sh i)
-
 -- a cell of a run is the next byte of its number
 pub get-run : (f s o : ℕ) (sh : ℤ) (i : ℕ) (cells : List Cell) (k : ℕ) → k < run f s o sh i cells → slice_get cells k ≡ Some (Part f s o sh (i + k))
 get-run f s o sh i [] k lt = absurd (omega arith)
@@ -95,9 +92,6 @@ length-run f s o sh i (c ∷ cells) = elim (cases_Bool (same_cell c (Part f s o 
 ]
 
 -- ---- unbroken cells
-
-some_place : ℕ → Option ℕ
-some_place n = Some n
 
 -- where none is broken, the first isn't, and none behind it
 pub unbroken-both : (at : ℕ) (before : Option Cell) (c : Cell) (cells : List Cell) → broken_from at before (c ∷ cells) ≡ None

@@ -68,10 +68,6 @@ walk patches (found ∷ founds) = or_broken (with_part patches found.0 found.1) 
 
 -- ---- the answer
 
-abbrev pub IsWalked : Result (List format.Patch) ℕ → Parted → Type 0
-IsWalked walked (Patches patches) = walked ≡ Ok (map seen patches.items)
-IsWalked walked (Broken at) = walked ≡ Err at
-
 -- the stretches of cells, or the place of their first broken part
 abbrev pub IsParted : List Cell → Parted → Type 0
 IsParted of (Patches patches) = (first_broken of ≡ None) × (map seen patches.items ≡ stretches of)

@@ -106,15 +106,8 @@ no-more p at of none = elim (cases_Bool (eqb (p.location + p.count) at)) [
 abbrev one : ℕ → ℕ → ℕ → ℕ → ℤ → format.Patch
 one at f s o sh = record { location = at; count = 1; file = f; segment = s; offset = o; shift = sh }
 
--- a byte, or byte 0 of a number, doesn't go on
-run-byte : (f s o : ℕ) (sh : ℤ) (i b : ℕ) (of : List Cell) → run f s o sh i (Byte b ∷ of) ≡ 0
-run-byte f s o sh i b of = refl
-
 part_index : {f s o i g t p j : ℕ} {sh th : ℤ} → Part f s o sh i ≡ Part g t p th j → i ≡ j
 part_index e = cc
-
-same-part : (c d : Cell) → same_cell c d ≡ true → c ≡ d
-same-part = same_is
 
 run-zero : (f s o : ℕ) (sh : ℤ) (i g t p : ℕ) (th : ℤ) (of : List Cell) → 1 ≤ i → run f s o sh i (Part g t p th 0 ∷ of) ≡ 0
 run-zero f s o sh i g t p th of some = elim (cases_Bool (same_cell (Part g t p th 0) (Part f s o sh i))) [

@@ -1,8 +1,8 @@
 -- Writing the segments of a load file one behind another, as the functions that write them see it. No public clause of the crate
 -- cites this module.
-use Rattle.std.specs.Prelude.{◌≡◌, ◌-◌, ◌+◌, ◌<◌, ℕ, Bool, true, false, List, [], ◌∷◌, ◌++◌, length, map, drop, Some, None, Vec, slice_get, if◌then◌else◌}
+use Rattle.std.specs.Prelude.{◌≡◌, ◌-◌, ℕ, List, [], ◌∷◌, length, map, drop, Some, None, Vec, slice_get, if◌then◌else◌}
 use Rattle.std.specs.declared.alloc.Global.{Global}
-use Rattle.std.specs.List.{flat_map, AllByRecursion}
+use Rattle.std.specs.List.{flat_map}
 use Rattle.omf_format.specs.Number.{IsBytes}
 use Rattle.omf_format.specs.Field.{written_layout}
 use Rattle.omf_format.specs.Header.{Fields}
@@ -18,7 +18,7 @@ use Rattle.omf_compact.specs.declared.fault.CompactCause.{CompactCause}
 use Rattle.omf_compact.specs.declared.fault.CompactCause.TheVariants.{BrokenPart, Memory}
 use Rattle.omf_compact.specs.declared.fault.CompactFault.{CompactFault}
 use Rattle.omf_compact.specs.Stretches.{first_broken, stretches, bytes_in}
-use Rattle.omf_compact.specs.Canonical.{Plain, plain_of, plain, broken_in, is_pathname, entries_in}
+use Rattle.omf_compact.specs.Canonical.{Plain, plain, broken_in, is_pathname, entries_in}
 
 -- the segments are those of a load file
 pub record IsKnown (segments : List Segment) : Type 0 where

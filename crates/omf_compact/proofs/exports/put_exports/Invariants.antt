@@ -1,6 +1,5 @@
-use Rattle.std.proofs.Common.{◌≡◌, ◌-◌, length, Some}
+use Rattle.std.proofs.Common.{◌≡◌, ◌-◌, Some}
 use Rattle.omf_format.specs.File.{Segment, segment_at}
-use Rattle.load_meaning.specs.Exports.{exports_of}
 use Rattle.omf_compact.proofs.EntryLists.{Left}
 use Rattle.omf_compact.proofs.exports.put_exports.Given as goal
 

@@ -1,10 +1,8 @@
-use Rattle.std.proofs.Common.{◌≡◌, ℕ, suc, ◌+◌, Some, sym, ap, subst, ◌∙◌, length, arith}
-use Rattle.omf_format.specs.File.{Segment, segment_at}
+use Rattle.std.proofs.Common.{◌≡◌, ℕ, suc, ◌+◌, Some, subst, arith}
+use Rattle.omf_format.specs.File.{segment_at}
 use Rattle.load_meaning.specs.Cells.{cells}
-use Rattle.omf_compact.specs.laws.Walk.{IsParted}
-use Rattle.omf_compact.specs.declared.parting.Parted.{Parted}
 use Rattle.omf_compact.specs.declared.parting.Parted.TheVariants.{Patches, Broken}
-use Rattle.omf_compact.proofs.JudgeLaws.{judged_none, judged_more, judged_all, first_there, parted_at}
+use Rattle.omf_compact.proofs.JudgeLaws.{judged_more, judged_all, first_there, parted_at}
 use Rattle.omf_compact.proofs.judge.judged.Goals as goal
 
 pub returns-in-Broken-clause-refused : goal.returns-in-Broken-clause-refused

@@ -1,4 +1,4 @@
-use Rattle.std.proofs.Common.{◌≡◌, ℕ, ◌+◌, List, map, Some, refl, sym, ap, subst, ◌∙◌, arith}
+use Rattle.std.proofs.Common.{◌≡◌, ◌+◌, List, map, sym, ap, subst, ◌∙◌, arith}
 use Rattle.omf_cells.specs.declared.written.Patch.{Patch}
 use Rattle.omf_cells.specs.WrittenParts.{seen}
 use Rattle.omf_compact.proofs.KnownLaws.{written_there}

@@ -1,12 +1,10 @@
-use Rattle.std.proofs.Common.{◌≡◌, ℕ, ◌+◌, ◌-◌, ◌<◌, ◌++◌, List, length, map, replicate, Some, refl, sym, ap, subst, ◌∙◌, arith}
-use Rattle.omf_format.specs.Header.{Fields, IsWritable, header_bytes}
+use Rattle.std.proofs.Common.{◌≡◌, ℕ, ◌+◌, ◌-◌, ◌++◌, length, refl, sym, ap, subst, ◌∙◌, arith}
+use Rattle.omf_format.specs.Header.{IsWritable}
 use Rattle.omf_format.specs.laws.WrittenHeaderLaws.{length-header}
-use Rattle.omf_format.specs.File.{Segment, segment_at}
 use Rattle.omf_header.specs.View.{fields}
-use Rattle.omf_cells.specs.WrittenParts.{seen}
 use Rattle.omf_compact.specs.Canonical.{plain_of, canon_fields, canon_segment}
 use Rattle.omf_compact.specs.laws.CanonLaws.{is_writable}
-use Rattle.omf_compact.specs.laws.Writing.{HasStretches, AtExports, fields_with, first_text, entries_text}
+use Rattle.omf_compact.specs.laws.Writing.{AtExports, fields_with, first_text, entries_text}
 use Rattle.omf_compact.proofs.KnownLaws.{known_held}
 use Rattle.omf_compact.proofs.SegmentLaws.{its_fields, own_number, at_own, body_there, behind_size, fields_are, err_moved, long_by, long_all, segment_done}
 use Rattle.omf_compact.proofs.segments.put_segment.Goals as goal

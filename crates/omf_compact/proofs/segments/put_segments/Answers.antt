@@ -1,4 +1,4 @@
-use Rattle.std.proofs.Common.{◌≡◌, ℕ, ◌+◌, List, length, map, Some, sym, ap, subst, ◌∙◌, arith}
+use Rattle.std.proofs.Common.{List, map, sym, subst, arith}
 use Rattle.omf_cells.specs.declared.written.Patch.{Patch}
 use Rattle.omf_cells.specs.WrittenParts.{seen}
 use Rattle.omf_compact.specs.laws.Writing.{HasStretches}
