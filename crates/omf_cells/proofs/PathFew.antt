@@ -24,6 +24,7 @@ few_of most (s ∷ segments) is = by_form (few_of most segments is) (has_pathnam
   where
     here : length (paths_in most_paths (segment_bytes s)) ≤ most
     here = subst (λ (n : ℕ). length (paths_in n (segment_bytes s)) ≤ most) is (few_in most (segment_bytes s))
+
     by_form : length (paths_of segments) ≤ most → (b : Bool) → length (if b then paths_in most_paths (segment_bytes s) else paths_of segments) ≤ most
     by_form more true = here
     by_form more false = more

@@ -94,9 +94,10 @@ so_cut most bytes rows at rest paths so short = so.flaw ∙ opened (most - rows)
 pub so_ended : (most : ℕ) (bytes : List ℕ) (rows at : ℕ) (rest : List ℕ) (paths : List (List ℕ)) → SoFar most bytes rows at rest paths → 2 ≤ length rest → at_end rows rest ≡ true → length rest ≡ 2
     → (flaw_in most bytes ≡ None) × (paths ≡ rows_in most bytes)
 so_ended most bytes rows at rest paths so long is whole =
-    let zero_is = and_parts (eqb (number_at 2 0 rest) 0) (ltb 0 rows) is in
-    (so.flaw ∙ opened (most - rows) rows at rest ∙ end_here rows at rest (row_then (most - rows) rows at rest) long is ∙ ap (λ (b : Bool). if b then None else Some (at + 2)) (eq-eqb (length rest) 2 whole),
-    sym (so.paths' ∙ ap (λ (l : List (List ℕ)). paths ++ l) (no_paths (most - rows) rest zero_is.0) ∙ append-nil paths))
+    let zero_is = and_parts (eqb (number_at 2 0 rest) 0) (ltb 0 rows) is in (
+      so.flaw ∙ opened (most - rows) rows at rest ∙ end_here rows at rest (row_then (most - rows) rows at rest) long is ∙ ap (λ (b : Bool). if b then None else Some (at + 2)) (eq-eqb (length rest) 2 whole),
+      sym (so.paths' ∙ ap (λ (l : List (List ℕ)). paths ++ l) (no_paths (most - rows) rest zero_is.0) ∙ append-nil paths),
+    )
 
 pub so_behind : (most : ℕ) (bytes : List ℕ) (rows at : ℕ) (rest : List ℕ) (paths : List (List ℕ)) → SoFar most bytes rows at rest paths → 2 ≤ length rest → at_end rows rest ≡ true → (length rest ≡ 2 → ⊥)
     → flaw_in most bytes ≡ Some (at + 2)

@@ -107,6 +107,7 @@ lone_segment s bytes size lone long = by_records s.records refl
   where
     whole : (tail : List ℕ) → segment_bytes s ≡ bytes ++ tail → segment_bytes s ≡ bytes
     whole tail is = is ∙ no_tail bytes tail (sym (ap length is) ∙ size ∙ sym long)
+
     by_records : (records : List (ℕ × Record)) → s.records ≡ records → segment_bytes s ≡ bytes
     by_records [] is = let clash : lone_bytes [] ≡ Some bytes = sym (ap lone_bytes is) ∙ lone in absurd cc
     by_records (a ∷ []) is = let clash : lone_bytes (a ∷ []) ≡ Some bytes = sym (ap lone_bytes is) ∙ lone in absurd cc
@@ -237,8 +238,10 @@ paths_more (t ∷ segments) (suc i) s e first = ap (λ (n : ℕ). paths_of (take
   where
     step : suc i + 1 ≡ suc (i + 1)
     step = omega arith
+
     rows : List (List ℕ)
     rows = rows_in most_paths (segment_bytes t)
+
     by_first : ((has_pathnames s ≡ true → list_any has_pathnames (take i segments) ≡ false) → paths_of (take (i + 1) segments) ≡ paths_then s (paths_of (take i segments)))
         → (b : Bool) → has_pathnames t ≡ b → paths_of (t ∷ take (i + 1) segments) ≡ paths_then s (paths_of (t ∷ take i segments))
     by_first more true is = by_last (has_pathnames s) refl

@@ -76,7 +76,6 @@ by_records l w loc (found ∷ founds) small all =
     subst (AllByRecursion HasShort) (sym (flat_map-cons (λ (x : Located). defined_by x.at x.location x.content) r rest))
     (all-append HasShort (defined_by found.0 loc found.1) (flat_map (λ (x : Located). defined_by x.at x.location x.content) rest) (by_record l w found.0 loc found.1 small all.0) (by_records l w (loc + size_at loc found.1) founds small all.1))
 
-
 -- ---- the names that a segment defines
 
 -- a number of one byte is a byte

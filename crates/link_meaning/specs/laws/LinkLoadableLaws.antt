@@ -902,7 +902,6 @@ module _ (files : Given) (list : List Member) (table : List Told) (bytes : HasBy
       no_files Program is' may = absurd cc
       no_files LibraryForm is' may = may
 
-
   known : Known list table
   known = record {
     reach = reached;

@@ -344,9 +344,11 @@ are_images files list table bytes resolved sound are short =
     let parts = text_both first last in
     let paths = has_paths files list bytes resolved.program in
     let exported = exports_fit list table read (omega (arith, loads, count-headers list)) (short_loads files list resolved) in
-    let behind = path_all (table_number list + length tables) (setting_in list).runtimes (omega (arith, loads, count-tables (table_number list) (targets list table))) paths.paths paths.few in
-    (have, all-append first last (load_all list table 1 (load_names list) exported each have (λ x is. is) (omega (arith, loads)) (short_loads files list resolved) (omega (arith, parts, short)))
-    (all-append tables (path_images (table_number list + length tables) (setting_in list).runtimes) (table_all (table_number list) (targets list table) small few) behind))
+    let behind = path_all (table_number list + length tables) (setting_in list).runtimes (omega (arith, loads, count-tables (table_number list) (targets list table))) paths.paths paths.few in (
+      have,
+      all-append first last (load_all list table 1 (load_names list) exported each have (λ x is. is) (omega (arith, loads)) (short_loads files list resolved) (omega (arith, parts, short)))
+          (all-append tables (path_images (table_number list + length tables) (setting_in list).runtimes) (table_all (table_number list) (targets list table) small few) behind),
+    )
 
 pub stands_for : (files : Given) (list : List Member) (table : List Told) → HasBytes files → IsResolved files list → AreSoundItems list table (items list)
     → AreMade list table start (items list) → length (written_file list table) ≤ 0x1000000
@@ -367,5 +369,5 @@ stands_for files list table bytes resolved sound are short =
       made.1,
       made.2,
       loads_read list table 1 (load_names list) last (table_cells (targets list table) ++ path_cells runtimes) made.0 both.0
-      (λ rest r. behind_read (table_number list) (targets list table) (path_images number runtimes) (path_cells runtimes) rest small few (λ more q. path_read number runtimes more q) r) made.2,
+          (λ rest r. behind_read (table_number list) (targets list table) (path_images number runtimes) (path_cells runtimes) rest small few (λ more q. path_read number runtimes more q) r) made.2,
     )

@@ -61,6 +61,7 @@ outside_one file r (e ∷ es) f is = by_segment (λ h. outside_one file r es f h
       member = record { file = file; number = e.segment; from = 0; segment = s; setting = alone };
       definition = record { name = e.name; scope = ForAll; place = e.offset; at = s.start; expr = None; size = 0; form = 0x4E };
     }
+
     by_segment : (IsIn (filter_map (outside_of file r) es) f → IsOutside f) → (o : Option Segment) → IsIn (cons_option (option_map found o) (filter_map (outside_of file r) es)) f → IsOutside f
     by_segment go None h = go h
     by_segment go (Some s) (inl same) = subst IsOutside same (record { nowhere = refl; place = refl })
