@@ -2,3 +2,7 @@ pub mod Ended
 pub mod Written
 pub mod Formulas
 pub mod KeptLaws
+pub mod Gives
+pub mod NameLaws
+pub mod TermLaws
+pub mod PartLaws

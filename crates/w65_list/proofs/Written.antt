@@ -56,6 +56,15 @@ long_second xs ys long = list_all-append is_short xs ys ∙ ap (λ (b : Bool). l
     both true = refl
     both false = refl
 
+pub wrote_two : (x y : Said) (a b c : Output) → Wrote x a b → Wrote y b c → WroteAll (x ∷ y ∷ []) a c
+wrote_two x y a b c p q = wrote_both (x ∷ []) (y ∷ []) a b c (wrote_one x a b p) (wrote_one y b c q)
+
+pub long_front : (x y : Said) → is_short x ≡ false → list_all is_short (x ∷ y ∷ []) ≡ false
+long_front x y long = long_first (x ∷ []) (y ∷ []) (long_one x long)
+
+pub long_behind : (x y : Said) → is_short y ≡ false → list_all is_short (x ∷ y ∷ []) ≡ false
+long_behind x y long = long_second (x ∷ []) (y ∷ []) (long_one y long)
+
 -- ---- the rest of a run
 
 -- what was taken is passed over

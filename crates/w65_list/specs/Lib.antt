@@ -4,3 +4,7 @@ pub mod LineView
 pub mod RunView
 pub mod NamesView
 pub mod BeforeView
+pub mod FormulaView
+pub mod Giving
+pub mod FrontView
+pub mod SourceView
