@@ -6,3 +6,6 @@ pub mod Gives
 pub mod NameLaws
 pub mod TermLaws
 pub mod PartLaws
+pub mod RecordRuns
+pub mod FrontLaws
+pub mod SourceLaws

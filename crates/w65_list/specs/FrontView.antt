@@ -1,10 +1,11 @@
 -- Which headers can be listed, in parts, and how many cells records give.
-use Rattle.std.specs.Prelude.{◌≡◌, ◌⊎◌, ℕ, ◌+◌, ◌<◌, ◌==◌, Bool, true, false, not, ◌&&◌, ◌||◌, nat_le, List}
+use Rattle.std.specs.Prelude.{◌≡◌, ◌⊎◌, ℕ, ◌+◌, ◌<◌, ◌≤◌, ◌==◌, Bool, true, false, not, ◌&&◌, ◌||◌, nat_le, List, ◌++◌}
 use Rattle.std.specs.Int.{is_power_of_two}
 use Rattle.std.specs.List.{list_any}
 use Rattle.omf_format.specs.File.{Segment}
 use Rattle.omf_format.specs.Header.{Fields, form_of}
 use Rattle.omf_format.specs.Record.{Record}
+use Rattle.omf_format.specs.Reading.{Reader, HandsOut}
 use Rattle.link_meaning.specs.Sizes.{located_from, place_behind, body_size}
 use Rattle.list_meaning.specs.Listing.{is_listed_form, is_listable, is_listable_load_name, greatest_length, is_lost, has_lost_place}
 
@@ -35,3 +36,11 @@ pub record HaveCells (n : ℕ) (founds : List (ℕ × Record)) : Type 0 where
 -- a place is lost, or the records give more than so many cells
 abbrev pub AreOver : ℕ → List (ℕ × Record) → Type 0
 AreOver most founds = (is_lost_from 0 founds ≡ true) ⊎ (most < place_behind 0 founds)
+
+-- the records so far give the cells before this place, none of them is lost, and the place is within the limit
+pub record Counted (start at : Reader) (most place : ℕ) : Type 0 where
+  pub before : List (ℕ × Record)
+  pub run : HandsOut start before at
+  pub lost : (rest : List (ℕ × Record)) → is_lost_from 0 (before ++ rest) ≡ is_lost_from place rest
+  pub size : (rest : List (ℕ × Record)) → place_behind 0 (before ++ rest) ≡ place_behind place rest
+  pub few : place ≤ most

@@ -2,6 +2,7 @@
 use Rattle.std.specs.Prelude.{◌≡◌, ℕ, Bool, List, Option, Some, None, if◌then◌else◌}
 use Rattle.omf_format.specs.Expression.{IsExpression}
 use Rattle.omf_format.specs.Record.{Record, Equate, Formula}
+use Rattle.list_meaning.specs.Listed.{Wanted}
 use Rattle.list_meaning.specs.Listing as listing
 use Rattle.list_meaning.specs.Listing.{Given, is_held}
 use Rattle.w65_list.specs.declared.output.Output.{Output}
@@ -29,6 +30,12 @@ formula_seen formula = (formula.code, formula.count, formula.n)
 abbrev pub held_by : listing.Before → ℕ → ℕ → ℕ → Option (List ℕ × ℕ) → Option ℕ
 held_by b code count n None = None
 held_by b code count n (Some found) = if is_held b code count n found then Some found.1 else None
+
+-- an opcode that is held back, and its operand
+abbrev pub held_with : Option ℕ → Option Wanted → Option (ℕ × Wanted)
+held_with None wanted = None
+held_with (Some opcode) None = None
+held_with (Some opcode) (Some wanted) = Some (opcode, wanted)
 
 -- what an equate gives, where it may stand
 abbrev pub equate_by : Bool → Option Given → Option Given

@@ -1,6 +1,6 @@
 //! Which segments can be listed by their headers, and the lines before those of their records.
 
-ghost use Rattle.std.specs.Prelude.{◌≡◌, ◌==◌, ◌&&◌, ◌||◌, ◌+◌, ◌≤◌, ℕ, not, false, true, nat_le, length, ◌∷◌, [], ◌++◌, ◌<◌, ◌^◌, OnOk, IsErrOf, MatchOption};
+ghost use Rattle.std.specs.Prelude.{◌≡◌, ◌==◌, ◌&&◌, ◌||◌, ◌+◌, ◌≤◌, ℕ, not, false, true, nat_le, length, drop, bytes_eq, ◌∷◌, [], ◌++◌, ◌<◌, ◌^◌, OnOk, IsErrOf, MatchOption};
 ghost use Rattle.std.specs.List.{list_all, position_or_len};
 ghost use Rattle.omf_format.specs.Ascii as ascii;
 ghost use Rattle.omf_format.specs.Reading.{records_of, IsBody};
@@ -10,11 +10,12 @@ ghost use Rattle.omf_records.specs.View.{view};
 ghost use Rattle.omf_records.specs.Segments.{IsSound, shown};
 ghost use Rattle.asm_meaning.specs.declared.directives.Switch.TheVariants.{LongA, LongI};
 ghost use Rattle.list_meaning.specs.Listed.{NextAlign, NextOrg, Begins, Kinds, Turns};
-ghost use Rattle.list_meaning.specs.Listing.{greatest_length, is_lost, has_lost_place, has_listable_header, unpadded, is_listable_load_name, unless_zero, front_of, is_short};
+ghost use Rattle.list_meaning.specs.Listing.{greatest_length, is_lost, has_lost_place, has_listable_header, unpadded, is_listable_load_name, unless_zero, front_of, is_short, is_listable};
 ghost use Rattle.w65_list.specs.FrontView.{can_align, has_listable_fields, has_listable_length, HaveCells, AreOver};
 ghost use Rattle.w65_list.specs.LineView.{WroteAll};
 ghost use Rattle.w65_list.specs.OutputView.{open_line};
 
+use crate::formula::first_bytes;
 use crate::lines::{begins, kinds, next_align, next_org, turns};
 use crate::names::is_listable;
 use crate::output::Output;
@@ -24,13 +25,44 @@ use omf_base::padding;
 use omf_header::Header;
 use omf_records::{Rec, Records, SegmentView};
 
+/// How many bytes stand before the first space, or all.
+fn name_size(text: &[u8]) -> usize
+    ensures { result ≡ position_or_len (λ byte. byte == ascii.space) text.now }
+{
+    match text.iter().position(|&byte| byte == b' ') {
+        Some(at) => at,
+        None => text.len(),
+    }
+}
+
 /// LOADNAME without the spaces behind it.
 fn unpadded(load_name: &[u8]) -> &[u8]
     ensures { result.now ≡ unpadded load_name.now }
 {
-    match load_name.iter().position(|&byte| byte == b' ') {
-        Some(at) => &load_name[..at],
-        None => load_name,
+    first_bytes(load_name, name_size(load_name))
+}
+
+/// What stands behind a name.
+fn padding_of(load_name: &[u8]) -> &[u8]
+    ensures { result.now ≡ drop (position_or_len (λ byte. byte == ascii.space) load_name.now) load_name.now }
+{
+    &load_name[name_size(load_name).min(load_name.len())..]
+}
+
+/// Whether all bytes are spaces.
+fn are_spaces(text: &[u8]) -> bool
+    ensures { result ≡ list_all (λ byte. byte == ascii.space) text.now }
+{
+    text.iter().all(|&byte| byte == b' ')
+}
+
+/// Whether there is no name, or one that can be listed.
+fn is_none_or_listable(name: &[u8]) -> bool
+    ensures { result ≡ (bytes_eq name.now [] || is_listable name.now) }
+{
+    match name {
+        [] => true,
+        [_, ..] => is_listable(name),
     }
 }
 
@@ -38,9 +70,7 @@ fn unpadded(load_name: &[u8]) -> &[u8]
 fn is_listable_load_name(load_name: &[u8]) -> bool
     ensures { result ≡ is_listable_load_name load_name.now }
 {
-    let name = unpadded(load_name);
-    let is_padded = load_name[name.len()..].iter().all(|&byte| byte == b' ');
-    is_padded && (name.is_empty() || is_listable(name))
+    are_spaces(padding_of(load_name)) && is_none_or_listable(unpadded(load_name))
 }
 
 /// Whether an ALIGN of the header can be listed.
@@ -117,8 +147,11 @@ fn cells(records: Records, most: u32) -> Option<u32>
         match records.next() {
             Ok(None) => return Some(place),
             Ok(Some((_, rec))) => {
+                if is_lost(&rec, place) {
+                    return None;
+                }
                 let behind = u64::from(place) + size_at(&rec, place);
-                if is_lost(&rec, place) || behind > u64::from(most) {
+                if behind > u64::from(most) {
                     return None;
                 }
                 place = behind as u32;
@@ -134,7 +167,10 @@ fn has_listable_length(view: &SegmentView) -> bool
     ensures { result ≡ has_listable_length (shown view.now) }
 {
     let header = &view.header;
-    if header.length > greatest_length(header.bank_size) || header.res_spc > header.length {
+    if header.length > greatest_length(header.bank_size) {
+        return false;
+    }
+    if header.res_spc > header.length {
         return false;
     }
     let size = header.length - header.res_spc;
@@ -209,16 +245,37 @@ fn put_widths(out: &mut Output) -> Result<(), Stop>
     turns(out, Switch::LongI, true)
 }
 
+/// The lines from START or DATA on.
+#[tactic(auto, using(crate::proofs::Written::wrote_both, crate::proofs::Written::long_first, crate::proofs::Written::long_second))]
+fn put_open(out: &mut Output, header: &Header) -> Result<(), Stop>
+    requires { open_line out.old ≡ [] }
+    ensures wrote { OnOk result (WroteAll ((Begins (header.now.bank_size == 0) header.now.name (unpadded header.now.load_name) ∷ Kinds header.now.kind.bits ∷ []) ++ (Turns LongA true ∷ Turns LongI true ∷ [])) out.old out.new) }
+    ensures long { IsErrOf result Stop.NotListable → list_all is_short ((Begins (header.now.bank_size == 0) header.now.name (unpadded header.now.load_name) ∷ Kinds header.now.kind.bits ∷ []) ++ (Turns LongA true ∷ Turns LongI true ∷ [])) ≡ false }
+{
+    put_begin(out, header)?;
+    put_widths(out)
+}
+
+/// The lines from ORG on.
+#[tactic(auto, using(crate::proofs::Written::wrote_both, crate::proofs::Written::long_first, crate::proofs::Written::long_second))]
+fn put_from_org(out: &mut Output, header: &Header) -> Result<(), Stop>
+    requires { open_line out.old ≡ [] }
+    ensures wrote { OnOk result (WroteAll (unless_zero NextOrg header.now.org ++ ((Begins (header.now.bank_size == 0) header.now.name (unpadded header.now.load_name) ∷ Kinds header.now.kind.bits ∷ []) ++ (Turns LongA true ∷ Turns LongI true ∷ []))) out.old out.new) }
+    ensures long { IsErrOf result Stop.NotListable → list_all is_short (unless_zero NextOrg header.now.org ++ ((Begins (header.now.bank_size == 0) header.now.name (unpadded header.now.load_name) ∷ Kinds header.now.kind.bits ∷ []) ++ (Turns LongA true ∷ Turns LongI true ∷ []))) ≡ false }
+{
+    put_org(out, header.org)?;
+    put_open(out, header)
+}
+
 /// The lines before those of the records.
+#[tactic(auto, using(crate::proofs::Written::wrote_both, crate::proofs::Written::long_first, crate::proofs::Written::long_second), unfolding(list_meaning::specs::Listing::front_of))]
 fn put_lines(out: &mut Output, header: &Header) -> Result<(), Stop>
     requires { open_line out.old ≡ [] }
     ensures wrote { OnOk result (WroteAll (front_of (fields header.now)) out.old out.new) }
     ensures long { IsErrOf result Stop.NotListable → list_all is_short (front_of (fields header.now)) ≡ false }
 {
     put_align(out, header.align)?;
-    put_org(out, header.org)?;
-    put_begin(out, header)?;
-    put_widths(out)
+    put_from_org(out, header)
 }
 
 /// The lines before those of the records, where the header can be listed.
@@ -229,7 +286,10 @@ pub(crate) fn put_front(out: &mut Output, view: &SegmentView) -> Result<(), Stop
     ensures wrote { OnOk result (WroteAll (front_of (shown view.now).fields) out.old out.new) }
     ensures refused { IsErrOf result Stop.NotListable → (has_listable_header (shown view.now) && list_all is_short (front_of (shown view.now).fields)) ≡ false }
 {
-    if !has_listable_fields(&view.header) || !has_listable_length(view) {
+    if !has_listable_fields(&view.header) {
+        return Err(Stop::NotListable);
+    }
+    if !has_listable_length(view) {
         return Err(Stop::NotListable);
     }
     put_lines(out, &view.header)

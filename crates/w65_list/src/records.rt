@@ -1,6 +1,6 @@
 //! The lines of records.
 
-ghost use Rattle.std.specs.Prelude.{◌≡◌, ◌∷◌, ◌≤◌, ◌==◌, ◌&&◌, ◌||◌, [], ℕ, List, Bool, take, true, ◌++◌, None, Some, not, false, nat_le, option_map, IfOk, OnOk, IsErrOf};
+ghost use Rattle.std.specs.Prelude.{◌≡◌, ◌∷◌, ◌≤◌, ◌==◌, if◌then◌else◌, ◌&&◌, ◌||◌, [], ℕ, List, true, ◌++◌, None, Some, not, false, nat_le, option_map, IfSome, IfOk, OnOk, IsErrOf};
 ghost use Rattle.std.specs.Int.{is_power_of_two};
 ghost use Rattle.std.specs.List.{list_all};
 ghost use Rattle.omf_format.specs.Expression.{Tree, Spells, IsExpression};
@@ -8,19 +8,20 @@ ghost use Rattle.omf_format.specs.Header.{alignment_of};
 ghost use Rattle.omf_format.specs.Record as format;
 ghost use Rattle.omf_header.specs.View.{fields};
 ghost use Rattle.omf_records.specs.View.{view};
-ghost use Rattle.asm_meaning.specs.Instruction.{kind_of};
+ghost use Rattle.omf_expr.specs.View.{view as seen};
+ghost use Rattle.asm_meaning.specs.Instruction.{kind_of, address_code};
 ghost use Rattle.link_meaning.specs.Terms.{tree_in};
 ghost use Rattle.list_meaning.specs.Listed.{Said, Aligns, Moves, Spaces, Uses, Asks, Labels, Equates, Sums, Weakly, Ends};
 ghost use Rattle.list_meaning.specs.Listing as listing;
-ghost use Rattle.list_meaning.specs.Listing.{Given, is_record, record_by, record_of_opcode, flushed, then_said, with_name, is_among, is_listable, is_short, are_short, if_short, unless_zero, equate_given, number_of, both_long, follows_opcode, apart, weak_of, simple_of, split_last, is_held, held_back, formula_listable, formula_given, given_by};
+ghost use Rattle.list_meaning.specs.Listing.{Given, is_record, record_by, record_of_opcode, flushed, then_said, with_name, is_among, is_listable, is_short, are_short, if_short, unless_zero, equate_given, number_of, both_long, follows_opcode, is_some_name, is_some_wanted, apart, weak_of, simple_of, split_last, is_held, held_back, formula_listable, formula_given, given_by};
 ghost use Rattle.w65_list.specs.BeforeView.{IsBefore};
-ghost use Rattle.w65_list.specs.FormulaView.{IsFront};
-ghost use Rattle.w65_list.specs.Giving.{Gave, IsGiven, formula_seen, held_by, equate_by, HasExpression};
+ghost use Rattle.w65_list.specs.FormulaView.{IsFront, simple_four, weak_two};
+ghost use Rattle.w65_list.specs.Giving.{Gave, IsGiven, formula_seen, held_by, held_with, equate_by, HasExpression};
 ghost use Rattle.w65_list.specs.LineView.{HasSize, widths_view, operand_view, Wrote, WroteAll};
 ghost use Rattle.w65_list.specs.NamesView.{AreNames};
 ghost use Rattle.w65_list.specs.OutputView.{open_line};
 
-use crate::formula::{Front, facts_of, first_bytes, front_of, text_of};
+use crate::formula::{Facts, Front, facts_of, first_bytes, front_of, text_of};
 use crate::lines::{
     Wanted, aligns, asks, ends, equates, instructs, labels, moves, spaces, sums, uses, weakly,
 };
@@ -58,7 +59,9 @@ struct Formula {
 }
 
 /// The code of the record of an address that is no constant.
-fn address_code(mnemonic: Mnemonic) -> u8 {
+fn address_code(mnemonic: Mnemonic) -> u8
+    ensures { result ≡ address_code mnemonic 3 }
+{
     match mnemonic {
         Mnemonic::Jsl | Mnemonic::Jml => 0xF3,
         _ => 0xEB,
@@ -150,6 +153,57 @@ fn follows_last(run: &[u8], formula: Formula) -> bool
     }
 }
 
+/// The number where the expression that bytes spell is one.
+fn number_in(expr: &[u8], lab_len: u8) -> Option<u32>
+    requires { IsExpression lab_len expr.now }
+    ensures { (tree : Tree) → Spells lab_len expr.now tree → result ≡ number_of tree }
+{
+    let expr = Expr::spelled(expr, lab_len);
+    front_of(&expr).number()
+}
+
+/// Whether a label or an equate can be listed by its private byte.
+fn may_stand(global: bool, private: u8) -> bool
+    ensures { result ≡ (not global || private == 0) }
+{
+    !global || private == 0
+}
+
+/// Whether an EXPR can be listed whose names can: it is a weak name of two bytes, or a formula that is written.
+fn is_listable_expr(known: Facts, count: u8, front: Front) -> bool
+    ensures { result ≡ (if is_some_name (weak_two (option_map seen front.entry.first) (option_map seen front.entry.second)) then count == 2 else (known.written && known.varies)) }
+{
+    match front.weak() {
+        Some(_) => count == 2,
+        None => known.written && known.varies,
+    }
+}
+
+/// Whether another expression record can be listed whose names can: it is simple, and follows on an opcode that has it.
+fn is_listable_operand(run: &[u8], formula: Formula, front: Front) -> bool
+    ensures { result ≡ (is_some_wanted (simple_four (option_map seen front.entry.first) (option_map seen front.entry.second) (option_map seen front.entry.third) (option_map seen front.entry.fourth))
+        && follows_opcode formula.code formula.count formula.n (split_last run.now)) }
+{
+    match front.simple() {
+        Some(_) => follows_last(run, formula),
+        None => false,
+    }
+}
+
+/// Whether an expression record can be listed whose names can.
+fn is_listable_by_kind(known: Facts, run: &[u8], formula: Formula, front: Front) -> bool
+    ensures { result ≡ (if formula.code == 0xEB
+        then (if is_some_name (weak_two (option_map seen front.entry.first) (option_map seen front.entry.second)) then formula.count == 2 else (known.written && known.varies))
+        else (is_some_wanted (simple_four (option_map seen front.entry.first) (option_map seen front.entry.second) (option_map seen front.entry.third) (option_map seen front.entry.fourth))
+            && follows_opcode formula.code formula.count formula.n (split_last run.now))) }
+{
+    if formula.code == 0xEB {
+        is_listable_expr(known, formula.count, front)
+    } else {
+        is_listable_operand(run, formula, front)
+    }
+}
+
 /// Whether an expression record can be listed.
 fn is_formula_listable(
     equated: &Names,
@@ -163,13 +217,7 @@ fn is_formula_listable(
         → result ≡ formula_listable all b formula.code formula.count formula.n tree }
 {
     let known = facts_of(expr, equated);
-    if formula.code != 0xEB {
-        return known.named && front.simple().is_some() && follows_last(run, formula);
-    }
-    match front.weak() {
-        Some(_) => known.named && formula.count == 2,
-        None => known.named && known.written && known.varies,
-    }
+    known.named && is_listable_by_kind(known, run, formula, front)
 }
 
 /// The lines of END, with DS for RESSPC.
@@ -324,11 +372,34 @@ impl<'a> Before<'a> {
         }
     }
 
+    /// The opcode that is held back, and its operand.
+    fn held_operand<'b>(&self, formula: Formula, front: Front<'b>) -> Option<(u8, Wanted<'b>)>
+        ensures value { (b : listing.Before) → IsBefore self.now b → option_map (λ found. (found.0, operand_view found.1)) result
+            ≡ held_with (held_by b formula.code formula.count formula.n (split_last b.run))
+                (simple_four (option_map seen front.entry.first) (option_map seen front.entry.second) (option_map seen front.entry.third) (option_map seen front.entry.fourth)) }
+        ensures size { IfSome result (λ found. HasSize (operand_view found.1)) }
+    {
+        let operand = front.simple()?;
+        let opcode = self.held(formula)?;
+        Some((opcode, operand))
+    }
+
     /// The run without its last byte.
     fn shorten(&mut self)
         ensures { (b : listing.Before) (rest : List ℕ) (opcode : ℕ) → IsBefore self.old b → b.run ≡ rest ++ opcode ∷ [] → IsBefore self.new (record b { run = rest }) }
     {
         self.run.pop();
+    }
+
+    /// Writes the run without its last byte.
+    fn flush_rest(&mut self, out: &mut Output) -> Result<(), Stop>
+        requires { open_line out.old ≡ [] }
+        ensures gave { OnOk result ((b : listing.Before) (rest : List ℕ) (opcode : ℕ) → IsBefore self.old b → b.run ≡ rest ++ opcode ∷ [] → Gave (flushed (record b { run = rest })) out.old out.new self.new) }
+        ensures long { IsErrOf result Stop.NotListable → (b : listing.Before) (rest : List ℕ) (opcode : ℕ) → IsBefore self.old b → b.run ≡ rest ++ opcode ∷ [] → are_short (flushed (record b { run = rest })) ≡ false }
+        ensures line { OnOk result (open_line out.new ≡ []) }
+    {
+        self.shorten();
+        self.flush(out)
     }
 
     /// The lines of an opcode that is held back and its operand.
@@ -340,8 +411,7 @@ impl<'a> Before<'a> {
         ensures long { IsErrOf result Stop.NotListable → (b : listing.Before) (rest : List ℕ) → IsBefore self.old b → b.run ≡ rest ++ opcode ∷ []
             → are_short (held_back b rest opcode (operand_view operand.entry)) ≡ false }
     {
-        self.shorten();
-        self.flush(out)?;
+        self.flush_rest(out)?;
         let (mnemonic, mode) = instruction_of(opcode);
         instructs(out, mnemonic, mode, operand)
     }
@@ -384,9 +454,9 @@ impl<'a> Before<'a> {
         ensures long { IsErrOf result Stop.NotListable → (b : listing.Before) (tree : Tree) → IsBefore self.old b → Spells expr.now.lab_len expr.now.text tree
             → are_short (formula_given b formula.code formula.count formula.n tree (split_last b.run) (simple_of tree)) ≡ false }
     {
-        match (self.held(formula), front.simple()) {
-            (Some(opcode), Some(operand)) => self.put_held(out, opcode, operand),
-            _ => self.put_beside(alloc, out, formula.count, expr, front),
+        match self.held_operand(formula, front) {
+            Some((opcode, operand)) => self.put_held(out, opcode, operand),
+            None => self.put_beside(alloc, out, formula.count, expr, front),
         }
     }
 
@@ -459,7 +529,10 @@ impl<'a> Before<'a> {
         ensures given { OnOk result ((b : listing.Before) → IsBefore self.old b → IsGiven (if_short ((not global || private == 0) && is_listable name.now && not (is_among b.names name.now)) (with_name name.now (then_said (Labels global name.now ∷ []) (flushed b)))) out.old out.new self.new) }
         ensures refused { IsErrOf result Stop.NotListable → (b : listing.Before) → IsBefore self.old b → if_short ((not global || private == 0) && is_listable name.now && not (is_among b.names name.now)) (with_name name.now (then_said (Labels global name.now ∷ []) (flushed b))) ≡ None }
     {
-        if global && private != 0 || !self.is_new(name) {
+        if !may_stand(global, private) {
+            return Err(Stop::NotListable);
+        }
+        if !self.is_new(name) {
             return Err(Stop::NotListable);
         }
         self.define(name)?;
@@ -467,14 +540,11 @@ impl<'a> Before<'a> {
     }
 
     /// GEQU or EQU of a number, where the name is new.
-    fn number_record(&mut self, out: &mut Output, global: bool, name: &'a [u8], n: Option<u32>) -> Result<(), Stop>
+    fn number_record(&mut self, out: &mut Output, global: bool, name: &'a [u8], n: u32) -> Result<(), Stop>
         requires { open_line out.old ≡ [] }
-        ensures given { OnOk result ((b : listing.Before) → IsBefore self.old b → IsGiven (equate_given b global name.now n) out.old out.new self.new) }
-        ensures refused { IsErrOf result Stop.NotListable → (b : listing.Before) → IsBefore self.old b → equate_given b global name.now n ≡ None }
+        ensures given { OnOk result ((b : listing.Before) → IsBefore self.old b → IsGiven (equate_given b global name.now (Some n)) out.old out.new self.new) }
+        ensures refused { IsErrOf result Stop.NotListable → (b : listing.Before) → IsBefore self.old b → equate_given b global name.now (Some n) ≡ None }
     {
-        let Some(n) = n else {
-            return Err(Stop::NotListable);
-        };
         if !self.is_new(name) {
             return Err(Stop::NotListable);
         }
@@ -483,15 +553,25 @@ impl<'a> Before<'a> {
     }
 
     /// GEQU or EQU, where a GEQU isn't private and the expression is a number.
-    fn equate_record(&mut self, out: &mut Output, global: bool, name: &'a [u8], private: u8, expr: &Expr) -> Result<(), Stop>
+    fn equate_record(
+        &mut self,
+        out: &mut Output,
+        global: bool,
+        name: &'a [u8],
+        private: u8,
+        number: Option<u32>,
+    ) -> Result<(), Stop>
         requires { open_line out.old ≡ [] }
-        ensures given { OnOk result ((b : listing.Before) (tree : Tree) → Spells expr.now.lab_len expr.now.text tree → IsBefore self.old b → IsGiven (equate_by (not global || private == 0) (equate_given b global name.now (number_of tree))) out.old out.new self.new) }
-        ensures refused { IsErrOf result Stop.NotListable → (b : listing.Before) (tree : Tree) → Spells expr.now.lab_len expr.now.text tree → IsBefore self.old b → equate_by (not global || private == 0) (equate_given b global name.now (number_of tree)) ≡ None }
+        ensures given { OnOk result ((b : listing.Before) → IsBefore self.old b → IsGiven (equate_by (not global || private == 0) (equate_given b global name.now number)) out.old out.new self.new) }
+        ensures refused { IsErrOf result Stop.NotListable → (b : listing.Before) → IsBefore self.old b → equate_by (not global || private == 0) (equate_given b global name.now number) ≡ None }
     {
-        if global && private != 0 {
+        if !may_stand(global, private) {
             return Err(Stop::NotListable);
         }
-        self.number_record(out, global, name, front_of(expr).number())
+        match number {
+            Some(n) => self.number_record(out, global, name, n),
+            None => Err(Stop::NotListable),
+        }
     }
 
     /// An expression record.
@@ -549,8 +629,8 @@ impl<'a> Before<'a> {
                 expr,
                 ..
             } => {
-                let expr = Expr::spelled(expr, header.lab_len);
-                self.equate_record(out, *global, name, *private, &expr)
+                let number = number_in(expr, header.lab_len);
+                self.equate_record(out, *global, name, *private, number)
             }
             Rec::Formula {
                 code,
