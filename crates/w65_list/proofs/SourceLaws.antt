@@ -1,6 +1,6 @@
 -- The lines of records, of segments and of a file, one behind another.
 use Rattle.std.proofs.Common.{◌≡◌, ◌⊎◌, inl, inr, ℕ, zero, suc, ◌+◌, ◌≤◌, ◌<◌, Bool, true, false, cond, List, [], ◌∷◌, ◌++◌, length, take, Option, Some, None, Result, Ok, Err, refl, sym, ap, subst, ◌∙◌, arith, append_assoc, append-nil}
-use Rattle.std.specs.Prelude.{◌&&◌, ◌||◌, slice_get, option_map, bytes_eq}
+use Rattle.std.specs.Prelude.{◌&&◌, ◌||◌, slice_get, option_map, bytes_eq, IfErr, OnOk}
 use Rattle.std.specs.List.{flat_map, list_any, list_all}
 use Rattle.std.proofs.lemmas.List.Concat.{flat_map-cons, flat_map-append}
 use Rattle.std.proofs.lemmas.List.Folds.{list_any-append}
@@ -131,9 +131,10 @@ records_begin f names start first out line = record {
 }
 
 pub records_on : (f : Fields) (names : Names) (start at next : Reader) (first before after : kept_before.Before) (old now new : Output) (found : ℕ × Record) → RecordsOn f names start at first before old now → next_answer at ≡ Ok (Some found)
-    → next ≡ after_next at → open_line new ≡ [] → ((b : Before) (all : List (List ℕ)) → IsBefore before b → AreNames names all → IsGiven (given_by f all b found.1) now new after) → RecordsOn f names start next first after old new
-records_on f names start at next first before after old now new found on e moved line gives = record {
-  line = line;
+    → next ≡ after_next at → ((b : Before) (all : List (List ℕ)) → IsBefore before b → AreNames names all → IsGiven (given_by f all b found.1) now new after) → (b : Before) (all : List (List ℕ)) → IsBefore first b → AreNames names all
+    → RecordsOn f names start next first after old new
+records_on f names start at next first before after old now new found on e moved gives b all is are = record {
+  line = let u = on.each b all is are in (gives u.left all u.is are).gave.wrote.line;
   so_far = on.so_far ++ found ∷ [];
   run = walk_on start at next on.so_far found on.run e moved;
   each = λ b all is are.
@@ -163,6 +164,10 @@ records_stop f names start at first before old now found body on e none b all is
     let u = on.each b all is are in
     let rest = rest_of start on.so_far (records_of start) at body.last found on.run body.run body.ended e in
     ap (said_from f all b) rest.whole ∙ stop_said f all b u.left on.so_far found u.lines (none u.left all u.is are) u.on rest.behind
+
+-- an answer that stopped
+abbrev pub failed : Stop → Result (Unit {0}) Stop
+failed stop = Err stop
 
 -- where it stopped
 pub refusal_of : (stop : Stop) (refusal : Refusal) (place : ℕ) (P : ℕ → Type 0) → IsStop place stop refusal → (stop ≡ stops.NotListable → P place) → IsRefusal refusal P
@@ -307,3 +312,23 @@ file_too_long file segments out is wrote e = by (is_small wrote.lines) refl (e �
     by : (b : Bool) → is_small wrote.lines ≡ b → None ≡ cond b (Some (listing_text wrote.lines)) None → IsListFault file (record { cause = causes.TooLong; segment = 0; at = 0 })
     by true small e = absurd cc
     by false small e = InSize (record { segments = segments; is_file = is; all = wrote.lines; lines = wrote.are; large = small }) refl
+
+-- what was put before the records
+pub names_of : (start : Reader) (s : Segment) (names : Names) → records_of start ≡ s.records → AreNames names (equates_in (records_of start)) → AreNames names (equates_of s)
+names_of start s names same are = subst (λ (l : List (ℕ × Record)). AreNames names (equates_in l)) same are
+
+pub segment_answer : {U E : Type 0} (r : Result U E) (s : Segment) (start : Reader) (names : Names) (first : kept_before.Before) (old middle new : Output) → records_of start ≡ s.records → (has_listable_header s && list_all is_short (front_of s.fields)) ≡ true
+    → WroteAll (front_of s.fields) old middle → IsBefore first (at_front s.fields) → AreNames names (equates_of s)
+    → OnOk r ((b : Before) (all : List (List ℕ)) → IsBefore first b → AreNames names all → WroteRecords s.fields all b (records_of start) middle new) → OnOk r (WroteSegment s old new)
+segment_answer (Ok u) s start names first old middle new same holds front is are wrote =
+    segment_wrote s old middle new holds front (subst (λ (l : List (ℕ × Record)). WroteRecords s.fields (equates_of s) (at_front s.fields) l middle new) same (wrote (at_front s.fields) (equates_of s) is are))
+segment_answer (Err e) s start names first old middle new same holds front is are wrote = tt
+
+pub segment_refusal : {U : Type 0} (r : Result U Refusal) (s : Segment) (start : Reader) (names : Names) (first : kept_before.Before) → records_of start ≡ s.records → (has_listable_header s && list_all is_short (front_of s.fields)) ≡ true
+    → IsBefore first (at_front s.fields) → AreNames names (equates_of s)
+    → IfErr r (λ refusal. (b : Before) (all : List (List ℕ)) → IsBefore first b → AreNames names all → IsRefusal refusal (λ at. said_from s.fields all b (records_of start) ≡ Err at))
+    → IfErr r (λ refusal. IsRefusal refusal (λ at. listing_of s ≡ Err at))
+segment_refusal (Ok u) s start names first same holds is are stops = tt
+segment_refusal (Err refusal) s start names first same holds is are stops =
+    refusal_weaker refusal (λ at. said_from s.fields (equates_of s) (at_front s.fields) (records_of start) ≡ Err at) (λ at. listing_of s ≡ Err at)
+    (λ at e. segment_stops s at holds (ap (said_from s.fields (equates_of s) (at_front s.fields)) (sym same) ∙ e)) (stops (at_front s.fields) (equates_of s) is are)

@@ -110,6 +110,7 @@ fn put_records<'a>(
     requires line { open_line out.old ≡ [] }
     requires body { IsBody records }
     requires layout { records.layout.lab_len ≡ header.now.lab_len }
+    requires known { (b : listing.Before) × (all : List (List ℕ)) × IsBefore before b × AreNames names.now all }
     ensures wrote { OnOk result ((b : listing.Before) (all : List (List ℕ)) → IsBefore before.entry b → AreNames names.now all
         → WroteRecords (fields header.now) all b (records_of records.entry) out.old out.new) }
     ensures refused { IfErr result (λ refusal. (b : listing.Before) (all : List (List ℕ)) → IsBefore before.entry b → AreNames names.now all
