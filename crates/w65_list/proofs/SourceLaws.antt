@@ -138,15 +138,15 @@ records_on f names start at next first before after old now new found on e moved
   so_far = on.so_far ++ found ∷ [];
   run = walk_on start at next on.so_far found on.run e moved;
   each = λ b all is are.
-    let u = on.each b all is are in
-    let g = gives u.left all u.is are in
-    record {
-      lines = u.lines ++ g.all.0;
-      left = g.all.1;
-      is = g.gave.left;
-      wrote = wrote_both u.lines g.all.0 old now new u.wrote g.gave.wrote;
-      on = step_said f all b u.left on.so_far found u.lines g.all g.is u.on;
-    };
+      let u = on.each b all is are in
+      let g = gives u.left all u.is are in
+      record {
+        lines = u.lines ++ g.all.0;
+        left = g.all.1;
+        is = g.gave.left;
+        wrote = wrote_both u.lines g.all.0 old now new u.wrote g.gave.wrote;
+        on = step_said f all b u.left on.so_far found u.lines g.all g.is u.on;
+      };
 }
 
 pub records_end : (f : Fields) (names : Names) (start at : Reader) (first before : kept_before.Before) (old now : Output) → IsBody start → RecordsOn f names start at first before old now → next_answer at ≡ Ok None
@@ -242,10 +242,10 @@ segments_on segments place s now new on found wrote = record {
   lines = on.lines ++ wrote.lines;
   wrote = wrote.wrote.whole ∙ ap (with_lines wrote.lines) on.wrote ∙ sym (with_lines-append on.lines wrote.lines (Some ([], 0)));
   on = λ rest.
-    let number : 1 + place + 1 ≡ 1 + (place + 1) = omega arith in
-    ap (λ (l : List Segment). listing_from 1 (l ++ rest)) (take_next segments place s found) ∙ ap (listing_from 1) (append_assoc (take place segments) (s ∷ []) rest) ∙ on.on (s ∷ rest)
-    ∙ ap (λ (r : Result (List Said) (ℕ × ℕ)). r >>= λ more. Ok (on.lines ++ more)) (one_on (1 + place) s rest wrote.lines wrote.are)
-    ∙ file_again (listing_from (1 + place + 1) rest) on.lines wrote.lines ∙ ap (λ (n : ℕ). listing_from n rest >>= λ more. Ok ((on.lines ++ wrote.lines) ++ more)) number;
+      let number : 1 + place + 1 ≡ 1 + (place + 1) = omega arith in
+      ap (λ (l : List Segment). listing_from 1 (l ++ rest)) (take_next segments place s found) ∙ ap (listing_from 1) (append_assoc (take place segments) (s ∷ []) rest) ∙ on.on (s ∷ rest)
+      ∙ ap (λ (r : Result (List Said) (ℕ × ℕ)). r >>= λ more. Ok (on.lines ++ more)) (one_on (1 + place) s rest wrote.lines wrote.are)
+      ∙ file_again (listing_from (1 + place + 1) rest) on.lines wrote.lines ∙ ap (λ (n : ℕ). listing_from n rest >>= λ more. Ok ((on.lines ++ wrote.lines) ++ more)) number;
 }
 
 pub segments_end : (segments : List Segment) (place : ℕ) (out : Output) → SegmentsOn segments place out → length segments ≤ place → WroteFile segments out

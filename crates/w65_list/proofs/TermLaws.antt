@@ -256,7 +256,6 @@ number_is (Binary code a b) = number_none (Binary code a b) (terms_of (Binary co
 -- ---- the same of what was read
 
 module _ (e : Expression) (tree : Tree) (spells : Spells e.lab_len e.text tree) where
-
   place_0 : term_at (terms_in e.lab_len 0 e.text) 0 ≡ first (terms_of tree)
   place_0 = first_bare (terms_in e.lab_len 0 e.text) ∙ ap first (bare_are e.lab_len e.text tree spells)
 

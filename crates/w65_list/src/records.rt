@@ -116,7 +116,13 @@ fn follows(widths: Widths, opcode: u8, formula: Formula) -> bool
 }
 
 /// The lines of an EXPR that isn't part of an instruction.
-fn put_apart(alloc: Global, out: &mut Output, count: u8, expr: &Expr, front: Front) -> Result<(), Stop>
+fn put_apart(
+    alloc: Global,
+    out: &mut Output,
+    count: u8,
+    expr: &Expr,
+    front: Front,
+) -> Result<(), Stop>
     requires line { open_line out.old ≡ [] }
     requires spelled { IsExpression expr.now.lab_len expr.now.text }
     requires front { IsFront expr.now front }
@@ -195,7 +201,7 @@ fn is_listable_by_kind(known: Facts, run: &[u8], formula: Formula, front: Front)
     ensures { result ≡ (if formula.code == 0xEB
         then (if is_some_name (weak_two (option_map seen front.entry.first) (option_map seen front.entry.second)) then formula.count == 2 else (known.written && known.varies))
         else (is_some_wanted (simple_four (option_map seen front.entry.first) (option_map seen front.entry.second) (option_map seen front.entry.third) (option_map seen front.entry.fourth))
-            && follows_opcode formula.code formula.count formula.n (split_last run.now))) }
+        && follows_opcode formula.code formula.count formula.n (split_last run.now))) }
 {
     if formula.code == 0xEB {
         is_listable_expr(known, formula.count, front)
@@ -376,7 +382,7 @@ impl<'a> Before<'a> {
     fn held_operand<'b>(&self, formula: Formula, front: Front<'b>) -> Option<(u8, Wanted<'b>)>
         ensures value { (b : listing.Before) → IsBefore self.now b → option_map (λ found. (found.0, operand_view found.1)) result
             ≡ held_with (held_by b formula.code formula.count formula.n (split_last b.run))
-                (simple_four (option_map seen front.entry.first) (option_map seen front.entry.second) (option_map seen front.entry.third) (option_map seen front.entry.fourth)) }
+            (simple_four (option_map seen front.entry.first) (option_map seen front.entry.second) (option_map seen front.entry.third) (option_map seen front.entry.fourth)) }
         ensures size { IfSome result (λ found. HasSize (operand_view found.1)) }
     {
         let operand = front.simple()?;
@@ -524,7 +530,13 @@ impl<'a> Before<'a> {
     }
 
     /// GLOBAL or LOCAL, where a GLOBAL isn't private and the name is new.
-    fn label_record(&mut self, out: &mut Output, global: bool, name: &'a [u8], private: u8) -> Result<(), Stop>
+    fn label_record(
+        &mut self,
+        out: &mut Output,
+        global: bool,
+        name: &'a [u8],
+        private: u8,
+    ) -> Result<(), Stop>
         requires { open_line out.old ≡ [] }
         ensures given { OnOk result ((b : listing.Before) → IsBefore self.old b → IsGiven (if_short ((not global || private == 0) && is_listable name.now && not (is_among b.names name.now)) (with_name name.now (then_said (Labels global name.now ∷ []) (flushed b)))) out.old out.new self.new) }
         ensures refused { IsErrOf result Stop.NotListable → (b : listing.Before) → IsBefore self.old b → if_short ((not global || private == 0) && is_listable name.now && not (is_among b.names name.now)) (with_name name.now (then_said (Labels global name.now ∷ []) (flushed b))) ≡ None }
@@ -540,7 +552,13 @@ impl<'a> Before<'a> {
     }
 
     /// GEQU or EQU of a number, where the name is new.
-    fn number_record(&mut self, out: &mut Output, global: bool, name: &'a [u8], n: u32) -> Result<(), Stop>
+    fn number_record(
+        &mut self,
+        out: &mut Output,
+        global: bool,
+        name: &'a [u8],
+        n: u32,
+    ) -> Result<(), Stop>
         requires { open_line out.old ≡ [] }
         ensures given { OnOk result ((b : listing.Before) → IsBefore self.old b → IsGiven (equate_given b global name.now (Some n)) out.old out.new self.new) }
         ensures refused { IsErrOf result Stop.NotListable → (b : listing.Before) → IsBefore self.old b → equate_given b global name.now (Some n) ≡ None }
@@ -575,7 +593,14 @@ impl<'a> Before<'a> {
     }
 
     /// An expression record.
-    fn formula_record(&mut self, alloc: Global, out: &mut Output, equated: &Names, formula: Formula, expr: &Expr) -> Result<(), Stop>
+    fn formula_record(
+        &mut self,
+        alloc: Global,
+        out: &mut Output,
+        equated: &Names,
+        formula: Formula,
+        expr: &Expr,
+    ) -> Result<(), Stop>
         requires line { open_line out.old ≡ [] }
         requires spelled { IsExpression expr.now.lab_len expr.now.text }
         ensures given { OnOk result ((b : listing.Before) (all : List (List ℕ)) (tree : Tree) → AreNames equated.now all → Spells expr.now.lab_len expr.now.text tree → IsBefore self.old b → IsGiven (if_short (formula_listable all b formula.code formula.count formula.n tree) (formula_given b formula.code formula.count formula.n tree (split_last b.run) (simple_of tree))) out.old out.new self.new) }

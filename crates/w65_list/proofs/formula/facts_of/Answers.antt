@@ -9,7 +9,8 @@ terms-preserved c =
     let known = c.terms.known in
     let more = c.with_term-known.result in
     let term = view c.in-Some.term in
-    let place = c.in-Some.field-0-0 in
-    (λ all names. all_on (term_listable all) known.named more.named c.terms.terms c.next.new.self place term c.in-Some.ensures.answer c.in-Some.ensures.after (c.with_term-known.ensures.named all names) ∙ c.terms.invariant.0 all names,
-    all_on term_may_stand known.written more.written c.terms.terms c.next.new.self place term c.in-Some.ensures.answer c.in-Some.ensures.after c.with_term-known.ensures.written ∙ c.terms.invariant.1,
-    any_on is_open known.varies more.varies c.terms.terms c.next.new.self place term c.in-Some.ensures.answer c.in-Some.ensures.after c.with_term-known.ensures.varies ∙ c.terms.invariant.2)
+    let place = c.in-Some.field-0-0 in (
+      λ all names. all_on (term_listable all) known.named more.named c.terms.terms c.next.new.self place term c.in-Some.ensures.answer c.in-Some.ensures.after (c.with_term-known.ensures.named all names) ∙ c.terms.invariant.0 all names,
+      all_on term_may_stand known.written more.written c.terms.terms c.next.new.self place term c.in-Some.ensures.answer c.in-Some.ensures.after c.with_term-known.ensures.written ∙ c.terms.invariant.1,
+      any_on is_open known.varies more.varies c.terms.terms c.next.new.self place term c.in-Some.ensures.answer c.in-Some.ensures.after c.with_term-known.ensures.varies ∙ c.terms.invariant.2,
+    )
