@@ -6,7 +6,7 @@ use Rattle.std.specs.Str.{bytes_eq}
 use Rattle.std.specs.declared.alloc.Global.{Global}
 use Rattle.std.proofs.lemmas.Bool.{and_parts, leb-true}
 use Rattle.std.proofs.lemmas.List.{length-map}
-use Rattle.omf_cli.specs.Form.{Form, Asm, Link, Dump, Run, Lib, Stress, form_of, with_output, source_and_output, inputs_only, count_and_seed}
+use Rattle.omf_cli.specs.Form.{Form, Asm, Link, Dump, Run, Lib, Stress, Listing, form_of, with_output, source_and_output, inputs_only, count_and_seed, input_and_output}
 use Rattle.omf_cli.specs.Words.{is_path, are_paths, words_of, number_in, number_between}
 use Rattle.omf_cli.proofs.Libraries.{few_paths}
 
@@ -19,6 +19,7 @@ HasPaths (Some (Dump inputs)) = Unit {0}
 HasPaths (Some (Run inputs)) = Unit {0}
 HasPaths (Some (Lib output inputs)) = IsTrue (are_paths 1 255 inputs)
 HasPaths (Some (Stress n seed)) = (1 ≤ n) × (n ≤ 64)
+HasPaths (Some (Listing output inputs)) = Unit {0}
 
 abbrev ArePaths : Option (List ℕ × List (List ℕ)) → Type 0
 ArePaths None = Unit {0}
@@ -83,6 +84,10 @@ of_stress (count ∷ seed ∷ []) = go (number_between 1 64 count) (number_betwe
     go (Some n) (Some seed) are = are
 of_stress (count ∷ seed ∷ other ∷ words) = tt
 
+of_listing : (found : Option (List ℕ × List (List ℕ))) → HasPaths (option_map (λ (w : List ℕ × List (List ℕ)). Listing w.0 w.1) found)
+of_listing None = tt
+of_listing (Some w) = tt
+
 paths_in : (words : List (List ℕ)) → HasPaths (form_of words)
 paths_in [] = tt
 paths_in (name ∷ words) =
@@ -91,7 +96,8 @@ paths_in (name ∷ words) =
     (either (bytes_eq name (codes "dump")) _ _ (of_dump (inputs_only 1 1 words))
     (either (bytes_eq name (codes "run")) _ _ (of_run (inputs_only 1 1 words))
     (either (bytes_eq name (codes "lib")) _ _ (of_lib (with_output 1 255 words) (paths_behind words))
-    (either (bytes_eq name (codes "stress")) _ _ (of_stress words) tt)))))
+    (either (bytes_eq name (codes "stress")) _ _ (of_stress words)
+    (either (bytes_eq name (codes "list")) _ _ (of_listing (input_and_output words)) tt))))))
 
 -- `lib` has 1 to 255 paths
 pub lib_paths : (words : List (List ℕ)) (output : List ℕ) (inputs : List (List ℕ)) → Some (Lib output inputs) ≡ form_of words → IsTrue (are_paths 1 255 inputs)

@@ -13,6 +13,7 @@ pub data Form : Type 0 where
   Run : (inputs : List (List ℕ)) → Form
   Lib : (output : List ℕ) (inputs : List (List ℕ)) → Form
   Stress : (count seed : ℕ) → Form
+  Listing : (output : List ℕ) (inputs : List (List ℕ)) → Form
 
 -- an output, and so many inputs behind it
 abbrev pub with_output : ℕ → ℕ → List (List ℕ) → Option (List ℕ × List (List ℕ))
@@ -34,7 +35,12 @@ count_and_seed (count ∷ seed ∷ []) =
     option_and_then (λ n. option_map (λ seed. (n, seed)) (number_between 0 4294967295 seed)) (number_between 1 64 count)
 count_and_seed _ = None
 
--- `asm SRC OBJ MACROS..`, `link OUT FILE..`, `dump FILE`, `run SCRIPT`, `lib OUT OBJ..`, `stress N SEED`; other words have no form
+-- an input, and an output behind it
+abbrev pub input_and_output : List (List ℕ) → Option (List ℕ × List (List ℕ))
+input_and_output (input ∷ output ∷ []) = if is_path input && is_path output then Some (output, input ∷ []) else None
+input_and_output _ = None
+
+-- `asm SRC OBJ MACROS..`, `link OUT FILE..`, `dump FILE`, `run SCRIPT`, `lib OUT OBJ..`, `stress N SEED`, `list OBJ SRC`; other words have no form
 abbrev pub form_of : List (List ℕ) → Option Form
 form_of [] = None
 form_of (name ∷ words) =
@@ -43,7 +49,8 @@ form_of (name ∷ words) =
     else (if bytes_eq name (codes "dump") then option_map Dump (inputs_only 1 1 words)
     else (if bytes_eq name (codes "run") then option_map Run (inputs_only 1 1 words)
     else (if bytes_eq name (codes "lib") then option_map (λ w. Lib w.0 w.1) (with_output 1 255 words)
-    else (if bytes_eq name (codes "stress") then option_map (λ w. Stress w.0 w.1) (count_and_seed words) else None)))))
+    else (if bytes_eq name (codes "stress") then option_map (λ w. Stress w.0 w.1) (count_and_seed words)
+    else (if bytes_eq name (codes "list") then option_map (λ w. Listing w.0 w.1) (input_and_output words) else None))))))
 
 -- a form as it was read from words
 abbrev pub shown : Words → Form
@@ -53,3 +60,4 @@ shown (words.Dump inputs) = Dump (words_of inputs.now)
 shown (words.Run inputs) = Run (words_of inputs.now)
 shown (words.Lib output inputs) = Lib output.now (words_of inputs.now)
 shown (words.Stress count seed) = Stress count seed
+shown (words.Listing output inputs) = Listing output.now (words_of inputs.now)

@@ -4,13 +4,14 @@ use Rattle.omf_io.specs.Outside.{Outside, IsCalm}
 use Rattle.loader_agrees.specs.Agrees.{Loaded}
 use Rattle.omf_cli.specs.declared.status.Status.{Status}
 use Rattle.omf_cli.specs.declared.status.Status.TheVariants as status
-use Rattle.omf_cli.specs.Form.{Form, Asm, Link, Dump, Run, Lib, Stress}
+use Rattle.omf_cli.specs.Form.{Form, Asm, Link, Dump, Run, Lib, Stress, Listing}
 use Rattle.omf_cli.specs.Lines.{usage_line}
 use Rattle.omf_cli.specs.Printing.{Ends}
 use Rattle.omf_cli.specs.Making.{MakesRun, CanMake}
 use Rattle.omf_cli.specs.Assemble.{AsmMakes}
 use Rattle.omf_cli.specs.Dump.{DumpMakes}
 use Rattle.omf_cli.specs.Link.{LinkMakes}
+use Rattle.omf_cli.specs.Listings.{ListMakes}
 use Rattle.omf_cli.specs.Library.{LibMakes}
 use Rattle.omf_cli.specs.Script.{ScriptRun, CanRun}
 use Rattle.omf_cli.specs.Stress.{StressRun}
@@ -29,6 +30,7 @@ HasRun result (Some (Dump inputs)) last o = MakesRun DumpMakes None inputs resul
 HasRun result (Some (Run inputs)) last o = ScriptRun inputs result last o
 HasRun result (Some (Lib output inputs)) last o = MakesRun (LibMakes inputs) (Some output) inputs result o × (last ≡ None)
 HasRun result (Some (Stress n seed)) last o = StressRun n seed result last o
+HasRun result (Some (Listing output inputs)) last o = MakesRun ListMakes (Some output) inputs result o × (last ≡ None)
 
 -- the command can be done: the store tells its inputs, if there are any, they have no fault, and no count rises
 abbrev pub CanSucceed : Option Form → Outside → Type 0
@@ -39,3 +41,4 @@ CanSucceed (Some (Dump inputs)) o = CanMake DumpMakes inputs o
 CanSucceed (Some (Run inputs)) o = CanRun inputs o
 CanSucceed (Some (Lib output inputs)) o = CanMake (LibMakes inputs) inputs o
 CanSucceed (Some (Stress n seed)) o = IsCalm o
+CanSucceed (Some (Listing output inputs)) o = CanMake ListMakes inputs o

@@ -3,7 +3,7 @@
 ghost use Rattle.std.specs.Prelude.{◌≡◌, ◌<◌, ◌^◌};
 ghost use Rattle.std.specs.Option.{option_map};
 ghost use Rattle.omf_cli.specs.Words.{is_path, are_paths, words_of, number_in, number_between};
-ghost use Rattle.omf_cli.specs.Form.{with_output, source_and_output, inputs_only, count_and_seed, form_of, shown};
+ghost use Rattle.omf_cli.specs.Form.{with_output, source_and_output, inputs_only, count_and_seed, input_and_output, form_of, shown};
 
 /// A command with its paths.
 pub enum Form<'a> {
@@ -29,6 +29,10 @@ pub enum Form<'a> {
     Stress {
         count: u32,
         seed: u32,
+    },
+    Listing {
+        output: &'a str,
+        inputs: &'a [String],
     },
 }
 
@@ -131,6 +135,20 @@ fn count_and_seed(words: &[String]) -> Option<(u32, u32)>
     Some((count, seed))
 }
 
+/// An input, and an output behind it.
+fn input_and_output(words: &[String]) -> Option<(&str, &[String])>
+    ensures { option_map (λ w. (w.0.now, words_of w.1.now)) result ≡ input_and_output (words_of words.now) }
+{
+    let (input, behind) = words.split_first()?;
+    let (output, behind) = behind.split_first()?;
+    let output = output.as_str();
+    if behind.is_empty() && is_path(input.as_str()) && is_path(output) {
+        Some((output, &words[..1]))
+    } else {
+        None
+    }
+}
+
 /// The form of the words, or None where they have none.
 pub fn read_form(words: &[String]) -> Option<Form<'_>>
     ensures { option_map shown result ≡ form_of (words_of words.now) }
@@ -164,6 +182,10 @@ pub fn read_form(words: &[String]) -> Option<Form<'_>>
         "stress" => {
             let (count, seed) = count_and_seed(words)?;
             Some(Form::Stress { count, seed })
+        }
+        "list" => {
+            let (output, inputs) = input_and_output(words)?;
+            Some(Form::Listing { output, inputs })
         }
         _ => None,
     }

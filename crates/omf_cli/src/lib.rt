@@ -7,6 +7,7 @@ mod form;
 mod laws;
 mod library;
 mod link;
+mod list;
 mod making;
 mod printing;
 mod reading;

@@ -13,6 +13,7 @@ use crate::dump::Dump;
 use crate::form::{Form, read_form};
 use crate::library::Lib;
 use crate::link::Link;
+use crate::list::Listing;
 use crate::making::run_maker;
 use crate::printing::{print, usage_line};
 use crate::script::run_file;
@@ -54,7 +55,8 @@ fn run_asm<F: Files, S: Sink>(
 /// for each segment of a file, and one for each of its records. `run SCRIPT` runs a script of loader commands, which is read
 /// whole before, and prints a line for each. `lib OUT OBJ..` makes a library of 1 to 255 object files, whose paths are their
 /// names in it; all are read in order before anything is written. `stress N SEED` makes a workload of N dynamic segments, 1 to 64,
-/// for a seed of 32 bits, links it, runs it over a store of its own, and prints a line. Other words print the usage line.
+/// for a seed of 32 bits, links it, runs it over a store of its own, and prints a line. `list OBJ SRC`
+/// writes the source from which `asm` makes an object with the same content; a refusal tells what can't be listed, and where. Other words print the usage line.
 pub fn run_tool<F: Files, S: Sink>(
     alloc: Global,
     words: &Vec<String>,
@@ -91,5 +93,8 @@ pub fn run_tool<F: Files, S: Sink>(
             run_maker(alloc, &Lib { inputs }, Some(output), inputs, files, out)
         }
         Some(Form::Stress { count, seed }) => run_stress(alloc, count, seed, out, last),
+        Some(Form::Listing { output, inputs }) => {
+            run_maker(alloc, &Listing, Some(output), inputs, files, out)
+        }
     }
 }
