@@ -1,15 +1,15 @@
 -- Which headers can be listed, and how many cells records give.
-use Rattle.std.proofs.Common.{◌≡◌, ◌⊎◌, inl, inr, ℕ, zero, suc, ◌+◌, ◌-◌, ◌≤◌, ◌<◌, Bool, true, false, cond, eqb, leb, ltb, List, [], ◌∷◌, ◌++◌, length, take, Option, Some, None, Ok, refl, sym, ap, subst, ◌∙◌, arith, append_assoc, append-nil}
-use Rattle.std.specs.Prelude.{not, ◌&&◌, ◌||◌, ◌==◌, nat_le}
-use Rattle.std.specs.List.{list_any, list_all, position_or_len, prefix_len}
+use Rattle.std.proofs.Common.{◌≡◌, inl, inr, ℕ, ◌+◌, ◌-◌, ◌≤◌, ◌<◌, Bool, true, false, cond, eqb, leb, ltb, List, [], ◌∷◌, ◌++◌, length, Some, None, Ok, refl, sym, ap, subst, ◌∙◌, arith, append_assoc, append-nil}
+use Rattle.std.specs.Prelude.{not, ◌&&◌, ◌||◌}
+use Rattle.std.specs.List.{list_all, position_or_len}
 use Rattle.std.proofs.lemmas.List.Sums.{prefix_len-le-length}
-use Rattle.std.proofs.lemmas.Bool.{eqb-true, eq-eqb, ne_eqb, leb-true, le-leb, lt-leb, ltb-false}
+use Rattle.std.proofs.lemmas.Bool.{eqb-true, eq-eqb, ne_eqb, le-leb, lt-leb, ltb-false}
 use Rattle.omf_format.specs.Record.{Record}
-use Rattle.omf_format.specs.Reading.{Reader, next_answer, after_next, HandsOut, records_of, IsBody}
+use Rattle.omf_format.specs.Reading.{Reader, next_answer, after_next, records_of, IsBody}
 use Rattle.omf_format.specs.File.{Segment}
 use Rattle.w65_list.proofs.RecordRuns.{rest_of}
 use Rattle.omf_records.specs.WalkLaws.{walk_on, walk_ends}
-use Rattle.link_meaning.specs.Sizes.{size_at, located_from, located, place_behind, body_size}
+use Rattle.link_meaning.specs.Sizes.{size_at, located, place_behind, body_size}
 use Rattle.list_meaning.specs.Listing.{greatest_length, is_lost, has_lost_place, has_listable_header, front_of, is_short}
 use Rattle.w65_list.specs.FrontView.{has_listable_fields, has_listable_length, is_lost_from, HaveCells, AreOver, Counted}
 

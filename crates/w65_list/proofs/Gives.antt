@@ -1,11 +1,10 @@
 -- What a record gives: its lines behind those of the run.
-use Rattle.std.proofs.Common.{◌≡◌, ℕ, ◌-◌, Bool, true, false, cond, List, [], ◌∷◌, ◌++◌, length, take, Option, Some, None, refl, sym, ap, subst, ◌∙◌, arith}
+use Rattle.std.proofs.Common.{◌≡◌, ℕ, Bool, true, false, cond, List, [], ◌∷◌, ◌++◌, length, Option, Some, None, refl, sym, ap, subst, ◌∙◌, arith}
 use Rattle.std.specs.Prelude.{not, ◌&&◌, ◌||◌, ◌==◌}
 use Rattle.std.specs.List.{list_all, list_any, IsLastAndRest}
 use Rattle.omf_format.specs.Expression.{Tree, terms_of, Spells}
 use Rattle.omf_format.specs.Header.{Fields}
 use Rattle.omf_format.specs.Record as format
-use Rattle.link_meaning.specs.Terms.{tree_in}
 use Rattle.link_meaning.specs.laws.TreeInLaws.{tree_in-again}
 use Rattle.list_meaning.specs.Listed.{Said, Wanted}
 use Rattle.list_meaning.specs.Listing as listing

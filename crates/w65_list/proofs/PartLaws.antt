@@ -1,12 +1,11 @@
 -- The parts of a formula, of which the first 256 bytes count.
-use Rattle.std.proofs.Common.{◌≡◌, ℕ, zero, suc, ◌+◌, ◌-◌, ◌≤◌, min, Bool, true, false, cond, eqb, List, [], ◌∷◌, ◌++◌, length, map, take, drop, Option, Some, None, refl, sym, ap, subst, ◌∙◌, arith, append_assoc, append-nil, length-append}
+use Rattle.std.proofs.Common.{◌≡◌, ℕ, zero, suc, ◌+◌, ◌-◌, ◌≤◌, min, Bool, true, false, cond, eqb, List, [], ◌∷◌, ◌++◌, length, map, take, drop, Some, refl, sym, ap, subst, ◌∙◌, arith, append_assoc, length-append}
 use Rattle.std.specs.Prelude.{codes, slice_get, ◌||◌, Result, Ok, Err, IfOk}
-use Rattle.std.proofs.lemmas.Bool.{eqb-true, eq-eqb, ne_eqb}
-use Rattle.omf_format.specs.Expression.{Term, Operator, Location, Constant, Named, Offset, Tree, Leaf, Unary, Binary, IsTree, terms_of, terms_in, Spells, IsExpression, operand_count, operands_of, Lead}
+use Rattle.std.proofs.lemmas.Bool.{eqb-true, eq-eqb}
+use Rattle.omf_format.specs.Expression.{Term, Operator, Location, Constant, Named, Offset, Tree, Leaf, Unary, Binary, terms_in, IsExpression, operand_count, operands_of, Lead}
 use Rattle.omf_format.specs.laws.TreeLaws.{operand_counts}
 use Rattle.omf_format.specs.laws.ExpressionLaws.{tree_leads_to_one}
 use Rattle.link_meaning.specs.Terms.{with_term, trees_behind, last_tree, tree_in}
-use Rattle.link_meaning.specs.laws.TreeInLaws.{tree_in-again}
 use Rattle.list_meaning.specs.Listed.{formula_text, operator_text, as_operand}
 use Rattle.w65_list.specs.declared.formula.Part.{Part}
 use Rattle.w65_list.specs.FormulaView.{bare, is_leaf, enclosed, part_view, told, all_told, AreParts}

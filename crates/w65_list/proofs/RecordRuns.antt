@@ -1,7 +1,6 @@
 -- The records so far, and those that are left.
-use Rattle.std.proofs.Common.{◌≡◌, ℕ, true, List, [], ◌∷◌, ◌++◌, Option, Some, None, Result, Ok, Err, refl, sym, ap, subst, ◌∙◌}
+use Rattle.std.proofs.Common.{◌≡◌, ℕ, true, List, [], ◌∷◌, ◌++◌, Option, Some, Result, Ok, sym, ap, subst, ◌∙◌}
 use Rattle.omf_format.specs.declared.fault.RecordFault.{RecordFault}
-use Rattle.omf_format.specs.Field.{Layout}
 use Rattle.omf_format.specs.Record.{Record}
 use Rattle.omf_format.specs.Reading.{Reader, next_answer, after_next, HandsOut}
 use Rattle.omf_format.specs.laws.FileLaws.{open_at_some, same_found}

@@ -1,7 +1,7 @@
 -- The lines of records, of segments and of a file, one behind another.
-use Rattle.std.proofs.Common.{◌≡◌, ◌⊎◌, inl, inr, ℕ, zero, suc, ◌+◌, ◌≤◌, ◌<◌, Bool, true, false, cond, List, [], ◌∷◌, ◌++◌, length, take, Option, Some, None, Result, Ok, Err, refl, sym, ap, subst, ◌∙◌, arith, append_assoc, append-nil}
+use Rattle.std.proofs.Common.{◌≡◌, inl, inr, ℕ, zero, suc, ◌+◌, ◌≤◌, Bool, true, false, cond, List, [], ◌∷◌, ◌++◌, length, take, Option, Some, None, Result, Ok, Err, refl, sym, ap, subst, ◌∙◌, arith, append_assoc, append-nil}
 use Rattle.std.specs.Prelude.{◌&&◌, ◌||◌, slice_get, option_map, bytes_eq, IfErr, OnOk}
-use Rattle.std.specs.List.{flat_map, list_any, list_all}
+use Rattle.std.specs.List.{list_all}
 use Rattle.std.proofs.lemmas.List.Concat.{flat_map-cons, flat_map-append}
 use Rattle.std.proofs.lemmas.List.Folds.{list_any-append}
 use Rattle.omf_format.specs.declared.fault.FileCause.{FileCause}
@@ -10,7 +10,7 @@ use Rattle.omf_format.specs.declared.fault.FileFault.{FileFault}
 use Rattle.omf_format.specs.Field.{Layout, ◌>>=◌}
 use Rattle.omf_format.specs.File.{Segment, IsFile, IsFirstFault}
 use Rattle.omf_format.specs.Header.{Fields}
-use Rattle.omf_format.specs.Reading.{Reader, next_answer, after_next, HandsOut, records_of, IsBody}
+use Rattle.omf_format.specs.Reading.{Reader, next_answer, after_next, records_of, IsBody}
 use Rattle.omf_format.specs.Record.{Record, End, Const, LongConst, Align, Org, Space, Reloc, InterSeg, ShortReloc, ShortInterSeg, Super, Using, Strong, Label, Equate, Formula, Entry, IsRecord}
 use Rattle.omf_records.specs.Segments.{IsRefused, UnlessMemory}
 use Rattle.omf_records.specs.WalkLaws.{walk_on, walk_ends}
@@ -28,11 +28,11 @@ use Rattle.w65_list.specs.declared.stop.Stop.{Stop}
 use Rattle.w65_list.specs.declared.stop.Stop.TheVariants as stops
 use Rattle.w65_list.specs.BeforeView.{IsBefore}
 use Rattle.w65_list.specs.Giving.{IsGiven, HasExpression}
-use Rattle.w65_list.specs.Kept.{so_far, with_lines}
+use Rattle.w65_list.specs.Kept.{with_lines}
 use Rattle.w65_list.specs.LineView.{WroteAll}
 use Rattle.w65_list.specs.NamesView.{AreNames}
 use Rattle.w65_list.specs.OutputView.{kept, open_line}
-use Rattle.w65_list.specs.SourceView.{WroteRecords, WroteSegment, WroteFile, equates_in, IsStop, IsRefusal, IsSegmentFault, IsTold, EquatesOn, LinesOn, RecordsOn, SegmentsOn}
+use Rattle.w65_list.specs.SourceView.{WroteRecords, WroteSegment, WroteFile, equates_in, IsStop, IsRefusal, IsSegmentFault, IsTold, EquatesOn, RecordsOn, SegmentsOn}
 use Rattle.w65_list.proofs.KeptLaws.{kept_all}
 use Rattle.w65_list.proofs.RecordRuns.{rest_of, layout_same}
 use Rattle.w65_list.proofs.Written.{wrote_both, with_lines-append}

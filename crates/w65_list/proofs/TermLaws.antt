@@ -1,9 +1,9 @@
 -- The terms of an expression and its tree.
-use Rattle.std.proofs.Common.{◌≡◌, ℕ, ◌+◌, ◌≤◌, Bool, true, false, cond, eqb, List, [], ◌∷◌, ◌++◌, length, map, drop, Option, Some, None, refl, sym, ap, subst, ◌∙◌, arith, length-append}
-use Rattle.std.specs.Prelude.{◌&&◌, ◌||◌, ◌==◌, slice_get, option_map}
+use Rattle.std.proofs.Common.{◌≡◌, ℕ, ◌+◌, ◌≤◌, Bool, true, false, cond, eqb, List, [], ◌∷◌, ◌++◌, length, drop, Option, Some, None, refl, sym, ap, subst, ◌∙◌, arith, length-append}
+use Rattle.std.specs.Prelude.{◌&&◌, ◌||◌, slice_get}
 use Rattle.std.specs.List.{list_all, list_any}
 use Rattle.std.proofs.lemmas.Bool.{eqb-true}
-use Rattle.omf_format.specs.Expression.{Term, Operator, Location, Constant, Named, Offset, IsTerm, AreTerms, Tree, Leaf, Unary, Binary, IsTree, terms_of, term_text, placed_terms, terms_in, Spells, Expression}
+use Rattle.omf_format.specs.Expression.{Term, Operator, Location, Constant, Named, Offset, AreTerms, Tree, Leaf, Unary, Binary, IsTree, terms_of, term_text, placed_terms, terms_in, Spells, Expression}
 use Rattle.omf_format.specs.laws.ExpressionLaws.{terms_are}
 use Rattle.omf_format.specs.laws.TreeLaws.{tree_has_terms, tree-same}
 use Rattle.list_meaning.specs.Listed as listed

@@ -1,5 +1,5 @@
 -- What the lines so far leave, as it is kept.
-use Rattle.std.specs.Prelude.{◌≡◌, ℕ, List}
+use Rattle.std.specs.Prelude.{◌≡◌}
 use Rattle.list_meaning.specs.Listing as listing
 use Rattle.w65_list.specs.declared.records.Before.{Before}
 use Rattle.w65_list.specs.LineView.{widths_view}

@@ -1,7 +1,7 @@
 -- How the terms and the parts of a formula are seen.
-use Rattle.std.specs.Prelude.{◌≡◌, ℕ, ◌==◌, ◌&&◌, Bool, true, false, List, [], ◌∷◌, ◌++◌, codes, map, take, drop, slice_get, length, Option, Some, None, option_map, if◌then◌else◌}
+use Rattle.std.specs.Prelude.{◌≡◌, ℕ, ◌==◌, Bool, true, false, List, [], ◌∷◌, ◌++◌, codes, map, take, drop, slice_get, length, Option, Some, None, option_map, if◌then◌else◌}
 use Rattle.std.specs.List.{list_all, list_any}
-use Rattle.omf_format.specs.Expression.{Term, Operator, Location, Constant, Named, Offset, Tree, Leaf, Unary, Binary, Lead, Expression, terms_in}
+use Rattle.omf_format.specs.Expression.{Term, Operator, Constant, Named, Tree, Leaf, Unary, Binary, Lead, Expression, terms_in}
 use Rattle.omf_expr.specs.View.{view}
 use Rattle.link_meaning.specs.Terms.{trees_behind}
 use Rattle.list_meaning.specs.Listed as listed

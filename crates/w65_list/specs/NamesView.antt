@@ -1,7 +1,6 @@
 -- How a set of names is seen.
-use Rattle.std.specs.Prelude.{◌≡◌, ℕ, Bool, List, bytes_eq, is_some, Option, nat_le, ◌&&◌, ◌||◌, ◌==◌}
+use Rattle.std.specs.Prelude.{◌≡◌, ℕ, Bool, List, bytes_eq, is_some, nat_le, ◌&&◌, ◌||◌, ◌==◌}
 use Rattle.std.specs.Map.{lookup}
-use Rattle.indexmap.specs.IndexMap.{IndexMap}
 use Rattle.list_meaning.specs.Listing.{is_among}
 use Rattle.w65_list.specs.declared.names.Names.{Names}
 

@@ -1,4 +1,4 @@
-use Rattle.std.proofs.Common.{◌≡◌, ◌++◌, [], List, ℕ, take, ap, ◌∙◌}
+use Rattle.std.proofs.Common.{◌++◌, [], List, ℕ, take, ap, ◌∙◌}
 use Rattle.list_meaning.specs.Listed.{operator_text}
 use Rattle.w65_list.specs.FormulaView.{enclosed}
 use Rattle.w65_list.proofs.PartLaws.{put_both}

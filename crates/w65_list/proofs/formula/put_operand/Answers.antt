@@ -1,4 +1,4 @@
-use Rattle.std.proofs.Common.{◌≡◌, ◌++◌, Bool, List, ℕ, take, sym, ap, ◌∙◌}
+use Rattle.std.proofs.Common.{◌++◌, Bool, List, ℕ, take, sym, ap, ◌∙◌}
 use Rattle.std.proofs.lemmas.Result.{on_ok_weaker}
 use Rattle.w65_list.specs.FormulaView.{enclosed}
 use Rattle.w65_list.proofs.PartLaws.{enclosed_put}

@@ -1,4 +1,4 @@
-use Rattle.std.proofs.Common.{◌≡◌, ◌++◌, List, ℕ, take, ap, ◌∙◌}
+use Rattle.std.proofs.Common.{◌++◌, List, ℕ, take, ap, ◌∙◌}
 use Rattle.std.proofs.lemmas.Result.{on_ok_weaker}
 use Rattle.list_meaning.specs.Listed.{operator_text}
 use Rattle.w65_list.specs.FormulaView.{enclosed}

@@ -1,4 +1,4 @@
-use Rattle.std.proofs.Common.{◌≡◌, ℕ, List, sym, subst, arith}
+use Rattle.std.proofs.Common.{ℕ, List, sym, subst, arith}
 use Rattle.omf_format.specs.Expression.{Term, terms_in}
 use Rattle.omf_expr.specs.View.{view}
 use Rattle.w65_list.specs.declared.formula.Part.{Part}

@@ -1,6 +1,5 @@
-use Rattle.std.proofs.Common.{◌≡◌, ℕ, ◌+◌, sym, ap, ◌∙◌, arith}
+use Rattle.std.proofs.Common.{ℕ, ◌+◌, sym, ap, ◌∙◌, arith}
 use Rattle.omf_format.specs.Record.{Record}
-use Rattle.omf_format.specs.Reading.{records_of}
 use Rattle.omf_records.specs.View.{view}
 use Rattle.omf_records.specs.WalkLaws.{walk_fails}
 use Rattle.w65_list.proofs.FrontLaws.{counted_on, counted_end, counted_lost, counted_over}

@@ -1,4 +1,4 @@
-use Rattle.std.proofs.Common.{◌≡◌, ◌-◌, sym, subst, refl, arith}
+use Rattle.std.proofs.Common.{◌-◌, sym, subst, refl, arith}
 use Rattle.omf_format.specs.Reading.{Reader, records_of}
 use Rattle.omf_records.specs.Segments.{shown}
 use Rattle.w65_list.specs.FrontView.{HaveCells, AreOver}

@@ -1,9 +1,9 @@
-use Rattle.std.proofs.Common.{◌≡◌, ℕ, List, take, Option, Some, None, false, subst, sym, ap, ◌∙◌}
+use Rattle.std.proofs.Common.{◌≡◌, ℕ, List, take, Option, false, subst, ap, ◌∙◌}
 use Rattle.std.specs.Prelude.{option_map}
 use Rattle.std.proofs.lemmas.Result.{on_ok_weaker}
 use Rattle.omf_expr.specs.View.{view}
 use Rattle.link_meaning.specs.laws.TreeInLaws.{tree_in-again}
-use Rattle.list_meaning.specs.Listed.{Sums, formula_text}
+use Rattle.list_meaning.specs.Listed.{Sums}
 use Rattle.list_meaning.specs.Listing.{apart, is_short}
 use Rattle.w65_list.specs.LineView.{Wrote}
 use Rattle.w65_list.proofs.TermLaws.{weak_read}

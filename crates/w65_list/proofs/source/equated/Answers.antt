@@ -1,4 +1,4 @@
-use Rattle.std.proofs.Common.{◌≡◌, ℕ, sym}
+use Rattle.std.proofs.Common.{ℕ, sym}
 use Rattle.omf_format.specs.Record.{Record}
 use Rattle.omf_records.specs.View.{view}
 use Rattle.omf_records.specs.WalkLaws.{walk_fails}

@@ -1,4 +1,4 @@
-use Rattle.std.proofs.Common.{◌+◌, arith}
+use Rattle.std.proofs.Common.{arith}
 use Rattle.omf_records.specs.Segments.{shown}
 use Rattle.omf_records.specs.SegmentLaws.{shown_at, none_past}
 use Rattle.w65_list.proofs.SourceLaws.{segments_on, segments_end, segments_stop}

@@ -1,9 +1,9 @@
-use Rattle.std.proofs.Common.{◌≡◌, Option, Some, None, false, subst, sym, ◌∙◌}
+use Rattle.std.proofs.Common.{◌≡◌, Option, None, false, subst, sym, ◌∙◌}
 use Rattle.std.specs.Prelude.{option_map}
 use Rattle.std.proofs.lemmas.Result.{on_ok_weaker}
 use Rattle.omf_expr.specs.View.{view}
 use Rattle.list_meaning.specs.Listed.{Wanted}
-use Rattle.list_meaning.specs.Listing.{Given, are_short, simple_of, split_last, formula_given}
+use Rattle.list_meaning.specs.Listing.{Given, are_short, simple_of, split_last}
 use Rattle.w65_list.specs.FormulaView.{simple_four}
 use Rattle.w65_list.specs.Giving.{Gave, held_by, held_with}
 use Rattle.w65_list.specs.LineView.{operand_view}
