@@ -8,7 +8,7 @@ use Rattle.std.specs.declared.alloc.Global.{Global}
 use Rattle.std.specs.Cmp.Derive.{both_true}
 use Rattle.std.proofs.lemmas.Bool.{and_parts, leb-true, le-leb, ltb-true}
 use Rattle.std.proofs.lemmas.List.{length-map, length-drop}
-use Rattle.omf_cli.specs.Form.{Form, Asm, Link, Dump, Run, Lib, Stress, Rtl, LinkRt, form_of, with_output, source_and_output, inputs_only, count_and_seed, last_inputs, output_and_runtimes}
+use Rattle.omf_cli.specs.Form.{Form, Asm, Link, Dump, Run, Lib, Stress, Rtl, LinkRt, Listing, Compact, form_of, with_output, source_and_output, inputs_only, count_and_seed, last_inputs, output_and_runtimes, input_and_output}
 use Rattle.omf_cli.specs.Words.{is_path, are_paths, are_printing, words_of, number_in, number_between, short_number_between}
 use Rattle.omf_cli.proofs.Libraries.{few_paths}
 
@@ -28,6 +28,8 @@ HasPaths (Some (Lib output inputs)) = IsTrue (are_paths 1 255 inputs)
 HasPaths (Some (Stress n seed)) = (1 ≤ n) × (n ≤ 64)
 HasPaths (Some (Rtl output inputs)) = IsTrue (are_paths 1 255 inputs)
 HasPaths (Some (LinkRt output inputs runtimes)) = IsTrue (are_paths 2 255 inputs) × AreRuntimes runtimes
+HasPaths (Some (Listing output inputs)) = Unit {0}
+HasPaths (Some (Compact output inputs)) = Unit {0}
 
 abbrev ArePaths : Option (List ℕ × List (List ℕ)) → Type 0
 ArePaths None = Unit {0}
@@ -151,6 +153,14 @@ of_linkrt (output ∷ count ∷ inputs) = go (short_number_between 1 16 count) (
     go None are = tt
     go (Some n) are = by_test n (is_path output && are_paths 2 255 inputs) are refl
 
+of_listing : (found : Option (List ℕ × List (List ℕ))) → HasPaths (option_map (λ (w : List ℕ × List (List ℕ)). Listing w.0 w.1) found)
+of_listing None = tt
+of_listing (Some w) = tt
+
+of_compact : (found : Option (List ℕ × List (List ℕ))) → HasPaths (option_map (λ (w : List ℕ × List (List ℕ)). Compact w.0 w.1) found)
+of_compact None = tt
+of_compact (Some w) = tt
+
 paths_in : (words : List (List ℕ)) → HasPaths (form_of words)
 paths_in [] = tt
 paths_in (name ∷ words) =
@@ -161,7 +171,9 @@ paths_in (name ∷ words) =
     (either (bytes_eq name (codes "lib")) _ _ (of_lib (with_output 1 255 words) (paths_behind words))
     (either (bytes_eq name (codes "stress")) _ _ (of_stress words)
     (either (bytes_eq name (codes "rtl")) _ _ (of_rtl (with_output 1 255 words) (paths_behind words))
-    (either (bytes_eq name (codes "linkrt")) _ _ (of_linkrt words) tt)))))))
+    (either (bytes_eq name (codes "linkrt")) _ _ (of_linkrt words)
+    (either (bytes_eq name (codes "list")) _ _ (of_listing (input_and_output words))
+    (either (bytes_eq name (codes "compact")) _ _ (of_compact (input_and_output words)) tt)))))))))
 
 -- `lib` has 1 to 255 paths
 pub lib_paths : (words : List (List ℕ)) (output : List ℕ) (inputs : List (List ℕ)) → Some (Lib output inputs) ≡ form_of words → IsTrue (are_paths 1 255 inputs)

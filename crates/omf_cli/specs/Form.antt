@@ -15,7 +15,8 @@ pub data Form : Type 0 where
   Stress : (count seed : ℕ) → Form
   Rtl : (output : List ℕ) (inputs : List (List ℕ)) → Form
   LinkRt : (output : List ℕ) (inputs runtimes : List (List ℕ)) → Form
-  Compact : (inputs : List (List ℕ)) (output : List ℕ) → Form
+  Listing : (output : List ℕ) (inputs : List (List ℕ)) → Form
+  Compact : (output : List ℕ) (inputs : List (List ℕ)) → Form
 
 -- an output, and so many inputs behind it
 abbrev pub with_output : ℕ → ℕ → List (List ℕ) → Option (List ℕ × List (List ℕ))
@@ -30,11 +31,6 @@ source_and_output (source ∷ words) = if is_path source then option_map (λ w. 
 -- so many inputs
 abbrev pub inputs_only : ℕ → ℕ → List (List ℕ) → Option (List (List ℕ))
 inputs_only least most inputs = if are_paths least most inputs then Some inputs else None
-
--- one input, and an output behind it
-abbrev pub input_and_output : List (List ℕ) → Option (List (List ℕ) × List ℕ)
-input_and_output (input ∷ output ∷ []) = if are_paths 1 1 (input ∷ []) && is_path output then Some (input ∷ [], output) else None
-input_and_output _ = None
 
 -- how many dynamic segments, 1 to 64, and a seed
 abbrev pub count_and_seed : List (List ℕ) → Option (ℕ × ℕ)
@@ -55,8 +51,13 @@ output_and_runtimes (output ∷ count ∷ inputs) =
     (short_number_between 1 16 count)
 output_and_runtimes _ = None
 
+-- an input, and an output behind it
+abbrev pub input_and_output : List (List ℕ) → Option (List ℕ × List (List ℕ))
+input_and_output (input ∷ output ∷ []) = if is_path input && is_path output then Some (output, input ∷ []) else None
+input_and_output _ = None
+
 -- `asm SRC OBJ MACROS..`, `link OUT FILE..`, `dump FILE`, `run SCRIPT`, `lib OUT OBJ..`, `stress N SEED`, `rtl OUT FILE..`,
--- `linkrt OUT K FILE..`, `compact IN OUT`; other words have no form
+-- `linkrt OUT K FILE..`, `list OBJ SRC`, `compact IN OUT`; other words have no form
 abbrev pub form_of : List (List ℕ) → Option Form
 form_of [] = None
 form_of (name ∷ words) =
@@ -68,7 +69,8 @@ form_of (name ∷ words) =
     else (if bytes_eq name (codes "stress") then option_map (λ w. Stress w.0 w.1) (count_and_seed words)
     else (if bytes_eq name (codes "rtl") then option_map (λ w. Rtl w.0 w.1) (with_output 1 255 words)
     else (if bytes_eq name (codes "linkrt") then option_map (λ w. LinkRt w.0 w.1 w.2) (output_and_runtimes words)
-    else (if bytes_eq name (codes "compact") then option_map (λ w. Compact w.0 w.1) (input_and_output words) else None))))))))
+    else (if bytes_eq name (codes "list") then option_map (λ w. Listing w.0 w.1) (input_and_output words)
+    else (if bytes_eq name (codes "compact") then option_map (λ w. Compact w.0 w.1) (input_and_output words) else None)))))))))
 
 -- a form as it was read from words
 abbrev pub shown : Words → Form
@@ -80,4 +82,5 @@ shown (words.Lib output inputs) = Lib output.now (words_of inputs.now)
 shown (words.Stress count seed) = Stress count seed
 shown (words.Rtl output inputs) = Rtl output.now (words_of inputs.now)
 shown (words.LinkRt output inputs runtimes) = LinkRt output.now (words_of inputs.now) (words_of runtimes.now)
-shown (words.Compact inputs output) = Compact (words_of inputs.now) output.now
+shown (words.Listing output inputs) = Listing output.now (words_of inputs.now)
+shown (words.Compact output inputs) = Compact output.now (words_of inputs.now)

@@ -13,6 +13,8 @@ pub mod Link
 pub mod Dump
 pub mod LibCauses
 pub mod Library
+pub mod ListCauses
+pub mod Listings
 pub mod Script
 pub mod Stress
 pub mod CompactCauses

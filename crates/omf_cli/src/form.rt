@@ -41,9 +41,13 @@ pub enum Form<'a> {
         /// The last of them.
         runtimes: &'a [String],
     },
-    Compact {
-        inputs: &'a [String],
+    Listing {
         output: &'a str,
+        inputs: &'a [String],
+    },
+    Compact {
+        output: &'a str,
+        inputs: &'a [String],
     },
 }
 
@@ -93,22 +97,6 @@ fn inputs_only(least: usize, most: usize, words: &[String]) -> Option<&[String]>
 {
     if are_paths(least, most, words) {
         Some(words)
-    } else {
-        None
-    }
-}
-
-/// One input, and an output behind it.
-fn input_and_output(words: &[String]) -> Option<(&[String], &str)>
-    ensures { option_map (λ w. (words_of w.0.now, w.1.now)) result ≡ input_and_output (words_of words.now) }
-{
-    if words.len() != 2 {
-        return None;
-    }
-    let (inputs, outputs) = words.split_at(1);
-    let output = outputs[0].as_str();
-    if are_paths(1, 1, inputs) && is_path(output) {
-        Some((inputs, output))
     } else {
         None
     }
@@ -220,6 +208,20 @@ fn output_and_runtimes(words: &[String]) -> Option<(&str, &[String], &[String])>
     Some((output, inputs, runtimes))
 }
 
+/// An input, and an output behind it.
+fn input_and_output(words: &[String]) -> Option<(&str, &[String])>
+    ensures { option_map (λ w. (w.0.now, words_of w.1.now)) result ≡ input_and_output (words_of words.now) }
+{
+    let (input, behind) = words.split_first()?;
+    let (output, behind) = behind.split_first()?;
+    let output = output.as_str();
+    if behind.is_empty() && is_path(input.as_str()) && is_path(output) {
+        Some((output, &words[..1]))
+    } else {
+        None
+    }
+}
+
 /// The form of the words, or None where they have none.
 pub fn read_form(words: &[String]) -> Option<Form<'_>>
     ensures { option_map shown result ≡ form_of (words_of words.now) }
@@ -266,9 +268,13 @@ pub fn read_form(words: &[String]) -> Option<Form<'_>>
                 runtimes,
             })
         }
+        "list" => {
+            let (output, inputs) = input_and_output(words)?;
+            Some(Form::Listing { output, inputs })
+        }
         "compact" => {
-            let (inputs, output) = input_and_output(words)?;
-            Some(Form::Compact { inputs, output })
+            let (output, inputs) = input_and_output(words)?;
+            Some(Form::Compact { output, inputs })
         }
         _ => None,
     }

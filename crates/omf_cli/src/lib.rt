@@ -8,6 +8,7 @@ mod form;
 mod laws;
 mod library;
 mod link;
+mod list;
 mod making;
 mod printing;
 mod reading;

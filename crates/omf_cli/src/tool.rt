@@ -14,6 +14,7 @@ use crate::dump::Dump;
 use crate::form::{Form, read_form};
 use crate::library::Lib;
 use crate::link::{Link, LinkRt};
+use crate::list::Listing;
 use crate::making::run_maker;
 use crate::printing::{print, usage_line};
 use crate::script::run_file;
@@ -58,6 +59,7 @@ fn run_asm<F: Files, S: Sink>(
 /// names in it; all are read in order before anything is written. `stress N SEED` makes a workload of N dynamic segments, 1 to 64,
 /// for a seed of 32 bits, links it, runs it over a store of its own, and prints a line. `rtl OUT FILE..` links 1 to 255 files to a run-time library file.
 /// `linkrt OUT K FILE..` links a program of 2 to 255 files, of which the last K, 1 to 16, are run-time library files with their paths.
+/// `list OBJ SRC` writes the source from which `asm` makes an object with the same content; a refusal tells what can't be listed, and where.
 /// `compact IN OUT` writes a load file in its one fixed form. Other words print the usage line.
 pub fn run_tool<F: Files, S: Sink>(
     alloc: Global,
@@ -111,7 +113,10 @@ pub fn run_tool<F: Files, S: Sink>(
                 runtimes,
             },
         ) => run_maker(alloc, &LinkRt { runtimes }, Some(output), inputs, files, out),
-        Some(Form::Compact { inputs, output }) => {
+        Some(Form::Listing { output, inputs }) => {
+            run_maker(alloc, &Listing, Some(output), inputs, files, out)
+        }
+        Some(Form::Compact { output, inputs }) => {
             run_maker(alloc, &Compact, Some(output), inputs, files, out)
         }
     }

@@ -1,0 +1,7 @@
+pub mod Listed
+pub mod Listing
+pub mod Flat
+pub mod Given
+pub mod Answer
+pub mod ListingLaws
+pub mod laws
