@@ -1,7 +1,8 @@
 -- Files that may be given to the linker, one by one.
-use Rattle.std.proofs.Common.{◌≡◌, ℕ, zero, suc, ◌+◌, ◌≤◌, ◌<◌, List, [], ◌∷◌, ◌++◌, length, get_or, map, take, drop, Option, Some, refl, sym, ap, subst, ◌∙◌, arith}
+use Rattle.std.proofs.Common.{◌≡◌, ℕ, zero, suc, ◌+◌, ◌≤◌, ◌<◌, Bool, true, false, List, [], ◌∷◌, ◌++◌, length, get_or, map, take, Some, refl, sym, ap, subst, ◌∙◌, arith}
 use Rattle.std.specs.Prelude.{slice_get, option_map}
 use Rattle.std.specs.List.{AllByRecursion}
+use Rattle.std.specs.Bool.{OnTrue}
 use Rattle.std.proofs.lemmas.List.{length-map}
 use Rattle.std.proofs.lemmas.Option.{slice_get_read, slice_get-map}
 use Rattle.lib_dict.specs.declared.member.Member.{Member}
@@ -11,7 +12,7 @@ use Rattle.link_resolve.proofs.LibraryLaws.{take_more, take_all}
 use Rattle.link_resolve.proofs.RuntimeLaws.{file_at}
 
 pub all_more : {A : Type 0} → (P : A → Type 0) (xs : List A) (k : ℕ) (x : A) → slice_get xs k ≡ Some x → P x → AllByRecursion P (take k xs) → AllByRecursion P (take (k + 1) xs)
-all_more P xs k x at is all = subst (AllByRecursion P) (sym (take_more xs k x at)) (snoc (take k xs) all)
+all_more {A} P xs k x at is all = subst (AllByRecursion P) (sym (take_more xs k x at)) (snoc (take k xs) all)
   where
     snoc : (ys : List A) → AllByRecursion P ys → AllByRecursion P (ys ++ x ∷ [])
     snoc [] a = (is, tt)
@@ -54,3 +55,7 @@ all_bytes_of given k past = take_all (bytes_of given) k (omega (arith, past, len
 pub none_taken : (files : List (List ℕ)) → total_size (take 0 files) ≡ 0
 none_taken [] = refl
 none_taken (f ∷ files) = refl
+
+pub on_true : (b : Bool) (P : Type 0) → b ≡ true → OnTrue b P → P
+on_true true P is told = told
+on_true false P is told = absurd cc

@@ -1,5 +1,5 @@
 -- Tables of the names that run-time library files export, and numbers of all that a name can find.
-use Rattle.std.proofs.Common.{◌≡◌, ◌⊎◌, inl, inr, ℕ, zero, suc, ◌+◌, ◌<◌, ◌≤◌, Bool, List, [], ◌∷◌, ◌++◌, length, map, take, Option, Some, None, refl, sym, ap, subst, ◌∙◌, append_assoc, append-nil, arith}
+use Rattle.std.proofs.Common.{◌≡◌, ◌⊎◌, inl, inr, ℕ, zero, suc, ◌+◌, ◌<◌, Bool, List, [], ◌∷◌, ◌++◌, length, map, take, Option, Some, None, refl, sym, ap, subst, ◌∙◌, append_assoc, append-nil, arith}
 use Rattle.std.specs.Prelude.{filter, ◌&&◌, if◌then◌else◌, slice_get, option_map, IsSomeAnd}
 use Rattle.std.specs.List.{AllByRecursion, filter_map, cons_option}
 use Rattle.std.specs.Str.{bytes_eq}
@@ -11,13 +11,13 @@ use Rattle.omf_format.specs.File.{Segment, segment_at}
 use Rattle.load_meaning.specs.Exports.{Export, exports_of}
 use Rattle.link_meaning.specs.Member.{RuntimeFile, Member, alone, setting_in}
 use Rattle.link_meaning.specs.Defines.{Scope, ForAll}
-use Rattle.link_meaning.specs.Search.{Found, step_for, step_of, is_step, named, or_else, entries, outside_of, outside, finds_inside, finds}
+use Rattle.link_meaning.specs.Search.{Found, step_for, is_step, named, or_else, entries, outside_of, outside, finds_inside, finds}
 use Rattle.link_resolve.specs.declared.names.Outcome.{Outcome}
 use Rattle.link_resolve.specs.declared.names.Outcome.TheVariants.{Nothing, One, Several}
 use Rattle.link_resolve.specs.declared.outside.Far.{Far}
 use Rattle.link_resolve.specs.declared.outside.Outside.{Outside}
 use Rattle.link_resolve.specs.Names.{Named, Row, Indexes, outcome}
-use Rattle.link_resolve.specs.Definitions.{key_of_found, is_found, numbered, Seen, Sees}
+use Rattle.link_resolve.specs.Definitions.{key_of_found, is_found, numbered, Sees}
 use Rattle.link_resolve.specs.Outside.{all_found, far_of, IsFar, AreOutside, IsBelow, moved}
 use Rattle.link_resolve.proofs.DefinitionLaws.{seen_under, numbered-snoc}
 use Rattle.link_resolve.proofs.LibraryLaws.{take_more}

@@ -1,9 +1,7 @@
 -- The first fault of the phases.
-use Rattle.std.proofs.Common.{◌≡◌, ℕ, ◌+◌, List, [], ◌∷◌, ◌++◌, length, Option, Some, None, Result, Ok, Err, refl, sym, ap, subst, ◌∙◌}
+use Rattle.std.proofs.Common.{◌≡◌, ℕ, List, [], ◌∷◌, ◌++◌, length, Option, Some, None, refl, sym, ap, subst, ◌∙◌}
 use Rattle.std.specs.Prelude.{slice_get}
 use Rattle.omf_base.specs.declared.spot.Spot.{Spot}
-use Rattle.omf_format.specs.File.{Segment}
-use Rattle.omf_format.specs.laws.FileLaws.{file_same, no_file}
 use Rattle.link_meaning.specs.declared.fault.LinkCause.{LinkCause}
 use Rattle.link_meaning.specs.declared.fault.LinkFault.{LinkFault}
 use Rattle.link_meaning.specs.declared.fault.LinkCause.TheVariants.{Empty}

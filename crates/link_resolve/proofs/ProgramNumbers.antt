@@ -7,7 +7,7 @@ use Rattle.link_meaning.specs.First.{IsIn}
 use Rattle.link_meaning.specs.Member.{Member, setting_in}
 use Rattle.link_meaning.specs.Search.{Found, entries, outside, finds}
 use Rattle.link_meaning.specs.Layout.{load_of, offset_of}
-use Rattle.link_meaning.specs.laws.PlaceFits.{IsPlaceIn, entry_there}
+use Rattle.link_meaning.specs.laws.PlaceFits.{entry_there}
 use Rattle.link_resolve.specs.Listed.{ToldDefinition}
 use Rattle.link_resolve.specs.Definitions.{told_definition}
 use Rattle.link_resolve.specs.Linked.{member_at}

@@ -13,12 +13,11 @@ use Rattle.link_meaning.specs.declared.form.LinkForm.{LinkForm}
 use Rattle.link_meaning.specs.declared.form.LinkForm.TheVariants.{Program, Runtime as LibraryForm}
 use Rattle.lib_dict.specs.declared.member.Member as held
 use Rattle.link_meaning.specs.First.{HasNone, IsFirst}
-use Rattle.link_meaning.specs.Member.{Input, Setting, alone, Member, setting_in, objects}
+use Rattle.link_meaning.specs.Member.{Input, Setting, alone, setting_in, objects}
 use Rattle.link_meaning.specs.Search.{outside, outside_from}
 use Rattle.link_meaning.specs.LinkedList.{asked}
-use Rattle.link_meaning.specs.LinkFaults.{Given, HasBytes, MayHave, nowhere, IsInput, AreInputs, IsSetting, AreRuntimes, IsProgram, HasFileFault, HasRuntimeFault, HasUseFault, HasLayoutFault}
+use Rattle.link_meaning.specs.LinkFaults.{Given, HasBytes, MayHave, nowhere, IsInput, AreInputs, IsSetting, AreRuntimes, IsProgram, HasFileFault, HasUseFault, HasLayoutFault}
 use Rattle.link_resolve.specs.declared.gather.Gathered as gathered
-use Rattle.link_resolve.specs.declared.linked.Linked.{Linked}
 use Rattle.link_resolve.specs.Reading.{IsFileRefused}
 use Rattle.omf_header.specs.View.{fields}
 use Rattle.link_resolve.specs.declared.layout.Layout as laid

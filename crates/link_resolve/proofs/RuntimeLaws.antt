@@ -1,5 +1,5 @@
 -- Run-time library files, one after another.
-use Rattle.std.proofs.Common.{◌≡◌, ◌⊎◌, inl, inr, ℕ, zero, suc, ◌+◌, ◌≤◌, ◌<◌, List, [], ◌∷◌, ◌++◌, length, map, take, drop, Option, Some, None, refl, sym, ap, subst, ◌∙◌, append_assoc, append-nil, arith}
+use Rattle.std.proofs.Common.{◌≡◌, inl, inr, ℕ, suc, ◌+◌, ◌≤◌, List, [], ◌∷◌, ◌++◌, length, take, drop, Some, None, refl, sym, ap, subst, ◌∙◌, append_assoc, append-nil, arith}
 use Rattle.std.specs.Prelude.{slice_get, option_map}
 use Rattle.std.specs.List.{filter_map}
 use Rattle.std.proofs.lemmas.List.{length-map, length-take-le, take-append-drop}
@@ -19,7 +19,7 @@ use Rattle.link_meaning.specs.Search.{Found, outside_of, outside_from}
 use Rattle.link_meaning.specs.LinkFaults.{runtime_cause, AreRuntimes, HasRuntimeFault}
 use Rattle.link_resolve.specs.declared.outside.Outside.{Outside}
 use Rattle.link_resolve.specs.Outside.{AreOutside}
-use Rattle.link_resolve.specs.Runtimes.{files_of, runtimes_of, told_cause, IsFileRefused, AreRead, IsFirstFile, IsFirstRefused}
+use Rattle.link_resolve.specs.Runtimes.{files_of, runtimes_of, told_cause, IsFileRefused, AreRead, IsFirstRefused}
 use Rattle.link_resolve.proofs.Lists.{drop_at}
 use Rattle.link_resolve.proofs.LibraryLaws.{take_more, take_all}
 

@@ -1,5 +1,5 @@
 -- What is kept of the names that run-time library files export.
-use Rattle.std.specs.Prelude.{◌≡◌, ◌<◌, ◌+◌, ◌++◌, ℕ, List, Option, None, map}
+use Rattle.std.specs.Prelude.{◌≡◌, ◌<◌, ◌+◌, ◌++◌, ℕ, List, None, map}
 use Rattle.std.specs.List.{AllByRecursion}
 use Rattle.link_meaning.specs.Member.{Member, setting_in}
 use Rattle.link_meaning.specs.Defines.{ForAll}

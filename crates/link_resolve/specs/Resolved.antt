@@ -11,7 +11,6 @@ use Rattle.link_meaning.specs.LinkedList.{asked}
 use Rattle.link_meaning.specs.LinkFaults.{Given, MayHave, AreInputs, HasFileFault, HasUseFault, IsFirstResolveFault, IsResolved}
 use Rattle.link_resolve.specs.declared.gather.Gathered as gathered
 use Rattle.link_resolve.specs.declared.layout.Layout as laid
-use Rattle.link_resolve.specs.declared.linked.Linked.{Linked}
 use Rattle.link_resolve.specs.Reading.{memory_fault}
 use Rattle.link_resolve.specs.declared.resolving.Read.{Read}
 use Rattle.link_resolve.specs.declared.resolving.Grown.{Grown}

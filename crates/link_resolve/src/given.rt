@@ -1,6 +1,6 @@
 //! Whether files may be given to the linker.
 
-ghost use Rattle.std.specs.Prelude.{◌≡◌, false, ◌+◌, ◌<◌, ◌≤◌, map, length, MatchOption};
+ghost use Rattle.std.specs.Prelude.{◌≡◌, false, ◌+◌, ◌<◌, ◌≤◌, ℕ, List, map, length, MatchOption};
 ghost use Rattle.std.specs.Bool.{OnTrue};
 ghost use Rattle.std.specs.List.{AllByRecursion, list_all};
 ghost use Rattle.load_meaning.specs.Pathnames.{IsPath, is_path_byte};
@@ -14,9 +14,6 @@ use omf_base::Name;
 
 /// The most files, and the most bytes that they have together.
 const MOST: usize = 0xFFFF_FFFF;
-
-/// The most run-time library files of a program.
-const MOST_RUNTIMES: usize = 16;
 
 /// How many bytes more there may be than those of the inputs; None where the inputs have too many.
 fn room_behind(inputs: &Vec<Vec<u8>>) -> Option<usize>
@@ -91,14 +88,15 @@ fn fit_in(runtimes: &Vec<Member>, room: usize) -> bool
     true
 }
 
-/// Whether what is linked in this form may have so many run-time library files.
-fn may_have(form: LinkForm, runtimes: &Vec<Member>) -> bool
-    ensures may { OnTrue result (MayHave form (files_of runtimes.now.items)) }
-    ensures other { result ≡ false → ¬ MayHave form (files_of runtimes.now.items) }
+/// The most run-time library files of what is linked in this form.
+fn most_runtimes(form: LinkForm) -> usize
+    ensures enough { (files : List (List ℕ × List ℕ)) → length files ≤ result → MayHave form files }
+    ensures most { (files : List (List ℕ × List ℕ)) → MayHave form files → length files ≤ result }
+    ensures few { result ≤ 16 }
 {
     match form {
-        LinkForm::Program => runtimes.len() <= MOST_RUNTIMES,
-        LinkForm::Runtime => runtimes.is_empty(),
+        LinkForm::Program => 16,
+        LinkForm::Runtime => 0,
     }
 }
 
@@ -113,8 +111,14 @@ pub fn may_resolve(inputs: &Vec<Vec<u8>>, runtimes: &Vec<Member>, form: LinkForm
         Some(room) => room,
         None => return false,
     };
-    if !may_have(form, runtimes) || !have_paths(runtimes) || !fit_in(runtimes, room) {
+    if runtimes.len() > most_runtimes(form) {
         return false;
     }
-    inputs.len() <= MOST - runtimes.len()
+    if inputs.len() > MOST - runtimes.len() {
+        return false;
+    }
+    if !have_paths(runtimes) {
+        return false;
+    }
+    fit_in(runtimes, room)
 }

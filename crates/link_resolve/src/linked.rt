@@ -422,12 +422,7 @@ impl<'a> Linked<'a> {
 
     /// The first use, in list and record order, that wants a member: its number, from 0, and that of the row that would bring
     /// the member in. The first `from` uses are known to want nothing.
-    pub fn wanted(
-        &self,
-        outside: &Outside,
-        offers: &Offers,
-        from: usize,
-    ) -> Option<(usize, usize)>
+    pub fn wanted(&self, outside: &Outside, offers: &Offers, from: usize) -> Option<(usize, usize)>
         requires held { IsHeld self.now }
         requires table { IsTable outside.now }
         ensures { (list : List Member) (os : List Offer) → Holds list self.now → IsOutsideOf list outside.now → AreOffers os offers.now → WantsNothing os list from

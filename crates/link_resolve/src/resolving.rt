@@ -136,7 +136,13 @@ fn grow_whole<'a>(alloc: Global, read: Read<'a>) -> Result<Grown<'a>, AllocError
         mut linked,
         offers,
     } = gathered;
-    let grown = grow(alloc, files.as_slice(), &runtimes.outside, &offers, &mut linked);
+    let grown = grow(
+        alloc,
+        files.as_slice(),
+        &runtimes.outside,
+        &offers,
+        &mut linked,
+    );
     drop(offers);
     match grown {
         Ok(()) => Ok(Grown {

@@ -1,8 +1,6 @@
-use Rattle.std.proofs.Common.{ℕ, ◌≤◌, List, length, ap, arith}
-use Rattle.lib_dict.specs.declared.member.Member.{Member}
+use Rattle.std.proofs.Common.{arith}
 use Rattle.link_resolve.proofs.ResolveLaws.{total-take}
-use Rattle.link_resolve.proofs.GivenLaws.{bytes_of, bytes_at, member_there, size_step, none_taken, all_bytes_of}
-use Rattle.link_resolve.specs.Resolved.{total_size}
+use Rattle.link_resolve.proofs.GivenLaws.{bytes_of, bytes_at, member_there, size_step, none_taken}
 use Rattle.link_resolve.proofs.given.fit_in.Goals as goal
 
 pub files-init : goal.files-init

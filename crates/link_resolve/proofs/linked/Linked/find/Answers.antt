@@ -1,8 +1,8 @@
 use Rattle.std.proofs.Common.{sym, subst}
-use Rattle.link_meaning.specs.Search.{entries, outside, named, finds, finds_inside}
+use Rattle.link_meaning.specs.Search.{entries, outside, finds, finds_inside}
 use Rattle.link_meaning.specs.Member.{setting_in}
 use Rattle.link_resolve.specs.declared.names.Outcome.{Outcome}
-use Rattle.link_resolve.specs.declared.names.Outcome.TheVariants.{Nothing, One, Several}
+use Rattle.link_resolve.specs.declared.names.Outcome.TheVariants.{One, Several}
 use Rattle.link_resolve.specs.Definitions.{Sees}
 use Rattle.link_resolve.specs.Outside.{all_found}
 use Rattle.link_resolve.proofs.SearchLaws.{one_some, several_some}

@@ -1,4 +1,4 @@
-use Rattle.std.proofs.Common.{◌<◌, ◌^◌, length, sym, ap, ◌∙◌, arith}
+use Rattle.std.proofs.Common.{length, sym, ap, ◌∙◌, arith}
 use Rattle.link_resolve.specs.Listed.{expr_at}
 use Rattle.link_resolve.proofs.ListedLaws.{rows_count}
 use Rattle.link_resolve.proofs.listed.Listed.count.Goals as goal

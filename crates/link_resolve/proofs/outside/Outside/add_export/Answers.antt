@@ -14,8 +14,8 @@ returns-in-Some c =
     let place : Far = record { file = c.args.file; segment = c.args.export.segment; offset = c.args.export.offset } in
     on_ok c.push.result _ _
     (λ adds fs r same are.
-        let there : segment_at r.segments e.segment ≡ Some at.0 = ap (λ (l : List Segment). segment_at l e.segment) same ∙ ap (segment_at load) (sym c.from.ensures) ∙ at.1 in
-        added_export fs c.args.file r e (segment_at r.segments e.segment) at.0 c.args.self.now c.push.new.self e.name place are refl there refl refl adds)
+    let there : segment_at r.segments e.segment ≡ Some at.0 = ap (λ (l : List Segment). segment_at l e.segment) same ∙ ap (segment_at load) (sym c.from.ensures) ∙ at.1 in
+    added_export fs c.args.file r e (segment_at r.segments e.segment) at.0 c.args.self.now c.push.new.self e.name place are refl there refl refl adds)
     c.push.ensures
 
 pub returns-in-None : goal.returns-in-None

@@ -1,4 +1,4 @@
-use Rattle.std.proofs.Common.{◌<◌, ◌^◌, length, arith}
+use Rattle.std.proofs.Common.{◌^◌, arith}
 use Rattle.link_meaning.specs.Search.{named}
 use Rattle.link_resolve.proofs.OutsideTables.{looked, below, size_is}
 use Rattle.link_resolve.proofs.outside.Outside.look.Goals as goal

@@ -1,4 +1,4 @@
-use Rattle.std.proofs.Common.{◌≡◌, ℕ, [], ◌∷◌, ◌++◌, List, length, subst, ap, ◌∙◌}
+use Rattle.std.proofs.Common.{◌≡◌, ℕ, [], ◌∷◌, ◌++◌, List, length, subst, ap}
 use Rattle.link_meaning.specs.declared.search.Step.TheVariants.{Everyone}
 use Rattle.link_resolve.specs.declared.outside.Far.{Far}
 use Rattle.link_resolve.specs.declared.outside.Outside.{Outside}

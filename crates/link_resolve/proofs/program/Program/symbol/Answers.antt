@@ -1,4 +1,4 @@
-use Rattle.std.proofs.Common.{◌≡◌, List, subst}
+use Rattle.std.proofs.Common.{List, subst}
 use Rattle.std.specs.Prelude.{option_map}
 use Rattle.link_meaning.specs.Member.{Member, setting_in}
 use Rattle.link_meaning.specs.Search.{outside}
