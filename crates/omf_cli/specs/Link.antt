@@ -2,6 +2,7 @@
 use Rattle.std.specs.Prelude.{◌≡◌, ◌≢◌, ℕ, List}
 use Rattle.link_meaning.specs.declared.fault.LinkFault.{LinkFault}
 use Rattle.link_meaning.specs.declared.fault.LinkCause.TheVariants as causes
+use Rattle.link_meaning.specs.LinkFaults.{plain}
 use Rattle.link_meaning.specs.EmitFaults.{IsFirstLinkFault, IsLinkedTo}
 use Rattle.omf_cli.specs.LinkCauses.{link_cause_name}
 use Rattle.omf_cli.specs.Lines.{refused_line}
@@ -13,8 +14,8 @@ link_fault_line fault = refused_line (link_cause_name fault.cause) fault.name fa
 
 -- the load file, or the line of the first fault of all phases
 abbrev pub LinkMakes : List (List ℕ) → Made → Type 0
-LinkMakes files (Bytes output) = IsLinkedTo files output
-LinkMakes files (Refusal text) = (fault : LinkFault) × IsFirstLinkFault files fault × (text ≡ link_fault_line fault)
+LinkMakes files (Bytes output) = IsLinkedTo (plain files) output
+LinkMakes files (Refusal text) = (fault : LinkFault) × IsFirstLinkFault (plain files) fault × (text ≡ link_fault_line fault)
 
 -- the line of a fault that isn't want of memory
 abbrev pub TellsLinkFault : LinkFault → Made → Type 0

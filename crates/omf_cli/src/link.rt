@@ -26,6 +26,8 @@ fn cause_name(cause: LinkCause) -> &'static str
         LinkCause::AlignFault => "AlignFault",
         LinkCause::BadLength => "BadLength",
         LinkCause::BadLibrary => "BadLibrary",
+        LinkCause::BadRuntime => "BadRuntime",
+        LinkCause::NotDynamic => "NotDynamic",
         LinkCause::Empty => "Empty",
         LinkCause::Unresolved => "Unresolved",
         LinkCause::Duplicate => "Duplicate",
@@ -72,6 +74,8 @@ fn refusal(alloc: Global, fault: LinkFault) -> Result<Making, AllocError>
         | LinkCause::AlignFault
         | LinkCause::BadLength
         | LinkCause::BadLibrary
+        | LinkCause::BadRuntime
+        | LinkCause::NotDynamic
         | LinkCause::Empty
         | LinkCause::Unresolved
         | LinkCause::Duplicate

@@ -7,4 +7,4 @@ pub returns-then-global : goal.returns-then-global
 returns-then-global c = sym (scope_public c.args.global c.args.private ∙ ap (λ (b : Bool). b && eqb c.args.private 0) c.if-global.true)
 
 pub returns-else-global : goal.returns-else-global
-returns-else-global c = sym (scope_public c.args.global c.args.private ∙ ap (λ (b : Bool). b && eqb c.args.private 0) c.if-global.false)
+returns-else-global c = c.if-global.false ∙ sym (scope_public c.args.global c.args.private ∙ ap (λ (b : Bool). b && eqb c.args.private 0) c.if-global.false)

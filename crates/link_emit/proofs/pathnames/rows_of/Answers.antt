@@ -30,7 +30,7 @@ rows-preserved c =
     let path = c.in-Some.path.now in
     let left = drop_next paths k path (path_there rs k path c.in-Some.ensures) in
     let row = λ (p : List ℕ). little_bytes 2 (k + 2) ++ (replicate 8 0 ++ (length p ∷ p)) in
-    let put = c.in_ok-put_row-in-Some.ensures ∙ ap (λ (p : List ℕ). c.rows.out.items ++ row p) c.bytes.ensures.value in
+    let put = c.in_ok-put_row.ensures ∙ ap (λ (p : List ℕ). c.rows.out.items ++ row p) c.bytes.ensures.value in
     let next : k + 1 + 2 ≡ k + 2 + 1 = omega arith in
     record {
       text = ap (λ (n : ℕ). c.put_row.new.out.items ++ rows_text n (drop (k + 1) paths)) next ∙ row_more (k + 2) path c.rows.out.items c.put_row.new.out.items (paths_text paths) (drop k paths) (drop (k + 1) paths) left put c.rows.invariant.text;
