@@ -13,12 +13,15 @@ use Rattle.omf_format.specs.Reading.{Reader}
 use Rattle.omf_format.specs.declared.value.Value.{Value}
 use Rattle.omf_format.specs.declared.value.ValueFault.{ValueFault}
 use Rattle.omf_format.specs.File.{Segment}
-use Rattle.link_meaning.specs.Member.{Member, form_in}
+use Rattle.link_meaning.specs.Member.{Member, setting_in, form_in}
 use Rattle.link_meaning.specs.declared.form.LinkForm.{LinkForm}
 use Rattle.link_meaning.specs.declared.form.LinkForm.TheVariants.{Program, Runtime as LibraryForm}
 use Rattle.link_meaning.specs.Sizes.{size_at, located_from, place_behind}
 use Rattle.link_meaning.specs.Defines.{Scope, ForSegment, ForUnit, ForAll, Definition, outer_scope, scope_of, title_of, defined_by, defined_in}
-use Rattle.link_meaning.specs.Search.{Found, entries_from, entries}
+use Rattle.link_meaning.specs.Search.{Found, entries_from, entries, outside}
+use Rattle.link_resolve.specs.Outside.{all_found}
+use Rattle.link_emit.specs.declared.slots.Slot.{Slot}
+use Rattle.link_emit.specs.Slots.{AreSlots}
 use Rattle.link_meaning.specs.Layout.{load_headers}
 use Rattle.link_meaning.specs.LinkValues.{Told, found_value, if_ok, label_value}
 use Rattle.link_meaning.specs.LinkWritten.{export_at, export_of, exports, exports_for}
@@ -140,13 +143,23 @@ title_there s d is =
     ap (λ (l : List Definition). slice_get l 0) (so_far-all s [] s.records refl ∙ append_assoc (title_of s) [] rest ∙ ap (λ (l : List Definition). l ++ rest) is)
 
 -- a definition of a segment has a number of all
-pub number_less : (list : List Member) (number : ℕ) (f : Found) → slice_get (entries list) number ≡ Some f → number < length (entries list)
+number_less : (list : List Member) (number : ℕ) (f : Found) → slice_get (entries list) number ≡ Some f → number < length (entries list)
 number_less list number f at = within (entries list) number f at
   where
     within : (fs : List Found) (k : ℕ) (x : Found) → slice_get fs k ≡ Some x → k < length fs
     within [] k x e = absurd cc
     within (y ∷ fs) zero x e = omega arith
     within (y ∷ fs) (suc k) x e = omega (arith, within fs k x e)
+
+-- there is a slot for each
+slots_size : (list : List Member) (fs : List Found) (slots : List Slot) → AreSlots list fs slots → length slots ≡ length fs
+slots_size list [] [] are = refl
+slots_size list [] (s ∷ slots) are = absurd are
+slots_size list (f ∷ fs) [] are = absurd are
+slots_size list (f ∷ fs) (s ∷ slots) are = ap suc (slots_size list fs slots are.1)
+
+pub number_fits : (list : List Member) (slots : List Slot) (number : ℕ) (f : Found) → AreSlots list (all_found list) slots → slice_get (entries list) number ≡ Some f → number < length slots
+number_fits list slots number f are at = omega (arith, number_less list number f at, slots_size list (all_found list) slots are, length-append (entries list) (outside (setting_in list)))
 
 -- names of records can be those of ENTRY records
 pub name_fits : (l : Layout) (r : Record) (d : Definition) (at place : ℕ) → l.lab_len ≤ 255 → IsRecord l r → defined_by at place r ≡ d ∷ [] → IsName 0 d.name

@@ -103,7 +103,7 @@ pathnames_writable number size = record { version = refl; banks = omega arith; l
 whole_body : (f : Fields) (bytes : List ℕ) → 1 ≤ length bytes → spelling written_layout (LongConst bytes) ++ 0 ∷ [] ≡ image_body (whole_image f bytes)
 unfolding image_body image_records spelling
 whole_body f [] some = absurd (omega (arith, some))
-whole_body f (b ∷ bytes) some = ap (λ (l : List ℕ). l ++ 0 ∷ []) (sym (append-nil _))
+whole_body f (b ∷ bytes) some = ap (λ (l : List ℕ). l ++ 0 ∷ []) (sym (append-nil (spelling written_layout (LongConst (b ∷ bytes)))))
 
 long_size : (bytes : List ℕ) → length (spelling written_layout (LongConst bytes)) ≡ 5 + length bytes
 unfolding spelling

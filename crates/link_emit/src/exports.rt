@@ -1,7 +1,7 @@
 //! What a run-time library file exports: an ENTRY record for each of its public names that stands for a place (this project's own
 //! choice).
 
-ghost use Rattle.std.specs.Prelude.{◌≡◌, ◌+◌, ◌++◌, ◌<◌, Some, List, ℕ, length, map, option_map, slice_get, IfOk, OnOk};
+ghost use Rattle.std.specs.Prelude.{◌≡◌, ◌+◌, ◌++◌, ◌<◌, Some, List, ℕ, length, map, option_map, slice_get, IfSome, IfOk, OnOk};
 ghost use Rattle.omf_format.specs.Field.{IsName, written_layout};
 ghost use Rattle.omf_format.specs.Header.{Fields};
 ghost use Rattle.omf_format.specs.Record.{Entry, spelling};
@@ -87,7 +87,8 @@ fn seen_in<'a>(rec: &Rec<'a>) -> Option<Seen<'a>>
 
 /// The name of a segment, where it has one.
 fn title_seen<'s>(segment: &'s SegmentView) -> Option<Seen<'s>>
-    ensures { DefinesSeen (title_of (shown segment.now)) (option_map seen_name result) }
+    ensures seen { DefinesSeen (title_of (shown segment.now)) (option_map seen_name result) }
+    ensures named { IfSome result (λ seen. IsName 0 seen.name.now) }
 {
     let name = segment.header.name.bytes();
     if name.is_empty() {
@@ -193,6 +194,7 @@ fn put_title(
     ensures next { IfOk result (λ next. next ≡ first + length (title_of (shown segment.now))) }
     ensures exported { IfOk result (λ next. IsExported whole.now.program.now (rows_of (all_found whole.now.program.now) whole.now.slots.now) next out.new.items) }
 {
+    let _count = whole.slots.len();
     match title_seen(segment) {
         Some(seen) => {
             put_seen(out, whole, first, seen)?;
@@ -217,6 +219,7 @@ fn put_segment(
     ensures next { IfOk result (λ next. next ≡ first + length (defined_in (shown segment.now))) }
     ensures exported { IfOk result (λ next. IsExported whole.now.program.now (rows_of (all_found whole.now.program.now) whole.now.slots.now) next out.new.items) }
 {
+    let _count = whole.slots.len();
     let _names = segment.header.lab_len;
     let mut number = put_title(out, whole, segment, first)?;
     let mut records = segment.records();

@@ -5,6 +5,7 @@ use Rattle.std.specs.FinMap.{get}
 use Rattle.std.proofs.lemmas.Option.{same_Some}
 use Rattle.omf_format.specs.Number.{IsBytes}
 use Rattle.omf_io.specs.Files.{FileMap, max_file}
+use Rattle.link_meaning.specs.LinkFaults.{plain}
 use Rattle.link_meaning.specs.EmitFaults.{IsLinkedTo}
 use Rattle.link_meaning.specs.LinkLoadable.{NamesNoSkipped, HasNoLoadFault, IsReadWhole}
 use Rattle.iigs_meaning.specs.Puts.{Purges}
@@ -36,10 +37,10 @@ full made why e = go (nat_lt made max_users) e
     go true e' = absurd cc
     go false e' = subst LiesOutside (same_Some fault.TooManyUsers why e') tt
 
-module _ (files : List (List ℕ)) (output : List ℕ) (bytes : AllByRecursion IsBytes files) (is : IsLinkedTo files output) (none : NamesNoSkipped is.list is.table) (no_fault : HasNoLoadFault)
+module _ (files : List (List ℕ)) (output : List ℕ) (bytes : AllByRecursion IsBytes files) (is : IsLinkedTo (plain files) output) (none : NamesNoSkipped is.list is.table) (no_fault : HasNoLoadFault)
     (short : IsReadWhole) (held : FileMap) (path : List ℕ) (here : get held path ≡ Some output) (state : Machine) (result : Result answers.Started LoaderFault) (new : Loaded) where
   within : length output ≤ max_file
-  within = short files output is
+  within = short (plain files) output is
 
   lands : (put : Put) (next : Machine) (id : ℕ) (heads : List Head) (users : User → List (Option User))
       → Lands state path id heads users put (load_reply result) next → BeginsOrLacks result
@@ -55,7 +56,7 @@ module _ (files : List (List ℕ)) (output : List ℕ) (bytes : AllByRecursion I
   found Unread next is_found at = absurd (is_found output (here, within))
   found (Bad why) next is_found at =
       let same : is_found.file ≡ output = same_Some is_found.file output (sym is_found.is_held.0 ∙ here) in
-      absurd (no_fault files output bytes is none why (subst (λ (l : List ℕ). IsFirstLoadFault l why) same is_found.first))
+      absurd (no_fault (plain files) output (bytes, tt, tt, omega arith) is none why (subst (λ (l : List ℕ). IsFirstLoadFault l why) same is_found.first))
   found (Good segments) next is_found at = lands at.put next (first_id + length state.users) (map head_of segments) (λ (user : User). state.users ++ Some user ∷ []) at.lands
 
   steps : (r : Refuse) (next : Machine) → load_refusal (length state.users) ≡ r

@@ -11,4 +11,4 @@ returns-in-Label c = λ at place.
 
 pub returns-in-Equate : goal.returns-in-Equate
 returns-in-Equate c = λ at place.
-    subst (λ (r : Record). DefinesSeen (defined_by at place r) (Some (record { name = c.in-Equate.name.now; public = c.is_public.result }))) (sym (ap view c.in-Equate.is)) (_, refl, record { name' = refl; public' = sym c.is_public.ensures })
+    subst (λ (r : Record). DefinesSeen (defined_by at place r) (Some (record { name = c.in-Equate.name.now; public = c.is_public-in-Equate.result }))) (sym (ap view c.in-Equate.is)) (_, refl, record { name' = refl; public' = sym c.is_public-in-Equate.ensures })

@@ -18,5 +18,5 @@ link_with-requires-clause-paths c = subst (λ (ms : List Member). HavePaths (giv
 pub returns-in-Ok-clause-linked : goal.returns-in-Ok-clause-linked
 returns-in-Ok-clause-linked c = subst (λ (ms : List Member). IsLinkedTo (given_of c.args.inputs.now.items ms Program) c.in-Ok.output.items) c.new-none.ensures.items c.in-Ok.ensures.linked
 
-pub returns-in-Err-clause-refused : goal.returns-in-Err-clause-refused
-returns-in-Err-clause-refused c = subst (λ (ms : List Member). IsLinkRefused (given_of c.args.inputs.now.items ms Program) c.in-Err.fault) c.new-none.ensures.items c.in-Err.ensures.refused
+pub returns-clause-refused : goal.returns-clause-refused
+returns-clause-refused c = subst (λ (ms : List Member). IsLinkRefused (given_of c.args.inputs.now.items ms Program) c.in-Err.fault) c.new-none.ensures.items c.in-Err.ensures.refused
