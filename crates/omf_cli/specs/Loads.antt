@@ -30,7 +30,7 @@ abbrev pub BeginsOrLacks : Result Started LoaderFault → Type 0
 BeginsOrLacks (Ok started) = Unit {0}
 BeginsOrLacks (Err why) = LiesOutside why
 
--- Where a path holds a file that the linker wrote, and no part of it and no entry of its jump table names a skipped segment, a load
+-- Where a path holds a file that the linker wrote without run-time library files, and no part of it and no entry of its jump table names a skipped segment, a load
 -- of that path is answered by its program, or refused for a reason outside the file.
 abbrev pub LinkedFilesBegin : Type 0
 LinkedFilesBegin = (files : List (List ℕ)) (output : List ℕ) → AllByRecursion IsBytes files → (is : IsLinkedTo (plain files) output) → NamesNoSkipped is.list is.table
