@@ -1,14 +1,13 @@
 -- Files that may be given to the linker, one by one.
-use Rattle.std.proofs.Common.{◌≡◌, ℕ, zero, suc, ◌+◌, ◌≤◌, ◌<◌, Bool, true, false, List, [], ◌∷◌, ◌++◌, length, get_or, map, take, Some, refl, sym, ap, subst, ◌∙◌, arith}
+use Rattle.std.proofs.Common.{◌≡◌, ℕ, zero, suc, ◌+◌, ◌<◌, Bool, true, false, List, [], ◌∷◌, ◌++◌, length, get_or, map, take, Some, refl, sym, ap, subst, ◌∙◌, arith}
 use Rattle.std.specs.Prelude.{slice_get, option_map}
 use Rattle.std.specs.List.{AllByRecursion}
 use Rattle.std.specs.Bool.{OnTrue}
-use Rattle.std.proofs.lemmas.List.{length-map}
 use Rattle.std.proofs.lemmas.Option.{slice_get_read, slice_get-map}
 use Rattle.lib_dict.specs.declared.member.Member.{Member}
 use Rattle.link_resolve.specs.Resolved.{total_size}
 use Rattle.link_resolve.specs.Runtimes.{files_of}
-use Rattle.link_resolve.proofs.LibraryLaws.{take_more, take_all}
+use Rattle.link_resolve.proofs.LibraryLaws.{take_more}
 use Rattle.link_resolve.proofs.RuntimeLaws.{file_at}
 
 pub all_more : {A : Type 0} → (P : A → Type 0) (xs : List A) (k : ℕ) (x : A) → slice_get xs k ≡ Some x → P x → AllByRecursion P (take k xs) → AllByRecursion P (take (k + 1) xs)
@@ -18,10 +17,6 @@ all_more {A} P xs k x at is all = subst (AllByRecursion P) (sym (take_more xs k 
     snoc [] a = (is, tt)
     snoc (y ∷ ys) a = (a.0, snoc ys a.1)
 
-pub all_none : {A : Type 0} → (P : A → Type 0) (xs : List A) → AllByRecursion P (take 0 xs)
-all_none P [] = tt
-all_none P (x ∷ xs) = tt
-
 pub all_at : {A : Type 0} → (P : A → Type 0) (xs : List A) (k : ℕ) (x : A) → slice_get xs k ≡ Some x → AllByRecursion P xs → P x
 all_at P [] k x at all = absurd cc
 all_at P (y ∷ xs) zero x at all = let same : y ≡ x = cc in subst P same all.0
@@ -30,10 +25,6 @@ all_at P (y ∷ xs) (suc k) x at all = all_at P xs k x at all.1
 -- the member at a place
 pub member_there : (read items : List Member) (k : ℕ) (m : Member) → read ≡ items → k < length read → m ≡ get_or read k m → slice_get items k ≡ Some m
 member_there read items k m same less is = ap (λ (l : List Member). slice_get l k) (sym same) ∙ slice_get_read read (length read) k m refl less is
-
-pub all_files : (P : List ℕ × List ℕ → Type 0) (given : List Member) (k : ℕ) → length given ≤ k → AllByRecursion P (take k (files_of given)) → AllByRecursion P (files_of given)
-all_files P given k past all =
-    subst (AllByRecursion P) (take_all (files_of given) k (omega (arith, past, length-map {B = List ℕ × List ℕ} given (λ (x : Member). (x.name, x.bytes.items))))) all
 
 -- the bytes of the files
 abbrev pub bytes_of : List Member → List (List ℕ)
@@ -48,9 +39,6 @@ size_step files k file at = ap total_size (take_more files k file at) ∙ snoc (
     snoc : (xs : List (List ℕ)) → total_size (xs ++ file ∷ []) ≡ total_size xs + length file
     snoc [] = omega arith
     snoc (x ∷ xs) = let rest = snoc xs in omega arith
-
-pub all_bytes_of : (given : List Member) (k : ℕ) → length given ≤ k → take k (bytes_of given) ≡ bytes_of given
-all_bytes_of given k past = take_all (bytes_of given) k (omega (arith, past, length-map {B = List ℕ × List ℕ} given (λ (x : Member). (x.name, x.bytes.items)), length-map {B = List ℕ} (files_of given) (λ (f : List ℕ × List ℕ). f.1)))
 
 pub none_taken : (files : List (List ℕ)) → total_size (take 0 files) ≡ 0
 none_taken [] = refl

@@ -1,8 +1,7 @@
 -- What inputs are read as.
-use Rattle.std.proofs.Common.{◌≡◌, ℕ, ◌+◌, List, [], ◌∷◌, ◌++◌, length, Option, Some, None, Result, Ok, Err, sym, ap, subst, ◌∙◌}
+use Rattle.std.proofs.Common.{◌≡◌, ℕ, ◌+◌, List, [], ◌∷◌, ◌++◌, Option, Some, None, Result, Ok, Err, sym, ap, ◌∙◌}
 use Rattle.omf_format.specs.laws.FileLaws.{file_same, no_file}
 use Rattle.link_meaning.specs.declared.fault.LinkFault.{LinkFault}
-use Rattle.link_meaning.specs.First.{HasNone}
 use Rattle.link_meaning.specs.Member.{Row, Input}
 use Rattle.link_meaning.specs.LinkFaults.{segments_fault, rows_in_file, HasFileFault, OfFile, OfSegment, OfDictionary, IsInput, AreInputs}
 
@@ -18,9 +17,6 @@ fine rows = Ok rows
 not_both : (at : ℕ) (rows : List Row) → failed at ≡ fine rows → ⊥
 not_both at rows e = cc
 
-ok_same : (x y : List Row) → fine x ≡ fine y → x ≡ y
-ok_same x y e = cc
-
 -- what an input is has no fault
 pub input_sound : (file : ℕ) (bytes : List ℕ) (i : Input) (fault : LinkFault) → IsInput bytes i → HasFileFault file bytes fault → ⊥
 input_sound file bytes i fault is (OfFile x first says) = no_file bytes x i.segments first is.is_file
@@ -31,20 +27,6 @@ input_sound file bytes i fault is (OfSegment segments found is_file has says) =
 input_sound file bytes i fault is (OfDictionary segments at is_file none has says) =
     let same : segments ≡ i.segments = file_same segments i.segments bytes is_file is.is_file in
     not_both at i.rows (sym has ∙ ap rows_in_file same ∙ is.rows)
-
-input_at : (front : List (List ℕ)) (bytes : List ℕ) (rest : List (List ℕ)) (inputs : List Input) → AreInputs (front ++ bytes ∷ rest) inputs → (i : Input) × IsInput bytes i
-input_at [] bytes rest [] are = absurd are
-input_at [] bytes rest (i ∷ inputs) are = (i, are.0)
-input_at (f ∷ front) bytes rest [] are = absurd are
-input_at (f ∷ front) bytes rest (i ∷ inputs) are = input_at front bytes rest inputs are.1
-
-abbrev pub HasFault : List (List ℕ) → List ℕ → LinkFault → Type 0
-HasFault fronts bytes fault = HasFileFault (length fronts + 1) bytes fault
-
-pub none_read : (files : List (List ℕ)) (inputs : List Input) → AreInputs files inputs → HasNone HasFault files
-none_read files inputs are front bytes rest fault e has =
-    let at = input_at front bytes rest inputs (subst (λ (l : List (List ℕ)). AreInputs l inputs) e are) in
-    input_sound (length front + 1) bytes at.0 fault at.1 has
 
 pub inputs_more : (files : List (List ℕ)) (inputs : List Input) (bytes : List ℕ) (i : Input) → AreInputs files inputs → IsInput bytes i → AreInputs (files ++ bytes ∷ []) (inputs ++ i ∷ [])
 inputs_more [] [] bytes i are is = (is, tt)

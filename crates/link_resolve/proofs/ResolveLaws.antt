@@ -23,14 +23,13 @@ use Rattle.omf_header.specs.View.{fields}
 use Rattle.link_resolve.specs.declared.layout.Layout as laid
 use Rattle.link_resolve.specs.declared.program.Kept.{Kept}
 use Rattle.link_resolve.specs.Gathered.{IsGathered, AllAmong}
-use Rattle.link_resolve.specs.Resolving.{IsHeld}
 use Rattle.link_resolve.specs.Programs.{setting_of, IsKept}
 use Rattle.link_resolve.specs.Linked.{Holds}
 use Rattle.link_resolve.specs.Grown.{MayGrow, HasGrown}
 use Rattle.link_resolve.specs.Laid.{layout_checks, Laid, AllShort, AreHeaders}
 use Rattle.link_resolve.specs.Resolved.{all_bytes, total_size, AreFew, FewGiven, HasGathered, HasObjects, setting_as, IsReadAll, setting_grown, IsListOf, IsLaidOut, IsInputFault, IsUseFault, IsRefused}
 use Rattle.link_resolve.specs.Runtimes.{files_of, runtimes_of, AreRead, IsFirstFile, IsFirstRefused}
-use Rattle.link_resolve.specs.Outside.{AreOutside, IsTable, IsOutsideOf}
+use Rattle.link_resolve.specs.Outside.{AreOutside, IsOutsideOf}
 use Rattle.link_resolve.specs.declared.outside.Outside.{Outside}
 use Rattle.link_resolve.specs.declared.resolving.Read.{Read}
 use Rattle.link_resolve.specs.declared.resolving.Grown.{Grown}
@@ -167,12 +166,6 @@ list_setting given grown of =
 pub list_outside : (given : Given) (grown : Grown) (of : IsListOf given grown) → IsOutsideOf of.grown.list grown.runtimes.outside
 unfolding outside
 list_outside given grown of = subst (λ (s : Setting). AreOutside (outside_from 2 s.runtimes) grown.runtimes.outside) (sym (list_setting given grown of)) of.runtimes'.table'
-
-pub list_held : (given : Given) (grown : Grown) (of : IsListOf given grown) → IsHeld grown.linked
-list_held given grown of = (of.grown.list, of.grown.holds)
-
-pub list_table : (given : Given) (grown : Grown) (of : IsListOf given grown) → IsTable grown.runtimes.outside
-list_table given grown of = (outside_from 2 (runtimes_of grown.runtimes.loads.items grown.given.now), of.runtimes'.table')
 
 -- ---- the answers
 

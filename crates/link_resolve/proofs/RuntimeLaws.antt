@@ -19,9 +19,9 @@ use Rattle.link_meaning.specs.Search.{Found, outside_of, outside_from}
 use Rattle.link_meaning.specs.LinkFaults.{runtime_cause, AreRuntimes, HasRuntimeFault}
 use Rattle.link_resolve.specs.declared.outside.Outside.{Outside}
 use Rattle.link_resolve.specs.Outside.{AreOutside}
-use Rattle.link_resolve.specs.Runtimes.{files_of, runtimes_of, told_cause, IsFileRefused, AreRead, IsFirstRefused}
+use Rattle.link_resolve.specs.Runtimes.{files_of, runtimes_of, told_cause, IsFileRefused, IsFirstRefused}
 use Rattle.link_resolve.proofs.Lists.{drop_at}
-use Rattle.link_resolve.proofs.LibraryLaws.{take_more, take_all}
+use Rattle.link_resolve.proofs.LibraryLaws.{take_more}
 
 abbrev file_of : Member → List Segment → RuntimeFile
 file_of m segments = record { path = m.name; segments = segments }
@@ -63,13 +63,6 @@ pub record ReadSoFar (given : List Member) (place : ℕ) (loads : List (List Seg
   pub are : AreRuntimes (take place (files_of given)) (runtimes_of loads given)
   pub table' : AreOutside (outside_from 2 (runtimes_of loads given)) table
 
-pub read_none : (given : List Member) (table : Outside) → AreOutside [] table → ReadSoFar given 0 [] table
-read_none given table far = record { within = omega arith; count = refl; are = none (files_of given); table' = far }
-  where
-    none : (files : List (List ℕ × List ℕ)) → AreRuntimes (take 0 files) []
-    none [] = tt
-    none (f ∷ files) = tt
-
 pub file_at : (given : List Member) (place : ℕ) (m : Member) → slice_get given place ≡ Some m → slice_get (files_of given) place ≡ Some (m.name, m.bytes.items)
 file_at given place m at = slice_get-map (λ (x : Member). (x.name, x.bytes.items)) given place ∙ ap (option_map (λ (x : Member). (x.name, x.bytes.items))) at
 
@@ -94,13 +87,6 @@ read_more given place loads old new m segments so at is adds =
           (subst (λ (l : List Found). AreOutside l new) (ap (λ (n : ℕ). outside_from 2 runtimes ++ filter_map (outside_of n r) (exports_of segments)) number ∙ sym (outside_more 2 runtimes r))
           (adds (outside_from 2 runtimes) r refl so.table'));
     }
-
-pub read_all : (given : List Member) (place : ℕ) (loads : List (List Segment)) (table : Outside) → ReadSoFar given place loads table → length given ≤ place → AreRead given loads table
-read_all given place loads table so past = record {
-  count = omega (arith, so.count, so.within, past);
-  are = subst (λ (l : List (List ℕ × List ℕ)). AreRuntimes l (runtimes_of loads given)) (take_all (files_of given) place (omega (arith, past, length-map {B = List ℕ × List ℕ} given (λ (x : Member). (x.name, x.bytes.items))))) so.are;
-  table' = so.table';
-}
 
 -- the file behind those so far is at fault
 pub first_refused : (given : List Member) (inputs place : ℕ) (loads : List (List Segment)) (table : Outside) (m : Member) (fault : LinkFault) → ReadSoFar given place loads table → slice_get given place ≡ Some m

@@ -156,7 +156,10 @@ static NAMES: [Row; 18] = [
     (
         "X of the second one, which names it in its second segment",
         &[Whole(User)],
-        &[(b"a", Changed(Runtime, &[(0x48, 0x57)])), (b"b", Whole(RuntimeParts))],
+        &[
+            (b"a", Changed(Runtime, &[(0x48, 0x57)])),
+            (b"b", Whole(RuntimeParts)),
+        ],
         ProgramForm,
         Fact::Finds(0, 3, 1, 1),
     ),
@@ -261,7 +264,10 @@ static NAMES: [Row; 18] = [
     (
         "two run-time library files",
         &[Whole(One)],
-        &[(b"1/first", Whole(Runtime)), (b"second", Whole(RuntimeParts))],
+        &[
+            (b"1/first", Whole(Runtime)),
+            (b"second", Whole(RuntimeParts)),
+        ],
         ProgramForm,
         Fact::Tells(2, Some((b"second", 3))),
     ),
@@ -519,6 +525,9 @@ fn is_so_with(alloc: Global, count: u32, fact: &Fact) -> bool {
 #[test]
 fn sixteen_runtime_library_files(rt: HostRuntime) {
     let alloc = rt.alloc();
-    assert!(rt; is_so_with(alloc, 16, &Fact::Tells(16, Some((b"lib", 3)))), "16");
+    assert!(rt;
+        is_so_with(alloc, 16, &Fact::Tells(16, Some((b"lib", 3)))),
+        "16"
+    );
     assert!(rt; is_so_with(alloc, 17, &Fact::Uncallable), "17");
 }
