@@ -1,10 +1,26 @@
 //! Pathname segments, the names that a load file gives to others, and run-time library files.
 
 use crate::asserting::same;
-use crate::files::{Fault, add, fault_in, file_of_one, put_all, read};
+use crate::files::{add, file_of_one, put_all, read};
 use omf_cells::{Export, LoadCause, LoadFault, LoadFile, read_runtime};
 use std::alloc::{AllocError, Global};
 use std::test::Fail;
+
+/// A fault as rows name it: cause, segment and place.
+type Fault = (LoadCause, u32, u32);
+
+fn told(fault: LoadFault) -> Fault {
+    (fault.cause, fault.segment, fault.at)
+}
+
+/// The fault of a file, if it has one. A file that is too long to be one has none.
+fn fault_in(alloc: Global, file: &[u8]) -> Option<Fault> {
+    match read(alloc, file) {
+        Ok(_) => None,
+        Err(Some(fault)) => Some(told(fault)),
+        Err(None) => None,
+    }
+}
 
 /// The records of a pathname segment with the paths `ab` and `c`.
 static BODY: [u8; 33] = [
@@ -63,7 +79,7 @@ static FLAWS: [(usize, u8, Option<Fault>); 29] = [
     // No row follows the last one, and the number that ends the rows stands there whole.
     (DATA + 25, 1, Some((LoadCause::BadTable, 1, 25))),
     (DATA + 25, 4, Some((LoadCause::BadTable, 1, 27))),
-    // Dynamic, skipped, another LENGTH and another record.
+    // Dynamic, skipped, and another LENGTH.
     (0x15, 0x80, Some((LoadCause::BadTable, 1, 0))),
     (0x15, 0x02, Some((LoadCause::BadTable, 1, 0))),
     (0x08, 28, Some((LoadCause::BadTable, 1, 0))),
@@ -76,8 +92,8 @@ static FLAWS: [(usize, u8, Option<Fault>); 29] = [
 #[test]
 fn each_field_of_pathnames(rt: HostRuntime) {
     for (at, value, want) in &FLAWS {
-        let told = fault_of_paths(rt.alloc(), *at, *value);
-        same(&rt, &(*at, *value), told, Ok(*want));
+        let found = fault_of_paths(rt.alloc(), *at, *value);
+        same(&rt, &(*at, *value), found, Ok(*want));
     }
 }
 
@@ -141,7 +157,12 @@ type Exports<'a> = (u32, [Option<Export<'a>>; 4]);
 fn exports_of<'a>(load: &LoadFile<'a>) -> Exports<'a> {
     (
         load.exports(),
-        [load.export(0), load.export(1), load.export(2), load.export(3)],
+        [
+            load.export(0),
+            load.export(1),
+            load.export(2),
+            load.export(3),
+        ],
     )
 }
 
@@ -190,7 +211,11 @@ static ENTRY_FLAWS: [(usize, u8, Option<Fault>); 5] = [
     (0x37 + 1, 3, Some((LoadCause::NoSuchTarget, 1, 0x37))),
     (0x37 + 10, 0, Some((LoadCause::NoSuchTarget, 1, 0x37 + 9))),
     // A skipped segment has no place for a name.
-    (0x37 + 20 + 0x15, 0x02, Some((LoadCause::NoSuchTarget, 1, 0x37))),
+    (
+        0x37 + 20 + 0x15,
+        0x02,
+        Some((LoadCause::NoSuchTarget, 1, 0x37)),
+    ),
 ];
 
 fn fault_of_entries(alloc: Global, at: usize, value: u8) -> Result<Option<Fault>, AllocError> {
@@ -201,8 +226,8 @@ fn fault_of_entries(alloc: Global, at: usize, value: u8) -> Result<Option<Fault>
 #[test]
 fn each_field_of_an_entry(rt: HostRuntime) {
     for (at, value, want) in &ENTRY_FLAWS {
-        let told = fault_of_entries(rt.alloc(), *at, *value);
-        same(&rt, &(*at, *value), told, Ok(*want));
+        let found = fault_of_entries(rt.alloc(), *at, *value);
+        same(&rt, &(*at, *value), found, Ok(*want));
     }
 }
 
@@ -213,7 +238,7 @@ fn runtime_fault(alloc: Global, file: &[u8]) -> Option<Fault> {
     }
     match read_runtime(alloc, file) {
         Ok(_) => None,
-        Err(fault) => Some((fault.cause, fault.segment, fault.at)),
+        Err(fault) => Some(told(fault)),
     }
 }
 
@@ -251,8 +276,8 @@ fn fault_of_kinds(
 fn runtime_files_are_dynamic(rt: HostRuntime) -> Result<(), Fail> {
     let alloc = rt.alloc();
     for (first, second, want) in &KINDS {
-        let told = fault_of_kinds(alloc, *first, *second);
-        same(&rt, &(*first, *second), told, Ok(*want));
+        let found = fault_of_kinds(alloc, *first, *second);
+        same(&rt, &(*first, *second), found, Ok(*want));
     }
 
     // A skipped segment without names, and an empty file.
