@@ -48,10 +48,6 @@ with_space : (line : List ℕ) (text : List ℕ) → HasFirst text → (line ++ 
 with_space line text has =
     ap (λ (l : List ℕ). (line ++ 0x20 ∷ []) ++ l) has.whole ∙ append_assoc line (0x20 ∷ []) (has.byte ∷ has.behind) ∙ ap (λ (l : List ℕ). line ++ spaced l) (sym has.whole)
 
-first_in : (front text : List ℕ) → HasFirst text → HasFirst (front ++ text)
-first_in [] text has = has
-first_in (byte ∷ front) text has = record { byte = byte; behind = front ++ text; whole = refl }
-
 first_before : (byte : ℕ) (front text : List ℕ) → HasFirst ((byte ∷ front) ++ text)
 first_before byte front text = record { byte = byte; behind = front ++ text; whole = refl }
 

@@ -1,17 +1,17 @@
 -- Which headers can be listed, and how many cells records give.
 use Rattle.std.proofs.Common.{◌≡◌, inl, inr, ℕ, ◌+◌, ◌-◌, ◌≤◌, ◌<◌, Bool, true, false, cond, eqb, leb, ltb, List, [], ◌∷◌, ◌++◌, length, Some, None, Ok, refl, sym, ap, subst, ◌∙◌, arith, append_assoc, append-nil}
 use Rattle.std.specs.Prelude.{not, ◌&&◌, ◌||◌}
-use Rattle.std.specs.List.{list_all, position_or_len}
+use Rattle.std.specs.List.{position_or_len}
 use Rattle.std.proofs.lemmas.List.Sums.{prefix_len-le-length}
-use Rattle.std.proofs.lemmas.Bool.{eqb-true, eq-eqb, ne_eqb, le-leb, lt-leb, ltb-false}
+use Rattle.std.proofs.lemmas.Bool.{eqb-true, eq-eqb, ne_eqb, le-leb, ltb-false}
 use Rattle.omf_format.specs.Record.{Record}
 use Rattle.omf_format.specs.Reading.{Reader, next_answer, after_next, records_of, IsBody}
 use Rattle.omf_format.specs.File.{Segment}
 use Rattle.w65_list.proofs.RecordRuns.{rest_of}
 use Rattle.omf_records.specs.WalkLaws.{walk_on, walk_ends}
 use Rattle.link_meaning.specs.Sizes.{size_at, located, place_behind, body_size}
-use Rattle.list_meaning.specs.Listing.{greatest_length, is_lost, has_lost_place, has_listable_header, front_of, is_short}
-use Rattle.w65_list.specs.FrontView.{has_listable_fields, has_listable_length, is_lost_from, HaveCells, AreOver, Counted}
+use Rattle.list_meaning.specs.Listing.{greatest_length, is_lost, has_lost_place}
+use Rattle.w65_list.specs.FrontView.{has_listable_length, is_lost_from, HaveCells, AreOver, Counted}
 
 -- ---- a number as a place
 
@@ -39,9 +39,6 @@ lost_on most place before found not so_far rest =
 size_on : (place : ℕ) (before : List (ℕ × Record)) (found : ℕ × Record) → ((rest : List (ℕ × Record)) → place_behind 0 (before ++ rest) ≡ place_behind place rest)
     → (rest : List (ℕ × Record)) → place_behind 0 ((before ++ found ∷ []) ++ rest) ≡ place_behind (place + size_at place found.1) rest
 size_on place before found so_far rest = ap (place_behind 0) (append_assoc before (found ∷ []) rest) ∙ so_far (found ∷ rest)
-
-pub counted_begin : (start : Reader) (most : ℕ) → Counted start start most 0
-counted_begin start most = record { before = []; run = refl; lost = λ rest. refl; size = λ rest. refl; few = omega arith }
 
 pub counted_on : (start at next : Reader) (most place behind : ℕ) (found : ℕ × Record) → Counted start at most place → next_answer at ≡ Ok (Some found) → next ≡ after_next at
     → is_lost place found.1 ≡ false → behind ≡ place + size_at place found.1 → behind ≤ most → Counted start next most behind
@@ -96,18 +93,10 @@ and_false : (x : Bool) → (x && false) ≡ false
 and_false true = refl
 and_false false = refl
 
-pub length_great : (s : Segment) → greatest_length s.fields.bank_size < s.fields.length → has_listable_length s ≡ false
-length_great s over =
-    ap (λ (b : Bool). (not (has_lost_place s) && eqb s.fields.length (body_size s + s.fields.res_spc)) && b) (lt-leb s.fields.length (greatest_length s.fields.bank_size) over)
-    ∙ and_false (not (has_lost_place s) && eqb s.fields.length (body_size s + s.fields.res_spc))
-
 other_length : (s : Segment) → (s.fields.length ≡ body_size s + s.fields.res_spc → ⊥) → has_listable_length s ≡ false
 other_length s other =
     ap (λ (b : Bool). (not (has_lost_place s) && b) && leb s.fields.length (greatest_length s.fields.bank_size)) (ne_eqb s.fields.length (body_size s + s.fields.res_spc) other)
     ∙ ap (λ (b : Bool). b && leb s.fields.length (greatest_length s.fields.bank_size)) (and_false (not (has_lost_place s)))
-
-pub length_small : (s : Segment) → s.fields.length < s.fields.res_spc → has_listable_length s ≡ false
-length_small s less = other_length s (λ e. omega (arith, e, less))
 
 pub length_over : (s : Segment) (most : ℕ) → most ≡ s.fields.length - s.fields.res_spc → s.fields.res_spc ≤ s.fields.length → AreOver most s.records → has_listable_length s ≡ false
 length_over s most is less (inl lost) = length_by s true (body_size s) (lost_is s ∙ lost) refl
@@ -126,19 +115,3 @@ length_found s most found is less few have =
         no_clash p q = let clash : true ≡ false = sym p ∙ q in cc
 
 -- ---- the header
-
-pub header_is : (s : Segment) → has_listable_header s ≡ (has_listable_fields s.fields && has_listable_length s)
-header_is s = regroup (has_listable_fields s.fields) (not (has_lost_place s)) (eqb s.fields.length (body_size s + s.fields.res_spc)) (leb s.fields.length (greatest_length s.fields.bank_size))
-  where
-    regroup : (a b c d : Bool) → (((a && b) && c) && d) ≡ (a && ((b && c) && d))
-    regroup true b c d = refl
-    regroup false b c d = refl
-
-pub front_holds : (s : Segment) → has_listable_fields s.fields ≡ true → has_listable_length s ≡ true → (has_listable_header s && list_all is_short (front_of s.fields)) ≡ list_all is_short (front_of s.fields)
-front_holds s p q = ap (λ (b : Bool). b && list_all is_short (front_of s.fields)) (header_is s ∙ ap (λ (b : Bool). b && has_listable_length s) p ∙ q)
-
-pub fields_fail : (s : Segment) → has_listable_fields s.fields ≡ false → (has_listable_header s && list_all is_short (front_of s.fields)) ≡ false
-fields_fail s p = ap (λ (b : Bool). b && list_all is_short (front_of s.fields)) (header_is s ∙ ap (λ (b : Bool). b && has_listable_length s) p)
-
-pub length_fails : (s : Segment) → has_listable_length s ≡ false → (has_listable_header s && list_all is_short (front_of s.fields)) ≡ false
-length_fails s q = ap (λ (b : Bool). b && list_all is_short (front_of s.fields)) (header_is s ∙ ap (λ (b : Bool). has_listable_fields s.fields && b) q ∙ and_false (has_listable_fields s.fields))

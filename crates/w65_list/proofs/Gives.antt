@@ -8,12 +8,12 @@ use Rattle.omf_format.specs.Record as format
 use Rattle.link_meaning.specs.laws.TreeInLaws.{tree_in-again}
 use Rattle.list_meaning.specs.Listed.{Said, Wanted}
 use Rattle.list_meaning.specs.Listing as listing
-use Rattle.list_meaning.specs.Listing.{Given, is_short, are_short, if_short, then_said, flushed, split_last, behind_byte, is_held, held_back, apart, weak_of, simple_of, number_of, formula_given, formula_listable, expr_listable, term_listable, term_may_stand, is_open, is_some_name, is_some_wanted, follows_opcode, equate_given, on_tree, given_by}
+use Rattle.list_meaning.specs.Listing.{Given, are_short, if_short, then_said, flushed, split_last, behind_byte, is_held, held_back, apart, weak_of, simple_of, number_of, formula_given, formula_listable, expr_listable, term_listable, term_may_stand, is_open, is_some_name, is_some_wanted, follows_opcode, equate_given, on_tree, given_by}
 use Rattle.w65_list.specs.declared.output.Output.{Output}
 use Rattle.w65_list.specs.declared.records.Before.{Before}
 use Rattle.w65_list.specs.Giving.{Gave, IsGiven, held_by, held_with, equate_by}
 use Rattle.w65_list.specs.LineView.{Wrote, WroteAll}
-use Rattle.w65_list.proofs.Written.{wrote_one, wrote_both, long_one, long_first, long_second}
+use Rattle.w65_list.proofs.Written.{wrote_one, wrote_both}
 
 -- ---- the last byte of a run
 
@@ -38,22 +38,10 @@ lines_gave g more old mid new after gave wrote = record { wrote = wrote_both g.0
 pub line_gave : (g : Given) (said : Said) (old mid new : Output) (after : Before) → Gave g old mid after → Wrote said mid new → Gave (then_said (said ∷ []) g) old new after
 line_gave g said old mid new after gave wrote = lines_gave g (said ∷ []) old mid new after gave (wrote_one said mid new wrote)
 
-pub lines_long : (g : Given) (more : List Said) → list_all is_short more ≡ false → are_short (then_said more g) ≡ false
-lines_long g more long = long_second g.0 more long
-
-pub line_long : (g : Given) (said : Said) → is_short said ≡ false → are_short (then_said (said ∷ []) g) ≡ false
-line_long g said long = lines_long g (said ∷ []) (long_one said long)
-
-pub run_long : (g : Given) (more : List Said) → are_short g ≡ false → are_short (then_said more g) ≡ false
-run_long g more long = long_first g.0 more long
-
 -- ---- what can be listed
 
 pub given_of : (holds : Bool) (given : Given) (old new : Output) (after : Before) → holds ≡ true → Gave given old new after → IsGiven (if_short holds given) old new after
 given_of holds given old new after e gave = record { all = given; is = rw (e, gave.wrote.short) refl; gave = gave }
-
-pub refused_of : (holds : Bool) (given : Given) → holds ≡ false → if_short holds given ≡ None
-refused_of holds given e = rw e refl
 
 pub too_long : (holds : Bool) (given : Given) → are_short given ≡ false → if_short holds given ≡ None
 too_long true given long = rw long refl
@@ -62,22 +50,9 @@ too_long false given long = refl
 three_hold : (a b c : Bool) → a ≡ true → (b && c) ≡ true → ((a && b) && c) ≡ true
 three_hold a b c p q = ap (λ (x : Bool). (x && b) && c) p ∙ q
 
-three_fail : (a b c : Bool) → a ≡ false → ((a && b) && c) ≡ false
-three_fail a b c p = ap (λ (x : Bool). (x && b) && c) p
-
-three_fail_last : (a b c : Bool) → (b && c) ≡ false → ((a && b) && c) ≡ false
-three_fail_last true b c q = q
-three_fail_last false b c q = refl
-
 -- a label or an equate with a new name
 pub named_given : (may is_new a l n : Bool) (given : Given) (old new : Output) (after : Before) → may ≡ a → may ≡ true → is_new ≡ (l && n) → is_new ≡ true → Gave given old new after → IsGiven (if_short ((a && l) && n) given) old new after
 named_given may is_new a l n given old new after p q r s gave = given_of ((a && l) && n) given old new after (three_hold a l n (sym p ∙ q) (sym r ∙ s)) gave
-
-pub not_public : (may a l n : Bool) (given : Given) → may ≡ a → may ≡ false → if_short ((a && l) && n) given ≡ None
-not_public may a l n given p q = refused_of ((a && l) && n) given (three_fail a l n (sym p ∙ q))
-
-pub not_new : (is_new a l n : Bool) (given : Given) → is_new ≡ (l && n) → is_new ≡ false → if_short ((a && l) && n) given ≡ None
-not_new is_new a l n given r s = refused_of ((a && l) && n) given (three_fail_last a l n (sym r ∙ s))
 
 -- ---- an opcode that is held back
 

@@ -225,12 +225,6 @@ pub parts_begin : (l : ℕ) (text : List ℕ) → IsExpression l text → ArePar
 parts_begin l text is =
     record { trees = []; view = refl; same = refl; leads = subst (λ (ts : List Term). Lead 0 ts 1) (sym (bare_are l text is.tree is.spells)) (tree_leads_to_one l is.tree is.spells.formed is.spells.shallow) }
 
--- the next term finds its operands
-pub parts_some : (all : List Term) (left : List (ℕ × Term)) (at : ℕ) (term : Term) (parts : List Part) → AreParts all (bare left) parts → Some (at, term) ≡ slice_get left 0 → operands_of term ≤ length parts
-parts_some all left at term parts are e =
-    let on : Lead (length are.trees) (term ∷ bare (drop 1 left)) 1 = subst (λ (ps : List (ℕ × Term)). Lead (length are.trees) (bare ps) 1) (front_term left (at, term) e) are.leads in
-    omega (arith, on.0, part_count are.trees parts are.view)
-
 -- and leaves parts
 pub parts_on : (all : List Term) (left next : List (ℕ × Term)) (at : ℕ) (term : Term) (parts rest more : List Part) (part : Part) → AreParts all (bare left) parts → Some (at, term) ≡ slice_get left 0 → next ≡ drop 1 left
     → ((trees : List Tree) → map part_view parts ≡ all_told trees → map part_view rest ++ part_view part ∷ [] ≡ all_told (with_term trees term)) → more ≡ rest ++ part ∷ [] → AreParts all (bare next) more

@@ -52,9 +52,6 @@ equates_more : (before : List (ℕ × Record)) (found : ℕ × Record) → equat
 equates_more before found =
     flat_map-append (λ (f : ℕ × Record). equate_name f.1) before (found ∷ []) ∙ ap (λ (l : List (List ℕ)). equates_in before ++ l) (flat_map-cons (λ (f : ℕ × Record). equate_name f.1) found [] ∙ append-nil (equate_name found.1))
 
-pub equates_begin : (start : Reader) (names : Names) → AreNames names [] → EquatesOn start start names
-equates_begin start names none = record { before = []; run = refl; are = none }
-
 pub equates_on : (start at next : Reader) (old new : Names) (found : ℕ × Record) → EquatesOn start at old → next_answer at ≡ Ok (Some found) → next ≡ after_next at
     → ((all : List (List ℕ)) → AreNames old all → AreNames new (equate_name found.1 ++ all)) → EquatesOn start next new
 equates_on start at next old new found on e after adds = record {
@@ -204,10 +201,6 @@ file_again : (x : Result (List Said) (ℕ × ℕ)) (a b : List Said) → ((x >>=
 file_again (Ok more) a b = ap (λ (l : List Said). Ok l) (sym (append_assoc a b more))
 file_again (Err e) a b = refl
 
-file_nothing : (x : Result (List Said) (ℕ × ℕ)) → x ≡ (x >>= λ more. Ok ([] ++ more))
-file_nothing (Ok more) = refl
-file_nothing (Err e) = refl
-
 one_on : (n : ℕ) (s : Segment) (rest : List Segment) (lines : List Said) → listing_of s ≡ Ok lines → listing_from n (s ∷ rest) ≡ (listing_from (n + 1) rest >>= λ more. Ok (lines ++ more))
 unfolding listing_from
 one_on n s rest lines is = ap (λ (r : Result (List Said) ℕ). in_segment n r >>= λ first. listing_from (n + 1) rest >>= λ more. Ok (first ++ more)) is
@@ -232,9 +225,6 @@ parts_at : (segments : List Segment) (place : ℕ) (s : Segment) → slice_get s
 parts_at [] place s e = absurd cc
 parts_at (x ∷ segments) zero s e = let same : x ≡ s = cc in record { behind = segments; whole = ap (λ (y : Segment). y ∷ segments) same }
 parts_at (x ∷ segments) (suc place) s e = let more = parts_at segments place s e in record { behind = more.behind; whole = ap (λ (l : List Segment). x ∷ l) more.whole }
-
-pub segments_begin : (segments : List Segment) (out : Output) → kept out ≡ Some ([], 0) → open_line out ≡ [] → SegmentsOn segments 0 out
-segments_begin segments out none line = record { line = line; lines = []; wrote = none; on = λ rest. file_nothing (listing_from 1 rest) }
 
 pub segments_on : (segments : List Segment) (place : ℕ) (s : Segment) (now new : Output) → SegmentsOn segments place now → slice_get segments place ≡ Some s → WroteSegment s now new → SegmentsOn segments (place + 1) new
 segments_on segments place s now new on found wrote = record {
