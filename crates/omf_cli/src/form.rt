@@ -186,11 +186,7 @@ fn last_inputs(count: usize, inputs: &[String]) -> Option<&[String]>
         return None;
     }
     let (_, last) = inputs.split_at(inputs.len() - count);
-    if are_printing(last) {
-        Some(last)
-    } else {
-        None
-    }
+    if are_printing(last) { Some(last) } else { None }
 }
 
 /// An output, how many of the inputs are run-time library files, and the inputs: all of them, and the last ones.

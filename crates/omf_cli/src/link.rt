@@ -143,7 +143,11 @@ fn under_path(alloc: Global, path: &str, bytes: Vec<u8>) -> Result<Member, Alloc
 }
 
 /// The files under their paths.
-fn under_paths(alloc: Global, paths: &[String], files: Vec<Vec<u8>>) -> Result<Vec<Member>, AllocError>
+fn under_paths(
+    alloc: Global,
+    paths: &[String],
+    files: Vec<Vec<u8>>,
+) -> Result<Vec<Member>, AllocError>
     requires { IsTrue (are_paths 1 16 (words_of paths.now)) }
     ensures { IfOk result (λ members. files_of members.items ≡ under_paths (words_of paths.now) (all_bytes files.items)) }
 {

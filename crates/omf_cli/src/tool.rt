@@ -112,7 +112,14 @@ pub fn run_tool<F: Files, S: Sink>(
                 inputs,
                 runtimes,
             },
-        ) => run_maker(alloc, &LinkRt { runtimes }, Some(output), inputs, files, out),
+        ) => run_maker(
+            alloc,
+            &LinkRt { runtimes },
+            Some(output),
+            inputs,
+            files,
+            out,
+        ),
         Some(Form::Listing { output, inputs }) => {
             run_maker(alloc, &Listing, Some(output), inputs, files, out)
         }
