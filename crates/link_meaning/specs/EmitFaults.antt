@@ -1,7 +1,6 @@
 -- Why resolved files aren't linked: the first fault of the phases in which equates and records get their values and the load
 -- file is written; and what the linker answers.
 use Rattle.std.specs.Prelude.{◌≡◌, ◌<◌, ◌↔◌, ℕ, List, [], ◌∷◌, length, Some, None, Result, Ok, Err}
-use Rattle.omf_format.specs.Number.{IsBytes}
 use Rattle.omf_format.specs.File.{Segment, IsFile}
 use Rattle.load_meaning.specs.WrittenFile.{AreReadAs}
 use Rattle.link_meaning.specs.declared.fault.LinkCause.TheVariants.{Circular, FileTooLong}

@@ -1,6 +1,5 @@
 -- The value of one equate, by those of the equates to which it leads.
 use Rattle.std.specs.Prelude.{◌≡◌, ℕ, ◌↔◌, List, [], ◌∷◌, Result, true, Some, slice_get}
-use Rattle.omf_format.specs.Number.{IsBytes}
 use Rattle.omf_format.specs.declared.value.Value.{Value}
 use Rattle.omf_format.specs.declared.value.ValueFault.{ValueFault}
 use Rattle.link_meaning.specs.First.{IsIn}

@@ -3,7 +3,6 @@
 use Rattle.std.specs.Prelude.{◌≡◌, ◌≤◌, ◌<◌, ◌⊎◌, ℕ, ◌+◌, false, true, Bool, List, [], ◌∷◌, ◌++◌, length, map, Some, None, slice_get}
 use Rattle.std.specs.List.{AllByRecursion}
 use Rattle.omf_format.specs.Header.{Fields, is_skipped}
-use Rattle.omf_format.specs.Number.{IsBytes}
 use Rattle.omf_format.specs.File.{Segment, IsFile}
 use Rattle.load_meaning.specs.Cells.{Cell, Byte, Part, cells}
 use Rattle.load_meaning.specs.declared.load.LoadFault.{LoadFault}

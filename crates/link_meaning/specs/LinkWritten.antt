@@ -4,7 +4,6 @@ use Rattle.std.specs.Prelude.{◌≡◌, ◌≤◌, ℕ, ◌+◌, ◌&&◌, List
 use Rattle.std.specs.List.{flat_map}
 use Rattle.std.specs.Ordering.{int_eq}
 use Rattle.omf_format.specs.Header.{Fields}
-use Rattle.omf_format.specs.Number.{IsBytes}
 use Rattle.omf_format.specs.File.{Segment, IsFile}
 use Rattle.load_meaning.specs.Cells.{Cell, Byte, Part, Patch, cells}
 use Rattle.load_meaning.specs.declared.table.Target.{Target}

@@ -1,7 +1,6 @@
 pub mod LineText
 pub mod Expands
 pub mod Numbers
-pub mod Examples
 pub mod Spelled
 pub mod FormulaLaw
 pub mod ModeLaw

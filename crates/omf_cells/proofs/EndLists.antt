@@ -8,23 +8,13 @@ use Rattle.load_meaning.specs.Cells.{Cell}
 use Rattle.load_meaning.specs.WrittenBody.{is_zero}
 use Rattle.omf_cells.specs.declared.pieces.Piece.{Piece}
 use Rattle.omf_cells.specs.declared.spots.Spot.{Spot}
-use Rattle.omf_cells.specs.Content.{ArePieces, IsAt, IsElsewhere, spread_from, spread_spot, shown_spots, spot_patch, last_at}
+use Rattle.omf_cells.specs.Content.{ArePieces, IsAt, IsElsewhere, spread_spot, shown_spots, last_at}
 use Rattle.omf_cells.specs.WrittenParts.{IsKept}
 use Rattle.omf_cells.specs.Ends.{IsEnd, EndsAt, HasReach, HaveReach}
 use Rattle.omf_cells.proofs.Splits.{within}
 use Rattle.omf_cells.proofs.SpotLists.{Covers, cell_in, shown-push, spot_here, spot_else, last_at-append}
 
 -- ---- spots
-
-pub none_ends : IsEnd [] 0
-none_ends = record { past = λ k le. refl; last = inl refl }
-
--- a spot without bytes, and one with some
-pub empty_ends : (s : Spot) → s.end - s.first ≡ 0 → IsEnd (spread_spot s) 0
-empty_ends s none = subst (λ (l : List (ℕ × Cell)). IsEnd l 0) (sym nothing) none_ends
-  where
-    nothing : spread_spot s ≡ []
-    nothing = ap (spread_from (spot_patch s) s.at s.first) none
 
 pub spot_ends : (s : Spot) (end : ℕ) → end ≡ s.at + (s.end - s.first) → 1 ≤ s.end - s.first → IsEnd (spread_spot s) end
 spot_ends s end is some = record {
@@ -69,25 +59,6 @@ ends_more xs ys a b end first more most = record {
     Last n = (n ≡ 0) ⊎ ((c : Cell) × (1 ≤ n) × (last_at (xs ++ ys) (n - 1) ≡ Some c) × (is_zero c ≡ false))
 
 -- ---- pieces
-
--- the piece ends before, has nothing but zeros from there on, or reaches so far
-pub no_reach : (p : Piece) (low from : ℕ) → from ≡ low - p.start → length p.bytes.now ≤ from → HasReach p low 0
-no_reach p low from is past = record { zeros = λ m lt le reaches. absurd (omega (arith, is, past, lt, le)); last = inl refl }
-
-pub zero_reach : (p : Piece) (low from size : ℕ) → from ≡ low - p.start → IsKept p.bytes.now from size → size ≡ from → HasReach p low 0
-zero_reach p low from size is kept same = record { zeros = λ m lt le reaches. kept.zeros m (omega (arith, is, le, same)) lt; last = inl refl }
-
-pub some_reach : (p : Piece) (low from size end : ℕ) → from ≡ low - p.start → IsKept p.bytes.now from size → (size ≡ from → ⊥) → end ≡ p.start + size → HasReach p low end
-some_reach p low from size end is kept other at = record {
-  zeros = λ m lt le reaches. kept.zeros m (omega (arith, at, reaches)) lt;
-  last = elim kept.last [
-    | inl same ↦ absurd (other same)
-    | inr some ↦ inr (record { place = size - 1; inside = omega (arith, some.1, kept.within); byte = some.0; end' = omega (arith, at, some.1) })
-  ];
-}
-
-pub have_none : (pieces : List Piece) (low : ℕ) → HaveReach pieces 0 low low
-have_none pieces low = record { low' = omega arith; zeros = λ i m p lt at inside le. absurd (omega arith); last = inl refl }
 
 piece_is : (p q : Piece) → Some p ≡ Some q → p ≡ q
 piece_is p q e = cc

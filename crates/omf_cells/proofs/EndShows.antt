@@ -1,9 +1,8 @@
 -- A segment of a load file as a whole.
-use Rattle.std.proofs.Common.{◌≡◌, ℕ, ◌-◌, ◌<◌, ◌≤◌, true, List, [], ◌++◌, length, map, take, replicate, Option, Some, refl, sym, ap, subst, ◌∙◌, arith, inl, inr}
-use Rattle.std.specs.Prelude.{◌⊎◌, slice_get, option_map, min, IsSomeAnd}
+use Rattle.std.proofs.Common.{◌≡◌, ℕ, ◌-◌, ◌<◌, ◌≤◌, true, List, length, map, Option, Some, refl, sym, ap, subst, ◌∙◌, arith, inl, inr}
+use Rattle.std.specs.Prelude.{◌⊎◌, slice_get, option_map, IsSomeAnd}
 use Rattle.std.specs.Option.{option_or, option_map_or}
 use Rattle.std.proofs.lemmas.Bool.{cases_lt}
-use Rattle.std.proofs.lemmas.List.{take_all}
 use Rattle.std.proofs.lemmas.Option.{slice_get_within, slice_get-map}
 use Rattle.omf_format.specs.File.{Segment}
 use Rattle.load_meaning.specs.Cells.{Cell, Byte, Patch, segment_bytes, cells}
@@ -15,12 +14,12 @@ use Rattle.omf_records.specs.declared.segment.SegmentView.{SegmentView}
 use Rattle.omf_cells.specs.declared.targets.Content.{Content}
 use Rattle.omf_cells.specs.Content.{shown_spots, last_at}
 use Rattle.omf_cells.specs.Ends.{IsEnd}
-use Rattle.omf_cells.specs.Load.{IsOutside, Shows, ShowsContent}
-use Rattle.omf_cells.specs.Whole.{front_of, front_at, data_at, HasData, AreWhole, HasWhole}
+use Rattle.omf_cells.specs.Load.{Shows, ShowsContent}
+use Rattle.omf_cells.specs.Whole.{front_of, front_at, AreWhole, HasWhole}
 use Rattle.omf_cells.specs.WrittenParts.{IsKept}
 use Rattle.omf_cells.proofs.KeptLaws.{byte_is, other_byte}
 use Rattle.omf_cells.proofs.Contents.{below_at}
-use Rattle.omf_cells.proofs.LoadShows.{cell_of, outside, shown_below}
+use Rattle.omf_cells.proofs.LoadShows.{cell_of, shown_below}
 
 -- ---- the front
 
@@ -86,35 +85,7 @@ front_there segments number v content end size is ends kept = (
       ]
     ]
 
-pub front_outside : (segments : List Segment) (number : ℕ) → IsOutside segments number → 0 ≡ front_at segments number
-front_outside segments number is = sym (ap (λ (o : Option Segment). option_map_or front_of o 0) (outside segments number is))
-
 -- ---- the data
-
-pub data_there : (segments : List Segment) (number : ℕ) (v : SegmentView) → Shows segments number v → data_at segments number ≡ segment_bytes (shown v)
-data_there segments number v is = ap (λ (o : Option Segment). option_map_or segment_bytes o []) is.here
-
-pub data_outside : (segments : List Segment) (number : ℕ) → IsOutside segments number → data_at segments number ≡ []
-data_outside segments number is = ap (λ (o : Option Segment). option_map_or segment_bytes o []) (outside segments number is)
-
--- as many bytes of the data as there are at most
-pub take_within : (segments : List Segment) (number size most : ℕ) (v : SegmentView) → Shows segments number v → most ≡ min size v.header.length → take most (segment_bytes (shown v)) ≡ take size (data_at segments number)
-take_within segments number size most v is least =
-    let sized = length-segment_bytes (shown v) is.sound.fits in
-    elim (cases_lt v.header.length size) [
-      | inl more ↦
-          let all : most ≡ v.header.length = omega (arith, least, more) in
-          take_all most (segment_bytes (shown v)) (omega (arith, all, sized)) ∙ sym (ap (take size) (data_there segments number v is) ∙ take_all size (segment_bytes (shown v)) (omega (arith, more, sized)))
-      | inr few ↦
-          let same : most ≡ size = omega (arith, least, few) in
-          ap (λ (n : ℕ). take n (segment_bytes (shown v))) same ∙ ap (take size) (sym (data_there segments number v is))
-    ]
-
-pub has_data : (segments : List Segment) (number : ℕ) (v : SegmentView) (bytes : List ℕ) → Shows segments number v → segment_bytes (shown v) ≡ bytes ++ replicate (length (segment_bytes (shown v)) - length bytes) 0
-    → HasData segments number bytes
-has_data segments number v bytes is e =
-    subst (λ (o : Option Segment). IsSomeAnd o (λ (s : Segment). segment_bytes s ≡ bytes ++ replicate (s.fields.length - length bytes) 0)) (sym is.here)
-    (e ∙ ap (λ (n : ℕ). bytes ++ replicate (n - length bytes) 0) (length-segment_bytes (shown v) is.sound.fits))
 
 -- ---- the patches
 

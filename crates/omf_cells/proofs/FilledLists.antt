@@ -46,9 +46,6 @@ pub record IsFilled (pieces : List Piece) (n size at : ℕ) : Type 0 where
   pub passed : (i : ℕ) (p : Piece) → i < n → IsAt pieces i p → (p.start + length p.bytes.now ≤ at) ⊎ (at ≡ size)
   pub left : (i : ℕ) (p : Piece) → n ≤ i → IsAt pieces i p → at ≤ p.start
 
-pub filled_none : (pieces : List Piece) (size : ℕ) → IsFilled pieces 0 size 0
-filled_none pieces size = record { inside = omega arith; passed = λ i p lt at. absurd (omega arith); left = λ i p le at. omega arith }
-
 piece_is : (p q : Piece) → Some p ≡ Some q → p ≡ q
 piece_is p q e = cc
 

@@ -1,9 +1,9 @@
 -- Going over the rows of a pathname segment.
-use Rattle.std.proofs.Common.{◌≡◌, ℕ, zero, suc, ◌+◌, ◌-◌, ◌<◌, ◌≤◌, Bool, true, false, eqb, ltb, List, [], ◌∷◌, ◌++◌, length, Option, Some, None, refl, sym, ap, subst, ◌∙◌, append_assoc, arith}
+use Rattle.std.proofs.Common.{◌≡◌, ℕ, zero, suc, ◌+◌, ◌-◌, ◌≤◌, Bool, true, false, eqb, ltb, List, [], ◌∷◌, ◌++◌, length, Option, Some, None, refl, sym, ap, subst, ◌∙◌, append_assoc, arith}
 use Rattle.std.specs.Prelude.{◌&&◌, not, if◌then◌else◌}
 use Rattle.std.specs.Option.{option_or}
-use Rattle.std.proofs.lemmas.Bool.{and_parts, lt-ltb, eq-eqb, ne_eqb, eqb-true, ltb-true}
-use Rattle.std.proofs.lemmas.List.{append-nil, length-drop}
+use Rattle.std.proofs.lemmas.Bool.{and_parts, ne_eqb, eqb-true, ltb-true}
+use Rattle.std.proofs.lemmas.List.{length-drop}
 use Rattle.omf_format.specs.Number.{number_at}
 use Rattle.load_meaning.specs.Pathnames.{path_start, path_size, first_path, behind_path, paths_in, row_flaw, end_flaw, rows_flaw}
 use Rattle.omf_cells.specs.Paths.{flaw_in, rows_in}
@@ -24,14 +24,8 @@ not_less a b le = by_test (ltb a b) refl
     by_test true e = absurd (omega (arith, le, ltb-true a b e))
     by_test false e = refl
 
-end_cut : (rows at : ℕ) (bytes : List ℕ) (row : Option ℕ) → length bytes < 2 → end_flaw rows at bytes row ≡ Some at
-end_cut rows at bytes row short = ap (λ (b : Bool). if b then Some at else (if at_end rows bytes then then_end at bytes else row)) (lt-ltb (length bytes) 2 short)
-
 end_test : (rows at : ℕ) (bytes : List ℕ) (row : Option ℕ) → 2 ≤ length bytes → end_flaw rows at bytes row ≡ (if at_end rows bytes then then_end at bytes else row)
 end_test rows at bytes row long = ap (λ (b : Bool). if b then Some at else (if at_end rows bytes then then_end at bytes else row)) (not_less (length bytes) 2 long)
-
-end_here : (rows at : ℕ) (bytes : List ℕ) (row : Option ℕ) → 2 ≤ length bytes → at_end rows bytes ≡ true → end_flaw rows at bytes row ≡ then_end at bytes
-end_here rows at bytes row long is = end_test rows at bytes row long ∙ ap (λ (b : Bool). if b then then_end at bytes else row) is
 
 end_row : (rows at : ℕ) (bytes : List ℕ) (row : Option ℕ) → 2 ≤ length bytes → at_end rows bytes ≡ false → end_flaw rows at bytes row ≡ row
 end_row rows at bytes row long is = end_test rows at bytes row long ∙ ap (λ (b : Bool). if b then then_end at bytes else row) is
@@ -49,25 +43,12 @@ opened : (n rows at : ℕ) (bytes : List ℕ) → rows_flaw n rows at bytes ≡ 
 opened zero rows at bytes = refl
 opened (suc n) rows at bytes = refl
 
--- where it has another number, or none may come
-other_row : (n rows most at : ℕ) (bytes : List ℕ) → n ≡ most - rows → (ltb rows most && eqb (number_at 2 0 bytes) (rows + 2)) ≡ false → row_then n rows at bytes ≡ Some at
-other_row zero rows most at bytes left is = refl
-other_row (suc n) rows most at bytes left is =
-    let more : ltb rows most ≡ true = lt-ltb rows most (omega (arith, left)) in
-    let number : eqb (number_at 2 0 bytes) (rows + 2) ≡ false = ap (λ (b : Bool). b && eqb (number_at 2 0 bytes) (rows + 2)) (sym more) ∙ is in
-    ap (λ (b : Bool). if not b then Some at else option_or (row_flaw at bytes) (rows_flaw n (rows + 1) (at + path_start + path_size bytes) (behind_path bytes))) number
-
 -- where it has the next number
 next_row : (n m rows at : ℕ) (bytes : List ℕ) → n ≡ suc m → eqb (number_at 2 0 bytes) (rows + 2) ≡ true
     → row_then n rows at bytes ≡ option_or (row_flaw at bytes) (rows_flaw m (rows + 1) (at + path_start + path_size bytes) (behind_path bytes))
 next_row n m rows at bytes left is =
     ap (λ (k : ℕ). row_then k rows at bytes) left
     ∙ ap (λ (b : Bool). if not b then Some at else option_or (row_flaw at bytes) (rows_flaw m (rows + 1) (at + path_start + path_size bytes) (behind_path bytes))) is
-
--- no path is read behind the last row
-no_paths : (n : ℕ) (bytes : List ℕ) → eqb (number_at 2 0 bytes) 0 ≡ true → paths_in n bytes ≡ []
-no_paths zero bytes is = refl
-no_paths (suc n) bytes is = ap (λ (b : Bool). if b then [] else first_path bytes ∷ paths_in n (behind_path bytes)) is
 
 one_path : (n m : ℕ) (bytes : List ℕ) → n ≡ suc m → eqb (number_at 2 0 bytes) 0 ≡ false → paths_in n bytes ≡ first_path bytes ∷ paths_in m (behind_path bytes)
 one_path n m bytes left is =
@@ -87,27 +68,6 @@ unfolding flaw_in rows_in
 so_none most bytes =
     let all : most ≡ most - 0 = omega arith in
     record { within = omega arith; place = omega arith; flaw = ap (λ (n : ℕ). rows_flaw n 0 0 bytes) all; paths' = ap (λ (n : ℕ). paths_in n bytes) all }
-
-pub so_cut : (most : ℕ) (bytes : List ℕ) (rows at : ℕ) (rest : List ℕ) (paths : List (List ℕ)) → SoFar most bytes rows at rest paths → length rest < 2 → flaw_in most bytes ≡ Some at
-so_cut most bytes rows at rest paths so short = so.flaw ∙ opened (most - rows) rows at rest ∙ end_cut rows at rest (row_then (most - rows) rows at rest) short
-
-pub so_ended : (most : ℕ) (bytes : List ℕ) (rows at : ℕ) (rest : List ℕ) (paths : List (List ℕ)) → SoFar most bytes rows at rest paths → 2 ≤ length rest → at_end rows rest ≡ true → length rest ≡ 2
-    → (flaw_in most bytes ≡ None) × (paths ≡ rows_in most bytes)
-so_ended most bytes rows at rest paths so long is whole =
-    let zero_is = and_parts (eqb (number_at 2 0 rest) 0) (ltb 0 rows) is in (
-      so.flaw ∙ opened (most - rows) rows at rest ∙ end_here rows at rest (row_then (most - rows) rows at rest) long is ∙ ap (λ (b : Bool). if b then None else Some (at + 2)) (eq-eqb (length rest) 2 whole),
-      sym (so.paths' ∙ ap (λ (l : List (List ℕ)). paths ++ l) (no_paths (most - rows) rest zero_is.0) ∙ append-nil paths),
-    )
-
-pub so_behind : (most : ℕ) (bytes : List ℕ) (rows at : ℕ) (rest : List ℕ) (paths : List (List ℕ)) → SoFar most bytes rows at rest paths → 2 ≤ length rest → at_end rows rest ≡ true → (length rest ≡ 2 → ⊥)
-    → flaw_in most bytes ≡ Some (at + 2)
-so_behind most bytes rows at rest paths so long is more =
-    so.flaw ∙ opened (most - rows) rows at rest ∙ end_here rows at rest (row_then (most - rows) rows at rest) long is ∙ ap (λ (b : Bool). if b then None else Some (at + 2)) (ne_eqb (length rest) 2 more)
-
-pub so_other : (most : ℕ) (bytes : List ℕ) (rows at : ℕ) (rest : List ℕ) (paths : List (List ℕ)) → SoFar most bytes rows at rest paths → 2 ≤ length rest → at_end rows rest ≡ false
-    → (ltb rows most && eqb (number_at 2 0 rest) (rows + 2)) ≡ false → flaw_in most bytes ≡ Some at
-so_other most bytes rows at rest paths so long open' is =
-    so.flaw ∙ opened (most - rows) rows at rest ∙ end_row rows at rest (row_then (most - rows) rows at rest) long open' ∙ other_row (most - rows) rows most at rest refl is
 
 so_row : (most : ℕ) (bytes : List ℕ) (rows at : ℕ) (rest : List ℕ) (paths : List (List ℕ)) → SoFar most bytes rows at rest paths → 2 ≤ length rest → at_end rows rest ≡ false
     → (ltb rows most && eqb (number_at 2 0 rest) (rows + 2)) ≡ true

@@ -1,10 +1,9 @@
 -- The one record of a pathname segment, and the paths of a file.
-use Rattle.std.proofs.Common.{◌≡◌, ℕ, zero, suc, ◌+◌, ◌-◌, ◌≤◌, Bool, true, false, eqb, List, [], ◌∷◌, ◌++◌, length, take, replicate, Option, Some, None, Ok, Err, refl, sym, ap, ◌∙◌, append_assoc, arith}
+use Rattle.std.proofs.Common.{◌≡◌, ℕ, zero, suc, ◌+◌, ◌-◌, ◌≤◌, Bool, true, false, eqb, List, [], ◌∷◌, ◌++◌, length, take, replicate, Option, Some, None, Ok, refl, sym, ap, ◌∙◌, append_assoc, arith}
 use Rattle.std.specs.Prelude.{◌||◌, not, if◌then◌else◌, option_map, slice_get}
 use Rattle.std.specs.List.{list_any}
 use Rattle.std.specs.Option.{option_or, option_map_or}
 use Rattle.std.proofs.lemmas.List.{length-append, append-nil}
-use Rattle.omf_format.specs.declared.fault.RecordFault.{RecordFault}
 use Rattle.omf_format.specs.Header.{first_of, is_dynamic, is_skipped}
 use Rattle.omf_format.specs.Record.{Record, End, Const, LongConst, Align, Org, Space, Reloc, InterSeg, ShortReloc, ShortInterSeg, Super, Using, Strong, Label, Equate, Formula, Entry, content_of}
 use Rattle.omf_format.specs.Reading.{Reader, next_answer, after_next, HandsOut, records_of}
@@ -12,16 +11,13 @@ use Rattle.omf_format.specs.File.{Segment, body_reader}
 use Rattle.omf_records.specs.declared.segment.SegmentView.{SegmentView}
 use Rattle.omf_records.specs.Segments.{placed, shown}
 use Rattle.omf_format.specs.Body.{body_bytes}
-use Rattle.omf_format.specs.laws.FileLaws.{Answer, gave, same_found, open_at_some}
+use Rattle.omf_format.specs.laws.FileLaws.{gave, same_found, open_at_some}
 use Rattle.omf_format.specs.laws.BodyLaws.{none_at_end}
 use Rattle.load_meaning.specs.declared.load.LoadCause.TheVariants.{BadTable}
 use Rattle.load_meaning.specs.Cells.{segment_bytes}
 use Rattle.load_meaning.specs.Loadable.{in_segment, pathnames_flaw, pathnames_fault}
 use Rattle.load_meaning.specs.Pathnames.{has_pathnames, most_paths, paths_of, long_bytes, is_one_long}
 use Rattle.omf_cells.specs.Paths.{lone_bytes, TakesLast, flaw_in, rows_in, flaw_behind, fault_behind, paths_then, is_second}
-
-abbrev failed : RecordFault → Answer
-failed fault = Err fault
 
 -- ---- the one record
 
@@ -50,25 +46,9 @@ lone_more r new last (a ∷ b ∷ []) run ended after more =
     absurd (more b second (none_at_end (after_next new) (ends (after_next new) last third ended)))
 lone_more r new last (a ∷ b ∷ c ∷ rest) run ended after more = refl
 
-pub lone_other : (r last : Reader) (found : ℕ × Record) (founds : List (ℕ × Record)) → HandsOut r founds last → next_answer r ≡ Ok (Some found) → long_bytes found.1 ≡ None → lone_bytes founds ≡ None
-lone_other r last found [] run e long = refl
-lone_other r last found (a ∷ []) run e long = refl
-lone_other r last found (a ∷ b ∷ []) run e long =
-    let same : a ≡ found = same_found a found (sym run.0 ∙ e) in
-    ap (λ (f : ℕ × Record). long_bytes f.1) same ∙ long
-lone_other r last found (a ∷ b ∷ c ∷ rest) run e long = refl
-
 -- what was told of the records that a view shows
 pub shown_lone : (v : SegmentView) (reader : Reader) (answer : Option (List ℕ)) → reader ≡ body_reader v.start (placed v).fields v.file.now → answer ≡ lone_bytes (records_of reader) → lone_bytes (shown v).records ≡ answer
 shown_lone v reader answer at is = ap (λ (r : Reader). lone_bytes (records_of r)) (sym at) ∙ sym is
-
-pub lone_none : (r last : Reader) (founds : List (ℕ × Record)) → HandsOut r founds last → next_answer r ≡ Ok None → lone_bytes founds ≡ None
-lone_none r last [] run e = refl
-lone_none r last (a ∷ founds) run e = let clash : gave a ≡ Ok None = sym run.0 ∙ e in absurd cc
-
-pub lone_fault : (r last : Reader) (fault : RecordFault) (founds : List (ℕ × Record)) → HandsOut r founds last → last.ended ≡ true → next_answer r ≡ Err fault → lone_bytes founds ≡ None
-lone_fault r last fault [] run ended e = refl
-lone_fault r last fault (a ∷ founds) run ended e = let clash : gave a ≡ failed fault = sym run.0 ∙ e in absurd cc
 
 -- ---- the segment's bytes
 

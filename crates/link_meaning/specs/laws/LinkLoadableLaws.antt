@@ -12,7 +12,6 @@ use Rattle.std.proofs.lemmas.List.{length-append, length-map, append-nil}
 use Rattle.std.proofs.lemmas.Slice.Eq.{bytes_eq-Decides}
 use Rattle.omf_format.specs.laws.FieldLaws.{length-trim}
 use Rattle.omf_format.specs.Header.{Fields, form_of, first_of, is_dynamic, is_skipped}
-use Rattle.omf_format.specs.Number.{IsBytes}
 use Rattle.omf_format.specs.Record.{Record, Entry as Exported}
 use Rattle.omf_format.specs.Value.{is_unshifted}
 use Rattle.omf_format.specs.declared.value.Value.{Value}

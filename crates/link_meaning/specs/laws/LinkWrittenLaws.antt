@@ -10,7 +10,6 @@ use Rattle.std.proofs.lemmas.Grind.{flat_map-append}
 use Rattle.std.proofs.lemmas.Option.{slice_get-get_or}
 use Rattle.std.proofs.lemmas.Slice.Eq.{bytes_eq-Decides}
 use Rattle.omf_format.specs.Header.{Fields, form_of, is_listed, header_bytes}
-use Rattle.omf_format.specs.Number.{IsBytes}
 use Rattle.omf_format.specs.laws.WrittenHeaderLaws.{length-header}
 use Rattle.omf_format.specs.laws.FieldLaws.{length-trim}
 use Rattle.omf_format.specs.File.{Segment, IsFile}

@@ -27,7 +27,7 @@ use Rattle.link_meaning.specs.Member.{Member, Setting}
 use Rattle.link_meaning.specs.Layout.{load_headers}
 use Rattle.link_meaning.specs.LinkValues.{Told, value_in}
 use Rattle.link_meaning.specs.Fitting as fitting
-use Rattle.link_meaning.specs.Fitting.{Frame, Fit, Number, Place, number_fit, place_fit, distance_fit, or_does_not_fit, is_dynamic_load, length_of, is_call, target_of, has_room_for, call_fit, fitted, parts, entry_of, fit_cells, targets_behind, valued, is_far, length_there, may_call}
+use Rattle.link_meaning.specs.Fitting.{Frame, Fit, Number, Place, number_fit, place_fit, distance_fit, or_does_not_fit, is_dynamic_load, is_call, target_of, has_room_for, call_fit, fitted, parts, entry_of, fit_cells, targets_behind, valued, is_far, length_there, may_call}
 use Rattle.link_meaning.specs.LinkedCells.{Item, State, Made, zeros, made_by, table_number, frame_of, cells_before}
 use Rattle.link_meaning.specs.laws.RunCells.{Piece, One, Whole, cells_of, IsPiece, AreRuns}
 

@@ -2,7 +2,7 @@ use Rattle.std.proofs.Common.{◌≡◌, ℕ, ◌+◌, ◌≤◌, eqb, ltb, List
 use Rattle.std.specs.Prelude.{◌&&◌}
 use Rattle.std.proofs.lemmas.List.{map-append}
 use Rattle.std.specs.Borrow.{Bor}
-use Rattle.load_meaning.specs.Pathnames.{row_flaw, first_path, behind_path}
+use Rattle.load_meaning.specs.Pathnames.{row_flaw, first_path}
 use Rattle.omf_cells.specs.Load.{seen_paths}
 use Rattle.omf_cells.proofs.PathRuns.{SoFar, so_none, so_wrong, so_next}
 use Rattle.omf_cells.proofs.pathnames.paths_in.Goals as goal
