@@ -57,7 +57,7 @@ walk-preserved-in-Some-seen_in c =
     let w = found_next c.walk.records c.next_record.new.records e.back c.next_record.result (c.in-Some.field-0-0, c.in-Some.rec) e.coming c.next_record.ensures.walk c.in-Some.is in
     let f = exporting_there list told s c.args.first c.walk.number c.walk.records found w.0 seen c.walk.out.items e c.requires.stands w.1 some in
     record {
-      exporting = exporting_named list told s c.args.first c.walk.number c.walk.records c.next_record.new.records found w.0 seen c.walk.out.items c.put_seen.new.out.items e w.1 w.2 some (c.in_ok-put_seen.ensures f.0 f.1 f.2 e.exported);
+      exporting = exporting_named list told s c.args.first c.walk.number c.walk.records c.next_record.new.records found w.0 seen c.walk.out.items c.put_seen.new.out.items e w.1 w.2 some (c.in_ok-put_seen-in-Some-seen_in.ensures f.0 f.1 f.2 e.exported);
       layout = ap (λ (l : Layout). l.lab_len) c.next_record.ensures.layout ∙ c.walk.invariant.layout;
     }
 
