@@ -16,7 +16,7 @@ use Rattle.orca_meaning.specs.Line.{line_of}
 use Rattle.orca_meaning.specs.Token as tokens
 use Rattle.asm_meaning.specs.Constant.{Constants}
 use Rattle.asm_meaning.specs.Elements as elements
-use Rattle.asm_meaning.specs.Elements.{Element, AreElements, bytes_of_digits, packed, packed_digits, without_spaces, list_pieces}
+use Rattle.asm_meaning.specs.Elements.{bytes_of_digits, packed, packed_digits, without_spaces, list_pieces}
 use Rattle.asm_meaning.specs.Pieces.{records_of, records_behind}
 use Rattle.asm_meaning.specs.State.{State, Segment, cells_of, greatest_length, marked, in_segment}
 use Rattle.asm_meaning.specs.Statement.{IsStep, constants_of}

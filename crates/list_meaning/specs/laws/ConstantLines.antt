@@ -35,7 +35,7 @@ use Rattle.list_meaning.specs.laws.LineText.{HasNoBlank}
 use Rattle.list_meaning.specs.Listed.{statement_text}
 use Rattle.list_meaning.specs.laws.Numbers.{hexadecimal_is}
 use Rattle.list_meaning.specs.Listed as listed
-use Rattle.list_meaning.specs.Listed.{Said, Asks, Weakly, Sums, said_text, quoted, formula_text, as_operand}
+use Rattle.list_meaning.specs.Listed.{Asks, Weakly, Sums, said_text, quoted, formula_text, as_operand}
 use Rattle.list_meaning.specs.laws.FormulaLaw.{CanWrite, IsPlainName, name_read, formula_read, operator_of, sign_of}
 use Rattle.list_meaning.specs.laws.HeldLaw.{name_ink, byte_ink, start_is_byte}
 use Rattle.list_meaning.specs.laws.LineLaw.{step_of, inside, ink_of}
@@ -53,9 +53,6 @@ dc_step state s number text element contents here ink are gives room =
     (Some (element ∷ []), are, rw gives refl) room)
 
 -- ---- bytes that don't stand in a formula
-
-AllNot : (ℕ → Bool) → List ℕ → Type 0
-AllNot p text = AllByRecursion (λ byte. p byte ≡ false) text
 
 module _ (p : ℕ → Bool) (named : (byte : ℕ) → is_name_byte byte ≡ true → p byte ≡ false) (digit : (byte : ℕ) → digit_value byte < 16 → p byte ≡ false)
     (special : AllByRecursion (λ byte. p byte ≡ false) (codes "$*()")) (operator : (o : Operator) → AllByRecursion (λ byte. p byte ≡ false) (listed.operator_text (operator_code o)))

@@ -6,7 +6,7 @@ use Rattle.std.proofs.lemmas.Bool.{eqb-true, leb-true, and_parts, not-true}
 use Rattle.std.proofs.lemmas.List.Folds.{list_all-append, list_any-append}
 use Rattle.std.proofs.lemmas.Slice.Eq.{bytes_eq-Decides}
 use Rattle.omf_format.specs.Expression as expression
-use Rattle.omf_format.specs.Expression.{Term, Tree, Leaf, Unary, Binary, IsTree, terms_of, depth, operand_count, Spells}
+use Rattle.omf_format.specs.Expression.{Tree, Leaf, Unary, Binary, IsTree, terms_of, depth, operand_count}
 use Rattle.omf_format.specs.Field.{IsName}
 use Rattle.link_meaning.specs.Terms.{tree_in}
 use Rattle.link_meaning.specs.laws.TreeInLaws.{tree_in-again}

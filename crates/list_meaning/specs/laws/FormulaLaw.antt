@@ -19,7 +19,7 @@ use Rattle.orca_meaning.specs.Token as tokens
 use Rattle.orca_meaning.specs.Token.{Operand, Here, Number, Label, Token, Value, Before, Between, Opens, Closes, Found, name_at, operator_at, token_at, expects_behind, Stand}
 use Rattle.orca_meaning.specs.Formula.{sign_code, operator_code, Formula, Single, Group, Signed, Joined, level_of, IsFormula, tokens_of, tree_of, MeansAt}
 use Rattle.list_meaning.specs.laws.Numbers.{HasNoDigit, number_token}
-use Rattle.list_meaning.specs.Listed.{term_text, as_operand, formula_text}
+use Rattle.list_meaning.specs.Listed.{as_operand, formula_text}
 use Rattle.list_meaning.specs.Listed as listed
 
 -- ---- names
@@ -126,11 +126,6 @@ name_token (byte ∷ name) rest is ends =
     rw (no_open byte tail le upper, no_sign byte tail le upper, no_number byte tail le upper, no_location byte tail le upper, no_attribute byte tail (name_has_no_colon name rest is.1 ends), name_read (byte ∷ name) rest is ends) refl
 
 -- ---- operators
-
--- an operator before one operand, or between two
-pub data IsSign : ℕ → Sign → Type 0 where
-  AsNegate : IsSign 0x06 Negate
-  AsNot : IsSign 0x0B Not
 
 abbrev pub sign_of : ℕ → Sign
 sign_of code = cond (eqb code 0x06) Negate Not

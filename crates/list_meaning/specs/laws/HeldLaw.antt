@@ -19,7 +19,7 @@ use Rattle.asm_meaning.specs.declared.directives.Operation.TheVariants.{Instruct
 use Rattle.asm_meaning.specs.Constant as constant
 use Rattle.asm_meaning.specs.Constant.{Constants, Written, amount}
 use Rattle.asm_meaning.specs.Instruction as instructions
-use Rattle.asm_meaning.specs.Instruction.{Widths, Kind, instruction, kind_of, operand_bytes, operand_record, opcode_in, mode_of_tree, with_amount, with_tree, in_modes}
+use Rattle.asm_meaning.specs.Instruction.{Widths, instruction, kind_of, mode_of_tree, with_amount}
 use Rattle.asm_meaning.specs.Pieces.{records_of, records_behind}
 use Rattle.asm_meaning.specs.State.{State, Segment, cells_of, greatest_length, marked, in_segment}
 use Rattle.asm_meaning.specs.Statement.{IsStep, IsDone, IsOperandOf, Good, constants_of}
@@ -29,7 +29,7 @@ use Rattle.omf_base.specs.Digits.{hexadecimal}
 use Rattle.list_meaning.specs.laws.Numbers.{hexadecimal_is}
 use Rattle.list_meaning.specs.Listed.{number_text}
 use Rattle.list_meaning.specs.Listed as listed
-use Rattle.list_meaning.specs.Listed.{Wanted, None', Number, Banks, Label, Moved, Said, Instructs, said_text, spelling_of, wanted_text, operand_text}
+use Rattle.list_meaning.specs.Listed.{Wanted, None', Number, Banks, Label, Moved, Instructs, said_text, spelling_of, wanted_text, operand_text}
 use Rattle.list_meaning.specs.laws.FormulaLaw.{IsPlainName}
 use Rattle.list_meaning.specs.laws.Spelled.{spelled}
 use Rattle.list_meaning.specs.laws.ModeLaw.{prefix_in, one_mode, opcode_back, used_is, is_used, is_never}

@@ -1,10 +1,9 @@
 -- The law on one line, for some of the lines: as the assembler reads it, it gives what it was written for.
 use Rattle.std.proofs.Common.{◌≡◌, ℕ, ◌^◌, ◌<◌, ◌≤◌, Bool, true, false, List, [], ◌∷◌, Option, Some, Ok, refl, sym, ap, subst, ◌∙◌, arith, append-nil}
 use Rattle.std.specs.Prelude.{codes, ◌==◌, ◌||◌}
-use Rattle.std.specs.List.{AllByRecursion}
 use Rattle.std.proofs.lemmas.Bool.{le-ltb, lt-leb, eqb-true}
 use Rattle.omf_format.specs.Expression as expression
-use Rattle.omf_format.specs.Expression.{Tree, Leaf}
+use Rattle.omf_format.specs.Expression.{Leaf}
 use Rattle.omf_format.specs.Record.{Space, Const}
 use Rattle.omf_base.specs.Digits.{hexadecimal}
 use Rattle.orca_meaning.specs.declared.forms.OperandUse.{OperandUse}
@@ -28,7 +27,7 @@ use Rattle.asm_meaning.specs.Operations.{operation_of}
 use Rattle.asm_meaning.specs.State.{State, Segment, cells_of, greatest_length, marked, in_segment, is_too_long, within_length}
 use Rattle.asm_meaning.specs.Statement as statement
 use Rattle.std.specs.Option.{option_map}
-use Rattle.asm_meaning.specs.Statement.{IsDone, begins_segment, label_of, IsStep, IsKnown, IsPlaced, is_misplaced, number_in, spacing}
+use Rattle.asm_meaning.specs.Statement.{IsDone, begins_segment, label_of, IsStep, IsPlaced, is_misplaced, number_in}
 use Rattle.list_meaning.specs.laws.LineText.{IsLabelFront, IsOperation, HasNoBlank, IsTaken, laid}
 use Rattle.list_meaning.specs.Listed.{statement_text}
 use Rattle.list_meaning.specs.laws.Numbers.{number_means, hexadecimal_is}
@@ -48,7 +47,7 @@ use Rattle.asm_meaning.specs.Instruction.{Widths, instruction, offered, modes_of
 use Rattle.asm_meaning.specs.Pieces.{records_of, records_behind}
 use Rattle.asm_meaning.specs.Statement.{IsOperandOf, Good, constants_of}
 use Rattle.list_meaning.specs.Listed as listed
-use Rattle.list_meaning.specs.Listed.{Said, Spaces, Instructs, said_text, spelling_of}
+use Rattle.list_meaning.specs.Listed.{Spaces, Instructs, said_text, spelling_of}
 
 -- a line of a listing is the statement of its three fields
 pub step_of : (state : State) (number : ℕ) (label operation operand : List ℕ) (op : Operation) (answer : Answer State)

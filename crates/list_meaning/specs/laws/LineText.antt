@@ -58,9 +58,6 @@ laid_out label operation operand =
 ink_first : (byte : ℕ) (rest : List ℕ) → is_blank byte ≡ false → position_or_len is_ink (byte ∷ rest) ≡ 0
 ink_first byte rest none = rw none refl
 
-blank_then : (text : List ℕ) → position_or_len is_ink (0x20 ∷ text) ≡ 1 + position_or_len is_ink text
-blank_then text = refl
-
 drop-past : (front rest : List ℕ) (byte : ℕ) → drop (length front + 1) (front ++ byte ∷ rest) ≡ rest
 drop-past [] rest byte = refl
 drop-past (x ∷ front) rest byte = let more : length (x ∷ front) + 1 ≡ suc (length front + 1) = omega arith in ap (λ (k : ℕ). drop k (x ∷ (front ++ byte ∷ rest))) more ∙ drop-past front rest byte
@@ -177,9 +174,6 @@ index_drop (suc k) (byte ∷ bytes) = index_drop k bytes
 module _ (label operation operand : List ℕ) where
   abbrev pub whole : List ℕ
   whole = statement_text label operation operand
-
-  parted : (more : List ℕ) → statement_text label operation more ≡ (label ++ 0x20 ∷ operation) ++ spaced more
-  parted more = sym (append_assoc label (0x20 ∷ operation) (spaced more))
 
   third : (more : List ℕ) → part (statement_text label operation more) (laid_out label operation more).operand ≡ more
   third [] = ap (λ (k : ℕ). take k (drop (length label + 1 + length operation + 0) (statement_text label operation []))) none

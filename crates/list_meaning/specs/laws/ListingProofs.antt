@@ -8,7 +8,7 @@ use Rattle.omf_format.specs.Number.{IsBytes}
 use Rattle.omf_format.specs.File.{Segment, AreSegments, IsFile}
 use Rattle.omf_format.specs.Header.{Fields, is_private}
 use Rattle.omf_format.specs.Record.{Record, End}
-use Rattle.link_meaning.specs.Defines.{Definition, defined_by, defined_in, title_of, outer_scope}
+use Rattle.link_meaning.specs.Defines.{defined_by, defined_in, title_of, outer_scope}
 use Rattle.link_meaning.specs.Sizes.{Located, located_from, located, size_at}
 use Rattle.orca_meaning.specs.Line.{Line, line_of, numbered}
 use Rattle.asm_meaning.specs.Object.{AreSteps, HasLines, InLength, object_text, most_bytes}
@@ -36,9 +36,6 @@ same_told : (l at place : ℕ) (r : Record) → map (told l) (defined_by at plac
 same_told l at place (Rattle.omf_format.specs.Record.Label global name size form private) = refl
 same_told l at place (Rattle.omf_format.specs.Record.Equate global name size form private expr) = refl
 same_told l at place _ = refl
-
-by_located : Located → List Definition
-by_located r = defined_by r.at r.location r.content
 
 told_located : (l at : ℕ) (founds : List (ℕ × Record)) → map (told l) (flat_map (λ r. defined_by r.at r.location r.content) (located_from at founds)) ≡ defs_from l at (map (λ found. found.1) founds)
 told_located l at [] = refl

@@ -36,7 +36,7 @@ use Rattle.list_meaning.specs.laws.HeldLaw.{name_ink}
 use Rattle.list_meaning.specs.laws.LineLaw.{step_of, inside, number_ink, number_formula, number_there}
 use Rattle.list_meaning.specs.Listed.{number_text}
 use Rattle.list_meaning.specs.Listed as listed
-use Rattle.list_meaning.specs.Listed.{Begins, Equates, Said, Labels, Uses, Turns, Kinds, Aligns, Moves, Ends, NextAlign, NextOrg, said_text}
+use Rattle.list_meaning.specs.Listed.{Begins, Equates, Labels, Uses, Turns, Kinds, Aligns, Moves, Ends, NextAlign, NextOrg, said_text}
 
 -- ---- names
 

@@ -5,7 +5,7 @@ use Rattle.std.proofs.lemmas.Bool.{lt-ltb, lt-leb, le-leb}
 use Rattle.byteorder.specs.Endian.{little_bytes}
 use Rattle.byteorder.specs.Numbers.{length-bytes_low_first}
 use Rattle.omf_format.specs.Expression as expression
-use Rattle.omf_format.specs.Expression.{Tree, Leaf}
+use Rattle.omf_format.specs.Expression.{Leaf}
 use Rattle.omf_format.specs.Field.{◌>>=◌}
 use Rattle.omf_format.specs.Record.{Record, Const}
 use Rattle.orca_meaning.specs.declared.forms.OperandUse.{OperandUse}
@@ -22,20 +22,20 @@ use Rattle.orca_meaning.specs.declared.operators.Operands.TheVariants.{Labels}
 use Rattle.orca_meaning.specs.Formula.{MeansAt}
 use Rattle.orca_meaning.specs.Token as tokens
 use Rattle.orca_meaning.specs.Operand as operands
-use Rattle.orca_meaning.specs.Operand.{Meaning, IsGoodOperand, IsInAccumulator, IsTwo, is_accumulator, means_accumulator}
+use Rattle.orca_meaning.specs.Operand.{Meaning, IsInAccumulator, IsTwo, is_accumulator, means_accumulator}
 use Rattle.orca_meaning.specs.Operation.{use_of, operation_use}
 use Rattle.asm_meaning.specs.declared.directives.Operation.TheVariants.{Instruct}
 use Rattle.asm_meaning.specs.Constant as constant
 use Rattle.asm_meaning.specs.Constant.{Constants, Known, amount}
 use Rattle.asm_meaning.specs.Instruction as instructions
-use Rattle.asm_meaning.specs.Instruction.{Widths, instruction, kind_of, operand_bytes, opcode_in, with_amount, without_amount}
+use Rattle.asm_meaning.specs.Instruction.{Widths, instruction, kind_of, operand_bytes, with_amount, without_amount}
 use Rattle.asm_meaning.specs.Pieces.{records_of, records_behind}
 use Rattle.asm_meaning.specs.State.{State, Segment, cells_of, greatest_length, marked, in_segment}
 use Rattle.asm_meaning.specs.Statement.{IsStep, IsDone, IsOperandOf, Good, constants_of}
 use Rattle.list_meaning.specs.laws.LineText.{HasNoBlank, IsTaken}
 use Rattle.list_meaning.specs.Listed.{statement_text}
 use Rattle.list_meaning.specs.Listed as listed
-use Rattle.list_meaning.specs.Listed.{Wanted, Number, Instructs, said_text, spelling_of, operand_text}
+use Rattle.list_meaning.specs.Listed.{Number, Instructs, said_text, spelling_of, operand_text}
 use Rattle.list_meaning.specs.laws.Spelled.{spelled}
 use Rattle.list_meaning.specs.laws.ModeLaw.{accumulates, moves_alone, prefix_in, one_mode, opcode_back, used_is, is_never}
 use Rattle.list_meaning.specs.laws.OperandLaw.{TakesName, meaning_in}

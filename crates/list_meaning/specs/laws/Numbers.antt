@@ -14,7 +14,7 @@ use Rattle.list_meaning.specs.Listed.{number_text}
 use Rattle.omf_format.specs.Expression.{Leaf}
 use Rattle.orca_meaning.specs.declared.operators.Operands.TheVariants.{Labels}
 use Rattle.orca_meaning.specs.Token as tokens
-use Rattle.orca_meaning.specs.Token.{Operand, Number, Token, Value, Found, digits_at, number_at, operand_at, operand_token_at, operator_at, token_at, Stand}
+use Rattle.orca_meaning.specs.Token.{Number, Value, Found, digits_at, number_at, operand_at, operand_token_at, operator_at, token_at}
 use Rattle.orca_meaning.specs.Formula.{Single, MeansAt}
 
 -- no hexadecimal digit stands at the front

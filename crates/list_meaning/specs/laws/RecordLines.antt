@@ -6,7 +6,7 @@ use Rattle.std.specs.List.{AllByRecursion, list_all, list_any, flat_map}
 use Rattle.std.proofs.lemmas.Bool.{eqb-true, leb-true, and_parts, not-true}
 use Rattle.std.proofs.lemmas.List.Concat.{flat_map-append, flat_map-cons}
 use Rattle.omf_format.specs.Expression as expression
-use Rattle.omf_format.specs.Expression.{Tree, Leaf, Unary, Binary, IsTree, terms_of, depth, IsExpression}
+use Rattle.omf_format.specs.Expression.{Tree, Leaf, Binary, IsTree, terms_of, depth, IsExpression}
 use Rattle.omf_format.specs.Field.{Layout, is_count}
 use Rattle.omf_format.specs.Reading.{is_end}
 use Rattle.omf_format.specs.Header.{Fields, alignment_of}

@@ -25,7 +25,7 @@ use Rattle.asm_meaning.specs.Pieces.{place_behind}
 use Rattle.asm_meaning.specs.laws.PieceLaws.{all-append, place_behind-append}
 use Rattle.asm_meaning.specs.laws.ObjectFileLaws.{same_place}
 use Rattle.asm_meaning.specs.State as states
-use Rattle.asm_meaning.specs.State.{State, Segment, Ended, begun, closed, marked, cells_of, in_segment, ended_of, bank_size_of, no_names}
+use Rattle.asm_meaning.specs.State.{State, Segment, Ended, begun, closed, marked, in_segment, ended_of, bank_size_of, no_names}
 use Rattle.asm_meaning.specs.Statement.{IsStep, value_in}
 use Rattle.list_meaning.specs.Listed.{Said, NextAlign, NextOrg, Begins, Kinds, Turns, Spaces, Ends, said_text}
 use Rattle.list_meaning.specs.Listing as listing

@@ -1,24 +1,22 @@
 -- The law on one line, for DC A with a formula.
-use Rattle.std.proofs.Common.{◌≡◌, ℕ, ◌+◌, ◌^◌, ◌≤◌, Bool, true, false, cond, ltb, List, [], ◌∷◌, ◌++◌, length, take, drop, Some, None, Ok, refl, sym, ap, subst, ◌∙◌, arith, append-nil, append_assoc}
-use Rattle.std.specs.Prelude.{codes, ◌==◌, ◌||◌, nat_lt}
+use Rattle.std.proofs.Common.{◌≡◌, ℕ, ◌+◌, ◌^◌, ◌≤◌, Bool, true, false, cond, ltb, List, [], ◌∷◌, ◌++◌, length, take, drop, Some, None, Ok, refl, sym, ap, ◌∙◌, arith, append_assoc}
+use Rattle.std.specs.Prelude.{◌==◌, ◌||◌, nat_lt}
 use Rattle.std.specs.List.{AllByRecursion, list_any, position_or_len}
 use Rattle.std.proofs.lemmas.Bool.{le-ltb, lt-ltb, lt-leb}
 use Rattle.std.proofs.lemmas.List.Folds.{list_any-append}
 use Rattle.std.proofs.lemmas.List.{drop_at, take_at, length-append}
 use Rattle.omf_format.specs.Expression as expression
-use Rattle.omf_format.specs.Expression.{Tree, Leaf, Unary, Binary, terms_of, depth}
+use Rattle.omf_format.specs.Expression.{Tree, Leaf, Unary, Binary, terms_of}
 use Rattle.omf_format.specs.Field.{◌>>=◌}
 use Rattle.omf_format.specs.Record.{Formula}
-use Rattle.orca_meaning.specs.Formula.{MeansAt, pending, has_large, is_large}
-use Rattle.orca_meaning.specs.declared.operators.Operands.TheVariants.{Labels}
+use Rattle.orca_meaning.specs.Formula.{pending, has_large, is_large}
 use Rattle.orca_meaning.specs.Token as tokens
 use Rattle.asm_meaning.specs.Constant.{Constants, Worth, Number, Open, Divided, worth, worth_of_two, with_values, amount}
 use Rattle.asm_meaning.specs.Elements as elements
-use Rattle.asm_meaning.specs.Elements.{Element, AreElements, IsElementAt, IsList, list_pieces}
+use Rattle.asm_meaning.specs.Elements.{Element, list_pieces}
 use Rattle.asm_meaning.specs.Formulas.{expression_text, judged}
 use Rattle.asm_meaning.specs.Pieces.{records_of, records_behind}
-use Rattle.list_meaning.specs.laws.FormulaLaw.{CanWrite, formula_read}
-use Rattle.list_meaning.specs.Listed.{formula_text, quoted}
+use Rattle.list_meaning.specs.laws.FormulaLaw.{CanWrite}
 use Rattle.list_meaning.specs.Listing.{is_open}
 
 -- ---- what the formula is worth
@@ -117,15 +115,3 @@ closed_found front rest none = by (position_or_len (λ byte. byte == 0x27) (fron
         behind : (n : ℕ) → n ≡ length front → drop (n + 1) (front ++ 0x27 ∷ rest) ≡ rest
         behind n same =
             ap (λ (l : List ℕ). drop (n + 1) l) (sym (append_assoc front (0x27 ∷ []) rest)) ∙ drop_at (front ++ 0x27 ∷ []) rest (n + 1) (omega (arith, same, length-append front (0x27 ∷ [])))
-
--- DC A2 is a list of this one element; A1, A3 and A4 differ in the digit alone
-pub sum_read : (t : Tree) → CanWrite t → HasNoQuote (formula_text t) → AreElements (quoted (codes "A2") (formula_text t)) (element_of 2 t ∷ [])
-unfolding elements.kind_at tokens.digits_at tokens.operator_at tokens.spelled_at
-sum_read t can none = record {
-  behind_repeat = quoted (codes "A2") (formula_text t);
-  kind = elements.Number 2;
-  behind_quote = formula_text t ++ codes "'";
-  repeat = (refl, refl);
-  of_kind = refl;
-  value = (formula_text t, t ∷ [], closed_found (formula_text t) [] none, subst (λ (l : List ℕ). MeansAt Labels l t []) (append-nil (formula_text t)) (formula_read t [] can tt refl), refl);
-}

@@ -1,14 +1,11 @@
 -- From the law on one line to the whole text: its lines, its expansion, and what they leave one behind another.
-use Rattle.std.proofs.Common.{◌≡◌, ℕ, ◌+◌, ◌≤◌, List, [], ◌∷◌, length, map, Ok, refl, sym, ap, subst, ◌∙◌, append_assoc}
+use Rattle.std.proofs.Common.{◌≡◌, ℕ, ◌≤◌, List, [], ◌∷◌, length, map, refl, sym, ap, subst, ◌∙◌, append_assoc}
 use Rattle.std.specs.List.{AllByRecursion, flat_map}
 use Rattle.std.proofs.lemmas.List.Concat.{flat_map-cons}
 use Rattle.omf_format.specs.Lines.{lines_of, HasNoEnd}
 use Rattle.omf_format.specs.laws.LinesLaws.{lines_of-lf}
-use Rattle.orca_meaning.specs.Line.{line_of, numbered}
+use Rattle.orca_meaning.specs.Line.{numbered}
 use Rattle.macro_meaning.specs.Expansion.{IsExpanded}
-use Rattle.asm_meaning.specs.Object.{AreSteps, HasLines}
-use Rattle.asm_meaning.specs.State.{State, start}
-use Rattle.asm_meaning.specs.Statement.{IsStep}
 use Rattle.list_meaning.specs.laws.Expands.{IsPlainLine, plain_source_expands}
 use Rattle.list_meaning.specs.Listed.{Said, said_text, line_text, listing_text}
 
@@ -41,20 +38,3 @@ text_expands all are few =
     let same = text_lines all are in
     subst (λ (lines : List (List ℕ)). IsExpanded (listing_text all) [] (numbered 0 1 lines)) same
     (plain_source_expands (listing_text all) (subst (AllByRecursion IsPlainLine) (sym same) (plain_lines all are)) (subst (λ (n : ℕ). n ≤ 65536) (sym (ap length same ∙ length-texts all)) few))
-
--- what lines keep, one after another: with the law on one line they have no fault
-module _ (Fits : State → List Said → Type 0)
-    (step : (state : State) (said : Said) (rest : List Said) (number : ℕ) → Fits state (said ∷ rest) → (next : State) × IsStep state (line_of 0 number (said_text said)) (Ok next) × Fits next rest) where
-  pub are_steps : (state : State) (all : List Said) (number : ℕ) → Fits state all → (last : State) × AreSteps state (numbered 0 number (map said_text all)) last × Fits last []
-  unfolding numbered
-  are_steps state [] number fits = (state, refl, fits)
-  are_steps state (said ∷ all) number fits =
-      let first = step state said all number fits in
-      let others = are_steps first.0 all (number + 1) first.2 in
-      (others.0, (first.0, first.1, others.1), others.2)
-
-  -- the text of a listing has lines without fault, which leave what fits
-  pub has_lines : (all : List Said) → Fits start all → AllByRecursion IsSaidLine all → length all ≤ 65536 → (last : State) × HasLines (listing_text all) [] last × Fits last []
-  has_lines all fits are few =
-      let steps = are_steps start all 1 fits in
-      (steps.0, record { lines = numbered 0 1 (map said_text all); expanded = text_expands all are few; steps = steps.1 }, steps.2)
