@@ -1,6 +1,7 @@
 pub mod LineText
 pub mod Expands
 pub mod Numbers
+pub mod Examples
 pub mod Spelled
 pub mod FormulaLaw
 pub mod ModeLaw

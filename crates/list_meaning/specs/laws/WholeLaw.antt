@@ -1,13 +1,11 @@
 -- From the law on one line to the whole text: its lines, its expansion, and what they leave one behind another.
-use Rattle.std.proofs.Common.{◌≡◌, ℕ, ◌≤◌, List, [], ◌∷◌, length, map, Ok, refl, sym, ap, subst, ◌∙◌, append_assoc}
+use Rattle.std.proofs.Common.{◌≡◌, ℕ, ◌≤◌, List, [], ◌∷◌, length, map, refl, sym, ap, subst, ◌∙◌, append_assoc}
 use Rattle.std.specs.List.{AllByRecursion, flat_map}
 use Rattle.std.proofs.lemmas.List.Concat.{flat_map-cons}
 use Rattle.omf_format.specs.Lines.{lines_of, HasNoEnd}
 use Rattle.omf_format.specs.laws.LinesLaws.{lines_of-lf}
-use Rattle.orca_meaning.specs.Line.{line_of, numbered}
+use Rattle.orca_meaning.specs.Line.{numbered}
 use Rattle.macro_meaning.specs.Expansion.{IsExpanded}
-use Rattle.asm_meaning.specs.State.{State}
-use Rattle.asm_meaning.specs.Statement.{IsStep}
 use Rattle.list_meaning.specs.laws.Expands.{IsPlainLine, plain_source_expands}
 use Rattle.list_meaning.specs.Listed.{Said, said_text, line_text, listing_text}
 
@@ -40,7 +38,3 @@ text_expands all are few =
     let same = text_lines all are in
     subst (λ (lines : List (List ℕ)). IsExpanded (listing_text all) [] (numbered 0 1 lines)) same
     (plain_source_expands (listing_text all) (subst (AllByRecursion IsPlainLine) (sym same) (plain_lines all are)) (subst (λ (n : ℕ). n ≤ 65536) (sym (ap length same ∙ length-texts all)) few))
-
--- what lines keep, one after another: with the law on one line they have no fault
-module _ (Fits : State → List Said → Type 0)
-    (step : (state : State) (said : Said) (rest : List Said) (number : ℕ) → Fits state (said ∷ rest) → (next : State) × IsStep state (line_of 0 number (said_text said)) (Ok next) × Fits next rest) where
