@@ -1,5 +1,5 @@
 -- What a program exports, definition by definition.
-use Rattle.std.proofs.Common.{◌≡◌, ◌⊎◌, inl, inr, ℕ, zero, suc, ◌+◌, ◌≤◌, ◌<◌, Bool, true, false, not, eqb, cond, List, [], ◌∷◌, ◌++◌, length, take, Option, Some, None, Result, Ok, Err, refl, sym, ap, subst, ◌∙◌, append_assoc, append-nil, arith}
+use Rattle.std.proofs.Common.{◌≡◌, ℕ, zero, suc, ◌+◌, ◌≤◌, ◌<◌, Bool, true, false, not, eqb, cond, List, [], ◌∷◌, ◌++◌, length, take, Some, None, Result, Ok, Err, refl, sym, ap, subst, ◌∙◌, append_assoc, append-nil, arith}
 use Rattle.std.specs.Prelude.{slice_get, option_map, ◌&&◌}
 use Rattle.std.specs.List.{flat_map}
 use Rattle.std.proofs.lemmas.Bool.{false≢true}
@@ -23,15 +23,15 @@ use Rattle.link_resolve.specs.Outside.{all_found}
 use Rattle.link_emit.specs.declared.slots.Slot.{Slot}
 use Rattle.link_emit.specs.Slots.{AreSlots}
 use Rattle.link_meaning.specs.Layout.{load_headers}
-use Rattle.link_meaning.specs.LinkValues.{Told, found_value, if_ok, label_value}
+use Rattle.link_meaning.specs.LinkValues.{Told, found_value, if_ok}
 use Rattle.link_meaning.specs.LinkWritten.{export_at, export_of, exports, exports_for}
 use Rattle.link_resolve.specs.Coming.{Coming}
 use Rattle.link_resolve.specs.Linked.{member_at}
 use Rattle.link_emit.specs.Images.{spelled}
 use Rattle.link_emit.specs.Circulars.{defined_so_far, CountsTo}
-use Rattle.link_emit.specs.Exported.{is_public, SeenName, IsSeen, DefinesSeen, entry_with, IsExported, StandsBefore, Exporting, ExportsTo}
+use Rattle.link_emit.specs.Exported.{is_public, SeenName, IsSeen, DefinesSeen, IsExported, StandsBefore, Exporting, ExportsTo}
 use Rattle.link_emit.proofs.LocatedLaws.{one_located}
-use Rattle.link_emit.proofs.CircularLaws.{of_located, so_far-more, so_far-all, get_at, title_empty, entries-append, member_size, counts_there, segment_is}
+use Rattle.link_emit.proofs.CircularLaws.{of_located, so_far-more, so_far-all, get_at, entries-append, member_size, counts_there, segment_is}
 use Rattle.link_emit.proofs.FileFacts.{parts_there}
 
 -- ---- who sees a name

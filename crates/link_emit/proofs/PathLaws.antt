@@ -1,7 +1,6 @@
 -- The pathname segment.
-use Rattle.std.proofs.Common.{◌≡◌, ℕ, zero, suc, ◌+◌, ◌-◌, ◌<◌, ◌≤◌, List, [], ◌∷◌, ◌++◌, length, map, drop, replicate, Option, Some, None, refl, sym, ap, subst, ◌∙◌, append_assoc, append-nil, arith}
+use Rattle.std.proofs.Common.{◌≡◌, ℕ, zero, suc, ◌+◌, ◌<◌, ◌≤◌, List, [], ◌∷◌, ◌++◌, length, map, drop, replicate, Some, None, refl, sym, ap, ◌∙◌, append_assoc, append-nil, arith}
 use Rattle.std.specs.Prelude.{slice_get, option_map, codes}
-use Rattle.std.specs.List.{AllByRecursion}
 use Rattle.std.proofs.lemmas.List.{length-append, length-map}
 use Rattle.std.proofs.lemmas.Option.{slice_get-map}
 use Rattle.byteorder.specs.Endian.{little_bytes}
@@ -10,7 +9,7 @@ use Rattle.omf_format.specs.Field.{written_layout}
 use Rattle.omf_format.specs.Header.{Fields, IsWritable, header_bytes}
 use Rattle.omf_format.specs.laws.WrittenHeaderLaws.{length-header}
 use Rattle.omf_format.specs.Record.{LongConst, spelling}
-use Rattle.load_meaning.specs.Pathnames.{IsPath, rows_text, paths_text, most_paths}
+use Rattle.load_meaning.specs.Pathnames.{rows_text, paths_text}
 use Rattle.load_meaning.specs.WrittenFile.{image_records, image_body, image_text, file_text, table_fields, pathnames_fields, pathnames_image}
 use Rattle.load_meaning.specs.laws.WrittenPathLaws.{length-paths_text}
 use Rattle.link_meaning.specs.Member.{RuntimeFile, Member, setting_in}

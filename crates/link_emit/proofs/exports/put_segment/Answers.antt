@@ -1,4 +1,4 @@
-use Rattle.std.proofs.Common.{◌≡◌, ◌+◌, ◌≤◌, ◌∷◌, [], ℕ, refl, ap, subst, ◌∙◌, arith}
+use Rattle.std.proofs.Common.{ℕ, ap, subst, ◌∙◌, arith}
 use Rattle.omf_format.specs.Field.{Layout, IsName}
 use Rattle.omf_format.specs.Record.{Record}
 use Rattle.omf_records.specs.Segments.{shown}
@@ -42,7 +42,7 @@ overflow_add-number c =
     let e = c.walk.invariant.exporting in
     let w = found_next c.walk.records c.next_record.new.records e.back c.next_record.result (c.in-Some.field-0-0, c.in-Some.rec) e.coming c.next_record.ensures.walk c.in-Some.is in
     let f = exporting_there list (rows_of (all_found list) c.args.whole.now.slots.now) (shown c.args.segment.now) c.args.first c.walk.number c.walk.records (c.in-Some.field-0-0, view c.in-Some.rec) w.0 (seen_name c.in-Some-seen_in.seen) c.walk.out.items e
-        c.requires.stands w.1 (λ loc. c.in-Some-seen_in.ensures c.in-Some.field-0-0 loc) in
+    c.requires.stands w.1 (λ loc. c.in-Some-seen_in.ensures c.in-Some.field-0-0 loc) in
     omega (arith, number_fits list c.args.whole.now.slots.now c.walk.number f.0 c.requires.whole.known.are f.1)
 
 pub walk-preserved-in-Some-seen_in : goal.walk-preserved-in-Some-seen_in
