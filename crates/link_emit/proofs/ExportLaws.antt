@@ -15,7 +15,7 @@ use Rattle.omf_format.specs.declared.value.ValueFault.{ValueFault}
 use Rattle.omf_format.specs.File.{Segment}
 use Rattle.link_meaning.specs.Member.{Member, setting_in, form_in}
 use Rattle.link_meaning.specs.declared.form.LinkForm.{LinkForm}
-use Rattle.link_meaning.specs.declared.form.LinkForm.TheVariants.{Program, Runtime as LibraryForm}
+use Rattle.link_meaning.specs.declared.form.LinkForm.TheVariants.{Runtime as LibraryForm}
 use Rattle.link_meaning.specs.Sizes.{size_at, located_from, place_behind}
 use Rattle.link_meaning.specs.Defines.{Scope, ForSegment, ForUnit, ForAll, Definition, outer_scope, scope_of, title_of, defined_by, defined_in}
 use Rattle.link_meaning.specs.Search.{Found, entries_from, entries, outside}
@@ -270,12 +270,6 @@ module _ (list : List Member) (told : List Told) (place number : ℕ) (out : Lis
   there : member_at list (place + 1) ≡ Some next.0
   there = ap (λ (n : ℕ). member_at list (n + 1)) e.place' ∙ parts_there list e.front next.0 next.1 parts
 
-  pub no_segment : None ≡ option_map (λ (o : Member). o.segment) (member_at list (place + 1)) → ⊥
-  no_segment is = none_some next.0.segment (is ∙ ap (option_map (λ (o : Member). o.segment)) there)
-    where
-      none_some : (s : Segment) → None ≡ Some s → ⊥
-      none_some s e = cc
-
   pub stands_before : (s : Segment) → Some s ≡ option_map (λ (o : Member). o.segment) (member_at list (place + 1)) → StandsBefore list s number
   stands_before s is = record {
     front = e.front;
@@ -318,6 +312,3 @@ exports_all list told place number out e past form =
     all [] (suc n) is = refl
     all (f ∷ fs) zero is = absurd (omega (arith, is))
     all (f ∷ fs) (suc n) is = ap (λ (l : List Found). f ∷ l) (all fs n (omega (arith, is)))
-
-pub no_exports : (list : List Member) (told : List Told) (out : List ℕ) → out ≡ [] → form_in list ≡ Program → out ≡ spelled (exports_for (form_in list) 1 (exports list told))
-no_exports list told out none form = none ∙ ap (λ (f : LinkForm). spelled (exports_for f 1 (exports list told))) (sym form)
