@@ -1,10 +1,9 @@
 -- All that a name can find: what members define, and behind it what run-time library files export, none of which is an equate.
-use Rattle.std.proofs.Common.{◌≡◌, ◌⊎◌, inl, inr, ℕ, zero, suc, ◌+◌, Bool, true, false, eqb, cond, List, [], ◌∷◌, ◌++◌, length, Option, Some, None, refl, sym, ap, ◌∙◌, arith}
+use Rattle.std.proofs.Common.{◌≡◌, ◌⊎◌, inl, inr, ℕ, zero, suc, ◌+◌, Bool, true, false, cond, List, [], ◌∷◌, ◌++◌, Option, Some, None, refl, sym, ap, ◌∙◌}
 use Rattle.std.specs.Prelude.{slice_get, filter, filter_map, option_map}
 use Rattle.std.specs.List.{AllByRecursion, cons_option}
 use Rattle.std.proofs.lemmas.Bool.{eq-eqb, ne_eqb}
 use Rattle.omf_format.specs.File.{Segment, segment_at}
-use Rattle.omf_format.specs.declared.value.Value.{Value}
 use Rattle.load_meaning.specs.Exports.{Export, exports_of}
 use Rattle.link_meaning.specs.First.{IsIn}
 use Rattle.link_meaning.specs.Member.{RuntimeFile, Setting, alone, Member, setting_in}

@@ -1,5 +1,5 @@
 -- What a program exports, definition by definition.
-use Rattle.std.proofs.Common.{◌≡◌, ◌⊎◌, inl, inr, ℕ, zero, suc, ◌+◌, ◌≤◌, ◌<◌, Bool, true, false, not, eqb, cond, List, [], ◌∷◌, ◌++◌, length, take, Option, Some, None, Result, Ok, Err, refl, sym, ap, subst, ◌∙◌, append_assoc, append-nil, arith}
+use Rattle.std.proofs.Common.{◌≡◌, ℕ, zero, suc, ◌+◌, ◌≤◌, ◌<◌, Bool, true, false, not, eqb, cond, List, [], ◌∷◌, ◌++◌, length, take, Some, None, Result, Ok, Err, refl, sym, ap, subst, ◌∙◌, append_assoc, append-nil, arith}
 use Rattle.std.specs.Prelude.{slice_get, option_map, ◌&&◌}
 use Rattle.std.specs.List.{flat_map}
 use Rattle.std.proofs.lemmas.Bool.{false≢true}
@@ -15,7 +15,7 @@ use Rattle.omf_format.specs.declared.value.ValueFault.{ValueFault}
 use Rattle.omf_format.specs.File.{Segment}
 use Rattle.link_meaning.specs.Member.{Member, setting_in, form_in}
 use Rattle.link_meaning.specs.declared.form.LinkForm.{LinkForm}
-use Rattle.link_meaning.specs.declared.form.LinkForm.TheVariants.{Program, Runtime as LibraryForm}
+use Rattle.link_meaning.specs.declared.form.LinkForm.TheVariants.{Runtime as LibraryForm}
 use Rattle.link_meaning.specs.Sizes.{size_at, located_from, place_behind}
 use Rattle.link_meaning.specs.Defines.{Scope, ForSegment, ForUnit, ForAll, Definition, outer_scope, scope_of, title_of, defined_by, defined_in}
 use Rattle.link_meaning.specs.Search.{Found, entries_from, entries, outside}
@@ -23,15 +23,15 @@ use Rattle.link_resolve.specs.Outside.{all_found}
 use Rattle.link_emit.specs.declared.slots.Slot.{Slot}
 use Rattle.link_emit.specs.Slots.{AreSlots}
 use Rattle.link_meaning.specs.Layout.{load_headers}
-use Rattle.link_meaning.specs.LinkValues.{Told, found_value, if_ok, label_value}
+use Rattle.link_meaning.specs.LinkValues.{Told, found_value, if_ok}
 use Rattle.link_meaning.specs.LinkWritten.{export_at, export_of, exports, exports_for}
 use Rattle.link_resolve.specs.Coming.{Coming}
 use Rattle.link_resolve.specs.Linked.{member_at}
 use Rattle.link_emit.specs.Images.{spelled}
 use Rattle.link_emit.specs.Circulars.{defined_so_far, CountsTo}
-use Rattle.link_emit.specs.Exported.{is_public, SeenName, IsSeen, DefinesSeen, entry_with, IsExported, StandsBefore, Exporting, ExportsTo}
+use Rattle.link_emit.specs.Exported.{is_public, SeenName, IsSeen, DefinesSeen, IsExported, StandsBefore, Exporting, ExportsTo}
 use Rattle.link_emit.proofs.LocatedLaws.{one_located}
-use Rattle.link_emit.proofs.CircularLaws.{of_located, so_far-more, so_far-all, get_at, title_empty, entries-append, member_size, counts_there, segment_is}
+use Rattle.link_emit.proofs.CircularLaws.{of_located, so_far-more, so_far-all, get_at, entries-append, member_size, counts_there, segment_is}
 use Rattle.link_emit.proofs.FileFacts.{parts_there}
 
 -- ---- who sees a name
@@ -270,12 +270,6 @@ module _ (list : List Member) (told : List Told) (place number : ℕ) (out : Lis
   there : member_at list (place + 1) ≡ Some next.0
   there = ap (λ (n : ℕ). member_at list (n + 1)) e.place' ∙ parts_there list e.front next.0 next.1 parts
 
-  pub no_segment : None ≡ option_map (λ (o : Member). o.segment) (member_at list (place + 1)) → ⊥
-  no_segment is = none_some next.0.segment (is ∙ ap (option_map (λ (o : Member). o.segment)) there)
-    where
-      none_some : (s : Segment) → None ≡ Some s → ⊥
-      none_some s e = cc
-
   pub stands_before : (s : Segment) → Some s ≡ option_map (λ (o : Member). o.segment) (member_at list (place + 1)) → StandsBefore list s number
   stands_before s is = record {
     front = e.front;
@@ -318,6 +312,3 @@ exports_all list told place number out e past form =
     all [] (suc n) is = refl
     all (f ∷ fs) zero is = absurd (omega (arith, is))
     all (f ∷ fs) (suc n) is = ap (λ (l : List Found). f ∷ l) (all fs n (omega (arith, is)))
-
-pub no_exports : (list : List Member) (told : List Told) (out : List ℕ) → out ≡ [] → form_in list ≡ Program → out ≡ spelled (exports_for (form_in list) 1 (exports list told))
-no_exports list told out none form = none ∙ ap (λ (f : LinkForm). spelled (exports_for f 1 (exports list told))) (sym form)

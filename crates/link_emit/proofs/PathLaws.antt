@@ -1,7 +1,6 @@
 -- The pathname segment.
-use Rattle.std.proofs.Common.{◌≡◌, ℕ, zero, suc, ◌+◌, ◌-◌, ◌<◌, ◌≤◌, List, [], ◌∷◌, ◌++◌, length, map, drop, replicate, Option, Some, None, refl, sym, ap, subst, ◌∙◌, append_assoc, append-nil, arith}
+use Rattle.std.proofs.Common.{◌≡◌, ℕ, zero, suc, ◌+◌, ◌<◌, ◌≤◌, List, [], ◌∷◌, ◌++◌, length, map, replicate, Some, None, refl, sym, ap, ◌∙◌, append_assoc, append-nil, arith}
 use Rattle.std.specs.Prelude.{slice_get, option_map, codes}
-use Rattle.std.specs.List.{AllByRecursion}
 use Rattle.std.proofs.lemmas.List.{length-append, length-map}
 use Rattle.std.proofs.lemmas.Option.{slice_get-map}
 use Rattle.byteorder.specs.Endian.{little_bytes}
@@ -10,7 +9,7 @@ use Rattle.omf_format.specs.Field.{written_layout}
 use Rattle.omf_format.specs.Header.{Fields, IsWritable, header_bytes}
 use Rattle.omf_format.specs.laws.WrittenHeaderLaws.{length-header}
 use Rattle.omf_format.specs.Record.{LongConst, spelling}
-use Rattle.load_meaning.specs.Pathnames.{IsPath, rows_text, paths_text, most_paths}
+use Rattle.load_meaning.specs.Pathnames.{rows_text, paths_text}
 use Rattle.load_meaning.specs.WrittenFile.{image_records, image_body, image_text, file_text, table_fields, pathnames_fields, pathnames_image}
 use Rattle.load_meaning.specs.laws.WrittenPathLaws.{length-paths_text}
 use Rattle.link_meaning.specs.Member.{RuntimeFile, Member, setting_in}
@@ -25,10 +24,6 @@ use Rattle.link_emit.proofs.FileLaws.{text_one}
 
 pub paths_known : (list : List Member) → IsOfFiles list → HasPaths list
 paths_known list of = has_paths of.given list of.bytes of.resolved.program
-
-pub no_rows : paths_text [] ≡ rows_text 2 []
-unfolding paths_text
-no_rows = refl
 
 pub rows_all : (paths : List (List ℕ)) → rows_text 2 paths ≡ paths_text paths
 unfolding paths_text
@@ -55,17 +50,6 @@ row_more number path out new all left more is put whole =
     ∙ ap (λ (l : List ℕ). out ++ l) (append_assoc (little_bytes 2 number) (zeros ++ (length path ∷ path)) rest ∙ ap (λ (l : List ℕ). little_bytes 2 number ++ l) (append_assoc zeros (length path ∷ path) rest))
     ∙ ap (λ (l : List (List ℕ)). out ++ rows_text number l) (sym is)
     ∙ whole
-
--- behind the last stands the number 0
-pub rows_end : (number place : ℕ) (out new all : List ℕ) (paths : List (List ℕ)) → length paths ≤ place → new ≡ out ++ 0 ∷ 0 ∷ [] → out ++ rows_text number (drop place paths) ≡ all → new ≡ all
-rows_end number place out new all paths past put whole =
-    put ∙ ap (λ (l : List (List ℕ)). out ++ rows_text number l) (sym (none paths place past)) ∙ whole
-  where
-    none : (l : List (List ℕ)) (k : ℕ) → length l ≤ k → drop k l ≡ []
-    none [] zero le = refl
-    none [] (suc k) le = refl
-    none (x ∷ l) zero le = absurd (omega (arith, le))
-    none (x ∷ l) (suc k) le = none l k (omega (arith, le))
 
 pub no_paths : (rs : List RuntimeFile) → length (map (λ (r : RuntimeFile). r.path) rs) ≡ length rs
 no_paths rs = length-map rs (λ (r : RuntimeFile). r.path)

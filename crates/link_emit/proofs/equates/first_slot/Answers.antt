@@ -1,5 +1,4 @@
-use Rattle.std.proofs.Common.{◌≡◌, pos, ℕ, refl, sym, ap, ◌∙◌}
-use Rattle.omf_format.specs.declared.value.Value.TheVariants.{At}
+use Rattle.std.proofs.Common.{◌≡◌, ℕ, sym, ap, ◌∙◌}
 use Rattle.link_meaning.specs.LinkValues.{place_value}
 use Rattle.link_resolve.specs.Programs.{ToldSymbol}
 use Rattle.link_emit.proofs.AllFound.{inside_place, inside_label, outside_label}

@@ -1,4 +1,4 @@
-use Rattle.std.proofs.Common.{Some, [], ◌∷◌, refl, sym, ap, ◌∙◌}
+use Rattle.std.proofs.Common.{[], ◌∷◌, ap, ◌∙◌}
 use Rattle.link_meaning.specs.LinkValues.{found_value}
 use Rattle.link_meaning.specs.LinkWritten.{export_at}
 use Rattle.link_emit.specs.Slots.{rows_of}

@@ -1,4 +1,4 @@
-use Rattle.std.proofs.Common.{◌+◌, ◌++◌, ◌<◌, ℕ, List, length, refl, sym, ap, subst, ◌∙◌, arith}
+use Rattle.std.proofs.Common.{◌+◌, ◌++◌, ◌<◌, ℕ, List, length, ap, subst, ◌∙◌, arith}
 use Rattle.load_meaning.specs.WrittenFile.{file_text}
 use Rattle.link_meaning.specs.Member.{setting_in, form_in}
 use Rattle.link_meaning.specs.LinkWritten.{exports, exports_for}

@@ -1,9 +1,8 @@
-use Rattle.std.proofs.Common.{◌≡◌, ◌+◌, ◌<◌, ◌≤◌, [], List, Vec, Global, length, map, refl, sym, ap, subst, arith, ◌∙◌}
+use Rattle.std.proofs.Common.{List, sym, subst, arith}
 use Rattle.lib_dict.specs.declared.member.Member.{Member}
 use Rattle.link_meaning.specs.declared.form.LinkForm.TheVariants.{Program}
-use Rattle.link_meaning.specs.LinkFaults.{Given}
 use Rattle.link_meaning.specs.EmitFaults.{IsLinkedTo}
-use Rattle.link_resolve.specs.Resolved.{all_bytes, given_of, FewGiven, HavePaths}
+use Rattle.link_resolve.specs.Resolved.{given_of, FewGiven, HavePaths}
 use Rattle.link_emit.specs.Answers.{IsLinkRefused}
 use Rattle.link_emit.proofs.linking.link.Goals as goal
 

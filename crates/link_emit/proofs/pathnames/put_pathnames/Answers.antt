@@ -1,4 +1,4 @@
-use Rattle.std.proofs.Common.{◌≡◌, ◌≤◌, length, sym, ap, subst, ◌∙◌, arith}
+use Rattle.std.proofs.Common.{◌≡◌, length, sym, ap, subst, ◌∙◌, arith}
 use Rattle.omf_format.specs.Header.{Fields, IsWritable}
 use Rattle.omf_header.specs.View.{fields}
 use Rattle.load_meaning.specs.WrittenFile.{image_text, file_text}

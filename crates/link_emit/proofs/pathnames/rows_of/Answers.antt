@@ -1,10 +1,10 @@
-use Rattle.std.proofs.Common.{◌≡◌, ◌+◌, ◌++◌, ◌∷◌, ◌<◌, ◌≤◌, ℕ, List, length, drop, replicate, sym, ap, ◌∙◌, arith}
+use Rattle.std.proofs.Common.{◌≡◌, ◌+◌, ◌++◌, ◌∷◌, ℕ, List, length, drop, replicate, ap, ◌∙◌, arith}
 use Rattle.byteorder.specs.Endian.{little_bytes}
 use Rattle.load_meaning.specs.Pathnames.{rows_text, paths_text}
 use Rattle.link_meaning.specs.Member.{setting_in}
 use Rattle.link_emit.specs.Paths.{paths_of}
 use Rattle.link_emit.proofs.ImageLaws.{drop_next}
-use Rattle.link_emit.proofs.PathLaws.{paths_known, rows_all, path_there, path_gone, row_more, rows_end, no_paths}
+use Rattle.link_emit.proofs.PathLaws.{paths_known, rows_all, path_there, path_gone, row_more}
 use Rattle.link_emit.proofs.pathnames.rows_of.Goals as goal
 
 pub rows-init : goal.rows-init

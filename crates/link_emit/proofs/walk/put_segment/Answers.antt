@@ -1,4 +1,4 @@
-use Rattle.std.proofs.Common.{◌+◌, ◌-◌, ◌++◌, ℕ, length, subst, arith}
+use Rattle.std.proofs.Common.{◌-◌, ◌++◌, ℕ, length, subst, arith}
 use Rattle.omf_records.specs.Segments.{shown}
 use Rattle.link_resolve.specs.Outside.{all_found}
 use Rattle.link_meaning.specs.LinkedCells.{zeros}
