@@ -46,18 +46,6 @@ no_file_left paths files i members rest p none =
     sym (p.whole ∙ ap (λ (l : List (Vec ℕ Global)). files_of members ++ under_paths (drop i (words_of paths)) (all_bytes l)) none
     ∙ ap (λ (l : List (List ℕ × List ℕ)). files_of members ++ l) (none_of (drop i (words_of paths))) ∙ append-nil (files_of members))
 
-past_paths : (paths : List (String Global)) (i : ℕ) → length paths ≡ i → drop i (words_of paths) ≡ []
-past_paths [] zero is = refl
-past_paths [] (suc i) is = absurd (omega arith)
-past_paths (p ∷ paths) zero is = absurd (omega arith)
-past_paths (p ∷ paths) (suc i) is = past_paths paths i (omega arith)
-
--- no path is left
-pub no_path_left : (paths : List (String Global)) (files : List (Vec ℕ Global)) (i : ℕ) (members : List Member) (rest : List (Vec ℕ Global)) → Passed paths files i members rest → length paths ≡ i
-    → files_of members ≡ under_paths (words_of paths) (all_bytes files)
-no_path_left paths files i members rest p end =
-    sym (p.whole ∙ ap (λ (l : List (List ℕ)). files_of members ++ under_paths l (all_bytes rest)) (past_paths paths i end) ∙ append-nil (files_of members))
-
 -- nothing is left where no more comes
 pub nothing_left : (rest : List (Vec ℕ Global)) (n : ℕ) (some : Type 0) → some ↔ (0 < n) → (some → ⊥) → length rest ≡ n → rest ≡ []
 nothing_left [] n some is none size = refl
