@@ -16,20 +16,20 @@ use Rattle.omf_cli.proofs.Libraries.{few_paths}
 abbrev pub AreRuntimes : List (List ℕ) → Type 0
 AreRuntimes runtimes = IsTrue (are_paths 1 16 runtimes) × IsTrue (are_printing runtimes)
 
--- the inputs of `link`, `rtl` and `lib` are 1 to 255 paths, those of `linkrt` 2 to 255, of which the last are run-time library files, and the
+-- `dump`, `list` and `compact` have one input, the inputs of `link`, `rtl` and `lib` are 1 to 255 paths, those of `linkrt` 2 to 255, of which the last are run-time library files, and the
 -- count of `stress` is 1 to 64
 abbrev HasPaths : Option Form → Type 0
 HasPaths None = Unit {0}
 HasPaths (Some (Asm source output macros)) = Unit {0}
 HasPaths (Some (Link output inputs)) = IsTrue (are_paths 1 255 inputs)
-HasPaths (Some (Dump inputs)) = Unit {0}
+HasPaths (Some (Dump inputs)) = length inputs ≡ 1
 HasPaths (Some (Run inputs)) = Unit {0}
 HasPaths (Some (Lib output inputs)) = IsTrue (are_paths 1 255 inputs)
 HasPaths (Some (Stress n seed)) = (1 ≤ n) × (n ≤ 64)
 HasPaths (Some (Rtl output inputs)) = IsTrue (are_paths 1 255 inputs)
 HasPaths (Some (LinkRt output inputs runtimes)) = IsTrue (are_paths 2 255 inputs) × AreRuntimes runtimes
-HasPaths (Some (Listing output inputs)) = Unit {0}
-HasPaths (Some (Compact output inputs)) = Unit {0}
+HasPaths (Some (Listing output inputs)) = length inputs ≡ 1
+HasPaths (Some (Compact output inputs)) = length inputs ≡ 1
 
 abbrev ArePaths : Option (List ℕ × List (List ℕ)) → Type 0
 ArePaths None = Unit {0}
@@ -63,9 +63,15 @@ of_rtl : (found : Option (List ℕ × List (List ℕ))) → ArePaths found → H
 of_rtl None are = tt
 of_rtl (Some w) are = are
 
-of_dump : (found : Option (List (List ℕ))) → HasPaths (option_map Dump found)
-of_dump None = tt
-of_dump (Some inputs) = tt
+of_dump : (words : List (List ℕ)) → HasPaths (option_map Dump (inputs_only 1 1 words))
+of_dump words = by_test (are_paths 1 1 words) refl
+  where
+    by_test : (b : Bool) → are_paths 1 1 words ≡ b → HasPaths (option_map Dump (cond b (Some words) None))
+    by_test false is = tt
+    by_test true is =
+        let counts = (and_parts (nat_le 1 (length words) && nat_le (length words) 1) (list_all is_path words) is).0 in
+        let both = and_parts (nat_le 1 (length words)) (nat_le (length words) 1) counts in
+        omega (arith, leb-true 1 (length words) both.0, leb-true (length words) 1 both.1)
 
 of_run : (found : Option (List (List ℕ))) → HasPaths (option_map Run found)
 of_run None = tt
@@ -153,27 +159,39 @@ of_linkrt (output ∷ count ∷ inputs) = go (short_number_between 1 16 count) (
     go None are = tt
     go (Some n) are = by_test n (is_path output && are_paths 2 255 inputs) are refl
 
-of_listing : (found : Option (List ℕ × List (List ℕ))) → HasPaths (option_map (λ (w : List ℕ × List (List ℕ)). Listing w.0 w.1) found)
-of_listing None = tt
-of_listing (Some w) = tt
+of_listing : (words : List (List ℕ)) → HasPaths (option_map (λ (w : List ℕ × List (List ℕ)). Listing w.0 w.1) (input_and_output words))
+of_listing [] = tt
+of_listing (input ∷ []) = tt
+of_listing (input ∷ output ∷ []) = by_test (is_path input && is_path output)
+  where
+    by_test : (b : Bool) → HasPaths (option_map (λ (w : List ℕ × List (List ℕ)). Listing w.0 w.1) (cond b (Some (output, input ∷ [])) None))
+    by_test true = refl
+    by_test false = tt
+of_listing (input ∷ output ∷ other ∷ words) = tt
 
-of_compact : (found : Option (List ℕ × List (List ℕ))) → HasPaths (option_map (λ (w : List ℕ × List (List ℕ)). Compact w.0 w.1) found)
-of_compact None = tt
-of_compact (Some w) = tt
+of_compact : (words : List (List ℕ)) → HasPaths (option_map (λ (w : List ℕ × List (List ℕ)). Compact w.0 w.1) (input_and_output words))
+of_compact [] = tt
+of_compact (input ∷ []) = tt
+of_compact (input ∷ output ∷ []) = by_test (is_path input && is_path output)
+  where
+    by_test : (b : Bool) → HasPaths (option_map (λ (w : List ℕ × List (List ℕ)). Compact w.0 w.1) (cond b (Some (output, input ∷ [])) None))
+    by_test true = refl
+    by_test false = tt
+of_compact (input ∷ output ∷ other ∷ words) = tt
 
 paths_in : (words : List (List ℕ)) → HasPaths (form_of words)
 paths_in [] = tt
 paths_in (name ∷ words) =
     either (bytes_eq name (codes "asm")) _ _ (of_asm (source_and_output words))
     (either (bytes_eq name (codes "link")) _ _ (of_link (with_output 1 255 words) (paths_behind words))
-    (either (bytes_eq name (codes "dump")) _ _ (of_dump (inputs_only 1 1 words))
+    (either (bytes_eq name (codes "dump")) _ _ (of_dump words)
     (either (bytes_eq name (codes "run")) _ _ (of_run (inputs_only 1 1 words))
     (either (bytes_eq name (codes "lib")) _ _ (of_lib (with_output 1 255 words) (paths_behind words))
     (either (bytes_eq name (codes "stress")) _ _ (of_stress words)
     (either (bytes_eq name (codes "rtl")) _ _ (of_rtl (with_output 1 255 words) (paths_behind words))
     (either (bytes_eq name (codes "linkrt")) _ _ (of_linkrt words)
-    (either (bytes_eq name (codes "list")) _ _ (of_listing (input_and_output words))
-    (either (bytes_eq name (codes "compact")) _ _ (of_compact (input_and_output words)) tt)))))))))
+    (either (bytes_eq name (codes "list")) _ _ (of_listing words)
+    (either (bytes_eq name (codes "compact")) _ _ (of_compact words) tt)))))))))
 
 -- `lib` has 1 to 255 paths
 pub lib_paths : (words : List (List ℕ)) (output : List ℕ) (inputs : List (List ℕ)) → Some (Lib output inputs) ≡ form_of words → IsTrue (are_paths 1 255 inputs)
@@ -203,3 +221,19 @@ linkrt_few words output inputs runtimes is =
     let counts = (and_parts (nat_le 2 (length (words_of inputs)) && nat_le (length (words_of inputs)) 255) (list_all is_path (words_of inputs)) are.0).0 in
     let few = leb-true (length (words_of inputs)) 255 (and_parts (nat_le 2 (length (words_of inputs))) (nat_le (length (words_of inputs)) 255) counts).1 in
     (omega (arith, few, length-map inputs string_bytes), are.1)
+
+-- `dump`, `list` and `compact` have one input
+pub dump_few : (words : List (List ℕ)) (inputs : List (String Global)) → Some (Dump (words_of inputs)) ≡ form_of words → length inputs ≤ 255
+dump_few words inputs is =
+    let one : length (words_of inputs) ≡ 1 = subst HasPaths (sym is) (paths_in words) in
+    omega (arith, one, length-map inputs string_bytes)
+
+pub list_few : (words : List (List ℕ)) (output : List ℕ) (inputs : List (String Global)) → Some (Listing output (words_of inputs)) ≡ form_of words → length inputs ≤ 255
+list_few words output inputs is =
+    let one : length (words_of inputs) ≡ 1 = subst HasPaths (sym is) (paths_in words) in
+    omega (arith, one, length-map inputs string_bytes)
+
+pub compact_few : (words : List (List ℕ)) (output : List ℕ) (inputs : List (String Global)) → Some (Compact output (words_of inputs)) ≡ form_of words → length inputs ≤ 255
+compact_few words output inputs is =
+    let one : length (words_of inputs) ≡ 1 = subst HasPaths (sym is) (paths_in words) in
+    omega (arith, one, length-map inputs string_bytes)

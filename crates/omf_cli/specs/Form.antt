@@ -56,6 +56,14 @@ abbrev pub input_and_output : List (List ℕ) → Option (List ℕ × List (List
 input_and_output (input ∷ output ∷ []) = if is_path input && is_path output then Some (output, input ∷ []) else None
 input_and_output _ = None
 
+-- behind `rtl`, `linkrt`, `list` and `compact`
+abbrev pub later_form : List ℕ → List (List ℕ) → Option Form
+later_form name words =
+    if bytes_eq name (codes "rtl") then option_map (λ w. Rtl w.0 w.1) (with_output 1 255 words)
+    else (if bytes_eq name (codes "linkrt") then option_map (λ w. LinkRt w.0 w.1 w.2) (output_and_runtimes words)
+    else (if bytes_eq name (codes "list") then option_map (λ w. Listing w.0 w.1) (input_and_output words)
+    else (if bytes_eq name (codes "compact") then option_map (λ w. Compact w.0 w.1) (input_and_output words) else None)))
+
 -- `asm SRC OBJ MACROS..`, `link OUT FILE..`, `dump FILE`, `run SCRIPT`, `lib OUT OBJ..`, `stress N SEED`, `rtl OUT FILE..`,
 -- `linkrt OUT K FILE..`, `list OBJ SRC`, `compact IN OUT`; other words have no form
 abbrev pub form_of : List (List ℕ) → Option Form
@@ -67,10 +75,7 @@ form_of (name ∷ words) =
     else (if bytes_eq name (codes "run") then option_map Run (inputs_only 1 1 words)
     else (if bytes_eq name (codes "lib") then option_map (λ w. Lib w.0 w.1) (with_output 1 255 words)
     else (if bytes_eq name (codes "stress") then option_map (λ w. Stress w.0 w.1) (count_and_seed words)
-    else (if bytes_eq name (codes "rtl") then option_map (λ w. Rtl w.0 w.1) (with_output 1 255 words)
-    else (if bytes_eq name (codes "linkrt") then option_map (λ w. LinkRt w.0 w.1 w.2) (output_and_runtimes words)
-    else (if bytes_eq name (codes "list") then option_map (λ w. Listing w.0 w.1) (input_and_output words)
-    else (if bytes_eq name (codes "compact") then option_map (λ w. Compact w.0 w.1) (input_and_output words) else None)))))))))
+    else later_form name words)))))
 
 -- a form as it was read from words
 abbrev pub shown : Words → Form

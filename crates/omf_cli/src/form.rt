@@ -3,7 +3,7 @@
 ghost use Rattle.std.specs.Prelude.{◌≡◌, ◌<◌, ◌^◌};
 ghost use Rattle.std.specs.Option.{option_map};
 ghost use Rattle.omf_cli.specs.Words.{is_path, are_paths, is_printing, are_printing, words_of, number_in, number_between, short_number_between};
-ghost use Rattle.omf_cli.specs.Form.{with_output, source_and_output, inputs_only, input_and_output, count_and_seed, last_inputs, output_and_runtimes, form_of, shown};
+ghost use Rattle.omf_cli.specs.Form.{with_output, source_and_output, inputs_only, input_and_output, count_and_seed, last_inputs, output_and_runtimes, later_form, form_of, shown};
 
 /// A command with its paths.
 pub enum Form<'a> {
@@ -218,12 +218,42 @@ fn input_and_output(words: &[String]) -> Option<(&str, &[String])>
     }
 }
 
+/// The form behind a name that was added later: run-time library files, the lister, and canonical load files.
+fn later_form<'a>(name: &str, words: &'a [String]) -> Option<Form<'a>>
+    ensures { option_map shown result ≡ later_form name.now (words_of words.now) }
+{
+    match name {
+        "rtl" => {
+            let (output, inputs) = with_output(1, 255, words)?;
+            Some(Form::Rtl { output, inputs })
+        }
+        "linkrt" => {
+            let (output, inputs, runtimes) = output_and_runtimes(words)?;
+            Some(Form::LinkRt {
+                output,
+                inputs,
+                runtimes,
+            })
+        }
+        "list" => {
+            let (output, inputs) = input_and_output(words)?;
+            Some(Form::Listing { output, inputs })
+        }
+        "compact" => {
+            let (output, inputs) = input_and_output(words)?;
+            Some(Form::Compact { output, inputs })
+        }
+        _ => None,
+    }
+}
+
 /// The form of the words, or None where they have none.
 pub fn read_form(words: &[String]) -> Option<Form<'_>>
     ensures { option_map shown result ≡ form_of (words_of words.now) }
 {
     let (name, words) = words.split_first()?;
-    match name.as_str() {
+    let name = name.as_str();
+    match name {
         "asm" => {
             let (source, output, macros) = source_and_output(words)?;
             Some(Form::Asm {
@@ -252,26 +282,6 @@ pub fn read_form(words: &[String]) -> Option<Form<'_>>
             let (count, seed) = count_and_seed(words)?;
             Some(Form::Stress { count, seed })
         }
-        "rtl" => {
-            let (output, inputs) = with_output(1, 255, words)?;
-            Some(Form::Rtl { output, inputs })
-        }
-        "linkrt" => {
-            let (output, inputs, runtimes) = output_and_runtimes(words)?;
-            Some(Form::LinkRt {
-                output,
-                inputs,
-                runtimes,
-            })
-        }
-        "list" => {
-            let (output, inputs) = input_and_output(words)?;
-            Some(Form::Listing { output, inputs })
-        }
-        "compact" => {
-            let (output, inputs) = input_and_output(words)?;
-            Some(Form::Compact { output, inputs })
-        }
-        _ => None,
+        _ => later_form(name, words),
     }
 }
