@@ -9,7 +9,13 @@ use std::test::Fail;
 struct Row(u16, u32, &'static [u8], CompactCause, u32);
 
 static ROWS: [Row; 8] = [
-    Row(0, 0, &[0xE0, 0, 1, 0, 0, 0], CompactCause::NotLoadFile, 0x37),
+    Row(
+        0,
+        0,
+        &[0xE0, 0, 1, 0, 0, 0],
+        CompactCause::NotLoadFile,
+        0x37,
+    ),
     Row(0, 4, &[0xF2, 4, 0, 0, 0, 1], CompactCause::Truncated, 0x3D),
     Row(0, 0, &[0xE8, 0], CompactCause::Unsupported, 0x37),
     Row(0, 0, &[0xF7, 0, 0, 0, 0, 0], CompactCause::BadRecord, 0x37),
@@ -35,9 +41,19 @@ static ROWS: [Row; 8] = [
 fn faults_are_kept(rt: HostRuntime) -> Result<(), Fail> {
     for row in &ROWS {
         let file = one(rt.alloc(), row.0, row.1, 0, row.2)?;
-        same(&rt, &row.3, fault(rt.alloc(), &file), Some((row.3, 1, row.4)));
+        same(
+            &rt,
+            &row.3,
+            fault(rt.alloc(), &file),
+            Some((row.3, 1, row.4)),
+        );
     }
-    same(&rt, &"empty", fault(rt.alloc(), &[]), Some((CompactCause::NotLoadFile, 0, 0)));
+    same(
+        &rt,
+        &"empty",
+        fault(rt.alloc(), &[]),
+        Some((CompactCause::NotLoadFile, 0, 0)),
+    );
     Ok(())
 }
 
@@ -46,9 +62,19 @@ fn faults_of_two_segments_are_kept(rt: HostRuntime) -> Result<(), Fail> {
     let body = [2u8, 1, 2, 0xE3, 2, 0, 0, 0, 0, 0, 1, 0, 2, 0, 0, 0, 0, 0, 0];
     let mut file = one(rt.alloc(), 0, 2, 0, &body)?;
     add(&mut file, 2, 0x8000, 1, 0, &[1, 7, 0])?;
-    same(&rt, &"dynamic", fault(rt.alloc(), &file), Some((CompactCause::DynamicTarget, 1, 0x3A)));
+    same(
+        &rt,
+        &"dynamic",
+        fault(rt.alloc(), &file),
+        Some((CompactCause::DynamicTarget, 1, 0x3A)),
+    );
     let mut twice = one(rt.alloc(), 0, 0, 0, &[0])?;
     add(&mut twice, 1, 0, 0, 0, &[0])?;
-    same(&rt, &"twice", fault(rt.alloc(), &twice), Some((CompactCause::Sequence, 2, 0x38)));
+    same(
+        &rt,
+        &"twice",
+        fault(rt.alloc(), &twice),
+        Some((CompactCause::Sequence, 2, 0x38)),
+    );
     Ok(())
 }

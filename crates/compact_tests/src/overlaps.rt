@@ -55,9 +55,21 @@ static ROWS: [Row; 8] = [
             ],
         ),
     ),
-    Row("over the first bytes", &[(3, 0, 0), (2, 0, 9)], Want::Broken(2)),
-    Row("over the first byte", &[(2, 0, 0), (1, 0, 9)], Want::Broken(1)),
-    Row("before it and over its first byte", &[(2, 1, 0), (2, 0, 9)], Want::Broken(2)),
+    Row(
+        "over the first bytes",
+        &[(3, 0, 0), (2, 0, 9)],
+        Want::Broken(2),
+    ),
+    Row(
+        "over the first byte",
+        &[(2, 0, 0), (1, 0, 9)],
+        Want::Broken(1),
+    ),
+    Row(
+        "before it and over its first byte",
+        &[(2, 1, 0), (2, 0, 9)],
+        Want::Broken(2),
+    ),
 ];
 
 /// The records of four zero bytes and these patches.
@@ -82,7 +94,12 @@ fn patches_that_share_bytes(rt: HostRuntime) -> Result<(), Fail> {
                 same(&rt, &row.0, gives(rt.alloc(), &file, &want), true);
             }
             Want::Broken(at) => {
-                same(&rt, &row.0, fault(rt.alloc(), &file), Some((CompactCause::BrokenPart, 1, at)));
+                same(
+                    &rt,
+                    &row.0,
+                    fault(rt.alloc(), &file),
+                    Some((CompactCause::BrokenPart, 1, at)),
+                );
             }
         }
     }

@@ -64,7 +64,9 @@ static ROWS: [Row; 6] = [
         "one byte twice",
         0,
         2,
-        &[2, 1, 1, 0xE2, 1, 0, 0, 0, 0, 0, 1, 0, 0, 0, 0xE2, 1, 0, 1, 0, 0, 0, 1, 0, 0, 0, 0],
+        &[
+            2, 1, 1, 0xE2, 1, 0, 0, 0, 0, 0, 1, 0, 0, 0, 0xE2, 1, 0, 1, 0, 0, 0, 1, 0, 0, 0, 0,
+        ],
         0,
         &[
             0xF2, 2, 0, 0, 0, 1, 1, 0xF5, 1, 0, 0, 0, 1, 0, 0xF5, 1, 0, 1, 0, 1, 0, 0,
@@ -83,7 +85,9 @@ fn files_in_their_form(rt: HostRuntime) -> Result<(), Fail> {
 }
 
 /// A segment of $300 bytes, with SUPERs of type 0 at $2FD and $2FE.
-static TWO: [u8; 16] = [0xF1, 0, 3, 0, 0, 0xF7, 5, 0, 0, 0, 0, 0x82, 1, 0xFD, 0xFE, 0];
+static TWO: [u8; 16] = [
+    0xF1, 0, 3, 0, 0, 0xF7, 5, 0, 0, 0, 0, 0x82, 1, 0xFD, 0xFE, 0,
+];
 
 /// What stands behind its data.
 static BEHIND: [u8; 17] = [
@@ -127,7 +131,12 @@ fn the_longest_file(rt: HostRuntime) -> Result<(), Fail> {
         Err(_) => same(&rt, &"longest", 0, 0x100_0000),
     }
     let more = spaced(rt.alloc(), 16_777_155)?;
-    same(&rt, &"more", fault(rt.alloc(), &more), Some((CompactCause::TooLong, 0, 0)));
+    same(
+        &rt,
+        &"more",
+        fault(rt.alloc(), &more),
+        Some((CompactCause::TooLong, 0, 0)),
+    );
     Ok(())
 }
 
