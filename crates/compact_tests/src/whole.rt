@@ -95,11 +95,11 @@ static BEHIND: [u8; 17] = [
 ];
 
 /// The records of $300 zeros, and these behind them.
-fn long_body(alloc: Global, size: usize, behind: &[u8]) -> Result<Vec<u8>, AllocError> {
+fn long_body(alloc: Global, size: u16, behind: &[u8]) -> Result<Vec<u8>, AllocError> {
     let mut body = Vec::new(alloc);
     body.extend_from_slice(&[0xF2, 0, 0, 0, 0])?;
-    put_all(&mut body, 1, &(size as u32).to_le_bytes());
-    body.resize(body.len().saturating_add(size), 0)?;
+    put_all(&mut body, 1, &u32::from(size).to_le_bytes());
+    body.resize(body.len().saturating_add(usize::from(size)), 0)?;
     body.extend_from_slice(behind)?;
     Ok(body)
 }
