@@ -12,7 +12,7 @@ use Rattle.link_meaning.specs.declared.form.LinkForm.TheVariants.{Program}
 use Rattle.link_meaning.specs.LinkFaults.{Given}
 use Rattle.load_meaning.specs.Pathnames.{IsPath}
 use Rattle.link_resolve.specs.Runtimes.{files_of}
-use Rattle.link_resolve.specs.Resolved.{total_size, AreFew, FewGiven, HavePaths, given_of}
+use Rattle.link_resolve.specs.Resolved.{total_size, FewGiven, HavePaths, given_of}
 use Rattle.omf_cli.specs.Words.{is_path, is_printing, are_paths, are_printing, words_of}
 use Rattle.omf_cli.specs.Link.{given_alone, given_with, under_paths}
 use Rattle.omf_cli.specs.Made.{all_bytes, AreShort}
@@ -21,10 +21,6 @@ use Rattle.omf_cli.specs.Making.{AreRead}
 few_bytes : (files : List (List ℕ)) → AreShort files → total_size files ≤ length files * 0x1000000
 few_bytes [] short = omega arith
 few_bytes (file ∷ files) short = omega (arith, short.0, few_bytes files short.1)
-
--- so many files as a command has are few
-pub few_files : (files : List (List ℕ)) → AreShort files → length files ≤ 255 → AreFew files
-few_files files short few = (omega (arith, few), omega (arith, few_bytes files short, few))
 
 -- as many files were read as there are inputs
 count_read : (held : Option FileMap) (paths files : List (List ℕ)) → AreRead held paths files → length files ≡ length paths
@@ -40,7 +36,7 @@ few_read held inputs files are few =
 
 -- ---- run-time library files
 
--- so are those of a command without run-time library files
+-- so many files as a command has are few, without run-time library files
 pub few_alone : (form : LinkForm) (files : List (List ℕ)) → AreShort files → length files ≤ 255 → FewGiven (given_alone form files)
 few_alone form files short few = record { files = omega (arith, few); bytes = omega (arith, few_bytes files short, few) }
 
