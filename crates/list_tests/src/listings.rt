@@ -216,6 +216,7 @@ fn other_faults_are_told(rt: HostRuntime) -> Result<(), Fail> {
         segment: 1,
         at: 0x38,
     };
+    assert!(rt; file.len() < 0x1000);
     match list_source(alloc, file.as_slice()) {
         Ok(_) => assert!(rt; false),
         Err(fault) => assert!(rt; fault == want),
