@@ -123,6 +123,9 @@ fn exports_its_names(alloc: Global) -> bool {
     let Some(Ok(file)) = library_of(alloc, &DYNAMIC_M, 3, LIBRARY) else {
         return false;
     };
+    if file.len() > 0xFFFF {
+        return false;
+    }
     match read_runtime(alloc, file.as_slice()) {
         Ok(load) => {
             load.count() == 1
@@ -140,6 +143,9 @@ fn calls_through_the_table(alloc: Global) -> bool {
     let Some(Ok(file)) = program_of(alloc, 4, CALL) else {
         return false;
     };
+    if file.len() > 0xFFFF {
+        return false;
+    }
     match read_load(alloc, file.as_slice()) {
         Ok(load) => {
             let target = Target {
@@ -161,6 +167,9 @@ fn has_pathnames_without_a_call(alloc: Global) -> bool {
     let Some(Ok(file)) = program_of(alloc, 3, ZEROS) else {
         return false;
     };
+    if file.len() > 0xFFFF {
+        return false;
+    }
     match read_load(alloc, file.as_slice()) {
         Ok(load) => {
             (load.count(), load.paths()) == (2, 1)
