@@ -11,7 +11,7 @@ static HEAD: [u8; 0x37] = [
 ];
 
 /// Puts bytes over those from a place on, as far as there are any.
-fn put_all(bytes: &mut [u8], from: usize, more: &[u8]) {
+pub(crate) fn put_all(bytes: &mut [u8], from: usize, more: &[u8]) {
     for (at, value) in more.iter().enumerate() {
         if let Some(byte) = bytes.get_mut(from.saturating_add(at)) {
             *byte = *value;

@@ -12,6 +12,8 @@ mod order;
 #[cfg(test)]
 mod places;
 #[cfg(test)]
+mod runtime;
+#[cfg(test)]
 mod tables;
 #[cfg(test)]
 mod written;

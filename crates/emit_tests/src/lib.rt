@@ -1,4 +1,5 @@
-//! Tests of rings of equates, whose names no line tells whole, and of a program that is resolved and has no values.
+//! Tests of rings of equates, whose names no line tells whole, of a program that is resolved and has no values, and of run-time library
+//! files.
 #![tactic(auto)]
 
 #[cfg(test)]
@@ -7,3 +8,5 @@ mod circles;
 mod linking;
 #[cfg(test)]
 mod objects;
+#[cfg(test)]
+mod runtimes;

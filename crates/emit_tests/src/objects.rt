@@ -14,6 +14,9 @@ static HEAD: [u8; 56] = [
 /// The segment `D` in the load segment `D`, with the dynamic attribute.
 const DYNAMIC: [(usize, u8); 3] = [(0x15, 0x80), (0x2C, 0x44), (0x37, 0x44)];
 
+/// The segment `M` with the dynamic attribute.
+pub const DYNAMIC_M: [(usize, u8); 1] = [(0x15, 0x80)];
+
 /// The segment `S` in the load segment `S`.
 const OTHER: [(usize, u8); 2] = [(0x2C, 0x53), (0x37, 0x53)];
 
@@ -69,6 +72,18 @@ fn put_segment(
     out.extend_from_slice(records)?;
     out.push(0)?;
     Ok(())
+}
+
+/// A file of one segment of these records and so many cells, with bytes of its header changed.
+pub fn segment_of(
+    alloc: Global,
+    changes: &[(usize, u8)],
+    cells: u32,
+    records: &[u8],
+) -> Result<Vec<u8>, AllocError> {
+    let mut file = Vec::new(alloc);
+    put_segment(&mut file, changes, cells, records)?;
+    Ok(file)
 }
 
 /// Appends a segment of so many zeros.

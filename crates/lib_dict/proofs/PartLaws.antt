@@ -11,7 +11,7 @@ use Rattle.omf_format.specs.laws.RecordLaws.{front-takes}
 use Rattle.omf_format.specs.Reading.{Reader, front, told, moved, place_of, next_answer, after_next, HandsOut}
 use Rattle.omf_format.specs.laws.FileLaws.{Answer, gave, same_found}
 use Rattle.omf_format.specs.laws.BodyLaws.{found_by, none_at_end}
-use Rattle.link_meaning.specs.Dictionary.{long_bytes}
+use Rattle.load_meaning.specs.Pathnames.{long_bytes}
 use Rattle.lib_dict.specs.Parts.{Texts, TakesLong, TakesLast, HasParts}
 
 -- a record that was taken is the first of those that come

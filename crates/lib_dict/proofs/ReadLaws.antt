@@ -11,7 +11,8 @@ use Rattle.omf_format.specs.File.{Segment, body_reader, IsFile, segment_at}
 use Rattle.omf_format.specs.laws.FileLaws.{header_lies, segments_fit}
 use Rattle.omf_format.specs.laws.BodyLaws.{body_fits}
 use Rattle.link_meaning.specs.Member.{Row, is_library}
-use Rattle.link_meaning.specs.Dictionary.{long_bytes, file_numbers, names_from, numbered_from, or_false, rows_from, rows_in, rows_of_records, rows_of}
+use Rattle.load_meaning.specs.Pathnames.{long_bytes}
+use Rattle.link_meaning.specs.Dictionary.{file_numbers, names_from, numbered_from, or_false, rows_from, rows_in, rows_of_records, rows_of}
 use Rattle.lib_dict.specs.declared.fault.DictFault.{DictFault}
 use Rattle.lib_dict.specs.declared.fault.DictFault.TheVariants as dict
 use Rattle.lib_dict.specs.declared.dictionary.Row as declared

@@ -2,7 +2,7 @@
 use Rattle.std.specs.Prelude.{◌≡◌, ◌<◌, ◌^◌, ℕ, ◌+◌, Bool, true, false, List, [], ◌∷◌, length, Option, Some, None, Ok}
 use Rattle.omf_format.specs.Record.{Record}
 use Rattle.omf_format.specs.Reading.{Reader, next_answer, after_next}
-use Rattle.link_meaning.specs.Dictionary.{long_bytes}
+use Rattle.load_meaning.specs.Pathnames.{long_bytes}
 use Rattle.lib_dict.specs.declared.parts.Parts.{Parts}
 
 -- the parts without where their bytes lie

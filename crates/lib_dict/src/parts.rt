@@ -3,7 +3,7 @@
 ghost use Rattle.std.specs.Prelude.{◌≡◌, option_map};
 ghost use Rattle.omf_format.specs.Reading.{IsBody, records_of};
 ghost use Rattle.omf_records.specs.View.{view};
-ghost use Rattle.link_meaning.specs.Dictionary.{long_bytes};
+ghost use Rattle.load_meaning.specs.Pathnames.{long_bytes};
 ghost use Rattle.lib_dict.specs.Parts.{seen_parts, TakesLong, TakesLast, ArePartsOf};
 
 use omf_records::{Rec, Records};

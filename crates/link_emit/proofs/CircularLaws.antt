@@ -23,7 +23,7 @@ use Rattle.link_emit.specs.Circulars.{DefinesName, IsBehindTitle, defined_so_far
 use Rattle.link_emit.proofs.FileFacts.{parts_there}
 use Rattle.link_emit.proofs.LocatedLaws.{one_located, located-append, located-more}
 
-abbrev of_located : Located → List Definition
+abbrev pub of_located : Located → List Definition
 of_located r = defined_by r.at r.location r.content
 
 flat-append : (xs ys : List Located) → flat_map of_located (xs ++ ys) ≡ flat_map of_located xs ++ flat_map of_located ys
@@ -35,7 +35,7 @@ flat-append (x ∷ xs) ys =
     ∙ ap (λ (l : List Definition). l ++ flat_map of_located ys) (sym (flat_map-cons of_located x xs))
 
 -- one record more
-so_far-more : (s : Segment) (done : List (ℕ × Record)) (found : ℕ × Record) → defined_so_far s (done ++ found ∷ []) ≡ defined_so_far s done ++ defined_by found.0 (place_behind 0 done) found.1
+pub so_far-more : (s : Segment) (done : List (ℕ × Record)) (found : ℕ × Record) → defined_so_far s (done ++ found ∷ []) ≡ defined_so_far s done ++ defined_by found.0 (place_behind 0 done) found.1
 so_far-more s done found =
     let r = one_located found (place_behind 0 done) in
     ap (λ (l : List Located). title_of s ++ flat_map of_located l) (located-append 0 done found)
@@ -44,7 +44,7 @@ so_far-more s done found =
     ∙ sym (append_assoc (title_of s) (flat_map of_located (located_from 0 done)) (of_located r))
 
 -- all of them
-so_far-all : (s : Segment) (done back : List (ℕ × Record)) → s.records ≡ done ++ back → defined_in s ≡ defined_so_far s done ++ flat_map of_located (located_from (place_behind 0 done) back)
+pub so_far-all : (s : Segment) (done back : List (ℕ × Record)) → s.records ≡ done ++ back → defined_in s ≡ defined_so_far s done ++ flat_map of_located (located_from (place_behind 0 done) back)
 unfolding defined_in located
 so_far-all s done back parts =
     ap (λ (l : List (ℕ × Record)). title_of s ++ flat_map of_located (located_from 0 l)) parts
@@ -52,14 +52,14 @@ so_far-all s done back parts =
     ∙ ap (λ (l : List Definition). title_of s ++ l) (flat-append (located_from 0 done) (located_from (place_behind 0 done) back))
     ∙ sym (append_assoc (title_of s) (flat_map of_located (located_from 0 done)) (flat_map of_located (located_from (place_behind 0 done) back)))
 
-get_at : {A : Type 0} (xs ys : List A) (x : A) (n : ℕ) → n ≡ length xs → slice_get (xs ++ x ∷ ys) n ≡ Some x
+pub get_at : {A : Type 0} (xs ys : List A) (x : A) (n : ℕ) → n ≡ length xs → slice_get (xs ++ x ∷ ys) n ≡ Some x
 get_at [] ys x n is = ap (slice_get (x ∷ ys)) is
 get_at (y ∷ xs) ys x zero is = absurd (omega (arith, is))
 get_at (y ∷ xs) ys x (suc n) is = get_at xs ys x n (omega (arith, is))
 
 -- ---- a segment
 
-title_empty : (s : Segment) → s.fields.name ≡ [] → title_of s ≡ []
+pub title_empty : (s : Segment) → s.fields.name ≡ [] → title_of s ≡ []
 unfolding title_of
 title_empty s e = by_name s.fields.name e
   where
@@ -146,7 +146,7 @@ counted_all s number left at c none =
 abbrev founds : ℕ → Member → List Definition → List Found
 founds place m ds = map (λ (d : Definition). record { place = place; member = m; definition = d }) ds
 
-entries-append : (place : ℕ) (front back : List Member) → entries_from defined_in place (front ++ back) ≡ entries_from defined_in place front ++ entries_from defined_in (place + length front) back
+pub entries-append : (place : ℕ) (front back : List Member) → entries_from defined_in place (front ++ back) ≡ entries_from defined_in place front ++ entries_from defined_in (place + length front) back
 entries-append place [] back = ap (λ (n : ℕ). entries_from defined_in n back) (omega arith)
 entries-append place (m ∷ front) back =
     let next : place + 1 + length front ≡ place + length (m ∷ front) = omega arith in
@@ -154,7 +154,7 @@ entries-append place (m ∷ front) back =
     ∙ sym (append_assoc (founds place m (defined_in m.segment)) (entries_from defined_in (place + 1) front) (entries_from defined_in (place + 1 + length front) back))
     ∙ ap (λ (n : ℕ). (founds place m (defined_in m.segment) ++ entries_from defined_in (place + 1) front) ++ entries_from defined_in n back) next
 
-member_size : (place : ℕ) (m : Member) → length (entries_from defined_in place (m ∷ [])) ≡ length (defined_in m.segment)
+pub member_size : (place : ℕ) (m : Member) → length (entries_from defined_in place (m ∷ [])) ≡ length (defined_in m.segment)
 member_size place m = ap length (append-nil (founds place m (defined_in m.segment))) ∙ length-map (defined_in m.segment) (λ (d : Definition). record { place = place; member = m; definition = d })
 
 pub counts_more : (list : List Member) (number place left rest : ℕ) (c : CountsTo list number place left) (m : Member) (back : List Member) → c.back ≡ m ∷ back → left ≡ length (defined_in m.segment) + rest
@@ -213,7 +213,7 @@ next_member list number place left c less = some c.back (omega (arith, ap length
     some [] lt = absurd (omega (arith, lt))
     some (m ∷ back) lt = (m, back, refl)
 
-segment_is : (list : List Member) (place : ℕ) (m : Member) (s : Segment) → member_at list place ≡ Some m → Some s ≡ option_map (λ (o : Member). o.segment) (member_at list place) → s ≡ m.segment
+pub segment_is : (list : List Member) (place : ℕ) (m : Member) (s : Segment) → member_at list place ≡ Some m → Some s ≡ option_map (λ (o : Member). o.segment) (member_at list place) → s ≡ m.segment
 segment_is list place m s there is = same s m.segment (is ∙ ap (option_map (λ (o : Member). o.segment)) there)
   where
     same : (x y : Segment) → Some x ≡ Some y → x ≡ y

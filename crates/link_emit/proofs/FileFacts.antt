@@ -33,30 +33,32 @@ use Rattle.link_meaning.specs.laws.EquatePlaces.{in_records, of_record, in_entri
 use Rattle.link_meaning.specs.laws.EquateOrder.{one_number}
 use Rattle.link_resolve.specs.Linked.{member_at}
 use Rattle.link_resolve.specs.OfFiles.{IsOfFiles}
+use Rattle.link_resolve.specs.Outside.{all_found}
 use Rattle.link_emit.specs.Slots.{AreOnce}
 use Rattle.link_emit.specs.Equates.{FindOne}
+use Rattle.link_emit.proofs.AllFound.{entry_in, inside_equate}
 
 -- ---- members
 
 pub read_of : (list : List Member) → IsOfFiles list → (m : Member) → IsIn list m → IsRead m.segment
-read_of list of m is = members_read of.files list m of.bytes of.resolved.program is
+read_of list of m is = members_read of.given list m of.bytes of.resolved.program is
 
 pub body_within : (list : List Member) → IsOfFiles list → (m : Member) → IsIn list m → body_size m.segment ≤ m.segment.fields.length
 body_within list of m is = omega (arith, read_size m.segment (read_of list of m is))
 
 pub few_of : (list : List Member) → IsOfFiles list → length (load_names list) ≤ 254
-few_of list of = few_loads of.files list of.resolved
+few_of list of = few_loads of.given list of.resolved
 
 -- a place in a member fits 32 bits
 pub near_of : (list : List Member) → IsOfFiles list → (place : ℕ) (m : Member) (at : ℕ) → IsPlaceIn list place m at → offset_of list place m + at < 2 ^ 32
 unfolding place_value
-near_of list of place m at is = (place_fits of.files list place m at of.resolved (body_within list of) is).2
+near_of list of place m at is = (place_fits of.given list place m at of.resolved (body_within list of) is).2 refl
 
 -- a member ends within its load segment
 pub end_of : (list : List Member) → IsOfFiles list → (front : List Member) (m : Member) (back : List Member) → list ≡ front ++ m ∷ back → offset_of list (length front + 1) m + m.segment.fields.length ≤ 0xFFFFFF
 end_of list of front m back parts =
     let le = offset-le list front m back parts in
-    omega (arith, le, short_load of.files list m.segment.fields.load_name of.resolved (name_there list m (in_parts list front m back parts)))
+    omega (arith, le, short_load of.given list m.segment.fields.load_name of.resolved (name_there list m (in_parts list front m back parts)))
 
 get_parts : (front : List Member) (m : Member) (back : List Member) → slice_get (front ++ m ∷ back) (length front) ≡ Some m
 get_parts [] m back = refl
@@ -72,14 +74,6 @@ place_there list place m at is = ap (member_at list) is.number ∙ parts_there l
 
 -- ---- definitions
 
-pub entry_in : (fs : List Found) (k : ℕ) (f : Found) → slice_get fs k ≡ Some f → IsIn fs f
-entry_in [] k f e = absurd cc
-entry_in (g ∷ fs) zero f e = inl (same g f e)
-  where
-    same : (x y : Found) → Some x ≡ Some y → x ≡ y
-    same x y e = cc
-entry_in (g ∷ fs) (suc k) f e = inr (entry_in fs k f e)
-
 pub entry_at : (fs : List Found) (f : Found) → IsIn fs f → (k : ℕ) × (slice_get fs k ≡ Some f)
 entry_at [] f is = absurd is
 entry_at (g ∷ fs) f (inl e) = (zero, ap (λ (x : Found). Some x) e)
@@ -88,8 +82,9 @@ entry_at (g ∷ fs) f (inr more) = let rest = entry_at fs f more in (suc rest.0,
 pub definition_place : (list : List Member) (k : ℕ) (f : Found) → slice_get (entries list) k ≡ Some f → IsPlaceIn list f.place f.member f.definition.place
 definition_place list k f at = entry_there list f (entry_in (entries list) k f at)
 
-pub once_of : (list : List Member) → IsOfFiles list → AreOnce (entries list)
-once_of list of i j e f here there p q place at = one_number of.files list i j e f of.bytes of.resolved here there p q place at
+pub once_of : (list : List Member) → IsOfFiles list → AreOnce (all_found list)
+once_of list of i j e f here there p q place at =
+    one_number of.given list i j e f of.bytes of.resolved (inside_equate list i e here p) (inside_equate list j f there q) p q place at
 
 -- ---- the record of an equate
 

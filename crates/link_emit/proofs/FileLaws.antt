@@ -1,5 +1,5 @@
 -- Load segments one behind another, and the table.
-use Rattle.std.proofs.Common.{◌≡◌, ℕ, ◌+◌, ◌<◌, ◌≤◌, List, [], ◌∷◌, ◌++◌, length, map, refl, sym, ap, subst, ◌∙◌, arith}
+use Rattle.std.proofs.Common.{◌≡◌, ℕ, ◌+◌, ◌<◌, ◌≤◌, List, [], ◌∷◌, ◌++◌, length, map, refl, sym, ap, subst, ◌∙◌, append_assoc, arith}
 use Rattle.std.proofs.lemmas.List.{length-append, length-map, append-nil}
 use Rattle.std.proofs.lemmas.List.Concat.{flat_map-cons}
 use Rattle.std.proofs.lemmas.Grind.{flat_map-append}
@@ -11,11 +11,12 @@ use Rattle.load_meaning.specs.Table.{file_entry, table_bytes}
 use Rattle.load_meaning.specs.WrittenBody.{AreWritten}
 use Rattle.load_meaning.specs.WrittenFile.{Image, image_text, file_text, table_fields, table_image}
 use Rattle.load_meaning.specs.laws.WrittenTableLaws.{length-table_bytes}
-use Rattle.link_meaning.specs.LinkWritten.{byte_under, patches_of_cells, table_images}
+use Rattle.link_meaning.specs.Member.{RuntimeFile}
+use Rattle.link_meaning.specs.LinkWritten.{byte_under, patches_of_cells, table_images, path_images}
 use Rattle.omf_cells.specs.WrittenParts.{seen}
 use Rattle.link_emit.specs.Holding.{Holding}
 use Rattle.link_emit.specs.Contents.{HoldsCells}
-use Rattle.link_emit.specs.Images.{with_space, image_in, IsReady}
+use Rattle.link_emit.specs.Images.{with_space, image_in, images_behind, IsReady}
 use Rattle.link_emit.proofs.ContentLaws.{bytes_under, bytes_patches}
 use Rattle.link_emit.proofs.ImageLaws.{image}
 
@@ -107,17 +108,60 @@ module _ (number n : ℕ) (ts : List Target) (f : Fields) (content : Holding) (f
     patches' = subst (λ (l : List Patch). AreWritten (length content.bytes) 0 l) (sym own_patches) tt;
   })
 
-  pub table_text : (length ts ≡ 0 → ⊥) → image_text (image_in f content) ≡ file_text (table_images number ts)
+  pub table_text : (length ts ≡ 0 → ⊥) → image_text (image_in f content []) ≡ file_text (table_images number ts)
   unfolding table_image
   table_text some =
-      ap (λ (g : Fields). image_text (image_in g content)) (fields' ∙ ap (table_fields number) size)
-      ∙ ap (λ (l : List ℕ). image_text (image (table_fields number (length (table_bytes (map file_entry ts)))) l (map seen content.patches))) own_bytes
-      ∙ ap (λ (l : List Patch). image_text (image (table_fields number (length (table_bytes (map file_entry ts)))) (table_bytes (map file_entry ts)) l)) own_patches
+      ap (λ (g : Fields). image_text (image_in g content [])) (fields' ∙ ap (table_fields number) size)
+      ∙ ap (λ (l : List ℕ). image_text (image (table_fields number (length (table_bytes (map file_entry ts)))) l (map seen content.patches) [])) own_bytes
+      ∙ ap (λ (l : List Patch). image_text (image (table_fields number (length (table_bytes (map file_entry ts)))) (table_bytes (map file_entry ts)) l [])) own_patches
       ∙ by_targets ts some
     where
       by_targets : (us : List Target) → (length us ≡ 0 → ⊥) → image_text (table_image number (map file_entry us)) ≡ file_text (table_images number us)
       by_targets [] some = absurd (some refl)
       by_targets (u ∷ us) some = sym (text_one (table_image number (map file_entry (u ∷ us))))
+
+-- ---- behind the load segments
+
+pub tables_none : (number : ℕ) (ts : List Target) → length ts ≡ 0 → number ≡ number + length (table_images number ts)
+tables_none number [] none = omega arith
+tables_none number (t ∷ ts) none = absurd (omega (arith, none))
+
+pub tables_some : (number : ℕ) (ts : List Target) → (length ts ≡ 0 → ⊥) → number + 1 ≡ number + length (table_images number ts)
+tables_some number [] some = absurd (some refl)
+tables_some number (t ∷ ts) some = omega arith
+
+-- the table, and the pathnames behind it
+pub rest_text : (number paths : ℕ) (ts : List Target) (rs : List RuntimeFile) (old mid new : List ℕ) → mid ≡ old ++ file_text (table_images number ts) → paths ≡ number + length (table_images number ts)
+    → new ≡ mid ++ file_text (path_images paths rs) → new ≡ old ++ file_text (images_behind number ts rs)
+rest_text number paths ts rs old mid new first at more =
+    let tables = table_images number ts in
+    let behind = path_images (number + length tables) rs in
+    more
+    ∙ ap (λ (l : List ℕ). l ++ file_text (path_images paths rs)) first
+    ∙ append_assoc old (file_text tables) (file_text (path_images paths rs))
+    ∙ ap (λ (n : ℕ). old ++ (file_text tables ++ file_text (path_images n rs))) at
+    ∙ ap (λ (l : List ℕ). old ++ l) (sym (text_both tables behind))
+
+pub rest_long : (n number paths : ℕ) (ts : List Target) (rs : List RuntimeFile) (old mid : List ℕ) → mid ≡ old ++ file_text (table_images number ts) → paths ≡ number + length (table_images number ts)
+    → n < length mid + length (file_text (path_images paths rs)) → n < length old + length (file_text (images_behind number ts rs))
+rest_long n number paths ts rs old mid first at long =
+    let tables = table_images number ts in
+    let behind = path_images (number + length tables) rs in
+    omega (
+      arith,
+      long,
+      ap length first,
+      length-append old (file_text tables),
+      ap (λ (k : ℕ). length (file_text (path_images k rs))) at,
+      ap length (text_both tables behind),
+      length-append (file_text tables) (file_text behind),
+    )
+
+pub rest_first : (n number : ℕ) (ts : List Target) (rs : List RuntimeFile) (old : List ℕ) → n < length old + length (file_text (table_images number ts)) → n < length old + length (file_text (images_behind number ts rs))
+rest_first n number ts rs old long =
+    let tables = table_images number ts in
+    let behind = path_images (number + length tables) rs in
+    omega (arith, long, ap length (text_both tables behind), length-append (file_text tables) (file_text behind))
 
 -- ---- both
 

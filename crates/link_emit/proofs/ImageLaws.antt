@@ -1,60 +1,63 @@
 -- A header, a body and END are the text of a load segment.
-use Rattle.std.proofs.Common.{◌≡◌, ℕ, zero, suc, ◌+◌, ◌<◌, ◌≤◌, List, [], ◌∷◌, ◌++◌, length, take, drop, replicate, Some, Result, Ok, Err, refl, sym, ap, subst, ◌∙◌, append_assoc, arith}
+use Rattle.std.proofs.Common.{◌≡◌, ℕ, zero, suc, ◌+◌, ◌<◌, ◌≤◌, false, List, [], ◌∷◌, ◌++◌, length, take, drop, replicate, Some, Result, Ok, Err, refl, sym, ap, subst, ◌∙◌, append_assoc, arith}
 use Rattle.std.specs.Prelude.{OnOk, slice_get}
 use Rattle.std.specs.List.{flat_map}
 use Rattle.std.proofs.Math.Seq.{take-append_seam, drop-append_seam}
 use Rattle.std.proofs.lemmas.List.{length-append, length-drop, length-replicate, append-nil}
 use Rattle.std.proofs.lemmas.List.Concat.{flat_map-cons}
+use Rattle.std.proofs.lemmas.Grind.{flat_map-append}
 use Rattle.omf_format.specs.Header.{Fields, header_bytes, IsWritable}
 use Rattle.omf_format.specs.laws.WrittenHeaderLaws.{length-header}
-use Rattle.omf_format.specs.Record.{spelling}
+use Rattle.omf_format.specs.Field.{written_layout}
+use Rattle.omf_format.specs.Record.{Record, spelling}
 use Rattle.load_meaning.specs.Cells.{Patch}
-use Rattle.load_meaning.specs.WrittenBody.{AreWritten, zeros_behind, written_cells, body_text}
+use Rattle.load_meaning.specs.WrittenBody.{AreWritten, zeros_behind, written_cells, body_records, body_text}
 use Rattle.load_meaning.specs.laws.StoredLaws.{zeros-le, cells_size}
-use Rattle.load_meaning.specs.WrittenFile.{Image, image_body, image_text, file_text}
+use Rattle.load_meaning.specs.WrittenFile.{Image, image_records, image_body, image_text, file_text}
 use Rattle.omf_header.specs.View.{fields}
 use Rattle.omf_header.specs.declared.header.Header.{Header}
 use Rattle.link_emit.specs.Holding.{Holding}
-use Rattle.link_emit.specs.Images.{with_space, image_in, images_in, IsReady, AreReady}
+use Rattle.link_emit.specs.Images.{with_space, spelled, image_in, images_in, left_from, IsReady, AreReady}
 
 pub zeros_fit : (content : List ℕ) (patches : List Patch) → AreWritten (length content) 0 patches → zeros_behind (written_cells content patches) ≤ length content
 unfolding written_cells
 zeros_fit content patches are = omega (arith, zeros-le (written_cells content patches), cells_size content patches are)
 
-abbrev pub image : Fields → List ℕ → List Patch → Image
-image f content patches = record { fields = f; content = content; patches = patches }
+abbrev pub image : Fields → List ℕ → List Patch → List Record → Image
+image f content patches exports = record { fields = f; content = content; patches = patches; exports = exports; whole = false }
 
-pub text_is : (f : Fields) (content : List ℕ) (patches : List Patch) (front body : List ℕ) → body ≡ body_text f.seg_num content patches
-    → front ≡ header_bytes (with_space f (zeros_behind (written_cells content patches))) (length body + 1) → front ++ (body ++ 0 ∷ []) ≡ image_text (image f content patches)
-unfolding image_text image_body spelling
-text_is f content patches front body b h =
+-- what a body and what is exported behind it spell
+body_whole : (own : ℕ) (content : List ℕ) (patches : List Patch) (exports : List Record) → body_text own content patches ++ spelled exports ≡ flat_map (spelling written_layout) (body_records own content patches ++ exports)
+unfolding body_text
+body_whole own content patches exports = sym (flat_map-append (spelling written_layout) (body_records own content patches) exports)
+
+-- the body of a load segment is what its records spell, and END
+body_is : (f : Fields) (content : List ℕ) (patches : List Patch) (exports : List Record) (body : List ℕ) → body ≡ body_text f.seg_num content patches ++ spelled exports → body ++ 0 ∷ [] ≡ image_body (image f content patches exports)
+unfolding image_body image_records spelling
+body_is f content patches exports body b = ap (λ (l : List ℕ). l ++ 0 ∷ []) (b ∙ body_whole f.seg_num content patches exports)
+
+pub text_is : (f : Fields) (content : List ℕ) (patches : List Patch) (exports : List Record) (front body : List ℕ) → body ≡ body_text f.seg_num content patches ++ spelled exports
+    → front ≡ header_bytes (with_space f (zeros_behind (written_cells content patches))) (length body + 1) → front ++ (body ++ 0 ∷ []) ≡ image_text (image f content patches exports)
+unfolding image_text
+text_is f content patches exports front body b h =
     let g = with_space f (zeros_behind (written_cells content patches)) in
-    let whole : body ++ 0 ∷ [] ≡ image_body (image f content patches) = ap (λ (l : List ℕ). l ++ 0 ∷ []) b in
-    let size : length body + 1 ≡ length (image_body (image f content patches)) = sym (length-append body (0 ∷ [])) ∙ ap length whole in
+    let whole = body_is f content patches exports body b in
+    let size : length body + 1 ≡ length (image_body (image f content patches exports)) = sym (length-append body (0 ∷ [])) ∙ ap length whole in
     ap (λ (l : List ℕ). l ++ (body ++ 0 ∷ [])) (h ∙ ap (header_bytes g) size)
-    ∙ ap (λ (l : List ℕ). header_bytes g (length (image_body (image f content patches))) ++ l) whole
+    ∙ ap (λ (l : List ℕ). header_bytes g (length (image_body (image f content patches exports))) ++ l) whole
 
 -- how long it is
-pub text_size : (f : Fields) (content : List ℕ) (patches : List Patch) (body : List ℕ) → length f.load_name ≡ 10 → body ≡ body_text f.seg_num content patches
-    → length (image_text (image f content patches)) ≡ 0x37 + length f.name + (length body + 1)
-unfolding image_text image_body spelling
-text_size f content patches body ten b =
+pub text_size : (f : Fields) (content : List ℕ) (patches : List Patch) (exports : List Record) (body : List ℕ) → length f.load_name ≡ 10 → body ≡ body_text f.seg_num content patches ++ spelled exports
+    → length (image_text (image f content patches exports)) ≡ 0x37 + length f.name + (length body + 1)
+unfolding image_text
+text_size f content patches exports body ten b =
     let g = with_space f (zeros_behind (written_cells content patches)) in
-    let all = body_text f.seg_num content patches ++ 0 ∷ [] in
-    omega (arith, length-append (header_bytes g (length all)) all, length-header g (length all) ten, length-append (body_text f.seg_num content patches) (0 ∷ []), ap length b)
+    let all = image_body (image f content patches exports) in
+    omega (arith, length-append (header_bytes g (length all)) all, length-header g (length all) ten, length-append body (0 ∷ []), ap length (body_is f content patches exports body b))
 
 -- the fields with the body's zeros may be written
 pub space_writable : (f : Fields) (zeros : ℕ) → IsWritable (with_space f 0) → zeros ≤ f.length → IsWritable (with_space f zeros)
 space_writable f zeros is le = record { version = is.version; banks = is.banks; listed = is.listed; spaced = le }
-
--- ---- what is put
-
-pub put_whole : {A E : Type 0} → (r : Result A E) (f : Fields) (content : List ℕ) (patches : List Patch) (front body out new : List ℕ) → body ≡ body_text f.seg_num content patches
-    → front ≡ header_bytes (with_space f (zeros_behind (written_cells content patches))) (length body + 1) → OnOk r (new ≡ out ++ (front ++ (body ++ 0 ∷ []))) → OnOk r (new ≡ out ++ image_text (image f content patches))
-put_whole (Ok x) f content patches front body out new b h more = more ∙ ap (λ (l : List ℕ). out ++ l) (text_is f content patches front body b h)
-put_whole (Err e) f content patches front body out new b h more = tt
-
--- ---- what is lent stands for what is held
 
 -- ---- answers
 
@@ -70,30 +73,30 @@ ok_moved (Err e) new out x y same more = tt
 
 -- ---- one behind another
 
-pub one_image : (out new all : List ℕ) (headers more_headers : List Header) (contents more_contents : List Holding) (h : Header) (content : Holding) → headers ≡ h ∷ more_headers → contents ≡ content ∷ more_contents
-    → new ≡ out ++ image_text (image_in (fields h) content) → out ++ file_text (images_in headers contents) ≡ all → new ++ file_text (images_in more_headers more_contents) ≡ all
+pub one_image : (exports : List Record) (out new all : List ℕ) (headers more_headers : List Header) (contents more_contents : List Holding) (h : Header) (content : Holding) → headers ≡ h ∷ more_headers → contents ≡ content ∷ more_contents
+    → new ≡ out ++ image_text (image_in (fields h) content exports) → out ++ file_text (images_in exports headers contents) ≡ all → new ++ file_text (images_in [] more_headers more_contents) ≡ all
 unfolding file_text
-one_image out new all headers more_headers contents more_contents h content hs cs more whole =
-    let first = image_text (image_in (fields h) content) in
-    let rest = flat_map image_text (images_in more_headers more_contents) in
-    let parts : flat_map image_text (images_in headers contents) ≡ first ++ rest =
-    ap (λ (l : List Header). flat_map image_text (images_in l contents)) hs
-    ∙ ap (λ (l : List Holding). flat_map image_text (images_in (h ∷ more_headers) l)) cs
-    ∙ flat_map-cons image_text (image_in (fields h) content) (images_in more_headers more_contents) in
+one_image exports out new all headers more_headers contents more_contents h content hs cs more whole =
+    let first = image_text (image_in (fields h) content exports) in
+    let rest = flat_map image_text (images_in [] more_headers more_contents) in
+    let parts : flat_map image_text (images_in exports headers contents) ≡ first ++ rest =
+    ap (λ (l : List Header). flat_map image_text (images_in exports l contents)) hs
+    ∙ ap (λ (l : List Holding). flat_map image_text (images_in exports (h ∷ more_headers) l)) cs
+    ∙ flat_map-cons image_text (image_in (fields h) content exports) (images_in [] more_headers more_contents) in
     ap (λ (l : List ℕ). l ++ rest) more ∙ append_assoc out first rest ∙ ap (λ (l : List ℕ). out ++ l) (sym parts) ∙ whole
 
 -- where the first is too long all are
-pub long_image : (out all : List ℕ) (n : ℕ) (headers more_headers : List Header) (contents more_contents : List Holding) (h : Header) (content : Holding) → headers ≡ h ∷ more_headers → contents ≡ content ∷ more_contents
-    → out ++ file_text (images_in headers contents) ≡ all → n < length out + length (image_text (image_in (fields h) content)) → n < length all
+pub long_image : (exports : List Record) (out all : List ℕ) (n : ℕ) (headers more_headers : List Header) (contents more_contents : List Holding) (h : Header) (content : Holding) → headers ≡ h ∷ more_headers → contents ≡ content ∷ more_contents
+    → out ++ file_text (images_in exports headers contents) ≡ all → n < length out + length (image_text (image_in (fields h) content exports)) → n < length all
 unfolding file_text
-long_image out all n headers more_headers contents more_contents h content hs cs whole long =
-    let first = image_text (image_in (fields h) content) in
-    let rest = flat_map image_text (images_in more_headers more_contents) in
-    let parts : flat_map image_text (images_in headers contents) ≡ first ++ rest =
-    ap (λ (l : List Header). flat_map image_text (images_in l contents)) hs
-    ∙ ap (λ (l : List Holding). flat_map image_text (images_in (h ∷ more_headers) l)) cs
-    ∙ flat_map-cons image_text (image_in (fields h) content) (images_in more_headers more_contents) in
-    omega (arith, long, ap length whole, length-append out (flat_map image_text (images_in headers contents)), ap length parts, length-append first rest)
+long_image exports out all n headers more_headers contents more_contents h content hs cs whole long =
+    let first = image_text (image_in (fields h) content exports) in
+    let rest = flat_map image_text (images_in [] more_headers more_contents) in
+    let parts : flat_map image_text (images_in exports headers contents) ≡ first ++ rest =
+    ap (λ (l : List Header). flat_map image_text (images_in exports l contents)) hs
+    ∙ ap (λ (l : List Holding). flat_map image_text (images_in exports (h ∷ more_headers) l)) cs
+    ∙ flat_map-cons image_text (image_in (fields h) content exports) (images_in [] more_headers more_contents) in
+    omega (arith, long, ap length whole, length-append out (flat_map image_text (images_in exports headers contents)), ap length parts, length-append first rest)
 
 pub more_ready : (headers more_headers : List Header) (contents more_contents : List Holding) (h : Header) (content : Holding) → headers ≡ h ∷ more_headers → contents ≡ content ∷ more_contents
     → AreReady headers contents → IsReady (fields h) content × AreReady more_headers more_contents
@@ -101,11 +104,11 @@ more_ready headers more_headers contents more_contents h content hs cs ready =
     subst (λ (l : List Holding). AreReady (h ∷ more_headers) l) cs (subst (λ (l : List Header). AreReady l contents) hs ready)
 
 -- behind the last nothing is left
-pub none_left : (out all : List ℕ) (headers : List Header) (contents : List Holding) (k : ℕ) → length headers ≤ k → out ++ file_text (images_in (drop k headers) contents) ≡ all → out ≡ all
+pub none_left : (exports : List Record) (out all : List ℕ) (headers : List Header) (contents : List Holding) (k : ℕ) → length headers ≤ k → out ++ file_text (images_in exports (drop k headers) contents) ≡ all → out ≡ all
 unfolding file_text
-none_left out all headers contents k none whole =
+none_left exports out all headers contents k none whole =
     sym (append-nil out)
-    ∙ ap (λ (l : List Header). out ++ flat_map image_text (images_in l contents)) (sym (all_dropped headers k none))
+    ∙ ap (λ (l : List Header). out ++ flat_map image_text (images_in exports l contents)) (sym (all_dropped headers k none))
     ∙ whole
   where
     all_dropped : (l : List Header) (k : ℕ) → length l ≤ k → drop k l ≡ []
@@ -113,6 +116,10 @@ none_left out all headers contents k none whole =
     all_dropped [] (suc k) le = refl
     all_dropped (h ∷ l) zero le = absurd (omega (arith, le))
     all_dropped (h ∷ l) (suc k) le = all_dropped l k (omega (arith, le))
+
+-- behind the first place no ENTRY records are left
+pub none_behind : (k : ℕ) (exports : List Record) → left_from (k + 1) exports ≡ []
+none_behind k exports = let next : k + 1 ≡ suc k = omega arith in ap (λ (n : ℕ). left_from n exports) next
 
 -- what stands from a place on
 pub drop_next : {A : Type 0} (l : List A) (i : ℕ) (x : A) → slice_get l i ≡ Some x → drop i l ≡ x ∷ drop (i + 1) l

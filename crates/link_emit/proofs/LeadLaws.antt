@@ -12,6 +12,7 @@ use Rattle.link_meaning.specs.Member.{Member}
 use Rattle.link_meaning.specs.Terms.{asks_value, asked_by, asked_in}
 use Rattle.link_meaning.specs.laws.TreeInLaws.{tree_in-again}
 use Rattle.link_meaning.specs.Search.{Found, entries, finds}
+use Rattle.link_resolve.specs.Outside.{all_found}
 use Rattle.link_meaning.specs.Rings.{is_equate, names_in}
 use Rattle.link_resolve.specs.Linked.{member_at}
 use Rattle.link_resolve.specs.Finding.{IsFirstOf, finds_for}
@@ -99,7 +100,7 @@ row_pushed (z ∷ xs) n x (inr more) = elim (row_pushed xs n x more) [
 ]
 
 more_sound : (list : List Member) (place : ℕ) (m : Member) (names : List (List ℕ)) (name : List ℕ) (row : List ℕ) → NameRow list place m names row → (k : ℕ) → rings.IsIn row k
-    → (f : Found) × (slice_get (entries list) k ≡ Some f) × ((other : List ℕ) × IsIn (names ++ name ∷ []) other × IsIn (finds list place m other) f) × (is_equate f ≡ true)
+    → (f : Found) × (slice_get (all_found list) k ≡ Some f) × ((other : List ℕ) × IsIn (names ++ name ∷ []) other × IsIn (finds list place m other) f) × (is_equate f ≡ true)
 more_sound list place m names name row is k there =
     let s = is.sound k there in
     (s.0, s.1, (s.2.0, in_left names (name ∷ []) s.2.0 s.2.1, s.2.2), s.3)
@@ -116,42 +117,42 @@ name_without list place m names name row none is = record {
 }
 
 -- a name that finds one
-pub name_with : (list : List Member) (place : ℕ) (m : Member) (names : List (List ℕ)) (name : List ℕ) (row : List ℕ) (n : ℕ) (f : Found) → slice_get (entries list) n ≡ Some f → is_equate f ≡ true
+pub name_with : (list : List Member) (place : ℕ) (m : Member) (names : List (List ℕ)) (name : List ℕ) (row : List ℕ) (n : ℕ) (f : Found) → slice_get (all_found list) n ≡ Some f → is_equate f ≡ true
     → IsIn (finds list place m name) f → ((g : Found) → IsIn (finds list place m name) g → f ≡ g) → NameRow list place m names row → NameRow list place m (names ++ name ∷ []) (row ++ n ∷ [])
 name_with list place m names name row n f at equate found one is = record {
   sound = λ k there. by_sound k (row_pushed row n k there);
   whole = λ g other asked finds' equate'. by_whole g other finds' equate' (in_pushed names name other asked);
 }
   where
-    by_sound : (k : ℕ) → rings.IsIn row k ⊎ (n ≡ k) → (f : Found) × (slice_get (entries list) k ≡ Some f) × ((other : List ℕ) × IsIn (names ++ name ∷ []) other × IsIn (finds list place m other) f) × (is_equate f ≡ true)
+    by_sound : (k : ℕ) → rings.IsIn row k ⊎ (n ≡ k) → (f : Found) × (slice_get (all_found list) k ≡ Some f) × ((other : List ℕ) × IsIn (names ++ name ∷ []) other × IsIn (finds list place m other) f) × (is_equate f ≡ true)
     by_sound k (inl h) = more_sound list place m names name row is k h
-    by_sound k (inr e) = (f, subst (λ (x : ℕ). slice_get (entries list) x ≡ Some f) e at, (name, in_right names (name ∷ []) name (inl refl), found), equate)
+    by_sound k (inr e) = (f, subst (λ (x : ℕ). slice_get (all_found list) x ≡ Some f) e at, (name, in_right names (name ∷ []) name (inl refl), found), equate)
 
-    by_whole : (g : Found) (other : List ℕ) → IsIn (finds list place m other) g → is_equate g ≡ true → IsIn names other ⊎ (name ≡ other) → (k : ℕ) × rings.IsIn (row ++ n ∷ []) k × (slice_get (entries list) k ≡ Some g)
+    by_whole : (g : Found) (other : List ℕ) → IsIn (finds list place m other) g → is_equate g ≡ true → IsIn names other ⊎ (name ≡ other) → (k : ℕ) × rings.IsIn (row ++ n ∷ []) k × (slice_get (all_found list) k ≡ Some g)
     by_whole g other finds' equate' (inl h) = let w = is.whole g other h finds' equate' in (w.0, row_front row n w.0 w.1, w.2)
     by_whole g other finds' equate' (inr e) =
         let same : f ≡ g = one g (subst (λ (x : List ℕ). IsIn (finds list place m x) g) (sym e) finds') in
-        (n, row_last row n, subst (λ (x : Found). slice_get (entries list) n ≡ Some x) same at)
+        (n, row_last row n, subst (λ (x : Found). slice_get (all_found list) n ≡ Some x) same at)
 
 -- ---- what the number of the first that was found says
 
-finds_there : (list : List Member) (place : ℕ) (m : Member) (name : List ℕ) (o : Option ℕ) → member_at list place ≡ Some m → IsFirstOf (entries list) (finds_for list place (member_at list place) name) o
-    → IsFirstOf (entries list) (finds list place m name) o
-finds_there list place m name o there first = subst (λ (x : Option Member). IsFirstOf (entries list) (finds_for list place x name) o) there first
+finds_there : (list : List Member) (place : ℕ) (m : Member) (name : List ℕ) (o : Option ℕ) → member_at list place ≡ Some m → IsFirstOf (all_found list) (finds_for list place (member_at list place) name) o
+    → IsFirstOf (all_found list) (finds list place m name) o
+finds_there list place m name o there first = subst (λ (x : Option Member). IsFirstOf (all_found list) (finds_for list place x name) o) there first
 
-pub found_none : (list : List Member) (place : ℕ) (m : Member) (name : List ℕ) → member_at list place ≡ Some m → IsFirstOf (entries list) (finds_for list place (member_at list place) name) None
+pub found_none : (list : List Member) (place : ℕ) (m : Member) (name : List ℕ) → member_at list place ≡ Some m → IsFirstOf (all_found list) (finds_for list place (member_at list place) name) None
     → (f : Found) → IsIn (finds list place m name) f → is_equate f ≡ true → ⊥
 found_none list place m name there first f is equate = by_found (finds list place m name) (finds_there list place m name None there first) is
   where
-    by_found : (found : List Found) → IsFirstOf (entries list) found None → IsIn found f → ⊥
+    by_found : (found : List Found) → IsFirstOf (all_found list) found None → IsIn found f → ⊥
     by_found [] first is = is
     by_found (g ∷ found) first is = first
 
-pub found_some : (list : List Member) (place : ℕ) (m : Member) (name : List ℕ) (n : ℕ) → member_at list place ≡ Some m → IsFirstOf (entries list) (finds_for list place (member_at list place) name) (Some n)
-    → (f : Found) × (slice_get (entries list) n ≡ Some f) × IsIn (finds list place m name) f
+pub found_some : (list : List Member) (place : ℕ) (m : Member) (name : List ℕ) (n : ℕ) → member_at list place ≡ Some m → IsFirstOf (all_found list) (finds_for list place (member_at list place) name) (Some n)
+    → (f : Found) × (slice_get (all_found list) n ≡ Some f) × IsIn (finds list place m name) f
 found_some list place m name n there first = by_found (finds list place m name) refl (finds_there list place m name (Some n) there first)
   where
-    by_found : (found : List Found) → finds list place m name ≡ found → IsFirstOf (entries list) found (Some n) → (f : Found) × (slice_get (entries list) n ≡ Some f) × IsIn (finds list place m name) f
+    by_found : (found : List Found) → finds list place m name ≡ found → IsFirstOf (all_found list) found (Some n) → (f : Found) × (slice_get (all_found list) n ≡ Some f) × IsIn (finds list place m name) f
     by_found [] e first = absurd first
     by_found (f ∷ found) e first = (f, first, subst (λ (l : List Found). IsIn l f) (sym e) (inl refl))
 
@@ -165,17 +166,17 @@ has_slot_at list (g ∷ fs) (s ∷ slots) zero f are here = (s, refl)
 has_slot_at list (g ∷ fs) (s ∷ slots) (suc k) f are here = has_slot_at list fs slots k f are.1 here
 
 -- an unset slot is an equate's
-pub open_is : (list : List Member) (slots : List Slot) (n : ℕ) (f : Found) → AreFirstSlots list (entries list) slots → slice_get (entries list) n ≡ Some f → IsOpen slots n → is_equate f ≡ true
+pub open_is : (list : List Member) (slots : List Slot) (n : ℕ) (f : Found) → AreFirstSlots list (all_found list) slots → slice_get (all_found list) n ≡ Some f → IsOpen slots n → is_equate f ≡ true
 open_is list slots n f are at unset = by_test (is_equate f) refl
   where
     by_test : (b : Bool) → is_equate f ≡ b → is_equate f ≡ true
     by_test true is = is
-    by_test false is = absurd (open_done _ ((first_at list (entries list) slots n f Open are at unset).label is))
+    by_test false is = absurd (open_done _ ((first_at list (all_found list) slots n f Open are at unset).label is))
 
-pub shut_is : (list : List Member) (slots : List Slot) (n : ℕ) (f : Found) → AreFirstSlots list (entries list) slots → slice_get (entries list) n ≡ Some f → (IsOpen slots n → ⊥) → is_equate f ≡ true → ⊥
+pub shut_is : (list : List Member) (slots : List Slot) (n : ℕ) (f : Found) → AreFirstSlots list (all_found list) slots → slice_get (all_found list) n ≡ Some f → (IsOpen slots n → ⊥) → is_equate f ≡ true → ⊥
 shut_is list slots n f are at shut equate =
-    let s = has_slot_at list (entries list) slots n f are at in
-    shut (s.1 ∙ ap (λ (t : Slot). Some t) ((first_at list (entries list) slots n f s.0 are at s.1).equate equate))
+    let s = has_slot_at list (all_found list) slots n f are at in
+    shut (s.1 ∙ ap (λ (t : Slot). Some t) ((first_at list (all_found list) slots n f s.0 are at s.1).equate equate))
 
 -- ---- the row of a definition
 

@@ -3,10 +3,13 @@ pub mod FitLaws
 pub mod ContentLaws
 pub mod ContentBytes
 pub mod ImageLaws
+pub mod OutsideLengths
 pub mod PutLaws
 pub mod FileLaws
+pub mod PathLaws
 pub mod LoadLaws
 pub mod RecordLaws
+pub mod AllFound
 pub mod SlotLaws
 pub mod SeatLaws
 pub mod ValueLaws
@@ -17,4 +20,5 @@ pub mod LocatedLaws
 pub mod WalkLaws
 pub mod WalkedLaws
 pub mod CircularLaws
+pub mod ExportLaws
 pub mod EmitLaws

@@ -1,9 +1,10 @@
 -- The linked load segments can be written, and the file of them is the one that the linker writes.
-use Rattle.std.proofs.Common.{◌≡◌, ℕ, ◌+◌, ◌^◌, ◌<◌, ◌≤◌, false, List, [], ◌∷◌, ◌++◌, length, map, refl, sym, ap, subst, ◌∙◌, arith, inl, inr}
+use Rattle.std.proofs.Common.{◌≡◌, ℕ, ◌+◌, ◌^◌, ◌<◌, ◌≤◌, Bool, false, cond, List, [], ◌∷◌, ◌++◌, length, map, refl, sym, ap, subst, ◌∙◌, arith, inl, inr}
 use Rattle.std.specs.List.{AllByRecursion}
+use Rattle.std.proofs.lemmas.Bool.{ne_eqb}
 use Rattle.std.proofs.lemmas.List.{length-map}
 use Rattle.omf_format.specs.Header.{Fields}
-use Rattle.omf_format.specs.Number.{IsBytes}
+use Rattle.omf_format.specs.Record.{Record}
 use Rattle.omf_header.specs.View.{fields}
 use Rattle.omf_header.specs.declared.header.Header.{Header}
 use Rattle.load_meaning.specs.declared.table.Target.{Target}
@@ -11,12 +12,14 @@ use Rattle.load_meaning.specs.Cells.{Cell, Patch}
 use Rattle.load_meaning.specs.WrittenBody.{AreWritten}
 use Rattle.load_meaning.specs.WrittenFile.{Image, file_text}
 use Rattle.link_meaning.specs.First.{IsIn}
-use Rattle.link_meaning.specs.Member.{Member}
+use Rattle.link_meaning.specs.declared.form.LinkForm.{LinkForm}
+use Rattle.link_meaning.specs.declared.form.LinkForm.TheVariants.{Program, Runtime as LibraryForm}
+use Rattle.link_meaning.specs.Member.{Member, setting_in, form_in}
 use Rattle.link_meaning.specs.Layout.{load_length, load_names, load_fields, headers_from, load_headers}
 use Rattle.link_meaning.specs.LinkValues.{Told, IsTable}
 use Rattle.link_meaning.specs.LinkedCells.{items, table_number, targets, linked}
-use Rattle.link_meaning.specs.LinkWritten.{byte_under, image_of, load_images, table_images, images, written_file, AreMade, start}
-use Rattle.link_meaning.specs.LinkFaults.{is_too_long, IsResolved}
+use Rattle.link_meaning.specs.LinkWritten.{byte_under, image_of, exports, exports_for, load_images, images, written_file, AreMade, start}
+use Rattle.link_meaning.specs.LinkFaults.{Given, HasBytes, is_too_long, IsResolved}
 use Rattle.link_meaning.specs.laws.RunCells.{AreRuns, runs_written}
 use Rattle.link_meaning.specs.laws.LinkedRuns.{HasCells, MembersHave, members_have, linked_has, AreSized}
 use Rattle.link_meaning.specs.laws.ReadMembers.{IsRead, members_read, HasHeader, read_header, read_size, read_some}
@@ -25,17 +28,22 @@ use Rattle.link_meaning.specs.laws.ValueFits.{all_sound}
 use Rattle.omf_cells.specs.WrittenParts.{seen}
 use Rattle.link_emit.specs.Holding.{Holding}
 use Rattle.link_emit.specs.Contents.{HoldsCells}
-use Rattle.link_emit.specs.Images.{image_in, images_in, IsReady, AreReady, HoldLinked, AreLoads}
+use Rattle.link_emit.specs.Images.{image_in, images_in, images_behind, IsReady, AreReady, HoldLinked, AreLoads}
 
 -- ---- the file
 
-abbrev image : Fields → List ℕ → List Patch → Image
-image f content patches = record { fields = f; content = content; patches = patches }
+abbrev image : Fields → List ℕ → List Patch → List Record → Image
+image f content patches exports = record { fields = f; content = content; patches = patches; exports = exports; whole = false }
 
-image_same : (f : Fields) (cells : List Cell) (content : Holding) → HoldsCells cells content → image_in f content ≡ image_of f cells
+image_same : (f : Fields) (cells : List Cell) (content : Holding) (exports : List Record) → HoldsCells cells content → image_in f content exports ≡ image_of f cells exports
 unfolding image_of
-image_same f cells content holds =
-    ap (λ (l : List ℕ). image f l (map seen content.patches)) holds.bytes' ∙ ap (image f (map byte_under cells)) holds.patches'
+image_same f cells content exports holds =
+    ap (λ (l : List ℕ). image f l (map seen content.patches) exports) holds.bytes' ∙ ap (λ (l : List Patch). image f (map byte_under cells) l exports) holds.patches'
+
+-- behind the first load segment none exports anything
+none_later : (form : LinkForm) (number : ℕ) (all : List Record) → 1 ≤ number → exports_for form (number + 1) all ≡ []
+none_later Program number all some = refl
+none_later LibraryForm number all some = ap (λ (b : Bool). cond b all []) (ne_eqb (number + 1) 1 (λ (e : number + 1 ≡ 1). absurd (omega (arith, e, some))))
 
 heads : (f g : Fields) (fs gs : List Fields) → f ∷ fs ≡ g ∷ gs → f ≡ g
 heads f g fs gs e = cc
@@ -43,18 +51,20 @@ heads f g fs gs e = cc
 tails : (f g : Fields) (fs gs : List Fields) → f ∷ fs ≡ g ∷ gs → fs ≡ gs
 tails f g fs gs e = cc
 
-images_same : (list : List Member) (table : List Told) (number : ℕ) (xs : List (List ℕ)) (headers : List Header) (contents : List Holding)
-    → map fields headers ≡ headers_from list number xs → HoldLinked list table xs contents → images_in headers contents ≡ load_images list table number xs
-images_same list table number [] [] contents same hold = refl
-images_same list table number [] (h ∷ headers) contents same hold = absurd cc
-images_same list table number (x ∷ xs) [] contents same hold = absurd cc
-images_same list table number (x ∷ xs) (h ∷ headers) [] same hold = absurd hold
-images_same list table number (x ∷ xs) (h ∷ headers) (content ∷ contents) same hold =
+images_same : (list : List Member) (table : List Told) (number : ℕ) (xs : List (List ℕ)) (headers : List Header) (contents : List Holding) → 1 ≤ number
+    → map fields headers ≡ headers_from list number xs → HoldLinked list table xs contents → images_in (exports_for (form_in list) number (exports list table)) headers contents ≡ load_images list table number xs
+images_same list table number [] [] contents some same hold = refl
+images_same list table number [] (h ∷ headers) contents some same hold = absurd cc
+images_same list table number (x ∷ xs) [] contents some same hold = absurd cc
+images_same list table number (x ∷ xs) (h ∷ headers) [] some same hold = absurd hold
+images_same list table number (x ∷ xs) (h ∷ headers) (content ∷ contents) some same hold =
+    let own = exports_for (form_in list) number (exports list table) in
     let head = heads (fields h) (load_fields list number x) (map fields headers) (headers_from list (number + 1) xs) same in
     let tail = tails (fields h) (load_fields list number x) (map fields headers) (headers_from list (number + 1) xs) same in
-    ap (λ (f : Fields). image_in f content ∷ images_in headers contents) head
-    ∙ ap (λ (i : Image). i ∷ images_in headers contents) (image_same (load_fields list number x) (linked list table x) content hold.0)
-    ∙ ap (λ (l : List Image). image_of (load_fields list number x) (linked list table x) ∷ l) (images_same list table (number + 1) xs headers contents tail hold.1)
+    ap (λ (f : Fields). image_in f content own ∷ images_in [] headers contents) head
+    ∙ ap (λ (i : Image). i ∷ images_in [] headers contents) (image_same (load_fields list number x) (linked list table x) content own hold.0)
+    ∙ ap (λ (l : List Image). image_of (load_fields list number x) (linked list table x) own ∷ l)
+    (ap (λ (l : List Record). images_in l headers contents) (sym (none_later (form_in list) number (exports list table) some)) ∙ images_same list table (number + 1) xs headers contents (omega (arith, some)) tail hold.1)
 
 length-headers_from : (list : List Member) (number : ℕ) (xs : List (List ℕ)) → length (headers_from list number xs) ≡ length xs
 length-headers_from list number [] = refl
@@ -70,12 +80,13 @@ unfolding load_headers
 headers_size list headers same = sym (length-map headers (λ (h : Header). fields h)) ∙ ap length same ∙ length-headers_from list 1 (load_names list)
 
 pub written_same : (list : List Member) (table : List Told) (headers : List Header) (contents : List Holding) (ts : List Target) → AreLoads list table headers contents → ts ≡ targets list table
-    → file_text (images_in headers contents ++ table_images (length headers + 1) ts) ≡ written_file list table
+    → file_text (images_in (exports_for (form_in list) 1 (exports list table)) headers contents ++ images_behind (length headers + 1) ts (setting_in list).runtimes) ≡ written_file list table
 unfolding written_file images load_headers
 written_same list table headers contents ts are same =
-    ap (λ (l : List Image). file_text (l ++ table_images (length headers + 1) ts)) (images_same list table 1 (load_names list) headers contents are.headers' are.contents')
-    ∙ ap (λ (n : ℕ). file_text (load_images list table 1 (load_names list) ++ table_images (n + 1) ts)) (headers_size list headers are.headers')
-    ∙ ap (λ (l : List Target). file_text (load_images list table 1 (load_names list) ++ table_images (table_number list) l)) same
+    let rs = (setting_in list).runtimes in
+    ap (λ (l : List Image). file_text (l ++ images_behind (length headers + 1) ts rs)) (images_same list table 1 (load_names list) headers contents (omega arith) are.headers' are.contents')
+    ∙ ap (λ (n : ℕ). file_text (load_images list table 1 (load_names list) ++ images_behind (n + 1) ts rs)) (headers_size list headers are.headers')
+    ∙ ap (λ (l : List Target). file_text (load_images list table 1 (load_names list) ++ images_behind (table_number list) l rs)) same
 
 -- ---- they can be written
 
@@ -110,12 +121,12 @@ all_ready list table number (x ∷ xs) (h ∷ headers) (content ∷ contents) ea
     )
 
 -- where each record gives its cells
-pub loads_ready : (files : List (List ℕ)) (list : List Member) (table : List Told) (headers : List Header) (contents : List Holding) → AllByRecursion IsBytes files → IsResolved files list → IsTable list table
+pub loads_ready : (given : Given) (list : List Member) (table : List Told) (headers : List Header) (contents : List Holding) → HasBytes given → IsResolved given list → IsTable list table
     → AreMade list table start (items list) → AreLoads list table headers contents → AreReady headers contents
 unfolding load_headers
-loads_ready files list table headers contents bytes resolved is_table are loads =
-    let read : (m : Member) → IsIn list m → IsRead m.segment = λ m is. members_read files list m bytes resolved.program is in
-    let small : table_number list < 2 ^ 16 = omega (arith, few_loads files list resolved) in
+loads_ready given list table headers contents bytes resolved is_table are loads =
+    let read : (m : Member) → IsIn list m → IsRead m.segment = λ m is. members_read given list m bytes resolved.program is in
+    let small : table_number list < 2 ^ 16 = omega (arith, few_loads given list resolved) in
     let sized : AreSized list = λ front m back parts. let r = read m (in_at list front m back parts) in (read_size m.segment r, read_some m.segment r) in
-    let have = members_have list table small are (all_sound files list table bytes resolved is_table) sized in
-    all_ready list table 1 (load_names list) headers contents (λ m is. read_header m.segment (read m is)) have (λ x is. is) (short_loads files list resolved) loads.headers' loads.contents'
+    let have = members_have list table small are (all_sound given list table bytes resolved is_table) sized in
+    all_ready list table 1 (load_names list) headers contents (λ m is. read_header m.segment (read m is)) have (λ x is. is) (short_loads given list resolved) loads.headers' loads.contents'

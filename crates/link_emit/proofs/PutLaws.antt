@@ -11,7 +11,7 @@ use Rattle.load_meaning.specs.declared.table.Target.{Target}
 use Rattle.load_meaning.specs.Table.{is_same, with_target, IsAtPlace, AreDistinct, most_entries}
 use Rattle.link_meaning.specs.declared.fault.LinkCause.TheVariants.{TooManyEntries}
 use Rattle.link_meaning.specs.Fitting as meaning
-use Rattle.link_meaning.specs.Fitting.{target_of, entry_of}
+use Rattle.link_meaning.specs.Fitting.{entry_of}
 use Rattle.link_emit.specs.Fits.{with_room}
 
 same_self : (t : Target) → is_same t t ≡ true
@@ -65,21 +65,16 @@ nowhere (x ∷ xs) t none = by_test (is_same t x) refl (nowhere xs t (λ k there
     by_test true e more = absurd (none 0 (ap (λ (y : Target). Some y) (sym (same_is t x e))))
     by_test false e more = more
 
-pub lacks_room : (xs : List Target) (segment offset : ℕ) → length xs ≡ most_entries → ((k : ℕ) → ¬ IsAtPlace xs (target_of segment offset) k)
-    → with_room xs (meaning.Entry segment offset) ≡ Err TooManyEntries
-lacks_room xs segment offset full none =
-    let gone = nowhere xs (target_of segment offset) none in
+pub lacks_room : (xs : List Target) (t : Target) → length xs ≡ most_entries → ((k : ℕ) → ¬ IsAtPlace xs t k) → with_room xs (meaning.Entry t) ≡ Err TooManyEntries
+lacks_room xs t full none =
+    let gone = nowhere xs t none in
     rw (gone, full) refl
 
 -- a target that was entered had room
-pub entered_room : (old new : List Target) (segment offset : ℕ) → new ≡ with_target old (target_of segment offset) → length new ≤ most_entries
-    → with_room old (meaning.Entry segment offset) ≡ Ok (meaning.Entry segment offset)
-entered_room old new segment offset entered few = by_test (list_any (is_same t) old) (ap length entered)
+pub entered_room : (old new : List Target) (t : Target) → new ≡ with_target old t → length new ≤ most_entries → with_room old (meaning.Entry t) ≡ Ok (meaning.Entry t)
+entered_room old new t entered few = by_test (list_any (is_same t) old) (ap length entered)
   where
-    t : Target
-    t = target_of segment offset
-
-    by_test : (b : Bool) → length new ≡ length (cond b old (old ++ t ∷ [])) → cond (not (b || nat_lt (length old) most_entries)) (Err TooManyEntries) (Ok (meaning.Entry segment offset)) ≡ Ok (meaning.Entry segment offset)
+    by_test : (b : Bool) → length new ≡ length (cond b old (old ++ t ∷ [])) → cond (not (b || nat_lt (length old) most_entries)) (Err TooManyEntries) (Ok (meaning.Entry t)) ≡ Ok (meaning.Entry t)
     by_test true size = refl
     by_test false size = rw (lt-ltb (length old) most_entries (omega (arith, size, few, length-append old (t ∷ [])))) refl
 

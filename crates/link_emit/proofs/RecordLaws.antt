@@ -7,7 +7,7 @@ use Rattle.load_meaning.specs.Cells.{Cell, Byte, Part}
 use Rattle.link_meaning.specs.declared.fault.LinkCause.{LinkCause}
 use Rattle.load_meaning.specs.declared.table.Target.{Target}
 use Rattle.link_meaning.specs.Fitting.{Fit, Frame, is_jsl_byte, ends_in_jsl, fitted, fit_cells, targets_behind}
-use Rattle.link_meaning.specs.Member.{Member}
+use Rattle.link_meaning.specs.Member.{Setting, Member, setting_in}
 use Rattle.link_meaning.specs.Layout.{load_headers, load_of, offset_of}
 use Rattle.link_meaning.specs.LinkValues.{Told, value_in}
 use Rattle.link_meaning.specs.LinkedCells.{State, Item, bank_of, table_number, frame_of, cells_before, made_by}
@@ -55,30 +55,33 @@ formula_gives list told state i code count n expr v fit value fits = rw (value, 
 
 -- ---- what was put is what the record gives
 
-abbrev frame : ℕ → ℕ → ℕ → Frame
-frame own bank_size place = record { own = own; bank_size = bank_size; place = place }
+abbrev frame : ℕ → ℕ → ℕ → Setting → Frame
+frame own bank_size place setting = record { own = own; bank_size = bank_size; place = place; setting = setting }
 
-frame_is : (list : List Member) (i : Item) (site : Site) (location : ℕ) → IsSite list i.place i.member site → i.here.location ≡ location → frame site.own site.bank_size (site.offset + location) ≡ frame_of list i
+frame_is : (list : List Member) (i : Item) (site : Site) (location : ℕ) → IsSite list i.place i.member site → i.here.location ≡ location → frame site.own site.bank_size (site.offset + location) (setting_in list) ≡ frame_of list i
 frame_is list i site location is here =
-    ap (λ (n : ℕ). frame n site.bank_size (site.offset + location)) is.own'
-    ∙ ap (λ (n : ℕ). frame (load_of list i.member) n (site.offset + location)) is.bank_size'
-    ∙ ap (λ (n : ℕ). frame (load_of list i.member) (bank_of (load_headers list) (load_of list i.member)) (n + location)) is.offset'
-    ∙ ap (λ (n : ℕ). frame (load_of list i.member) (bank_of (load_headers list) (load_of list i.member)) (offset_of list i.place i.member + n)) (sym here)
+    let setting = setting_in list in
+    ap (λ (n : ℕ). frame n site.bank_size (site.offset + location) setting) is.own'
+    ∙ ap (λ (n : ℕ). frame (load_of list i.member) n (site.offset + location) setting) is.bank_size'
+    ∙ ap (λ (n : ℕ). frame (load_of list i.member) (bank_of (load_headers list) (load_of list i.member)) (n + location) setting) is.offset'
+    ∙ ap (λ (n : ℕ). frame (load_of list i.member) (bank_of (load_headers list) (load_of list i.member)) (offset_of list i.place i.member + n) setting) (sym here)
 
-module _ (list : List Member) (told : List Told) (state : State) (i : Item) (site : Site) (loads : List Load) (targets new : List Target) (front : List Cell) (location : ℕ) (before after : Holding)
-    (stands : StandsAt list told state i site loads targets front location before) (formula : kept.Formula) (expr : List ℕ) (v : Value) (value : value_in list told i.place i.member i.here.location expr ≡ Ok v) where
-  here : frame site.own site.bank_size (site.offset + location) ≡ frame_of list i
-  here = frame_is list i site location stands.site' stands.location'
+module _ (list : List Member) (told : List Told) (state : State) (i : Item) (site : Site) (setting : Setting) (loads : List Load) (targets new : List Target) (front : List Cell) (location : ℕ) (before after : Holding)
+    (stands : StandsAt list told state i site setting loads targets front location before) (formula : kept.Formula) (expr : List ℕ) (v : Value) (value : value_in list told i.place i.member i.here.location expr ≡ Ok v) where
+  here : frame site.own site.bank_size (site.offset + location) setting ≡ frame_of list i
+  here =
+      ap (frame site.own site.bank_size (site.offset + location)) (sym stands.setting')
+      ∙ frame_is list i site location stands.site' stands.location'
 
   -- the fit is the same in the words of the list
-  same_fit : (r : Result Fit LinkCause) → fitted (load_headers list) (frame site.own site.bank_size (site.offset + location)) targets (cells_before state i) formula.code formula.count formula.n v ≡ r
+  same_fit : (r : Result Fit LinkCause) → fitted (load_headers list) (frame site.own site.bank_size (site.offset + location) setting) targets (cells_before state i) formula.code formula.count formula.n v ≡ r
       → fitted (load_headers list) (frame_of list i) state.targets (cells_before state i) formula.code formula.count formula.n v ≡ r
   same_fit r is =
       ap (λ (f : Frame). fitted (load_headers list) f state.targets (cells_before state i) formula.code formula.count formula.n v) (sym here)
-      ∙ ap (λ (ts : List Target). fitted (load_headers list) (frame site.own site.bank_size (site.offset + location)) ts (cells_before state i) formula.code formula.count formula.n v) stands.targets'
+      ∙ ap (λ (ts : List Target). fitted (load_headers list) (frame site.own site.bank_size (site.offset + location) setting) ts (cells_before state i) formula.code formula.count formula.n v) stands.targets'
       ∙ is
 
-  pub value_put : PutsValue (load_headers list) (frame site.own site.bank_size (site.offset + location)) (cells_before state i) formula v site.table targets new before after
+  pub value_put : PutsValue (load_headers list) (frame site.own site.bank_size (site.offset + location) setting) (cells_before state i) formula v site.table targets new before after
       → PutsMade (made_by list told state i (Formula formula.code formula.count formula.n expr)) (front ++ cells_before state i) new after
   value_put puts =
       let behind : new ≡ targets_behind state.targets puts.fit = puts.targets' ∙ ap (λ (ts : List Target). targets_behind ts puts.fit) (sym stands.targets') in

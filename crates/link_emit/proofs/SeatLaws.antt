@@ -5,7 +5,7 @@ use Rattle.omf_format.specs.declared.value.Value.{Value}
 use Rattle.omf_format.specs.File.{Segment}
 use Rattle.link_meaning.specs.Member.{Member}
 use Rattle.link_meaning.specs.Layout.{load_of, offset_of}
-use Rattle.link_meaning.specs.Search.{entries}
+use Rattle.link_resolve.specs.Outside.{all_found}
 use Rattle.link_meaning.specs.LinkValues.{place_value, environment}
 use Rattle.link_resolve.specs.declared.program.LinkMember.{LinkMember}
 use Rattle.link_resolve.specs.Linked.{member_at}
@@ -60,7 +60,7 @@ seated list place lm s seat e f at lab_len load offset = by_member (member_at li
 -- ---- the environment
 
 pub meets_there : (list : List Member) (slots : List Slot) (place : ℕ) (m : Member) (location : ℕ) (here start : Value) → member_at list place ≡ Some m → here ≡ place_value list place m location
-    → start ≡ place_value list place m 0 → meets list slots place (member_at list place) here start ≡ environment list (rows_of (entries list) slots) place m location
+    → start ≡ place_value list place m 0 → meets list slots place (member_at list place) here start ≡ environment list (rows_of (all_found list) slots) place m location
 unfolding environment
 meets_there list slots place m location here start there here_is start_is =
     ap (λ (o : Option Member). meets list slots place o here start) there

@@ -8,10 +8,10 @@ use Rattle.omf_format.specs.declared.value.ValueFault.TheVariants.{NotRelocatabl
 use Rattle.link_meaning.specs.Member.{Member}
 use Rattle.link_meaning.specs.Search.{Found}
 use Rattle.link_meaning.specs.Rings.{has_expr, is_equate}
-use Rattle.link_meaning.specs.LinkValues.{Told, told, place_value, found_value, if_ok, label_value}
+use Rattle.link_meaning.specs.LinkValues.{Told, told, found_value, if_ok, label_value}
 use Rattle.link_emit.specs.declared.slots.Slot.{Slot}
 use Rattle.link_emit.specs.declared.slots.Slot.TheVariants.{Open, Done, Failed}
-use Rattle.link_emit.specs.Slots.{answer_of, value_of, row_of, rows_of, AreSlots, AreOnce}
+use Rattle.link_emit.specs.Slots.{answer_of, value_of, row_of, rows_of, label_place, AreSlots, AreOnce}
 use Rattle.link_resolve.specs.Finding.{IsFirstOf}
 
 abbrev pub or_open : Option (Result Value ValueFault) → Result Value ValueFault
@@ -80,15 +80,15 @@ told_rows (g ∷ fs) (t ∷ slots) (suc k) f s once here there is =
     omega (arith, once 0 (suc k) g f refl here equate is both.0 both.1))
     ∙ told_rows fs slots k f s (once_rest g fs once) here there is
 
--- a label's slot has its place
+-- the slot of a label has its place
 pub label_slot : (list : List Member) (fs : List Found) (slots : List Slot) (n : ℕ) (f : Found) (s : Slot) → AreSlots list fs slots → slice_get fs n ≡ Some f → slice_get slots n ≡ Some s → is_equate f ≡ false
-    → s ≡ Done (place_value list f.place f.member f.definition.place)
+    → s ≡ Done (label_place list f)
 label_slot list [] slots n f s are here there is = absurd cc
 label_slot list (g ∷ fs) [] n f s are here there is = absurd are
 label_slot list (g ∷ fs) (t ∷ slots) zero f s are here there is =
     let same : g ≡ f = some_found g f here in
     let slot : t ≡ s = some_slot t s there in
-    sym slot ∙ are.0 (ap is_equate same ∙ is) ∙ ap (λ (x : Found). Done (place_value list x.place x.member x.definition.place)) same
+    sym slot ∙ are.0 (ap is_equate same ∙ is) ∙ ap (λ (x : Found). Done (label_place list x)) same
 label_slot list (g ∷ fs) (t ∷ slots) (suc k) f s are here there is = label_slot list fs slots k f s are.1 here there is
 
 told_value : (s : Slot) → if_ok (or_open (answer_of s)) ≡ value_of s
@@ -102,7 +102,7 @@ pub found_slot : (list : List Member) (fs : List Found) (slots : List Slot) (n :
 found_slot list fs slots n f s once are here there = by_expr f.definition.expr refl
   where
     by_expr : (x : Option (List ℕ)) → f.definition.expr ≡ x
-        → if_ok (elim x as (λ y. Result Value ValueFault) [ None ↦ Ok (place_value list f.place f.member f.definition.place) | Some text ↦ told (rows_of fs slots) f.place f.definition.at ]) ≡ value_of s
+        → if_ok (elim x as (λ y. Result Value ValueFault) [ None ↦ Ok (label_place list f) | Some text ↦ told (rows_of fs slots) f.place f.definition.at ]) ≡ value_of s
     by_expr None is = sym (ap value_of (label_slot list fs slots n f s are here there (ap has_expr is)))
     by_expr (Some text) is = ap if_ok (told_rows fs slots n f s once here there (ap has_expr is)) ∙ told_value s
 

@@ -12,14 +12,15 @@ use Rattle.omf_format.specs.Value.{Environment, value}
 use Rattle.link_meaning.specs.Member.{Member}
 use Rattle.link_meaning.specs.Terms.{tree_in, term_at}
 use Rattle.link_meaning.specs.laws.TreeInLaws.{tree_in-again}
-use Rattle.link_meaning.specs.Search.{Found, entries, finds}
+use Rattle.link_meaning.specs.Search.{Found, finds}
+use Rattle.link_resolve.specs.Outside.{all_found}
 use Rattle.link_meaning.specs.Rings.{has_expr, is_equate}
 use Rattle.link_meaning.specs.LinkValues.{Told, told, place_value, environment, found_value, fault_found, fault_named, settled, tree_value, value_in}
 use Rattle.link_resolve.specs.Linked.{member_at}
 use Rattle.link_resolve.specs.Finding.{IsFirstOf, finds_for}
 use Rattle.link_emit.specs.declared.seat.Seat.{Seat}
 use Rattle.link_emit.specs.declared.slots.Slot.{Slot}
-use Rattle.link_emit.specs.Slots.{answer_of, AreOnce, AreSlots, rows_of}
+use Rattle.link_emit.specs.Slots.{answer_of, label_place, AreOnce, AreSlots, rows_of}
 use Rattle.link_emit.specs.Seats.{IsSeat, meets, Surroundings, environment_of}
 use Rattle.link_emit.specs.Told.{operand, operand_in}
 use Rattle.link_emit.proofs.SeatLaws.{meets_there}
@@ -100,7 +101,7 @@ module _ (list : List Member) (all : List Found) (slots : List Slot) (n : ℕ) (
       true_false e = cc
 
       by_expr : (x : Option (List ℕ)) → f.definition.expr ≡ x
-          → fault_in (elim x as (λ y. Result Value ValueFault) [ None ↦ Ok (place_value list f.place f.member f.definition.place) | Some text ↦ told (rows_of all slots) f.place f.definition.at ]) fault ≡ fault_in (or_open (answer_of s)) fault
+          → fault_in (elim x as (λ y. Result Value ValueFault) [ None ↦ Ok (label_place list f) | Some text ↦ told (rows_of all slots) f.place f.definition.at ]) fault ≡ fault_in (or_open (answer_of s)) fault
       by_expr None e = absurd (true_false (sym is ∙ ap has_expr e))
       by_expr (Some text) e = ap (λ (r : Result Value ValueFault). fault_in r fault) (told_rows all slots n f s once here there is)
 
@@ -111,7 +112,7 @@ module _ (list : List Member) (all : List Found) (slots : List Slot) (n : ℕ) (
       true_false e = cc
 
       by_expr : (x : Option (List ℕ)) → f.definition.expr ≡ x
-          → fault_in (elim x as (λ y. Result Value ValueFault) [ None ↦ Ok (place_value list f.place f.member f.definition.place) | Some text ↦ told (rows_of all slots) f.place f.definition.at ]) fault ≡ fault_in (or_open (answer_of s)) fault
+          → fault_in (elim x as (λ y. Result Value ValueFault) [ None ↦ Ok (label_place list f) | Some text ↦ told (rows_of all slots) f.place f.definition.at ]) fault ≡ fault_in (or_open (answer_of s)) fault
       by_expr None e = ap (λ (t : Slot). fault_in (or_open (answer_of t)) fault) (sym (label_slot list all slots n f s are here there is))
       by_expr (Some text) e = absurd (true_false (sym (ap has_expr e) ∙ is))
 
@@ -127,10 +128,10 @@ module _ (list : List Member) (all : List Found) (slots : List Slot) (n : ℕ) (
 
 pub value_settled : (list : List Member) (slots : List Slot) (seat : Seat) (m : Member) (location : ℕ) (here start : Value) (text : List ℕ) (t : Tree) (r : Result Value ValueFault) → IsSeat list m seat
     → here ≡ place_value list seat.place m location → start ≡ place_value list seat.place m 0 → Spells seat.lab_len text t → r ≡ value (meets list slots seat.place (member_at list seat.place) here start) seat.lab_len 0 t
-    → settled list (rows_of (entries list) slots) seat.place m t r ≡ value_in list (rows_of (entries list) slots) seat.place m location text
+    → settled list (rows_of (all_found list) slots) seat.place m t r ≡ value_in list (rows_of (all_found list) slots) seat.place m location text
 unfolding value_in
 value_settled list slots seat m location here start text t r is here_is start_is spells value_is =
-    let rows = rows_of (entries list) slots in
+    let rows = rows_of (all_found list) slots in
     let tree : tree_in m.segment.fields.lab_len text ≡ Some t = tree_in-again m.segment.fields.lab_len text t (subst (λ (l : ℕ). Spells l text t) is.lab_len' spells) in
     ap (settled list rows seat.place m t) (value_is
     ∙ ap (λ (e : Environment). value e seat.lab_len 0 t) (meets_there list slots seat.place m location here start is.there here_is start_is)

@@ -8,7 +8,7 @@ use Rattle.load_meaning.specs.Cells.{Cell}
 use Rattle.load_meaning.specs.declared.table.Target.{Target}
 use Rattle.link_meaning.specs.declared.fault.LinkCause.{LinkCause}
 use Rattle.link_meaning.specs.Sizes.{size_at, located_from, located, place_behind, body_size}
-use Rattle.link_meaning.specs.Member.{Member}
+use Rattle.link_meaning.specs.Member.{Member, setting_in}
 use Rattle.link_meaning.specs.Layout.{offset_of, load_headers}
 use Rattle.link_meaning.specs.LinkValues.{Told}
 use Rattle.link_meaning.specs.LinkedCells.{State, zeros, made, gained, state_from, member_cells, bank_of, table_number}
@@ -97,8 +97,9 @@ module _ (list : List Member) (told : List Told) (front : List Member) (m : Memb
   pub stands_at : (back : List Member) (seat : Seat) (s : Segment) (first targets : List Target) (before : List Cell) (begin content : Holding) (done : List (ℕ × Record)) (found : ℕ × Record) (loads : List Load) (site : Site) (location : ℕ)
       → Begins list told front m back seat s first before begin → Puts list told front m done targets before content → loads ≡ map told_load (load_headers list)
       → site.table ≡ table_number list → site.own ≡ seat.load_segment → site.bank_size ≡ bank_of (load_headers list) seat.load_segment → site.offset ≡ seat.offset → location ≡ place_behind 0 done
-      → StandsAt list told (behind list told front m done) (item (length front + 1) m (one_located found (place_behind 0 done))) site loads targets before location content
+      → StandsAt list told (behind list told front m done) (item (length front + 1) m (one_located found (place_behind 0 done))) site (setting_in list) loads targets before location content
   stands_at back seat s first targets before begin content done found loads site location b p loads_are table own bank offset here = record {
+    setting' = refl;
     loads' = loads_are;
     site' = record {
       table' = table;

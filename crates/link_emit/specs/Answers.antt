@@ -1,7 +1,8 @@
 -- What linking answers, want of memory aside.
-use Rattle.std.specs.Prelude.{◌≡◌, ◌⊎◌, ℕ, List}
+use Rattle.std.specs.Prelude.{◌≡◌, ◌⊎◌, List}
 use Rattle.link_meaning.specs.declared.fault.LinkFault.{LinkFault}
 use Rattle.link_meaning.specs.Member.{Member}
+use Rattle.link_meaning.specs.LinkFaults.{Given}
 use Rattle.link_meaning.specs.EmitFaults.{IsFirstEmitFault, IsFirstLinkFault}
 use Rattle.link_resolve.specs.Reading.{memory_fault}
 
@@ -9,6 +10,6 @@ use Rattle.link_resolve.specs.Reading.{memory_fault}
 abbrev pub IsEmitRefused : List Member → LinkFault → Type 0
 IsEmitRefused list fault = (fault ≡ memory_fault) ⊎ IsFirstEmitFault list fault
 
--- it is the first fault of the files, unless memory ran out
-abbrev pub IsLinkRefused : List (List ℕ) → LinkFault → Type 0
-IsLinkRefused files fault = (fault ≡ memory_fault) ⊎ IsFirstLinkFault files fault
+-- it is the first fault of what is given, unless memory ran out
+abbrev pub IsLinkRefused : Given → LinkFault → Type 0
+IsLinkRefused given fault = (fault ≡ memory_fault) ⊎ IsFirstLinkFault given fault

@@ -12,3 +12,5 @@ pub mod Told
 pub mod Equates
 pub mod Circulars
 pub mod Walks
+pub mod Paths
+pub mod Exported

@@ -7,21 +7,21 @@ use Rattle.load_meaning.specs.declared.table.Target.{Target}
 use Rattle.load_meaning.specs.Table.{entry_place, with_target}
 use Rattle.link_meaning.specs.declared.fault.LinkCause.{LinkCause}
 use Rattle.link_meaning.specs.Fitting as meaning
-use Rattle.link_meaning.specs.Fitting.{target_of, entry_of, fitted, fit_cells, targets_behind}
+use Rattle.link_meaning.specs.Fitting.{entry_of, fitted, fit_cells, targets_behind}
 use Rattle.link_emit.specs.Holding.{Holding}
 use Rattle.link_emit.specs.declared.fit.Formula.{Formula}
 use Rattle.link_emit.specs.Contents.{HoldsCells}
 use Rattle.link_emit.specs.Fits.{with_room}
 
 -- the target had room, and has its entry there
-pub record EntersTarget (old new : List Target) (segment offset at : ℕ) : Type 0 where
-  pub targets' : new ≡ with_target old (target_of segment offset)
-  pub place : at ≡ entry_place (entry_of new (target_of segment offset))
-  pub room : with_room old (meaning.Entry segment offset) ≡ Ok (meaning.Entry segment offset)
+pub record EntersTarget (old new : List Target) (target : Target) (at : ℕ) : Type 0 where
+  pub targets' : new ≡ with_target old target
+  pub place : at ≡ entry_place (entry_of new target)
+  pub room : with_room old (meaning.Entry target) ≡ Ok (meaning.Entry target)
 
 -- this is why the target has no room
-abbrev pub LacksRoom : List Target → ℕ → ℕ → LinkCause → Type 0
-LacksRoom targets segment offset cause = with_room targets (meaning.Entry segment offset) ≡ Err cause
+abbrev pub LacksRoom : List Target → Target → LinkCause → Type 0
+LacksRoom targets target cause = with_room targets (meaning.Entry target) ≡ Err cause
 
 -- a fit's bytes were put, where the table is the load segment with this number
 pub record PutsFit (number count : ℕ) (old new : List Target) (fit : meaning.Fit) (before after : Holding) : Type 0 where

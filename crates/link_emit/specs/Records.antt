@@ -5,7 +5,7 @@ use Rattle.omf_format.specs.Field.{is_count}
 use Rattle.load_meaning.specs.Cells.{Cell}
 use Rattle.load_meaning.specs.declared.table.Target.{Target}
 use Rattle.link_meaning.specs.declared.fault.LinkCause.{LinkCause}
-use Rattle.link_meaning.specs.Member.{Member}
+use Rattle.link_meaning.specs.Member.{Setting, Member, setting_in}
 use Rattle.link_meaning.specs.Layout.{load_headers, load_of, offset_of}
 use Rattle.omf_format.specs.declared.value.Value.{Value}
 use Rattle.omf_format.specs.declared.value.ValueFault.{ValueFault}
@@ -37,7 +37,8 @@ pub record IsSite (list : List Member) (place : ℕ) (m : Member) (site : Site) 
 
 -- a record of the member at a site stands at this location, behind what the records before it left: their targets, and the cells of
 -- the load segment, of which so many are in front of the member
-pub record StandsAt (list : List Member) (told : List Told) (state : State) (i : Item) (site : Site) (loads : List Load) (targets : List Target) (front : List Cell) (location : ℕ) (content : Holding) : Type 0 where
+pub record StandsAt (list : List Member) (told : List Told) (state : State) (i : Item) (site : Site) (setting : Setting) (loads : List Load) (targets : List Target) (front : List Cell) (location : ℕ) (content : Holding) : Type 0 where
+  pub setting' : setting_in list ≡ setting
   pub loads' : loads ≡ map told_load (load_headers list)
   pub site' : IsSite list i.place i.member site
   pub location' : i.here.location ≡ location

@@ -4,7 +4,7 @@ use Rattle.omf_format.specs.declared.value.Value.{Value}
 use Rattle.omf_format.specs.Value.{Environment}
 use Rattle.link_meaning.specs.Member.{Member}
 use Rattle.link_meaning.specs.Layout.{load_of, offset_of}
-use Rattle.link_meaning.specs.Search.{entries}
+use Rattle.link_resolve.specs.Outside.{all_found}
 use Rattle.link_meaning.specs.LinkValues.{label_value, attribute_value}
 use Rattle.link_resolve.specs.Linked.{member_at}
 use Rattle.link_resolve.specs.Finding.{finds_for}
@@ -28,13 +28,13 @@ SeatOf list place (Some m) (Some seat) = (seat.place ≡ place) × IsSeat list m
 
 -- there is a slot for each definition, and no two equates are told by one place and displacement
 pub record AreKnown (list : List Member) (slots : List Slot) : Type 0 where
-  pub once : AreOnce (entries list)
-  pub are : AreSlots list (entries list) slots
+  pub once : AreOnce (all_found list)
+  pub are : AreSlots list (all_found list) slots
 
 -- what an expression meets in a member at a place, if there is one
 abbrev pub meets : List Member → List Slot → ℕ → Option Member → Value → Value → Environment
 meets list slots place m location start = record {
-  label = λ name weak. label_value list (rows_of (entries list) slots) weak (finds_for list place m name);
+  label = λ name weak. label_value list (rows_of (all_found list) slots) weak (finds_for list place m name);
   attribute = λ code name. attribute_value code (finds_for list place m name);
   location = location;
   start = start;

@@ -1,11 +1,11 @@
 -- The values of definitions that are known so far.
-use Rattle.std.specs.Prelude.{◌≡◌, ℕ, true, false, List, [], ◌∷◌, ◌++◌, Option, Some, None, Result, Ok, Err, slice_get, if◌then◌else◌}
+use Rattle.std.specs.Prelude.{◌≡◌, ℕ, true, false, List, [], ◌∷◌, ◌++◌, Option, Some, None, Result, Ok, Err, slice_get, ◌==◌, if◌then◌else◌}
 use Rattle.omf_format.specs.declared.value.Value.{Value}
 use Rattle.omf_format.specs.declared.value.ValueFault.{ValueFault}
 use Rattle.link_meaning.specs.Member.{Member}
 use Rattle.link_meaning.specs.Search.{Found}
 use Rattle.link_meaning.specs.Rings.{is_equate}
-use Rattle.link_meaning.specs.LinkValues.{Told, place_value}
+use Rattle.link_meaning.specs.LinkValues.{Told, place_value, outside_value}
 use Rattle.link_emit.specs.declared.slots.Slot.{Slot}
 use Rattle.link_emit.specs.declared.slots.Slot.TheVariants.{Open, Done, Failed}
 
@@ -31,13 +31,17 @@ rows_of [] slots = []
 rows_of (f ∷ fs) [] = []
 rows_of (f ∷ fs) (slot ∷ slots) = row_of f (answer_of slot) ++ rows_of fs slots
 
--- there is a slot for each definition, and a label's has its place
+-- the value of a name that isn't an equate: its place, in a member or in a run-time library file
+abbrev pub label_place : List Member → Found → Value
+label_place list f = if f.place == 0 then outside_value f else place_value list f.place f.member f.definition.place
+
+-- there is a slot for each of these, and that of a label has its place
 abbrev pub AreSlots : List Member → List Found → List Slot → Type 0
 AreSlots list [] [] = Unit {0}
 AreSlots list [] (slot ∷ slots) = ⊥
 AreSlots list (f ∷ fs) [] = ⊥
 AreSlots list (f ∷ fs) (slot ∷ slots) =
-    (is_equate f ≡ false → slot ≡ Done (place_value list f.place f.member f.definition.place)) × AreSlots list fs slots
+    (is_equate f ≡ false → slot ≡ Done (label_place list f)) × AreSlots list fs slots
 
 -- no two numbers are one equate's
 abbrev pub AreOnce : List Found → Type 0

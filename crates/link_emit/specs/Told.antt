@@ -2,10 +2,10 @@
 use Rattle.std.specs.Prelude.{ℕ, List, [], ◌∷◌, Option, Some, None, ◌==◌, if◌then◌else◌}
 use Rattle.std.specs.Option.{option_or}
 use Rattle.omf_format.specs.Expression.{Term, Operator, Location, Constant, Named, Offset}
-use Rattle.link_resolve.specs.Definitions.{ToldDefinition}
+use Rattle.link_resolve.specs.Programs.{ToldSymbol}
 
 -- its length ($84), type ($85) or count
-abbrev pub attribute_told : ℕ → ToldDefinition → ℕ
+abbrev pub attribute_told : ℕ → ToldSymbol → ℕ
 attribute_told code d = if code == 0x84 then d.length else if code == 0x85 then d.form else 1
 
 -- a term that isn't an operator

@@ -9,6 +9,7 @@ ghost use Rattle.link_emit.specs.Answers.{IsEmitRefused};
 ghost use Rattle.link_emit.specs.Fits.{told_load};
 
 use crate::equates::values_of;
+use crate::exports::exports_text;
 use crate::file::write_linked;
 use crate::fit::Load;
 use crate::image::ImageFault;
@@ -89,7 +90,24 @@ pub fn emit(alloc: Global, program: &Program) -> Result<Vec<u8>, LinkFault>
             return Err(fault);
         }
     };
-    match write_linked(alloc, headers, contents.as_slice(), &table) {
+    let exports = match exports_text(alloc, &whole) {
+        Ok(exports) => exports,
+        Err(_) => {
+            drop(contents);
+            drop(table);
+            drop(loads);
+            drop(slots);
+            return Err(memory_fault());
+        }
+    };
+    match write_linked(
+        alloc,
+        headers,
+        contents.as_slice(),
+        exports.as_slice(),
+        &table,
+        program,
+    ) {
         Ok(output) => Ok(output),
         Err(ImageFault::TooLong) => Err(too_long()),
         Err(ImageFault::Memory) => Err(memory_fault()),

@@ -1,12 +1,14 @@
 //! The values of equates: each once those to which it leads have theirs.
 
-ghost use Rattle.std.specs.Prelude.{◌≡◌, ◌<◌, ◌≤◌, ◌^◌, true, false, ℕ, List, Some, IfOk, IfErr, OnOk, length, slice_get};
+ghost use Rattle.std.specs.Prelude.{◌≡◌, ◌<◌, ◌≤◌, ◌^◌, pos, true, false, ℕ, List, Some, IfOk, IfErr, OnOk, length, slice_get};
 ghost use Rattle.std.specs.Bool.{OnTrue};
 ghost use Rattle.rings.specs.Graphs.{IsIn, row_at};
+ghost use Rattle.omf_format.specs.declared.value.Value.TheVariants.{At};
 ghost use Rattle.link_meaning.specs.LinkValues.{equate_value};
-ghost use Rattle.link_meaning.specs.Search.{Found, entries};
+ghost use Rattle.link_meaning.specs.Search.{Found};
+ghost use Rattle.link_resolve.specs.Outside.{all_found};
 ghost use Rattle.link_meaning.specs.Rings.{is_equate};
-ghost use Rattle.link_resolve.specs.Definitions.{definition_of, told_definition};
+ghost use Rattle.link_resolve.specs.Programs.{symbol_of, told_symbol};
 ghost use Rattle.link_resolve.specs.OfFiles.{IsOfFiles};
 ghost use Rattle.link_emit.specs.Slots.{answer_of, rows_of};
 ghost use Rattle.link_emit.specs.Equates.{IsFirstSlot, AreFirstSlots, IsOpen, AreTrue, AreRows, AreSettled, open_count, with_slot, AreValues, IsRingRefused};
@@ -22,25 +24,42 @@ use omf_format::{Value, ValueFault};
 use rings::{Edges, first_ring, order_of};
 use std::alloc::{AllocError, Global};
 
-/// What is known of a definition at first: the place of a label.
-fn first_slot(program: &Program, definition: &Definition) -> Slot
-    requires files { IsOfFiles program.now }
-    requires there { (k : ℕ) × (f : Found) × (slice_get (entries program.now) k ≡ Some f) × (definition_of definition.now ≡ told_definition f) }
-    ensures { (k : ℕ) (f : Found) → slice_get (entries program.now) k ≡ Some f → definition_of definition.now ≡ told_definition f → IsFirstSlot program.now f result }
+/// The place that a name of a run-time library file stands for.
+fn place_outside(definition: &Definition) -> Value
+    ensures { result ≡ At definition.now.file definition.now.segment definition.now.at (pos 0) }
 {
-    match definition.expr {
-        Some(_) => Slot::Open,
-        None => match seat_of(program, definition.member) {
-            Some(seat) => Slot::Done(place_at(seat, definition.at)),
-            None => unreachable!(),
-        },
+    Value::At {
+        file: definition.file,
+        segment: definition.segment,
+        offset: definition.at,
+        shift: 0,
     }
 }
 
-/// What is known of all definitions at first.
+/// What is known at first of what a name can find: the place of a label, or of a name of a run-time library file.
+fn first_slot(program: &Program, definition: &Definition) -> Slot
+    requires files { IsOfFiles program.now }
+    requires there { (k : ℕ) × (f : Found) × (slice_get (all_found program.now) k ≡ Some f) × (symbol_of definition.now ≡ told_symbol program.now f) }
+    ensures { (k : ℕ) (f : Found) → slice_get (all_found program.now) k ≡ Some f → symbol_of definition.now ≡ told_symbol program.now f → IsFirstSlot program.now f result }
+{
+    match definition.expr {
+        Some(_) => Slot::Open,
+        None => {
+            if definition.member == 0 {
+                return Slot::Done(place_outside(definition));
+            }
+            match seat_of(program, definition.member) {
+                Some(seat) => Slot::Done(place_at(seat, definition.at)),
+                None => unreachable!(),
+            }
+        }
+    }
+}
+
+/// What is known at first of all that a name can find.
 fn first_slots(alloc: Global, program: &Program) -> Result<Vec<Slot>, AllocError>
     requires { IsOfFiles program.now }
-    ensures { IfOk result (λ slots. AreFirstSlots program.now (entries program.now) slots.items) }
+    ensures { IfOk result (λ slots. AreFirstSlots program.now (all_found program.now) slots.items) }
 {
     let mut slots = Vec::new(alloc);
     'definitions: loop {
@@ -84,8 +103,8 @@ fn first_open(slots: &[Slot], row: &[usize]) -> Option<usize>
 fn slot_of(program: &Program, slots: &[Slot], number: usize) -> Slot
     requires files { IsOfFiles program.now }
     requires are { AreTrue program.now slots.now }
-    ensures { (f : Found) → slice_get (entries program.now) number ≡ Some f → is_equate f ≡ true
-        → answer_of result ≡ Some (equate_value program.now (rows_of (entries program.now) slots.now) f) }
+    ensures { (f : Found) → slice_get (all_found program.now) number ≡ Some f → is_equate f ≡ true
+        → answer_of result ≡ Some (equate_value program.now (rows_of (all_found program.now) slots.now) f) }
 {
     let definition = match program.definition(number) {
         Some(definition) => definition,
@@ -116,7 +135,7 @@ fn set_slot(slots: &mut Vec<Slot>, number: usize, slot: Slot)
 /// Finds the value of an equate that has none yet, where those to which it leads have theirs; whether it was found.
 fn settle(program: &Program, edges: &Edges, slots: &mut Vec<Slot>, number: usize) -> bool
     requires files { IsOfFiles program.now }
-    requires rows { AreRows program.now (entries program.now) edges.now }
+    requires rows { AreRows program.now (all_found program.now) edges.now }
     requires are { AreTrue program.now slots.old.items }
     ensures are { AreTrue program.now slots.new.items }
     ensures fewer { OnTrue result (open_count slots.new.items < open_count slots.old.items) }
@@ -138,7 +157,7 @@ fn settle(program: &Program, edges: &Edges, slots: &mut Vec<Slot>, number: usize
 /// Finds values in an order.
 fn settle_in(program: &Program, edges: &Edges, slots: &mut Vec<Slot>, order: &[usize])
     requires files { IsOfFiles program.now }
-    requires rows { AreRows program.now (entries program.now) edges.now }
+    requires rows { AreRows program.now (all_found program.now) edges.now }
     requires are { AreTrue program.now slots.old.items }
     ensures { AreTrue program.now slots.new.items }
 {
@@ -150,7 +169,7 @@ fn settle_in(program: &Program, edges: &Edges, slots: &mut Vec<Slot>, order: &[u
 /// Finds values from the first definition to the last; whether there was one.
 fn settle_once(program: &Program, edges: &Edges, slots: &mut Vec<Slot>) -> bool
     requires files { IsOfFiles program.now }
-    requires rows { AreRows program.now (entries program.now) edges.now }
+    requires rows { AreRows program.now (all_found program.now) edges.now }
     requires are { AreTrue program.now slots.old.items }
     ensures are { AreTrue program.now slots.new.items }
     ensures fewer { OnTrue result (open_count slots.new.items < open_count slots.old.items) }
@@ -170,7 +189,7 @@ fn settle_once(program: &Program, edges: &Edges, slots: &mut Vec<Slot>) -> bool
 /// Finds values until there are no more to be found.
 fn settle_all(program: &Program, edges: &Edges, slots: &mut Vec<Slot>)
     requires files { IsOfFiles program.now }
-    requires rows { AreRows program.now (entries program.now) edges.now }
+    requires rows { AreRows program.now (all_found program.now) edges.now }
     requires are { AreTrue program.now slots.old.items }
     ensures are { AreTrue program.now slots.new.items }
     ensures settled { AreSettled edges.now slots.new.items }

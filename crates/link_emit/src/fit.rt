@@ -1,15 +1,18 @@
 //! How a value fits into an expression record.
 
-ghost use Rattle.std.specs.Prelude.{◌≡◌, ◌+◌, ◌^◌, ◌<◌, ◌≤◌, ◌&&◌, ◌==◌, not, IsTrue, List, map, option_map};
+ghost use Rattle.std.specs.Prelude.{◌≡◌, ◌+◌, ◌^◌, ◌<◌, ◌≤◌, ◌&&◌, Bool, IsTrue, List, map, option_map};
 ghost use Rattle.omf_format.specs.Field.{is_count};
 ghost use Rattle.omf_format.specs.Header.{Fields};
 ghost use Rattle.omf_format.specs.Value.{is_unshifted};
 ghost use Rattle.load_meaning.specs.Cells.{Cell};
 ghost use Rattle.load_meaning.specs.declared.table.Target.{Target};
-ghost use Rattle.link_meaning.specs.Fitting.{number_fit, distance_fit, place_fit, is_dynamic_load, length_of, is_call, ends_in_jsl, or_does_not_fit, call_fit, fitted};
+ghost use Rattle.link_meaning.specs.Member.{Setting, setting_in};
+ghost use Rattle.link_meaning.specs.Fitting.{number_fit, distance_fit, place_fit, is_dynamic_load, length_of, length_outside, length_there, may_call, is_far, is_call, ends_in_jsl, or_does_not_fit, call_fit, fitted};
 ghost use Rattle.link_emit.specs.Fits.{shown, shown_frame, told_fit, told_load, answered};
 
-use link_meaning::LinkCause;
+use jump_table::Target;
+use link_meaning::{LinkCause, LinkForm};
+use link_resolve::Program;
 use omf_format::Value;
 
 /// The code of EXPR.
@@ -33,10 +36,7 @@ pub enum Fit {
         shift: i8,
     },
     /// Those of the jump table's entry for a target.
-    Entry {
-        segment: u16,
-        offset: u32,
-    },
+    Entry(Target),
 }
 
 /// What fitting asks of a load segment.
@@ -114,7 +114,7 @@ fn distance_fit(count: u8, to: u32, from: u64) -> Option<Fit>
 
 /// What a place becomes that isn't in another dynamic segment.
 fn place_fit(frame: Frame, formula: Formula, segment: u16, offset: u32, shift: i8) -> Option<Fit>
-    ensures { option_map shown result ≡ place_fit (shown_frame frame) formula.code formula.count formula.n segment offset shift }
+    ensures { (setting : Setting) → option_map shown result ≡ place_fit (shown_frame setting frame) formula.code formula.count formula.n segment offset shift }
 {
     let place = Fit::Place {
         segment,
@@ -156,20 +156,54 @@ fn is_dynamic(loads: &[Load], number: u16) -> bool
     }
 }
 
-/// Whether a load segment is another one, and dynamic.
-fn is_far(loads: &[Load], own: u16, number: u16) -> bool
-    ensures { (headers : List Fields) → loads.now ≡ map told_load headers → result ≡ not (number == own) && is_dynamic_load headers number }
+/// Whether a place is in a run-time library file, or in another load segment that is dynamic.
+fn is_far(loads: &[Load], own: u16, file: u16, segment: u16) -> bool
+    ensures { (headers : List Fields) → loads.now ≡ map told_load headers → result ≡ is_far headers own file segment }
 {
-    number != own && is_dynamic(loads, number)
+    file != 1 || (segment != own && is_dynamic(loads, segment))
 }
 
 /// LENGTH of the load segment with this number.
-fn length_of(loads: &[Load], number: u16) -> u32
+pub fn length_of(loads: &[Load], number: u16) -> u32
     ensures { (headers : List Fields) → loads.now ≡ map told_load headers → result ≡ length_of headers number }
 {
     match loads.get(usize::from(number).saturating_sub(1)) {
         Some(load) => load.length,
         None => 0,
+    }
+}
+
+/// LENGTH of a segment of the run-time library file with this number in values, from 2.
+fn length_outside(program: &Program, file: u16, segment: u16) -> u32
+    ensures { result ≡ length_outside (setting_in program.now) file segment }
+{
+    let load = match program.runtime(u32::from(file).saturating_sub(2)) {
+        Some(load) => load,
+        None => return 0,
+    };
+    match load.header(u32::from(segment)) {
+        Some(header) => header.length,
+        None => 0,
+    }
+}
+
+/// LENGTH of the segment that is called.
+fn length_there(program: &Program, loads: &[Load], target: Target) -> u32
+    ensures { (headers : List Fields) → loads.now ≡ map told_load headers → result ≡ length_there headers (setting_in program.now) target }
+{
+    if target.file == 1 {
+        return length_of(loads, target.segment);
+    }
+    length_outside(program, target.file, target.segment)
+}
+
+/// Whether what is linked so calls through a jump table: a program alone.
+fn may_call(form: LinkForm) -> bool
+    ensures { result ≡ may_call form }
+{
+    match form {
+        LinkForm::Program => true,
+        LinkForm::Runtime => false,
     }
 }
 
@@ -180,19 +214,19 @@ fn is_call(formula: Formula, shift: i8, jsl: bool) -> bool
     formula.code == LEXPR && formula.count == 3 && shift == 0 && jsl
 }
 
-/// What a place in another dynamic segment becomes: an entry of the jump table, where the record calls and the offset is below
-/// LENGTH.
-fn call_fit(length: u32, call: bool, segment: u16, offset: u32) -> Result<Fit, LinkCause>
-    ensures { (headers : List Fields) (targets : List Target) → length_of headers segment ≡ length
-        → call_fit headers targets call segment offset ≡ answered targets result }
+/// What a place in a run-time library file or in another dynamic segment becomes: an entry of the jump table, where the record calls,
+/// what is linked may call, and the offset is below LENGTH.
+fn call_fit(length: u32, call: bool, target: Target) -> Result<Fit, LinkCause>
+    ensures { (headers : List Fields) (setting : Setting) (targets : List Target) (calls : Bool) → length_there headers setting target ≡ length
+        → may_call setting.form && calls ≡ call → call_fit headers setting targets calls target ≡ answered targets result }
 {
     if !call {
         return Err(LinkCause::DynamicReference);
     }
-    if length <= offset {
+    if length <= target.offset {
         return Err(LinkCause::OutOfSegment);
     }
-    Ok(Fit::Entry { segment, offset })
+    Ok(Fit::Entry(target))
 }
 
 fn or_does_not_fit(fit: Option<Fit>) -> Result<Fit, LinkCause>
@@ -207,6 +241,7 @@ fn or_does_not_fit(fit: Option<Fit>) -> Result<Fit, LinkCause>
 /// What a value becomes in a record that stands there, behind a byte $22 or not; whether the jump table has room for its
 /// target isn't asked.
 pub fn fitted(
+    program: &Program,
     loads: &[Load],
     frame: Frame,
     jsl: bool,
@@ -214,19 +249,25 @@ pub fn fitted(
     value: Value,
 ) -> Result<Fit, LinkCause>
     ensures { (headers : List Fields) (targets : List Target) (before : List Cell) → loads.now ≡ map told_load headers → ends_in_jsl before ≡ jsl
-        → fitted headers (shown_frame frame) targets before formula.code formula.count formula.n value ≡ answered targets result }
+        → fitted headers (shown_frame (setting_in program.now) frame) targets before formula.code formula.count formula.n value ≡ answered targets result }
 {
     match value {
         Value::Fixed(n) => or_does_not_fit(number_fit(formula, n)),
         Value::At {
-            file: _,
+            file,
             segment,
             offset,
             shift,
         } => {
-            if is_far(loads, frame.own, segment) {
-                let length = length_of(loads, segment);
-                return call_fit(length, is_call(formula, shift, jsl), segment, offset);
+            if is_far(loads, frame.own, file, segment) {
+                let target = Target {
+                    file,
+                    segment,
+                    offset,
+                };
+                let length = length_there(program, loads, target);
+                let call = may_call(program.form()) && is_call(formula, shift, jsl);
+                return call_fit(length, call, target);
             }
             or_does_not_fit(place_fit(frame, formula, segment, offset, shift))
         }

@@ -1,12 +1,13 @@
 //! Load segments, as they are written one behind another.
 
-ghost use Rattle.std.specs.Prelude.{◌≡◌, ◌≤◌, ◌+◌, ◌<◌, ◌^◌, ◌++◌, ◌∷◌, [], IfOk, IfErr, OnOk, IsErrOf, MatchOption, Some, length, map, slice_get, take, drop, replicate};
+ghost use Rattle.std.specs.Prelude.{◌≡◌, ◌≤◌, ◌+◌, ◌<◌, ◌^◌, ◌++◌, ◌∷◌, [], IfOk, IfErr, OnOk, IsErrOf, MatchOption, Some, length, map, slice_get, take, drop, replicate, List};
 ghost use Rattle.omf_format.specs.Header.{IsWritable, header_bytes};
 ghost use Rattle.omf_header.specs.View.{fields};
 ghost use Rattle.load_meaning.specs.WrittenBody.{AreWritten, body_text, written_cells, zeros_behind};
 ghost use Rattle.load_meaning.specs.WrittenFile.{image_text, file_text};
 ghost use Rattle.omf_cells.specs.WrittenParts.{seen};
-ghost use Rattle.link_emit.specs.Images.{with_space, image_in, images_in, IsReady, AreReady};
+ghost use Rattle.omf_format.specs.Record.{Record};
+ghost use Rattle.link_emit.specs.Images.{with_space, spelled, image_in, images_in, IsReady, AreReady};
 
 use crate::content::{Content, Place};
 use omf_base::{Name, NameFault};
@@ -88,7 +89,12 @@ fn spaced(alloc: Global, header: &Header, zeros: u32) -> Result<Header, ImageFau
 }
 
 /// The bytes of a header before a body of so many bytes with END behind it; RESSPC is as the body has it.
-fn front_of(alloc: Global, header: &Header, zeros: u32, size: usize) -> Result<Vec<u8>, ImageFault>
+pub fn front_of(
+    alloc: Global,
+    header: &Header,
+    zeros: u32,
+    size: usize,
+) -> Result<Vec<u8>, ImageFault>
     requires { IsWritable (with_space (fields header.now) zeros) }
     ensures ok { IfOk result (λ front. front.items ≡ header_bytes (with_space (fields header.now) zeros) (size + 1)) }
     ensures too_long { IsErrOf result ImageFault.TooLong → 0x1000000 < 0x37 + length header.now.name + (size + 1) }
@@ -105,7 +111,7 @@ fn front_of(alloc: Global, header: &Header, zeros: u32, size: usize) -> Result<V
 }
 
 /// How many bytes a header has.
-fn head_size(header: &Header) -> usize
+pub fn head_size(header: &Header) -> usize
     ensures value { result ≡ 0x37 + length header.now.name }
     ensures few { result < 2 ^ 9 }
 {
@@ -141,18 +147,20 @@ fn put_content(
     }
 }
 
-/// Appends room for a header, and a body behind it. The answer is how many zero bytes stand behind the body's data in memory.
+/// Appends room for a header, a body behind it, and behind that what the segment exports. The answer is how many zero bytes stand
+/// behind the body's data in memory.
 fn put_behind(
     alloc: Global,
     out: &mut Vec<u8>,
     room: usize,
     own: u16,
     content: &Content<'_>,
+    exports: &[u8],
 ) -> Result<u32, ImageFault>
     requires room { length out.old.items + room < 2 ^ 33 }
     requires small { length (content.now).bytes ≤ 0xFFFFFF }
     requires patches { AreWritten (length (content.now).bytes) 0 (map seen (content.now).patches) }
-    ensures bytes { OnOk result (out.new.items ≡ out.old.items ++ replicate room 0 ++ body_text own (content.now).bytes (map seen (content.now).patches)) }
+    ensures bytes { OnOk result (out.new.items ≡ out.old.items ++ replicate room 0 ++ (body_text own (content.now).bytes (map seen (content.now).patches) ++ exports.now)) }
     ensures zeros { IfOk result (λ zeros. zeros ≡ zeros_behind (written_cells (content.now).bytes (map seen (content.now).patches))) }
     ensures memory_alone { IfErr result (λ fault. fault ≡ ImageFault.Memory) }
 {
@@ -161,6 +169,7 @@ fn put_behind(
         Err(fault) => return Err(fault),
     }
     let zeros = put_content(alloc, out, own, content)?;
+    out.extend_from_slice(exports)?;
     Ok(zeros)
 }
 
@@ -189,22 +198,24 @@ fn close(out: &mut Vec<u8>, start: usize, front: &[u8]) -> Result<(), ImageFault
 }
 
 /// LOADNAME has ten bytes.
-fn know_size(load_name: [u8; 10])
+pub fn know_size(load_name: [u8; 10])
     ensures { length load_name ≡ 10 }
 {}
 
-/// Appends a load segment: its header, with RESSPC as the body has it, and its body. It is too long where the file would exceed
-/// 16,777,216 bytes.
+/// Appends a load segment: its header, with RESSPC as the body has it, its body, and the ENTRY records that it exports. It is too
+/// long where the file would exceed 16,777,216 bytes.
 pub fn put_image(
     alloc: Global,
     out: &mut Vec<u8>,
     header: &Header,
     content: &Content<'_>,
+    exports: &[u8],
 ) -> Result<(), ImageFault>
     requires { IsReady (fields header.now) content.now }
-    ensures ok { OnOk result (out.new.items ≡ out.old.items ++ image_text (image_in (fields header.now) content.now)) }
+    ensures ok { OnOk result ((records : List Record) → exports.now ≡ spelled records → out.new.items ≡ out.old.items ++ image_text (image_in (fields header.now) content.now records)) }
     ensures short { OnOk result (length out.new.items ≤ 0x1000000) }
-    ensures too_long { IsErrOf result ImageFault.TooLong → 0x1000000 < length out.old.items + length (image_text (image_in (fields header.now) content.now)) }
+    ensures too_long { IsErrOf result ImageFault.TooLong → (records : List Record) → exports.now ≡ spelled records
+        → 0x1000000 < length out.old.items + length (image_text (image_in (fields header.now) content.now records)) }
 {
     know_size(header.load_name);
     let start = out.as_slice().len();
@@ -212,7 +223,7 @@ pub fn put_image(
         return Err(ImageFault::TooLong);
     }
     let room = head_size(header);
-    let zeros = match put_behind(alloc, out, room, header.seg_num, content) {
+    let zeros = match put_behind(alloc, out, room, header.seg_num, content, exports) {
         Ok(zeros) => zeros,
         Err(fault) => return Err(fault),
     };
@@ -238,19 +249,22 @@ fn content_at<'h, 'a>(contents: &'h [Content<'a>], place: usize) -> Option<&'h C
     contents.get(place)
 }
 
-/// Appends load segments, one behind another.
+/// Appends load segments, one behind another; the first has the ENTRY records.
 pub fn put_images(
     alloc: Global,
     out: &mut Vec<u8>,
     headers: &[Header],
     contents: &[Content<'_>],
+    exports: &[u8],
 ) -> Result<(), ImageFault>
     requires { AreReady headers.now contents.now }
-    ensures ok { OnOk result (out.new.items ≡ out.old.items ++ file_text (images_in headers.now contents.now)) }
+    ensures ok { OnOk result ((records : List Record) → exports.now ≡ spelled records → out.new.items ≡ out.old.items ++ file_text (images_in records headers.now contents.now)) }
     ensures short { OnOk result (length out.old.items ≤ 0x1000000 → length out.new.items ≤ 0x1000000) }
-    ensures too_long { IsErrOf result ImageFault.TooLong → 0x1000000 < length out.old.items + length (file_text (images_in headers.now contents.now)) }
+    ensures too_long { IsErrOf result ImageFault.TooLong → (records : List Record) → exports.now ≡ spelled records
+        → 0x1000000 < length out.old.items + length (file_text (images_in records headers.now contents.now)) }
 {
     let count = headers.len();
+    let mut own = exports;
     let mut place = 0;
     'loads: while place < count {
         let Some(header) = header_at(headers, place) else {
@@ -259,10 +273,11 @@ pub fn put_images(
         let Some(content) = content_at(contents, place) else {
             unreachable!()
         };
-        match put_image(alloc, out, header, content) {
+        match put_image(alloc, out, header, content, own) {
             Ok(()) => {}
             Err(fault) => return Err(fault),
         }
+        own = &[];
         place += 1;
     }
     Ok(())

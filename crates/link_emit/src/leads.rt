@@ -6,8 +6,9 @@ ghost use Rattle.omf_format.specs.Expression.{IsExpression, terms_in};
 ghost use Rattle.omf_expr.specs.View.{view};
 ghost use Rattle.link_meaning.specs.Member.{Member};
 ghost use Rattle.link_meaning.specs.Terms.{asks_value};
-ghost use Rattle.link_meaning.specs.Search.{Found, entries};
-ghost use Rattle.link_resolve.specs.Definitions.{definition_of, told_definition};
+ghost use Rattle.link_meaning.specs.Search.{Found};
+ghost use Rattle.link_resolve.specs.Outside.{all_found};
+ghost use Rattle.link_resolve.specs.Programs.{symbol_of, told_symbol};
 ghost use Rattle.link_resolve.specs.Linked.{member_at};
 ghost use Rattle.link_resolve.specs.OfFiles.{IsOfFiles};
 ghost use Rattle.link_emit.specs.Equates.{AreFirstSlots, IsRow, AreRows, NameRow, FindOne};
@@ -28,7 +29,7 @@ fn add_lead(
     term: Term,
     row: &mut Vec<usize>,
 ) -> Result<(), AllocError>
-    requires { AreFirstSlots program.now (entries program.now) slots.now }
+    requires { AreFirstSlots program.now (all_found program.now) slots.now }
     ensures { OnOk result ((m : Member) (names : List (List ℕ)) → member_at program.now place ≡ Some m → FindOne program.now place m (asks_value (view term.entry))
         → NameRow program.now place m names row.old.items → NameRow program.now place m (names ++ asks_value (view term.entry)) row.new.items) }
 {
@@ -59,7 +60,7 @@ fn add_leads(
     expr: &[u8],
     row: &mut Vec<usize>,
 ) -> Result<(), AllocError>
-    requires slots { AreFirstSlots program.now (entries program.now) slots.now }
+    requires slots { AreFirstSlots program.now (all_found program.now) slots.now }
     requires spelled { IsExpression lab_len expr.now }
     ensures { OnOk result ((m : Member) → member_at program.now place ≡ Some m → FindOne program.now place m (flat_map (λ placed. asks_value placed.1) (terms_in lab_len 0 expr.now))
         → row.old.items ≡ [] → NameRow program.now place m (flat_map (λ placed. asks_value placed.1) (terms_in lab_len 0 expr.now)) row.new.items) }
@@ -81,9 +82,9 @@ fn find_row(
     row: &mut Vec<usize>,
 ) -> Result<(), AllocError>
     requires files { IsOfFiles program.now }
-    requires slots { AreFirstSlots program.now (entries program.now) slots.now }
-    requires there { (k : ℕ) × (f : Found) × (slice_get (entries program.now) k ≡ Some f) × (definition_of definition.now ≡ told_definition f) }
-    ensures { OnOk result ((k : ℕ) (f : Found) → slice_get (entries program.now) k ≡ Some f → definition_of definition.now ≡ told_definition f → IsRow program.now f row.new.items) }
+    requires slots { AreFirstSlots program.now (all_found program.now) slots.now }
+    requires there { (k : ℕ) × (f : Found) × (slice_get (all_found program.now) k ≡ Some f) × (symbol_of definition.now ≡ told_symbol program.now f) }
+    ensures { OnOk result ((k : ℕ) (f : Found) → slice_get (all_found program.now) k ≡ Some f → symbol_of definition.now ≡ told_symbol program.now f → IsRow program.now f row.new.items) }
 {
     row.clear();
     match definition.expr {
@@ -98,8 +99,8 @@ fn find_row(
 /// Which equates lead to which: a vertex for each definition.
 pub fn leads_of(alloc: Global, program: &Program, slots: &[Slot]) -> Result<Edges, AllocError>
     requires files { IsOfFiles program.now }
-    requires slots { AreFirstSlots program.now (entries program.now) slots.now }
-    ensures { IfOk result (λ edges. AreRows program.now (entries program.now) edges) }
+    requires slots { AreFirstSlots program.now (all_found program.now) slots.now }
+    ensures { IfOk result (λ edges. AreRows program.now (all_found program.now) edges) }
 {
     let mut edges = Edges::new(alloc);
     let mut row = Vec::new(alloc);

@@ -1,7 +1,7 @@
 //! What an expression meets in a member of the program.
 
 ghost use Rattle.std.specs.Prelude.{◌≡◌};
-ghost use Rattle.link_resolve.specs.Definitions.{definition_of};
+ghost use Rattle.link_resolve.specs.Programs.{symbol_of};
 ghost use Rattle.link_emit.specs.Told.{attribute_told};
 
 use crate::slots::{Slot, label_of};
@@ -56,7 +56,7 @@ impl<'e, 'a> Meets<'e, 'a> {
 
 /// The length (term $84), type ($85) or count of a name that found a definition.
 fn attribute_of(term: u8, definition: &Definition) -> u32
-    ensures { result ≡ attribute_told term (definition_of definition.now) }
+    ensures { result ≡ attribute_told term (symbol_of definition.now) }
 {
     if term == 0x84 {
         u32::from(definition.length)

@@ -6,6 +6,7 @@ ghost use Rattle.omf_format.specs.Field.{is_count};
 ghost use Rattle.omf_format.specs.Header.{Fields};
 ghost use Rattle.load_meaning.specs.Cells.{Cell, Byte};
 ghost use Rattle.link_meaning.specs.declared.fault.LinkCause.TheVariants as causes;
+ghost use Rattle.link_meaning.specs.Member.{setting_in};
 ghost use Rattle.link_meaning.specs.Fitting.{fitted, ends_in_jsl, parts};
 ghost use Rattle.link_emit.specs.Fits.{shown, shown_frame, told_load, with_room};
 ghost use Rattle.link_emit.specs.Contents.{HoldsCells};
@@ -13,8 +14,9 @@ ghost use Rattle.link_emit.specs.Puts.{EntersTarget, LacksRoom, PutsFit, PutsVal
 
 use crate::content::Content;
 use crate::fit::{Fit, Formula, Frame, Load, fitted};
-use jump_table::{Table, TableFault};
+use jump_table::{Table, TableFault, Target};
 use link_meaning::LinkCause;
+use link_resolve::Program;
 use omf_base::front;
 use omf_format::Value;
 
@@ -41,11 +43,11 @@ fn put_number(content: &mut Content<'_>, count: u8, n: u32) -> Result<(), LinkCa
 }
 
 /// The place of the table's entry for a target, which is added where it isn't there.
-fn entry(table: &mut Table, segment: u16, offset: u32) -> Result<u32, LinkCause>
-    ensures ok { IfOk result (λ at. EntersTarget table.old table.new segment offset at) }
-    ensures err { IfErr result (λ cause. (cause ≡ causes.Memory) ⊎ LacksRoom table.old segment offset cause) }
+fn entry(table: &mut Table, target: Target) -> Result<u32, LinkCause>
+    ensures ok { IfOk result (λ at. EntersTarget table.old table.new target at) }
+    ensures err { IfErr result (λ cause. (cause ≡ causes.Memory) ⊎ LacksRoom table.old target cause) }
 {
-    let at = match table.entry(1, segment, offset) {
+    let at = match table.entry(target.file, target.segment, target.offset) {
         Ok(at) => at,
         Err(TableFault::TooMany) => return Err(LinkCause::TooManyEntries),
         Err(TableFault::Memory) => return Err(LinkCause::Memory),
@@ -93,8 +95,8 @@ fn put_fit(
             offset,
             shift,
         } => put_place(content, count, segment, offset, shift),
-        Fit::Entry { segment, offset } => {
-            let at = entry(table, segment, offset)?;
+        Fit::Entry(target) => {
+            let at = entry(table, target)?;
             put_place(content, count, number, at, 0)
         }
     }
@@ -106,6 +108,7 @@ pub fn put_formula(
     content: &mut Content<'_>,
     table: &mut Table,
     number: u16,
+    program: &Program,
     loads: &[Load],
     frame: Frame,
     jsl: bool,
@@ -114,10 +117,10 @@ pub fn put_formula(
 ) -> Result<(), LinkCause>
     requires small { length (content.old).bytes + 4 < 2 ^ 32 }
     ensures ok { OnOk result ((headers : List Fields) (before : List Cell) → loads.now ≡ map told_load headers → ends_in_jsl before ≡ jsl
-        → PutsValue headers (shown_frame frame) before formula value number table.old table.new content.old content.new) }
+        → PutsValue headers (shown_frame (setting_in program.now) frame) before formula value number table.old table.new content.old content.new) }
     ensures err { IfErr result (λ cause. (headers : List Fields) (before : List Cell) → loads.now ≡ map told_load headers → ends_in_jsl before ≡ jsl
-        → (cause ≡ causes.Memory) ⊎ (fitted headers (shown_frame frame) table.old before formula.code formula.count formula.n value ≡ Err cause)) }
+        → (cause ≡ causes.Memory) ⊎ (fitted headers (shown_frame (setting_in program.now) frame) table.old before formula.code formula.count formula.n value ≡ Err cause)) }
 {
-    let fit = fitted(loads, frame, jsl, formula, value)?;
+    let fit = fitted(program, loads, frame, jsl, formula, value)?;
     put_fit(content, table, number, formula.count, fit)
 }

@@ -6,7 +6,7 @@ ghost use Rattle.link_meaning.specs.declared.fault.LinkCause.TheVariants as caus
 ghost use Rattle.link_meaning.specs.Fitting.{ends_in_jsl, value_cause};
 ghost use Rattle.omf_format.specs.Record as format;
 ghost use Rattle.link_meaning.specs.Sizes.{size_at};
-ghost use Rattle.link_meaning.specs.Member.{Member};
+ghost use Rattle.link_meaning.specs.Member.{Member, setting_in};
 ghost use Rattle.link_meaning.specs.LinkValues.{Told, value_in};
 ghost use Rattle.link_meaning.specs.LinkedCells.{State, Item, cells_before, made_by};
 ghost use Rattle.omf_records.specs.View.{view};
@@ -19,6 +19,7 @@ use crate::plain::put_plain;
 use crate::put::put_formula;
 use jump_table::Table;
 use link_meaning::LinkCause;
+use link_resolve::Program;
 use omf_format::{Value, ValueFault};
 use omf_records::Rec;
 
@@ -63,6 +64,7 @@ fn ends_in_jsl(content: &Content<'_>, start: usize) -> bool
 fn put_value(
     content: &mut Content<'_>,
     table: &mut Table,
+    program: &Program,
     loads: &[Load],
     site: Site,
     location: u32,
@@ -72,10 +74,10 @@ fn put_value(
     requires small { length (content.old).bytes + 4 < 2 ^ 32 }
     requires near { site.offset + location < 2 ^ 32 }
     ensures ok { OnOk result ((list : List Member) (told : List Told) (state : State) (i : Item) (front : List Cell) (expr : List ℕ)
-        → StandsAt list told state i site loads.now table.old front location content.old → value_in list told i.place i.member i.here.location expr ≡ Ok value
+        → StandsAt list told state i site (setting_in program.now) loads.now table.old front location content.old → value_in list told i.place i.member i.here.location expr ≡ Ok value
         → PutsMade (made_by list told state i (format.Formula formula.code formula.count formula.n expr)) (front ++ cells_before state i) table.new content.new) }
     ensures err { IfErr result (λ cause. (list : List Member) (told : List Told) (state : State) (i : Item) (front : List Cell) (expr : List ℕ)
-        → StandsAt list told state i site loads.now table.old front location content.old → value_in list told i.place i.member i.here.location expr ≡ Ok value
+        → StandsAt list told state i site (setting_in program.now) loads.now table.old front location content.old → value_in list told i.place i.member i.here.location expr ≡ Ok value
         → (cause ≡ causes.Memory) ⊎ (made_by list told state i (format.Formula formula.code formula.count formula.n expr) ≡ Err cause)) }
 {
     let frame = Frame {
@@ -85,7 +87,7 @@ fn put_value(
     };
     let jsl = ends_in_jsl(content, site.offset as usize);
     put_formula(
-        content, table, site.table, loads, frame, jsl, formula, value,
+        content, table, site.table, program, loads, frame, jsl, formula, value,
     )
 }
 
@@ -94,6 +96,7 @@ fn put_value(
 pub fn put_record<'a>(
     content: &mut Content<'a>,
     table: &mut Table,
+    program: &Program,
     loads: &[Load],
     site: Site,
     location: u32,
@@ -104,10 +107,10 @@ pub fn put_record<'a>(
     requires small { length (content.old).bytes + size_at location (view rec.now) + 4 < 2 ^ 32 }
     requires near { site.offset + location < 2 ^ 32 }
     ensures ok { OnOk result ((list : List Member) (told : List Told) (state : State) (i : Item) (front : List Cell)
-        → StandsAt list told state i site loads.now table.old front location content.old → IsWorth list told i (view rec.now) value
+        → StandsAt list told state i site (setting_in program.now) loads.now table.old front location content.old → IsWorth list told i (view rec.now) value
         → PutsMade (made_by list told state i (view rec.now)) (front ++ cells_before state i) table.new content.new) }
     ensures err { IfErr result (λ cause. (list : List Member) (told : List Told) (state : State) (i : Item) (front : List Cell)
-        → StandsAt list told state i site loads.now table.old front location content.old → IsWorth list told i (view rec.now) value
+        → StandsAt list told state i site (setting_in program.now) loads.now table.old front location content.old → IsWorth list told i (view rec.now) value
         → (cause ≡ causes.Memory) ⊎ (made_by list told state i (view rec.now) ≡ Err cause)) }
 {
     match rec {
@@ -118,7 +121,9 @@ pub fn put_record<'a>(
                     count: *count,
                     n: *n,
                 };
-                put_value(content, table, loads, site, location, formula, value)
+                put_value(
+                    content, table, program, loads, site, location, formula, value,
+                )
             }
             Err(fault) => Err(cause_of(fault)),
         },

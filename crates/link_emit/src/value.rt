@@ -4,7 +4,8 @@ ghost use Rattle.std.specs.Prelude.{◌≡◌, ◌+◌, ◌<◌, ◌^◌, ℕ, L
 ghost use Rattle.omf_format.specs.Expression.{Tree, Spells, IsExpression, terms_in};
 ghost use Rattle.omf_expr.specs.View.{view};
 ghost use Rattle.link_meaning.specs.Member.{Member};
-ghost use Rattle.link_meaning.specs.Search.{Found, entries};
+ghost use Rattle.link_meaning.specs.Search.{Found};
+ghost use Rattle.link_resolve.specs.Outside.{all_found};
 ghost use Rattle.link_meaning.specs.Terms.{term_at};
 ghost use Rattle.link_meaning.specs.LinkValues.{fault_found, fault_named, place_value, value_in};
 ghost use Rattle.link_resolve.specs.Finding.{IsFirstOf};
@@ -92,7 +93,7 @@ fn fault_at(
 ) -> ValueFault
     requires { AreKnown program.now slots.now }
     ensures { (m : Member) (tree : Tree) → member_at program.now place ≡ Some m → Spells expr.now.lab_len expr.now.text tree
-        → result ≡ fault_named program.now (rows_of (entries program.now) slots.now) place m fault (term_at expr.now.lab_len at 0 tree) }
+        → result ≡ fault_named program.now (rows_of (all_found program.now) slots.now) place m fault (term_at expr.now.lab_len at 0 tree) }
 {
     match operand_at(expr, at) {
         Some(Term::Named(code, name)) => {
@@ -124,7 +125,7 @@ pub fn value_in(
     requires spelled { IsExpression seat.lab_len expr.now }
     requires near { seat.offset + location < 2 ^ 32 }
     ensures { (m : Member) → IsSeat program.now m seat
-        → result ≡ value_in program.now (rows_of (entries program.now) slots.now) seat.place m location expr.now }
+        → result ≡ value_in program.now (rows_of (all_found program.now) slots.now) seat.place m location expr.now }
 {
     let text = expression_of(expr, seat.lab_len);
     let location = place_at(seat, location);

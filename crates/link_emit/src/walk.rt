@@ -6,7 +6,7 @@ ghost use Rattle.omf_records.specs.View.{view};
 ghost use Rattle.load_meaning.specs.Cells.{Cell};
 ghost use Rattle.link_meaning.specs.declared.fault.LinkCause.TheVariants as causes;
 ghost use Rattle.link_meaning.specs.Member.{Member};
-ghost use Rattle.link_meaning.specs.Search.{entries};
+ghost use Rattle.link_resolve.specs.Outside.{all_found};
 ghost use Rattle.link_meaning.specs.LinkedCells.{Item, bank_of};
 ghost use Rattle.link_resolve.specs.Uses.{HasSpelling};
 ghost use Rattle.link_emit.specs.Slots.{rows_of};
@@ -46,7 +46,7 @@ fn value_of(whole: &Whole, seat: Seat, location: u32, rec: &Rec) -> Result<Value
     requires spelled { HasSpelling seat.lab_len (view rec.now) }
     requires near { seat.offset + location < 2 ^ 32 }
     ensures { (i : Item) → IsSeat whole.now.program.now i.member seat → seat.place ≡ i.place → i.here.location ≡ location
-        → IsWorth whole.now.program.now (rows_of (entries whole.now.program.now) whole.now.slots.now) i (view rec.now) result }
+        → IsWorth whole.now.program.now (rows_of (all_found whole.now.program.now) whole.now.slots.now) i (view rec.now) result }
 {
     match rec {
         Rec::Formula { expr, .. } => value_in(whole.program, whole.slots, seat, location, expr),
@@ -94,13 +94,13 @@ fn put_records<'a>(
 ) -> Result<(), (LinkCause, u32)>
     requires whole { IsWhole whole.now.program.now whole.now.slots.now whole.now.loads.now whole.now.table }
     requires sound { IsSound segment.now }
-    requires begun { HasBegun whole.now.program.now (rows_of (entries whole.now.program.now) whole.now.slots.now) seat (shown segment.now) table.old content.old }
+    requires begun { HasBegun whole.now.program.now (rows_of (all_found whole.now.program.now) whole.now.slots.now) seat (shown segment.now) table.old content.old }
     ensures ok { OnOk result ((front : List Member) (m : Member) (back : List Member) (before : List Cell)
-        → Begins whole.now.program.now (rows_of (entries whole.now.program.now) whole.now.slots.now) front m back seat (shown segment.now) table.old before content.old
-        → Puts whole.now.program.now (rows_of (entries whole.now.program.now) whole.now.slots.now) front m (shown segment.now).records table.new before content.new) }
+        → Begins whole.now.program.now (rows_of (all_found whole.now.program.now) whole.now.slots.now) front m back seat (shown segment.now) table.old before content.old
+        → Puts whole.now.program.now (rows_of (all_found whole.now.program.now) whole.now.slots.now) front m (shown segment.now).records table.new before content.new) }
     ensures err { IfErr result (λ fault. (front : List Member) (m : Member) (back : List Member) (before : List Cell)
-        → Begins whole.now.program.now (rows_of (entries whole.now.program.now) whole.now.slots.now) front m back seat (shown segment.now) table.old before content.old
-        → (fault.0 ≡ causes.Memory) ⊎ Unmade whole.now.program.now (rows_of (entries whole.now.program.now) whole.now.slots.now) front m fault.0 fault.1) }
+        → Begins whole.now.program.now (rows_of (all_found whole.now.program.now) whole.now.slots.now) front m back seat (shown segment.now) table.old before content.old
+        → (fault.0 ≡ causes.Memory) ⊎ Unmade whole.now.program.now (rows_of (all_found whole.now.program.now) whole.now.slots.now) front m fault.0 fault.1) }
 {
     let site = Site {
         table: whole.table,
@@ -115,7 +115,16 @@ fn put_records<'a>(
             None => return Ok(()),
             Some((at, rec)) => {
                 let value = value_of(whole, seat, location, &rec);
-                match put_record(content, table, whole.loads, site, location, &rec, value) {
+                match put_record(
+                    content,
+                    table,
+                    whole.program,
+                    whole.loads,
+                    site,
+                    location,
+                    &rec,
+                    value,
+                ) {
                     Ok(()) => {}
                     Err(cause) => return Err((cause, at)),
                 }
@@ -135,13 +144,13 @@ fn put_segment<'a>(
 ) -> Result<(), (LinkCause, u32)>
     requires whole { IsWhole whole.now.program.now whole.now.slots.now whole.now.loads.now whole.now.table }
     requires sound { IsSound segment.now }
-    requires stood { HasStood whole.now.program.now (rows_of (entries whole.now.program.now) whole.now.slots.now) seat (shown segment.now) table.old content.old }
+    requires stood { HasStood whole.now.program.now (rows_of (all_found whole.now.program.now) whole.now.slots.now) seat (shown segment.now) table.old content.old }
     ensures ok { OnOk result ((front : List Member) (m : Member) (back : List Member) (cells : List Cell)
-        → StandsBehind whole.now.program.now (rows_of (entries whole.now.program.now) whole.now.slots.now) front m back seat (shown segment.now) table.old cells content.old
-        → PutsMember whole.now.program.now (rows_of (entries whole.now.program.now) whole.now.slots.now) front m table.new cells content.new) }
+        → StandsBehind whole.now.program.now (rows_of (all_found whole.now.program.now) whole.now.slots.now) front m back seat (shown segment.now) table.old cells content.old
+        → PutsMember whole.now.program.now (rows_of (all_found whole.now.program.now) whole.now.slots.now) front m table.new cells content.new) }
     ensures err { IfErr result (λ fault. (front : List Member) (m : Member) (back : List Member) (cells : List Cell)
-        → StandsBehind whole.now.program.now (rows_of (entries whole.now.program.now) whole.now.slots.now) front m back seat (shown segment.now) table.old cells content.old
-        → (fault.0 ≡ causes.Memory) ⊎ Unmade whole.now.program.now (rows_of (entries whole.now.program.now) whole.now.slots.now) front m fault.0 fault.1) }
+        → StandsBehind whole.now.program.now (rows_of (all_found whole.now.program.now) whole.now.slots.now) front m back seat (shown segment.now) table.old cells content.old
+        → (fault.0 ≡ causes.Memory) ⊎ Unmade whole.now.program.now (rows_of (all_found whole.now.program.now) whole.now.slots.now) front m fault.0 fault.1) }
 {
     let gap = seat.offset as usize - content.len();
     match content.put_zeros(gap) {
@@ -171,12 +180,14 @@ fn value_fault(program: &Program, place: u32, cause: LinkCause, at: u32) -> Link
         | LinkCause::AlignFault
         | LinkCause::BadLength
         | LinkCause::BadLibrary
+        | LinkCause::BadRuntime
         | LinkCause::Empty
         | LinkCause::Unresolved
         | LinkCause::Duplicate
         | LinkCause::OrgConflict
         | LinkCause::TooManySegments
         | LinkCause::SegmentTooLong
+        | LinkCause::NotDynamic
         | LinkCause::Circular
         | LinkCause::DivideByZero
         | LinkCause::NotRelocatable
@@ -220,9 +231,9 @@ fn put_member<'a>(
     requires whole { IsWhole whole.now.program.now whole.now.slots.now whole.now.loads.now whole.now.table }
     requires first { 1 ≤ place }
     requires inside { place ≤ length whole.now.program.now }
-    requires walked { IsWalkedTo whole.now.program.now (rows_of (entries whole.now.program.now) whole.now.slots.now) (place - 1) table.old contents.old.items }
-    ensures ok { OnOk result (IsWalkedTo whole.now.program.now (rows_of (entries whole.now.program.now) whole.now.slots.now) place table.new contents.new.items) }
-    ensures err { IfErr result (λ fault. IsValueRefused whole.now.program.now (rows_of (entries whole.now.program.now) whole.now.slots.now) fault) }
+    requires walked { IsWalkedTo whole.now.program.now (rows_of (all_found whole.now.program.now) whole.now.slots.now) (place - 1) table.old contents.old.items }
+    ensures ok { OnOk result (IsWalkedTo whole.now.program.now (rows_of (all_found whole.now.program.now) whole.now.slots.now) place table.new contents.new.items) }
+    ensures err { IfErr result (λ fault. IsValueRefused whole.now.program.now (rows_of (all_found whole.now.program.now) whole.now.slots.now) fault) }
 {
     let seat = match seat_of(whole.program, place) {
         Some(seat) => seat,
@@ -270,8 +281,8 @@ pub fn fill<'a>(
 ) -> Result<Vec<Content<'a>>, LinkFault>
     requires whole { IsWhole whole.now.program.now whole.now.slots.now whole.now.loads.now whole.now.table }
     requires empty { table.old ≡ [] }
-    ensures ok { IfOk result (λ contents. IsFilled whole.now.program.now (rows_of (entries whole.now.program.now) whole.now.slots.now) table.new contents.items) }
-    ensures err { IfErr result (λ fault. IsValueRefused whole.now.program.now (rows_of (entries whole.now.program.now) whole.now.slots.now) fault) }
+    ensures ok { IfOk result (λ contents. IsFilled whole.now.program.now (rows_of (all_found whole.now.program.now) whole.now.slots.now) table.new contents.items) }
+    ensures err { IfErr result (λ fault. IsValueRefused whole.now.program.now (rows_of (all_found whole.now.program.now) whole.now.slots.now) fault) }
 {
     let mut contents = match no_contents(alloc, whole.loads) {
         Ok(contents) => contents,

@@ -1,8 +1,6 @@
 -- Why resolved files aren't linked: the first fault of the phases in which equates and records get their values and the load
 -- file is written; and what the linker answers.
 use Rattle.std.specs.Prelude.{◌≡◌, ◌<◌, ◌↔◌, ℕ, List, [], ◌∷◌, length, Some, None, Result, Ok, Err}
-use Rattle.std.specs.List.{AllByRecursion}
-use Rattle.omf_format.specs.Number.{IsBytes}
 use Rattle.omf_format.specs.File.{Segment, IsFile}
 use Rattle.load_meaning.specs.WrittenFile.{AreReadAs}
 use Rattle.link_meaning.specs.declared.fault.LinkCause.TheVariants.{Circular, FileTooLong}
@@ -14,7 +12,7 @@ use Rattle.link_meaning.specs.Rings.{equates, IsCircular}
 use Rattle.link_meaning.specs.LinkValues.{Told, IsTable}
 use Rattle.link_meaning.specs.LinkedCells.{Item, items, state_behind, made}
 use Rattle.link_meaning.specs.LinkWritten.{AreMade, start, images, written_file, linked_cells, HaveCells}
-use Rattle.link_meaning.specs.LinkFaults.{nowhere, spot_in, IsFirstResolveFault, IsResolved}
+use Rattle.link_meaning.specs.LinkFaults.{Given, HasBytes, nowhere, spot_in, IsFirstResolveFault, IsResolved}
 
 -- ---- rings
 
@@ -72,20 +70,20 @@ pub record IsEmitted (list : List Member) (table : List Told) : Type 0 where
 -- ---- all phases
 
 -- the first fault of all phases: of those in which the files are resolved, and where these find none, of those behind them
-pub data IsFirstLinkFault (files : List (List ℕ)) (fault : LinkFault) : Type 0 where
-  OfResolving : IsFirstResolveFault files fault → IsFirstLinkFault files fault
-  OfEmitting : (list : List Member) → IsResolved files list → IsFirstEmitFault list fault → IsFirstLinkFault files fault
+pub data IsFirstLinkFault (given : Given) (fault : LinkFault) : Type 0 where
+  OfResolving : IsFirstResolveFault given fault → IsFirstLinkFault given fault
+  OfEmitting : (list : List Member) → IsResolved given list → IsFirstEmitFault list fault → IsFirstLinkFault given fault
 
 -- no phase finds a fault in the files, which have this linked list, whose equates have these values
-pub record IsLinkable (files : List (List ℕ)) (list : List Member) (table : List Told) : Type 0 where
-  pub resolved : IsResolved files list
+pub record IsLinkable (given : Given) (list : List Member) (table : List Told) : Type 0 where
+  pub resolved : IsResolved given list
   pub emitted : IsEmitted list table
 
 -- the load file of the files
-pub record IsLinkedTo (files : List (List ℕ)) (output : List ℕ) : Type 0 where
+pub record IsLinkedTo (given : Given) (output : List ℕ) : Type 0 where
   pub list : List Member
   pub table : List Told
-  pub linkable : IsLinkable files list table
+  pub linkable : IsLinkable given list table
   pub is_written : output ≡ written_file list table
 
 -- ---- what the linker answers
@@ -96,15 +94,15 @@ IsEmitAnswer list (Ok output) = (table : List Told) × IsEmitted list table × (
 IsEmitAnswer list (Err fault) = IsFirstEmitFault list fault
 
 -- of files
-abbrev pub IsLinkAnswer : List (List ℕ) → Result (List ℕ) LinkFault → Type 0
-IsLinkAnswer files (Ok output) = IsLinkedTo files output
-IsLinkAnswer files (Err fault) = IsFirstLinkFault files fault
+abbrev pub IsLinkAnswer : Given → Result (List ℕ) LinkFault → Type 0
+IsLinkAnswer given (Ok output) = IsLinkedTo given output
+IsLinkAnswer given (Err fault) = IsFirstLinkFault given fault
 
 -- ---- laws
 
 -- Files have one answer at most: one load file, or one first fault, and not both.
 abbrev pub OneLinkAnswer : Type 0
-OneLinkAnswer = (files : List (List ℕ)) (a b : Result (List ℕ) LinkFault) → IsLinkAnswer files a → IsLinkAnswer files b → a ≡ b
+OneLinkAnswer = (given : Given) (a b : Result (List ℕ) LinkFault) → IsLinkAnswer given a → IsLinkAnswer given b → a ≡ b
 
 -- And so has a linked list, for the phases behind layout.
 abbrev pub OneEmitAnswer : Type 0
@@ -112,7 +110,7 @@ OneEmitAnswer = (list : List Member) (a b : Result (List ℕ) LinkFault) → IsE
 
 -- What the linker answers of resolved files is what it answers of their linked list.
 abbrev pub LinkAnswersAsEmit : Type 0
-LinkAnswersAsEmit = (files : List (List ℕ)) (list : List Member) (a : Result (List ℕ) LinkFault) → IsResolved files list → IsEmitAnswer list a → IsLinkAnswer files a
+LinkAnswersAsEmit = (given : Given) (list : List Member) (a : Result (List ℕ) LinkFault) → IsResolved given list → IsEmitAnswer list a → IsLinkAnswer given a
 
 -- No record has a fault exactly where each gives its cells.
 abbrev pub MadeWhereSound : Type 0
@@ -121,6 +119,6 @@ MadeWhereSound = (list : List Member) (table : List Told) → HasNone (HasValueF
 -- The load file of files without a fault is a file of the load segments and the table, and each of them stands for its linked
 -- cells.
 abbrev pub LinkableStandsFor : Type 0
-LinkableStandsFor = (files : List (List ℕ)) (list : List Member) (table : List Told) → AllByRecursion IsBytes files → IsLinkable files list table
+LinkableStandsFor = (given : Given) (list : List Member) (table : List Told) → HasBytes given → IsLinkable given list table
     → (segments : List Segment) × IsFile segments (written_file list table) × AreReadAs (images list table) segments
     × HaveCells (linked_cells list table) segments

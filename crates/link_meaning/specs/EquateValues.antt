@@ -1,7 +1,5 @@
 -- The value of one equate, by those of the equates to which it leads.
 use Rattle.std.specs.Prelude.{◌≡◌, ℕ, ◌↔◌, List, [], ◌∷◌, Result, true, Some, slice_get}
-use Rattle.std.specs.List.{AllByRecursion}
-use Rattle.omf_format.specs.Number.{IsBytes}
 use Rattle.omf_format.specs.declared.value.Value.{Value}
 use Rattle.omf_format.specs.declared.value.ValueFault.{ValueFault}
 use Rattle.link_meaning.specs.First.{IsIn}
@@ -9,7 +7,7 @@ use Rattle.link_meaning.specs.Member.{Member}
 use Rattle.link_meaning.specs.Search.{Found, entries}
 use Rattle.link_meaning.specs.Rings.{is_equate, equates, LeadsTo, IsCircular}
 use Rattle.link_meaning.specs.LinkValues.{Told, told, equate_value, IsTable}
-use Rattle.link_meaning.specs.LinkFaults.{IsResolved}
+use Rattle.link_meaning.specs.LinkFaults.{Given, HasBytes, IsResolved}
 
 -- An equate has its value, or its fault, once those to which it leads have theirs: it is what the expression stands for where a
 -- table tells them.
@@ -39,16 +37,16 @@ NoneOnRing = (list : List Member) (e : Found) (a : Result Value ValueFault) → 
 
 -- In resolved files the table of values is the one that tells each equate its value.
 abbrev pub TableOfValues : Type 0
-TableOfValues = (files : List (List ℕ)) (list : List Member) (table : List Told) → AllByRecursion IsBytes files → IsResolved files list
+TableOfValues = (given : Given) (list : List Member) (table : List Told) → HasBytes given → IsResolved given list
     → TellValues list (equates list) table ↔ IsTable list table
 
 -- Where no equate of resolved files leads back to itself they have a table of values.
 abbrev pub TableWithoutRings : Type 0
-TableWithoutRings = (files : List (List ℕ)) (list : List Member) → AllByRecursion IsBytes files → IsResolved files list
+TableWithoutRings = (given : Given) (list : List Member) → HasBytes given → IsResolved given list
     → ((e : Found) → IsIn (equates list) e → IsCircular list e → ⊥) → (table : List Told) × IsTable list table
 
 -- In resolved files two numbers of definitions that are equates of one member and one displacement are one number.
 abbrev pub OneNumber : Type 0
-OneNumber = (files : List (List ℕ)) (list : List Member) (i j : ℕ) (e f : Found) → AllByRecursion IsBytes files → IsResolved files list
+OneNumber = (given : Given) (list : List Member) (i j : ℕ) (e f : Found) → HasBytes given → IsResolved given list
     → slice_get (entries list) i ≡ Some e → slice_get (entries list) j ≡ Some f → is_equate e ≡ true → is_equate f ≡ true
     → e.place ≡ f.place → e.definition.at ≡ f.definition.at → i ≡ j

@@ -1,5 +1,5 @@
 -- How a value fits into an expression record, and the cells of records at their places.
-use Rattle.std.specs.Prelude.{ℕ, ◌+◌, ◌-◌, ◌/◌, ◌%◌, ◌^◌, Bool, false, not, ◌&&◌, ◌||◌, ℤ, pos, List, [], ◌∷◌, length, map, Option, Some, None, Result, Ok, Err, nat_lt, nat_le, ◌==◌, if◌then◌else◌, slice_get, position, unwrap_or}
+use Rattle.std.specs.Prelude.{ℕ, ◌+◌, ◌-◌, ◌/◌, ◌%◌, ◌^◌, Bool, false, not, ◌&&◌, ◌||◌, ℤ, pos, List, [], ◌∷◌, length, map, Option, Some, None, Result, Ok, Err, nat_lt, nat_le, ◌==◌, if◌then◌else◌, slice_get, position, unwrap_or, option_and_then, true}
 use Rattle.std.specs.List.{list_any}
 use Rattle.byteorder.specs.Endian.{little_bytes}
 use Rattle.omf_format.specs.declared.value.Value.{Value}
@@ -11,6 +11,11 @@ use Rattle.omf_format.specs.Value.{is_unshifted}
 use Rattle.load_meaning.specs.Cells.{Cell, Byte, Part, parts_from}
 use Rattle.load_meaning.specs.declared.table.Target.{Target}
 use Rattle.load_meaning.specs.Table.{is_same, with_target, most_entries, entry_place}
+use Rattle.omf_format.specs.File.{segment_at}
+use Rattle.std.specs.Option.{option_map_or}
+use Rattle.link_meaning.specs.declared.form.LinkForm.TheVariants.{Program, Runtime as LibraryForm}
+use Rattle.link_meaning.specs.declared.form.LinkForm.{LinkForm}
+use Rattle.link_meaning.specs.Member.{Setting}
 use Rattle.link_meaning.specs.declared.fault.LinkCause.{LinkCause}
 use Rattle.link_meaning.specs.declared.fault.LinkCause.TheVariants.{DivideByZero, NotRelocatable, DynamicReference, OutOfSegment, TooManyEntries, DoesNotFit}
 
@@ -21,12 +26,13 @@ pub record Frame : Type 0 where
   pub own : ℕ
   pub bank_size : ℕ
   pub place : ℕ
+  pub setting : Setting
 
 -- what a value becomes: the low bytes of a number, the bytes of a place, or those of the table's entry for a target
 pub data Fit : Type 0 where
   Number : (n : ℕ) → Fit
   Place : (segment offset : ℕ) (shift : ℤ) → Fit
-  Entry : (segment offset : ℕ) → Fit
+  Entry : (target : Target) → Fit
 
 -- EXPR is $EB, ZEXPR $EC, BEXPR $ED, RELEXPR $EE, LEXPR $F3
 abbrev pub number_fit : ℕ → ℕ → ℕ → Option Fit
@@ -76,9 +82,23 @@ ends_in_jsl (c ∷ d ∷ cells) = ends_in_jsl (d ∷ cells)
 abbrev pub is_call : ℕ → ℕ → ℤ → List Cell → Bool
 is_call code count shift before = code == 0xF3 && count == 3 && is_unshifted shift && ends_in_jsl before
 
--- the place to call, a segment of the file itself
-abbrev pub target_of : ℕ → ℕ → Target
-target_of segment offset = record { file = 1; segment = segment; offset = offset }
+-- the place to call
+abbrev pub target_of : ℕ → ℕ → ℕ → Target
+target_of file segment offset = record { file = file; segment = segment; offset = offset }
+
+-- LENGTH of a segment of a run-time library file, of which the first has the number 2
+abbrev pub length_outside : Setting → ℕ → ℕ → ℕ
+length_outside setting file segment =
+    option_map_or (λ s. s.fields.length) (option_and_then (λ r. segment_at r.segments segment) (slice_get setting.runtimes (file - 2))) 0
+
+-- LENGTH of the segment of a target, in the file itself or in a run-time library file
+abbrev pub length_there : List Fields → Setting → Target → ℕ
+length_there headers setting t = if t.file == 1 then length_of headers t.segment else length_outside setting t.file t.segment
+
+-- only a program calls through a table
+abbrev pub may_call : LinkForm → Bool
+may_call Program = true
+may_call LibraryForm = false
 
 -- the target has an entry, or there is room for one more
 abbrev pub has_room_for : List Target → Target → Bool
@@ -88,19 +108,23 @@ abbrev pub or_does_not_fit : Option Fit → Result Fit LinkCause
 or_does_not_fit None = Err DoesNotFit
 or_does_not_fit (Some fit) = Ok fit
 
--- a place in another dynamic segment is reached by a call alone, through the table
-abbrev pub call_fit : List Fields → List Target → Bool → ℕ → ℕ → Result Fit LinkCause
-call_fit headers targets call segment offset =
-    if not call then Err DynamicReference
-    else if nat_le (length_of headers segment) offset then Err OutOfSegment
-    else if not (has_room_for targets (target_of segment offset)) then Err TooManyEntries
-    else Ok (Entry segment offset)
+-- a place is in a run-time library file, or in another dynamic load segment
+abbrev pub is_far : List Fields → ℕ → ℕ → ℕ → Bool
+is_far headers own file segment = not (file == 1) || (not (segment == own) && is_dynamic_load headers segment)
+
+-- such a place is reached by a call alone, through the table
+abbrev pub call_fit : List Fields → Setting → List Target → Bool → Target → Result Fit LinkCause
+call_fit headers setting targets call target =
+    if not (may_call setting.form && call) then Err DynamicReference
+    else if nat_le (length_there headers setting target) target.offset then Err OutOfSegment
+    else if not (has_room_for targets target) then Err TooManyEntries
+    else Ok (Entry target)
 
 abbrev pub fitted : List Fields → Frame → List Target → List Cell → ℕ → ℕ → ℕ → Value → Result Fit LinkCause
 fitted headers f targets before code count n (Fixed k) = or_does_not_fit (number_fit code count k)
 fitted headers f targets before code count n (At file segment offset shift) =
-    if not (segment == f.own) && is_dynamic_load headers segment
-    then call_fit headers targets (is_call code count shift before) segment offset
+    if is_far headers f.own file segment
+    then call_fit headers f.setting targets (is_call code count shift before) (target_of file segment offset)
     else or_does_not_fit (place_fit f code count n segment offset shift)
 
 -- ---- cells
@@ -117,12 +141,12 @@ entry_of targets target = unwrap_or (position (is_same target) targets) (length 
 abbrev pub fit_cells : ℕ → ℕ → List Target → Fit → List Cell
 fit_cells table count targets (Number n) = map Byte (little_bytes count n)
 fit_cells table count targets (Place segment offset shift) = parts count segment offset shift
-fit_cells table count targets (Entry segment offset) = parts count table (entry_place (entry_of targets (target_of segment offset))) (pos 0)
+fit_cells table count targets (Entry target) = parts count table (entry_place (entry_of targets target)) (pos 0)
 
 abbrev pub targets_behind : List Target → Fit → List Target
 targets_behind targets (Number n) = targets
 targets_behind targets (Place segment offset shift) = targets
-targets_behind targets (Entry segment offset) = with_target targets (target_of segment offset)
+targets_behind targets (Entry target) = with_target targets target
 
 -- the value's fault as one of the linker; the names are known here, so there is no `Unknown`
 abbrev pub value_cause : ValueFault → LinkCause

@@ -1,21 +1,29 @@
 -- Why files aren't resolved: the first fault of the phases in which names find their definitions and members their places.
-use Rattle.std.specs.Prelude.{◌≡◌, ℕ, ◌+◌, Bool, true, not, ◌&&◌, ◌||◌, List, [], ◌∷◌, length, Option, Some, None, option_map, Result, Ok, Err, nat_lt, nat_le, ◌==◌, if◌then◌else◌, slice_get}
+use Rattle.std.specs.Prelude.{◌≡◌, ℕ, ◌+◌, Bool, true, false, not, ◌&&◌, ◌||◌, List, [], ◌∷◌, ◌++◌, length, map, Option, Some, None, option_map, Result, Ok, Err, nat_lt, nat_le, ◌==◌, if◌then◌else◌, slice_get, ◌≤◌}
 use Rattle.std.specs.Int.{is_power_of_two}
-use Rattle.std.specs.List.{list_any}
+use Rattle.std.specs.List.{list_any, AllByRecursion}
+use Rattle.omf_format.specs.Number.{IsBytes}
 use Rattle.std.specs.Option.{option_or}
 use Rattle.omf_format.specs.declared.fault.FileCause.{FileCause}
 use Rattle.omf_format.specs.declared.fault.FileCause.TheVariants as causes
 use Rattle.omf_format.specs.declared.fault.FileFault.{FileFault}
-use Rattle.omf_format.specs.Header.{Fields, alignment_of, form_of, first_of}
+use Rattle.omf_format.specs.Header.{Fields, alignment_of, form_of, first_of, is_dynamic, is_skipped}
 use Rattle.omf_format.specs.Record.{Record, Align, Reloc, InterSeg, ShortReloc, ShortInterSeg, Super, Entry}
 use Rattle.omf_format.specs.File.{Segment, IsFile, IsFirstFault}
 use Rattle.omf_base.specs.declared.spot.Spot.{Spot}
+use Rattle.load_meaning.specs.Pathnames.{IsPath, most_paths}
 use Rattle.link_meaning.specs.declared.fault.LinkCause.{LinkCause}
-use Rattle.link_meaning.specs.declared.fault.LinkCause.TheVariants.{Truncated, BadHeader, Unsupported, BadRecord, AlignFault, BadLength, BadLibrary, Empty, Unresolved, Duplicate, OrgConflict, TooManySegments, SegmentTooLong, Memory}
+use Rattle.link_meaning.specs.declared.fault.LinkCause.TheVariants.{Truncated, BadHeader, Unsupported, BadRecord, AlignFault, BadLength, BadLibrary, BadRuntime, NotDynamic, Empty, Unresolved, Duplicate, OrgConflict, TooManySegments, SegmentTooLong, Memory}
 use Rattle.link_meaning.specs.declared.fault.LinkFault.{LinkFault}
 use Rattle.link_meaning.specs.First.{IsFirst, HasNone, first_some}
 use Rattle.link_meaning.specs.Sizes.{body_size}
-use Rattle.link_meaning.specs.Member.{Row, Input, Member, is_library, objects}
+use Rattle.link_meaning.specs.Member.{Row, Input, RuntimeFile, Setting, Member, is_library, objects, form_in}
+use Rattle.link_meaning.specs.declared.form.LinkForm.{LinkForm}
+use Rattle.link_meaning.specs.declared.form.LinkForm.TheVariants.{Program, Runtime as LibraryForm}
+use Rattle.load_meaning.specs.declared.load.LoadCause.{LoadCause}
+use Rattle.load_meaning.specs.declared.load.LoadCause.TheVariants as loads
+use Rattle.load_meaning.specs.declared.load.LoadFault.{LoadFault}
+use Rattle.load_meaning.specs.Runtime.{IsRuntime, IsFirstRuntimeFault}
 use Rattle.link_meaning.specs.Dictionary.{rows_of}
 use Rattle.link_meaning.specs.declared.search.Want.{Want}
 use Rattle.link_meaning.specs.declared.search.Want.TheVariants.{Data, One, Any}
@@ -108,11 +116,78 @@ AreInputs [] (input ∷ inputs) = ⊥
 AreInputs (bytes ∷ files) [] = ⊥
 AreInputs (bytes ∷ files) (input ∷ inputs) = IsInput bytes input × AreInputs files inputs
 
--- the files' linked list
-pub record IsProgram (files : List (List ℕ)) (list : List Member) : Type 0 where
+-- ---- run-time library files
+
+-- how a run-time library file's cause is told: one that every file may have keeps its name
+abbrev pub runtime_cause : LoadCause → LinkCause
+runtime_cause loads.Truncated = Truncated
+runtime_cause loads.BadHeader = BadHeader
+runtime_cause loads.Unsupported = Unsupported
+runtime_cause loads.BadRecord = BadRecord
+runtime_cause loads.Memory = Memory
+runtime_cause _ = BadRuntime
+
+-- the first fault of a run-time library file with this number
+pub record HasRuntimeFault (file : ℕ) (bytes : List ℕ) (fault : LinkFault) : Type 0 where
+  pub found : LoadFault
+  pub first : IsFirstRuntimeFault bytes found
+  pub told : fault ≡ record { cause = runtime_cause found.cause; name = None; spot = record { file = file; segment = found.segment; at = found.at } }
+
+-- the run-time library files, each a path and bytes, are these
+abbrev pub AreRuntimes : List (List ℕ × List ℕ) → List RuntimeFile → Type 0
+AreRuntimes [] [] = Unit {0}
+AreRuntimes [] (r ∷ runtimes) = ⊥
+AreRuntimes (file ∷ files) [] = ⊥
+AreRuntimes (file ∷ files) (r ∷ runtimes) = (r.path ≡ file.0) × IsRuntime file.1 r.segments × AreRuntimes files runtimes
+
+-- ---- what is given
+
+-- what the linker is given: the inputs, the run-time library files by path and bytes, and what it is to link
+pub record Given : Type 0 where
+  pub inputs : List (List ℕ)
+  pub runtimes : List (List ℕ × List ℕ)
+  pub form : LinkForm
+
+-- only a program has run-time library files, and no more than a pathname segment has rows
+abbrev pub MayHave : LinkForm → List (List ℕ × List ℕ) → Type 0
+MayHave Program runtimes = length runtimes ≤ most_paths
+MayHave LibraryForm runtimes = runtimes ≡ []
+
+-- all files are bytes, and the run-time library files have paths and are no more than may be
+abbrev pub HasBytes : Given → Type 0
+HasBytes given = AllByRecursion IsBytes given.inputs × AllByRecursion (λ file. IsBytes file.1) given.runtimes
+    × AllByRecursion (λ file. IsPath file.0) given.runtimes × MayHave given.form given.runtimes
+
+-- inputs that are linked to a program without run-time library files
+abbrev pub plain : List (List ℕ) → Given
+plain files = record { inputs = files; runtimes = []; form = Program }
+
+-- the files in the order in which they are read, and numbered
+pub data Part : Type 0 where
+  OfInput : (bytes : List ℕ) → Part
+  OfRuntime : (bytes : List ℕ) → Part
+
+-- first the inputs, and then the run-time library files
+abbrev pub parts_of : Given → List Part
+parts_of given = map OfInput given.inputs ++ map (λ file. OfRuntime file.1) given.runtimes
+
+-- the first fault of a file, which is numbered by those before it
+abbrev pub HasPartFault : List Part → Part → LinkFault → Type 0
+HasPartFault before (OfInput bytes) fault = HasFileFault (length before + 1) bytes fault
+HasPartFault before (OfRuntime bytes) fault = HasRuntimeFault (length before + 1) bytes fault
+
+-- what the inputs are linked to, and with what
+pub record IsSetting (given : Given) (setting : Setting) : Type 0 where
+  pub form' : setting.form ≡ given.form
+  pub runtimes' : AreRuntimes given.runtimes setting.runtimes
+
+-- the linked list of what is given
+pub record IsProgram (given : Given) (list : List Member) : Type 0 where
+  pub setting : Setting
+  pub is_setting : IsSetting given setting
   pub inputs : List Input
-  pub are_inputs : AreInputs files inputs
-  pub linked : IsLinked inputs list
+  pub are_inputs : AreInputs given.inputs inputs
+  pub linked : IsLinked setting inputs list
 
 -- ---- names
 
@@ -155,15 +230,26 @@ pub record HasLengthFault (list : List Member) (before : List Fields) (f : Field
   pub long : is_too_long f ≡ true
   pub told : fault ≡ record { cause = SegmentTooLong; name = None; spot = first_spot (load_members f.load_name list) }
 
+-- a run-time library file has only dynamic load segments, and none is skipped
+abbrev pub may_not_stand : LinkForm → Fields → Bool
+may_not_stand Program f = false
+may_not_stand LibraryForm f = not (is_dynamic f.kind && not (is_skipped f.kind))
+
+pub record HasKindFault (list : List Member) (before : List Fields) (f : Fields) (fault : LinkFault) : Type 0 where
+  pub other : may_not_stand (form_in list) f ≡ true
+  pub told : fault ≡ record { cause = NotDynamic; name = None; spot = first_spot (load_members f.load_name list) }
+
 pub data LayoutCheck : Type 0 where
   Orgs : LayoutCheck
   Count : LayoutCheck
   Lengths : LayoutCheck
+  Kinds : LayoutCheck
 
 abbrev pub HasLayoutFault : List Member → List LayoutCheck → LayoutCheck → LinkFault → Type 0
 HasLayoutFault list before Orgs fault = IsFirst HasOrgFault list fault
 HasLayoutFault list before Count fault = HasCountFault list fault
 HasLayoutFault list before Lengths fault = IsFirst (HasLengthFault list) (load_headers list) fault
+HasLayoutFault list before Kinds fault = IsFirst (HasKindFault list) (load_headers list) fault
 
 -- ---- the phases
 
@@ -177,21 +263,22 @@ pub data Phase : Type 0 where
 abbrev pub phases : List Phase
 phases = Reading ∷ Objects ∷ Names ∷ Layout ∷ []
 
--- what a phase finds in the files: the first file at fault; no object segment; the first use, in list and record order, that
+-- what a phase finds in what is given: the first file at fault; no object segment; the first use, in list and record order, that
 -- doesn't resolve; the first check of the load segments that fails
-abbrev pub HasPhaseFault : List (List ℕ) → List Phase → Phase → LinkFault → Type 0
-HasPhaseFault files before Reading fault = IsFirst (λ fronts bytes. HasFileFault (length fronts + 1) bytes) files fault
-HasPhaseFault files before Objects fault =
-    (inputs : List Input) × AreInputs files inputs × (objects inputs ≡ []) × (fault ≡ record { cause = Empty; name = None; spot = nowhere })
-HasPhaseFault files before Names fault = (list : List Member) × IsProgram files list × IsFirst (HasUseFault list) (asked list) fault
-HasPhaseFault files before Layout fault =
-    (list : List Member) × IsProgram files list × IsFirst (HasLayoutFault list) (Orgs ∷ Count ∷ Lengths ∷ []) fault
+abbrev pub HasPhaseFault : Given → List Phase → Phase → LinkFault → Type 0
+HasPhaseFault given before Reading fault = IsFirst HasPartFault (parts_of given) fault
+HasPhaseFault given before Objects fault =
+    (setting : Setting) × (inputs : List Input) × IsSetting given setting × AreInputs given.inputs inputs × (objects setting inputs ≡ [])
+    × (fault ≡ record { cause = Empty; name = None; spot = nowhere })
+HasPhaseFault given before Names fault = (list : List Member) × IsProgram given list × IsFirst (HasUseFault list) (asked list) fault
+HasPhaseFault given before Layout fault =
+    (list : List Member) × IsProgram given list × IsFirst (HasLayoutFault list) (Orgs ∷ Count ∷ Lengths ∷ Kinds ∷ []) fault
 
 -- the first fault of these phases
-abbrev pub IsFirstResolveFault : List (List ℕ) → LinkFault → Type 0
-IsFirstResolveFault files fault = IsFirst (HasPhaseFault files) phases fault
+abbrev pub IsFirstResolveFault : Given → LinkFault → Type 0
+IsFirstResolveFault given fault = IsFirst (HasPhaseFault given) phases fault
 
 -- the files have this linked list, and none of these phases finds a fault
-pub record IsResolved (files : List (List ℕ)) (list : List Member) : Type 0 where
-  pub program : IsProgram files list
-  pub sound : HasNone (HasPhaseFault files) phases
+pub record IsResolved (given : Given) (list : List Member) : Type 0 where
+  pub program : IsProgram given list
+  pub sound : HasNone (HasPhaseFault given) phases

@@ -27,10 +27,14 @@ told (t ∷ table) place at = if t.place == place && t.at == at then t.answer el
 unfoldable pub place_value : List Member → ℕ → Member → ℕ → Value
 place_value list place m at = At 1 (load_of list m) (offset_of list place m + at) (pos 0)
 
--- a label is a place, and an equate what the table tells
+-- a place in a run-time library file
+abbrev pub outside_value : Found → Value
+outside_value f = At f.member.file f.member.number f.definition.place (pos 0)
+
+-- a label is a place, of a member or of a run-time library file, and an equate what the table tells
 abbrev pub found_value : List Member → List Told → Found → Result Value ValueFault
 found_value list table f = elim f.definition.expr [
-  | None ↦ Ok (place_value list f.place f.member f.definition.place)
+  | None ↦ Ok (if f.place == 0 then outside_value f else place_value list f.place f.member f.definition.place)
   | Some text ↦ told table f.place f.definition.at
 ]
 

@@ -1,20 +1,30 @@
 -- The load file that the linker writes (GS/OS Reference, appendix F; where a header's fields come from, and the names, are
 -- this project's own choice).
-use Rattle.std.specs.Prelude.{◌≡◌, ◌≤◌, ℕ, ◌+◌, ◌&&◌, List, [], ◌∷◌, ◌++◌, length, map, Ok, ◌==◌, if◌then◌else◌}
-use Rattle.std.specs.List.{AllByRecursion}
+use Rattle.std.specs.Prelude.{◌≡◌, ◌≤◌, ℕ, ◌+◌, ◌&&◌, List, [], ◌∷◌, ◌++◌, length, map, Ok, ◌==◌, if◌then◌else◌, Result, Err, false, nat_lt}
+use Rattle.std.specs.List.{flat_map}
 use Rattle.std.specs.Ordering.{int_eq}
 use Rattle.omf_format.specs.Header.{Fields}
-use Rattle.omf_format.specs.Number.{IsBytes}
 use Rattle.omf_format.specs.File.{Segment, IsFile}
 use Rattle.load_meaning.specs.Cells.{Cell, Byte, Part, Patch, cells}
 use Rattle.load_meaning.specs.declared.table.Target.{Target}
 use Rattle.load_meaning.specs.Table.{file_entry, table_bytes}
-use Rattle.load_meaning.specs.WrittenFile.{Image, table_image, file_text, AreReadAs}
-use Rattle.link_meaning.specs.Member.{Member}
-use Rattle.link_meaning.specs.Layout.{load_names, load_fields}
-use Rattle.link_meaning.specs.LinkValues.{Told, IsTable}
+use Rattle.load_meaning.specs.WrittenFile.{Image, table_image, file_text, AreReadAs, pathnames_image}
+use Rattle.omf_format.specs.Record.{Record, Entry}
+use Rattle.omf_format.specs.Value.{is_unshifted}
+use Rattle.omf_format.specs.declared.value.Value.{Value}
+use Rattle.omf_format.specs.declared.value.Value.TheVariants.{Fixed, At}
+use Rattle.omf_format.specs.declared.value.ValueFault.{ValueFault}
+use Rattle.load_meaning.specs.Pathnames.{paths_text}
+use Rattle.link_meaning.specs.Fitting.{length_of}
+use Rattle.link_meaning.specs.Search.{Found, entries}
+use Rattle.link_meaning.specs.Defines.{ForSegment, ForUnit, ForAll}
+use Rattle.link_meaning.specs.declared.form.LinkForm.TheVariants.{Program, Runtime as LibraryForm}
+use Rattle.link_meaning.specs.declared.form.LinkForm.{LinkForm}
+use Rattle.link_meaning.specs.Member.{Member, RuntimeFile, setting_in, form_in}
+use Rattle.link_meaning.specs.Layout.{load_names, load_fields, load_headers}
+use Rattle.link_meaning.specs.LinkValues.{Told, IsTable, found_value}
 use Rattle.link_meaning.specs.LinkedCells.{Item, State, Made, table_number, items, made, gained, targets, linked}
-use Rattle.link_meaning.specs.LinkFaults.{IsResolved}
+use Rattle.link_meaning.specs.LinkFaults.{Given, HasBytes, IsResolved}
 
 -- ---- patches
 
@@ -49,23 +59,56 @@ byte_under (Part file segment offset shift index) = 0
 -- ---- the file
 
 -- the load segment with these fields and cells
-unfoldable pub image_of : Fields → List Cell → Image
-image_of fields cells = record { fields = fields; content = map byte_under cells; patches = patches_of_cells cells }
+unfoldable pub image_of : Fields → List Cell → List Record → Image
+image_of fields cells exports = record { fields = fields; content = map byte_under cells; patches = patches_of_cells cells; exports = exports; whole = false }
+
+-- ---- the names that a run-time library file exports
+
+-- the ENTRY record of a name with this value: a place without a shift, below LENGTH of its load segment
+abbrev pub export_at : List Fields → List ℕ → Result Value ValueFault → List Record
+export_at headers name (Ok (Fixed n)) = []
+export_at headers name (Ok (At file segment offset shift)) =
+    if is_unshifted shift && nat_lt offset (length_of headers segment) then Entry segment offset name ∷ [] else []
+export_at headers name (Err fault) = []
+
+-- only what all see is exported
+abbrev pub export_of : List Member → List Told → Found → List Record
+export_of list table f = elim f.definition.scope [
+  | ForSegment ↦ []
+  | ForUnit ↦ []
+  | ForAll ↦ export_at (load_headers list) f.definition.name (found_value list table f)
+]
+
+-- in list and record order, a SEGNAME before its segment's records
+unfoldable pub exports : List Member → List Told → List Record
+exports list table = flat_map (export_of list table) (entries list)
+
+-- those of a load segment: of a run-time library file the first one has them all
+abbrev pub exports_for : LinkForm → ℕ → List Record → List Record
+exports_for Program number all = []
+exports_for LibraryForm number all = if number == 1 then all else []
 
 -- the load segments with these load names, in order, the first with this number
 abbrev pub load_images : List Member → List Told → ℕ → List (List ℕ) → List Image
 load_images list table number [] = []
 load_images list table number (x ∷ xs) =
-    image_of (load_fields list number x) (linked list table x) ∷ load_images list table (number + 1) xs
+    image_of (load_fields list number x) (linked list table x) (exports_for (form_in list) number (exports list table)) ∷ load_images list table (number + 1) xs
 
 -- the table, where there is an entry
 abbrev pub table_images : ℕ → List Target → List Image
 table_images number [] = []
 table_images number (target ∷ targets) = table_image number (map file_entry (target ∷ targets)) ∷ []
 
--- the load segments in order of number, and the table behind them
+-- the pathnames, where there are run-time library files
+abbrev pub path_images : ℕ → List RuntimeFile → List Image
+path_images number [] = []
+path_images number (r ∷ runtimes) = pathnames_image number (map (λ one. one.path) (r ∷ runtimes)) ∷ []
+
+-- the load segments in order of number, the table behind them, and the pathnames behind all
 unfoldable pub images : List Member → List Told → List Image
-images list table = load_images list table 1 (load_names list) ++ table_images (table_number list) (targets list table)
+images list table =
+    let tables = table_images (table_number list) (targets list table) in
+    load_images list table 1 (load_names list) ++ (tables ++ path_images (table_number list + length tables) (setting_in list).runtimes)
 
 -- the bytes of the load file
 unfoldable pub written_file : List Member → List Told → List ℕ
@@ -78,9 +121,14 @@ abbrev pub table_cells : List Target → List (List Cell)
 table_cells [] = []
 table_cells (target ∷ targets) = map Byte (table_bytes (map file_entry (target ∷ targets))) ∷ []
 
--- the linked cells of the load segments in order of number, and the table's behind them
+-- the pathnames' cells, where there are run-time library files
+abbrev pub path_cells : List RuntimeFile → List (List Cell)
+path_cells [] = []
+path_cells (r ∷ runtimes) = map Byte (paths_text (map (λ one. one.path) (r ∷ runtimes))) ∷ []
+
+-- the linked cells of the load segments in order of number, the table's behind them, and the pathnames' behind all
 unfoldable pub linked_cells : List Member → List Told → List (List Cell)
-linked_cells list table = map (linked list table) (load_names list) ++ table_cells (targets list table)
+linked_cells list table = map (linked list table) (load_names list) ++ (table_cells (targets list table) ++ path_cells (setting_in list).runtimes)
 
 -- each segment has its cells, and there are as many of the ones as of the others
 abbrev pub HaveCells : List (List Cell) → List Segment → Type 0
@@ -100,7 +148,7 @@ start = record { targets = []; place = 0; cells = [] }
 
 -- The file that the linker writes is a file of the load segments and the table, and each of them stands for its cells.
 abbrev pub LinkedStandsFor : Type 0
-LinkedStandsFor = (files : List (List ℕ)) (list : List Member) (table : List Told) → AllByRecursion IsBytes files → IsResolved files list
+LinkedStandsFor = (given : Given) (list : List Member) (table : List Told) → HasBytes given → IsResolved given list
     → IsTable list table → AreMade list table start (items list) → length (written_file list table) ≤ 0x1000000
     → (segments : List Segment) × IsFile segments (written_file list table) × AreReadAs (images list table) segments
     × HaveCells (linked_cells list table) segments

@@ -7,7 +7,7 @@ use Rattle.load_meaning.specs.Cells.{Cell, Byte}
 use Rattle.link_meaning.specs.declared.fault.LinkCause.{LinkCause}
 use Rattle.link_meaning.specs.Sizes.{Located, located}
 use Rattle.omf_format.specs.Number.{padding}
-use Rattle.link_meaning.specs.Member.{Member}
+use Rattle.link_meaning.specs.Member.{Member, setting_in}
 use Rattle.link_meaning.specs.Layout.{in_load, load_names, load_headers, load_of, offset_of}
 use Rattle.link_meaning.specs.LinkValues.{Told, value_in}
 use Rattle.load_meaning.specs.declared.table.Target.{Target}
@@ -40,7 +40,7 @@ bank_of headers number = elim (load_header headers number) [ None ↦ 0 | Some f
 abbrev pub frame_of : List Member → Item → Frame
 frame_of list i =
     let own = load_of list i.member in
-    record { own = own; bank_size = bank_of (load_headers list) own; place = offset_of list i.place i.member + i.here.location }
+    record { own = own; bank_size = bank_of (load_headers list) own; place = offset_of list i.place i.member + i.here.location; setting = setting_in list }
 
 -- what was made so far: the targets in order of first reference, and the cells of the member at this place
 pub record State : Type 0 where

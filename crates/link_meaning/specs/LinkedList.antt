@@ -4,7 +4,7 @@ use Rattle.std.specs.List.{list_any}
 use Rattle.std.specs.Option.{option_or}
 use Rattle.std.specs.Str.{bytes_eq}
 use Rattle.link_meaning.specs.First.{first_some}
-use Rattle.link_meaning.specs.Member.{Member, Input, Offer, objects, offers}
+use Rattle.link_meaning.specs.Member.{Setting, Member, Input, Offer, objects, offers}
 use Rattle.omf_format.specs.Header.{is_private}
 use Rattle.omf_format.specs.File.{Segment}
 use Rattle.link_meaning.specs.Defines.{data_title_of}
@@ -79,7 +79,7 @@ Follow offers before [] = wanted offers before ≡ None
 Follow offers before (m ∷ members) = (wanted offers before ≡ Some m) × Follow offers (before ++ m ∷ []) members
 
 -- the list begins with the segments of the object files, and each further member was wanted by the members before it
-pub record IsLinked (inputs : List Input) (list : List Member) : Type 0 where
+pub record IsLinked (setting : Setting) (inputs : List Input) (list : List Member) : Type 0 where
   pub added : List Member
-  pub parts : list ≡ objects inputs ++ added
-  pub follow : Follow (offers inputs) (objects inputs) added
+  pub parts : list ≡ objects setting inputs ++ added
+  pub follow : Follow (offers setting inputs) (objects setting inputs) added

@@ -10,6 +10,9 @@ pub mod RunCells
 pub mod MadeLaws
 pub mod LinkedRuns
 pub mod ReadMembers
+pub mod SettingLaws
+pub mod FarLaws
+pub mod ExportLaws
 pub mod LinkWrittenLaws
 pub mod PlaceFits
 pub mod PlaceValues
@@ -20,6 +23,7 @@ pub mod EquatePlaces
 pub mod LinkedWalk
 pub mod EquateTables
 pub mod EquateOrder
+pub mod OutsideLaws
 pub mod Reached
 pub mod LinkLoadableLaws
 pub mod TablePasses

@@ -3,7 +3,7 @@
 ghost use Rattle.link_meaning.specs.Layout.{OffsetIsLeast, OneOffset};
 ghost use Rattle.link_meaning.specs.LinkWritten.{LinkedStandsFor};
 ghost use Rattle.link_meaning.specs.EmitFaults.{OneLinkAnswer, OneEmitAnswer, LinkAnswersAsEmit, MadeWhereSound, LinkableStandsFor};
-ghost use Rattle.link_meaning.specs.LinkLoadable.{StandsForLinkedCells, OnlyCallsReachDynamic, IsLoadedWhereNoneSkipped, HasNoLoadFault, IsReadWhole};
+ghost use Rattle.link_meaning.specs.LinkLoadable.{StandsForLinkedCells, OnlyCallsReachDynamic, IsLoadedWhereNoneSkipped, IsRuntimeOfForm, HasNoPathnames, HasNoLoadFault, IsReadWhole};
 ghost use Rattle.link_meaning.specs.EquateValues.{OneValue, NoneOnRing, TableOfValues, TableWithoutRings, OneNumber};
 
 /// Where a member stands in its load segment is settled: at the least multiple of its alignment behind the members before it.
@@ -60,5 +60,7 @@ pub fn linked_files_have_their_headers_and_cells()
 pub fn linked_files_are_loaded()
     ensures loadable { IsLoadedWhereNoneSkipped }
     ensures no_fault { HasNoLoadFault }
+    ensures runtime { IsRuntimeOfForm }
+    ensures pathless { HasNoPathnames }
     ensures short { IsReadWhole }
 {}

@@ -4,10 +4,12 @@
 #![tactic(auto)]
 
 mod fault;
+mod form;
 mod laws;
 mod search;
 
 pub use fault::{LinkCause, LinkFault};
+pub use form::LinkForm;
 pub use laws::{
     equates_have_one_value, files_have_one_answer, linkable_files_stand_for_their_cells,
     linked_files_are_loaded, linked_files_have_their_headers_and_cells,

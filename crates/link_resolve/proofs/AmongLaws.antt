@@ -6,7 +6,7 @@ use Rattle.std.proofs.lemmas.List.{length-append}
 use Rattle.omf_format.specs.File.{Segment, segment_at}
 use Rattle.omf_format.specs.laws.FileLaws.{segments_fit}
 use Rattle.link_meaning.specs.First.{IsIn}
-use Rattle.link_meaning.specs.Member.{Row, Input, Member, Offer, is_library, members_from, objects_from, objects, offer_of, offers_from, offers}
+use Rattle.link_meaning.specs.Member.{Row, Input, Member, Offer, is_library, members_from, objects_from, objects, offer_of, offers_from, offers, Setting}
 use Rattle.link_meaning.specs.Dictionary.{rows_of}
 use Rattle.link_meaning.specs.LinkFaults.{segments_fault, AreInputs}
 use Rattle.link_meaning.specs.laws.ProgressLaws.{AreSound}
@@ -45,9 +45,9 @@ record IsFrom (file n : ℕ) (list : List Segment) (m : Member) : Type 0 where
   number : m.number ≡ n + k
   here : slice_get list k ≡ Some m.segment
 
-member_from : (file n : ℕ) (list : List Segment) (m : Member) → IsIn (members_from file n list) m → IsFrom file n list m
-member_from file n [] m is = absurd is
-member_from file n (s ∷ list) m (inl e) = record {
+member_from : (setting : Setting) (file n : ℕ) (list : List Segment) (m : Member) → IsIn (members_from setting file n list) m → IsFrom file n list m
+member_from setting file n [] m is = absurd is
+member_from setting file n (s ∷ list) m (inl e) = record {
   k = 0;
   file' = sym (ap (λ (x : Member). x.file) e);
   number = omega (arith, sym (ap (λ (x : Member). x.number) e));
@@ -56,31 +56,31 @@ member_from file n (s ∷ list) m (inl e) = record {
   where
     some : Segment → Option Segment
     some x = Some x
-member_from file n (s ∷ list) m (inr is) =
-    let rest = member_from file (n + 1) list m is in
+member_from setting file n (s ∷ list) m (inr is) =
+    let rest = member_from setting file (n + 1) list m is in
     record { k = suc rest.k; file' = rest.file'; number = omega (arith, rest.number); here = rest.here }
 
-objects_among_from : (files : List (List Segment)) (n : ℕ) (inputs : List Input) → Behind files n inputs → AllAmong files (objects_from (n + 1) inputs)
-objects_among_from files n [] behind m is = absurd is
-objects_among_from files n (i ∷ inputs) behind m is =
-    settle (in_either (if is_library i.segments then [] else members_from (n + 1) 1 i.segments) (objects_from (n + 1 + 1) inputs) m is) (λ more. objects_among_from files (n + 1) inputs (behind_more files n i inputs behind) m more)
+objects_among_from : (setting : Setting) (files : List (List Segment)) (n : ℕ) (inputs : List Input) → Behind files n inputs → AllAmong files (objects_from setting (n + 1) inputs)
+objects_among_from setting files n [] behind m is = absurd is
+objects_among_from setting files n (i ∷ inputs) behind m is =
+    settle (in_either (if is_library i.segments then [] else members_from setting (n + 1) 1 i.segments) (objects_from setting (n + 1 + 1) inputs) m is) (λ more. objects_among_from setting files (n + 1) inputs (behind_more files n i inputs behind) m more)
   where
-    own : (b : Bool) → IsIn (if b then [] else members_from (n + 1) 1 i.segments) m → IsAmong files m
+    own : (b : Bool) → IsIn (if b then [] else members_from setting (n + 1) 1 i.segments) m → IsAmong files m
     own true is = absurd is
     own false is =
-        let f = member_from (n + 1) 1 i.segments m is in
+        let f = member_from setting (n + 1) 1 i.segments m is in
         stands files n f.k i.segments m.segment m.file m.number (file_at files n i inputs behind) f.here f.file' (omega (arith, f.number))
 
-    settle : IsIn (if is_library i.segments then [] else members_from (n + 1) 1 i.segments) m ⊎ IsIn (objects_from (n + 1 + 1) inputs) m → (IsIn (objects_from (n + 1 + 1) inputs) m → IsAmong files m) → IsAmong files m
+    settle : IsIn (if is_library i.segments then [] else members_from setting (n + 1) 1 i.segments) m ⊎ IsIn (objects_from setting (n + 1 + 1) inputs) m → (IsIn (objects_from setting (n + 1 + 1) inputs) m → IsAmong files m) → IsAmong files m
     settle (inl a) go = own (is_library i.segments) a
     settle (inr b) go = go b
 
 behind_all : (inputs : List Input) → Behind (map (λ i. i.segments) inputs) 0 inputs
 behind_all inputs k = let same : 0 + k ≡ k = omega arith in ap (slice_get (map (λ (i : Input). i.segments) inputs)) same
 
-pub objects_among : (files : List (List Segment)) (inputs : List Input) → files ≡ map (λ i. i.segments) inputs → AllAmong files (objects inputs)
+pub objects_among : (setting : Setting) (files : List (List Segment)) (inputs : List Input) → files ≡ map (λ i. i.segments) inputs → AllAmong files (objects setting inputs)
 unfolding objects
-objects_among files inputs are = subst (λ (l : List (List Segment)). AllAmong l (objects_from 1 inputs)) (sym are) (objects_among_from (map (λ (i : Input). i.segments) inputs) 0 inputs (behind_all inputs))
+objects_among setting files inputs are = subst (λ (l : List (List Segment)). AllAmong l (objects_from setting 1 inputs)) (sym are) (objects_among_from setting (map (λ (i : Input). i.segments) inputs) 0 inputs (behind_all inputs))
 
 -- ---- offers
 
@@ -88,16 +88,16 @@ abbrev AllSound : List Input → Type 0
 AllSound inputs = (i : Input) → IsIn inputs i → IsSoundInput i
 
 -- the row that offers it
-record IsOffered (file : ℕ) (segments : List Segment) (rows : List Row) (o : Offer) : Type 0 where
+record IsOffered (setting : Setting) (file : ℕ) (segments : List Segment) (rows : List Row) (o : Offer) : Type 0 where
   row : Row
   among : IsIn rows row
-  is : offer_of file segments row ≡ Some o
+  is : offer_of setting file segments row ≡ Some o
 
-offered : (file : ℕ) (segments : List Segment) (rows : List Row) (o : Offer) → IsIn (filter_map (offer_of file segments) rows) o → IsOffered file segments rows o
-offered file segments [] o is = absurd is
-offered file segments (r ∷ rows) o is = settle (offer_of file segments r) refl is (λ more. offered file segments rows o more)
+offered : (setting : Setting) (file : ℕ) (segments : List Segment) (rows : List Row) (o : Offer) → IsIn (filter_map (offer_of setting file segments) rows) o → IsOffered setting file segments rows o
+offered setting file segments [] o is = absurd is
+offered setting file segments (r ∷ rows) o is = settle (offer_of setting file segments r) refl is (λ more. offered setting file segments rows o more)
   where
-    settle : (x : Option Offer) → offer_of file segments r ≡ x → IsIn (cons_option x (filter_map (offer_of file segments) rows)) o → (IsIn (filter_map (offer_of file segments) rows) o → IsOffered file segments rows o) → IsOffered file segments (r ∷ rows) o
+    settle : (x : Option Offer) → offer_of setting file segments r ≡ x → IsIn (cons_option x (filter_map (offer_of setting file segments) rows)) o → (IsIn (filter_map (offer_of setting file segments) rows) o → IsOffered setting file segments rows o) → IsOffered setting file segments (r ∷ rows) o
     settle None e is go = let rest = go is in record { row = rest.row; among = inr rest.among; is = rest.is }
     settle (Some p) e (inl same) go = record { row = r; among = inl refl; is = e ∙ ap (λ (z : Offer). Some z) same }
     settle (Some p) e (inr is) go = let rest = go is in record { row = rest.row; among = inr rest.among; is = rest.is }
@@ -107,11 +107,11 @@ record Stands (files : List (List Segment)) (o : Offer) : Type 0 where
   among : IsAmong files o.member
   defines : DefinesSo o.member.segment o.name o.private
 
-of_row : (files : List (List Segment)) (n : ℕ) (i : Input) (o : Offer) → slice_get files n ≡ Some i.segments → IsSoundInput i → IsOffered (n + 1) i.segments i.rows o → Stands files o
-of_row files n i o there sound is =
+of_row : (setting : Setting) (files : List (List Segment)) (n : ℕ) (i : Input) (o : Offer) → slice_get files n ≡ Some i.segments → IsSoundInput i → IsOffered setting (n + 1) i.segments i.rows o → Stands files o
+of_row setting files n i o there sound is =
     let s = sound.1 is.row is.among in
     let p = row_place i.segments is.row (told_row i.segments is.row) refl s in
-    let same = offer_is (n + 1) i.segments is.row o p.k p.segment is.is p.number p.here in
+    let same = offer_is setting (n + 1) i.segments is.row o p.k p.segment is.is p.number p.here in
     let segment : Some s.segment ≡ some p.segment = sym s.here ∙ ap (segment_at i.segments) p.number ∙ p.here in
     let one : s.segment ≡ p.segment = same_segment s.segment p.segment segment in
     record {
@@ -126,25 +126,25 @@ of_row files n i o there sound is =
     same_segment : (a b : Segment) → Some a ≡ Some b → a ≡ b
     same_segment a b e = cc
 
-offers_stand : (files : List (List Segment)) (n : ℕ) (inputs : List Input) → Behind files n inputs → AllSound inputs → (o : Offer) → IsIn (offers_from (n + 1) inputs) o → Stands files o
-offers_stand files n [] behind sound o is = absurd is
-offers_stand files n (i ∷ inputs) behind sound o is =
-    settle (in_either (filter_map (offer_of (n + 1) i.segments) i.rows) (offers_from (n + 1 + 1) inputs) o is) (λ more. offers_stand files (n + 1) inputs (behind_more files n i inputs behind) (λ j there. sound j (inr there)) o more)
+offers_stand : (setting : Setting) (files : List (List Segment)) (n : ℕ) (inputs : List Input) → Behind files n inputs → AllSound inputs → (o : Offer) → IsIn (offers_from setting (n + 1) inputs) o → Stands files o
+offers_stand setting files n [] behind sound o is = absurd is
+offers_stand setting files n (i ∷ inputs) behind sound o is =
+    settle (in_either (filter_map (offer_of setting (n + 1) i.segments) i.rows) (offers_from setting (n + 1 + 1) inputs) o is) (λ more. offers_stand setting files (n + 1) inputs (behind_more files n i inputs behind) (λ j there. sound j (inr there)) o more)
   where
-    settle : IsIn (filter_map (offer_of (n + 1) i.segments) i.rows) o ⊎ IsIn (offers_from (n + 1 + 1) inputs) o → (IsIn (offers_from (n + 1 + 1) inputs) o → Stands files o) → Stands files o
-    settle (inl a) go = of_row files n i o (file_at files n i inputs behind) (sound i (inl refl)) (offered (n + 1) i.segments i.rows o a)
+    settle : IsIn (filter_map (offer_of setting (n + 1) i.segments) i.rows) o ⊎ IsIn (offers_from setting (n + 1 + 1) inputs) o → (IsIn (offers_from setting (n + 1 + 1) inputs) o → Stands files o) → Stands files o
+    settle (inl a) go = of_row setting files n i o (file_at files n i inputs behind) (sound i (inl refl)) (offered setting (n + 1) i.segments i.rows o a)
     settle (inr b) go = go b
 
-all_stand : (files : List (List Segment)) (inputs : List Input) → files ≡ map (λ i. i.segments) inputs → AllSound inputs → (o : Offer) → IsIn (offers inputs) o → Stands files o
+all_stand : (setting : Setting) (files : List (List Segment)) (inputs : List Input) → files ≡ map (λ i. i.segments) inputs → AllSound inputs → (o : Offer) → IsIn (offers setting inputs) o → Stands files o
 unfolding offers
-all_stand files inputs are sound o is =
-    subst (λ (l : List (List Segment)). Stands l o) (sym are) (offers_stand (map (λ (i : Input). i.segments) inputs) 0 inputs (behind_all inputs) sound o is)
+all_stand setting files inputs are sound o is =
+    subst (λ (l : List (List Segment)). Stands l o) (sym are) (offers_stand setting (map (λ (i : Input). i.segments) inputs) 0 inputs (behind_all inputs) sound o is)
 
-pub offers_among : (files : List (List Segment)) (inputs : List Input) → files ≡ map (λ i. i.segments) inputs → AllSound inputs → (o : Offer) → IsIn (offers inputs) o → IsAmong files o.member
-offers_among files inputs are sound o is = (all_stand files inputs are sound o is).among
+pub offers_among : (setting : Setting) (files : List (List Segment)) (inputs : List Input) → files ≡ map (λ i. i.segments) inputs → AllSound inputs → (o : Offer) → IsIn (offers setting inputs) o → IsAmong files o.member
+offers_among setting files inputs are sound o is = (all_stand setting files inputs are sound o is).among
 
-pub offers_sound : (files : List (List Segment)) (inputs : List Input) → files ≡ map (λ i. i.segments) inputs → AllSound inputs → AreSound (offers inputs)
-offers_sound files inputs are sound o is = let d = (all_stand files inputs are sound o is).defines in (d.by, d.among, d.name', d.scope)
+pub offers_sound : (setting : Setting) (files : List (List Segment)) (inputs : List Input) → files ≡ map (λ i. i.segments) inputs → AllSound inputs → AreSound (offers setting inputs)
+offers_sound setting files inputs are sound o is = let d = (all_stand setting files inputs are sound o is).defines in (d.by, d.among, d.name', d.scope)
 
 pub files_sound : (files : List (List Segment)) (inputs : List Input) → files ≡ map (λ i. i.segments) inputs → AllSound inputs → (segments : List Segment) → IsIn files segments → segments_fault 1 segments ≡ None
 files_sound files inputs are sound segments is = over inputs sound (subst (λ (l : List (List Segment)). IsIn l segments) are is)
@@ -156,15 +156,15 @@ files_sound files inputs are sound segments is = over inputs sound (subst (λ (l
 
 -- ---- how many
 
-members-length : (file n : ℕ) (list : List Segment) → length (members_from file n list) ≡ length list
-members-length file n [] = refl
-members-length file n (s ∷ list) = ap suc (members-length file (n + 1) list)
+members-length : (setting : Setting) (file n : ℕ) (list : List Segment) → length (members_from setting file n list) ≡ length list
+members-length setting file n [] = refl
+members-length setting file n (s ∷ list) = ap suc (members-length setting file (n + 1) list)
 
-offers-length : (file : ℕ) (segments : List Segment) (rows : List Row) → length (filter_map (offer_of file segments) rows) ≤ length rows
-offers-length file segments [] = omega arith
-offers-length file segments (r ∷ rows) = settle (offer_of file segments r) (offers-length file segments rows)
+offers-length : (setting : Setting) (file : ℕ) (segments : List Segment) (rows : List Row) → length (filter_map (offer_of setting file segments) rows) ≤ length rows
+offers-length setting file segments [] = omega arith
+offers-length setting file segments (r ∷ rows) = settle (offer_of setting file segments r) (offers-length setting file segments rows)
   where
-    settle : (x : Option Offer) → length (filter_map (offer_of file segments) rows) ≤ length rows → length (cons_option x (filter_map (offer_of file segments) rows)) ≤ suc (length rows)
+    settle : (x : Option Offer) → length (filter_map (offer_of setting file segments) rows) ≤ length rows → length (cons_option x (filter_map (offer_of setting file segments) rows)) ≤ suc (length rows)
     settle None less = omega arith
     settle (Some p) less = omega arith
 
@@ -180,25 +180,25 @@ fine rows = Ok rows
 ok_same : (x y : List Row) → fine x ≡ fine y → x ≡ y
 ok_same x y e = cc
 
-pub all_few : (file : ℕ) (files : List (List ℕ)) (inputs : List Input) → AreInputs files inputs → FewRows inputs files → 10 * (length (objects_from file inputs) + length (offers_from file inputs)) ≤ total_size files
-all_few file [] [] are few = omega arith
-all_few file [] (i ∷ inputs) are few = absurd are
-all_few file (f ∷ files) [] are few = absurd are
-all_few file (f ∷ files) (i ∷ inputs) are few =
-    let rest = all_few (file + 1) files inputs are.1 few.1 in
+pub all_few : (setting : Setting) (file : ℕ) (files : List (List ℕ)) (inputs : List Input) → AreInputs files inputs → FewRows inputs files → 10 * (length (objects_from setting file inputs) + length (offers_from setting file inputs)) ≤ total_size files
+all_few setting file [] [] are few = omega arith
+all_few setting file [] (i ∷ inputs) are few = absurd are
+all_few setting file (f ∷ files) [] are few = absurd are
+all_few setting file (f ∷ files) (i ∷ inputs) are few =
+    let rest = all_few setting (file + 1) files inputs are.1 few.1 in
     let own = settle (is_library i.segments) refl in
-    omega (arith, rest, own, length-append (if is_library i.segments then [] else members_from file 1 i.segments) (objects_from (file + 1) inputs), length-append (filter_map (offer_of file i.segments) i.rows) (offers_from (file + 1) inputs))
+    omega (arith, rest, own, length-append (if is_library i.segments then [] else members_from setting file 1 i.segments) (objects_from setting (file + 1) inputs), length-append (filter_map (offer_of setting file i.segments) i.rows) (offers_from setting (file + 1) inputs))
   where
-    settle : (b : Bool) → is_library i.segments ≡ b → 10 * (length (if is_library i.segments then [] else members_from file 1 i.segments) + length (filter_map (offer_of file i.segments) i.rows)) ≤ length f
+    settle : (b : Bool) → is_library i.segments ≡ b → 10 * (length (if is_library i.segments then [] else members_from setting file 1 i.segments) + length (filter_map (offer_of setting file i.segments) i.rows)) ≤ length f
     settle true e =
-        let none : length (if is_library i.segments then [] else members_from file 1 i.segments) ≡ 0 = ap (λ (b : Bool). length (if b then [] else members_from file 1 i.segments)) e in
-        omega (arith, none, offers-length file i.segments i.rows, few.0)
+        let none : length (if is_library i.segments then [] else members_from setting file 1 i.segments) ≡ 0 = ap (λ (b : Bool). length (if b then [] else members_from setting file 1 i.segments)) e in
+        omega (arith, none, offers-length setting file i.segments i.rows, few.0)
     settle false e =
-        let all : length (if is_library i.segments then [] else members_from file 1 i.segments) ≡ length i.segments = ap (λ (b : Bool). length (if b then [] else members_from file 1 i.segments)) e ∙ members-length file 1 i.segments in
+        let all : length (if is_library i.segments then [] else members_from setting file 1 i.segments) ≡ length i.segments = ap (λ (b : Bool). length (if b then [] else members_from setting file 1 i.segments)) e ∙ members-length setting file 1 i.segments in
         let rows : i.rows ≡ [] = ok_same i.rows [] (sym are.0.rows ∙ ap (λ (b : Bool). if b then rows_of i.segments else fine []) e) in
-        let none : length (filter_map (offer_of file i.segments) i.rows) ≡ 0 = ap (λ (r : List Row). length (filter_map (offer_of file i.segments) r)) rows in
+        let none : length (filter_map (offer_of setting file i.segments) i.rows) ≡ 0 = ap (λ (r : List Row). length (filter_map (offer_of setting file i.segments) r)) rows in
         omega (arith, all, none, segments_fit i.segments 0 f (length f) are.0.is_file)
 
-pub all_fit : (files : List (List ℕ)) (inputs : List Input) → AreInputs files inputs → FewRows inputs files → 10 * (length (objects inputs) + length (offers inputs)) ≤ total_size files
+pub all_fit : (setting : Setting) (files : List (List ℕ)) (inputs : List Input) → AreInputs files inputs → FewRows inputs files → 10 * (length (objects setting inputs) + length (offers setting inputs)) ≤ total_size files
 unfolding objects offers
-all_fit files inputs are few = all_few 1 files inputs are few
+all_fit setting files inputs are few = all_few setting 1 files inputs are few

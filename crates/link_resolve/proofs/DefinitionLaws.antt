@@ -21,7 +21,8 @@ use Rattle.link_meaning.specs.declared.search.Step.{Step}
 use Rattle.link_meaning.specs.declared.search.Step.TheVariants.{Within, OfUnit, Everyone}
 use Rattle.link_resolve.specs.declared.names.Outcome.{Outcome}
 use Rattle.link_resolve.specs.declared.names.Outcome.TheVariants.{One, Several}
-use Rattle.link_resolve.specs.declared.definitions.Definition as kept
+use Rattle.link_resolve.specs.declared.names.Names.{Names}
+use Rattle.link_resolve.specs.declared.definitions.Defined as kept
 use Rattle.link_resolve.specs.declared.definitions.Definitions.{Definitions}
 use Rattle.link_resolve.specs.declared.definitions.Origin.{Origin}
 use Rattle.link_resolve.specs.Names.{Named, Row, Indexes, is_row, seen_of, outcome}
@@ -52,12 +53,17 @@ seen_from all (f ∷ fs) n key at = settle (is_found key f) (seen_from all fs (n
     settle true s = sees_more all f n (key_of_found f, n) (filter (is_found key) fs) (filter (is_row key) (numbered (n + 1) fs)) refl here s
     settle false s = s
 
+-- what a table of names answers for definitions in their order
+pub seen_under : (fs : List Found) (names : Names) (key : Named) (answer : Outcome) → Indexes (numbered 0 fs) names → ((rows : List Row) → Indexes rows names → answer ≡ outcome rows key)
+    → Sees fs (filter (is_found key) fs) answer
+seen_under fs names key answer are looks =
+    subst (λ (o : Outcome). Sees fs (filter (is_found key) fs) o) (sym (looks (numbered 0 fs) are)) (seen_from fs fs 0 key (λ k. let same : 0 + k ≡ k = omega arith in ap (slice_get fs) same))
+
 pub seen_all : (fs : List Found) (table : Definitions) (key : Named) (answer : Outcome) → AreDefinitions fs table → ((rows : List Row) → Indexes rows table.names → answer ≡ outcome rows key)
     → Sees fs (filter (is_found key) fs) answer
-seen_all fs table key answer are looks =
-    subst (λ (o : Outcome). Sees fs (filter (is_found key) fs) o) (sym (looks (numbered 0 fs) are.names)) (seen_from fs fs 0 key (λ k. let same : 0 + k ≡ k = omega arith in ap (slice_get fs) same))
+seen_all fs table key answer are looks = seen_under fs table.names key answer are.names looks
 
-pub got : (fs : List Found) (table : Definitions) (number : ℕ) (answer : Option kept.Definition) → AreDefinitions fs table → option_map definition_of answer ≡ slice_get table.items number
+pub got : (fs : List Found) (table : Definitions) (number : ℕ) (answer : Option kept.Defined) → AreDefinitions fs table → option_map definition_of answer ≡ slice_get table.items number
     → option_map definition_of answer ≡ option_map told_definition (slice_get fs number)
 got fs table number answer are is = is ∙ ap (λ (l : List ToldDefinition). slice_get l number) are.items ∙ slice_get-map told_definition fs number
 
@@ -118,7 +124,7 @@ seen_elsewhere fs table name o place are looks apart =
 
 -- ---- one more
 
-numbered-snoc : (n : ℕ) (fs : List Found) (f : Found) → numbered n (fs ++ f ∷ []) ≡ numbered n fs ++ (key_of_found f, n + length fs) ∷ []
+pub numbered-snoc : (n : ℕ) (fs : List Found) (f : Found) → numbered n (fs ++ f ∷ []) ≡ numbered n fs ++ (key_of_found f, n + length fs) ∷ []
 numbered-snoc n [] f = let same : n ≡ n + 0 = omega arith in ap (λ (k : ℕ). (key_of_found f, k) ∷ []) same
 numbered-snoc n (g ∷ fs) f =
     let same : n + 1 + length fs ≡ n + suc (length fs) = omega arith in
@@ -130,7 +136,7 @@ locals-snoc (g ∷ fs) f =
     let L : Found → List Row = λ x. local_under (step_of x) x.definition.name in
     ap (λ (l : List Row). l ++ L f) (flat_map-cons L g fs) ∙ append_assoc (L g) (local_rows fs) (L f) ∙ ap (λ (l : List Row). L g ++ l) (locals-snoc fs f) ∙ sym (flat_map-cons L g (fs ++ f ∷ []))
 
-pub pushed : (fs : List Found) (f : Found) (old new : Definitions) (key : Named) (number : ℕ) (d : kept.Definition) → AreDefinitions fs old → key ≡ key_of_found f → definition_of d ≡ told_definition f
+pub pushed : (fs : List Found) (f : Found) (old new : Definitions) (key : Named) (number : ℕ) (d : kept.Defined) → AreDefinitions fs old → key ≡ key_of_found f → definition_of d ≡ told_definition f
     → number ≡ length old.items → ((rows : List Row) → Indexes rows old.names → Indexes (rows ++ (key, number) ∷ []) new.names) → new.items ≡ old.items ++ definition_of d ∷ []
     → ((rows : List Row) → Indexes rows old.locals → Indexes (rows ++ local_under key.step key.name) new.locals) → AreDefinitions (fs ++ f ∷ []) new
 pushed fs f old new key number d are key_is told_is number_is more items more_locals =

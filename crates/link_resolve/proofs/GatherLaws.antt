@@ -12,7 +12,7 @@ use Rattle.link_meaning.specs.declared.fault.LinkCause.{LinkCause}
 use Rattle.link_meaning.specs.declared.fault.LinkCause.TheVariants.{BadLength, BadLibrary}
 use Rattle.link_meaning.specs.First.{IsIn}
 use Rattle.link_meaning.specs.Sizes.{body_size}
-use Rattle.link_meaning.specs.Member.{Row, Input, Member, Offer, is_library, members_from, objects_from, objects, offer_of, offers_from, offers}
+use Rattle.link_meaning.specs.Member.{Row, Input, Member, Offer, is_library, members_from, objects_from, objects, offer_of, offers_from, offers, Setting}
 use Rattle.link_meaning.specs.Dictionary.{rows_of}
 use Rattle.link_meaning.specs.LinkFaults.{segment_fault, segments_fault, length_fault, records_fault, type_fault, with_place, OfDictionary, IsInput}
 use Rattle.omf_format.specs.Header.{alignment_of}
@@ -31,20 +31,20 @@ use Rattle.link_resolve.proofs.OpeningLaws.{in_either}
 
 -- ---- an object file's segments
 
-abbrev pub member_as : ℕ → ℕ → Segment → Member
-member_as file number s = record { file = file; number = number; from = 0; segment = s }
+abbrev pub member_as : Setting → ℕ → ℕ → Segment → Member
+member_as setting file number s = record { file = file; number = number; from = 0; segment = s; setting = setting }
 
-pub members_more : (file n : ℕ) (list : List Segment) (k : ℕ) (s : Segment) → slice_get list k ≡ Some s → members_from file n (take (k + 1) list) ≡ members_from file n (take k list) ++ member_as file (n + k) s ∷ []
-members_more file n [] k s e = absurd cc
-members_more file n (x ∷ list) zero s e =
+pub members_more : (setting : Setting) (file n : ℕ) (list : List Segment) (k : ℕ) (s : Segment) → slice_get list k ≡ Some s → members_from setting file n (take (k + 1) list) ≡ members_from setting file n (take k list) ++ member_as setting file (n + k) s ∷ []
+members_more setting file n [] k s e = absurd cc
+members_more setting file n (x ∷ list) zero s e =
     let same : x ≡ s = cc in
     let number : n ≡ n + 0 = omega arith in
-    ap (λ (y : Segment). member_as file n y ∷ []) same ∙ ap (λ (i : ℕ). member_as file i s ∷ []) number
-members_more file n (x ∷ list) (suc k) s e =
+    ap (λ (y : Segment). member_as setting file n y ∷ []) same ∙ ap (λ (i : ℕ). member_as setting file i s ∷ []) number
+members_more setting file n (x ∷ list) (suc k) s e =
     let next : suc k + 1 ≡ suc (k + 1) = omega arith in
     let number : n + 1 + k ≡ n + suc k = omega arith in
-    ap (λ (i : ℕ). members_from file n (take i (x ∷ list))) next
-    ∙ ap (λ (l : List Member). member_as file n x ∷ l) (members_more file (n + 1) list k s e ∙ ap (λ (i : ℕ). members_from file (n + 1) (take k list) ++ member_as file i s ∷ []) number)
+    ap (λ (i : ℕ). members_from setting file n (take i (x ∷ list))) next
+    ∙ ap (λ (l : List Member). member_as setting file n x ∷ l) (members_more setting file (n + 1) list k s e ∙ ap (λ (i : ℕ). members_from setting file (n + 1) (take k list) ++ member_as setting file i s ∷ []) number)
 
 -- ---- LENGTH bounds the body
 
@@ -117,25 +117,25 @@ false_library list bytes file at fault is_file sound library is told =
 
 -- ---- one more input
 
-objects-snoc : (file : ℕ) (inputs : List Input) (input : Input) → objects_from file (inputs ++ input ∷ []) ≡ objects_from file inputs ++ (if is_library input.segments then [] else members_from (file + length inputs) 1 input.segments)
-objects-snoc file [] input =
+objects-snoc : (setting : Setting) (file : ℕ) (inputs : List Input) (input : Input) → objects_from setting file (inputs ++ input ∷ []) ≡ objects_from setting file inputs ++ (if is_library input.segments then [] else members_from setting (file + length inputs) 1 input.segments)
+objects-snoc setting file [] input =
     let same : file ≡ file + 0 = omega arith in
-    append-nil (if is_library input.segments then [] else members_from file 1 input.segments) ∙ ap (λ (n : ℕ). if is_library input.segments then [] else members_from n 1 input.segments) same
-objects-snoc file (x ∷ inputs) input =
+    append-nil (if is_library input.segments then [] else members_from setting file 1 input.segments) ∙ ap (λ (n : ℕ). if is_library input.segments then [] else members_from setting n 1 input.segments) same
+objects-snoc setting file (x ∷ inputs) input =
     let same : file + 1 + length inputs ≡ file + suc (length inputs) = omega arith in
-    ap (λ (l : List Member). (if is_library x.segments then [] else members_from file 1 x.segments) ++ l)
-    (objects-snoc (file + 1) inputs input ∙ ap (λ (n : ℕ). objects_from (file + 1) inputs ++ (if is_library input.segments then [] else members_from n 1 input.segments)) same)
-    ∙ sym (append_assoc (if is_library x.segments then [] else members_from file 1 x.segments) (objects_from (file + 1) inputs) (if is_library input.segments then [] else members_from (file + suc (length inputs)) 1 input.segments))
+    ap (λ (l : List Member). (if is_library x.segments then [] else members_from setting file 1 x.segments) ++ l)
+    (objects-snoc setting (file + 1) inputs input ∙ ap (λ (n : ℕ). objects_from setting (file + 1) inputs ++ (if is_library input.segments then [] else members_from setting n 1 input.segments)) same)
+    ∙ sym (append_assoc (if is_library x.segments then [] else members_from setting file 1 x.segments) (objects_from setting (file + 1) inputs) (if is_library input.segments then [] else members_from setting (file + suc (length inputs)) 1 input.segments))
 
-offers-snoc : (file : ℕ) (inputs : List Input) (input : Input) → offers_from file (inputs ++ input ∷ []) ≡ offers_from file inputs ++ filter_map (offer_of (file + length inputs) input.segments) input.rows
-offers-snoc file [] input =
+offers-snoc : (setting : Setting) (file : ℕ) (inputs : List Input) (input : Input) → offers_from setting file (inputs ++ input ∷ []) ≡ offers_from setting file inputs ++ filter_map (offer_of setting (file + length inputs) input.segments) input.rows
+offers-snoc setting file [] input =
     let same : file ≡ file + 0 = omega arith in
-    append-nil (filter_map (offer_of file input.segments) input.rows) ∙ ap (λ (n : ℕ). filter_map (offer_of n input.segments) input.rows) same
-offers-snoc file (x ∷ inputs) input =
+    append-nil (filter_map (offer_of setting file input.segments) input.rows) ∙ ap (λ (n : ℕ). filter_map (offer_of setting n input.segments) input.rows) same
+offers-snoc setting file (x ∷ inputs) input =
     let same : file + 1 + length inputs ≡ file + suc (length inputs) = omega arith in
-    ap (λ (l : List Offer). filter_map (offer_of file x.segments) x.rows ++ l)
-    (offers-snoc (file + 1) inputs input ∙ ap (λ (n : ℕ). offers_from (file + 1) inputs ++ filter_map (offer_of n input.segments) input.rows) same)
-    ∙ sym (append_assoc (filter_map (offer_of file x.segments) x.rows) (offers_from (file + 1) inputs) (filter_map (offer_of (file + suc (length inputs)) input.segments) input.rows))
+    ap (λ (l : List Offer). filter_map (offer_of setting file x.segments) x.rows ++ l)
+    (offers-snoc setting (file + 1) inputs input ∙ ap (λ (n : ℕ). offers_from setting (file + 1) inputs ++ filter_map (offer_of setting n input.segments) input.rows) same)
+    ∙ sym (append_assoc (filter_map (offer_of setting file x.segments) x.rows) (offers_from setting (file + 1) inputs) (filter_map (offer_of setting (file + suc (length inputs)) input.segments) input.rows))
 
 pub gathered_more : (inputs : List Input) (input : Input) (old new : gathered.Gathered) (file : ℕ) (list : List Segment) → IsGathered inputs old → file ≡ length old.files.items + 1 → AddsInput file input old new → IsSoundInput input → input.segments ≡ list
     → new.files.items ≡ old.files.items ++ list ∷ [] → IsGathered (inputs ++ input ∷ []) new
@@ -146,10 +146,10 @@ gathered_more inputs input old new file list g number adds sound same files =
       files =
           files ∙ ap (λ (l : List (List Segment)). l ++ list ∷ []) g.files ∙ ap (λ (s : List Segment). map (λ (i : Input). i.segments) inputs ++ s ∷ []) (sym same)
           ∙ sym (map-append (λ (i : Input). i.segments) inputs (input ∷ []));
-      objects' = subst (λ (l : List Member). Holds l new.linked) (ap (λ (n : ℕ). objects_from 1 inputs ++ (if is_library input.segments then [] else members_from n 1 input.segments)) at ∙ sym (objects-snoc 1 inputs input))
-          (adds.0 (objects_from 1 inputs) g.objects');
-      offers' = subst (λ (l : List Offer). AreOffers l new.offers) (ap (λ (n : ℕ). offers_from 1 inputs ++ filter_map (offer_of n input.segments) input.rows) at ∙ sym (offers-snoc 1 inputs input))
-          (adds.1 (offers_from 1 inputs) g.offers');
+      objects' = λ setting. subst (λ (l : List Member). Holds l new.linked) (ap (λ (n : ℕ). objects_from setting 1 inputs ++ (if is_library input.segments then [] else members_from setting n 1 input.segments)) at ∙ sym (objects-snoc setting 1 inputs input))
+          (adds.0 setting (objects_from setting 1 inputs) (g.objects' setting));
+      offers' = λ setting. subst (λ (l : List Offer). AreOffers l new.offers) (ap (λ (n : ℕ). offers_from setting 1 inputs ++ filter_map (offer_of setting n input.segments) input.rows) at ∙ sym (offers-snoc setting 1 inputs input))
+          (adds.1 setting (offers_from setting 1 inputs) (g.offers' setting));
       sound = λ i is. settle i (in_either inputs (input ∷ []) i is);
     }
   where
@@ -168,25 +168,26 @@ library_input list bytes rows is_file sound library read = record { is_file = is
 
 pub gathered_none : (new : gathered.Gathered) → new.files.items ≡ [] → Holds [] new.linked → AreOffers [] new.offers → IsGathered [] new
 unfolding objects offers
-gathered_none new files linked offered = record { files = files; objects' = linked; offers' = offered; sound = λ i is. absurd is }
+gathered_none new files linked offered = record { files = files; objects' = λ setting. linked; offers' = λ setting. offered; sound = λ i is. absurd is }
 
 -- a file that is one has no fault
 pub no_file_fault : (list : List Segment) (bytes : List ℕ) (fault : FileFault) → IsFile list bytes → IsFirstFault bytes fault → ⊥
 no_file_fault list bytes fault is first = no_file bytes fault list first is
 
 -- what an object file adds
-pub adds_object : (file : ℕ) (list : List Segment) (old new : gathered.Gathered) → is_library list ≡ false → new.offers ≡ old.offers → ((before : List Member) → Holds before old.linked → Holds (before ++ members_from file 1 list) new.linked)
-    → AddsInput file (record { segments = list; rows = [] }) old new
+pub adds_object : (file : ℕ) (list : List Segment) (old new : gathered.Gathered) → is_library list ≡ false → new.offers ≡ old.offers
+    → ((setting : Setting) (before : List Member) → Holds before old.linked → Holds (before ++ members_from setting file 1 list) new.linked) → AddsInput file (record { segments = list; rows = [] }) old new
 adds_object file list old new other offered linked = (
-  λ before holds. subst (λ (b : Bool). Holds (before ++ (if b then [] else members_from file 1 list)) new.linked) (sym other) (linked before holds),
-  λ os are. subst (λ (l : List Offer). AreOffers l new.offers) (sym (append-nil os)) (subst (AreOffers os) (sym offered) are),
+  λ setting before holds. subst (λ (b : Bool). Holds (before ++ (if b then [] else members_from setting file 1 list)) new.linked) (sym other) (linked setting before holds),
+  λ setting os are. subst (λ (l : List Offer). AreOffers l new.offers) (sym (append-nil os)) (subst (AreOffers os) (sym offered) are),
 )
 
 -- and a library
 pub adds_library : (file : ℕ) (list : List Segment) (rows : List Row) (old new : gathered.Gathered) → is_library list ≡ true → new.linked ≡ old.linked
-    → ((os : List Offer) → AreOffers os old.offers → AreOffers (os ++ filter_map (offer_of file list) rows) new.offers) → AddsInput file (record { segments = list; rows = rows }) old new
+    → ((setting : Setting) (os : List Offer) → AreOffers os old.offers → AreOffers (os ++ filter_map (offer_of setting file list) rows) new.offers)
+    → AddsInput file (record { segments = list; rows = rows }) old new
 adds_library file list rows old new library linked offered = (
-  λ before holds. subst (λ (b : Bool). Holds (before ++ (if b then [] else members_from file 1 list)) new.linked) (sym library)
+  λ setting before holds. subst (λ (b : Bool). Holds (before ++ (if b then [] else members_from setting file 1 list)) new.linked) (sym library)
       (subst (λ (l : List Member). Holds l new.linked) (sym (append-nil before)) (subst (Holds before) (sym linked) holds)),
   offered,
 )

@@ -6,7 +6,7 @@ use Rattle.std.proofs.lemmas.List.{get_or-set_other, length-append, length-set, 
 use Rattle.omf_format.specs.File.{Segment, segment_at}
 use Rattle.link_meaning.specs.First.{IsIn}
 use Rattle.link_meaning.specs.laws.FirstLaws.{first_some-first}
-use Rattle.link_meaning.specs.Member.{Member, Offer, Input, objects, offers}
+use Rattle.link_meaning.specs.Member.{Member, Offer, Input, Setting, setting_in, members_from, objects_from, objects, offers, is_library}
 use Rattle.link_meaning.specs.declared.search.Want.{Want}
 use Rattle.link_meaning.specs.declared.search.Want.TheVariants.{Data, One, Any}
 use Rattle.link_meaning.specs.Search.{Found, finds, finds_data}
@@ -18,6 +18,10 @@ use Rattle.link_meaning.specs.laws.ProgressLaws.{AreSound, fresh_name, fresh_dat
 use Rattle.link_resolve.specs.declared.definitions.Origin.{Origin}
 use Rattle.link_resolve.specs.declared.linked.Linked.{Linked}
 use Rattle.link_resolve.specs.declared.offers.Offers as kept
+use Rattle.link_resolve.specs.declared.outside.Outside.{Outside}
+use Rattle.link_resolve.specs.Outside.{IsOutsideOf, AreOutside}
+use Rattle.link_meaning.specs.Search.{outside}
+use Rattle.std.specs.List.{AllByRecursion}
 use Rattle.link_resolve.specs.Definitions.{IsOf}
 use Rattle.link_resolve.specs.Linked.{Holds}
 use Rattle.link_resolve.specs.Offers.{told_origin}
@@ -94,24 +98,59 @@ unset_none (suc n) = let rest = unset_none n in omega arith
 abbrev pub AreTaken : List Offer → List Member → List Bool → Type 0
 AreTaken os list flags = (k : ℕ) (o : Offer) → get_or flags k false ≡ true → slice_get os k ≡ Some o → IsIn list o.member
 
+-- ---- the setting
+
+abbrev Has : Setting → Member → Type 0
+Has setting m = m.setting ≡ setting
+
+all_members : (setting : Setting) (file n : ℕ) (segments : List Segment) → AllByRecursion (Has setting) (members_from setting file n segments)
+all_members setting file n [] = tt
+all_members setting file n (s ∷ segments) = (refl, all_members setting file (n + 1) segments)
+
+all_both : (setting : Setting) (xs ys : List Member) → AllByRecursion (Has setting) xs → AllByRecursion (Has setting) ys → AllByRecursion (Has setting) (xs ++ ys)
+all_both setting [] ys a b = b
+all_both setting (x ∷ xs) ys a b = (a.0, all_both setting xs ys a.1 b)
+
+all_objects : (setting : Setting) (file : ℕ) (inputs : List Input) → AllByRecursion (Has setting) (objects_from setting file inputs)
+all_objects setting file [] = tt
+all_objects setting file (input ∷ inputs) = all_both setting (if is_library input.segments then [] else members_from setting file 1 input.segments) (objects_from setting (file + 1) inputs) (by_library (is_library input.segments)) (all_objects setting (file + 1) inputs)
+  where
+    by_library : (b : Bool) → AllByRecursion (Has setting) (if b then [] else members_from setting file 1 input.segments)
+    by_library true = tt
+    by_library false = all_members setting file 1 input.segments
+
+-- the list has the setting of its object files
+pub setting_is : (setting : Setting) (inputs : List Input) (added : List Member) → (objects setting inputs ≡ [] → ⊥) → setting_in (objects setting inputs ++ added) ≡ setting
+unfolding objects
+setting_is setting inputs added some = first (objects_from setting 1 inputs) (all_objects setting 1 inputs) some
+  where
+    first : (xs : List Member) → AllByRecursion (Has setting) xs → (xs ≡ [] → ⊥) → setting_in (xs ++ added) ≡ setting
+    first [] all more = absurd (more refl)
+    first (x ∷ xs) all more = all.0
+
+-- so the table has the names that it can find
+pub outside_is : (setting : Setting) (inputs : List Input) (files : List (List Segment)) (table : Outside) (os : kept.Offers) (linked : Linked) (added : List Member) → MayGrow setting inputs files table os linked
+    → IsOutsideOf (objects setting inputs ++ added) table
+outside_is setting inputs files table os linked added may = subst (λ (x : Setting). AreOutside (outside x) table) (sym (setting_is setting inputs added may.some)) may.table'
+
 -- ---- the loop
 
-pub record Growing (inputs : List Input) (files : List (List Segment)) (linked : Linked) (taken : List Bool) (cursor : ℕ) : Type 0 where
+pub record Growing (setting : Setting) (inputs : List Input) (files : List (List Segment)) (linked : Linked) (taken : List Bool) (cursor : ℕ) : Type 0 where
   pub added : List Member
-  pub holds : Holds (objects inputs ++ added) linked
-  pub leads : Leads (offers inputs) (objects inputs) added
-  pub nothing : WantsNothing (offers inputs) (objects inputs ++ added) cursor
-  pub within : cursor ≤ length (asked (objects inputs ++ added))
-  pub size : length taken ≡ length (offers inputs)
-  pub taken' : AreTaken (offers inputs) (objects inputs ++ added) taken
-  pub among : AllAmong files (objects inputs ++ added)
-  pub few : length (objects inputs ++ added) + unset taken + 1 < 2 ^ 32
+  pub holds : Holds (objects setting inputs ++ added) linked
+  pub leads : Leads (offers setting inputs) (objects setting inputs) added
+  pub nothing : WantsNothing (offers setting inputs) (objects setting inputs ++ added) cursor
+  pub within : cursor ≤ length (asked (objects setting inputs ++ added))
+  pub size : length taken ≡ length (offers setting inputs)
+  pub taken' : AreTaken (offers setting inputs) (objects setting inputs ++ added) taken
+  pub among : AllAmong files (objects setting inputs ++ added)
+  pub few : length (objects setting inputs ++ added) + unset taken + 1 < 2 ^ 32
 
-pub growing_start : (inputs : List Input) (files : List (List Segment)) (os : kept.Offers) (linked : Linked) (taken : List Bool) (n : ℕ) → MayGrow inputs files os linked → n ≡ length os.origins.items
-    → taken ≡ replicate n false → Growing inputs files linked taken 0
-growing_start inputs files os linked taken n may count none =
-    let whole : objects inputs ≡ objects inputs ++ [] = sym (append-nil (objects inputs)) in
-    let size : n ≡ length (offers inputs) = omega (arith, count, ap length may.offers'.origins, length-map (offers inputs) told_origin) in
+pub growing_start : (setting : Setting) (inputs : List Input) (files : List (List Segment)) (table : Outside) (os : kept.Offers) (linked : Linked) (taken : List Bool) (n : ℕ) → MayGrow setting inputs files table os linked → n ≡ length os.origins.items
+    → taken ≡ replicate n false → Growing setting inputs files linked taken 0
+growing_start setting inputs files table os linked taken n may count none =
+    let whole : objects setting inputs ≡ objects setting inputs ++ [] = sym (append-nil (objects setting inputs)) in
+    let size : n ≡ length (offers setting inputs) = omega (arith, count, ap length may.offers'.origins, length-map (offers setting inputs) told_origin) in
     record {
       added = [];
       holds = subst (λ (l : List Member). Holds l linked) whole may.objects';
@@ -132,11 +171,11 @@ growing_start inputs files os linked taken n may count none =
     no_flag : (k : ℕ) → get_or (replicate n false) k false ≡ true → ⊥
     no_flag k e = let clash : false ≡ true = sym (none_set n k) ∙ e in absurd cc
 
-pub growing_end : (inputs : List Input) (files : List (List Segment)) (linked : Linked) (taken : List Bool) (cursor : ℕ) (g : Growing inputs files linked taken cursor) → wanted (offers inputs) (objects inputs ++ g.added) ≡ None
-    → HasGrown inputs files linked
-growing_end inputs files linked taken cursor g none = record {
-  list = objects inputs ++ g.added;
-  is_linked = record { added = g.added; parts = refl; follow = leads_end (offers inputs) (objects inputs) g.added g.leads none };
+pub growing_end : (setting : Setting) (inputs : List Input) (files : List (List Segment)) (linked : Linked) (taken : List Bool) (cursor : ℕ) (g : Growing setting inputs files linked taken cursor) → wanted (offers setting inputs) (objects setting inputs ++ g.added) ≡ None
+    → HasGrown setting inputs files linked
+growing_end setting inputs files linked taken cursor g none = record {
+  list = objects setting inputs ++ g.added;
+  is_linked = record { added = g.added; parts = refl; follow = leads_end (offers setting inputs) (objects setting inputs) g.added g.leads none };
   holds = g.holds;
   among = g.among;
   few = omega (arith, g.few);
@@ -173,45 +212,45 @@ taken_more os list flags k o at within taken j p is there = settle (nat_same j k
     settle (inr other) = in_front list (o.member ∷ []) p.member (taken j p (sym (get_or-set_other flags k j true false other) ∙ is) there)
 
 -- one more member: the cursor stays at the use that wanted it, or goes back to the first use
-pub growing_more : (inputs : List Input) (files : List (List Segment)) (os : kept.Offers) (first old new : Linked) (taken flags : List Bool) (cursor number row next : ℕ) (origin : Origin) (s : Segment) (may : MayGrow inputs files os first)
-    (g : Growing inputs files old taken cursor) (w : IsWanted (offers inputs) (objects inputs ++ g.added) (Some (number, row)))
-    → number < length (asked (objects inputs ++ g.added)) → origin ≡ told_origin w.0 → s ≡ w.0.member.segment
+pub growing_more : (setting : Setting) (inputs : List Input) (files : List (List Segment)) (table : Outside) (os : kept.Offers) (first old new : Linked) (taken flags : List Bool) (cursor number row next : ℕ) (origin : Origin) (s : Segment) (may : MayGrow setting inputs files table os first)
+    (g : Growing setting inputs files old taken cursor) (w : IsWanted (offers setting inputs) (objects setting inputs ++ g.added) (Some (number, row)))
+    → number < length (asked (objects setting inputs ++ g.added)) → origin ≡ told_origin w.0 → s ≡ w.0.member.segment
     → ((list : List Member) (m : Member) → IsOf m origin → m.segment ≡ s → Holds list old → Holds (list ++ m ∷ []) new)
-    → (next ≡ 0) ⊎ ((next ≡ number) × OpensNothing (objects inputs ++ g.added) w.0.member)
-    → flags ≡ set taken row true → Growing inputs files new flags next
-growing_more inputs files os first old new taken flags cursor number row next origin s may g w inside from same adds goes flagged =
+    → (next ≡ 0) ⊎ ((next ≡ number) × OpensNothing (objects setting inputs ++ g.added) w.0.member)
+    → flags ≡ set taken row true → Growing setting inputs files new flags next
+growing_more setting inputs files table os first old new taken flags cursor number row next origin s may g w inside from same adds goes flagged =
     let o = w.0 in
-    let list = objects inputs ++ g.added in
-    let whole : list ++ o.member ∷ [] ≡ objects inputs ++ (g.added ++ o.member ∷ []) = append_assoc (objects inputs) g.added (o.member ∷ []) in
+    let list = objects setting inputs ++ g.added in
+    let whole : list ++ o.member ∷ [] ≡ objects setting inputs ++ (g.added ++ o.member ∷ []) = append_assoc (objects setting inputs) g.added (o.member ∷ []) in
     let of : IsOf o.member origin = (sym (ap (λ (x : Origin). x.file) from), sym (ap (λ (x : Origin). x.segment) from), sym (ap (λ (x : Origin). x.from) from)) in
-    let row_in : row < length taken = omega (arith, within_length (offers inputs) row o w.1, g.size) in
-    let free = flag_free (offers inputs) list taken row o may.defined g.taken' w.1 w.2 in
+    let row_in : row < length taken = omega (arith, within_length (offers setting inputs) row o w.1, g.size) in
+    let free = flag_free (offers setting inputs) list taken row o may.defined g.taken' w.1 w.2 in
     let less = set_less taken row row_in free in
     record {
       added = g.added ++ o.member ∷ [];
       holds = subst (λ (l : List Member). Holds l new) whole (adds list o.member of (sym same) g.holds);
-      leads = leads_more (offers inputs) (objects inputs) g.added o.member g.leads w.2;
-      nothing = subst (λ (l : List Member). WantsNothing (offers inputs) l next) whole (settle goes);
+      leads = leads_more (offers setting inputs) (objects setting inputs) g.added o.member g.leads w.2;
+      nothing = subst (λ (l : List Member). WantsNothing (offers setting inputs) l next) whole (settle goes);
       within = subst (λ (l : List Member). next ≤ length (asked l)) whole (room goes);
       size = ap length flagged ∙ length-set taken row true ∙ g.size;
-      taken' = subst (λ (l : List Member). AreTaken (offers inputs) l flags) whole (subst (λ (f : List Bool). AreTaken (offers inputs) (list ++ o.member ∷ []) f) (sym flagged) (taken_more (offers inputs) list taken row o w.1 row_in g.taken'));
+      taken' = subst (λ (l : List Member). AreTaken (offers setting inputs) l flags) whole (subst (λ (f : List Bool). AreTaken (offers setting inputs) (list ++ o.member ∷ []) f) (sym flagged) (taken_more (offers setting inputs) list taken row o w.1 row_in g.taken'));
       among = subst (λ (l : List Member). AllAmong files l) whole (λ m is. there m (in_either list (o.member ∷ []) m is));
       few = omega (arith, g.few, less, ap unset flagged, sym (ap length whole), length-append list (o.member ∷ []));
     }
   where
-    settle : (next ≡ 0) ⊎ ((next ≡ number) × OpensNothing (objects inputs ++ g.added) w.0.member) → WantsNothing (offers inputs) ((objects inputs ++ g.added) ++ w.0.member ∷ []) next
-    settle (inl e) = subst (λ (n : ℕ). WantsNothing (offers inputs) ((objects inputs ++ g.added) ++ w.0.member ∷ []) n) (sym e) refl
+    settle : (next ≡ 0) ⊎ ((next ≡ number) × OpensNothing (objects setting inputs ++ g.added) w.0.member) → WantsNothing (offers setting inputs) ((objects setting inputs ++ g.added) ++ w.0.member ∷ []) next
+    settle (inl e) = subst (λ (n : ℕ). WantsNothing (offers setting inputs) ((objects setting inputs ++ g.added) ++ w.0.member ∷ []) n) (sym e) refl
     settle (inr stays) =
-        subst (λ (n : ℕ). WantsNothing (offers inputs) ((objects inputs ++ g.added) ++ w.0.member ∷ []) n) (sym stays.0)
-        (nothing_more (offers inputs) (objects inputs ++ g.added) w.0.member number stays.1 (omega (arith, inside)) w.3)
+        subst (λ (n : ℕ). WantsNothing (offers setting inputs) ((objects setting inputs ++ g.added) ++ w.0.member ∷ []) n) (sym stays.0)
+        (nothing_more (offers setting inputs) (objects setting inputs ++ g.added) w.0.member number stays.1 (omega (arith, inside)) w.3)
 
-    room : (next ≡ 0) ⊎ ((next ≡ number) × OpensNothing (objects inputs ++ g.added) w.0.member) → next ≤ length (asked ((objects inputs ++ g.added) ++ w.0.member ∷ []))
+    room : (next ≡ 0) ⊎ ((next ≡ number) × OpensNothing (objects setting inputs ++ g.added) w.0.member) → next ≤ length (asked ((objects setting inputs ++ g.added) ++ w.0.member ∷ []))
     room (inl e) = omega (arith, e)
-    room (inr stays) = omega (arith, stays.0, inside, asked_grows (objects inputs ++ g.added) w.0.member)
+    room (inr stays) = omega (arith, stays.0, inside, asked_grows (objects setting inputs ++ g.added) w.0.member)
 
-    there : (m : Member) → IsIn (objects inputs ++ g.added) m ⊎ IsIn (w.0.member ∷ []) m → IsAmong files m
+    there : (m : Member) → IsIn (objects setting inputs ++ g.added) m ⊎ IsIn (w.0.member ∷ []) m → IsAmong files m
     there m (inl is) = g.among m is
-    there m (inr (inl e)) = subst (IsAmong files) e (may.among w.0 (in_at (offers inputs) row w.0 w.1))
+    there m (inr (inl e)) = subst (IsAmong files) e (may.among w.0 (in_at (offers setting inputs) row w.0 w.1))
     there m (inr (inr more)) = absurd more
 
 pub cursor_goes : (b : Bool) (number next : ℕ) (P : Type 0) → next ≡ (if b then 0 else number) → (b ≡ false → P) → (next ≡ 0) ⊎ ((next ≡ number) × P)

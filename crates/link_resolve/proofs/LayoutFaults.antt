@@ -7,17 +7,19 @@ use Rattle.std.proofs.lemmas.List.{length-map, take-append-drop, length-take-le}
 use Rattle.std.proofs.lemmas.Option.{slice_get-map, slice_get_within}
 use Rattle.omf_base.specs.declared.spot.Spot.{Spot}
 use Rattle.omf_format.specs.Name.{without_trailing}
-use Rattle.omf_format.specs.Header.{Fields}
-use Rattle.link_meaning.specs.declared.fault.LinkCause.TheVariants.{TooManySegments, SegmentTooLong}
+use Rattle.omf_format.specs.Header.{Fields, is_dynamic, is_skipped}
+use Rattle.link_meaning.specs.declared.fault.LinkCause.TheVariants.{TooManySegments, SegmentTooLong, NotDynamic}
 use Rattle.link_meaning.specs.declared.fault.LinkFault.{LinkFault}
 use Rattle.link_meaning.specs.First.{HasNone, IsFirst}
 use Rattle.link_meaning.specs.laws.FirstLaws.{none_more, none_yet}
-use Rattle.link_meaning.specs.Member.{Member}
+use Rattle.link_meaning.specs.Member.{Member, form_in}
+use Rattle.link_meaning.specs.declared.form.LinkForm.{LinkForm}
+use Rattle.link_meaning.specs.declared.form.LinkForm.TheVariants.{Program, Runtime as LibraryForm}
 use Rattle.link_meaning.specs.Layout.{load_names, load_length, load_members, least_bank, greatest_align, of_first, load_fields, headers_from, load_headers, cleared}
-use Rattle.link_meaning.specs.LinkFaults.{HasOrgFault, HasLengthFault, HasLayoutFault, is_too_long, LayoutCheck, Orgs, Count, Lengths}
+use Rattle.link_meaning.specs.LinkFaults.{HasOrgFault, HasLengthFault, HasKindFault, HasLayoutFault, is_too_long, may_not_stand, LayoutCheck, Orgs, Count, Lengths, Kinds}
 use Rattle.link_resolve.specs.declared.layout.Load.{Load}
 use Rattle.link_resolve.specs.declared.layout.Layout as kept
-use Rattle.link_resolve.specs.Laid.{IsLoad, IsConflict, org_fault, Laid, layout_checks, is_long, AllShort, IsFirstLong, ShowsLoad, AreHeaders}
+use Rattle.link_resolve.specs.Laid.{IsLoad, IsConflict, org_fault, Laid, layout_checks, is_long, AllShort, IsFirstLong, is_other, AllDynamic, IsFirstOther, ShowsLoad, AreHeaders}
 use Rattle.link_resolve.proofs.Lists.{drop_at}
 use Rattle.link_resolve.proofs.LibraryLaws.{take_more}
 
@@ -135,7 +137,8 @@ load_there list layout k x laid e = settle (slice_get layout.loads.items k) refl
 record OfHeader (list : List Member) (layout : kept.Layout) (k : ℕ) (f : Fields) : Type 0 where
   load : Load
   at : slice_get layout.loads.items k ≡ Some load
-  long : is_long load ≡ is_too_long f
+  is : IsLoad list load
+  fields : f ≡ fields_of list (1 + k) load.load_name
 
 of_header : (list : List Member) (layout : kept.Layout) (k : ℕ) (f : Fields) → Laid list layout → slice_get (load_headers list) k ≡ Some f → OfHeader list layout k f
 unfolding load_headers
@@ -145,7 +148,8 @@ of_header list layout k f laid e =
     record {
       load = there.load;
       at = there.at;
-      long = long_is list (1 + k) there.load (laid.loads k there.load there.at) ∙ ap (λ (x : List ℕ). is_too_long (load_fields list (1 + k) x)) there.name ∙ ap is_too_long (sym h.is);
+      is = laid.loads k there.load there.at;
+      fields = h.is ∙ ap (λ (x : List ℕ). fields_of list (1 + k) x) (sym there.name);
     }
 
 -- ---- no fault
@@ -157,14 +161,38 @@ middle_at (x ∷ xs) y ys = middle_at xs y ys
 true_false : (b : Bool) → b ≡ true → b ≡ false → ⊥
 true_false b p q = let clash : true ≡ false = sym p ∙ q in cc
 
--- those before a place have none
-none_long : (list : List Member) (layout : kept.Layout) (items : List Fields) → Laid list layout → ((j : ℕ) (f : Fields) → slice_get items j ≡ Some f → slice_get (load_headers list) j ≡ Some f)
-    → ((j : ℕ) (load : Load) → j < length items → slice_get layout.loads.items j ≡ Some load → is_long load ≡ false) → HasNone (HasLengthFault list) items
-none_long list layout items laid front short before f rest its e has =
+-- a test of load segments is one of their headers
+abbrev IsTest : List Member → (Load → Bool) → (Fields → Bool) → Type 0
+IsTest list bad wrong = (n : ℕ) (load : Load) → IsLoad list load → bad load ≡ wrong (fields_of list n load.load_name)
+
+-- what has a fault fails the test
+abbrev Fails : (List Fields → Fields → LinkFault → Type 0) → (Fields → Bool) → Type 0
+Fails Has wrong = (before : List Fields) (f : Fields) (its : LinkFault) → Has before f its → wrong f ≡ true
+
+-- where the load segments before a place pass, those before it have no fault
+none_bad : (bad : Load → Bool) (wrong : Fields → Bool) (Has : List Fields → Fields → LinkFault → Type 0) (list : List Member) (layout : kept.Layout) (items : List Fields) → IsTest list bad wrong → Fails Has wrong → Laid list layout
+    → ((j : ℕ) (f : Fields) → slice_get items j ≡ Some f → slice_get (load_headers list) j ≡ Some f)
+    → ((j : ℕ) (load : Load) → j < length items → slice_get layout.loads.items j ≡ Some load → bad load ≡ false) → HasNone Has items
+none_bad bad wrong Has list layout items test fails laid front fine before f rest its e has =
     let at : slice_get items (length before) ≡ Some f = ap (λ (l : List Fields). slice_get l (length before)) e ∙ middle_at before f rest in
     let h = of_header list layout (length before) f laid (front (length before) f at) in
     let within = slice_get_within items (length before) f at in
-    true_false (is_too_long f) has.long (sym h.long ∙ short (length before) h.load within h.at)
+    true_false (wrong f) (fails before f its has) (ap wrong h.fields ∙ sym (test (1 + length before) h.load h.is) ∙ fine (length before) h.load within h.at)
+
+long_test : (list : List Member) → IsTest list is_long is_too_long
+long_test list n load is = long_is list n load is
+
+long_fails : (list : List Member) → Fails (HasLengthFault list) is_too_long
+long_fails list before f its has = has.long
+
+-- ---- kinds
+
+kind_test : (list : List Member) → IsTest list is_other (may_not_stand LibraryForm)
+unfolding load_fields
+kind_test list n load is = ap (λ (kind : ℕ). not (is_dynamic kind && not (is_skipped kind))) is.kind
+
+kind_fails : (list : List Member) (form : LinkForm) → form_in list ≡ form → Fails (HasKindFault list) (may_not_stand form)
+kind_fails list form is before f its has = sym (ap (λ (x : LinkForm). may_not_stand x f) is) ∙ has.other
 
 pub no_conflict : (list : List Member) (before : List LayoutCheck) (its : LinkFault) → HasNone HasOrgFault list → HasLayoutFault list before Orgs its → ⊥
 no_conflict list before its none p = none p.before p.item p.after its p.parts p.here
@@ -174,7 +202,18 @@ no_count list before its few p = let within = slice_get_within (load_names list)
 
 pub no_long : (list : List Member) (layout : kept.Layout) (before : List LayoutCheck) (its : LinkFault) → Laid list layout → AllShort layout.loads.items → HasLayoutFault list before Lengths its → ⊥
 no_long list layout before its laid short p =
-    none_long list layout (load_headers list) laid (λ j f e. e) (λ j load within there. short j load there) p.before p.item p.after its p.parts p.here
+    none_bad is_long is_too_long (HasLengthFault list) list layout (load_headers list) (long_test list) (long_fails list) laid (λ j f e. e) (λ j load within there. short j load there) p.before p.item p.after its p.parts p.here
+
+-- of a program no kind is a fault, and of a run-time library file none is where all may stand
+abbrev pub FineKinds : LinkForm → List Load → Type 0
+FineKinds Program loads = Unit {0}
+FineKinds LibraryForm loads = AllDynamic loads
+
+pub no_kinds : (form : LinkForm) (list : List Member) (layout : kept.Layout) (before : List LayoutCheck) (its : LinkFault) → form_in list ≡ form → Laid list layout → FineKinds form layout.loads.items → HasLayoutFault list before Kinds its → ⊥
+no_kinds Program list layout before its is laid fine p = let clash : false ≡ true = kind_fails list Program is p.before p.item its p.here in absurd cc
+no_kinds LibraryForm list layout before its is laid fine p =
+    none_bad is_other (may_not_stand LibraryForm) (HasKindFault list) list layout (load_headers list) (kind_test list) (kind_fails list LibraryForm is) laid (λ j f e. e) (λ j load within there. fine j load there)
+    p.before p.item p.after its p.parts p.here
 
 abbrev upto_orgs : List LayoutCheck
 upto_orgs = Orgs ∷ []
@@ -182,26 +221,34 @@ upto_orgs = Orgs ∷ []
 abbrev upto_count : List LayoutCheck
 upto_count = Orgs ∷ Count ∷ []
 
+abbrev upto_lengths : List LayoutCheck
+upto_lengths = Orgs ∷ Count ∷ Lengths ∷ []
+
 none_orgs : (list : List Member) → HasNone HasOrgFault list → HasNone (HasLayoutFault list) upto_orgs
 none_orgs list none = none_more (HasLayoutFault list) [] Orgs (none_yet (HasLayoutFault list)) (λ its. no_conflict list [] its none)
 
 none_count : (list : List Member) → HasNone HasOrgFault list → length (load_names list) ≤ 254 → HasNone (HasLayoutFault list) upto_count
 none_count list none few = none_more (HasLayoutFault list) upto_orgs Count (none_orgs list none) (λ its. no_count list upto_orgs its few)
 
-pub none_all : (list : List Member) (layout : kept.Layout) → Laid list layout → HasNone HasOrgFault list → length (load_names list) ≤ 254 → AllShort layout.loads.items → HasNone (HasLayoutFault list) layout_checks
-none_all list layout laid none few short = none_more (HasLayoutFault list) upto_count Lengths (none_count list none few) (λ its. no_long list layout upto_count its laid short)
+none_lengths : (list : List Member) (layout : kept.Layout) → Laid list layout → HasNone HasOrgFault list → length (load_names list) ≤ 254 → AllShort layout.loads.items → HasNone (HasLayoutFault list) upto_lengths
+none_lengths list layout laid none few short = none_more (HasLayoutFault list) upto_count Lengths (none_count list none few) (λ its. no_long list layout upto_count its laid short)
+
+pub none_all : (form : LinkForm) (list : List Member) (layout : kept.Layout) → form_in list ≡ form → Laid list layout → HasNone HasOrgFault list → length (load_names list) ≤ 254 → AllShort layout.loads.items
+    → FineKinds form layout.loads.items → HasNone (HasLayoutFault list) layout_checks
+none_all form list layout is laid none few short fine =
+    none_more (HasLayoutFault list) upto_lengths Kinds (none_lengths list layout laid none few short) (λ its. no_kinds form list layout upto_lengths its is laid fine)
 
 -- ---- a fault
 
 pub at_orgs : (list : List Member) (spot : Spot) (fault : LinkFault) → IsConflict list (Some spot) → fault ≡ org_fault spot → IsFirst (HasLayoutFault list) layout_checks fault
-at_orgs list spot fault is told = record { before = []; item = Orgs; after = Count ∷ Lengths ∷ []; parts = refl; none = none_yet (HasLayoutFault list); here = subst (IsFirst HasOrgFault list) (sym told) is }
+at_orgs list spot fault is told = record { before = []; item = Orgs; after = Count ∷ Lengths ∷ Kinds ∷ []; parts = refl; none = none_yet (HasLayoutFault list); here = subst (IsFirst HasOrgFault list) (sym told) is }
 
 pub at_count : (list : List Member) (layout : kept.Layout) (load : Load) (fault : LinkFault) → Laid list layout → HasNone HasOrgFault list → slice_get layout.loads.items 254 ≡ Some load
     → fault ≡ record { cause = TooManySegments; name = None; spot = load.first } → IsFirst (HasLayoutFault list) layout_checks fault
 at_count list layout load fault laid none there told = record {
   before = upto_orgs;
   item = Count;
-  after = Lengths ∷ [];
+  after = Lengths ∷ Kinds ∷ [];
   parts = refl;
   none = none_orgs list none;
   here = record { load_name = load.load_name; there = name_at list layout 254 load laid there; told = told ∙ ap (λ (s : Spot). count_fault s) (laid.loads 254 load there).first };
@@ -229,34 +276,66 @@ take_few zero (x ∷ xs) = omega arith
 take_few (suc n) [] = omega arith
 take_few (suc n) (x ∷ xs) = let rest = take_few n xs in omega arith
 
+-- the first load segment that fails a test has the first fault
+first_bad : (bad : Load → Bool) (wrong : Fields → Bool) (Has : List Fields → Fields → LinkFault → Type 0) (list : List Member) (layout : kept.Layout) (k : ℕ) (load : Load) (fault : LinkFault) → IsTest list bad wrong → Fails Has wrong
+    → Laid list layout → slice_get layout.loads.items k ≡ Some load
+    → ((j : ℕ) (other : Load) → slice_get (take k layout.loads.items) j ≡ Some other → bad other ≡ false)
+    → Has (take k (load_headers list)) (fields_of list (1 + k) load.load_name) fault → IsFirst Has (load_headers list) fault
+unfolding load_headers
+first_bad bad wrong Has list layout k load fault test fails laid at before here =
+    let headers = headers_from list 1 (load_names list) in
+    let f = load_fields list (1 + k) load.load_name in
+    let there = header_there list 1 (load_names list) k load.load_name (name_at list layout k load laid at) in
+    record {
+      before = take k headers;
+      item = f;
+      after = drop (k + 1) headers;
+      parts = sym (take-append-drop k headers) ∙ ap (λ (l : List Fields). take k headers ++ l) (drop_at headers k f there);
+      none = none_bad bad wrong Has list layout (take k headers) test fails laid (λ j g e. take_at headers k j g e)
+          (λ j other within found. let fewer = take_few k headers in before j other (at_take layout.loads.items k j other (omega (arith, within, fewer)) found));
+      here = here;
+    }
+
 pub at_lengths : (list : List Member) (layout : kept.Layout) (spot : Spot) (fault : LinkFault) → Laid list layout → HasNone HasOrgFault list → length (load_names list) ≤ 254 → IsFirstLong layout.loads.items spot
     → fault ≡ record { cause = SegmentTooLong; name = None; spot = spot } → IsFirst (HasLayoutFault list) layout_checks fault
-unfolding load_headers load_fields
+unfolding load_fields
 at_lengths list layout spot fault laid none few first told =
-    let headers = headers_from list 1 (load_names list) in
-    let x = first.load.load_name in
-    let f = load_fields list (1 + first.k) x in
-    let at = header_there list 1 (load_names list) first.k x (name_at list layout first.k first.load laid first.at) in
     let is = laid.loads first.k first.load first.at in
     record {
       before = upto_count;
       item = Lengths;
-      after = [];
+      after = Kinds ∷ [];
       parts = refl;
       none = none_count list none few;
-      here = record {
-        before = take first.k headers;
-        item = f;
-        after = drop (first.k + 1) headers;
-        parts = sym (take-append-drop first.k headers) ∙ ap (λ (l : List Fields). take first.k headers ++ l) (drop_at headers first.k f at);
-        none = none_long list layout (take first.k headers) laid (λ j g e. take_at headers first.k j g e)
-            (λ j load within there. let fewer = take_few first.k headers in first.before j load (at_take layout.loads.items first.k j load (omega (arith, within, fewer)) there));
-        here = record { long = sym (long_is list (1 + first.k) first.load is) ∙ first.long; told = told ∙ ap long_fault (first.spot' ∙ is.first) };
-      };
+      here = first_bad is_long is_too_long (HasLengthFault list) list layout first.k first.load fault (long_test list) (long_fails list) laid first.at first.before
+          record { long = sym (long_is list (1 + first.k) first.load is) ∙ first.long; told = told ∙ ap long_fault (first.spot' ∙ is.first) };
     }
   where
     long_fault : Spot → LinkFault
     long_fault s = record { cause = SegmentTooLong; name = None; spot = s }
+
+pub at_kinds : (list : List Member) (layout : kept.Layout) (spot : Spot) (fault : LinkFault) → form_in list ≡ LibraryForm → Laid list layout → HasNone HasOrgFault list → length (load_names list) ≤ 254 → AllShort layout.loads.items
+    → IsFirstOther layout.loads.items spot → fault ≡ record { cause = NotDynamic; name = None; spot = spot } → IsFirst (HasLayoutFault list) layout_checks fault
+unfolding load_fields
+at_kinds list layout spot fault form laid none few short first told =
+    let is = laid.loads first.k first.load first.at in
+    let x = first.load.load_name in
+    record {
+      before = upto_lengths;
+      item = Kinds;
+      after = [];
+      parts = refl;
+      none = none_lengths list layout laid none few short;
+      here = first_bad is_other (may_not_stand LibraryForm) (HasKindFault list) list layout first.k first.load fault (kind_test list) (kind_fails list LibraryForm form) laid first.at
+          (λ j load found. first.before j load found)
+          record {
+            other = ap (λ (f : LinkForm). may_not_stand f (fields_of list (1 + first.k) x)) form ∙ sym (kind_test list (1 + first.k) first.load is) ∙ first.other;
+            told = told ∙ ap kind_fault (first.spot' ∙ is.first);
+          };
+    }
+  where
+    kind_fault : Spot → LinkFault
+    kind_fault s = record { cause = NotDynamic; name = None; spot = s }
 
 -- ---- the headers
 

@@ -14,6 +14,9 @@ pub mod DefinitionLaws
 pub mod UseLaws
 pub mod UseTables
 pub mod SearchLaws
+pub mod OutsideTables
+pub mod FirstFound
+pub mod ProgramNumbers
 pub mod LinkedLaws
 pub mod UsingLaws
 pub mod TitleLaws
@@ -27,6 +30,10 @@ pub mod GrowLaws
 pub mod GatherLaws
 pub mod LoadNames
 pub mod LaidLaws
+pub mod InputLaws
+pub mod PartLaws
+pub mod RuntimeLaws
+pub mod GivenLaws
 pub mod PhaseLaws
 pub mod AmongLaws
 pub mod LayoutFaults

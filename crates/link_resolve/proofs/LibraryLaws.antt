@@ -13,7 +13,7 @@ use Rattle.omf_records.specs.Segments.{shown}
 use Rattle.omf_records.specs.SegmentLaws.{shown_at}
 use Rattle.std.proofs.lemmas.List.Elements.{filter_map-append}
 use Rattle.link_meaning.specs.First.{IsIn}
-use Rattle.link_meaning.specs.Member.{Row, Offer, offer_of}
+use Rattle.link_meaning.specs.Member.{Row, Offer, offer_of, Setting}
 use Rattle.link_meaning.specs.Defines.{Definition, outer_scope, title_of, data_title_of}
 use Rattle.link_meaning.specs.LinkedList.{has_title}
 use Rattle.lib_dict.specs.Library.{LibraryRow, told_row}
@@ -126,29 +126,29 @@ row_place segments row told is stands = settle row.segment refl stands.here
       start = sym (ap (λ (t : LibraryRow). t.at) is ∙ ap (λ (o : Option Segment). option_map_or (λ (s : Segment). s.start) o 0) stands.here);
     }
 
-abbrev offer_with : ℕ → Row → Segment → Offer
-offer_with file row s = record { name = row.name; private = row.private; member = record { file = file; number = row.segment; from = row.from; segment = s } }
+abbrev offer_with : Setting → ℕ → Row → Segment → Offer
+offer_with setting file row s = record { name = row.name; private = row.private; member = record { file = file; number = row.segment; from = row.from; segment = s; setting = setting } }
 
 offer_same : (a b : Offer) → Some a ≡ Some b → a ≡ b
 offer_same a b e = cc
 
 -- what a row offers
-pub offer_is : (file : ℕ) (segments : List Segment) (row : Row) (o : Offer) (k : ℕ) (s : Segment) → offer_of file segments row ≡ Some o → row.segment ≡ suc k → slice_get segments k ≡ Some s
-    → o ≡ record { name = row.name; private = row.private; member = record { file = file; number = row.segment; from = row.from; segment = s } }
-offer_is file segments row o k s is number here =
+pub offer_is : (setting : Setting) (file : ℕ) (segments : List Segment) (row : Row) (o : Offer) (k : ℕ) (s : Segment) → offer_of setting file segments row ≡ Some o → row.segment ≡ suc k → slice_get segments k ≡ Some s
+    → o ≡ record { name = row.name; private = row.private; member = record { file = file; number = row.segment; from = row.from; segment = s; setting = setting } }
+offer_is setting file segments row o k s is number here =
     let place : row.segment - 1 ≡ k = omega (arith, number) in
-    offer_same o (offer_with file row s) (sym is ∙ ap (λ (x : Option Segment). option_map (offer_with file row) x) (ap (slice_get segments) place ∙ here))
+    offer_same o (offer_with setting file row s) (sym is ∙ ap (λ (x : Option Segment). option_map (offer_with setting file row) x) (ap (slice_get segments) place ∙ here))
 
-pub there_is : (file : ℕ) (segments : List Segment) (row : Row) (k : ℕ) (s : Segment) → row.segment ≡ suc k → slice_get segments k ≡ Some s
-    → offer_of file segments row ≡ Some (record { name = row.name; private = row.private; member = record { file = file; number = row.segment; from = row.from; segment = s } })
-there_is file segments row k s number here =
+pub there_is : (setting : Setting) (file : ℕ) (segments : List Segment) (row : Row) (k : ℕ) (s : Segment) → row.segment ≡ suc k → slice_get segments k ≡ Some s
+    → offer_of setting file segments row ≡ Some (record { name = row.name; private = row.private; member = record { file = file; number = row.segment; from = row.from; segment = s; setting = setting } })
+there_is setting file segments row k s number here =
     let place : row.segment - 1 ≡ k = omega (arith, number) in
-    ap (λ (x : Option Segment). option_map (offer_with file row) x) (ap (slice_get segments) place ∙ here)
+    ap (λ (x : Option Segment). option_map (offer_with setting file row) x) (ap (slice_get segments) place ∙ here)
 
-pub offered_so : (file : ℕ) (segments : List Segment) (row : Row) (told : LibraryRow) (o : Offer) (k : ℕ) (s : Segment) (number : ℕ) (titled : Bool) → offer_of file segments row ≡ Some o → row.segment ≡ suc k → slice_get segments k ≡ Some s
+pub offered_so : (setting : Setting) (file : ℕ) (segments : List Segment) (row : Row) (told : LibraryRow) (o : Offer) (k : ℕ) (s : Segment) (number : ℕ) (titled : Bool) → offer_of setting file segments row ≡ Some o → row.segment ≡ suc k → slice_get segments k ≡ Some s
     → told ≡ told_row segments row → number ≡ k + 1 → titled ≡ has_title s told.name told.private → IsOfferOf o told.name told.private (record { file = file; segment = number; from = told.file }) titled
-offered_so file segments row told o k s number titled is place here told_is number_is titled_is =
-    let same = offer_is file segments row o k s is place here in
+offered_so setting file segments row told o k s number titled is place here told_is number_is titled_is =
+    let same = offer_is setting file segments row o k s is place here in
     let name : row.name ≡ told.name = sym (ap (λ (t : LibraryRow). t.name) told_is) in
     let private : row.private ≡ told.private = sym (ap (λ (t : LibraryRow). t.private) told_is) in
     let from : row.from ≡ told.file = sym (ap (λ (t : LibraryRow). t.file) told_is) in
@@ -180,10 +180,10 @@ take_more {A} (y ∷ xs) (suc k) x e =
     ap (λ (n : ℕ). take n (y ∷ xs)) next ∙ ap (λ (l : List A). y ∷ l) (take_more xs k x e)
 
 -- one more row
-pub offers_more : (file : ℕ) (segments : List Segment) (os : List Offer) (rows : List Row) (k : ℕ) (row : Row) (o : Offer) → slice_get rows k ≡ Some row → offer_of file segments row ≡ Some o
-    → (os ++ filter_map (offer_of file segments) (take k rows)) ++ o ∷ [] ≡ os ++ filter_map (offer_of file segments) (take (k + 1) rows)
-offers_more file segments os rows k row o here is =
-    let h = offer_of file segments in
+pub offers_more : (setting : Setting) (file : ℕ) (segments : List Segment) (os : List Offer) (rows : List Row) (k : ℕ) (row : Row) (o : Offer) → slice_get rows k ≡ Some row → offer_of setting file segments row ≡ Some o
+    → (os ++ filter_map (offer_of setting file segments) (take k rows)) ++ o ∷ [] ≡ os ++ filter_map (offer_of setting file segments) (take (k + 1) rows)
+offers_more setting file segments os rows k row o here is =
+    let h = offer_of setting file segments in
     let one : filter_map h (row ∷ []) ≡ o ∷ [] = single (h row) is in
     append_assoc os (filter_map h (take k rows)) (o ∷ [])
     ∙ ap (λ (l : List Offer). os ++ (filter_map h (take k rows) ++ l)) (sym one)
@@ -205,14 +205,14 @@ number_same : (a b : ℕ) → Some a ≡ Some b → a ≡ b
 number_same a b e = cc
 
 -- what was looked up for a row
-pub offered_row : (file : ℕ) (segments : List Segment) (row : Row) (told : LibraryRow) (o : Offer) (number : ℕ) (v : SegmentView) (titled : Bool) (stands : StandsIn segments row) (is : told ≡ told_row segments row) → offer_of file segments row ≡ Some o
+pub offered_row : (setting : Setting) (file : ℕ) (segments : List Segment) (row : Row) (told : LibraryRow) (o : Offer) (number : ℕ) (v : SegmentView) (titled : Bool) (stands : StandsIn segments row) (is : told ≡ told_row segments row) → offer_of setting file segments row ≡ Some o
     → Some number ≡ Some ((row_place segments row told is stands).k + 1) → Some (shown v) ≡ segment_at segments number → titled ≡ has_title (shown v) told.name told.private
     → IsOfferOf o told.name told.private (record { file = file; segment = number; from = told.file }) titled
-offered_row file segments row told o number v titled stands is offer numbered there titled_is =
+offered_row setting file segments row told o number v titled stands is offer numbered there titled_is =
     let p = row_place segments row told is stands in
     let n = number_same number (p.k + 1) numbered in
     let here : slice_get segments p.k ≡ Some (shown v) = shown_at segments p.k v (there ∙ ap (segment_at segments) n) in
-    offered_so file segments row told o p.k (shown v) number titled offer p.number here is n titled_is
+    offered_so setting file segments row told o p.k (shown v) number titled offer p.number here is n titled_is
 
 -- ---- the loop
 
@@ -236,15 +236,15 @@ row_at segments dictionary rows k told are at = settle (slice_get rows k) refl
     settle None e = let clash : option_map (told_row segments) None ≡ Some told = sym (ap (option_map (told_row segments)) e) ∙ both in absurd cc
     settle (Some row) e = record { row = row; at = e; among = in_at rows k row e; told' = sym (told_same (told_row segments row) told (sym (ap (option_map (told_row segments)) e) ∙ both)) }
 
-pub rows_next : (file : ℕ) (segments : List Segment) (os : List Offer) (rows : List Row) (k : ℕ) (told : LibraryRow) (r : IsRowAt segments rows k told) → AllStand segments rows → (old new : Offers) → AreOffers (os ++ filter_map (offer_of file segments) (take k rows)) old
-    → ((os' : List Offer) (row : Row) (o : Offer) → told ≡ told_row segments row → StandsIn segments row → offer_of file segments row ≡ Some o → AreOffers os' old → AreOffers (os' ++ o ∷ []) new)
-    → AreOffers (os ++ filter_map (offer_of file segments) (take (k + 1) rows)) new
-rows_next file segments os rows k told r stand old new are add =
+pub rows_next : (setting : Setting) (file : ℕ) (segments : List Segment) (os : List Offer) (rows : List Row) (k : ℕ) (told : LibraryRow) (r : IsRowAt segments rows k told) → AllStand segments rows → (old new : Offers) → AreOffers (os ++ filter_map (offer_of setting file segments) (take k rows)) old
+    → ((os' : List Offer) (row : Row) (o : Offer) → told ≡ told_row segments row → StandsIn segments row → offer_of setting file segments row ≡ Some o → AreOffers os' old → AreOffers (os' ++ o ∷ []) new)
+    → AreOffers (os ++ filter_map (offer_of setting file segments) (take (k + 1) rows)) new
+rows_next setting file segments os rows k told r stand old new are add =
     let s = stand r.row r.among in
     let p = row_place segments r.row told r.told' s in
-    let offer = there_is file segments r.row p.k p.segment p.number p.here in
-    let o : Offer = offer_with file r.row p.segment in
-    subst (λ (l : List Offer). AreOffers l new) (offers_more file segments os rows k r.row o r.at offer) (add (os ++ filter_map (offer_of file segments) (take k rows)) r.row o r.told' s offer are)
+    let offer = there_is setting file segments r.row p.k p.segment p.number p.here in
+    let o : Offer = offer_with setting file r.row p.segment in
+    subst (λ (l : List Offer). AreOffers l new) (offers_more setting file segments os rows k r.row o r.at offer) (add (os ++ filter_map (offer_of setting file segments) (take k rows)) r.row o r.told' s offer are)
 
 pub take_all : {A : Type 0} → (xs : List A) (n : ℕ) → length xs ≤ n → take n xs ≡ xs
 take_all [] zero less = refl
@@ -252,8 +252,8 @@ take_all [] (suc n) less = refl
 take_all (x ∷ xs) zero less = absurd (omega arith)
 take_all {A} (x ∷ xs) (suc n) less = ap (λ (l : List A). x ∷ l) (take_all xs n (omega arith))
 
-pub rows_all : (file : ℕ) (segments : List Segment) (dictionary : List LibraryRow) (os : List Offer) (rows : List Row) (k : ℕ) (offers : Offers) → dictionary ≡ map (told_row segments) rows → length dictionary ≤ k
-    → AreOffers (os ++ filter_map (offer_of file segments) (take k rows)) offers → AreOffers (os ++ filter_map (offer_of file segments) rows) offers
-rows_all file segments dictionary os rows k offers are past is =
+pub rows_all : (setting : Setting) (file : ℕ) (segments : List Segment) (dictionary : List LibraryRow) (os : List Offer) (rows : List Row) (k : ℕ) (offers : Offers) → dictionary ≡ map (told_row segments) rows → length dictionary ≤ k
+    → AreOffers (os ++ filter_map (offer_of setting file segments) (take k rows)) offers → AreOffers (os ++ filter_map (offer_of setting file segments) rows) offers
+rows_all setting file segments dictionary os rows k offers are past is =
     let size : length rows ≤ k = omega (arith, past, ap length are, length-map rows (told_row segments)) in
-    subst (λ (l : List Row). AreOffers (os ++ filter_map (offer_of file segments) l) offers) (take_all rows k size) is
+    subst (λ (l : List Row). AreOffers (os ++ filter_map (offer_of setting file segments) l) offers) (take_all rows k size) is

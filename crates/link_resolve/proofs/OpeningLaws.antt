@@ -9,14 +9,14 @@ use Rattle.std.proofs.lemmas.List.{take-append-le, length-append}
 use Rattle.std.proofs.lemmas.List.Elements.{filter-append}
 use Rattle.std.proofs.lemmas.List.Concat.{flat_map-cons}
 use Rattle.link_meaning.specs.First.{first_some, IsIn}
-use Rattle.link_meaning.specs.Member.{Member, Offer}
+use Rattle.link_meaning.specs.Member.{Member, Offer, setting_in}
 use Rattle.link_meaning.specs.Defines.{Definition, Scope, ForSegment, ForUnit, ForAll, outer_scope, data_title_of, defined_in}
 use Rattle.link_meaning.specs.declared.search.Step.{Step}
 use Rattle.link_meaning.specs.declared.search.Step.TheVariants.{Within, OfUnit, Everyone}
 use Rattle.link_meaning.specs.declared.search.Want.{Want}
 use Rattle.link_meaning.specs.declared.search.Want.TheVariants as wants
 use Rattle.link_meaning.specs.Uses.{Use, uses_of, usings_of}
-use Rattle.link_meaning.specs.Search.{Found, step_for, is_step, sees, or_else, decided, outer_steps, steps_of, used_data, entries, data_titles, named, finds, finds_data, only_place}
+use Rattle.link_meaning.specs.Search.{Found, step_for, is_step, sees, or_else, decided, outer_steps, steps_of, used_data, entries, data_titles, named, outside, finds_inside, finds, finds_data, only_place}
 use Rattle.link_meaning.specs.LinkedList.{Asked, asked_from, asked, row_for, found_for, unless_found}
 use Rattle.link_meaning.specs.laws.ProgressLaws.{AllNone, none_decided}
 use Rattle.link_resolve.specs.declared.names.Outcome.{Outcome}
@@ -228,12 +228,28 @@ steps_stay list m u place s opens (inr is) = inr (settle (in_both (map Within (u
     settle (inl a) = in_front (map Within (used_data (list ++ m ∷ []) u)) (outer_steps u) s (within_stays (used_data list u) (used_data (list ++ m ∷ []) u) s (λ n. used_stays list m u n opens) a)
     settle (inr b) = in_back (map Within (used_data (list ++ m ∷ []) u)) (outer_steps u) s b
 
-finds_before : (list : List Member) (m u : Member) (place : ℕ) (name : List ℕ) → OpensNothing list m → finds (list ++ m ∷ []) place u name ≡ [] → finds list place u name ≡ []
-unfolding finds
-finds_before list m u place name opens e =
+inside_before : (list : List Member) (m u : Member) (place : ℕ) (name : List ℕ) → OpensNothing list m → finds_inside (list ++ m ∷ []) place u name ≡ [] → finds_inside list place u name ≡ []
+unfolding finds_inside
+inside_before list m u place name opens e =
     let more = founds_in (1 + length list) m (defined_in m.segment) in
     none_before (steps_of list place u) (steps_of (list ++ m ∷ []) place u) (named name (entries list)) (named name more) (λ s is. steps_stay list m u place s opens is)
     (sym (ap (λ (l : List Found). decided (steps_of (list ++ m ∷ []) place u) l) (ap (named name) (entries_more list m) ∙ named-append name (entries list) more)) ∙ e)
+
+both_nothing : (xs ys : List Found) → or_else xs ys ≡ [] → (xs ≡ []) × (ys ≡ [])
+both_nothing [] ys e = (refl, e)
+both_nothing (x ∷ xs) ys e = absurd cc
+
+-- no member behind the others changes the setting, and without members there is no run-time library file
+outside_before : (list : List Member) (m : Member) (name : List ℕ) → named name (outside (setting_in (list ++ m ∷ []))) ≡ [] → named name (outside (setting_in list)) ≡ []
+unfolding named outside
+outside_before [] m name e = refl
+outside_before (x ∷ list) m name e = e
+
+finds_before : (list : List Member) (m u : Member) (place : ℕ) (name : List ℕ) → OpensNothing list m → finds (list ++ m ∷ []) place u name ≡ [] → finds list place u name ≡ []
+unfolding finds
+finds_before list m u place name opens e =
+    let both = both_nothing (finds_inside (list ++ m ∷ []) place u name) (named name (outside (setting_in (list ++ m ∷ [])))) e in
+    ap (λ (l : List Found). or_else l (named name (outside (setting_in list)))) (inside_before list m u place name opens both.0) ∙ outside_before list m name both.1
 
 -- ---- uses
 

@@ -8,7 +8,11 @@ use Rattle.std.proofs.lemmas.Option.{slice_get-map, slice_get_within}
 use Rattle.omf_format.specs.File.{Segment}
 use Rattle.omf_format.specs.Header.{Fields, alignment_of}
 use Rattle.omf_header.specs.View.{fields}
-use Rattle.link_meaning.specs.Member.{Member}
+use Rattle.link_meaning.specs.First.{IsIn}
+use Rattle.lib_dict.specs.declared.member.Member as held
+use Rattle.link_meaning.specs.Member.{RuntimeFile, Setting, Member, setting_in}
+use Rattle.link_meaning.specs.laws.SettingLaws.{one_setting}
+use Rattle.link_resolve.specs.Outside.{IsOutsideOf}
 use Rattle.link_meaning.specs.Layout.{in_load, aligned_from, end_from, load_length, load_names, load_of, offset_of, headers_from, load_headers}
 use Rattle.link_meaning.specs.laws.LayoutLaws.{aligned_from-least, alignment-some}
 use Rattle.link_resolve.specs.declared.layout.Place.{Place}
@@ -18,7 +22,8 @@ use Rattle.link_resolve.specs.Linked.{origin_of, Holds, OriginOf, member_at}
 use Rattle.link_resolve.specs.Gathered.{segment_in, IsAmong, AllAmong}
 use Rattle.link_resolve.specs.Laid.{has, AllShort, Laid}
 use Rattle.link_resolve.specs.OfFiles.{IsOfFiles}
-use Rattle.link_resolve.specs.Programs.{member_in, list_of, StandsAt, IsKept, linked_at, header_at}
+use Rattle.link_resolve.specs.Runtimes.{runtimes_of}
+use Rattle.link_resolve.specs.Programs.{setting_of, member_in, list_of, StandsAt, IsKept, linked_at, header_at}
 use Rattle.link_resolve.specs.Definitions.{IsOf}
 use Rattle.link_resolve.specs.declared.definitions.Origin.{Origin}
 use Rattle.link_resolve.specs.declared.program.LinkMember.{LinkMember}
@@ -32,22 +37,33 @@ use Rattle.link_resolve.proofs.LayoutFaults.{load_there, length_short}
 
 -- ---- the list
 
-abbrev member_as : ℕ → ℕ → ℕ → Segment → Member
-member_as file number from s = record { file = file; number = number; from = from; segment = s }
+abbrev member_as : Setting → ℕ → ℕ → ℕ → Segment → Member
+member_as setting file number from s = record { file = file; number = number; from = from; segment = s; setting = setting }
 
-one_member : (files : List (List Segment)) (m : Member) → IsAmong files m → member_in files (origin_of m) ≡ Some m
-one_member files m among = ap (option_map (member_as m.file m.number m.from)) among
+one_member : (setting : Setting) (files : List (List Segment)) (m : Member) → IsAmong files m → m.setting ≡ setting → member_in setting files (origin_of m) ≡ Some m
+one_member setting files m among same =
+    ap (λ (s : Setting). member_in s files (origin_of m)) (sym same) ∙ ap (option_map (member_as m.setting m.file m.number m.from)) among
 
-listed : (files : List (List Segment)) (list : List Member) → AllAmong files list → filter_map (member_in files) (map origin_of list) ≡ list
-listed files [] among = refl
-listed files (m ∷ list) among = front (member_in files (origin_of m)) (one_member files m (among m (inl refl))) ∙ ap (λ (l : List Member). m ∷ l) (listed files list (λ n is. among n (inr is)))
+listed : (setting : Setting) (files : List (List Segment)) (list : List Member) → AllAmong files list → ((m : Member) → IsIn list m → m.setting ≡ setting) → filter_map (member_in setting files) (map origin_of list) ≡ list
+listed setting files [] among each = refl
+listed setting files (m ∷ list) among each =
+    front (member_in setting files (origin_of m)) (one_member setting files m (among m (inl refl)) (each m (inl refl)))
+    ∙ ap (λ (l : List Member). m ∷ l) (listed setting files list (λ n is. among n (inr is)) (λ n is. each n (inr is)))
   where
-    front : (o : Option Member) → o ≡ Some m → cons_option o (filter_map (member_in files) (map origin_of list)) ≡ m ∷ filter_map (member_in files) (map origin_of list)
+    front : (o : Option Member) → o ≡ Some m → cons_option o (filter_map (member_in setting files) (map origin_of list)) ≡ m ∷ filter_map (member_in setting files) (map origin_of list)
     front None e = absurd cc
-    front (Some x) e = let same : x ≡ m = cc in ap (λ (y : Member). y ∷ filter_map (member_in files) (map origin_of list)) same
+    front (Some x) e = let same : x ≡ m = cc in ap (λ (y : Member). y ∷ filter_map (member_in setting files) (map origin_of list)) same
+
+-- all members of a list of files have its setting
+each_setting : (list : List Member) (is : IsOfFiles list) (m : Member) → IsIn list m → m.setting ≡ setting_in list
+each_setting [] is m in' = absurd in'
+each_setting (x ∷ list) is m in' =
+    one_setting is.given (x ∷ list) is.resolved.program m in' ∙ sym (one_setting is.given (x ∷ list) is.resolved.program x (inl refl))
 
 pub list_is : (list : List Member) (kept : Kept) → IsKept list kept → list_of kept ≡ list
-list_is list kept is = ap (filter_map (member_in kept.files.items)) is.holds.members ∙ listed kept.files.items list is.among
+list_is list kept is =
+    ap (filter_map (member_in (setting_of kept) kept.files.items)) is.holds.members
+    ∙ listed (setting_of kept) kept.files.items list is.among (λ m in'. each_setting list is.of_files m in' ∙ sym is.setting)
 
 -- ---- offsets
 
@@ -130,9 +146,10 @@ headers-length : (list : List Member) → length (load_headers list) ≡ length 
 unfolding load_headers
 headers-length list = headers-from-length list 1 (load_names list)
 
-pub kept_is : (list : List Member) (files : List (List Segment)) (kept : Kept) (layout : laid.Layout) → Holds list kept.linked → AllAmong kept.files.items list → length list < 2 ^ 32 → Laid list layout → AllShort layout.loads.items
-    → length (load_names list) ≤ 254 → kept.places.items ≡ layout.places.items → map fields kept.headers.items ≡ load_headers list → IsOfFiles list → IsKept list kept
-kept_is list files kept layout holds among short laid lengths few places headers of_files = record {
+pub kept_is : (list : List Member) (kept : Kept) (layout : laid.Layout) → Holds list kept.linked → AllAmong kept.files.items list → length list < 2 ^ 32 → Laid list layout → AllShort layout.loads.items
+    → length (load_names list) ≤ 254 → kept.places.items ≡ layout.places.items → map fields kept.headers.items ≡ load_headers list → setting_of kept ≡ setting_in list → IsOutsideOf list kept.outside
+    → length kept.runtimes.items ≡ length kept.given.now → length kept.given.now < 2 ^ 32 → IsOfFiles list → IsKept list kept
+kept_is list kept layout holds among short laid lengths few places headers setting table read few_runtimes of_files = record {
   holds = holds;
   among = among;
   few = short;
@@ -140,6 +157,10 @@ kept_is list files kept layout holds among short laid lengths few places headers
   count = ap length places ∙ laid.count;
   places = λ k m place at there. stands_at list layout k m place laid lengths few at (ap (λ (l : List Place). slice_get l k) (sym places) ∙ there);
   headers = headers;
+  setting = setting;
+  table = table;
+  read = read;
+  few_runtimes = few_runtimes;
   of_files = of_files;
 }
 
@@ -218,3 +239,24 @@ laid_more files list k origin s old new told among is laid add =
     let same : told.k ≡ k = omega (arith, told.place') in
     let at : slice_get list k ≡ Some told.member = ap (slice_get list) (sym same) ∙ told.at in
     subst (λ (l : List Member). Laid l new) (sym (take_more list k told.member at)) (add (take k list) told.member told.of (view_told files list (k + 1) origin told s among is) laid)
+
+-- ---- run-time library files
+
+pub runtimes_count : (loads : List (List Segment)) (given : List held.Member) → length loads ≡ length given → length (runtimes_of loads given) ≡ length loads
+runtimes_count [] given e = refl
+runtimes_count (s ∷ loads) [] e = absurd cc
+runtimes_count (s ∷ loads) (one ∷ given) e = let less : length loads ≡ length given = omega (arith, e) in ap suc (runtimes_count loads given less)
+
+pub segments_at : (loads : List (List Segment)) (given : List held.Member) (k : ℕ) → length loads ≡ length given → option_map (λ (r : RuntimeFile). r.segments) (slice_get (runtimes_of loads given) k) ≡ slice_get loads k
+segments_at [] given k e = refl
+segments_at (s ∷ loads) [] k e = absurd cc
+segments_at (s ∷ loads) (one ∷ given) zero e = refl
+segments_at (s ∷ loads) (one ∷ given) (suc k) e = let less : length loads ≡ length given = omega (arith, e) in segments_at loads given k less
+
+pub path_at : (loads : List (List Segment)) (given : List held.Member) (k : ℕ) → length loads ≡ length given
+    → option_map (λ (r : RuntimeFile). r.path) (slice_get (runtimes_of loads given) k) ≡ option_map (λ (m : held.Member). m.name) (slice_get given k)
+path_at [] [] k e = refl
+path_at [] (one ∷ given) k e = absurd cc
+path_at (s ∷ loads) [] k e = absurd cc
+path_at (s ∷ loads) (one ∷ given) zero e = refl
+path_at (s ∷ loads) (one ∷ given) (suc k) e = let less : length loads ≡ length given = omega (arith, e) in path_at loads given k less

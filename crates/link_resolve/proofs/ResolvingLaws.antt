@@ -14,13 +14,12 @@ use Rattle.link_meaning.specs.Search.{Found}
 use Rattle.link_meaning.specs.LinkedList.{Asked, asked_from, asked, found_for}
 use Rattle.link_meaning.specs.LinkFaults.{use_cause}
 use Rattle.link_resolve.specs.declared.names.Outcome.{Outcome}
-use Rattle.link_resolve.specs.declared.names.Outcome.TheVariants.{Nothing, One, Several}
 use Rattle.link_resolve.specs.declared.uses.Use as kept
 use Rattle.link_resolve.specs.declared.linked.Linked.{Linked}
-use Rattle.link_resolve.specs.Definitions.{Seen, Sees}
+use Rattle.link_resolve.specs.Definitions.{Seen}
 use Rattle.link_resolve.specs.Uses.{use_of, told_use}
 use Rattle.link_resolve.specs.Linked.{Holds}
-use Rattle.link_resolve.specs.Resolving.{first_found, IsShape, cause_of, FailsToResolve, IsFirstUse}
+use Rattle.link_resolve.specs.Resolving.{IsShape, cause_of, FailsToResolve, IsFirstUse}
 use Rattle.link_resolve.proofs.Lists.{drop_at}
 use Rattle.link_resolve.proofs.LinkedLaws.{count_is}
 
@@ -162,26 +161,3 @@ take_past [] zero less = refl
 take_past [] (suc n) less = refl
 take_past (x ∷ xs) zero less = absurd (omega arith)
 take_past {A} (x ∷ xs) (suc n) less = ap (λ (l : List A). x ∷ l) (take_past xs n (omega arith))
-
--- ---- the first definition
-
-pub none_seen : (all found : List Found) (o : Outcome) → Sees all found o → o ≡ Nothing → first_found found ≡ None
-none_seen all [] o seen is = refl
-none_seen all (f ∷ []) o seen is = let clash : One seen.0 ≡ Nothing = sym seen.1 ∙ is in absurd cc
-none_seen all (f ∷ g ∷ more) o seen is = let clash : Several seen.0 ≡ Nothing = sym seen.1 ∙ is in absurd cc
-
-number_one : (a b : ℕ) → One a ≡ One b → a ≡ b
-number_one a b e = cc
-
-number_several : (a b : ℕ) → Several a ≡ Several b → a ≡ b
-number_several a b e = cc
-
-pub one_seen : (all found : List Found) (o : Outcome) (n : ℕ) → Sees all found o → o ≡ One n → slice_get all n ≡ first_found found
-one_seen all [] o n seen is = let clash : One n ≡ Nothing = sym is ∙ seen in absurd cc
-one_seen all (f ∷ []) o n seen is = ap (slice_get all) (number_one n seen.0 (sym is ∙ seen.1)) ∙ seen.2
-one_seen all (f ∷ g ∷ more) o n seen is = let clash : One n ≡ Several seen.0 = sym is ∙ seen.1 in absurd cc
-
-pub several_seen : (all found : List Found) (o : Outcome) (n : ℕ) → Sees all found o → o ≡ Several n → slice_get all n ≡ first_found found
-several_seen all [] o n seen is = let clash : Several n ≡ Nothing = sym is ∙ seen in absurd cc
-several_seen all (f ∷ []) o n seen is = let clash : Several n ≡ One seen.0 = sym is ∙ seen.1 in absurd cc
-several_seen all (f ∷ g ∷ more) o n seen is = ap (slice_get all) (number_several n seen.0 (sym is ∙ seen.1)) ∙ seen.2

@@ -9,7 +9,7 @@ use Rattle.link_meaning.specs.declared.search.Step.TheVariants.{Within, OfUnit, 
 use Rattle.link_meaning.specs.Member.{Member}
 use Rattle.std.specs.Borrow.{Bor}
 use Rattle.link_meaning.specs.Uses.{usings_of}
-use Rattle.link_meaning.specs.Search.{Found, sees, or_else, decided, named, outer_steps, only_place, entries, used_data, finds, finds_data}
+use Rattle.link_meaning.specs.Search.{Found, sees, or_else, decided, named, outer_steps, only_place, entries, used_data, finds_inside, finds_data}
 use Rattle.link_resolve.specs.declared.names.Outcome.{Outcome}
 use Rattle.link_resolve.specs.declared.names.Outcome.TheVariants.{Nothing, One, Several}
 use Rattle.link_resolve.specs.declared.names.Names.{Names}
@@ -230,13 +230,13 @@ several_one k n e = cc
 
 -- ---- all steps of a name
 
-pub finds_own : (T : Found → ℕ → Type 0) (list : List Member) (place : ℕ) (m : Member) (name : List ℕ) (o : Outcome) → Seen T (filter (sees (Within place)) (named name (entries list))) o → (o ≡ Nothing → ⊥) → Seen T (finds list place m name) o
-unfolding finds
+pub finds_own : (T : Found → ℕ → Type 0) (list : List Member) (place : ℕ) (m : Member) (name : List ℕ) (o : Outcome) → Seen T (filter (sees (Within place)) (named name (entries list))) o → (o ≡ Nothing → ⊥) → Seen T (finds_inside list place m name) o
+unfolding finds_inside
 finds_own T list place m name o seen some = step_some T (Within place) (map Within (used_data list m) ++ outer_steps m) (named name (entries list)) o seen some
 
 pub finds_used : (T : Found → ℕ → Type 0) (list : List Member) (place : ℕ) (m : Member) (name : List ℕ) (names : List (List ℕ)) (o : Outcome) → names ≡ usings_of m.segment → Seen T (filter (sees (Within place)) (named name (entries list))) Nothing
-    → Seen T (decided (map Within (used_places list m names)) (named name (entries list))) o → (o ≡ Nothing → ⊥) → Seen T (finds list place m name) o
-unfolding finds used_data
+    → Seen T (decided (map Within (used_places list m names)) (named name (entries list))) o → (o ≡ Nothing → ⊥) → Seen T (finds_inside list place m name) o
+unfolding finds_inside used_data
 finds_used T list place m name names o are none seen some =
     let xs = named name (entries list) in
     let own = step_none T (Within place) (map Within (used_data list m) ++ outer_steps m) xs none in
@@ -244,8 +244,8 @@ finds_used T list place m name names o are none seen some =
     subst (λ (l : List Found). Seen T l o) (sym own) (first_steps_some T (map Within (used_data list m)) (outer_steps m) xs o here some)
 
 pub finds_outer : (T : Found → ℕ → Type 0) (list : List Member) (place : ℕ) (m : Member) (name : List ℕ) (names : List (List ℕ)) (o : Outcome) → names ≡ usings_of m.segment → Seen T (filter (sees (Within place)) (named name (entries list))) Nothing
-    → Seen T (decided (map Within (used_places list m names)) (named name (entries list))) Nothing → Seen T (decided (outer_steps m) (named name (entries list))) o → Seen T (finds list place m name) o
-unfolding finds used_data
+    → Seen T (decided (map Within (used_places list m names)) (named name (entries list))) Nothing → Seen T (decided (outer_steps m) (named name (entries list))) o → Seen T (finds_inside list place m name) o
+unfolding finds_inside used_data
 finds_outer T list place m name names o are none used seen =
     let xs = named name (entries list) in
     let own = step_none T (Within place) (map Within (used_data list m) ++ outer_steps m) xs none in

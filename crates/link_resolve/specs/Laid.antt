@@ -5,21 +5,21 @@ use Rattle.std.specs.List.{list_any}
 use Rattle.std.specs.Str.{bytes_eq}
 use Rattle.omf_format.specs.File.{Segment}
 use Rattle.omf_format.specs.Name.{without_trailing}
-use Rattle.omf_format.specs.Header.{Fields}
+use Rattle.omf_format.specs.Header.{Fields, is_dynamic, is_skipped}
 use Rattle.link_meaning.specs.declared.search.Step.TheVariants.{Everyone}
 use Rattle.link_meaning.specs.declared.fault.LinkCause.TheVariants.{OrgConflict}
 use Rattle.link_meaning.specs.declared.fault.LinkFault.{LinkFault}
 use Rattle.link_meaning.specs.First.{HasNone, IsFirst}
 use Rattle.link_meaning.specs.Member.{Member}
 use Rattle.link_meaning.specs.Layout.{load_names, load_length, load_members, least_bank, greatest_align, of_first, load_of, offset_of, end_from, lesser_bank, cleared}
-use Rattle.link_meaning.specs.LinkFaults.{HasOrgFault, first_spot, spot_in, LayoutCheck, Orgs, Count, Lengths}
+use Rattle.link_meaning.specs.LinkFaults.{HasOrgFault, first_spot, spot_in, LayoutCheck, Orgs, Count, Lengths, Kinds}
 use Rattle.link_resolve.specs.declared.layout.Load.{Load}
 use Rattle.link_resolve.specs.declared.layout.Place.{Place}
 use Rattle.link_resolve.specs.declared.layout.Layout as kept
 use Rattle.link_resolve.specs.Names.{Row, Indexes}
 
 abbrev pub layout_checks : List LayoutCheck
-layout_checks = Orgs ∷ Count ∷ Lengths ∷ []
+layout_checks = Orgs ∷ Count ∷ Lengths ∷ Kinds ∷ []
 
 -- a load segment of one member, which starts there
 pub record IsFresh (f : Fields) (spot : Spot) (load : Load) : Type 0 where
@@ -138,6 +138,22 @@ pub record IsFirstLong (loads : List Load) (spot : Spot) : Type 0 where
   pub long : is_long load ≡ true
   pub spot' : spot ≡ load.first
   pub before : AllShort (take k loads)
+
+-- the load segment may not stand in a run-time library file
+abbrev pub is_other : Load → Bool
+is_other load = not (is_dynamic load.kind.bits && not (is_skipped load.kind.bits))
+
+abbrev pub AllDynamic : List Load → Type 0
+AllDynamic loads = (k : ℕ) (load : Load) → slice_get loads k ≡ Some load → is_other load ≡ false
+
+-- the first one that may not starts there
+pub record IsFirstOther (loads : List Load) (spot : Spot) : Type 0 where
+  pub k : ℕ
+  pub load : Load
+  pub at : slice_get loads k ≡ Some load
+  pub other : is_other load ≡ true
+  pub spot' : spot ≡ load.first
+  pub before : AllDynamic (take k loads)
 
 -- the headers of load segments, the first with this number
 abbrev pub AreHeaders : ℕ → List Load → List Fields → Type 0

@@ -2,7 +2,7 @@
 use Rattle.std.specs.Prelude.{ℕ, ◌+◌, List, [], ◌∷◌, Option, None, option_map, nat_eq, if◌then◌else◌}
 use Rattle.std.specs.Borrow.{Bor}
 use Rattle.indexmap.specs.IndexMap.{IndexMap, get}
-use Rattle.link_resolve.specs.declared.definitions.Definition as kept
+use Rattle.link_resolve.specs.declared.definitions.Defined as kept
 use Rattle.link_resolve.specs.declared.listed.Mark.{Mark}
 
 -- what is kept of a definition: its member's place, its own place there, its expression, its length and type
@@ -13,7 +13,7 @@ pub record ToldDefinition : Type 0 where
   pub length : ℕ
   pub form : ℕ
 
-abbrev pub definition_of : kept.Definition → ToldDefinition
+abbrev pub definition_of : kept.Defined → ToldDefinition
 definition_of d = record { member = d.member; at = d.at; expr = option_map (λ text. text.now) d.expr; length = d.length; form = d.form }
 
 -- the expression with a number

@@ -1,25 +1,34 @@
 -- A program is seen as its linked list.
-use Rattle.std.specs.Prelude.{◌≡◌, ◌<◌, ◌^◌, ◌+◌, ℕ, zero, suc, List, length, Option, Some, None, map, option_map, slice_get}
+use Rattle.std.specs.Prelude.{◌≡◌, ◌<◌, ◌^◌, ◌+◌, ℕ, zero, suc, List, length, Option, Some, None, map, option_map, slice_get, ◌==◌, if◌then◌else◌}
 use Rattle.std.specs.List.{filter_map}
 use Rattle.omf_format.specs.File.{Segment}
 use Rattle.omf_format.specs.Header.{Fields}
 use Rattle.omf_header.specs.View.{fields}
-use Rattle.link_meaning.specs.Member.{Member}
+use Rattle.link_resolve.specs.Runtimes.{runtimes_of}
+use Rattle.link_meaning.specs.Member.{Setting, Member, setting_in}
+use Rattle.link_meaning.specs.Search.{Found}
 use Rattle.link_meaning.specs.Layout.{load_of, offset_of, load_headers}
 use Rattle.link_resolve.specs.declared.definitions.Origin.{Origin}
 use Rattle.link_resolve.specs.declared.program.LinkMember.{LinkMember}
 use Rattle.link_resolve.specs.declared.program.Kept.{Kept}
+use Rattle.link_resolve.specs.declared.program.Definition as told
+use Rattle.link_resolve.specs.Outside.{IsOutsideOf}
 use Rattle.link_resolve.specs.declared.layout.Place.{Place}
 use Rattle.link_resolve.specs.Linked.{Holds, member_at}
 use Rattle.link_resolve.specs.Gathered.{segment_in, AllAmong}
 use Rattle.link_resolve.specs.OfFiles.{IsOfFiles}
 
-abbrev pub member_in : List (List Segment) → Origin → Option Member
-member_in files origin = option_map (λ s. record { file = origin.file; number = origin.segment; from = origin.from; segment = s }) (segment_in files origin.file origin.segment)
+-- what is kept of what the list is linked to, and with what
+abbrev pub setting_of : Kept → Setting
+setting_of kept = record { form = kept.form; runtimes = runtimes_of kept.runtimes.items kept.given.now }
+
+abbrev pub member_in : Setting → List (List Segment) → Origin → Option Member
+member_in setting files origin =
+    option_map (λ s. record { file = origin.file; number = origin.segment; from = origin.from; segment = s; setting = setting }) (segment_in files origin.file origin.segment)
 
 -- the members that are kept, with their segments
 abbrev pub list_of : Kept → List Member
-list_of kept = filter_map (member_in kept.files.items) kept.linked.members.items
+list_of kept = filter_map (member_in (setting_of kept) kept.files.items) kept.linked.members.items
 
 -- where the member with this number, from 0, stands
 pub record StandsAt (list : List Member) (k : ℕ) (m : Member) (place : Place) : Type 0 where
@@ -37,7 +46,35 @@ pub record IsKept (list : List Member) (kept : Kept) : Type 0 where
   pub count : length kept.places.items ≡ length list
   pub places : (k : ℕ) (m : Member) (place : Place) → slice_get list k ≡ Some m → slice_get kept.places.items k ≡ Some place → StandsAt list k m place
   pub headers : map fields kept.headers.items ≡ load_headers list
+  pub setting : setting_of kept ≡ setting_in list
+  pub table : IsOutsideOf list kept.outside
+  pub read : length kept.runtimes.items ≡ length kept.given.now
+  pub few_runtimes : length kept.given.now < 2 ^ 32
   pub of_files : IsOfFiles list
+
+-- a definition as a program tells it: of a member its load segment in the file itself, else the file and the segment of its value
+pub record ToldSymbol : Type 0 where
+  pub member : ℕ
+  pub file : ℕ
+  pub segment : ℕ
+  pub at : ℕ
+  pub expr : Option (List ℕ)
+  pub length : ℕ
+  pub form : ℕ
+
+abbrev pub symbol_of : told.Definition → ToldSymbol
+symbol_of d = record { member = d.member; file = d.file; segment = d.segment; at = d.at; expr = option_map (λ text. text.now) d.expr; length = d.length; form = d.form }
+
+abbrev pub told_symbol : List Member → Found → ToldSymbol
+told_symbol list f = record {
+  member = f.place;
+  file = if f.place == 0 then f.member.file else 1;
+  segment = if f.place == 0 then f.member.number else load_of list f.member;
+  at = f.definition.place;
+  expr = f.definition.expr;
+  length = f.definition.size;
+  form = f.definition.form;
+}
 
 -- the member at a place, from 1, with its load segment and offset
 abbrev pub linked_at : List Member → ℕ → Option LinkMember

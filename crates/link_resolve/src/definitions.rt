@@ -1,6 +1,6 @@
 //! What the members of the linked list define.
 
-ghost use Rattle.std.specs.Prelude.{◌≡◌, ◌++◌, ◌∷◌, [], List, ℕ, OnOk, filter, slice_get, option_map};
+ghost use Rattle.std.specs.Prelude.{◌≡◌, ◌<◌, ◌^◌, ◌++◌, ◌∷◌, [], List, ℕ, length, OnOk, filter, slice_get, option_map};
 ghost use Rattle.omf_records.specs.Segments.{IsSound, shown};
 ghost use Rattle.omf_records.specs.View.{view};
 ghost use Rattle.link_meaning.specs.Member.{Member};
@@ -18,9 +18,9 @@ use link_meaning::Step;
 use omf_records::{Rec, SegmentView};
 use std::alloc::{AllocError, Global};
 
-/// A definition of a member.
+/// A definition of a member, without where the member stands.
 #[derive(Clone, Copy, Debug, PartialEq, Eq)]
-pub struct Definition<'a> {
+pub struct Defined<'a> {
     /// The member's place in the linked list, from 1.
     pub member: u32,
     /// How many cells of the member are before the definition's record; 0 for a SEGNAME.
@@ -79,14 +79,22 @@ impl<'a> Definitions<'a> {
         })
     }
 
+    /// How many definitions there are.
+    pub fn count(&self) -> usize
+        ensures value { (fs : List Found) → AreDefinitions fs self.now → result ≡ length fs }
+        ensures few { result < 2 ^ 63 }
+    {
+        self.items.count()
+    }
+
     /// The definition with this number, from 0.
-    pub fn get(&self, number: usize) -> Option<Definition<'a>>
+    pub fn get(&self, number: usize) -> Option<Defined<'a>>
         ensures { (fs : List Found) → AreDefinitions fs self.now → option_map definition_of result ≡ option_map told_definition (slice_get fs number) }
     {
         self.items.get(number)
     }
 
-    fn push(&mut self, key: Key<'a>, definition: Definition<'a>) -> Result<(), AllocError>
+    fn push(&mut self, key: Key<'a>, definition: Defined<'a>) -> Result<(), AllocError>
         ensures { OnOk result ((fs : List Found) (f : Found) → AreDefinitions fs self.old → key_of key.entry ≡ key_of_found f
             → definition_of definition.entry ≡ told_definition f → AreDefinitions (fs ++ f ∷ []) self.new) }
     {
@@ -112,7 +120,7 @@ impl<'a> Definitions<'a> {
             return Ok(());
         }
         let step = outer_step(segment.header.kind.is_private(), origin);
-        let definition = Definition {
+        let definition = Defined {
             member: place,
             at: 0,
             expr: None,
@@ -145,7 +153,7 @@ impl<'a> Definitions<'a> {
                     step: step_for(*global, *private, origin, place),
                     name,
                 },
-                Definition {
+                Defined {
                     member: place,
                     at: location,
                     expr: None,
@@ -165,7 +173,7 @@ impl<'a> Definitions<'a> {
                     step: step_for(*global, *private, origin, place),
                     name,
                 },
-                Definition {
+                Defined {
                     member: place,
                     at: location,
                     expr: Some(expr),

@@ -1,12 +1,13 @@
 //! The linked list grows by the segments of libraries that its uses want.
 
 ghost use Rattle.std.specs.Prelude.{◌≡◌, List, OnOk, IfOk, false, replicate, if◌then◌else◌};
-ghost use Rattle.link_meaning.specs.Member.{Input};
+ghost use Rattle.link_meaning.specs.Member.{Setting, Input};
 ghost use Rattle.link_resolve.specs.Grown.{MayGrow, HasGrown};
 
 use crate::gather::{length_of, segment_in};
 use crate::linked::Linked;
 use crate::offers::Offers;
+use crate::outside::Outside;
 use omf_records::SegmentList;
 use std::alloc::{AllocError, Global};
 
@@ -35,16 +36,18 @@ fn next_cursor(opens: bool, number: usize) -> usize
 pub fn grow<'a>(
     alloc: Global,
     files: &[SegmentList<'a>],
+    outside: &Outside,
     offers: &Offers,
     linked: &mut Linked<'a>,
 ) -> Result<(), AllocError>
-    requires { (inputs : List Input) × MayGrow inputs files.now offers.now linked.old }
-    ensures { OnOk result ((inputs : List Input) → MayGrow inputs files.now offers.now linked.old → HasGrown inputs files.now linked.new) }
+    requires { (setting : Setting) × (inputs : List Input) × MayGrow setting inputs files.now outside.now offers.now linked.old }
+    ensures { OnOk result ((setting : Setting) (inputs : List Input) → MayGrow setting inputs files.now outside.now offers.now linked.old
+        → HasGrown setting inputs files.now linked.new) }
 {
     let mut taken = flags(alloc, offers.count())?;
     let mut cursor = 0;
     'members: loop {
-        let (number, row) = match linked.wanted(offers, cursor) {
+        let (number, row) = match linked.wanted(outside, offers, cursor) {
             None => return Ok(()),
             Some(found) => found,
         };

@@ -4,16 +4,16 @@ ghost use Rattle.std.specs.Prelude.{◌≡◌, ◌+◌, ◌<◌, ◌≤◌, ◌^
 ghost use Rattle.omf_records.specs.Segments.{IsSound, IsPlaced, placed, shown};
 ghost use Rattle.omf_header.specs.View.{fields};
 ghost use Rattle.link_meaning.specs.First.{HasNone, IsFirst};
-ghost use Rattle.link_meaning.specs.Member.{Member};
+ghost use Rattle.link_meaning.specs.Member.{Member, form_in};
 ghost use Rattle.link_meaning.specs.Layout.{aligned_from, lesser_bank, cleared, load_headers, load_names};
 ghost use Rattle.link_meaning.specs.LinkFaults.{HasLayoutFault};
 ghost use Rattle.link_resolve.specs.Definitions.{IsOf};
-ghost use Rattle.link_resolve.specs.Laid.{Laid, IsFresh, IsJoined, IsAt, IsSpotOf, conflict_with, has, is_long, AllShort, IsFirstLong, layout_checks, ShowsLoad, AreHeaders};
+ghost use Rattle.link_resolve.specs.Laid.{Laid, IsFresh, IsJoined, IsAt, IsSpotOf, conflict_with, has, is_long, is_other, AllShort, IsFirstLong, AllDynamic, IsFirstOther, layout_checks, ShowsLoad, AreHeaders};
 
 use crate::definitions::Origin;
 use crate::names::{Key, Names, Outcome};
 use crate::segname::load_name;
-use link_meaning::{LinkCause, LinkFault, Step};
+use link_meaning::{LinkCause, LinkFault, LinkForm, Step};
 use omf_base::{Name, Spot, without_trailing};
 use omf_header::{Header, Kind};
 use omf_records::SegmentView;
@@ -143,6 +143,13 @@ fn is_long(load: &Load) -> bool
     load.length == TOO_LONG || (load.bank_size != 0 && load.bank_size < load.length)
 }
 
+/// It isn't dynamic, or is skipped, as no load segment of a run-time library file may be.
+fn is_other(load: &Load) -> bool
+    ensures { result ≡ is_other load.now }
+{
+    !(load.kind.is_dynamic() && !load.kind.is_skip())
+}
+
 impl<'a> Layout<'a> {
     pub fn new(alloc: Global) -> Layout<'a>
         ensures { Laid [] result }
@@ -225,9 +232,22 @@ impl<'a> Layout<'a> {
         None
     }
 
-    /// What is wrong with the load segments: a later member's address, their number, or their lengths.
-    pub fn fault(&self) -> Option<LinkFault>
-        ensures told { (list : List Member) → Laid list self.now → MatchOption result
+    /// The first load segment that may not stand in a run-time library file: it isn't dynamic, or is skipped.
+    fn not_dynamic(&self) -> Option<Spot>
+        ensures { MatchOption result (AllDynamic self.now.loads.items) (λ spot. IsFirstOther self.now.loads.items spot) }
+    {
+        'loads: for load in &self.loads {
+            if is_other(load) {
+                return Some(load.first);
+            }
+        }
+        None
+    }
+
+    /// What is wrong with the load segments of what is to be linked: a later member's address, their number, their lengths, or, of a
+    /// run-time library file, their kinds.
+    pub fn fault(&self, form: LinkForm) -> Option<LinkFault>
+        ensures told { (list : List Member) → form_in list ≡ form → Laid list self.now → MatchOption result
             (HasNone (HasLayoutFault list) layout_checks) (λ fault. IsFirst (HasLayoutFault list) layout_checks fault) }
         ensures fine { result ≡ None → (length self.now.loads.items ≤ 254) × AllShort self.now.loads.items }
     {
@@ -240,8 +260,15 @@ impl<'a> Layout<'a> {
             None => {}
         }
         match self.too_long() {
-            Some(spot) => Some(fault_at(LinkCause::SegmentTooLong, spot)),
-            None => None,
+            Some(spot) => return Some(fault_at(LinkCause::SegmentTooLong, spot)),
+            None => {}
+        }
+        match form {
+            LinkForm::Program => None,
+            LinkForm::Runtime => match self.not_dynamic() {
+                Some(spot) => Some(fault_at(LinkCause::NotDynamic, spot)),
+                None => None,
+            },
         }
     }
 }

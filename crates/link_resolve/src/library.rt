@@ -6,7 +6,7 @@ ghost use Rattle.omf_format.specs.File.{Segment};
 ghost use Rattle.omf_records.specs.Segments.{IsSound, shown};
 ghost use Rattle.lib_dict.specs.Library.{told_row};
 ghost use Rattle.lib_dict.specs.Rows.{seen_row};
-ghost use Rattle.link_meaning.specs.Member.{Offer, offer_of};
+ghost use Rattle.link_meaning.specs.Member.{Offer, offer_of, Setting};
 ghost use Rattle.link_meaning.specs.Member as told;
 ghost use Rattle.link_meaning.specs.LinkedList.{has_title};
 ghost use Rattle.link_resolve.specs.Offers.{AreOffers};
@@ -82,8 +82,8 @@ fn add_row<'a>(
 ) -> Result<(), AllocError>
     requires ascend { StartsAscend segments.now }
     requires told { IsTold segments.now (seen_row row) }
-    ensures { OnOk result ((os : List Offer) (r : told.Row) (o : Offer) → seen_row row.entry ≡ told_row segments.now r → StandsIn segments.now r
-        → offer_of file segments.now r ≡ Some o → AreOffers os offers.old → AreOffers (os ++ o ∷ []) offers.new) }
+    ensures { OnOk result ((setting : Setting) (os : List Offer) (r : told.Row) (o : Offer) → seen_row row.entry ≡ told_row segments.now r → StandsIn segments.now r
+        → offer_of setting file segments.now r ≡ Some o → AreOffers os offers.old → AreOffers (os ++ o ∷ []) offers.new) }
 {
     let number = match number_of(segments, row.at) {
         Some(number) => number,
@@ -111,8 +111,8 @@ pub fn add_rows<'a>(
 ) -> Result<(), AllocError>
     requires ascend { StartsAscend segments.now }
     requires told { AreTold segments.now dictionary.now }
-    ensures { OnOk result ((os : List Offer) (rows : List told.Row) → dictionary.now ≡ map (told_row segments.now) rows → AllStand segments.now rows
-        → AreOffers os offers.old → AreOffers (os ++ filter_map (offer_of file segments.now) rows) offers.new) }
+    ensures { OnOk result ((setting : Setting) (os : List Offer) (rows : List told.Row) → dictionary.now ≡ map (told_row segments.now) rows → AllStand segments.now rows
+        → AreOffers os offers.old → AreOffers (os ++ filter_map (offer_of setting file segments.now) rows) offers.new) }
 {
     let rows = dictionary.count() as usize;
     offers.reserve(rows)?;

@@ -7,11 +7,12 @@ ghost use Rattle.link_meaning.specs.Sizes.{body_size};
 ghost use Rattle.link_meaning.specs.Member.{Member, Offer};
 ghost use Rattle.link_meaning.specs.Defines.{data_title_of};
 ghost use Rattle.link_meaning.specs.Uses.{data_name, usings_of};
-ghost use Rattle.link_meaning.specs.Search.{Found, entries, data_titles, decided, outer_steps, named, sees, finds, finds_data};
+ghost use Rattle.link_meaning.specs.Search.{Found, entries, data_titles, decided, outer_steps, named, sees, finds_inside, finds, finds_data};
 ghost use Rattle.link_meaning.specs.First.{HasNone};
 ghost use Rattle.link_meaning.specs.LinkedList.{asked, found_for, wanted_by};
 ghost use Rattle.link_resolve.specs.Names.{Row, Indexes, key_of};
-ghost use Rattle.link_resolve.specs.Resolving.{first_found, IsShape, IsHeld, FailsToResolve, IsFirstUse, cause_of};
+ghost use Rattle.link_resolve.specs.Finding.{IsFirstOf, found_in};
+ghost use Rattle.link_resolve.specs.Resolving.{IsShape, IsHeld, FailsToResolve, IsFirstUse, cause_of};
 ghost use Rattle.link_resolve.specs.Definitions.{AreDefinitions, IsOf, Sees, founds_in, told_definition};
 ghost use Rattle.link_resolve.specs.Listed.{definition_of};
 ghost use Rattle.link_resolve.specs.Uses.{use_of};
@@ -23,11 +24,13 @@ ghost use Rattle.std.specs.Prelude.{false, true};
 ghost use Rattle.link_meaning.specs.LinkedList.{Asked};
 ghost use Rattle.link_resolve.specs.Linked.{OriginOf, member_at};
 ghost use Rattle.link_resolve.specs.Opening.{OpensNothing};
+ghost use Rattle.link_resolve.specs.Outside.{IsTable, IsOutsideOf, all_found};
 
 use crate::body::add_body;
-use crate::definitions::{Definition, Definitions, Origin, outer_step};
+use crate::definitions::{Defined, Definitions, Origin, outer_step};
 use crate::names::{Key, Names, Outcome};
 use crate::offers::Offers;
+use crate::outside::{Outside, moved};
 use crate::segname::title;
 use crate::uses::{Use, Uses};
 use crate::usings::Usings;
@@ -341,12 +344,12 @@ impl<'a> Linked<'a> {
         }
     }
 
-    /// What a name finds that is used in the member at this place, from 1.
-    pub fn find(&self, place: u32, name: &[u8]) -> Outcome
+    /// What the members define by a name that is used in the member at this place, from 1.
+    fn find_inside(&self, place: u32, name: &[u8]) -> Outcome
         requires positive { 0 < place }
         requires within { place ≤ length self.now.members.items }
         ensures { (list : List Member) (m : Member) → Holds list self.now → slice_get list (place - 1) ≡ Some m
-            → Sees (entries list) (finds list place m name.now) result }
+            → Sees (entries list) (finds_inside list place m name.now) result }
     {
         let origin = self.members[place as usize - 1];
         let own = Key {
@@ -365,11 +368,28 @@ impl<'a> Linked<'a> {
         }
     }
 
-    /// What a use finds: of data segments the places, of definitions the numbers.
-    fn found_for(&self, used: &Use) -> Outcome
+    /// What a name finds that is used in the member at this place, from 1: by number the definitions of the members, and counted on
+    /// behind them the names of the run-time library files.
+    pub fn find(&self, outside: &Outside, place: u32, name: &[u8]) -> Outcome
+        requires positive { 0 < place }
+        requires within { place ≤ length self.now.members.items }
+        requires table { IsTable outside.now }
+        ensures { (list : List Member) (m : Member) → Holds list self.now → IsOutsideOf list outside.now → slice_get list (place - 1) ≡ Some m
+            → Sees (all_found list) (finds list place m name.now) result }
+    {
+        match self.find_inside(place, name) {
+            Outcome::Nothing => moved(self.definitions.count(), outside.look(name)),
+            Outcome::One(first) => Outcome::One(first),
+            Outcome::Several(first) => Outcome::Several(first),
+        }
+    }
+
+    /// What a use finds: of data segments the places, of names the numbers.
+    fn found_for(&self, outside: &Outside, used: &Use) -> Outcome
         requires positive { 0 < used.now.place }
         requires within { used.now.place ≤ length self.now.members.items }
-        ensures { (list : List Member) (m : Member) → Holds list self.now → slice_get list (used.now.place - 1) ≡ Some m
+        requires table { IsTable outside.now }
+        ensures { (list : List Member) (m : Member) → Holds list self.now → IsOutsideOf list outside.now → slice_get list (used.now.place - 1) ≡ Some m
             → IsShape (found_for list used.now.place m (use_of used.now).1) result }
     {
         match used.want {
@@ -377,19 +397,20 @@ impl<'a> Linked<'a> {
                 let origin = self.members[used.place as usize - 1];
                 self.find_data(origin, used.name)
             }
-            Want::One => self.find(used.place, used.name),
-            Want::Any => self.find(used.place, used.name),
+            Want::One => self.find(outside, used.place, used.name),
+            Want::Any => self.find(outside, used.place, used.name),
         }
     }
 
     /// The number of the row, from 0, whose member a use wants: one that finds nothing, and for which there is a row.
-    fn row_wanted(&self, offers: &Offers, used: &Use) -> Option<usize>
+    fn row_wanted(&self, outside: &Outside, offers: &Offers, used: &Use) -> Option<usize>
         requires positive { 0 < used.now.place }
         requires within { used.now.place ≤ length self.now.members.items }
-        ensures { (list : List Member) (os : List Offer) (m : Member) → Holds list self.now → AreOffers os offers.now
+        requires table { IsTable outside.now }
+        ensures { (list : List Member) (os : List Offer) (m : Member) → Holds list self.now → IsOutsideOf list outside.now → AreOffers os offers.now
             → slice_get list (used.now.place - 1) ≡ Some m → IsRow os (wanted_by os list used.now.place m (use_of used.now).1) result }
     {
-        match self.found_for(used) {
+        match self.found_for(outside, used) {
             Outcome::Nothing => {
                 let origin = self.members[used.place as usize - 1];
                 offers.row_for(origin, used.want, used.name)
@@ -401,9 +422,10 @@ impl<'a> Linked<'a> {
 
     /// The first use, in list and record order, that wants a member: its number, from 0, and that of the row that would bring
     /// the member in. The first `from` uses are known to want nothing.
-    pub fn wanted(&self, offers: &Offers, from: usize) -> Option<(usize, usize)>
-        requires { IsHeld self.now }
-        ensures { (list : List Member) (os : List Offer) → Holds list self.now → AreOffers os offers.now → WantsNothing os list from
+    pub fn wanted(&self, outside: &Outside, offers: &Offers, from: usize) -> Option<(usize, usize)>
+        requires held { IsHeld self.now }
+        requires table { IsTable outside.now }
+        ensures { (list : List Member) (os : List Offer) → Holds list self.now → IsOutsideOf list outside.now → AreOffers os offers.now → WantsNothing os list from
             → IsWanted os list result }
     {
         if offers.count() == 0 {
@@ -412,7 +434,7 @@ impl<'a> Linked<'a> {
         let mut number = from;
         'uses: while number < self.uses.count() {
             let used = self.uses.get(number);
-            match self.row_wanted(offers, &used) {
+            match self.row_wanted(outside, offers, &used) {
                 Some(row) => return Some((number, row)),
                 None => {}
             }
@@ -421,12 +443,11 @@ impl<'a> Linked<'a> {
         None
     }
 
-    /// The first definition that a name finds in the member at this place, from 1, used there or not. None where the place is
-    /// no member's, or the name finds none.
-    pub fn symbol(&self, place: u32, name: &[u8]) -> Option<Definition<'a>>
-        ensures found { (list : List Member) (m : Member) → Holds list self.now → 0 < place → slice_get list (place - 1) ≡ Some m
-            → option_map definition_of result ≡ option_map told_definition (first_found (finds list place m name.now)) }
-        ensures outside { (list : List Member) → Holds list self.now → (place ≡ 0) ⊎ (length list < place) → IsNone result }
+    /// The number of the first thing that a name finds in the member at this place, from 1, used there or not. None where the place
+    /// is no member's, or the name finds none.
+    pub fn first(&self, outside: &Outside, place: u32, name: &[u8]) -> Option<usize>
+        requires { IsTable outside.now }
+        ensures { (list : List Member) → Holds list self.now → IsOutsideOf list outside.now → IsFirstOf (all_found list) (found_in list place name.now) result }
     {
         if place == 0 {
             return None;
@@ -434,30 +455,38 @@ impl<'a> Linked<'a> {
         if place as usize > self.members.as_slice().len() {
             return None;
         }
-        match self.find(place, name) {
+        match self.find(outside, place, name) {
             Outcome::Nothing => None,
-            Outcome::One(number) => self.definitions.get(number),
-            Outcome::Several(number) => self.definitions.get(number),
+            Outcome::One(number) => Some(number),
+            Outcome::Several(number) => Some(number),
         }
     }
 
     /// The definition with a number, from 0, of all in list and record order.
-    pub fn definition(&self, number: usize) -> Option<Definition<'a>>
+    pub fn definition(&self, number: usize) -> Option<Defined<'a>>
         ensures { (list : List Member) → Holds list self.now → option_map definition_of result ≡ option_map told_definition (slice_get (entries list) number) }
     {
         self.definitions.get(number)
     }
 
+    /// How many definitions there are.
+    pub fn definition_count(&self) -> usize
+        ensures { (list : List Member) → Holds list self.now → result ≡ length (entries list) }
+    {
+        self.definitions.count()
+    }
+
     /// The first use, in list and record order, that doesn't resolve: why, and its number, from 0.
-    pub fn unresolved(&self) -> Option<(LinkCause, usize)>
-        requires { IsHeld self.now }
-        ensures { (list : List Member) → Holds list self.now → MatchOption result
+    pub fn unresolved(&self, outside: &Outside) -> Option<(LinkCause, usize)>
+        requires held { IsHeld self.now }
+        requires table { IsTable outside.now }
+        ensures { (list : List Member) → Holds list self.now → IsOutsideOf list outside.now → MatchOption result
             (HasNone (FailsToResolve list) (asked list)) (λ found. IsFirstUse list found.0 found.1) }
     {
         let mut number = 0;
         'uses: while number < self.uses.count() {
             let used = self.uses.get(number);
-            match use_cause(used.want, self.found_for(&used)) {
+            match use_cause(used.want, self.found_for(outside, &used)) {
                 Some(cause) => return Some((cause, number)),
                 None => {}
             }

@@ -1,9 +1,9 @@
 //! Definitions in order, by number.
 
-ghost use Rattle.std.specs.Prelude.{◌≡◌, ◌<◌, ◌++◌, ◌∷◌, [], ℕ, None, length, option_map, slice_get, IfOk, OnOk, if◌then◌else◌};
+ghost use Rattle.std.specs.Prelude.{◌≡◌, ◌<◌, ◌^◌, ◌++◌, ◌∷◌, [], ℕ, None, length, option_map, slice_get, IfOk, OnOk, if◌then◌else◌};
 ghost use Rattle.link_resolve.specs.Listed.{definition_of, expr_at};
 
-use crate::definitions::Definition;
+use crate::definitions::Defined;
 use indexmap::IndexMap;
 use std::alloc::{AllocError, Global};
 use std::marker::Model;
@@ -82,17 +82,18 @@ impl<'a> Listed<'a> {
 
     /// How many definitions there are.
     pub fn count(&self) -> usize
-        ensures { result ≡ length self.now }
+        ensures value { result ≡ length self.now }
+        ensures few { result < 2 ^ 63 }
     {
         self.marks.as_slice().len()
     }
 
     /// The definition with this number, from 0.
-    pub fn get(&self, number: usize) -> Option<Definition<'a>>
+    pub fn get(&self, number: usize) -> Option<Defined<'a>>
         ensures { option_map definition_of result ≡ slice_get self.now number }
     {
         match self.marks.get(number) {
-            Some(mark) => Some(Definition {
+            Some(mark) => Some(Defined {
                 member: mark.member,
                 at: mark.at,
                 expr: expr_of(&self.exprs, number, mark.is_equate),
@@ -104,7 +105,7 @@ impl<'a> Listed<'a> {
     }
 
     /// One more definition, behind the others.
-    pub fn push(&mut self, definition: Definition<'a>) -> Result<(), AllocError>
+    pub fn push(&mut self, definition: Defined<'a>) -> Result<(), AllocError>
         ensures { OnOk result (self.new ≡ self.old ++ definition_of definition.entry ∷ []) }
     {
         let number = self.marks.as_slice().len();

@@ -2,61 +2,59 @@
 
 ghost use Rattle.std.specs.Prelude.{◌≡◌, false, ◌+◌, ◌-◌, ◌<◌, ◌≤◌, ◌^◌, ◌++◌, ◌∷◌, [], List, ℕ, None, Some, slice_get, length, IfSome, IfOk, IfErr, OnOk, OnErr};
 ghost use Rattle.std.specs.Bool.{OnTrue};
-ghost use Rattle.std.specs.List.{AllByRecursion};
-ghost use Rattle.omf_format.specs.Number.{IsBytes};
+ghost use Rattle.link_meaning.specs.declared.form.LinkForm.TheVariants.{Program as ProgramForm};
 ghost use Rattle.link_meaning.specs.declared.fault.LinkCause.TheVariants.{Empty};
 ghost use Rattle.link_meaning.specs.First.{HasNone};
-ghost use Rattle.link_meaning.specs.Member.{Member};
+ghost use Rattle.link_meaning.specs.Member as meaning;
+ghost use Rattle.link_meaning.specs.Member.{Setting};
 ghost use Rattle.link_meaning.specs.LinkedList.{asked};
-ghost use Rattle.link_meaning.specs.LinkFaults.{nowhere, HasUseFault, IsResolved};
+ghost use Rattle.link_meaning.specs.LinkFaults.{Given, HasBytes, MayHave, nowhere, plain, HasUseFault, IsResolved};
 ghost use Rattle.link_resolve.specs.Linked.{Holds};
 ghost use Rattle.link_resolve.specs.Gathered.{AllAmong};
 ghost use Rattle.link_resolve.specs.Laid.{Laid};
+ghost use Rattle.link_resolve.specs.Outside.{IsTable, IsOutsideOf};
 ghost use Rattle.link_resolve.specs.Resolving.{IsHeld};
-ghost use Rattle.link_resolve.specs.Resolved.{all_bytes, total_size, AreFew, HasGathered, HasObjects, IsListOf, IsLaidOut, IsReadingFault, IsUseFault, IsRefused};
+ghost use Rattle.link_resolve.specs.Resolved.{all_bytes, given_of, HavePaths, total_size, AreFew, FewGiven, HasGathered, IsReadAll, IsListOf, IsLaidOut, IsInputFault, IsUseFault, IsRefused};
 
-use crate::bytes::know_bytes;
+use crate::bytes::{know_bytes, know_members};
 use crate::gather::{Gathered, segment_in};
 use crate::grow::grow;
 use crate::input::memory_fault;
 use crate::layout::{Layout, headers};
 use crate::linked::Linked;
+use crate::outside::Outside;
 use crate::program::{Kept, Program};
-use link_meaning::{LinkCause, LinkFault};
+use crate::runtimes::{Runtimes, read_runtimes};
+use lib_dict::Member;
+use link_meaning::{LinkCause, LinkFault, LinkForm};
 use omf_base::{Name, NameFault, Spot};
 use omf_records::SegmentList;
 use std::alloc::{AllocError, Global};
+
+/// What was read of all files, and what is to be linked with what.
+#[derive(Drop)]
+struct Read<'a> {
+    gathered: Gathered<'a>,
+    runtimes: Runtimes<'a>,
+    given: &'a [Member],
+    form: LinkForm,
+}
 
 /// The whole list, with the segments of all files.
 #[derive(Drop)]
 struct Grown<'a> {
     files: Vec<SegmentList<'a>>,
     linked: Linked<'a>,
+    runtimes: Runtimes<'a>,
+    given: &'a [Member],
+    form: LinkForm,
 }
 
-/// The most files, and the most bytes that they have together.
-const MOST: usize = 0xFFFF_FFFF;
-
-/// There are fewer than 2^32 files, and they have fewer than 2^32 bytes together, as 255 files of 16,777,216 bytes have.
-pub fn are_few(inputs: &Vec<Vec<u8>>) -> bool
-    ensures few { OnTrue result (AreFew (all_bytes inputs.now.items)) }
-    ensures many { result ≡ false → ¬ AreFew (all_bytes inputs.now.items) }
-{
-    let mut left = MOST;
-    'files: for file in inputs {
-        if file.len() > left {
-            return false;
-        }
-        left -= file.len();
-    }
-    inputs.len() <= MOST
-}
-
-/// Reads all files.
+/// Reads all inputs.
 fn gather<'a>(alloc: Global, inputs: &'a Vec<Vec<u8>>) -> Result<Gathered<'a>, LinkFault>
     requires { AreFew (all_bytes inputs.now.items) }
     ensures read { IfOk result (λ gathered. HasGathered (all_bytes inputs.now.items) gathered) }
-    ensures refused { IfErr result (λ fault. IsReadingFault (all_bytes inputs.now.items) fault) }
+    ensures refused { IfErr result (λ fault. IsInputFault (all_bytes inputs.now.items) fault) }
 {
     let mut gathered = Gathered::new(alloc);
     'files: for bytes in inputs {
@@ -86,52 +84,90 @@ fn empty_fault() -> LinkFault
     }
 }
 
-/// Reads all files, of which some are object files.
-fn gather_objects<'a>(alloc: Global, inputs: &'a Vec<Vec<u8>>) -> Result<Gathered<'a>, LinkFault>
-    requires { AreFew (all_bytes inputs.now.items) }
-    ensures read { IfOk result (λ gathered. HasObjects (all_bytes inputs.now.items) gathered) }
-    ensures refused { IfErr result (λ fault. IsRefused (all_bytes inputs.now.items) fault) }
+/// Reads all files: the inputs, of which some are object files, and the run-time library files behind them.
+fn read_all<'a>(
+    alloc: Global,
+    inputs: &'a Vec<Vec<u8>>,
+    given: &'a [Member],
+    form: LinkForm,
+) -> Result<Read<'a>, LinkFault>
+    requires few { FewGiven (given_of inputs.now.items given.now form) }
+    requires paths { HavePaths (given_of inputs.now.items given.now form) }
+    ensures read { IfOk result (λ read. IsReadAll (given_of inputs.now.items given.now form) read) }
+    ensures refused { IfErr result (λ fault. IsRefused (given_of inputs.now.items given.now form) fault) }
 {
     let gathered = match gather(alloc, inputs) {
         Ok(gathered) => gathered,
         Err(fault) => return Err(fault),
     };
+    let runtimes = match read_runtimes(alloc, given, inputs.len() as u32) {
+        Ok(runtimes) => runtimes,
+        Err(fault) => {
+            drop(gathered);
+            return Err(fault);
+        }
+    };
     if gathered.linked.count() == 0 {
         drop(gathered);
+        drop(runtimes);
         return Err(empty_fault());
     }
-    Ok(gathered)
+    Ok(Read {
+        gathered,
+        runtimes,
+        given,
+        form,
+    })
 }
 
 /// Grows the list of what was gathered until no use wants a member. The rows are let go behind it.
-fn grow_whole<'a>(alloc: Global, gathered: Gathered<'a>) -> Result<Grown<'a>, AllocError>
-    requires { (files : List (List ℕ)) × AreFew files × HasObjects files gathered }
-    ensures { IfOk result (λ grown. (files : List (List ℕ)) → AreFew files → HasObjects files gathered.entry → IsListOf files grown.files.items grown.linked) }
+fn grow_whole<'a>(alloc: Global, read: Read<'a>) -> Result<Grown<'a>, AllocError>
+    requires { (given : Given) × FewGiven given × IsReadAll given read }
+    ensures { IfOk result (λ grown. (given : Given) → FewGiven given → IsReadAll given read.entry → IsListOf given grown) }
 {
+    let Read {
+        gathered,
+        runtimes,
+        given,
+        form,
+    } = read;
     let Gathered {
         files,
         mut linked,
         offers,
     } = gathered;
-    let grown = grow(alloc, files.as_slice(), &offers, &mut linked);
+    let grown = grow(
+        alloc,
+        files.as_slice(),
+        &runtimes.outside,
+        &offers,
+        &mut linked,
+    );
     drop(offers);
     match grown {
-        Ok(()) => Ok(Grown { files, linked }),
+        Ok(()) => Ok(Grown {
+            files,
+            linked,
+            runtimes,
+            given,
+            form,
+        }),
         Err(error) => {
             drop(files);
             drop(linked);
+            drop(runtimes);
             Err(error)
         }
     }
 }
 
 /// The first use that doesn't resolve, as a fault; Ok where each does.
-fn check_names(alloc: Global, linked: &Linked) -> Result<(), LinkFault>
-    requires { IsHeld linked.now }
-    ensures fine { OnOk result ((list : List Member) → Holds list linked.now → HasNone (HasUseFault list) (asked list)) }
-    ensures refused { IfErr result (λ fault. (list : List Member) → Holds list linked.now → IsUseFault list fault) }
+fn check_names(alloc: Global, linked: &Linked, outside: &Outside) -> Result<(), LinkFault>
+    requires { (list : List meaning.Member) × Holds list linked.now × IsOutsideOf list outside.now }
+    ensures fine { OnOk result ((list : List meaning.Member) → Holds list linked.now → IsOutsideOf list outside.now → HasNone (HasUseFault list) (asked list)) }
+    ensures refused { IfErr result (λ fault. (list : List meaning.Member) → Holds list linked.now → IsOutsideOf list outside.now → IsUseFault list fault) }
 {
-    let (cause, number) = match linked.unresolved() {
+    let (cause, number) = match linked.unresolved(outside) {
         None => return Ok(()),
         Some(found) => found,
     };
@@ -158,9 +194,9 @@ fn lay_out<'a>(
     files: &[SegmentList<'a>],
     linked: &Linked,
 ) -> Result<Layout<'a>, AllocError>
-    requires held { (list : List Member) × Holds list linked.now × AllAmong files.now list }
+    requires held { (list : List meaning.Member) × Holds list linked.now × AllAmong files.now list }
     requires few { length linked.now.members.items < 2 ^ 32 }
-    ensures { IfOk result (λ layout. (list : List Member) → Holds list linked.now → AllAmong files.now list → Laid list layout) }
+    ensures { IfOk result (λ layout. (list : List meaning.Member) → Holds list linked.now → AllAmong files.now list → Laid list layout) }
 {
     let mut layout = Layout::new(alloc);
     let mut place = 0;
@@ -180,24 +216,20 @@ fn lay_out<'a>(
 }
 
 /// The load segments of the whole list, where neither its names nor they have a fault.
-fn lay_out_sound<'a>(
-    alloc: Global,
-    files: &[SegmentList<'a>],
-    linked: &Linked<'a>,
-) -> Result<Layout<'a>, LinkFault>
-    requires { (bytes : List (List ℕ)) × IsListOf bytes files.now linked.now }
-    ensures laid { IfOk result (λ layout. (bytes : List (List ℕ)) (of : IsListOf bytes files.now linked.now) → IsLaidOut bytes of.grown.list layout) }
-    ensures refused { IfErr result (λ fault. (bytes : List (List ℕ)) → IsListOf bytes files.now linked.now → IsRefused bytes fault) }
+fn lay_out_sound<'a>(alloc: Global, grown: &Grown<'a>) -> Result<Layout<'a>, LinkFault>
+    requires { (given : Given) × IsListOf given grown.now }
+    ensures laid { IfOk result (λ layout. (given : Given) (of : IsListOf given grown.now) → IsLaidOut given of.grown.list layout) }
+    ensures refused { IfErr result (λ fault. (given : Given) → IsListOf given grown.now → IsRefused given fault) }
 {
-    match check_names(alloc, linked) {
+    match check_names(alloc, &grown.linked, &grown.runtimes.outside) {
         Ok(()) => {}
         Err(fault) => return Err(fault),
     }
-    let layout = match lay_out(alloc, files, linked) {
+    let layout = match lay_out(alloc, grown.files.as_slice(), &grown.linked) {
         Ok(layout) => layout,
         Err(_) => return Err(memory_fault()),
     };
-    match layout.fault() {
+    match layout.fault(grown.form) {
         Some(fault) => Err(fault),
         None => Ok(layout),
     }
@@ -205,49 +237,90 @@ fn lay_out_sound<'a>(
 
 /// The program of a whole list whose names and load segments have no fault.
 fn finish<'a>(alloc: Global, grown: Grown<'a>) -> Result<Program<'a>, LinkFault>
-    requires { (bytes : List (List ℕ)) × AllByRecursion IsBytes bytes × IsListOf bytes grown.files.items grown.linked }
-    ensures resolved { (bytes : List (List ℕ)) → AllByRecursion IsBytes bytes → IsListOf bytes grown.entry.files.items grown.entry.linked
-        → IfOk result (λ program. IsResolved bytes program) }
-    ensures refused { (bytes : List (List ℕ)) → IsListOf bytes grown.entry.files.items grown.entry.linked → IfErr result (λ fault. IsRefused bytes fault) }
+    requires { (given : Given) × HasBytes given × IsListOf given grown }
+    ensures resolved { (given : Given) → HasBytes given → IsListOf given grown.entry → IfOk result (λ program. IsResolved given program) }
+    ensures refused { (given : Given) → IsListOf given grown.entry → IfErr result (λ fault. IsRefused given fault) }
 {
-    let Grown { files, linked } = grown;
-    let layout = match lay_out_sound(alloc, files.as_slice(), &linked) {
+    let layout = match lay_out_sound(alloc, &grown) {
         Ok(layout) => layout,
         Err(fault) => {
-            drop(files);
-            drop(linked);
+            drop(grown);
             return Err(fault);
         }
     };
-    match headers(alloc, &layout) {
-        Ok(headers) => Ok(Program::of(Kept {
-            files,
-            linked,
-            places: layout.places,
-            headers,
-        })),
+    let headers = match headers(alloc, &layout) {
+        Ok(headers) => headers,
         Err(_) => {
-            drop(files);
-            drop(linked);
+            drop(grown);
             drop(layout);
-            Err(memory_fault())
+            return Err(memory_fault());
         }
-    }
+    };
+    let Grown {
+        files,
+        linked,
+        runtimes,
+        given,
+        form,
+    } = grown;
+    let Runtimes { loads, outside } = runtimes;
+    Ok(Program::of(Kept {
+        files,
+        linked,
+        places: layout.places,
+        headers,
+        form,
+        given,
+        runtimes: loads,
+        outside,
+    }))
 }
 
-/// The program of files whose names and load segments have no fault.
-pub fn resolve<'a>(alloc: Global, inputs: &'a Vec<Vec<u8>>) -> Result<Program<'a>, LinkFault>
-    requires { AreFew (all_bytes inputs.now.items) }
-    ensures resolved { IfOk result (λ program. IsResolved (all_bytes inputs.now.items) program) }
-    ensures refused { IfErr result (λ fault. IsRefused (all_bytes inputs.now.items) fault) }
+/// The program of inputs and run-time library files whose names and load segments have no fault.
+fn resolve_all<'a>(
+    alloc: Global,
+    inputs: &'a Vec<Vec<u8>>,
+    given: &'a [Member],
+    form: LinkForm,
+) -> Result<Program<'a>, LinkFault>
+    requires few { FewGiven (given_of inputs.now.items given.now form) }
+    requires paths { HavePaths (given_of inputs.now.items given.now form) }
+    ensures resolved { IfOk result (λ program. IsResolved (given_of inputs.now.items given.now form) program) }
+    ensures refused { IfErr result (λ fault. IsRefused (given_of inputs.now.items given.now form) fault) }
 {
     know_bytes(inputs);
-    let gathered = match gather_objects(alloc, inputs) {
-        Ok(gathered) => gathered,
+    know_members(given);
+    let read = match read_all(alloc, inputs, given, form) {
+        Ok(read) => read,
         Err(fault) => return Err(fault),
     };
-    match grow_whole(alloc, gathered) {
+    match grow_whole(alloc, read) {
         Ok(grown) => finish(alloc, grown),
         Err(_) => Err(memory_fault()),
     }
+}
+
+/// The program of files whose names and load segments have no fault, without run-time library files.
+pub fn resolve<'a>(alloc: Global, inputs: &'a Vec<Vec<u8>>) -> Result<Program<'a>, LinkFault>
+    requires { AreFew (all_bytes inputs.now.items) }
+    ensures resolved { IfOk result (λ program. IsResolved (plain (all_bytes inputs.now.items)) program) }
+    ensures refused { IfErr result (λ fault. IsRefused (plain (all_bytes inputs.now.items)) fault) }
+{
+    resolve_all(alloc, inputs, &[], LinkForm::Program)
+}
+
+/// The same with run-time library files, each with the path by which it is known, for a program; and a run-time library file, which has
+/// none.
+pub fn resolve_with<'a>(
+    alloc: Global,
+    inputs: &'a Vec<Vec<u8>>,
+    runtimes: &'a Vec<Member>,
+    form: LinkForm,
+) -> Result<Program<'a>, LinkFault>
+    requires few { FewGiven (given_of inputs.now.items runtimes.now.items form) }
+    requires paths { HavePaths (given_of inputs.now.items runtimes.now.items form) }
+    ensures resolved { IfOk result (λ program. IsResolved (given_of inputs.now.items runtimes.now.items form) program) }
+    ensures refused { IfErr result (λ fault. IsRefused (given_of inputs.now.items runtimes.now.items form) fault) }
+{
+    resolve_all(alloc, inputs, runtimes.as_slice(), form)
 }

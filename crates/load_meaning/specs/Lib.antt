@@ -1,7 +1,10 @@
 pub mod Cells
 pub mod Table
+pub mod Exports
+pub mod Pathnames
 pub mod LoadTable
 pub mod Loadable
+pub mod Runtime
 pub mod WrittenPages
 pub mod WrittenBody
 pub mod WrittenFile

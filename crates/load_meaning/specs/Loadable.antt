@@ -18,6 +18,7 @@ use Rattle.omf_format.specs.File.{Segment, body_reader, IsHeader, AreSegments, I
 use Rattle.omf_format.specs.Body.{body_bytes}
 use Rattle.load_meaning.specs.Cells.{Patch, segment_bytes, patches_in, patches_of}
 use Rattle.load_meaning.specs.Table.{IsTableOf, file_entry}
+use Rattle.load_meaning.specs.Pathnames.{ArePaths, has_pathnames, most_paths, rows_flaw, is_one_long, paths_of}
 use Rattle.load_meaning.specs.LoadTable.{is_table, table_of, entry_count, targets_of, is_place, table_checks}
 
 -- a cause, and its displacement in the file
@@ -33,12 +34,11 @@ express_name = codes "ExpressLoad"
 abbrev pub is_express : List ℕ → Bool
 is_express name = bytes_eq name express_name || bytes_eq name (126 ∷ express_name)
 
--- why a load file can't have a segment of this name and type, the name first: a pathname segment and a segment for the
--- Express Loader aren't read, and a library dictionary belongs to a library
+-- why a load file can't have a segment of this name and type, the name first: a segment for the Express Loader isn't read, and a library
+-- dictionary belongs to a library
 unfoldable pub segment_refusal : Fields → Option LoadCause
 segment_refusal f = first_of (
     (is_express f.name, Unsupported)
-    ∷ (form_of f.kind == 0x04, Unsupported)
     ∷ (form_of f.kind == 0x08, NotLoadFile)
     ∷ [])
 
@@ -168,14 +168,30 @@ table_flaw segments number s = first_of (
     ∷ (not (s.fields.length == 12 + 14 * entry_count s.fields.length), s.fields.length)
     ∷ table_checks segments (segment_bytes s) (entry_count s.fields.length))
 
--- phase 4 of a segment: where it is a table, it is laid out as one
+-- why a pathname segment isn't one, as the place in its segment: it is the second one, has an attribute or another body than one LCONST
+-- of LENGTH bytes, or a field is wrong
+unfoldable pub pathnames_flaw : List Segment → ℕ → Segment → Option ℕ
+pathnames_flaw segments number s = option_or
+    (first_of (
+    (list_any has_pathnames (take (number - 1) segments), 0)
+    ∷ (is_dynamic s.fields.kind || is_skipped s.fields.kind, 0)
+    ∷ (not (is_one_long s.fields.length s.records), 0)
+    ∷ []))
+    (rows_flaw most_paths 0 0 (segment_bytes s))
+
+-- phase 4 of a segment: where it has the pathnames, it is laid out so
+abbrev pub pathnames_fault : List Segment → ℕ → Segment → Option Fault
+pathnames_fault segments number s = if has_pathnames s then option_map (λ at. (BadTable, at)) (pathnames_flaw segments number s) else None
+
+-- phase 5 of a segment: where it is a table, it is laid out as one
 abbrev pub table_fault : List Segment → ℕ → Segment → Option Fault
 table_fault segments number s = if is_table s then option_map (λ at. (BadTable, at)) (table_flaw segments number s) else None
 
 -- the first fault of the phases after phase 1
 unfoldable pub later_fault : List Segment → Option LoadFault
 later_fault segments = option_or (first_in shape_fault 1 segments)
-    (option_or (first_in (target_fault segments) 1 segments) (first_in (table_fault segments) 1 segments))
+    (option_or (first_in (target_fault segments) 1 segments)
+    (option_or (first_in (pathnames_fault segments) 1 segments) (first_in (table_fault segments) 1 segments)))
 
 -- all segments pass phase 1, and a later phase finds this fault first
 pub record IsLaterFault (file : List ℕ) (fault : LoadFault) : Type 0 where
@@ -215,14 +231,23 @@ pub record IsPatch (segments : List Segment) (s : Segment) (p : Patch) : Type 0 
   pub kept : is_skipped target.fields.kind ≡ false
   pub near : (p.segment ≡ s.fields.seg_num) ⊎ (is_dynamic target.fields.kind ≡ false)
 
--- a target of a table: an offset in a dynamic segment of the file that isn't skipped
-pub record IsTarget (segments : List Segment) (target : Target) : Type 0 where
+-- a target of a table in the file itself: an offset in a dynamic segment that isn't skipped
+pub record IsOwnTarget (segments : List Segment) (target : Target) : Type 0 where
   pub file' : target.file ≡ 1
   pub segment' : Segment
   pub is : segment_at segments target.segment ≡ Some segment'
   pub dynamic : is_dynamic segment'.fields.kind ≡ true
   pub kept : is_skipped segment'.fields.kind ≡ false
   pub inside : target.offset < segment'.fields.length
+
+-- a target in another file, which has a row in the pathname segment
+pub record IsFarTarget (segments : List Segment) (target : Target) : Type 0 where
+  pub beyond : 2 ≤ target.file
+  pub row : target.file ≤ length (paths_of segments) + 1
+
+-- a target of a table, in the file itself or in another
+abbrev pub IsTarget : List Segment → Target → Type 0
+IsTarget segments target = IsOwnTarget segments target ⊎ IsFarTarget segments target
 
 -- a load file's table: static, not skipped, without patches, and laid out as the entries of its targets
 pub record IsTable (segments : List Segment) (s : Segment) : Type 0 where
@@ -232,6 +257,12 @@ pub record IsTable (segments : List Segment) (s : Segment) : Type 0 where
   pub targets : AllByRecursion (IsTarget segments) (targets_of s)
   pub laid_out : IsTableOf (map file_entry (targets_of s)) (segment_bytes s)
 
+-- a load file's pathname segment: static, not skipped, and laid out as the rows of the file's paths
+pub record IsPathnames (segments : List Segment) (s : Segment) : Type 0 where
+  pub static : is_dynamic s.fields.kind ≡ false
+  pub kept : is_skipped s.fields.kind ≡ false
+  pub laid_out : ArePaths (paths_of segments) (segment_bytes s)
+
 -- a load file's segment with a number
 pub record IsSoundSegment (segments : List Segment) (number : ℕ) (s : Segment) : Type 0 where
   pub number' : s.fields.seg_num ≡ number
@@ -239,3 +270,4 @@ pub record IsSoundSegment (segments : List Segment) (number : ℕ) (s : Segment)
   pub patches : AllByRecursion (IsPatch segments s) (patch_list s)
   pub table : is_table s ≡ true → IsTable segments s
   pub only : is_table s ≡ true → table_of segments ≡ Some number
+  pub paths : has_pathnames s ≡ true → IsPathnames segments s

@@ -1,30 +1,43 @@
 -- The file that a linker writes: load segments, one behind another, each a header and the body for its cells (GS/OS
 -- Reference, appendix F, "Segment header" and "Segment body").
-use Rattle.std.specs.Prelude.{◌≡◌, ◌<◌, ◌≤◌, ◌^◌, ℕ, List, [], ◌∷◌, ◌++◌, length, map, replicate, codes}
+use Rattle.std.specs.Prelude.{◌≡◌, ◌<◌, ◌≤◌, ◌^◌, ℕ, List, [], ◌∷◌, ◌++◌, length, map, replicate, codes, Bool, true, false, if◌then◌else◌}
 use Rattle.std.specs.List.{flat_map, AllByRecursion}
 use Rattle.omf_format.specs.Field.{written_layout}
 use Rattle.omf_format.specs.Header.{Fields, written_fields, header_bytes, IsWritable}
 use Rattle.omf_format.specs.WrittenHeader.{FitsWritten}
-use Rattle.omf_format.specs.Record.{End, spelling}
+use Rattle.omf_format.specs.Record.{Record, End, Entry as Exported, IsRecord, spelling}
 use Rattle.omf_format.specs.File.{Segment, IsFile}
+use Rattle.load_meaning.specs.Pathnames.{paths_text}
 use Rattle.load_meaning.specs.declared.table.Entry.{Entry}
 use Rattle.load_meaning.specs.Cells.{Byte, Patch, cells}
 use Rattle.load_meaning.specs.Table.{most_entries, table_bytes}
-use Rattle.load_meaning.specs.WrittenBody.{AreWritten, zeros_behind, written_cells, body_text}
+use Rattle.load_meaning.specs.WrittenBody.{AreWritten, zeros_behind, written_cells, data_records, body_records}
 
--- a load segment that is to be written: its header's fields, its content, and the patches over it
+-- a load segment that is to be written: its header's fields, its content, the patches over it, and its ENTRY records; where it is whole,
+-- as a list of pathnames, its zeros at the end are written too
 pub record Image : Type 0 where
   pub fields : Fields
   pub content : List ℕ
   pub patches : List Patch
+  pub exports : List Record
+  pub whole : Bool
+
+-- its records without END
+unfoldable pub image_records : Image → List Record
+image_records image = (if image.whole then data_records image.content else body_records image.fields.seg_num image.content image.patches) ++ image.exports
 
 -- its body, with END
 unfoldable pub image_body : Image → List ℕ
-image_body image = body_text image.fields.seg_num image.content image.patches ++ spelling written_layout End
+image_body image = flat_map (spelling written_layout) (image_records image) ++ spelling written_layout End
 
 -- the fields that are written: RESSPC is the number of zeros that the body leaves out
 abbrev pub image_fields : Image → Fields
-image_fields image = record image.fields { res_spc = zeros_behind (written_cells image.content image.patches) }
+image_fields image = record image.fields { res_spc = if image.whole then 0 else zeros_behind (written_cells image.content image.patches) }
+
+-- an ENTRY record that can be written
+abbrev pub IsExport : Record → Type 0
+IsExport (Exported segment offset name) = IsRecord written_layout (Exported segment offset name)
+IsExport _ = ⊥
 
 -- its header, and the body behind it
 unfoldable pub image_text : Image → List ℕ
@@ -34,14 +47,16 @@ image_text image = header_bytes (image_fields image) (length (image_body image))
 unfoldable pub file_text : List Image → List ℕ
 file_text images = flat_map image_text images
 
--- which segments can be written: the fields fit into a header, LENGTH is the number of cells, and the patches rise, don't
--- overlap and lie inside the content
+-- which segments can be written: the fields fit into a header, LENGTH is the number of cells, the patches rise, don't overlap and lie
+-- inside the content, the exports are ENTRY records, and a segment whose zeros at the end are written has no patches
 pub record IsImage (image : Image) : Type 0 where
   pub fits : FitsWritten (image_fields image) (length (image_body image))
   pub writable : IsWritable (image_fields image)
   pub length' : image.fields.length ≡ length image.content
   pub small : length image.content ≤ 0xFFFFFF
   pub patches' : AreWritten (length image.content) 0 image.patches
+  pub exports' : AllByRecursion IsExport image.exports
+  pub bare : image.whole ≡ true → image.patches ≡ []
 
 -- the segment has the fields that were written, and its cells are the content with the patches over it
 pub record IsReadAs (image : Image) (s : Segment) : Type 0 where
@@ -80,7 +95,18 @@ table_fields number size = record {
 
 -- the segment of a jump table with these entries
 unfoldable pub table_image : ℕ → List Entry → Image
-table_image number entries = record { fields = table_fields number (length (table_bytes entries)); content = table_bytes entries; patches = [] }
+table_image number entries = record { fields = table_fields number (length (table_bytes entries)); content = table_bytes entries; patches = []; exports = []; whole = false }
+
+-- ---- the pathnames
+
+-- the header's fields of a pathname segment with this number and so many bytes: those of a table, with its own type and name
+unfoldable pub pathnames_fields : ℕ → ℕ → Fields
+pathnames_fields number size = record (table_fields number size) { kind = 0x0004; name = codes "~Pathnames" }
+
+-- the segment of the pathnames of these files
+unfoldable pub pathnames_image : ℕ → List (List ℕ) → Image
+pathnames_image number paths =
+    record { fields = pathnames_fields number (length (paths_text paths)); content = paths_text paths; patches = []; exports = []; whole = true }
 
 -- ---- laws
 

@@ -1,3 +1,5 @@
+pub mod PathLaws
+pub mod PathTextLaws
 pub mod LayingLaws
 pub mod LoadableLaws
 pub mod TableLaws
@@ -8,6 +10,8 @@ pub mod FormLaws
 pub mod StoredLaws
 pub mod PageSizeLaws
 pub mod RunLaws
+pub mod ExportLaws
 pub mod WrittenBodyLaws
 pub mod WrittenFileLaws
 pub mod WrittenTableLaws
+pub mod WrittenPathLaws

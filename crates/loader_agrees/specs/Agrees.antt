@@ -60,8 +60,8 @@ abbrev pub AreThere : Slots → List (Option Handle) → List Segment → Type 0
 AreThere slots handles segments = (number : ℕ) (s : Segment) → segment_at segments number ≡ Some s → is_static (head_of s) ≡ true
     → IsSome (there_at (presence_at slots handles number))
 
--- A user agrees: the path holds a load file, whose headers are kept; a table has no pokes; the static segments of a running user
--- are active; and while all static segments are there, the block of each segment that is there begins with what stands in it.
+-- A user agrees: the path holds a load file that is taken, whose headers are kept; a table has no pokes; the static segments of a
+-- running user are active; and while all static segments are there, the block of each segment that is there begins with what stands in it.
 pub record UserAgrees (held : FileMap) (memory : Memory) (id : ℕ) (kept : Kept) (user : User) : Type 0 where
   pub same : outline kept ≡ outline_of user
   pub segments : List Segment

@@ -1,4 +1,5 @@
 pub mod PokeLaws
+pub mod TakenLaws
 pub mod StandsLaws
 pub mod PutLaws
 pub mod OnceLaws

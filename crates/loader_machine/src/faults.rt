@@ -32,7 +32,7 @@ pub enum LoaderFault {
     TooManyUsers,
     /// The file isn't held, is too long or couldn't be read.
     CannotRead,
-    /// The file isn't a load file: its first fault.
+    /// The file isn't a load file: its first fault; or it has a pathname segment, which is unsupported.
     BadFile(LoadFault),
     /// The file isn't the one that was loaded: the first segment that differs.
     Changed { kept: Facts, found: Facts },

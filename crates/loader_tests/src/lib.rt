@@ -6,6 +6,8 @@ mod asserting;
 #[cfg(test)]
 mod changed_files;
 #[cfg(test)]
+mod pathnames;
+#[cfg(test)]
 mod programs;
 #[cfg(test)]
 mod refused_memory;

@@ -37,6 +37,15 @@ pub(crate) static TABLE: [u8; 87] = [
     0,
 ];
 
+/// A pathname segment with the path `a`, behind a table.
+pub(crate) static PATHNAMES: [u8; 75] = [
+    0x4B, 0, 0, 0, 0, 0, 0, 0, 14, 0, 0, 0, 0, 0, 4, 2, 0, 0, 1, 0, // LENGTH and BANKSIZE
+    4, 0, 0, 0, 0, 0, 0, 0, 0, 0, 0, 0, 0, 0, 4, 0, 0, 0, 0, 0, 0x2C, 0, 0x37, 0, // KIND and SEGNUM
+    0x20, 0x20, 0x20, 0x20, 0x20, 0x20, 0x20, 0x20, 0x20, 0x20, 0, // the names
+    0xF2, 14, 0, 0, 0, 2, 0, 0, 0, 0, 0, 0, 0, 0, 0, 1, b'a', 0, 0, // the row, and its end
+    0,
+];
+
 /// Code of no byte.
 pub(crate) static EMPTY_CODE: [u8; 56] = [
     0x38, 0, 0, 0, 0, 0, 0, 0, 0, 0, 0, 0, 0, 0, 4, 2, 0, 0, 1, 0, // LENGTH and BANKSIZE

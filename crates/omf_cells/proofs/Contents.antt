@@ -74,7 +74,7 @@ ordered_spots s spots sorted runs is are last =
 nothing : (found : ℕ × Cell) (k : ℕ) (cell : Cell) → eqb found.0 k ≡ false → (if eqb found.0 k then Some found.1 else None) ≡ Some cell → ⊥
 nothing found k cell apart e = let none : (if eqb found.0 k then Some found.1 else None) ≡ None = rw apart refl in absurd cc
 
-below_at : (size : ℕ) (founds : List (ℕ × Cell)) (k : ℕ) (cell : Cell) → AreBelow size founds → last_at founds k ≡ Some cell → k < size
+pub below_at : (size : ℕ) (founds : List (ℕ × Cell)) (k : ℕ) (cell : Cell) → AreBelow size founds → last_at founds k ≡ Some cell → k < size
 below_at size [] k cell all is = absurd cc
 below_at size (found ∷ founds) k cell all is = by_rest (last_at founds k) (λ other e. below_at size founds k other all.1 e) is
   where

@@ -54,7 +54,7 @@ cell_found content patches k are found =
 past_end : (content : List ℕ) (patches : List Patch) (k : ℕ) → AreWritten (length content) 0 patches → end_behind 0 patches ≤ k → Missed patches k
 past_end content patches k are le p has c = let lt = covered_below (length content) 0 patches p k are has c in omega (arith, le, lt)
 
-byte_is : (o : Option ℕ) (c : Cell) → o ≡ Some 0 → option_map Byte o ≡ Some c → is_zero c ≡ true
+pub byte_is : (o : Option ℕ) (c : Cell) → o ≡ Some 0 → option_map Byte o ≡ Some c → is_zero c ≡ true
 byte_is None c e is = let clash : no_byte ≡ Some 0 = e in absurd cc
 byte_is (Some b) c e is =
     let zero' : b ≡ 0 = same b 0 e in
@@ -67,7 +67,7 @@ byte_is (Some b) c e is =
     same_cell : (x y : Cell) → Some x ≡ Some y → x ≡ y
     same_cell x y e = cc
 
-other_byte : (o : Option ℕ) (content : List ℕ) (k : ℕ) → o ≡ slice_get content k → k < length content → (o ≡ Some 0 → ⊥) → (c : Cell) × (option_map Byte o ≡ Some c) × (is_zero c ≡ false)
+pub other_byte : (o : Option ℕ) (content : List ℕ) (k : ℕ) → o ≡ slice_get content k → k < length content → (o ≡ Some 0 → ⊥) → (c : Cell) × (option_map Byte o ≡ Some c) × (is_zero c ≡ false)
 other_byte None content k is lt not_zero = let clash : no_byte ≡ Some (get_or content k 0) = is ∙ slice_get-get_or content k 0 lt in absurd cc
 other_byte (Some b) content k is lt not_zero = (Byte b, refl, ne_eqb b 0 (λ (e : b ≡ 0). not_zero (ap (λ (n : ℕ). some n) e)))
   where

@@ -13,6 +13,11 @@ pub mod FrontFaults
 pub mod ShownBytes
 pub mod TableRuns
 pub mod Phases
+pub mod PathSearch
+pub mod PathRuns
+pub mod PathFew
+pub mod PathSegments
+pub mod ExportWalks
 pub mod Causes
 pub mod Contents
 pub mod LoadViews
@@ -24,3 +29,7 @@ pub mod KeptLaws
 pub mod DataLaws
 pub mod PlainLaws
 pub mod FormLists
+pub mod EndLists
+pub mod FilledLists
+pub mod WholeLists
+pub mod EndShows

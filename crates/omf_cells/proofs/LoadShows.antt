@@ -70,7 +70,7 @@ content_fits segments number v reader is at =
     omega (arith, size, is.sound.fits)
 
 -- what a cell of a segment is: that of the last patch over it, or the byte of the data there
-cell_of : (segments : List Segment) (number : ℕ) (s : Segment) (k : ℕ) → IsSoundSegment segments number s → slice_get (cells s) k ≡ option_or (last_at (spread_all (patch_list s)) k) (slice_get (map Byte (segment_bytes s)) k)
+pub cell_of : (segments : List Segment) (number : ℕ) (s : Segment) (k : ℕ) → IsSoundSegment segments number s → slice_get (cells s) k ≡ option_or (last_at (spread_all (patch_list s)) k) (slice_get (map Byte (segment_bytes s)) k)
 unfolding cells
 cell_of segments number s k sound =
     let size : length (map Byte (segment_bytes s)) ≡ s.fields.length = length-map (segment_bytes s) Byte ∙ length-segment_bytes s sound.fits in

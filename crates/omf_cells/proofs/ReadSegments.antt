@@ -1,12 +1,12 @@
 -- The segments of a load file, as far as they were read.
-use Rattle.std.proofs.Common.{◌≡◌, ℕ, ◌+◌, ◌*◌, ◌<◌, ◌≤◌, List, [], ◌∷◌, ◌++◌, length, map, All, refl, sym, subst, arith}
+use Rattle.std.proofs.Common.{◌≡◌, ℕ, ◌+◌, ◌*◌, ◌<◌, ◌≤◌, List, [], ◌∷◌, ◌++◌, length, map, All, None, refl, sym, subst, arith}
 use Rattle.std.specs.List.{AllByRecursion}
 use Rattle.std.proofs.lemmas.List.{map-append, length-append, length-map}
 use Rattle.std.proofs.lemmas.List.Elements.{All-push}
 use Rattle.load_meaning.specs.declared.load.LoadFault.{LoadFault}
 use Rattle.omf_format.specs.File.{Segment, AreSegments}
 use Rattle.omf_format.specs.laws.FileLaws.{LiesIn, header_lies, AreSegments-append, segments_fit}
-use Rattle.load_meaning.specs.Loadable.{HasReadFault, IsLoadSegment, IsFirstLoadFault, OfReading}
+use Rattle.load_meaning.specs.Loadable.{HasReadFault, IsLoadSegment, later_fault, IsLoadable, IsFirstLoadFault, OfReading}
 use Rattle.omf_records.specs.declared.segment.SegmentView.{SegmentView}
 use Rattle.omf_records.specs.Segments.{placed, shown}
 use Rattle.omf_cells.specs.Load.{IsRefused, IsReadRefused, IsLoadView}
@@ -40,6 +40,17 @@ read_more file views v start number read at more is =
       each = All-push (IsLoadView file) views v read.each is;
       count = omega (arith, length-append views (v ∷ []), read.count);
       within = omega (arith, lies.within, at);
+    }
+
+-- all segments up to the file's end are a load file, where no later phase finds a fault
+pub read_loadable : (file : List ℕ) (views : List SegmentView) (start number : ℕ) → Read file views start number → length file ≤ start → (length file ≡ 0 → ⊥) → later_fault (map shown views) ≡ None → IsLoadable file (map shown views)
+read_loadable file views start number read past some none =
+    let end : start ≡ length file = omega (arith, read.within, past) in
+    record {
+      is_file = subst (λ (n : ℕ). AreSegments (map shown views) 0 file n) end read.are;
+      some = λ e. some (let none' : 0 ≡ start = subst (λ (l : List Segment). AreSegments l 0 file start) e read.are in omega (arith, none', end));
+      pass = read.pass;
+      sound = none;
     }
 
 -- a segment that is refused behind the others has the file's first fault

@@ -179,12 +179,12 @@ covers_or_not k s = elim (cases_Bool (leb s.at k && ltb k (end_of s))) [
   | inr no_is ↦ inr (λ is. both_ways (leb s.at k && ltb k (end_of s)) no_is (rw (le-leb s.at k is.0, lt-ltb k (end_of s) is.1) refl))
 ]
 
-spot_here : (s : Spot) (k : ℕ) → Covers k s → last_at (spread_spot s) k ≡ Some (cell_in s k)
+pub spot_here : (s : Spot) (k : ℕ) → Covers k s → last_at (spread_spot s) k ≡ Some (cell_in s k)
 spot_here s k is =
     last_at-spread (spot_patch s) (s.end - s.first) s.at s.first k
     ∙ rw (le-leb s.at k is.0, lt-ltb k (end_of s) is.1) (get-parts (spot_patch s) s.first (s.end - s.first) (k - s.at) (omega (arith, is.0, is.1)))
 
-spot_else : (s : Spot) (k : ℕ) → (Covers k s → ⊥) → last_at (spread_spot s) k ≡ None
+pub spot_else : (s : Spot) (k : ℕ) → (Covers k s → ⊥) → last_at (spread_spot s) k ≡ None
 spot_else s k not = last_at-spread (spot_patch s) (s.end - s.first) s.at s.first k ∙ elsewhere (cases_Bool (leb s.at k && ltb k (end_of s)))
   where
     elsewhere : (leb s.at k && ltb k (end_of s) ≡ true) ⊎ (leb s.at k && ltb k (end_of s) ≡ false)

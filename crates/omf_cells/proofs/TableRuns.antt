@@ -47,15 +47,15 @@ or_false false = refl
 segment_same : (s t : Segment) → Some s ≡ Some t → s ≡ t
 segment_same s t e = cc
 
--- one segment more that may be a table
-pub any_more : (segments : List Segment) (i : ℕ) (s : Segment) → slice_get segments i ≡ Some s → list_any is_table (take (i + 1) segments) ≡ (list_any is_table (take i segments) || is_table s)
-any_more [] i s e = absurd cc
-any_more (t ∷ segments) zero s e = or_false (is_table t) ∙ ap is_table (segment_same t s e)
-any_more (t ∷ segments) (suc i) s e =
+-- one segment more that may be one of these
+pub any_more : (test : Segment → Bool) (segments : List Segment) (i : ℕ) (s : Segment) → slice_get segments i ≡ Some s → list_any test (take (i + 1) segments) ≡ (list_any test (take i segments) || test s)
+any_more test [] i s e = absurd cc
+any_more test (t ∷ segments) zero s e = or_false (test t) ∙ ap test (segment_same t s e)
+any_more test (t ∷ segments) (suc i) s e =
     let step : suc i + 1 ≡ suc (i + 1) = omega arith in
-    ap (λ (n : ℕ). list_any is_table (take n (t ∷ segments))) step
-    ∙ ap (λ (b : Bool). is_table t || b) (any_more segments i s e)
-    ∙ sym (or_assoc (is_table t) (list_any is_table (take i segments)) (is_table s))
+    ap (λ (n : ℕ). list_any test (take n (t ∷ segments))) step
+    ∙ ap (λ (b : Bool). test t || b) (any_more test segments i s e)
+    ∙ sym (or_assoc (test t) (list_any test (take i segments)) (test s))
 
 -- ---- flaws
 

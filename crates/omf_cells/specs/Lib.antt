@@ -3,6 +3,10 @@ pub mod Walk
 pub mod Places
 pub mod Content
 pub mod Load
+pub mod Paths
 pub mod Laws
 pub mod WrittenParts
 pub mod Joined
+pub mod Whole
+pub mod Ends
+pub mod SpacedLaws

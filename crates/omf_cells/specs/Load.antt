@@ -4,17 +4,23 @@ use Rattle.std.specs.Option.{option_map_or}
 use Rattle.omf_format.specs.declared.fault.HeaderFault.{HeaderFault}
 use Rattle.omf_format.specs.declared.fault.HeaderFault.TheVariants as header
 use Rattle.load_meaning.specs.declared.load.LoadCause.{LoadCause}
-use Rattle.load_meaning.specs.declared.load.LoadCause.TheVariants.{Truncated, Unsupported, Memory}
+use Rattle.load_meaning.specs.declared.load.LoadCause.TheVariants.{Memory}
 use Rattle.load_meaning.specs.declared.load.LoadFault.{LoadFault}
 use Rattle.omf_format.specs.Header.{Fields}
 use Rattle.omf_format.specs.File.{Segment, IsHeader, IsSegment, segment_at, told_header}
 use Rattle.load_meaning.specs.Cells.{Byte, patches_of, cells}
 use Rattle.load_meaning.specs.Loadable.{segment_refusal, as_load, in_segment, HasReadFault, IsLoadSegment, IsSoundSegment, IsLoadable, IsFirstLoadFault}
+use Rattle.load_meaning.specs.Exports.{exports_of}
+use Rattle.load_meaning.specs.Pathnames.{paths_of}
 use Rattle.load_meaning.specs.LoadTable.{table_of, targets_of}
+use Rattle.load_meaning.specs.Runtime.{IsFirstRuntimeFault}
+use Rattle.std.specs.Borrow.{Bor}
 use Rattle.load_meaning.specs.declared.table.Target.{Target}
 use Rattle.omf_records.specs.declared.segment.SegmentView.{SegmentView}
 use Rattle.omf_records.specs.Segments.{shown}
 use Rattle.omf_cells.specs.declared.targets.Content.{Content}
+use Rattle.omf_cells.specs.declared.exports.Export.{Export}
+use Rattle.omf_cells.specs.View.{seen_export}
 use Rattle.omf_cells.specs.Content.{IsContent, AreContents}
 
 -- a fault of want of memory has no place, and every other one is this
@@ -25,6 +31,10 @@ UnlessMemory _ _ P = P
 -- the fault is the first one of the file, unless memory ran out
 abbrev pub IsRefused : LoadFault → List ℕ → Type 0
 IsRefused fault file = UnlessMemory fault.cause fault (IsFirstLoadFault file fault)
+
+-- the fault is the first one of the file as a run-time library file, unless memory ran out
+abbrev pub IsRuntimeRefused : LoadFault → List ℕ → Type 0
+IsRuntimeRefused fault file = UnlessMemory fault.cause fault (IsFirstRuntimeFault file fault)
 
 -- the fault is the one that phase 1 finds in the segment with this number that starts there, unless memory ran out
 abbrev pub IsReadRefused : LoadFault → ℕ → ℕ → List ℕ → Type 0
@@ -66,6 +76,17 @@ pub record AreLoadViews (views : List SegmentView) (contents : List Content) : T
   pub each : All (IsLoadView file) views
   pub loadable : IsLoadable file (map shown views)
   pub contents' : AreContents views contents
+
+-- paths without where they lie
+abbrev pub seen_paths : List (Bor (List ℕ)) → List (List ℕ)
+seen_paths paths = map (λ path. path.now) paths
+
+-- what a load file keeps: views of its segments and what is in them, fewer than 2 ^ 32 names that it exports, and its paths
+pub record IsKept (views : List SegmentView) (contents : List Content) (exports : List Export) (paths : List (Bor (List ℕ))) : Type 0 where
+  pub views' : AreLoadViews views contents
+  pub exports' : map seen_export exports ≡ exports_of (map shown views)
+  pub few : length exports < 2 ^ 32
+  pub paths' : seen_paths paths ≡ paths_of (map shown views)
 
 -- ---- what the calls of a load file tell
 

@@ -54,11 +54,10 @@ fn refusal(header: &Header) -> Option<LoadCause>
     if is_express(header.name.bytes()) {
         return Some(LoadCause::Unsupported);
     }
-    match header.kind.form() {
-        0x04 => Some(LoadCause::Unsupported),
-        0x08 => Some(LoadCause::NotLoadFile),
-        _ => None,
+    if header.kind.form() == 0x08 {
+        return Some(LoadCause::NotLoadFile);
     }
+    None
 }
 
 /// A name of segments for the Express Loader.

@@ -1,46 +1,61 @@
 //! A load file, as it was read.
 
-ghost use Rattle.std.specs.Prelude.{◌≡◌, ◌↔◌, length, slice_get, IsTrue, MatchOption, option_map};
+ghost use Rattle.std.specs.Prelude.{◌≡◌, ◌↔◌, ◌++◌, length, take, map, slice_get, IsTrue, IfOk, IfSome, OnOk, MatchOption, option_map};
 ghost use Rattle.load_meaning.specs.Cells.{cell_at};
+ghost use Rattle.load_meaning.specs.Exports.{exports_of};
+ghost use Rattle.load_meaning.specs.Pathnames.{paths_of, pathnames_of};
 ghost use Rattle.load_meaning.specs.LoadTable.{table_of};
+ghost use Rattle.load_meaning.specs.Runtime.{runtime_fault};
 ghost use Rattle.omf_header.specs.View.{fields};
-ghost use Rattle.omf_cells.specs.View.{view};
+ghost use Rattle.omf_cells.specs.View.{view, seen_export};
 ghost use Rattle.omf_cells.specs.Load.{IsOutside, HasFields, HasLength, HasPatches, HasBytes, table_targets, Shows, ShowsContent};
 ghost use Rattle.omf_cells.specs.Places.{Stands};
+ghost use Rattle.omf_cells.specs.Whole.{front_at, data_at, HasData, HasWhole};
+ghost use Rattle.omf_cells.specs.WrittenParts.{seen};
 
 use crate::body::write_body;
 use crate::cell::Cell;
+use crate::ends::{end_from, last_end};
+use crate::exports::Export;
+use crate::filled::{lone_piece, put_bytes};
+use crate::kinds::check_kinds;
 use crate::patches::gives_patches;
+use crate::pathnames::pathnames_of;
 use crate::pieces::byte_at;
 use crate::places::Places;
 use crate::spots::{spot_at, write_spots};
 use crate::table::{table_of, target_from};
 use crate::targets::Content;
+use crate::whole::{are_spaced, in_places, whole_patches};
+use crate::written::Patch;
 use jump_table::entry_count;
-use load_meaning::Target;
+use load_meaning::{LoadCause, LoadFault, Target};
 use omf_header::Header;
 use omf_records::SegmentView;
+use std::alloc::{AllocError, Global};
 use std::marker::Model;
 
 /// A load file. Contracts see the list of its segments. Beside the headers it keeps where the data of each segment stands
-/// in the file, and the bytes that patches give.
+/// in the file, and the bytes that patches give; and what the file exports, and its paths.
 #[derive(Drop)]
 pub struct LoadFile<'a> {
     pub(crate) views: Vec<SegmentView<'a>>,
     pub(crate) contents: Vec<Content<'a>>,
+    pub(crate) exports: Vec<Export<'a>>,
+    pub(crate) paths: Vec<&'a [u8]>,
 }
 
 impl<'a> Model for LoadFile<'a> {
     ghost use Rattle.std.specs.Prelude.{List, map};
     ghost use Rattle.omf_format.specs.File.{Segment};
     ghost use Rattle.omf_records.specs.Segments.{shown};
-    ghost use Rattle.omf_cells.specs.Load.{AreLoadViews};
+    ghost use Rattle.omf_cells.specs.Load.{IsKept};
 
     ghost Value = { List Segment };
 
     ghost view = { λ load. map shown load.views.items };
 
-    ghost invariant = { λ load. AreLoadViews load.views.items load.contents.items };
+    ghost invariant = { λ load. IsKept load.views.items load.contents.items load.exports.items load.paths.items };
 }
 
 impl<'a> LoadFile<'a> {
@@ -149,6 +164,56 @@ impl<'a> LoadFile<'a> {
         Some(target_from(view, &content.pieces, place))
     }
 
+    /// The number of the file's pathname segment, if it has one.
+    pub fn pathnames(&self) -> Option<u32>
+        ensures { result ≡ pathnames_of self.now }
+    {
+        pathnames_of(&self.views)
+    }
+
+    /// How many rows the pathname segment has; 0 where there is none.
+    pub fn paths(&self) -> u32
+        ensures { result ≡ length (paths_of self.now) }
+    {
+        self.paths.len() as u32
+    }
+
+    /// The path of the row at a place, from 0: that of the file with the number `place` + 2.
+    pub fn path(&self, place: u32) -> Option<&'a [u8]>
+        ensures { option_map (λ path. path.now) result ≡ slice_get (paths_of self.now) place }
+    {
+        match self.paths.get(place as usize) {
+            Some(path) => Some(*path),
+            None => None,
+        }
+    }
+
+    /// How many names the file exports.
+    pub fn exports(&self) -> u32
+        ensures { result ≡ length (exports_of self.now) }
+    {
+        self.exports.len() as u32
+    }
+
+    /// The name at a place among those that the file exports, from 0, in segment and record order.
+    pub fn export(&self, place: u32) -> Option<Export<'a>>
+        ensures { option_map seen_export result ≡ slice_get (exports_of self.now) place }
+    {
+        match self.exports.get(place as usize) {
+            Some(export) => Some(*export),
+            None => None,
+        }
+    }
+
+    /// The first segment that may not stand in a run-time library file.
+    #[tactic(auto, unfolding(load_meaning::specs::Runtime::runtime_fault))]
+    pub(crate) fn kind_fault(&self) -> Option<LoadFault>
+        ensures value { result ≡ runtime_fault self.now }
+        ensures named { IfSome result (λ fault. fault.cause ≡ LoadCause.Memory → ⊥) }
+    {
+        check_kinds(&self.views)
+    }
+
     /// Whether there is a segment with this number, from 1, that has patches. No memory is taken.
     pub fn has_patches(&self, segment: u32) -> bool
         ensures { IsTrue result ↔ HasPatches self.now segment }
@@ -168,6 +233,60 @@ impl<'a> LoadFile<'a> {
         match self.segment(segment) {
             Some(view) => write_body(view.records(), out),
             None => unreachable!(),
+        }
+    }
+
+    /// How many cells the segment with this number, from 1, has up to the last one that isn't a byte 0. No memory is taken.
+    pub fn front(&self, segment: u32) -> u32
+        ensures { result ≡ front_at self.now segment }
+    {
+        let (_, content) = match self.content(segment) {
+            Some(found) => found,
+            None => return 0,
+        };
+        end_from(&content.pieces, last_end(&content.spots)) as u32
+    }
+
+    /// Appends the first bytes of the data of the segment with this number, from 1: so many, or all where there are fewer. These
+    /// are the bytes of its records and zeros behind them up to LENGTH. Where memory runs out, part of them may be appended.
+    pub fn put_data(&self, segment: u32, size: u32, out: &mut Vec<u8>) -> Result<(), AllocError>
+        ensures { OnOk result (out.new.items ≡ out.old.items ++ take size (data_at self.now segment)) }
+    {
+        let (view, content) = match self.content(segment) {
+            Some(found) => found,
+            None => return Ok(()),
+        };
+        put_bytes(&content.pieces, size.min(view.header.length), out)
+    }
+
+    /// The data of the segment with this number, from 1, without zeros at their end, where they stand in the file one behind
+    /// another.
+    pub fn data(&self, segment: u32) -> Option<&'a [u8]>
+        ensures { IfSome result (λ bytes. HasData self.now segment bytes.now) }
+    {
+        match self.content(segment) {
+            Some(found) => lone_piece(&found.1.pieces),
+            None => None,
+        }
+    }
+
+    /// The patches of the segment with this number, from 1, in the order of their offsets, where no two share a byte. Over the data they
+    /// give the segment's cells.
+    pub fn patches(&self, alloc: Global, segment: u32) -> Result<Option<Vec<Patch>>, AllocError>
+        ensures { IfOk result (λ found. IfSome found (λ patches. HasWhole self.now segment (map seen patches.items))) }
+    {
+        let (view, content) = match self.content(segment) {
+            Some(found) => found,
+            None => return Ok(None),
+        };
+        let patches = match whole_patches(alloc, &content.spots)? {
+            Some(patches) => in_places(patches)?,
+            None => return Ok(None),
+        };
+        if are_spaced(&patches, view.header.length) {
+            Ok(Some(patches))
+        } else {
+            Ok(None)
         }
     }
 }

@@ -1,13 +1,17 @@
 //! Reading a load file: each segment in order, header, name and type before its records, and then the segments together.
 
-ghost use Rattle.std.specs.Prelude.{◌≡◌, ◌<◌, ◌^◌, length, map, IfOk, IfErr, None};
+ghost use Rattle.std.specs.Prelude.{◌≡◌, ◌<◌, ◌^◌, length, map, IfOk, IfErr, OnOk, None};
+ghost use Rattle.load_meaning.specs.Pathnames.{paths_of};
 ghost use Rattle.load_meaning.specs.Loadable.{IsLoadable, later_fault};
+ghost use Rattle.load_meaning.specs.Runtime.{IsRuntime};
 ghost use Rattle.omf_records.specs.Segments.{shown};
-ghost use Rattle.omf_cells.specs.Load.{IsLoadView, AreShown, IsReadRefused, IsLaterRefused, IsRefused};
+ghost use Rattle.omf_cells.specs.Load.{IsLoadView, AreShown, IsReadRefused, IsLaterRefused, IsRefused, IsRuntimeRefused, seen_paths};
 ghost use Rattle.omf_cells.specs.Content.{AreContents};
 
+use crate::exports::add_exports;
 use crate::front::front_at;
 use crate::load::LoadFile;
+use crate::pathnames::check_pathnames;
 use crate::records::check_records;
 use crate::shape::check_shapes;
 use crate::table::check_tables;
@@ -44,14 +48,17 @@ fn segment_from(
     }
 }
 
-/// What is kept of each segment, or the first fault of the phases after phase 1, each of which goes over all segments.
+/// What is kept of each segment and the file's paths, or the first fault of the phases after phase 1, each of which goes over all
+/// segments.
 #[tactic(auto, unfolding(load_meaning::specs::Loadable::later_fault))]
 fn check_later<'a>(
     alloc: Global,
     views: &Vec<SegmentView<'a>>,
-) -> Result<Vec<Content<'a>>, LoadFault>
+) -> Result<(Vec<Content<'a>>, Vec<&'a [u8]>), LoadFault>
     requires { AreShown views.now.items }
-    ensures ok { IfOk result (λ contents. (later_fault (map shown views.now.items) ≡ None) × AreContents views.now.items contents.items) }
+    ensures sound { OnOk result (later_fault (map shown views.now.items) ≡ None) }
+    ensures contents { IfOk result (λ kept. AreContents views.now.items kept.0.items) }
+    ensures paths { IfOk result (λ kept. seen_paths kept.1.items ≡ paths_of (map shown views.now.items)) }
     ensures refused { IfErr result (λ fault. IsLaterRefused fault (later_fault (map shown views.now.items))) }
 {
     match check_shapes(views) {
@@ -62,9 +69,13 @@ fn check_later<'a>(
         Ok(contents) => contents,
         Err(fault) => return Err(fault),
     };
-    match check_tables(views, &contents) {
+    let paths = match check_pathnames(alloc, views) {
+        Ok(paths) => paths,
+        Err(fault) => return Err(fault),
+    };
+    match check_tables(views, &contents, paths.len() as u32) {
         Some(fault) => Err(fault),
-        None => Ok(contents),
+        None => Ok((contents, paths)),
     }
 }
 
@@ -82,6 +93,7 @@ pub fn read_load<'a>(alloc: Global, file: &'a [u8]) -> Result<LoadFile<'a>, Load
         });
     }
     let mut views = Vec::new(alloc);
+    let mut exports = Vec::new(alloc);
     let mut start = 0;
     let mut number = 1;
     'segments: while start < file.len() {
@@ -89,12 +101,35 @@ pub fn read_load<'a>(alloc: Global, file: &'a [u8]) -> Result<LoadFile<'a>, Load
             Ok(view) => view,
             Err(fault) => return Err(fault),
         };
+        add_exports(view.records(), view.header.seg_num, &mut exports)?;
         start += view.header.byte_count as usize;
         number += 1;
         views.push(view)?;
     }
     match check_later(alloc, &views) {
-        Ok(contents) => Ok(LoadFile { views, contents }),
+        Ok((contents, paths)) => Ok(LoadFile {
+            views,
+            contents,
+            exports,
+            paths,
+        }),
         Err(fault) => Err(fault),
+    }
+}
+
+/// The load file, as a run-time library file: all segments are dynamic, and none is skipped. It is refused exactly where it has a
+/// first fault as that, or memory runs out.
+pub fn read_runtime<'a>(alloc: Global, file: &'a [u8]) -> Result<LoadFile<'a>, LoadFault>
+    requires { length file.now < 2 ^ 32 }
+    ensures ok { IfOk result (λ load. IsRuntime file.now load) }
+    ensures refused { IfErr result (λ fault. IsRuntimeRefused fault file.now) }
+{
+    let load = match read_load(alloc, file) {
+        Ok(load) => load,
+        Err(fault) => return Err(fault),
+    };
+    match load.kind_fault() {
+        Some(fault) => Err(fault),
+        None => Ok(load),
     }
 }

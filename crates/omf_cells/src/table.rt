@@ -1,10 +1,11 @@
 //! Jump tables: whether a segment is laid out as one, and where its entries lead.
 
-ghost use Rattle.std.specs.Prelude.{◌≡◌, ◌+◌, ◌-◌, ◌<◌, ◌≤◌, ◌^◌, length, map, take, slice_get, option_map, IfSome, IsSomeAnd};
+ghost use Rattle.std.specs.Prelude.{◌≡◌, ◌+◌, ◌-◌, ◌<◌, ◌≤◌, ◌^◌, length, map, take, slice_get, option_map, nat_le, ◌&&◌, IfSome, IsSomeAnd};
 ghost use Rattle.std.specs.List.{list_any};
 ghost use Rattle.omf_format.specs.Header.{first_of};
 ghost use Rattle.load_meaning.specs.Cells.{segment_bytes};
 ghost use Rattle.load_meaning.specs.Table.{entry_start};
+ghost use Rattle.load_meaning.specs.Pathnames.{paths_of};
 ghost use Rattle.load_meaning.specs.LoadTable.{is_table, table_of, is_called, is_call, target_at, zero_checks, entry_checks, entries_checks, table_checks};
 ghost use Rattle.load_meaning.specs.Loadable.{table_flaw, table_fault, in_segment, first_in};
 ghost use Rattle.omf_records.specs.Segments.{shown};
@@ -109,13 +110,24 @@ fn is_call(view: &SegmentView, pieces: &[Piece], at: u32) -> bool
         && data_u8(view, pieces, at + 3) == 0xE1
 }
 
+/// Whether an entry can lead to a file with this number: 1 is the file itself, and each path has one more.
+fn is_file_number(paths: u32, file: u16) -> bool
+    requires { paths + 1 < 2 ^ 32 }
+    ensures { result ≡ (nat_le 1 file && nat_le file (paths + 1)) }
+{
+    file >= 1 && u32::from(file) <= paths + 1
+}
+
 /// Where the first field begins that is wrong in the entry there.
 fn entry_flaw(
     views: &Vec<SegmentView>,
+    paths: u32,
     view: &SegmentView,
     pieces: &[Piece],
     at: u32,
 ) -> Option<u32>
+    requires paths { paths ≡ length (paths_of (map shown views.now.items)) }
+    requires few { paths + 1 < 2 ^ 32 }
     requires pieces { HasPieces view.now pieces.now }
     requires inside { at + 14 ≤ view.now.header.length }
     ensures { result ≡ first_of (entry_checks (map shown views.now.items) (segment_bytes (shown view.now)) at) }
@@ -123,14 +135,16 @@ fn entry_flaw(
     if data_u16(view, pieces, at) != 0 {
         return Some(at);
     }
-    if data_u16(view, pieces, at + 2) != 1 {
+    let file = data_u16(view, pieces, at + 2);
+    if !is_file_number(paths, file) {
         return Some(at + 2);
     }
+    let own = file == 1;
     let segment = data_u16(view, pieces, at + 4);
-    if !is_called(views, segment) {
+    if own && !is_called(views, segment) {
         return Some(at + 4);
     }
-    if !is_place(views, segment, data_u32(view, pieces, at + 6)) {
+    if own && !is_place(views, segment, data_u32(view, pieces, at + 6)) {
         return Some(at + 6);
     }
     if !is_call(view, pieces, at + 10) {
@@ -142,17 +156,20 @@ fn entry_flaw(
 /// Where the first field begins that is wrong in so many entries.
 fn entries_flaw(
     views: &Vec<SegmentView>,
+    paths: u32,
     view: &SegmentView,
     pieces: &[Piece],
     count: u32,
 ) -> Option<u32>
+    requires paths { paths ≡ length (paths_of (map shown views.now.items)) }
+    requires few { paths + 1 < 2 ^ 32 }
     requires pieces { HasPieces view.now pieces.now }
     requires inside { entry_start count ≤ view.now.header.length }
     ensures { result ≡ first_of (entries_checks (map shown views.now.items) (segment_bytes (shown view.now)) 0 count) }
 {
     let mut place = 0;
     'entries: while place < count {
-        match entry_flaw(views, view, pieces, FRONT + ENTRY * place) {
+        match entry_flaw(views, paths, view, pieces, FRONT + ENTRY * place) {
             Some(at) => return Some(at),
             None => {}
         }
@@ -164,10 +181,13 @@ fn entries_flaw(
 /// Where the first field begins that is wrong in a table of so many entries.
 fn layout_flaw(
     views: &Vec<SegmentView>,
+    paths: u32,
     view: &SegmentView,
     pieces: &[Piece],
     count: u32,
 ) -> Option<u32>
+    requires paths { paths ≡ length (paths_of (map shown views.now.items)) }
+    requires few { paths + 1 < 2 ^ 32 }
     requires pieces { HasPieces view.now pieces.now }
     requires inside { entry_start count + 4 ≡ view.now.header.length }
     ensures { result ≡ first_of (table_checks (map shown views.now.items) (segment_bytes (shown view.now)) count) }
@@ -176,7 +196,7 @@ fn layout_flaw(
         Some(at) => return Some(at),
         None => {}
     }
-    match entries_flaw(views, view, pieces, count) {
+    match entries_flaw(views, paths, view, pieces, count) {
         Some(at) => return Some(at),
         None => {}
     }
@@ -187,11 +207,14 @@ fn layout_flaw(
 #[tactic(auto, unfolding(load_meaning::specs::Loadable::table_flaw))]
 fn table_flaw(
     views: &Vec<SegmentView>,
+    paths: u32,
     view: &SegmentView,
     pieces: &[Piece],
     number: u32,
     second: bool,
 ) -> Option<u32>
+    requires paths { paths ≡ length (paths_of (map shown views.now.items)) }
+    requires few { paths + 1 < 2 ^ 32 }
     requires short { length view.now.file.now < 2 ^ 32 }
     requires shown { IsLoadView view.now.file.now view.now }
     requires pieces { HasPieces view.now pieces.now }
@@ -209,17 +232,20 @@ fn table_flaw(
     if u64::from(size) != 12 + 14 * u64::from(count) {
         return Some(size);
     }
-    layout_flaw(views, view, pieces, count)
+    layout_flaw(views, paths, view, pieces, count)
 }
 
 /// What is wrong with the segment that has this number, if it is a table.
 fn fault_of(
     views: &Vec<SegmentView>,
+    paths: u32,
     view: &SegmentView,
     pieces: &[Piece],
     number: u32,
     second: bool,
 ) -> Option<LoadFault>
+    requires paths { paths ≡ length (paths_of (map shown views.now.items)) }
+    requires few { paths + 1 < 2 ^ 32 }
     requires short { length view.now.file.now < 2 ^ 32 }
     requires shown { IsLoadView view.now.file.now view.now }
     requires pieces { HasPieces view.now pieces.now }
@@ -230,7 +256,7 @@ fn fault_of(
     if !is_table(view) {
         return None;
     }
-    match table_flaw(views, view, pieces, number, second) {
+    match table_flaw(views, paths, view, pieces, number, second) {
         Some(at) => Some(LoadFault {
             cause: LoadCause::BadTable,
             segment: number,
@@ -248,9 +274,15 @@ fn pieces_at<'c, 'a>(contents: &'c Vec<Content<'a>>, place: usize) -> &'c [Piece
     contents[place].pieces.as_slice()
 }
 
-/// The first fault of phase 4, segment by segment.
-pub fn check_tables(views: &Vec<SegmentView>, contents: &Vec<Content>) -> Option<LoadFault>
+/// The first fault of phase 5, segment by segment, of a file with so many paths.
+pub fn check_tables(
+    views: &Vec<SegmentView>,
+    contents: &Vec<Content>,
+    paths: u32,
+) -> Option<LoadFault>
     requires shown { AreShown views.now.items }
+    requires paths { paths ≡ length (paths_of (map shown views.now.items)) }
+    requires few { paths + 1 < 2 ^ 32 }
     requires contents { AreContents views.now.items contents.now.items }
     ensures value { result ≡ first_in (table_fault (map shown views.now.items)) 1 (map shown views.now.items) }
     ensures named { IfSome result (λ fault. fault.cause ≡ LoadCause.Memory → ⊥) }
@@ -259,7 +291,7 @@ pub fn check_tables(views: &Vec<SegmentView>, contents: &Vec<Content>) -> Option
     let mut second = false;
     'views: for view in views {
         let pieces = pieces_at(contents, number as usize - 1);
-        match fault_of(views, view, pieces, number, second) {
+        match fault_of(views, paths, view, pieces, number, second) {
             Some(fault) => return Some(fault),
             None => {}
         }

@@ -1,14 +1,18 @@
 -- A file that the linker wrote begins, or lacks what lies outside it.
-use Rattle.std.proofs.Common.{◌≡◌, inl, inr, ℕ, Bool, true, false, cond, ◌≤◌, ◌+◌, List, [], ◌∷◌, ◌++◌, length, map, Option, Some, None, nat_lt, Result, Ok, Err, refl, sym, subst, ◌∙◌}
+use Rattle.std.proofs.Common.{◌≡◌, inl, inr, ℕ, Bool, true, false, cond, ◌≤◌, ◌+◌, List, [], ◌∷◌, ◌++◌, length, map, Option, Some, None, nat_lt, Result, Ok, Err, refl, sym, ap, subst, ◌∙◌, arith}
 use Rattle.std.specs.List.{AllByRecursion}
 use Rattle.std.specs.FinMap.{get}
 use Rattle.std.proofs.lemmas.Option.{same_Some}
 use Rattle.omf_format.specs.Number.{IsBytes}
 use Rattle.omf_io.specs.Files.{FileMap, max_file}
+use Rattle.link_meaning.specs.LinkFaults.{HasBytes, plain}
 use Rattle.link_meaning.specs.EmitFaults.{IsLinkedTo}
-use Rattle.link_meaning.specs.LinkLoadable.{NamesNoSkipped, HasNoLoadFault, IsReadWhole}
+use Rattle.link_meaning.specs.LinkLoadable.{NamesNoSkipped, IsLoadedWhereNoneSkipped, HasNoPathnames, HasNoLoadFault, IsReadWhole}
 use Rattle.iigs_meaning.specs.Puts.{Purges}
-use Rattle.load_meaning.specs.Loadable.{IsFirstLoadFault}
+use Rattle.load_meaning.specs.declared.load.LoadFault.{LoadFault}
+use Rattle.load_meaning.specs.Pathnames.{pathnames_of}
+use Rattle.load_meaning.specs.laws.LoadableLaws.{loadable_same}
+use Rattle.loader_machine.specs.Taken.{IsFirstRefusal, OfLoading, OfPathnames}
 use Rattle.loader_machine.specs.declared.faults.LoaderFault.{LoaderFault}
 use Rattle.loader_machine.specs.declared.faults.LoaderFault.TheVariants as fault
 use Rattle.loader_machine.specs.declared.seen.Head.{Head}
@@ -36,10 +40,22 @@ full made why e = go (nat_lt made max_users) e
     go true e' = absurd cc
     go false e' = subst LiesOutside (same_Some fault.TooManyUsers why e') tt
 
-module _ (files : List (List ℕ)) (output : List ℕ) (bytes : AllByRecursion IsBytes files) (is : IsLinkedTo files output) (none : NamesNoSkipped is.list is.table) (no_fault : HasNoLoadFault)
-    (short : IsReadWhole) (held : FileMap) (path : List ℕ) (here : get held path ≡ Some output) (state : Machine) (result : Result answers.Started LoaderFault) (new : Loaded) where
+module _ (files : List (List ℕ)) (output : List ℕ) (bytes : AllByRecursion IsBytes files) (is : IsLinkedTo (plain files) output) (none : NamesNoSkipped is.list is.table) (loads : IsLoadedWhereNoneSkipped)
+    (pathless : HasNoPathnames) (no_fault : HasNoLoadFault) (short : IsReadWhole) (held : FileMap) (path : List ℕ) (here : get held path ≡ Some output) (state : Machine) (result : Result answers.Started LoaderFault) (new : Loaded) where
   within : length output ≤ max_file
-  within = short files output is
+  within = short (plain files) output is
+
+  has_bytes : HasBytes (plain files)
+  has_bytes = (bytes, tt, tt, omega arith)
+
+  not_refused : (why : LoadFault) → IsFirstRefusal output why → ⊥
+  not_refused why (OfLoading first) = no_fault (plain files) output has_bytes is none why first
+  not_refused why (OfPathnames segments number is_loadable some told) =
+      let read = loads (plain files) output has_bytes is none in
+      let same : segments ≡ read.0 = loadable_same output segments read.0 is_loadable read.1 in
+      let other : pathnames_of read.0 ≡ None = pathless (plain files) output has_bytes is refl read.0 read.2 in
+      let both : Some number ≡ None = sym some ∙ ap pathnames_of same ∙ other in
+      absurd cc
 
   lands : (put : Put) (next : Machine) (id : ℕ) (heads : List Head) (users : User → List (Option User))
       → Lands state path id heads users put (load_reply result) next → BeginsOrLacks result
@@ -55,7 +71,7 @@ module _ (files : List (List ℕ)) (output : List ℕ) (bytes : AllByRecursion I
   found Unread next is_found at = absurd (is_found output (here, within))
   found (Bad why) next is_found at =
       let same : is_found.file ≡ output = same_Some is_found.file output (sym is_found.is_held.0 ∙ here) in
-      absurd (no_fault files output bytes is none why (subst (λ (l : List ℕ). IsFirstLoadFault l why) same is_found.first))
+      absurd (not_refused why (subst (λ (l : List ℕ). IsFirstRefusal l why) same is_found.first))
   found (Good segments) next is_found at = lands at.put next (first_id + length state.users) (map head_of segments) (λ (user : User). state.users ++ Some user ∷ []) at.lands
 
   steps : (r : Refuse) (next : Machine) → load_refusal (length state.users) ≡ r

@@ -1,24 +1,35 @@
 -- What the inputs and numbers of a form are, on which `link`, `lib` and `stress` rest.
-use Rattle.std.proofs.Common.{◌≡◌, ◌≤◌, ℕ, List, [], ◌∷◌, length, Option, Some, None, refl, sym, subst, arith}
-use Rattle.std.specs.Prelude.{◌&&◌, Bool, true, false, cond, codes, String, string_bytes, IsTrue, nat_le}
+use Rattle.std.proofs.Common.{◌≡◌, ◌-◌, ◌≤◌, ℕ, zero, suc, List, [], ◌∷◌, length, drop, Option, Some, None, refl, sym, subst, arith}
+use Rattle.std.specs.Prelude.{◌&&◌, Bool, true, false, cond, codes, String, string_bytes, IsTrue, nat_le, nat_lt}
+use Rattle.std.specs.List.{list_all}
 use Rattle.std.specs.Option.{option_map, option_and_then}
 use Rattle.std.specs.Str.{bytes_eq}
 use Rattle.std.specs.declared.alloc.Global.{Global}
-use Rattle.std.proofs.lemmas.Bool.{and_parts, leb-true}
-use Rattle.std.proofs.lemmas.List.{length-map}
-use Rattle.omf_cli.specs.Form.{Form, Asm, Link, Dump, Run, Lib, Stress, form_of, with_output, source_and_output, inputs_only, count_and_seed}
-use Rattle.omf_cli.specs.Words.{is_path, are_paths, words_of, number_in, number_between}
+use Rattle.std.specs.Cmp.Derive.{both_true}
+use Rattle.std.proofs.lemmas.Bool.{and_parts, leb-true, le-leb, ltb-true}
+use Rattle.std.proofs.lemmas.List.{length-map, length-drop}
+use Rattle.omf_cli.specs.Form.{Form, Asm, Link, Dump, Run, Lib, Stress, Rtl, LinkRt, Listing, Compact, form_of, with_output, source_and_output, inputs_only, count_and_seed, last_inputs, output_and_runtimes, input_and_output}
+use Rattle.omf_cli.specs.Words.{is_path, are_paths, are_printing, words_of, number_in, number_between, short_number_between}
 use Rattle.omf_cli.proofs.Libraries.{few_paths}
 
--- the inputs of `link` and `lib` are 1 to 255 paths, and the count of `stress` is 1 to 64
+-- run-time library files have 1 to 16 paths that a pathname segment can hold
+abbrev pub AreRuntimes : List (List ℕ) → Type 0
+AreRuntimes runtimes = IsTrue (are_paths 1 16 runtimes) × IsTrue (are_printing runtimes)
+
+-- `dump`, `list` and `compact` have one input, the inputs of `link`, `rtl` and `lib` are 1 to 255 paths, those of `linkrt` 2 to 255, of which the last are run-time library files, and the
+-- count of `stress` is 1 to 64
 abbrev HasPaths : Option Form → Type 0
 HasPaths None = Unit {0}
 HasPaths (Some (Asm source output macros)) = Unit {0}
 HasPaths (Some (Link output inputs)) = IsTrue (are_paths 1 255 inputs)
-HasPaths (Some (Dump inputs)) = Unit {0}
+HasPaths (Some (Dump inputs)) = length inputs ≡ 1
 HasPaths (Some (Run inputs)) = Unit {0}
 HasPaths (Some (Lib output inputs)) = IsTrue (are_paths 1 255 inputs)
 HasPaths (Some (Stress n seed)) = (1 ≤ n) × (n ≤ 64)
+HasPaths (Some (Rtl output inputs)) = IsTrue (are_paths 1 255 inputs)
+HasPaths (Some (LinkRt output inputs runtimes)) = IsTrue (are_paths 2 255 inputs) × AreRuntimes runtimes
+HasPaths (Some (Listing output inputs)) = length inputs ≡ 1
+HasPaths (Some (Compact output inputs)) = length inputs ≡ 1
 
 abbrev ArePaths : Option (List ℕ × List (List ℕ)) → Type 0
 ArePaths None = Unit {0}
@@ -48,13 +59,28 @@ of_lib : (found : Option (List ℕ × List (List ℕ))) → ArePaths found → H
 of_lib None are = tt
 of_lib (Some w) are = are
 
-of_dump : (found : Option (List (List ℕ))) → HasPaths (option_map Dump found)
-of_dump None = tt
-of_dump (Some inputs) = tt
+of_rtl : (found : Option (List ℕ × List (List ℕ))) → ArePaths found → HasPaths (option_map (λ (w : List ℕ × List (List ℕ)). Rtl w.0 w.1) found)
+of_rtl None are = tt
+of_rtl (Some w) are = are
+
+of_dump : (words : List (List ℕ)) → HasPaths (option_map Dump (inputs_only 1 1 words))
+of_dump words = by_test (are_paths 1 1 words) refl
+  where
+    by_test : (b : Bool) → are_paths 1 1 words ≡ b → HasPaths (option_map Dump (cond b (Some words) None))
+    by_test false is = tt
+    by_test true is =
+        let counts = (and_parts (nat_le 1 (length words) && nat_le (length words) 1) (list_all is_path words) is).0 in
+        let both = and_parts (nat_le 1 (length words)) (nat_le (length words) 1) counts in
+        omega (arith, leb-true 1 (length words) both.0, leb-true (length words) 1 both.1)
 
 of_run : (found : Option (List (List ℕ))) → HasPaths (option_map Run found)
 of_run None = tt
 of_run (Some inputs) = tt
+
+-- so they are of the last inputs
+abbrev HasLast : Option (List (List ℕ)) → Type 0
+HasLast None = Unit {0}
+HasLast (Some last) = AreRuntimes last
 
 -- a number that lies between these
 abbrev AreBetween : ℕ → ℕ → Option ℕ → Type 0
@@ -83,15 +109,89 @@ of_stress (count ∷ seed ∷ []) = go (number_between 1 64 count) (number_betwe
     go (Some n) (Some seed) are = are
 of_stress (count ∷ seed ∷ other ∷ words) = tt
 
+short_between : (least most : ℕ) (word : List ℕ) → AreBetween least most (short_number_between least most word)
+short_between least most word = go (nat_le (length word) 2)
+  where
+    go : (b : Bool) → AreBetween least most (cond b (number_between least most word) None)
+    go true = between least most word
+    go false = tt
+
+-- of paths, the last ones are paths too
+last_are : (at : ℕ) (words : List (List ℕ)) → list_all is_path words ≡ true → list_all is_path (drop at words) ≡ true
+last_are zero words all = all
+last_are (suc at) [] all = all
+last_are (suc at) (w ∷ words) all = last_are at words (and_parts (is_path w) (list_all is_path words) all).1
+
+last_runtimes : (n : ℕ) (inputs : List (List ℕ)) → 1 ≤ n → n ≤ 16 → IsTrue (are_paths 2 255 inputs) → HasLast (last_inputs n inputs)
+last_runtimes n inputs some few are = by_test (nat_lt n (length inputs) && are_printing (drop (length inputs - n) inputs)) refl
+  where
+    last : List (List ℕ)
+    last = drop (length inputs - n) inputs
+
+    by_test : (b : Bool) → (nat_lt n (length inputs) && are_printing last) ≡ b → HasLast (cond b (Some last) None)
+    by_test false is = tt
+    by_test true is =
+        let both = and_parts (nat_lt n (length inputs)) (are_printing last) is in
+        let paths = (and_parts (nat_le 2 (length inputs) && nat_le (length inputs) 255) (list_all is_path inputs) are).1 in
+        let size : length last ≡ n = omega (arith, length-drop (length inputs - n) inputs, ltb-true n (length inputs) both.0) in
+        (both_true (both_true (le-leb 1 (length last) (omega (arith, size, some))) (le-leb (length last) 16 (omega (arith, size, few)))) (last_are (length inputs - n) inputs paths), both.1)
+
+of_linkrt : (words : List (List ℕ)) → HasPaths (option_map (λ (w : List ℕ × List (List ℕ) × List (List ℕ)). LinkRt w.0 w.1 w.2) (output_and_runtimes words))
+of_linkrt [] = tt
+of_linkrt (output ∷ []) = tt
+of_linkrt (output ∷ count ∷ inputs) = go (short_number_between 1 16 count) (short_between 1 16 count)
+  where
+    in_form : (last : Option (List (List ℕ))) → IsTrue (are_paths 2 255 inputs) → HasLast last
+        → HasPaths (option_map (λ (w : List ℕ × List (List ℕ) × List (List ℕ)). LinkRt w.0 w.1 w.2) (option_map (λ (l : List (List ℕ)). (output, inputs, l)) last))
+    in_form None are has = tt
+    in_form (Some last) are has = (are, has)
+
+    by_test : (n : ℕ) (b : Bool) → AreBetween 1 16 (Some n) → (is_path output && are_paths 2 255 inputs) ≡ b
+        → HasPaths (option_map (λ (w : List ℕ × List (List ℕ) × List (List ℕ)). LinkRt w.0 w.1 w.2) (cond b (option_map (λ (l : List (List ℕ)). (output, inputs, l)) (last_inputs n inputs)) None))
+    by_test n false has is = tt
+    by_test n true has is =
+        let are = (and_parts (is_path output) (are_paths 2 255 inputs) is).1 in
+        in_form (last_inputs n inputs) are (last_runtimes n inputs has.0 has.1 are)
+
+    go : (found : Option ℕ) → AreBetween 1 16 found
+        → HasPaths (option_map (λ (w : List ℕ × List (List ℕ) × List (List ℕ)). LinkRt w.0 w.1 w.2)
+        (option_and_then (λ (n : ℕ). cond (is_path output && are_paths 2 255 inputs) (option_map (λ (l : List (List ℕ)). (output, inputs, l)) (last_inputs n inputs)) None) found))
+    go None are = tt
+    go (Some n) are = by_test n (is_path output && are_paths 2 255 inputs) are refl
+
+of_listing : (words : List (List ℕ)) → HasPaths (option_map (λ (w : List ℕ × List (List ℕ)). Listing w.0 w.1) (input_and_output words))
+of_listing [] = tt
+of_listing (input ∷ []) = tt
+of_listing (input ∷ output ∷ []) = by_test (is_path input && is_path output)
+  where
+    by_test : (b : Bool) → HasPaths (option_map (λ (w : List ℕ × List (List ℕ)). Listing w.0 w.1) (cond b (Some (output, input ∷ [])) None))
+    by_test true = refl
+    by_test false = tt
+of_listing (input ∷ output ∷ other ∷ words) = tt
+
+of_compact : (words : List (List ℕ)) → HasPaths (option_map (λ (w : List ℕ × List (List ℕ)). Compact w.0 w.1) (input_and_output words))
+of_compact [] = tt
+of_compact (input ∷ []) = tt
+of_compact (input ∷ output ∷ []) = by_test (is_path input && is_path output)
+  where
+    by_test : (b : Bool) → HasPaths (option_map (λ (w : List ℕ × List (List ℕ)). Compact w.0 w.1) (cond b (Some (output, input ∷ [])) None))
+    by_test true = refl
+    by_test false = tt
+of_compact (input ∷ output ∷ other ∷ words) = tt
+
 paths_in : (words : List (List ℕ)) → HasPaths (form_of words)
 paths_in [] = tt
 paths_in (name ∷ words) =
     either (bytes_eq name (codes "asm")) _ _ (of_asm (source_and_output words))
     (either (bytes_eq name (codes "link")) _ _ (of_link (with_output 1 255 words) (paths_behind words))
-    (either (bytes_eq name (codes "dump")) _ _ (of_dump (inputs_only 1 1 words))
+    (either (bytes_eq name (codes "dump")) _ _ (of_dump words)
     (either (bytes_eq name (codes "run")) _ _ (of_run (inputs_only 1 1 words))
     (either (bytes_eq name (codes "lib")) _ _ (of_lib (with_output 1 255 words) (paths_behind words))
-    (either (bytes_eq name (codes "stress")) _ _ (of_stress words) tt)))))
+    (either (bytes_eq name (codes "stress")) _ _ (of_stress words)
+    (either (bytes_eq name (codes "rtl")) _ _ (of_rtl (with_output 1 255 words) (paths_behind words))
+    (either (bytes_eq name (codes "linkrt")) _ _ (of_linkrt words)
+    (either (bytes_eq name (codes "list")) _ _ (of_listing words)
+    (either (bytes_eq name (codes "compact")) _ _ (of_compact words) tt)))))))))
 
 -- `lib` has 1 to 255 paths
 pub lib_paths : (words : List (List ℕ)) (output : List ℕ) (inputs : List (List ℕ)) → Some (Lib output inputs) ≡ form_of words → IsTrue (are_paths 1 255 inputs)
@@ -106,3 +206,34 @@ link_few words output inputs is =
 -- `stress` has a count of 1 to 64
 pub stress_few : (words : List (List ℕ)) (n seed : ℕ) → Some (Stress n seed) ≡ form_of words → (1 ≤ n) × (n ≤ 64)
 stress_few words n seed is = subst HasPaths (sym is) (paths_in words)
+
+-- `rtl` has 255 inputs at most
+pub rtl_few : (words : List (List ℕ)) (output : List ℕ) (inputs : List (String Global)) → Some (Rtl output (words_of inputs)) ≡ form_of words → length inputs ≤ 255
+rtl_few words output inputs is =
+    let are : IsTrue (are_paths 1 255 (words_of inputs)) = subst HasPaths (sym is) (paths_in words) in
+    omega (arith, few_paths (words_of inputs) are, length-map inputs string_bytes)
+
+-- `linkrt` has 255 inputs at most, and 1 to 16 run-time library files with paths that a pathname segment can hold
+pub linkrt_few : (words : List (List ℕ)) (output : List ℕ) (inputs : List (String Global)) (runtimes : List (List ℕ)) → Some (LinkRt output (words_of inputs) runtimes) ≡ form_of words
+    → (length inputs ≤ 255) × AreRuntimes runtimes
+linkrt_few words output inputs runtimes is =
+    let are : IsTrue (are_paths 2 255 (words_of inputs)) × AreRuntimes runtimes = subst HasPaths (sym is) (paths_in words) in
+    let counts = (and_parts (nat_le 2 (length (words_of inputs)) && nat_le (length (words_of inputs)) 255) (list_all is_path (words_of inputs)) are.0).0 in
+    let few = leb-true (length (words_of inputs)) 255 (and_parts (nat_le 2 (length (words_of inputs))) (nat_le (length (words_of inputs)) 255) counts).1 in
+    (omega (arith, few, length-map inputs string_bytes), are.1)
+
+-- `dump`, `list` and `compact` have one input
+pub dump_few : (words : List (List ℕ)) (inputs : List (String Global)) → Some (Dump (words_of inputs)) ≡ form_of words → length inputs ≤ 255
+dump_few words inputs is =
+    let one : length (words_of inputs) ≡ 1 = subst HasPaths (sym is) (paths_in words) in
+    omega (arith, one, length-map inputs string_bytes)
+
+pub list_few : (words : List (List ℕ)) (output : List ℕ) (inputs : List (String Global)) → Some (Listing output (words_of inputs)) ≡ form_of words → length inputs ≤ 255
+list_few words output inputs is =
+    let one : length (words_of inputs) ≡ 1 = subst HasPaths (sym is) (paths_in words) in
+    omega (arith, one, length-map inputs string_bytes)
+
+pub compact_few : (words : List (List ℕ)) (output : List ℕ) (inputs : List (String Global)) → Some (Compact output (words_of inputs)) ≡ form_of words → length inputs ≤ 255
+compact_few words output inputs is =
+    let one : length (words_of inputs) ≡ 1 = subst HasPaths (sym is) (paths_in words) in
+    omega (arith, one, length-map inputs string_bytes)

@@ -4,6 +4,7 @@ pub mod Completes
 pub mod Once
 pub mod Libraries
 pub mod Linking
+mod Passing
 pub mod Sources
 mod Forms
 pub mod Begins

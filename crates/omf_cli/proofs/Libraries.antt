@@ -34,9 +34,9 @@ word_at (w ∷ words) zero d lt = refl
 word_at (w ∷ words) (suc i) d lt = word_at words i d (omega arith)
 
 -- each path is short
-pub short_path : (words : List (String Global)) (i : ℕ) (path : String Global) → IsTrue (are_paths 1 255 (words_of words)) → i < length words → path ≡ get_or words i path → length (string_bytes path) ≤ 255
-short_path words i path is lt same =
-    let all = (and_parts (nat_le 1 (length (words_of words)) && nat_le (length (words_of words)) 255) (list_all is_path (words_of words)) is).1 in
+pub short_path : (least most : ℕ) (words : List (String Global)) (i : ℕ) (path : String Global) → IsTrue (are_paths least most (words_of words)) → i < length words → path ≡ get_or words i path → length (string_bytes path) ≤ 255
+short_path least most words i path is lt same =
+    let all = (and_parts (nat_le least (length (words_of words)) && nat_le (length (words_of words)) most) (list_all is_path (words_of words)) is).1 in
     let small = all_short (words_of words) i all (omega (arith, length-map words string_bytes)) in
     omega (arith, small, ap length (word_at words i path lt), ap (λ (s : String Global). length (string_bytes s)) same)
 
@@ -53,7 +53,8 @@ pub record Gathered (paths : List (String Global)) (files : List (Vec ℕ Global
   pub whole : given_of (words_of paths) (all_bytes files) ≡ map given_file members ++ given_of (drop i (words_of paths)) (drop i (all_bytes files))
   pub short : All (λ m. length m.bytes.items < 2 ^ 32) members
 
-drop_word : (paths : List (String Global)) (i : ℕ) (path : String Global) → i < length paths → path ≡ get_or paths i path → drop i (words_of paths) ≡ string_bytes path ∷ drop (i + 1) (words_of paths)
+-- the words from one on begin with it
+pub drop_word : (paths : List (String Global)) (i : ℕ) (path : String Global) → i < length paths → path ≡ get_or paths i path → drop i (words_of paths) ≡ string_bytes path ∷ drop (i + 1) (words_of paths)
 drop_word [] i path lt is = absurd (omega arith)
 drop_word (p ∷ paths) zero path lt is = ap (λ (s : String Global). string_bytes s ∷ words_of paths) (sym is)
 drop_word (p ∷ paths) (suc i) path lt is = let step : suc i + 1 ≡ suc (i + 1) = omega arith in drop_word paths i path (omega arith) is ∙ ap (λ (n : ℕ). string_bytes path ∷ drop n (words_of (p ∷ paths))) (sym step)

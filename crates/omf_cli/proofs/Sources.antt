@@ -9,7 +9,7 @@ use Rattle.std.specs.declared.alloc.Global.{Global}
 use Rattle.std.proofs.lemmas.List.{length-map}
 use Rattle.asm_meaning.specs.declared.faults.AsmFault.{AsmFault}
 use Rattle.asm_meaning.specs.Object.{IsAsmFault, OutOfMemory, First}
-use Rattle.omf_cli.specs.Form.{Form, Asm, Link, Dump, Run, Lib, Stress, form_of, with_output, source_and_output, inputs_only, count_and_seed}
+use Rattle.omf_cli.specs.Form.{Form, Asm, Link, Dump, Run, Lib, Stress, Rtl, LinkRt, Listing, Compact, form_of, with_output, source_and_output, inputs_only, count_and_seed, output_and_runtimes, input_and_output}
 use Rattle.omf_cli.specs.Words.{is_path, are_paths, words_of}
 use Rattle.omf_cli.specs.declared.making.Making.{Making}
 use Rattle.omf_cli.specs.Made.{Made, Bytes, Refusal, made_of, first_of}
@@ -27,6 +27,10 @@ macros_of (Some (Dump inputs)) = []
 macros_of (Some (Run inputs)) = []
 macros_of (Some (Lib output inputs)) = []
 macros_of (Some (Stress count seed)) = []
+macros_of (Some (Rtl output inputs)) = []
+macros_of (Some (LinkRt output inputs runtimes)) = []
+macros_of (Some (Listing output inputs)) = []
+macros_of (Some (Compact output inputs)) = []
 
 abbrev HasFew : Option Form → Type 0
 HasFew form = length (macros_of form) ≤ 254
@@ -79,6 +83,22 @@ few_stress : (found : Option (ℕ × ℕ)) → HasFew (option_map (λ (w : ℕ �
 few_stress None = omega arith
 few_stress (Some w) = omega arith
 
+few_rtl : (found : Option (List ℕ × List (List ℕ))) → HasFew (option_map (λ (w : List ℕ × List (List ℕ)). Rtl w.0 w.1) found)
+few_rtl None = omega arith
+few_rtl (Some w) = omega arith
+
+few_linkrt : (found : Option (List ℕ × List (List ℕ) × List (List ℕ))) → HasFew (option_map (λ (w : List ℕ × List (List ℕ) × List (List ℕ)). LinkRt w.0 w.1 w.2) found)
+few_linkrt None = omega arith
+few_linkrt (Some w) = omega arith
+
+few_compact : (found : Option (List ℕ × List (List ℕ))) → HasFew (option_map (λ (w : List ℕ × List (List ℕ)). Compact w.0 w.1) found)
+few_compact None = omega arith
+few_compact (Some w) = omega arith
+
+few_listing : (found : Option (List ℕ × List (List ℕ))) → HasFew (option_map (λ (w : List ℕ × List (List ℕ)). Listing w.0 w.1) found)
+few_listing None = omega arith
+few_listing (Some w) = omega arith
+
 few_in : (words : List (List ℕ)) → HasFew (form_of words)
 few_in [] = omega arith
 few_in (name ∷ words) =
@@ -87,7 +107,11 @@ few_in (name ∷ words) =
     (either (bytes_eq name (codes "dump")) _ _ (few_dump (inputs_only 1 1 words))
     (either (bytes_eq name (codes "run")) _ _ (few_run (inputs_only 1 1 words))
     (either (bytes_eq name (codes "lib")) _ _ (few_lib (with_output 1 255 words))
-    (either (bytes_eq name (codes "stress")) _ _ (few_stress (count_and_seed words)) (omega arith))))))
+    (either (bytes_eq name (codes "stress")) _ _ (few_stress (count_and_seed words))
+    (either (bytes_eq name (codes "rtl")) _ _ (few_rtl (with_output 1 255 words))
+    (either (bytes_eq name (codes "linkrt")) _ _ (few_linkrt (output_and_runtimes words))
+    (either (bytes_eq name (codes "list")) _ _ (few_listing (input_and_output words))
+    (either (bytes_eq name (codes "compact")) _ _ (few_compact (input_and_output words)) (omega arith))))))))))
 
 -- they are 254 at most
 pub few_macros : (words : List (List ℕ)) (source output : List ℕ) (macros : List (String Global)) → Some (Asm source output (words_of macros)) ≡ form_of words → length macros ≤ 254

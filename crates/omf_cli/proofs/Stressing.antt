@@ -1,5 +1,5 @@
 -- A run of the workload, and how it ends.
-use Rattle.std.proofs.Common.{◌≡◌, ◌≢◌, ◌⊎◌, inl, inr, ℕ, suc, ◌+◌, ◌^◌, ◌<◌, ◌≤◌, List, [], ◌∷◌, length, Option, None, Some, Result, Ok, Err, refl, sym, ap, subst, ◌∙◌, arith}
+use Rattle.std.proofs.Common.{◌≡◌, ◌≢◌, ◌⊎◌, inl, inr, ℕ, suc, ◌+◌, ◌^◌, ◌<◌, ◌≤◌, List, [], ◌∷◌, ◌++◌, length, Option, None, Some, Result, Ok, Err, refl, sym, ap, subst, ◌∙◌, arith}
 use Rattle.std.specs.Prelude.{IfOk}
 use Rattle.std.specs.FinMap.{empty, insert}
 use Rattle.std.proofs.lemmas.List.{length-append}
@@ -17,13 +17,13 @@ use Rattle.omf_format.specs.File.{Segment, IsFile, IsFirstFault}
 use Rattle.omf_format.specs.laws.FileLaws.{file_same, no_file}
 use Rattle.load_meaning.specs.declared.table.Target.{Target}
 use Rattle.load_meaning.specs.WrittenFile.{Image, AreReadAs}
-use Rattle.link_meaning.specs.Member.{Member}
+use Rattle.link_meaning.specs.Member.{RuntimeFile, Member, setting_in}
 use Rattle.link_meaning.specs.LinkValues.{Told}
 use Rattle.link_meaning.specs.Layout.{load_names}
 use Rattle.link_meaning.specs.LinkedCells.{table_number, targets}
-use Rattle.link_meaning.specs.LinkWritten.{load_images, table_images, images}
+use Rattle.link_meaning.specs.LinkWritten.{load_images, table_images, path_images, images}
 use Rattle.link_meaning.specs.laws.LinkWrittenLaws.{few_loads}
-use Rattle.link_meaning.specs.LinkFaults.{IsResolved}
+use Rattle.link_meaning.specs.LinkFaults.{Given, plain, IsResolved}
 use Rattle.link_meaning.specs.EmitFaults.{IsFirstLinkFault, IsLinkedTo}
 use Rattle.link_meaning.specs.laws.EmitFaultLaws.{linkable_stands_for}
 use Rattle.link_meaning.specs.laws.LinkLoadableLaws.{is_read_whole}
@@ -52,15 +52,23 @@ length-table : (number : ℕ) (targets : List Target) → length (table_images n
 length-table number [] = omega arith
 length-table number (target ∷ targets) = omega arith
 
-few_images : (files : List (List ℕ)) (list : List Member) (table : List Told) → IsResolved files list → length (images list table) ≤ 255
+length-paths : (number : ℕ) (runtimes : List RuntimeFile) → length (path_images number runtimes) ≤ 1
+length-paths number [] = omega arith
+length-paths number (r ∷ runtimes) = omega arith
+
+few_images : (given : Given) (list : List Member) (table : List Told) → IsResolved given list → length (images list table) ≤ 256
 unfolding images
-few_images files list table resolved =
+few_images given list table resolved =
+    let tables = table_images (table_number list) (targets list table) in
+    let paths = path_images (table_number list + length tables) (setting_in list).runtimes in
     omega (
       arith,
-      length-append (load_images list table 1 (load_names list)) (table_images (table_number list) (targets list table)),
+      length-append (load_images list table 1 (load_names list)) (tables ++ paths),
+      length-append tables paths,
       length-loads list table 1 (load_names list),
       length-table (table_number list) (targets list table),
-      few_loads files list resolved,
+      length-paths (table_number list + length tables) (setting_in list).runtimes,
+      few_loads given list resolved,
     )
 
 as_many : (all : List Image) (segments : List Segment) → AreReadAs all segments → length segments ≡ length all
@@ -69,27 +77,27 @@ as_many [] (s ∷ segments) are = absurd are
 as_many (image ∷ all) [] are = absurd are
 as_many (image ∷ all) (s ∷ segments) are = ap suc (as_many all segments are.1)
 
--- what the linker writes of one object is a file of 255 segments at most
-pub linked_segments : (object file : List ℕ) → IsBytes object → IsLinkedTo (object ∷ []) file → (segments : List Segment) × IsFile segments file × (length segments ≤ 255)
+-- what the linker writes of one object is a file of 256 segments at most
+pub linked_segments : (object file : List ℕ) → IsBytes object → IsLinkedTo (plain (object ∷ [])) file → (segments : List Segment) × IsFile segments file × (length segments ≤ 256)
 linked_segments object file fits is =
-    let found = linkable_stands_for (object ∷ []) is.list is.table (fits, tt) is.linkable in (
+    let found = linkable_stands_for (plain (object ∷ [])) is.list is.table ((fits, tt), tt, tt, omega arith) is.linkable in (
       found.0,
       subst (λ (text : List ℕ). IsFile found.0 text) (sym is.is_written) found.1,
-      omega (arith, as_many (images is.list is.table) found.0 found.2, few_images (object ∷ []) is.list is.table is.linkable.resolved),
+      omega (arith, as_many (images is.list is.table) found.0 found.2, few_images (plain (object ∷ [])) is.list is.table is.linkable.resolved),
     )
 
 -- which has few bytes
-pub short_file : (object file : List ℕ) → IsLinkedTo (object ∷ []) file → length file < 2 ^ 32
-short_file object file is = omega (arith, is_read_whole (object ∷ []) file is)
+pub short_file : (object file : List ℕ) → IsLinkedTo (plain (object ∷ [])) file → length file < 2 ^ 32
+short_file object file is = omega (arith, is_read_whole (plain (object ∷ [])) file is)
 
 -- so these are few
-pub few_segments : (object file : List ℕ) (segments : List Segment) → IsBytes object → IsLinkedTo (object ∷ []) file → IsFile segments file → length segments ≤ 255
+pub few_segments : (object file : List ℕ) (segments : List Segment) → IsBytes object → IsLinkedTo (plain (object ∷ [])) file → IsFile segments file → length segments ≤ 256
 few_segments object file segments fits is file_is =
     let found = linked_segments object file fits is in
     omega (arith, ap length (file_same segments found.0 file file_is found.1), found.2)
 
 -- and it has no fault
-pub no_fault : (object file : List ℕ) (fault : FileFault) → IsBytes object → IsLinkedTo (object ∷ []) file → IsRefused fault file → fault.cause ≢ file_causes.Memory → ⊥
+pub no_fault : (object file : List ℕ) (fault : FileFault) → IsBytes object → IsLinkedTo (plain (object ∷ [])) file → IsRefused fault file → fault.cause ≢ file_causes.Memory → ⊥
 no_fault object file fault fits is refused other = by_cause fault.cause refused other
   where
     first : IsFirstFault file fault → ⊥
@@ -165,10 +173,10 @@ pub few_object : (files : List (List ℕ)) → IsOfWorkload files → AreFew fil
 few_object files is = subst AreFew (sym is.parts) (omega arith, omega (arith, is.short))
 
 -- it has no fault
-pub no_link_fault : (files : List (List ℕ)) (fault : LinkFault) → IsOfWorkload files → IsLinkRefused files fault → fault.cause ≢ causes.Memory → ⊥
+pub no_link_fault : (files : List (List ℕ)) (fault : LinkFault) → IsOfWorkload files → IsLinkRefused (plain files) fault → fault.cause ≢ causes.Memory → ⊥
 no_link_fault files fault is (inl memory) other = other (ap (λ (f : LinkFault). f.cause) memory)
 no_link_fault files fault is (inr first) other =
-    workload_is_linked is.n is.seed fault is.some is.few is.bytes is.short (subst (λ (l : List (List ℕ)). IsFirstLinkFault l fault) is.parts first)
+    workload_is_linked is.n is.seed fault is.some is.few is.bytes is.short (subst (λ (l : List (List ℕ)). IsFirstLinkFault (plain l) fault) is.parts first)
 
 pub one_object : (object' : List ℕ) → IsBytes object' → length object' ≤ 16777216 → ((n : ℕ) × (seed : ℕ) × (1 ≤ n) × (n ≤ 64) × (object' ≡ object n seed)) → IsOfWorkload (object' ∷ [])
 one_object object' bytes short (n, seed, some, few, is) = record {
@@ -182,5 +190,5 @@ one_object object' bytes short (n, seed, some, few, is) = record {
 }
 
 -- a store with the load file alone
-pub one_stored : (object file : List ℕ) (files : FileMap) (count : ℕ) → IsLinkedTo (object ∷ []) file → HasSegments file count → files ≡ insert empty program file → IsStore object files count
+pub one_stored : (object file : List ℕ) (files : FileMap) (count : ℕ) → IsLinkedTo (plain (object ∷ [])) file → HasSegments file count → files ≡ insert empty program file → IsStore object files count
 one_stored object file files count is many only = record { file = file; linked = is; segments = many; only = only }

@@ -13,8 +13,12 @@ pub mod Link
 pub mod Dump
 pub mod LibCauses
 pub mod Library
+pub mod ListCauses
+pub mod Listings
 pub mod Script
 pub mod Stress
+pub mod CompactCauses
+pub mod Compact
 pub mod Tool
 pub mod Code
 pub mod Laws

@@ -5,7 +5,7 @@ use Rattle.omf_base.specs.Lines.{line}
 use Rattle.omf_listing.specs.Listing.{name_text}
 
 abbrev pub usage_line : List ℕ
-usage_line = line (codes "usage: omf asm, link, lib, dump, run or stress")
+usage_line = line (codes "usage: omf asm, link, lib, dump, run, stress, rtl, linkrt, list or compact")
 
 abbrev pub cannot_read_line : List ℕ → List ℕ
 cannot_read_line path = line (codes "cannot read " ++ path)

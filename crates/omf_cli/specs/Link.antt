@@ -1,7 +1,11 @@
--- `link`: the load file of the inputs, which are objects and libraries, or their first fault.
-use Rattle.std.specs.Prelude.{◌≡◌, ◌≢◌, ℕ, List}
+-- `link`, `rtl` and `linkrt`: the load file of the inputs, which are objects and libraries, in the form Program or Runtime, and with
+-- run-time library files; or their first fault.
+use Rattle.std.specs.Prelude.{◌≡◌, ◌≢◌, ℕ, ◌-◌, List, [], ◌∷◌, length, take, drop}
+use Rattle.link_meaning.specs.declared.form.LinkForm.{LinkForm}
+use Rattle.link_meaning.specs.declared.form.LinkForm.TheVariants.{Program}
 use Rattle.link_meaning.specs.declared.fault.LinkFault.{LinkFault}
 use Rattle.link_meaning.specs.declared.fault.LinkCause.TheVariants as causes
+use Rattle.link_meaning.specs.LinkFaults.{Given}
 use Rattle.link_meaning.specs.EmitFaults.{IsFirstLinkFault, IsLinkedTo}
 use Rattle.omf_cli.specs.LinkCauses.{link_cause_name}
 use Rattle.omf_cli.specs.Lines.{refused_line}
@@ -11,10 +15,26 @@ use Rattle.omf_cli.specs.Made.{Made, Bytes, Refusal}
 abbrev pub link_fault_line : LinkFault → List ℕ
 link_fault_line fault = refused_line (link_cause_name fault.cause) fault.name fault.spot.file fault.spot.segment fault.spot.at
 
--- the load file, or the line of the first fault of all phases
-abbrev pub LinkMakes : List (List ℕ) → Made → Type 0
-LinkMakes files (Bytes output) = IsLinkedTo files output
-LinkMakes files (Refusal text) = (fault : LinkFault) × IsFirstLinkFault files fault × (text ≡ link_fault_line fault)
+-- the load file of what is given, or the line of the first fault of all phases
+abbrev pub LinkMakes : Given → Made → Type 0
+LinkMakes given (Bytes output) = IsLinkedTo given output
+LinkMakes given (Refusal text) = (fault : LinkFault) × IsFirstLinkFault given fault × (text ≡ link_fault_line fault)
+
+-- all files are inputs, and are linked in this form
+abbrev pub given_alone : LinkForm → List (List ℕ) → Given
+given_alone form files = record { inputs = files; runtimes = []; form = form }
+
+-- the files, each with its path
+abbrev pub under_paths : List (List ℕ) → List (List ℕ) → List (List ℕ × List ℕ)
+under_paths (path ∷ paths) (file ∷ files) = (path, file) ∷ under_paths paths files
+under_paths [] files = []
+under_paths (path ∷ paths) [] = []
+
+-- a program of files, of which the last are run-time library files with these paths
+abbrev pub given_with : List (List ℕ) → List (List ℕ) → Given
+given_with paths files =
+    let inputs = length files - length paths in
+    record { inputs = take inputs files; runtimes = under_paths paths (drop inputs files); form = Program }
 
 -- the line of a fault that isn't want of memory
 abbrev pub TellsLinkFault : LinkFault → Made → Type 0

@@ -4,6 +4,7 @@ use Rattle.std.specs.List.{AllByRecursion}
 use Rattle.std.specs.FinMap.{get}
 use Rattle.omf_format.specs.Number.{IsBytes}
 use Rattle.omf_io.specs.Files.{FileMap}
+use Rattle.link_meaning.specs.LinkFaults.{plain}
 use Rattle.link_meaning.specs.EmitFaults.{IsLinkedTo}
 use Rattle.link_meaning.specs.LinkLoadable.{NamesNoSkipped}
 use Rattle.iigs_meaning.specs.Puts.{Purges}
@@ -29,9 +30,9 @@ abbrev pub BeginsOrLacks : Result Started LoaderFault → Type 0
 BeginsOrLacks (Ok started) = Unit {0}
 BeginsOrLacks (Err why) = LiesOutside why
 
--- Where a path holds a file that the linker wrote, and no part of it and no entry of its jump table names a skipped segment, a load
+-- Where a path holds a file that the linker wrote without run-time library files, and no part of it and no entry of its jump table names a skipped segment, a load
 -- of that path is answered by its program, or refused for a reason outside the file.
 abbrev pub LinkedFilesBegin : Type 0
-LinkedFilesBegin = (files : List (List ℕ)) (output : List ℕ) → AllByRecursion IsBytes files → (is : IsLinkedTo files output) → NamesNoSkipped is.list is.table
+LinkedFilesBegin = (files : List (List ℕ)) (output : List ℕ) → AllByRecursion IsBytes files → (is : IsLinkedTo (plain files) output) → NamesNoSkipped is.list is.table
     → (held : FileMap) (path : List ℕ) → get held path ≡ Some output
     → (state : Machine) (result : Result Started LoaderFault) (new : Loaded) (before now : ℕ) → Meets Purges held state (Load path) (load_reply result) new before now → BeginsOrLacks result

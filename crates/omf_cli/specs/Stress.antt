@@ -8,6 +8,7 @@ use Rattle.omf_format.specs.File.{Segment, IsFile}
 use Rattle.omf_io.specs.Files.{FileMap}
 use Rattle.omf_io.specs.Sinks.{SinkSeen, with_text, FailsToPrint}
 use Rattle.omf_io.specs.Outside.{Outside}
+use Rattle.link_meaning.specs.LinkFaults.{plain}
 use Rattle.link_meaning.specs.EmitFaults.{IsLinkedTo}
 use Rattle.loader_machine.specs.State.{Machine}
 use Rattle.loader_agrees.specs.Agrees.{Loaded, Agrees}
@@ -34,7 +35,7 @@ HasSegments file count = (segments : List Segment) × IsFile segments file × (c
 -- these files hold the object's load file alone, which has so many segments
 pub record IsStore (object : List ℕ) (files : FileMap) (count : ℕ) : Type 0 where
   pub file : List ℕ
-  pub linked : IsLinkedTo (object ∷ []) file
+  pub linked : IsLinkedTo (plain (object ∷ [])) file
   pub segments : HasSegments file count
   pub only : files ≡ insert empty program file
 

@@ -2,8 +2,8 @@
 
 ghost use Rattle.std.specs.Prelude.{◌≡◌, ◌<◌, ◌^◌};
 ghost use Rattle.std.specs.Option.{option_map};
-ghost use Rattle.omf_cli.specs.Words.{is_path, are_paths, words_of, number_in, number_between};
-ghost use Rattle.omf_cli.specs.Form.{with_output, source_and_output, inputs_only, count_and_seed, form_of, shown};
+ghost use Rattle.omf_cli.specs.Words.{is_path, are_paths, is_printing, are_printing, words_of, number_in, number_between, short_number_between};
+ghost use Rattle.omf_cli.specs.Form.{with_output, source_and_output, inputs_only, input_and_output, count_and_seed, last_inputs, output_and_runtimes, later_form, form_of, shown};
 
 /// A command with its paths.
 pub enum Form<'a> {
@@ -29,6 +29,25 @@ pub enum Form<'a> {
     Stress {
         count: u32,
         seed: u32,
+    },
+    Rtl {
+        output: &'a str,
+        inputs: &'a [String],
+    },
+    LinkRt {
+        output: &'a str,
+        /// All inputs, the run-time library files behind the others.
+        inputs: &'a [String],
+        /// The last of them.
+        runtimes: &'a [String],
+    },
+    Listing {
+        output: &'a str,
+        inputs: &'a [String],
+    },
+    Compact {
+        output: &'a str,
+        inputs: &'a [String],
     },
 }
 
@@ -131,12 +150,110 @@ fn count_and_seed(words: &[String]) -> Option<(u32, u32)>
     Some((count, seed))
 }
 
+/// The same for a word of no more than two digits.
+fn short_number_between(least: u64, most: u64, word: &str) -> Option<u32>
+    requires { most < 2 ^ 32 }
+    ensures { result ≡ short_number_between least most word.now }
+{
+    if word.len() <= 2 {
+        number_between(least, most, word)
+    } else {
+        None
+    }
+}
+
+/// A path that a pathname segment can hold: printing characters other than a space.
+fn is_printing(word: &str) -> bool
+    ensures { result ≡ is_printing word.now }
+{
+    word.as_bytes()
+        .iter()
+        .all(|byte| b'!' <= *byte && *byte <= b'~')
+}
+
+/// Whether a pathname segment can hold all paths.
+fn are_printing(words: &[String]) -> bool
+    ensures { result ≡ are_printing (words_of words.now) }
+{
+    words.iter().all(|word| is_printing(word.as_str()))
+}
+
+/// The last so many inputs, where there are more, and these have printing paths.
+fn last_inputs(count: usize, inputs: &[String]) -> Option<&[String]>
+    ensures { option_map (λ last. words_of last.now) result ≡ last_inputs count (words_of inputs.now) }
+{
+    if count >= inputs.len() {
+        return None;
+    }
+    let (_, last) = inputs.split_at(inputs.len() - count);
+    if are_printing(last) { Some(last) } else { None }
+}
+
+/// An output, how many of the inputs are run-time library files, and the inputs: all of them, and the last ones.
+fn output_and_runtimes(words: &[String]) -> Option<(&str, &[String], &[String])>
+    ensures { option_map (λ w. (w.0.now, words_of w.1.now, words_of w.2.now)) result ≡ output_and_runtimes (words_of words.now) }
+{
+    let (output, words) = words.split_first()?;
+    let (count, inputs) = words.split_first()?;
+    let count = short_number_between(1, 16, count.as_str())?;
+    let output = output.as_str();
+    if !is_path(output) || !are_paths(2, 255, inputs) {
+        return None;
+    }
+    let runtimes = last_inputs(count as usize, inputs)?;
+    Some((output, inputs, runtimes))
+}
+
+/// An input, and an output behind it.
+fn input_and_output(words: &[String]) -> Option<(&str, &[String])>
+    ensures { option_map (λ w. (w.0.now, words_of w.1.now)) result ≡ input_and_output (words_of words.now) }
+{
+    let (input, behind) = words.split_first()?;
+    let (output, behind) = behind.split_first()?;
+    let output = output.as_str();
+    if behind.is_empty() && is_path(input.as_str()) && is_path(output) {
+        Some((output, &words[..1]))
+    } else {
+        None
+    }
+}
+
+/// The form behind a name that was added later: run-time library files, the lister, and canonical load files.
+fn later_form<'a>(name: &str, words: &'a [String]) -> Option<Form<'a>>
+    ensures { option_map shown result ≡ later_form name.now (words_of words.now) }
+{
+    match name {
+        "rtl" => {
+            let (output, inputs) = with_output(1, 255, words)?;
+            Some(Form::Rtl { output, inputs })
+        }
+        "linkrt" => {
+            let (output, inputs, runtimes) = output_and_runtimes(words)?;
+            Some(Form::LinkRt {
+                output,
+                inputs,
+                runtimes,
+            })
+        }
+        "list" => {
+            let (output, inputs) = input_and_output(words)?;
+            Some(Form::Listing { output, inputs })
+        }
+        "compact" => {
+            let (output, inputs) = input_and_output(words)?;
+            Some(Form::Compact { output, inputs })
+        }
+        _ => None,
+    }
+}
+
 /// The form of the words, or None where they have none.
 pub fn read_form(words: &[String]) -> Option<Form<'_>>
     ensures { option_map shown result ≡ form_of (words_of words.now) }
 {
     let (name, words) = words.split_first()?;
-    match name.as_str() {
+    let name = name.as_str();
+    match name {
         "asm" => {
             let (source, output, macros) = source_and_output(words)?;
             Some(Form::Asm {
@@ -165,6 +282,6 @@ pub fn read_form(words: &[String]) -> Option<Form<'_>>
             let (count, seed) = count_and_seed(words)?;
             Some(Form::Stress { count, seed })
         }
-        _ => None,
+        _ => later_form(name, words),
     }
 }

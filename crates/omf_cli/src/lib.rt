@@ -2,11 +2,13 @@
 #![tactic(auto)]
 
 mod asm;
+mod compact;
 mod dump;
 mod form;
 mod laws;
 mod library;
 mod link;
+mod list;
 mod making;
 mod printing;
 mod reading;

@@ -1,18 +1,34 @@
-//! `link`: the load file of objects and libraries.
+//! `link`, `rtl` and `linkrt`: the load file of objects and libraries, and of run-time library files behind them.
 
-ghost use Rattle.std.specs.Prelude.{◌≡◌, ◌≤◌, length, IfOk};
+ghost use Rattle.std.specs.Prelude.{◌≡◌, ◌≤◌, ◌-◌, length, take, drop, IfOk, IsTrue};
 ghost use Rattle.omf_cli.specs.LinkCauses.{link_cause_name};
-ghost use Rattle.omf_cli.specs.Link.{link_fault_line, LinkMakes, TellsLinkFault};
+ghost use Rattle.link_resolve.specs.Resolved.{given_of, FewGiven, HavePaths};
+ghost use Rattle.link_resolve.specs.Runtimes.{files_of};
+ghost use Rattle.omf_cli.specs.Words.{are_printing, are_paths, words_of};
+ghost use Rattle.omf_cli.specs.Link.{link_fault_line, given_alone, given_with, under_paths, LinkMakes, TellsLinkFault};
 ghost use Rattle.omf_cli.specs.Made.{all_bytes, made_of, AreShort};
 
 use crate::making::{Maker, Making};
 use crate::printing::refused_line;
-use link_emit::link;
-use link_meaning::{LinkCause, LinkFault};
-use omf_base::{Line, LineFault};
+use lib_dict::Member;
+use link_emit::link_with;
+use link_meaning::{LinkCause, LinkFault, LinkForm};
+use omf_base::{Line, LineFault, Name};
 use std::alloc::{AllocError, Global};
 
-pub struct Link;
+/// All files are inputs, and are linked in this form.
+#[derive(Drop)]
+pub struct Link {
+    pub form: LinkForm,
+}
+
+/// A program of which the last files are run-time library files with these paths.
+#[derive(Drop)]
+pub struct LinkRt<'a> {
+    pub runtimes: &'a [String],
+    ghost paths: { IsTrue (are_paths 1 16 (words_of runtimes.now)) },
+    ghost printing: { IsTrue (are_printing (words_of runtimes.now)) },
+}
 
 /// The name of a cause, as it is printed.
 fn cause_name(cause: LinkCause) -> &'static str
@@ -26,12 +42,14 @@ fn cause_name(cause: LinkCause) -> &'static str
         LinkCause::AlignFault => "AlignFault",
         LinkCause::BadLength => "BadLength",
         LinkCause::BadLibrary => "BadLibrary",
+        LinkCause::BadRuntime => "BadRuntime",
         LinkCause::Empty => "Empty",
         LinkCause::Unresolved => "Unresolved",
         LinkCause::Duplicate => "Duplicate",
         LinkCause::OrgConflict => "OrgConflict",
         LinkCause::TooManySegments => "TooManySegments",
         LinkCause::SegmentTooLong => "SegmentTooLong",
+        LinkCause::NotDynamic => "NotDynamic",
         LinkCause::Circular => "Circular",
         LinkCause::DivideByZero => "DivideByZero",
         LinkCause::NotRelocatable => "NotRelocatable",
@@ -72,12 +90,14 @@ fn refusal(alloc: Global, fault: LinkFault) -> Result<Making, AllocError>
         | LinkCause::AlignFault
         | LinkCause::BadLength
         | LinkCause::BadLibrary
+        | LinkCause::BadRuntime
         | LinkCause::Empty
         | LinkCause::Unresolved
         | LinkCause::Duplicate
         | LinkCause::OrgConflict
         | LinkCause::TooManySegments
         | LinkCause::SegmentTooLong
+        | LinkCause::NotDynamic
         | LinkCause::Circular
         | LinkCause::DivideByZero
         | LinkCause::NotRelocatable
@@ -92,24 +112,105 @@ fn refusal(alloc: Global, fault: LinkFault) -> Result<Making, AllocError>
     }
 }
 
-/// The load file of the files, or the line that says why there is none.
-fn make_of(alloc: Global, files: &Vec<Vec<u8>>) -> Result<Making, AllocError>
-    requires short { AreShort (all_bytes files.now.items) }
-    requires few { length files.now.items ≤ 255 }
-    ensures { IfOk result (λ made. LinkMakes (all_bytes files.now.items) (made_of made)) }
+/// The load file of what is given, or the line that says why there is none.
+fn make_of(
+    alloc: Global,
+    inputs: &Vec<Vec<u8>>,
+    runtimes: &Vec<Member>,
+    form: LinkForm,
+) -> Result<Making, AllocError>
+    requires few { FewGiven (given_of inputs.now.items runtimes.now.items form) }
+    requires paths { HavePaths (given_of inputs.now.items runtimes.now.items form) }
+    ensures { IfOk result (λ made. LinkMakes (given_of inputs.now.items runtimes.now.items form) (made_of made)) }
 {
-    match link(alloc, files) {
+    match link_with(alloc, inputs, runtimes, form) {
         Ok(output) => Ok(Making::Bytes(output)),
         Err(fault) => refusal(alloc, fault),
     }
 }
 
-impl Maker for Link {
-    ghost use Rattle.omf_cli.specs.Link.{LinkMakes};
+/// A file under its path.
+fn under_path(alloc: Global, path: &str, bytes: Vec<u8>) -> Result<Member, AllocError>
+    requires { length path.now ≤ 255 }
+    ensures name { IfOk result (λ member. member.name ≡ path.now) }
+    ensures bytes { IfOk result (λ member. member.bytes.items ≡ bytes.items) }
+{
+    let name = Vec::from_slice(alloc, path.as_bytes())?;
+    Ok(Member {
+        name: Name::from_vec(name),
+        bytes,
+    })
+}
 
-    ghost makes = { λ _ files made. LinkMakes files made };
+/// The files under their paths.
+fn under_paths(
+    alloc: Global,
+    paths: &[String],
+    files: Vec<Vec<u8>>,
+) -> Result<Vec<Member>, AllocError>
+    requires { IsTrue (are_paths 1 16 (words_of paths.now)) }
+    ensures { IfOk result (λ members. files_of members.items ≡ under_paths (words_of paths.now) (all_bytes files.items)) }
+{
+    let mut members = Vec::new(alloc);
+    let mut files = files.into_iter();
+    'paths: for path in paths {
+        match files.next() {
+            Some(bytes) => members.push(under_path(alloc, path.as_str(), bytes)?)?,
+            None => return Ok(members),
+        }
+    }
+    Ok(members)
+}
+
+/// The files but the last so many, and these.
+fn parted(mut files: Vec<Vec<u8>>, count: usize) -> Result<(Vec<Vec<u8>>, Vec<Vec<u8>>), AllocError>
+    ensures front { IfOk result (λ parts. parts.0.items ≡ take (length files.items - count) files.items) }
+    ensures behind { IfOk result (λ parts. parts.1.items ≡ drop (length files.items - count) files.items) }
+{
+    let behind = files.split_off(files.len().saturating_sub(count))?;
+    Ok((files, behind))
+}
+
+/// The load file of all files.
+fn make_alone(alloc: Global, files: &Vec<Vec<u8>>, form: LinkForm) -> Result<Making, AllocError>
+    requires short { AreShort (all_bytes files.now.items) }
+    requires few { length files.now.items ≤ 255 }
+    ensures { IfOk result (λ made. LinkMakes (given_alone form (all_bytes files.now.items)) (made_of made)) }
+{
+    let runtimes = Vec::new(alloc);
+    make_of(alloc, files, &runtimes, form)
+}
+
+/// The program of files, of which the last are run-time library files with these paths.
+fn make_with(alloc: Global, files: Vec<Vec<u8>>, paths: &[String]) -> Result<Making, AllocError>
+    requires short { AreShort (all_bytes files.items) }
+    requires few { length files.items ≤ 255 }
+    requires paths { IsTrue (are_paths 1 16 (words_of paths.now)) }
+    requires printing { IsTrue (are_printing (words_of paths.now)) }
+    ensures { IfOk result (λ made. LinkMakes (given_with (words_of paths.now) (all_bytes files.items)) (made_of made)) }
+{
+    let (inputs, behind) = parted(files, paths.len())?;
+    let runtimes = under_paths(alloc, paths, behind)?;
+    make_of(alloc, &inputs, &runtimes, LinkForm::Program)
+}
+
+impl Maker for Link {
+    ghost use Rattle.omf_cli.specs.Link.{LinkMakes, given_alone};
+
+    ghost makes = { λ link files made. LinkMakes (given_alone link.form files) made };
 
     fn make(&self, alloc: Global, files: Vec<Vec<u8>>) -> Result<Making, AllocError> {
-        make_of(alloc, &files)
+        make_alone(alloc, &files, self.form)
+    }
+}
+
+impl Maker for LinkRt<'_> {
+    ghost use Rattle.omf_cli.specs.Words.{words_of};
+    ghost use Rattle.omf_cli.specs.Link.{LinkMakes, given_with};
+
+    ghost makes = { λ link files made. LinkMakes (given_with (words_of link.runtimes.now) files) made };
+
+    fn make(&self, alloc: Global, files: Vec<Vec<u8>>) -> Result<Making, AllocError> {
+        make_with(alloc, files, self.runtimes)
     }
 }

@@ -20,7 +20,7 @@ pub fn usage_line(alloc: Global) -> Result<Line, LineFault>
     ensures { IfOk result (λ text. text ≡ usage_line) }
 {
     let mut line = Line::new(alloc);
-    line.text("usage: omf asm, link, lib, dump, run or stress")?;
+    line.text("usage: omf asm, link, lib, dump, run, stress, rtl, linkrt, list or compact")?;
     line.text("\n")?;
     Ok(line)
 }

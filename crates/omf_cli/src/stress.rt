@@ -3,6 +3,7 @@
 ghost use Rattle.std.specs.Prelude.{◌≡◌, ◌⊎◌, ◌≤◌, ◌<◌, ◌-◌, ◌^◌, ◌∷◌, [], ℕ, length, None, IfOk};
 ghost use Rattle.omf_format.specs.Number.{IsBytes};
 ghost use Rattle.omf_io.specs.Counts.{Rose};
+ghost use Rattle.link_meaning.specs.LinkFaults.{plain};
 ghost use Rattle.link_meaning.specs.EmitFaults.{IsLinkedTo};
 ghost use Rattle.link_resolve.specs.Resolved.{all_bytes};
 ghost use Rattle.workload_meaning.specs.Object as workload;
@@ -28,7 +29,7 @@ fn know_bytes(object: &[u8])
 #[tactic(auto, using(crate::proofs::Stressing::few_object))]
 fn linked(alloc: Global, inputs: &Vec<Vec<u8>>) -> Result<Vec<u8>, AllocError>
     requires { IsOfWorkload (all_bytes inputs.now.items) }
-    ensures { IfOk result (λ file. IsLinkedTo (all_bytes inputs.now.items) file.items) }
+    ensures { IfOk result (λ file. IsLinkedTo (plain (all_bytes inputs.now.items)) file.items) }
 {
     match link(alloc, inputs) {
         Ok(output) => Ok(output),
@@ -41,9 +42,9 @@ fn linked(alloc: Global, inputs: &Vec<Vec<u8>>) -> Result<Vec<u8>, AllocError>
 
 /// How many segments the load file of an object has.
 fn count_of(alloc: Global, object: &[u8], file: &[u8]) -> Result<u16, AllocError>
-    requires { IsLinkedTo (object.now ∷ []) file.now }
+    requires { IsLinkedTo (plain (object.now ∷ [])) file.now }
     ensures count { IfOk result (λ count. HasSegments file.now count) }
-    ensures few { IfOk result (λ count. count ≤ 255) }
+    ensures few { IfOk result (λ count. count ≤ 256) }
 {
     know_bytes(object);
     match segments(alloc, file) {
@@ -80,7 +81,7 @@ fn store_of(alloc: Global, object: Vec<u8>) -> Result<(ReliableFiles, u16), Allo
     requires short { length object.items ≤ 16777216 }
     requires made { (n : ℕ) × (seed : ℕ) × (1 ≤ n) × (n ≤ 64) × (object.items ≡ workload.object n seed) }
     ensures store { IfOk result (λ held. IsStore object.items held.0.files held.1) }
-    ensures few { IfOk result (λ held. held.1 ≤ 255) }
+    ensures few { IfOk result (λ held. held.1 ≤ 256) }
 {
     know_bytes(&object);
     let mut inputs = Vec::new(alloc);

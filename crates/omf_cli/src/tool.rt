@@ -9,15 +9,18 @@ ghost use Rattle.omf_cli.specs.Making.{MakesRun, CanMake};
 ghost use Rattle.omf_cli.specs.Tool.{HasRun, CanSucceed};
 
 use crate::asm::{Asm, inputs_of};
+use crate::compact::Compact;
 use crate::dump::Dump;
 use crate::form::{Form, read_form};
 use crate::library::Lib;
-use crate::link::Link;
+use crate::link::{Link, LinkRt};
+use crate::list::Listing;
 use crate::making::run_maker;
 use crate::printing::{print, usage_line};
 use crate::script::run_file;
 use crate::status::Status;
 use crate::stress::run_stress;
+use link_meaning::LinkForm;
 use omf_io::{Files, Sink};
 use std::alloc::Global;
 use sys_loader::Loader;
@@ -54,7 +57,10 @@ fn run_asm<F: Files, S: Sink>(
 /// for each segment of a file, and one for each of its records. `run SCRIPT` runs a script of loader commands, which is read
 /// whole before, and prints a line for each. `lib OUT OBJ..` makes a library of 1 to 255 object files, whose paths are their
 /// names in it; all are read in order before anything is written. `stress N SEED` makes a workload of N dynamic segments, 1 to 64,
-/// for a seed of 32 bits, links it, runs it over a store of its own, and prints a line. Other words print the usage line.
+/// for a seed of 32 bits, links it, runs it over a store of its own, and prints a line. `rtl OUT FILE..` links 1 to 255 files to a run-time library file.
+/// `linkrt OUT K FILE..` links a program of 2 to 255 files, of which the last K, 1 to 16, are run-time library files with their paths.
+/// `list OBJ SRC` writes the source from which `asm` makes an object with the same content; a refusal tells what can't be listed, and where.
+/// `compact IN OUT` writes a load file in its one fixed form. Other words print the usage line.
 pub fn run_tool<F: Files, S: Sink>(
     alloc: Global,
     words: &Vec<String>,
@@ -83,7 +89,10 @@ pub fn run_tool<F: Files, S: Sink>(
             },
         ) => run_asm(alloc, source, output, macros, files, out),
         Some(Form::Link { output, inputs }) => {
-            run_maker(alloc, &Link, Some(output), inputs, files, out)
+            let link = Link {
+                form: LinkForm::Program,
+            };
+            run_maker(alloc, &link, Some(output), inputs, files, out)
         }
         Some(Form::Dump { inputs }) => run_maker(alloc, &Dump, None, inputs, files, out),
         Some(Form::Run { inputs }) => run_file(alloc, inputs, files, out, last),
@@ -91,5 +100,31 @@ pub fn run_tool<F: Files, S: Sink>(
             run_maker(alloc, &Lib { inputs }, Some(output), inputs, files, out)
         }
         Some(Form::Stress { count, seed }) => run_stress(alloc, count, seed, out, last),
+        Some(Form::Rtl { output, inputs }) => {
+            let link = Link {
+                form: LinkForm::Runtime,
+            };
+            run_maker(alloc, &link, Some(output), inputs, files, out)
+        }
+        Some(
+            Form::LinkRt {
+                output,
+                inputs,
+                runtimes,
+            },
+        ) => run_maker(
+            alloc,
+            &LinkRt { runtimes },
+            Some(output),
+            inputs,
+            files,
+            out,
+        ),
+        Some(Form::Listing { output, inputs }) => {
+            run_maker(alloc, &Listing, Some(output), inputs, files, out)
+        }
+        Some(Form::Compact { output, inputs }) => {
+            run_maker(alloc, &Compact, Some(output), inputs, files, out)
+        }
     }
 }

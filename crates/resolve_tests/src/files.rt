@@ -1,8 +1,9 @@
 //! The files that are linked: samples, whole or cut or with bytes changed, and files that are made.
 use crate::parts::{Part, parts_of, uses, using};
 use crate::samples::{
-    ASKING, BARE, BEHIND, DATA, EQUATE_A, EQUATE_B, LIBRARY_B, LIBRARY_C, LIBRARY_D, LIBRARY_P,
-    LIBRARY_Y, ONE, PLACED, TWO, USER, WEAK,
+    ASKING, BARE, BEHIND, DATA, DYNAMIC, EQUATE_A, EQUATE_B, LIBRARY_B, LIBRARY_C, LIBRARY_D,
+    LIBRARY_P, LIBRARY_Y, ONE, PLACED, RUNTIME, RUNTIME_PARTS, RUNTIME_TWICE, SKIPPED, TWO, USER,
+    WEAK,
 };
 use std::alloc::{AllocError, Global};
 
@@ -23,6 +24,11 @@ pub enum Sample {
     Asking,
     Data,
     LibraryD,
+    Runtime,
+    RuntimeTwice,
+    RuntimeParts,
+    Dynamic,
+    Skipped,
 }
 
 /// A file of a list.
@@ -52,7 +58,7 @@ pub fn inputs_of(alloc: Global, files: &[File]) -> Result<Vec<Vec<u8>>, AllocErr
     Ok(inputs)
 }
 
-fn bytes_of(alloc: Global, file: &File) -> Result<Vec<u8>, AllocError> {
+pub fn bytes_of(alloc: Global, file: &File) -> Result<Vec<u8>, AllocError> {
     match file {
         File::Whole(sample) => Vec::from_slice(alloc, sample_of(sample)),
         File::Cut(sample, count) => cut(alloc, sample_of(sample), *count),
@@ -81,6 +87,11 @@ fn sample_of(sample: &Sample) -> &'static [u8] {
         Sample::Asking => &ASKING,
         Sample::Data => &DATA,
         Sample::LibraryD => &LIBRARY_D,
+        Sample::Runtime => &RUNTIME,
+        Sample::RuntimeTwice => &RUNTIME_TWICE,
+        Sample::RuntimeParts => &RUNTIME_PARTS,
+        Sample::Dynamic => &DYNAMIC,
+        Sample::Skipped => &SKIPPED,
     }
 }
 

@@ -10,6 +10,8 @@ mod parts;
 #[cfg(test)]
 mod resolving;
 #[cfg(test)]
+mod runtimes;
+#[cfg(test)]
 mod samples;
 #[cfg(test)]
 mod usings;

@@ -8,7 +8,7 @@ use Rattle.omf_format.specs.File.{Segment, segment_at}
 use Rattle.omf_io.specs.Counts.{one_more}
 use Rattle.omf_io.specs.Files.{FileMap, IsRead, IsUnread, max_file}
 use Rattle.load_meaning.specs.declared.load.LoadFault.{LoadFault}
-use Rattle.load_meaning.specs.Loadable.{IsLoadable, IsFirstLoadFault}
+use Rattle.loader_machine.specs.Taken.{IsTaken, IsFirstRefusal}
 use Rattle.iigs_meaning.specs.declared.handles.Handle.{Handle}
 use Rattle.iigs_meaning.specs.declared.wants.Block.{Block}
 use Rattle.iigs_meaning.specs.Slots.{get, new_handle}
@@ -159,11 +159,11 @@ module _ (held : FileMap) (old : Loaded) (state : Machine) (id number : ℕ) (so
 
   -- ---- it comes
 
-  same_load : (file : List ℕ) (segments : List Segment) → IsRead (Some held) can.kept.path file → IsLoadable file segments → is.does_agree.segments ≡ segments
-  same_load file segments is_read loadable =
-      one_load held can.kept.path is.does_agree.segments segments is.does_agree.holds (record { file = file; is_held = (is_read.1, is_read.0); loadable = loadable })
+  same_load : (file : List ℕ) (segments : List Segment) → IsRead (Some held) can.kept.path file → IsTaken file segments → is.does_agree.segments ≡ segments
+  same_load file segments is_read taken =
+      one_load held can.kept.path is.does_agree.segments segments is.does_agree.holds (record { file = file; is_held = (is_read.1, is_read.0); taken = taken })
 
-  not_bad : (file : List ℕ) (bad : LoadFault) → IsRead (Some held) can.kept.path file → IsFirstLoadFault file bad → ⊥
+  not_bad : (file : List ℕ) (bad : LoadFault) → IsRead (Some held) can.kept.path file → IsFirstRefusal file bad → ⊥
   not_bad file bad is_read first =
       let same : Bad bad ≡ Good is.does_agree.segments =
       found_once held can.kept.path (Bad bad) (Good is.does_agree.segments) (record { file = file; is_held = (is_read.1, is_read.0); first = first }) is.does_agree.holds in
@@ -266,10 +266,10 @@ module _ (held : FileMap) (old : Loaded) (state : Machine) (id number : ℕ) (so
       → IsMet held state id number of true (Refused why) old now now
   none_comes gone file why now of is_read (inl (inl short)) = lacks_memory why now of short
   none_comes gone file why now of is_read (inl (inr bad)) = absurd (not_bad file bad.0 is_read bad.1)
-  none_comes gone file why now of is_read (inr (segments, loadable, inl changes)) =
-      let same = same_load file segments is_read loadable in
+  none_comes gone file why now of is_read (inr (segments, taken, inl changes)) =
+      let same = same_load file segments is_read taken in
       absurd (not_changed can.kept.heads (map head_of segments) why (ap (map head_of) (sym same) ∙ sym is.does_agree.heads) changes)
-  none_comes gone file why now of is_read (inr (segments, loadable, inr none)) = refused gone why now of none.1
+  none_comes gone file why now of is_read (inr (segments, taken, inr none)) = refused gone why now of none.1
 
   absent : maps.get held can.kept.path ≡ None → ⊥
   absent none = let clash : None ≡ Some is.does_agree.holds.file = sym none ∙ is.does_agree.holds.is_held.0 in absurd cc

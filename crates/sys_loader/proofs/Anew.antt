@@ -3,7 +3,7 @@ use Rattle.std.proofs.Common.{◌≡◌, inl, inr, ℕ, true, false, ◌^◌, �
 use Rattle.std.specs.Prelude.{IfOk, IfErr, string_bytes}
 use Rattle.omf_format.specs.File.{Segment}
 use Rattle.omf_io.specs.Counts.{IsFront}
-use Rattle.load_meaning.specs.Loadable.{IsLoadable}
+use Rattle.loader_machine.specs.Taken.{IsTaken}
 use Rattle.iigs_meaning.specs.declared.handles.Handle.{Handle}
 use Rattle.iigs_meaning.specs.declared.wants.Want.{Want}
 use Rattle.iigs_meaning.specs.Fits.{Slots}
@@ -64,14 +64,14 @@ module _ (old : Loaded) (middle new : Memory) (user : User) (load : List Segment
 
 -- ---- a file that was read
 
-module _ (file : List ℕ) (old : Loaded) (id : ℕ) (k : Kept) (segments : List Segment) (loadable : IsLoadable file segments) where
+module _ (file : List ℕ) (old : Loaded) (id : ℕ) (k : Kept) (segments : List Segment) (taken : IsTaken file segments) where
   pub begun_from : (new : Loaded) (r : Result Started LoaderFault) → map head_of segments ≡ k.heads → IfOk r (λ started. HasBegunAnew old id k segments started new) → IfOk r (λ started. HasBegunFrom file old id k started new)
-  begun_from new (Ok started) same did = (segments, loadable, same, did)
+  begun_from new (Ok started) same did = (segments, taken, same, did)
   begun_from new (Err why) same did = tt
 
   pub none_begins : (r : Result Started LoaderFault) → map head_of segments ≡ k.heads → is_whole old k ≡ false → IfErr r (IsBeginRefusal (released_memory old.memory id) id (map head_of segments)) → IfErr r (IsAgainRefusal file old id k)
   none_begins (Ok started) same gone none = tt
-  none_begins (Err why) same gone none = inr (segments, loadable, inr (same, gone, subst (λ (hs : List Head). IsBeginRefusal (released_memory old.memory id) id hs why) same none))
+  none_begins (Err why) same gone none = inr (segments, taken, inr (same, gone, subst (λ (hs : List Head). IsBeginRefusal (released_memory old.memory id) id hs why) same none))
 
   pub again_changed : (why : LoaderFault) → IsChanged k.heads (map head_of segments) why → IsAgainRefusal file old id k why
-  again_changed why is = inr (segments, loadable, inl is)
+  again_changed why is = inr (segments, taken, inl is)

@@ -6,11 +6,10 @@ use Rattle.std.proofs.lemmas.Option.{slice_get_within}
 use Rattle.std.proofs.lemmas.List.{length-map, length-replicate, map-append, take_at}
 use Rattle.omf_format.specs.File.{Segment, segment_at}
 use Rattle.omf_io.specs.Counts.{IsFront}
-use Rattle.load_meaning.specs.Loadable.{IsLoadable}
+use Rattle.loader_machine.specs.Taken.{IsTaken}
 use Rattle.iigs_meaning.specs.declared.handles.Handle.{Handle}
 use Rattle.iigs_meaning.specs.declared.wants.Want.{Want}
 use Rattle.iigs_meaning.specs.Fits.{Slots}
-use Rattle.iigs_meaning.specs.declared.faults.PlaceFault.TheVariants as place
 use Rattle.iigs_meaning.specs.Puts.{Purges, PutsAll}
 use Rattle.iigs_meaning.specs.Memory.{Memory, AreAllPlaced, bytes_at}
 use Rattle.loader_machine.specs.declared.seen.Head.{Head}
@@ -84,14 +83,14 @@ number_within load (suc k) s is = omega (arith, slice_get_within load k s is)
 pub same_count : (load : List Segment) (kept : List users.Segment) → heads_of kept ≡ map head_of load → length kept ≡ length load
 same_count load kept same = sym (length-map kept (λ (s : users.Segment). s.head)) ∙ ap length same ∙ length-map load head_of
 
-pub settled : (file : List ℕ) (load : List Segment) (hs : List Handle) (user : ℕ) (kept : List users.Segment) (old new : Memory) → IsLoadable file load → heads_of kept ≡ map head_of load
+pub settled : (file : List ℕ) (load : List Segment) (hs : List Handle) (user : ℕ) (kept : List users.Segment) (old new : Memory) → IsTaken file load → heads_of kept ≡ map head_of load
     → handles_of kept ≡ spread_handles load hs → AreFilled load (handles_of kept) user (addresses old.slots kept) old new (length kept) → IsSettled load user hs old new
-settled file load hs user kept old new loadable same handles filled = record {
+settled file load hs user kept old new taken same handles filled = record {
   banks = filled.banks;
   slots = filled.slots;
   begins = λ n s h there has.
       filled.filled n h (omega (arith, number_within load n s there, same_count load kept same)) (ap (λ (os : List (Option Handle)). handle_at os n) handles ∙ has)
-      (setting user old.slots (spread_handles load hs)) s (is_setting file load loadable hs old.slots user kept handles) there;
+      (setting user old.slots (spread_handles load hs)) s (is_setting file load taken hs old.slots user kept handles) there;
   stay = λ place apart. filled.stay place (λ n h le is at. none place apart n h (ap (λ (os : List (Option Handle)). handle_at os n) (sym handles) ∙ is) at);
   sizes = filled.sizes;
 }

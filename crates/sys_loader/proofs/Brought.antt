@@ -11,7 +11,7 @@ use Rattle.omf_format.specs.File.{Segment, segment_at}
 use Rattle.omf_io.specs.Counts.{IsFront}
 use Rattle.load_meaning.specs.declared.table.Target.{Target}
 use Rattle.load_meaning.specs.laws.CellLaws.{loadable_has}
-use Rattle.load_meaning.specs.Loadable.{IsLoadable}
+use Rattle.loader_machine.specs.Taken.{IsTaken}
 use Rattle.load_meaning.specs.LoadTable.{targets_of}
 use Rattle.omf_cells.specs.Places.{address_in}
 use Rattle.iigs_meaning.specs.declared.handles.Handle.{Handle}
@@ -106,7 +106,7 @@ module _ (old : Loaded) (id number : ℕ) (sound : IsSound old.memory old.users)
     abbrev bare : Setting
     bare = record { id = id; place = machine.place_in placed.slots (with_handle can.kept number h).handles; target = λ file segment. None }
 
-    module _ (file : List ℕ) (load : List Segment) (loadable : IsLoadable file load) (heads : map head_of load ≡ can.kept.heads) where
+    module _ (file : List ℕ) (load : List Segment) (taken : IsTaken file load) (heads : map head_of load ≡ can.kept.heads) where
       bare_setting : IsSetting load id (slice_set (addresses placed.slots items) (number - 1) (Some address)) bare
       bare_setting = record { id = refl; place = place_is; targets = λ n s is table. none_active (targets_of s) }
 
@@ -116,7 +116,7 @@ module _ (old : Loaded) (id number : ℕ) (sound : IsSound old.memory old.users)
       pub begins : (content : List ℕ) → IsFilled load number id (slice_set (addresses placed.slots items) (number - 1) (Some address)) content → (s : Segment) → segment_at load number ≡ Some s
           → IsFront (stands (setting id placed.slots (with_handle can.kept number h).handles) no_pokes s) content
       begins content filled s is =
-          let its = loadable_has file load loadable number s is in
+          let its = loadable_has file load taken.loadable number s is in
           let alike : AreAlike load number s bare (setting id placed.slots (with_handle can.kept number h).handles) = record {
             id = refl;
             own = refl;
@@ -124,7 +124,7 @@ module _ (old : Loaded) (id number : ℕ) (sound : IsSound old.memory old.users)
             target = λ table n t there dynamic kept'.
                 let clash : true ≡ false = sym can.dynamic ∙ ap (λ (x : Head). is_dynamic x.kind) (sym (same_head s is)) ∙ (its.table table).static in absurd cc;
           } in
-          subst (λ (bytes : List ℕ). IsFront bytes content) (stands_alike load number s its bare (setting id placed.slots (with_handle can.kept number h).handles) alike no_pokes) (filled bare s bare_setting is)
+          subst (λ (bytes : List ℕ). IsFront bytes content) (stands_alike load taken.alone number s its bare (setting id placed.slots (with_handle can.kept number h).handles) alike no_pokes) (filled bare s bare_setting is)
 
   -- ---- room for the tables
 
@@ -184,11 +184,11 @@ module _ (old : Loaded) (id number : ℕ) (sound : IsSound old.memory old.users)
         subst (λ (m : Memory). AreRoomy m k.heads k.handles) (sym written.new_is)
         (subst (λ (x : Kept). AreRoomy (with_bytes placed h.slot written.content) x.heads x.handles) same_kept (roomy_now written.content written.same))
 
-    come_at : (last : Loaded) (items : List users.Segment) (file : List ℕ) (load : List Segment) (places : List (Option ℕ)) (filled new : Memory) (count : ℕ) → handles_of items ≡ k.handles → IsLoadable file load
+    come_at : (last : Loaded) (items : List users.Segment) (file : List ℕ) (load : List Segment) (places : List (Option ℕ)) (filled new : Memory) (count : ℕ) → handles_of items ≡ k.handles → IsTaken file load
         → map head_of load ≡ k.heads → count ≡ length k.heads → places ≡ slice_set (addresses placed.slots items) (number - 1) (Some address) → IsWritten load number id places placed h filled
         → AreRenewed k.heads k.handles (Some number) (Some address) filled new count → last.memory ≡ new → last.users ≡ with_user old.users id (Some (with_handle k number h))
         → HasCome old id number k head handle load address last
-    come_at last items file load places filled new count handles loadable heads long at_places written renewed memory users' = record {
+    come_at last items file load places filled new count handles taken heads long at_places written renewed memory users' = record {
       h = h;
       placed = placed;
       brought = brought;
@@ -196,7 +196,7 @@ module _ (old : Loaded) (id number : ℕ) (sound : IsSound old.memory old.users)
       same = written.same;
       begins = λ s is.
           subst (λ (x : Kept). IsFront (stands (setting id placed.slots (with_handle x number h).handles) no_pokes s) written.content) same_kept
-          (begins items (handles ∙ ap (λ (x : Kept). x.handles) (sym same_kept)) file load loadable (heads ∙ ap (λ (x : Kept). x.heads) (sym same_kept)) written.content
+          (begins items (handles ∙ ap (λ (x : Kept). x.handles) (sym same_kept)) file load taken (heads ∙ ap (λ (x : Kept). x.heads) (sym same_kept)) written.content
           (subst (λ (ps : List (Option ℕ)). IsFilled load number id ps written.content) at_places written.filled) s is);
       renewed = subst (λ (m : Memory). AreRenewed k.heads k.handles (Some number) (Some address) (with_bytes placed h.slot written.content) m (length k.heads)) (sym memory)
           (subst (AreRenewed k.heads k.handles (Some number) (Some address) (with_bytes placed h.slot written.content) new) long
@@ -212,10 +212,10 @@ module _ (old : Loaded) (id number : ℕ) (sound : IsSound old.memory old.users)
   brought_there = subst (λ (a : ℕ). IsBrought old.memory id head handle h a placed) (address_of old id number sound head handle can h brought.0 placed brought.1 address looked) brought.1
 
   pub has_come : (k : Kept) → user_of old.users id ≡ Some k → (last : Loaded) (items : List users.Segment) (file : List ℕ) (load : List Segment) (others places : List (Option ℕ)) (m n : ℕ) (filled new : Memory)
-      → heads_of items ≡ k.heads → handles_of items ≡ k.handles → IsLoadable file load → map head_of load ≡ k.heads → others ≡ addresses placed.slots items → m ≡ number → places ≡ slice_set others (m - 1) (Some address)
+      → heads_of items ≡ k.heads → handles_of items ≡ k.handles → IsTaken file load → map head_of load ≡ k.heads → others ≡ addresses placed.slots items → m ≡ number → places ≡ slice_set others (m - 1) (Some address)
       → n ≡ number → IsWritten load n id places placed h filled → AreRenewed k.heads k.handles (Some number) (Some address) filled new (length items) → last.memory ≡ new
       → last.users ≡ with_user old.users id (Some (with_handle k number h)) → HasCome old id number k head handle load address last
-  has_come k made last items file load others places m n filled new heads handles loadable same others_so m_so placed_so n_so written renewed memory users' =
-      come_at old id number sound head handle can h address placed brought_there k made last items file load places filled new (length items) handles loadable same (sym (length-map items (λ s. s.head)) ∙ ap length heads)
+  has_come k made last items file load others places m n filled new heads handles taken same others_so m_so placed_so n_so written renewed memory users' =
+      come_at old id number sound head handle can h address placed brought_there k made last items file load places filled new (length items) handles taken same (sym (length-map items (λ s. s.head)) ∙ ap length heads)
       (placed_so ∙ ap (λ (x : ℕ). slice_set others (x - 1) (Some address)) m_so ∙ ap (λ (ps : List (Option ℕ)). slice_set ps (number - 1) (Some address)) others_so)
       (subst (λ (x : ℕ). IsWritten load x id places placed h filled) n_so written) renewed memory users'

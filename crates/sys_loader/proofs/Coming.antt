@@ -386,7 +386,7 @@ module _ (old new : Loaded) (id number : ℕ) (kept : Kept) (head : Head) (handl
 
     sound_one : (n : ℕ) (s : Segment) → segment_at is.does_agree.segments n ≡ Some s → load.is_table s ≡ true → is_static (head_of s) ≡ true
     sound_one n s found table =
-        let t = (loadable_has is.does_agree.holds.file is.does_agree.segments is.does_agree.holds.loadable n s found).table table in
+        let t = (loadable_has is.does_agree.holds.file is.does_agree.segments is.does_agree.holds.taken.loadable n s found).table table in
         rw (t.static, t.kept) refl
 
     segments_in : number - 1 < length is.user.segments

@@ -13,7 +13,7 @@ use Rattle.load_meaning.specs.Table.{entry_place, table_bytes}
 use Rattle.load_meaning.specs.LoadTable as load
 use Rattle.load_meaning.specs.LoadTable.{entry_count, target_at, targets_of}
 use Rattle.load_meaning.specs.laws.CellLaws.{loadable_has}
-use Rattle.load_meaning.specs.Loadable.{IsTarget}
+use Rattle.load_meaning.specs.Loadable.{IsOwnTarget}
 use Rattle.iigs_meaning.specs.declared.handles.Handle.{Handle}
 use Rattle.iigs_meaning.specs.declared.wants.Want.{Want}
 use Rattle.iigs_meaning.specs.declared.wants.Block.{Block}
@@ -34,6 +34,7 @@ use Rattle.loader_machine.specs.Refusals.{Refuse, bytes_refusal, load_segment_re
 use Rattle.loader_machine.specs.Steps.{Sees, StandsIn, IsAt, Place, Nowhere, In, IsLocated, Decides, Either, no_jsl, address_of, target_at_code, Enters, EntersEntry, MakesActive, StepsJsl}
 use Rattle.loader_machine.specs.Needs.{Needs, Reaches, is_read, path_if}
 use Rattle.loader_machine.specs.Commands.{Reply, Jsl, Entered, Refused}
+use Rattle.loader_machine.specs.laws.TakenLaws.{own_targets}
 use Rattle.loader_agrees.specs.Agrees.{Kept, Loaded, seen_in, seen_by, Agrees, Has, IsSound, Meets}
 use Rattle.loader_agrees.specs.Acts.{HasLent, LiesIn}
 use Rattle.loader_agrees.specs.laws.Reads.{its_segment, begins, stands_there, stands_size, at_there, within_front, lies_back, sees_of, one, user}
@@ -190,13 +191,14 @@ module _ (held : FileMap) (old : Loaded) (state : Machine) (sound : IsSound old.
         by_code : target_at_code (targets_of s) 0 offset ≡ Some entry.0
         by_code = found_code (targets_of s) 0 k offset entry.0 entry.1 (omega (arith, code))
 
-        is_target : IsTarget its.does_agree.segments entry.0
+        is_target : IsOwnTarget its.does_agree.segments entry.0
         is_target = target_of (targets_of s) k entry.0 entry.1
-            ((loadable_has its.does_agree.holds.file its.does_agree.segments its.does_agree.holds.loadable number s found).table its_table).targets
+            (own_targets its.does_agree.segments its.does_agree.holds.taken.alone (targets_of s)
+            ((loadable_has its.does_agree.holds.file its.does_agree.segments its.does_agree.holds.taken.loadable number s found).table its_table).targets)
           where
-            target_of : (ts : List Target) (n : ℕ) (t : Target) → slice_get ts n ≡ Some t → AllByRecursion (IsTarget its.does_agree.segments) ts → IsTarget its.does_agree.segments t
+            target_of : (ts : List Target) (n : ℕ) (t : Target) → slice_get ts n ≡ Some t → AllByRecursion (IsOwnTarget its.does_agree.segments) ts → IsOwnTarget its.does_agree.segments t
             target_of [] n t is all = absurd cc
-            target_of (x ∷ ts) zero t is all = subst (IsTarget its.does_agree.segments) (same_Some x t is) all.0
+            target_of (x ∷ ts) zero t is all = subst (IsOwnTarget its.does_agree.segments) (same_Some x t is) all.0
             target_of (x ∷ ts) (suc n) t is all = target_of ts n t is all.1
 
         segment_fits : entry.0.segment < 256 ^ 2
@@ -355,7 +357,7 @@ module _ (held : FileMap) (old new : Loaded) (state : Machine) (sound : IsSound 
     abbrev pub t : (t : Target) × (slice_get (targets_of (s held old state sound agrees place.address place.user place.segment place.offset is.lies)) is.k ≡ Some t)
     t = entry held old state sound agrees place.address place.user place.segment place.offset is.lies is.table is.k is.inside is.code
 
-    abbrev target' : IsTarget (its held old state sound agrees place.address place.user place.segment place.offset is.lies).does_agree.segments t.0
+    abbrev target' : IsOwnTarget (its held old state sound agrees place.address place.user place.segment place.offset is.lies).does_agree.segments t.0
     target' = is_target held old state sound agrees place.address place.user place.segment place.offset is.lies is.table is.k is.inside is.code
 
     pub segment_is : target.segment ≡ t.0.segment

@@ -7,7 +7,7 @@ use Rattle.std.proofs.lemmas.List.{length-map}
 use Rattle.std.proofs.lemmas.Bool.Decides.{nat_tests}
 use Rattle.omf_format.specs.File.{Segment}
 use Rattle.omf_io.specs.Files.{FileMap, IsRead, IsUnread, max_file}
-use Rattle.load_meaning.specs.Loadable.{IsLoadable}
+use Rattle.loader_machine.specs.Taken.{IsTaken}
 use Rattle.iigs_meaning.specs.declared.faults.PlaceFault.{PlaceFault}
 use Rattle.iigs_meaning.specs.declared.faults.PlaceFault.TheVariants as place
 use Rattle.iigs_meaning.specs.Fits.{Slots}
@@ -80,7 +80,7 @@ module _ (held : FileMap) (old : Loaded) (state : Machine) (path : List ℕ) (ag
   starts file why now few is_read (inr none) =
       refused why now (rw (may few) (
         Good none.0,
-        record { file = file; is_held = (is_read.1, is_read.0); loadable = none.1 },
+        record { file = file; is_held = (is_read.1, is_read.0); taken = none.1 },
         begins none.0 why (λ user. state.users ++ Some user ∷ []) none.2,
       ))
 
@@ -104,17 +104,17 @@ loads store held old new state path result before now told sound loaded agrees =
         let has = did.0 in
         inl (
           load_met held old new state path has.from.0 started.user started.entry sound agrees has.from.2
-              (record { file = has.file; is_held = (has.is_read.1, has.is_read.0); loadable = has.from.1 }),
+              (record { file = has.file; is_held = (has.is_read.1, has.is_read.0); taken = has.from.1 }),
           did.1,
         )
     go (Err why) did = subst (λ (l : Loaded). Meets Purges held state (Load path) (Refused why) l before now) (sym did.1) (refuses held old state path agrees why before now did.0)
 
 -- ---- a program of a file
 
-pub started_from : (file : List ℕ) (old new : Loaded) (path : List ℕ) (segments : List Segment) (r : Result Started LoaderFault) → IsLoadable file segments
+pub started_from : (file : List ℕ) (old new : Loaded) (path : List ℕ) (segments : List Segment) (r : Result Started LoaderFault) → IsTaken file segments
     → IfOk r (λ started. HasBegun old path segments started.user started.entry new) → IfOk r (λ started. HasStartedFrom file old path started new)
-started_from file old new path segments (Ok started) loadable begun = (segments, loadable, begun)
-started_from file old new path segments (Err why) loadable begun = tt
+started_from file old new path segments (Ok started) taken begun = (segments, taken, begun)
+started_from file old new path segments (Err why) taken begun = tt
 
 pub loaded_from : (held : Option FileMap) (old new : Loaded) (path file : List ℕ) (r : Result Started LoaderFault) (before now : ℕ) → length old.users < max_users → IsRead held path file → now ≡ before
     → IfOk r (λ started. HasStartedFrom file old path started new) → IfErr r (IsStartRefusal file old) → OnErr r (new ≡ old) → HasLoaded held old path r new before now

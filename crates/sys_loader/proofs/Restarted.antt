@@ -8,7 +8,7 @@ use Rattle.std.proofs.lemmas.Option.{same_Some}
 use Rattle.omf_format.specs.File.{Segment}
 use Rattle.omf_io.specs.Files.{FileMap, IsRead, IsUnread, max_file}
 use Rattle.load_meaning.specs.declared.load.LoadFault.{LoadFault}
-use Rattle.load_meaning.specs.Loadable.{IsLoadable, IsFirstLoadFault}
+use Rattle.loader_machine.specs.Taken.{IsTaken, IsFirstRefusal}
 use Rattle.iigs_meaning.specs.declared.faults.PlaceFault.{PlaceFault}
 use Rattle.iigs_meaning.specs.declared.faults.PlaceFault.TheVariants as place
 use Rattle.iigs_meaning.specs.Fits.{Slots}
@@ -94,11 +94,11 @@ module _ (held : FileMap) (old : Loaded) (state : Machine) (id : ℕ) (sound : I
           let heads : kept.heads ≡ map head_of is.does_agree.segments = is.does_agree.heads in
           cc
 
-  same_load : (file : List ℕ) (segments : List Segment) → IsRead (Some held) kept.path file → IsLoadable file segments → is.does_agree.segments ≡ segments
-  same_load file segments is_read loadable =
-      one_load held kept.path is.does_agree.segments segments is.does_agree.holds (record { file = file; is_held = (is_read.1, is_read.0); loadable = loadable })
+  same_load : (file : List ℕ) (segments : List Segment) → IsRead (Some held) kept.path file → IsTaken file segments → is.does_agree.segments ≡ segments
+  same_load file segments is_read taken =
+      one_load held kept.path is.does_agree.segments segments is.does_agree.holds (record { file = file; is_held = (is_read.1, is_read.0); taken = taken })
 
-  not_bad : (file : List ℕ) (bad : LoadFault) → IsRead (Some held) kept.path file → IsFirstLoadFault file bad → ⊥
+  not_bad : (file : List ℕ) (bad : LoadFault) → IsRead (Some held) kept.path file → IsFirstRefusal file bad → ⊥
   not_bad file bad is_read first =
       let same : Bad bad ≡ Good is.does_agree.segments =
       found_once held kept.path (Bad bad) (Good is.does_agree.segments) (record { file = file; is_held = (is_read.1, is_read.0); first = first }) is.does_agree.holds in
@@ -156,11 +156,11 @@ module _ (held : FileMap) (old : Loaded) (state : Machine) (id : ℕ) (sound : I
     stay = λ slot apart. refl;
     sizes = λ slot. refl;
   }) did
-  restarted new started now (Reread whole some file is_read segments loadable same middle reread did) =
-      let ours = same_load file segments is_read loadable in
+  restarted new started now (Reread whole some file is_read segments taken same middle reread did) =
+      let ours = same_load file segments is_read taken in
       resumed new started middle now whole (subst (λ (ss : List Segment). AreReread ss id kept old.memory middle) (sym ours) reread) did
-  restarted new started now (Anew gone file is_read segments loadable same did) =
-      let ours = same_load file segments is_read loadable in
+  restarted new started now (Anew gone file is_read segments taken same did) =
+      let ours = same_load file segments is_read taken in
       begun new started now gone (subst (λ (ss : List Segment). HasBegunAnew old id kept ss started new) (sym ours) did)
 
   -- ---- it doesn't
@@ -199,10 +199,10 @@ module _ (held : FileMap) (old : Loaded) (state : Machine) (id : ℕ) (sound : I
   none_again_from : (file : List ℕ) (why : LoaderFault) (now : ℕ) → IsRead (Some held) kept.path file → IsAgainRefusal file old id kept why → Meets Purges held state (Restart id) (Refused why) old now now
   none_again_from file why now is_read (inl (inl short)) = inr (inr (ap (λ (f : LoaderFault). Refused f) short, agrees, refl))
   none_again_from file why now is_read (inl (inr bad)) = absurd (not_bad file bad.0 is_read bad.1)
-  none_again_from file why now is_read (inr (segments, loadable, inl changes)) =
-      let same = same_load file segments is_read loadable in
+  none_again_from file why now is_read (inr (segments, taken, inl changes)) =
+      let same = same_load file segments is_read taken in
       absurd (not_changed kept.heads (map head_of segments) why (ap (map head_of) (sym same) ∙ sym is.does_agree.heads) changes)
-  none_again_from file why now is_read (inr (segments, loadable, inr none)) =
+  none_again_from file why now is_read (inr (segments, taken, inr none)) =
       inl (
         (
           state,

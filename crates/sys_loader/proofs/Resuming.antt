@@ -433,7 +433,7 @@ module _ (old new : Loaded) (id : ℕ) (kept : Kept) (started : Started) (sound 
     }
 
     alike_stands : (n : ℕ) (s : Segment) (pokes : Rattle.loader_machine.specs.State.Pokes) → segment_at is.does_agree.segments n ≡ Some s → stands a pokes s ≡ stands b pokes s
-    alike_stands n s pokes found = stands_alike is.does_agree.segments n s (loadable_has is.does_agree.holds.file is.does_agree.segments is.does_agree.holds.loadable n s found) a b (alike n s) pokes
+    alike_stands n s pokes found = stands_alike is.does_agree.segments is.does_agree.holds.taken.alone n s (loadable_has is.does_agree.holds.file is.does_agree.segments is.does_agree.holds.taken.loadable n s found) a b (alike n s) pokes
 
     pokes_now : (n : ℕ) (s : Segment) → segment_at is.does_agree.segments n ≡ Some s → held_at user' n ≡ cond (is_read_again (head_of s)) (fresh (held_at user n).handle) (held_at user n)
     pokes_now zero s found = absurd cc

@@ -14,7 +14,7 @@ use Rattle.load_meaning.specs.LoadTable.{is_table, entry_count, targets_of}
 use Rattle.load_meaning.specs.laws.LoadTableLaws.{length-targets_from}
 use Rattle.load_meaning.specs.Cells.{segment_bytes}
 use Rattle.load_meaning.specs.Table.{table_bytes}
-use Rattle.load_meaning.specs.Loadable.{IsSoundSegment, IsTarget}
+use Rattle.load_meaning.specs.Loadable.{IsSoundSegment, IsOwnTarget}
 use Rattle.iigs_meaning.specs.declared.handles.Handle.{Handle}
 use Rattle.iigs_meaning.specs.Memory.{Memory, bytes_at}
 use Rattle.loader_machine.specs.declared.seen.Life.TheVariants.{Running}
@@ -22,6 +22,7 @@ use Rattle.loader_machine.specs.Heads.{head_of, is_static}
 use Rattle.loader_machine.specs.State.{User, no_pokes, held_at}
 use Rattle.loader_machine.specs.Presences.{handle_at, presence_at, there_at, active_at, is_active}
 use Rattle.loader_machine.specs.Stands.{Setting, setting, place_in, entry_for, entries_bytes, read_bytes, stands}
+use Rattle.loader_machine.specs.laws.TakenLaws.{own_targets}
 use Rattle.loader_machine.specs.laws.StandsLaws.{AreAlike, stands_alike}
 use Rattle.loader_machine.specs.laws.PokeLaws.{over_none}
 use Rattle.loader_machine.specs.Found.{HoldsLoad}
@@ -89,9 +90,9 @@ module _ (held : FileMap) (old new : Memory) (id : ℕ) (only address : Option �
   few = omega (arith, short, ap length agrees.heads, length-map agrees.segments head_of)
 
   sound : (number : ℕ) (s : Segment) → segment_at agrees.segments number ≡ Some s → IsSoundSegment agrees.segments number s
-  sound = loadable_has agrees.holds.file agrees.segments agrees.holds.loadable
+  sound = loadable_has agrees.holds.file agrees.segments agrees.holds.taken.loadable
 
-  follows : (t : Target) → IsTarget agrees.segments t → Follows only address a b t
+  follows : (t : Target) → IsOwnTarget agrees.segments t → Follows only address a b t
   follows t is = record {
     segment = omega (arith, few, number_within agrees.segments t.segment is.segment' is.is);
     offset = λ chosen some. let fits = turned.fits t.segment is.segment' is.is chosen some in omega (arith, fits, is.inside);
@@ -99,7 +100,7 @@ module _ (held : FileMap) (old new : Memory) (id : ℕ) (only address : Option �
     others = λ c. rw is.file' (turned.others t.segment is.segment' is.is is.dynamic is.kept c);
   }
 
-  all_follow : (ts : List Target) → AllByRecursion (IsTarget agrees.segments) ts → AllByRecursion (Follows only address a b) ts
+  all_follow : (ts : List Target) → AllByRecursion (IsOwnTarget agrees.segments) ts → AllByRecursion (Follows only address a b) ts
   all_follow [] all = tt
   all_follow (t ∷ ts) all = (follows t all.0, all_follow ts all.1)
 
@@ -113,13 +114,13 @@ module _ (held : FileMap) (old new : Memory) (id : ℕ) (only address : Option �
         static = λ n t is static. sym (turned.places there n t is static);
         target = λ table n t is dynamic kept''. let clash : true ≡ false = sym table ∙ plain in absurd cc;
       } in
-      let same = stands_alike agrees.segments number s (sound number s found) a b alike (held_at user number).pokes in
+      let same = stands_alike agrees.segments agrees.holds.taken.alone number s (sound number s found) a b alike (held_at user number).pokes in
       rw (pokes, ← same, bytes) before
   begins there number s h found (Turns table handle was bytes) =
       let before = agrees.begins (turned.were there) number s h found handle was in
       let before' : IsFront (table_bytes (map (entry_for a) (targets_of s))) (bytes_at old h.slot) =
       subst (λ (l : List ℕ). IsFront l (bytes_at old h.slot)) (table_stands s a table) (rw (← agrees.unpoked number s found table) before) in
-      let after = renewed_stands only address a b refl (targets_of s) (bytes_at old h.slot) (all_follow (targets_of s) ((sound number s found).table table).targets) before' in
+      let after = renewed_stands only address a b refl (targets_of s) (bytes_at old h.slot) (all_follow (targets_of s) (own_targets agrees.segments agrees.holds.taken.alone (targets_of s) ((sound number s found).table table).targets)) before' in
       rw (turned.unpoked number s found table, table_stands s b table, bytes, ← targets_count s) after
   begins there number s h found (Anew front) = front
 

@@ -4,7 +4,7 @@ use Rattle.std.specs.Prelude.{IsSomeAnd, IfOk, IfErr, OnErr}
 use Rattle.std.proofs.lemmas.Option.{same_Some}
 use Rattle.omf_format.specs.File.{Segment}
 use Rattle.omf_io.specs.Files.{FileMap, IsRead}
-use Rattle.load_meaning.specs.Loadable.{IsLoadable}
+use Rattle.loader_machine.specs.Taken.{IsTaken}
 use Rattle.iigs_meaning.specs.declared.handles.Handle.{Handle}
 use Rattle.iigs_meaning.specs.declared.wants.Block.{Block}
 use Rattle.iigs_meaning.specs.Slots.{get}
@@ -80,18 +80,18 @@ gone_empty old id number head handle sound can gone k is =
 
 -- ---- a segment of a file
 
-module _ (file : List ℕ) (old : Loaded) (id number : ℕ) (k : Kept) (head : Head) (handle : Option Handle) (segments : List Segment) (loadable : IsLoadable file segments) where
+module _ (file : List ℕ) (old : Loaded) (id number : ℕ) (k : Kept) (head : Head) (handle : Option Handle) (segments : List Segment) (taken : IsTaken file segments) where
   pub come_from : (new : Loaded) (r : Result ℕ LoaderFault) → map head_of segments ≡ k.heads → IfOk r (λ address. HasCome old id number k head handle segments address new)
       → IfOk r (λ address. HasComeFrom file old id number k head handle address new)
-  come_from new (Ok address) same did = (segments, loadable, same, did)
+  come_from new (Ok address) same did = (segments, taken, same, did)
   come_from new (Err why) same did = tt
 
   pub brings_none : (r : Result ℕ LoaderFault) → map head_of segments ≡ k.heads → IfErr r (IsBringRefusal old.memory head handle number) → IfErr r (IsComeRefusal file old number k head handle)
   brings_none (Ok address) same none = tt
-  brings_none (Err why) same none = inr (segments, loadable, inr (same, none))
+  brings_none (Err why) same none = inr (segments, taken, inr (same, none))
 
   pub file_changed : (why : LoaderFault) → IsChanged k.heads (map head_of segments) why → IsComeRefusal file old number k head handle why
-  file_changed why is = inr (segments, loadable, inl is)
+  file_changed why is = inr (segments, taken, inl is)
 
 pub did_come : (held : Option FileMap) (old new : Loaded) (id number : ℕ) (k : Kept) (head : Head) (handle : Option Handle) (file : List ℕ) (r : Result ℕ LoaderFault) (before now : ℕ) → IsRead held k.path file → now ≡ before
     → IfOk r (λ address. HasComeFrom file old id number k head handle address new) → IfErr r (IsComeRefusal file old number k head handle) → OnErr r (new ≡ old)

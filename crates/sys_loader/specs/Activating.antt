@@ -5,7 +5,7 @@ use Rattle.omf_format.specs.Header.{is_dynamic}
 use Rattle.omf_format.specs.File.{Segment, segment_at}
 use Rattle.omf_io.specs.Counts.{IsFront}
 use Rattle.omf_io.specs.Files.{FileMap, IsRead, IsUnread}
-use Rattle.load_meaning.specs.Loadable.{IsLoadable}
+use Rattle.loader_machine.specs.Taken.{IsTaken}
 use Rattle.iigs_meaning.specs.declared.handles.Handle.{Handle}
 use Rattle.iigs_meaning.specs.Slots.{new_handle}
 use Rattle.iigs_meaning.specs.Puts.{Purges, LacksRoom}
@@ -109,17 +109,17 @@ pub record HasCome (old : Loaded) (id number : ℕ) (kept : Kept) (head : Head) 
   pub renewed : AreRenewed kept.heads kept.handles (Some number) (Some address) (with_bytes placed h.slot content) new.memory (length kept.heads)
   pub users : new.users ≡ with_user old.users id (Some (with_handle kept number h))
 
--- why a segment of a file that was read doesn't come: the file is no load file, or not the one that was loaded, or there is no
--- handle or room; or memory ran out
+-- why a segment of a file that was read doesn't come: the file isn't taken, or not the one that was loaded, or there is no handle or
+-- room; or memory ran out
 abbrev pub IsComeRefusal : List ℕ → Loaded → ℕ → Kept → Head → Option Handle → LoaderFault → Type 0
 IsComeRefusal file old number kept head handle why = IsBadFile file why
-    ⊎ ((segments : List Segment) × IsLoadable file segments × (IsChanged kept.heads (map head_of segments) why
+    ⊎ ((segments : List Segment) × IsTaken file segments × (IsChanged kept.heads (map head_of segments) why
     ⊎ ((map head_of segments ≡ kept.heads) × IsBringRefusal old.memory head handle number why)))
 
 -- a segment of a file that was read has come
 abbrev pub HasComeFrom : List ℕ → Loaded → ℕ → ℕ → Kept → Head → Option Handle → ℕ → Loaded → Type 0
 HasComeFrom file old id number kept head handle address new =
-    (segments : List Segment) × IsLoadable file segments × (map head_of segments ≡ kept.heads) × HasCome old id number kept head handle segments address new
+    (segments : List Segment) × IsTaken file segments × (map head_of segments ≡ kept.heads) × HasCome old id number kept head handle segments address new
 
 -- why a segment of the file at a user's path doesn't come: the read is refused, memory ran out, or the file that was read gives none
 pub data IsReadRefusal (held : Option FileMap) (old : Loaded) (number : ℕ) (kept : Kept) (head : Head) (handle : Option Handle) (before now : ℕ) (why : LoaderFault) : Type 0 where

@@ -4,7 +4,7 @@ use Rattle.omf_format.specs.File.{Segment, segment_at}
 use Rattle.omf_io.specs.Counts.{IsFront}
 use Rattle.omf_io.specs.Files.{FileMap, IsRead, IsUnread}
 use Rattle.load_meaning.specs.declared.load.LoadFault.{LoadFault}
-use Rattle.load_meaning.specs.Loadable.{IsLoadable, IsFirstLoadFault}
+use Rattle.loader_machine.specs.Taken.{IsTaken, IsFirstRefusal}
 use Rattle.iigs_meaning.specs.declared.handles.Handle.{Handle}
 use Rattle.iigs_meaning.specs.declared.faults.PlaceFault.TheVariants as place
 use Rattle.iigs_meaning.specs.Fits.{IsWant}
@@ -31,18 +31,18 @@ IsBeginRefusal memory id heads why =
     ((why ≡ fault.NoHandle) × IsPlaceAllRefusal Purges memory.banks id memory.slots (wants_of heads) place.NoHandle)
     ⊎ ((i : ℕ) × (why ≡ fault.NoRoom (number_of 1 heads i)) × IsPlaceAllRefusal Purges memory.banks id memory.slots (wants_of heads) (place.NoRoom i))
 
--- the file has this first fault, unless memory ran out
+-- the file isn't taken, for this first fault, or its pathname segment where it has none; or memory ran out
 abbrev pub IsBadFile : List ℕ → LoaderFault → Type 0
-IsBadFile file why = (why ≡ fault.Memory) ⊎ ((bad : LoadFault) × IsFirstLoadFault file bad × (why ≡ fault.BadFile bad))
+IsBadFile file why = (why ≡ fault.Memory) ⊎ ((bad : LoadFault) × IsFirstRefusal file bad × (why ≡ fault.BadFile bad))
 
 -- a program of a file has begun
 abbrev pub HasStartedFrom : List ℕ → Loaded → List ℕ → Started → Loaded → Type 0
-HasStartedFrom file old path started new = (segments : List Segment) × IsLoadable file segments × HasBegun old path segments started.user started.entry new
+HasStartedFrom file old path started new = (segments : List Segment) × IsTaken file segments × HasBegun old path segments started.user started.entry new
 
--- why none has: the file is no load file, or else the program doesn't begin; or memory ran out
+-- why none has: the file isn't taken, or else the program doesn't begin; or memory ran out
 abbrev pub IsStartRefusal : List ℕ → Loaded → LoaderFault → Type 0
 IsStartRefusal file old why = IsBadFile file why
-    ⊎ ((segments : List Segment) × IsLoadable file segments × IsBeginRefusal old.memory (first_id + length old.users) (map head_of segments) why)
+    ⊎ ((segments : List Segment) × IsTaken file segments × IsBeginRefusal old.memory (first_id + length old.users) (map head_of segments) why)
 
 -- ---- a load
 

@@ -3,7 +3,7 @@
 ghost use Rattle.std.specs.Prelude.{◌≡◌, ◌-◌, ◌<◌, ◌≤◌, ◌^◌, ℕ, List, Option, Some, None, IsSome, IsSomeAnd, length, map, true, false, IfOk, IfErr, OnErr};
 ghost use Rattle.omf_io.specs.Counts.{one_more};
 ghost use Rattle.omf_io.specs.Files.{FileMap};
-ghost use Rattle.load_meaning.specs.Loadable.{IsLoadable};
+ghost use Rattle.loader_machine.specs.Taken.{IsTaken};
 ghost use Rattle.iigs_meaning.specs.Slots.{get};
 ghost use Rattle.iigs_meaning.specs.Puts.{Purges};
 ghost use Rattle.loader_machine.specs.Heads.{head_of};
@@ -21,7 +21,7 @@ ghost use Rattle.sys_loader.specs.Activating.{segment_reads, CanLoad, IsBrought,
 use crate::compare::compare;
 use crate::fill::fill_block;
 use crate::head::{is_dynamic, want_of};
-use crate::load::bad_file;
+use crate::load::take_load;
 use crate::loader::Loader;
 use crate::memory::presence;
 use crate::place::{place_of, set_places};
@@ -32,7 +32,7 @@ use crate::users::{set_handle, user_in};
 use iigs_meaning::{Handle, PlaceFault};
 use iigs_memory::Banks;
 use loader_machine::{Head, LoaderFault, Presence};
-use omf_cells::{LoadFile, Places, PlacesFault, read_load};
+use omf_cells::{LoadFile, Places, PlacesFault};
 use omf_io::{Files, ReadFault};
 use std::alloc::Global;
 
@@ -157,7 +157,7 @@ impl Loader {
         number: u16,
         segment: &Segment,
     ) -> Result<u32, LoaderFault>
-        requires loadable { (file : List ℕ) × IsLoadable file load.now }
+        requires taken { (file : List ℕ) × IsTaken file load.now }
         requires room { length places ≡ length load.now }
         requires can { CanLoad self.old user number segment.now.head segment.now.handle }
         requires gone { is_read (presences.presence self.old.memory.slots segment.now.handle) ≡ true }
@@ -213,9 +213,9 @@ impl Loader {
         ensures err { OnErr result (self.new ≡ self.old) }
     {
         self.is_sound();
-        let load = match read_load(self.alloc, file) {
+        let load = match take_load(self.alloc, file) {
             Ok(load) => load,
-            Err(fault) => return Err(bad_file(fault)),
+            Err(fault) => return Err(fault),
         };
         let places = match places_of(self.alloc, &load) {
             Ok(places) => places,

@@ -3,7 +3,7 @@
 ghost use Rattle.std.specs.Prelude.{◌≡◌, ◌⊎◌, ◌+◌, ◌<◌, ◌≤◌, ◌^◌, ℕ, List, map, length, All, Some, false, IfOk, IfErr, OnOk, OnErr};
 ghost use Rattle.omf_io.specs.Counts.{one_more};
 ghost use Rattle.omf_io.specs.Files.{FileMap};
-ghost use Rattle.load_meaning.specs.Loadable.{IsLoadable};
+ghost use Rattle.loader_machine.specs.Taken.{IsTaken};
 ghost use Rattle.iigs_meaning.specs.Fits.{IsWant};
 ghost use Rattle.iigs_meaning.specs.Puts.{Purges};
 ghost use Rattle.iigs_meaning.specs.Memory.{Memory, AreAllPlaced};
@@ -28,7 +28,7 @@ use iigs_memory::Banks;
 use loader_machine::{Life, LoaderFault};
 use omf_cells::{LoadCause, LoadFault, LoadFile, Places, read_load};
 use omf_io::{Files, ReadFault};
-use std::alloc::AllocError;
+use std::alloc::{AllocError, Global};
 
 /// Places blocks for all static segments, in order, or none.
 fn place_all(
@@ -65,7 +65,7 @@ pub fn settle(
     places: &mut Places,
     user: u16,
 )
-    requires loadable { (file : List ℕ) × IsLoadable file load.now }
+    requires taken { (file : List ℕ) × IsTaken file load.now }
     requires short { length load.now < 2 ^ 16 }
     requires heads { map (λ s. s.head) segments.old.items ≡ map head_of load.now }
     requires room { length places.old ≡ length segments.old.items }
@@ -80,7 +80,7 @@ pub fn settle(
 }
 
 /// What the loader says of a load file's fault.
-pub fn bad_file(fault: LoadFault) -> LoaderFault
+fn bad_file(fault: LoadFault) -> LoaderFault
     ensures told { (file : List ℕ) → IsRefused fault file → IsBadFile file result }
     ensures memory { result ≡ LoaderFault.Memory → fault.cause ≡ LoadCause.Memory }
     ensures other { (result ≡ LoaderFault.Memory) ⊎ (result ≡ LoaderFault.BadFile fault) }
@@ -91,9 +91,29 @@ pub fn bad_file(fault: LoadFault) -> LoaderFault
     }
 }
 
+/// The load file, if the loader takes it. One with a pathname segment is refused: run-time library files aren't loaded yet.
+pub fn take_load<'a>(alloc: Global, file: &'a [u8]) -> Result<LoadFile<'a>, LoaderFault>
+    requires { length file.now < 2 ^ 32 }
+    ensures taken { IfOk result (λ load. IsTaken file.now load) }
+    ensures refused { IfErr result (IsBadFile file.now) }
+{
+    let load = match read_load(alloc, file) {
+        Ok(load) => load,
+        Err(fault) => return Err(bad_file(fault)),
+    };
+    match load.pathnames() {
+        Some(segment) => Err(LoaderFault::BadFile(LoadFault {
+            cause: LoadCause::Unsupported,
+            segment,
+            at: 0,
+        })),
+        None => Ok(load),
+    }
+}
+
 /// How many segments a load file has: the number of the last one.
 pub fn count_of(load: &LoadFile<'_>) -> u16
-    requires loadable { (file : List ℕ) × IsLoadable file load.now }
+    requires taken { (file : List ℕ) × IsTaken file load.now }
     ensures { result ≡ length load.now }
 {
     match load.header(load.count()) {
@@ -106,7 +126,7 @@ impl Loader {
     // A program of a load file begins.
     fn start(&mut self, load: &LoadFile<'_>, plan: Plan) -> Result<Started, LoaderFault>
         requires few { length self.old.users < max_users }
-        requires loadable { (file : List ℕ) × IsLoadable file load.now }
+        requires taken { (file : List ℕ) × IsTaken file load.now }
         requires short { length load.now < 2 ^ 16 }
         requires plan { (path : List ℕ) × IsPlan path load.now plan }
         ensures begun { (path : List ℕ) → IsPlan path load.now plan → IfOk result (λ started. HasBegun self.old path load.now started.user started.entry self.new) }
@@ -148,7 +168,7 @@ impl Loader {
         Ok(Started { user, entry })
     }
 
-    // A program of a file begins, if it is a load file.
+    // A program of a file begins, if it is a load file that the loader takes.
     fn begin(&mut self, file: &[u8], path: &str) -> Result<Started, LoaderFault>
         requires few { length self.old.users < max_users }
         requires short { length file.now < 2 ^ 32 }
@@ -156,9 +176,9 @@ impl Loader {
         ensures refused { IfErr result (IsStartRefusal file.now self.old) }
         ensures err { OnErr result (self.new ≡ self.old) }
     {
-        let load = match read_load(self.alloc, file) {
+        let load = match take_load(self.alloc, file) {
             Ok(load) => load,
-            Err(fault) => return Err(bad_file(fault)),
+            Err(fault) => return Err(fault),
         };
         let _count = count_of(&load);
         let plan = match plan_of(self.alloc, &load, path) {
@@ -194,7 +214,8 @@ impl Loader {
     }
 
     /// Loads a program: the static segments of a load file are placed, all or none, and are active then. The file is read
-    /// once, and not at all where 255 users were made.
+    /// once, and not at all where 255 users were made. A file with a pathname segment is refused as unsupported, at the number of
+    /// that segment and place 0.
     pub fn load<F: Files>(&mut self, files: &mut F, path: &str) -> Result<Started, LoaderFault>
         ensures held { (F.seen files.new).held ≡ (F.seen files.old).held }
         ensures never_falls { (F.seen files.old).faults ≤ (F.seen files.new).faults }

@@ -3,7 +3,7 @@
 ghost use Rattle.std.specs.Prelude.{◌≡◌, ◌<◌, ◌≤◌, ◌^◌, ℕ, List, Option, Some, None, IsSome, length, map, true, false, not, ◌&&◌, ◌||◌, All, IfOk, IfErr, OnOk, OnErr};
 ghost use Rattle.omf_io.specs.Counts.{one_more};
 ghost use Rattle.omf_io.specs.Files.{FileMap};
-ghost use Rattle.load_meaning.specs.Loadable.{IsLoadable};
+ghost use Rattle.loader_machine.specs.Taken.{IsTaken};
 ghost use Rattle.iigs_meaning.specs.Fits.{IsWant};
 ghost use Rattle.iigs_meaning.specs.Puts.{Purges};
 ghost use Rattle.iigs_meaning.specs.Memory.{AreAllPlaced};
@@ -28,7 +28,7 @@ use crate::compare::compare;
 use crate::dynamic::places_of;
 use crate::fill::fill_block;
 use crate::head::{is_read_again, is_static};
-use crate::load::{bad_file, count_of, settle};
+use crate::load::{count_of, settle, take_load};
 use crate::loader::Loader;
 use crate::memory::presence;
 use crate::place::{entry_of, number_of, set_places};
@@ -39,7 +39,7 @@ use crate::users::{set_life, set_user, user_in};
 use iigs_meaning::{Handle, PlaceFault, Want};
 use iigs_memory::Banks;
 use loader_machine::{Life, LoaderFault, Presence};
-use omf_cells::{LoadFile, Places, read_load};
+use omf_cells::{LoadFile, Places};
 use omf_io::{Files, ReadFault};
 use std::alloc::AllocError;
 
@@ -208,12 +208,12 @@ impl Loader {
 
     // The same of a dormant user once its segments that are read again are as this load file has them.
     fn resume_from(&mut self, load: &LoadFile<'_>, mut places: Places, user: u16) -> Started
-        requires loadable { (file : List ℕ) × IsLoadable file load.now }
+        requires taken { (file : List ℕ) × IsTaken file load.now }
         requires room { length places ≡ length load.now }
         requires can { (k : Kept) × CanRestart self.old user k }
         requires whole { (k : Kept) → user_of self.old.users user ≡ Some k → is_whole self.old k ≡ true }
         requires same { (k : Kept) → user_of self.old.users user ≡ Some k → map head_of load.now ≡ k.heads }
-        ensures { (file : List ℕ) (k : Kept) → IsLoadable file load.now → user_of self.old.users user ≡ Some k → HasReloaded file self.old user k result self.new }
+        ensures { (file : List ℕ) (k : Kept) → IsTaken file load.now → user_of self.old.users user ≡ Some k → HasReloaded file self.old user k result self.new }
     {
         self.is_sound();
         let found = user_in(&self.users, user);
@@ -232,9 +232,9 @@ impl Loader {
         ensures err { OnErr result (self.new ≡ self.old) }
     {
         self.is_sound();
-        let load = match read_load(self.alloc, file) {
+        let load = match take_load(self.alloc, file) {
             Ok(load) => load,
-            Err(fault) => return Err(bad_file(fault)),
+            Err(fault) => return Err(fault),
         };
         let _count = count_of(&load);
         let places = match places_of(self.alloc, &load) {
@@ -257,7 +257,7 @@ impl Loader {
         user: u16,
     ) -> Result<Started, LoaderFault>
         requires made { IsSome (user_of self.old.users user) }
-        requires loadable { (file : List ℕ) × IsLoadable file load.now }
+        requires taken { (file : List ℕ) × IsTaken file load.now }
         requires short { length load.now < 2 ^ 16 }
         requires plan { (k : Kept) → user_of self.old.users user ≡ Some k → IsPlan k.path load.now plan }
         ensures begun { (k : Kept) → user_of self.old.users user ≡ Some k → IfOk result (λ started. HasBegunAnew self.old user k load.now started self.new) }
@@ -312,9 +312,9 @@ impl Loader {
         ensures err { OnErr result (self.new ≡ self.old) }
     {
         self.is_sound();
-        let load = match read_load(self.alloc, file) {
+        let load = match take_load(self.alloc, file) {
             Ok(load) => load,
-            Err(fault) => return Err(bad_file(fault)),
+            Err(fault) => return Err(fault),
         };
         let _count = count_of(&load);
         let found = user_in(&self.users, user);

@@ -9,7 +9,7 @@ use Rattle.asm_meaning.specs.declared.faults.AsmCause.{AsmCause}
 use Rattle.asm_meaning.specs.declared.faults.AsmCause.TheVariants.{Unclosed}
 use Rattle.asm_meaning.specs.declared.faults.AsmFault.{AsmFault}
 use Rattle.asm_meaning.specs.Answer.{Answer}
-use Rattle.asm_meaning.specs.Object.{object_text, AreSteps, HasLines, cause_of, HasBadLine, IsFirstFault, InExpansion, InLine, InSegment, InLength}
+use Rattle.asm_meaning.specs.Object.{object_text, AreSteps, HasLines, cause_of, HasBadLine, InExpansion, InLine, InSegment, InLength}
 use Rattle.asm_meaning.specs.State.{Segment, State, start}
 use Rattle.asm_meaning.specs.Statement.{IsStep}
 use Rattle.asm_meaning.specs.laws.StatementLaws.{step_once}

@@ -1,6 +1,6 @@
 -- Equates of one member whose records have one displacement are one.
 use Rattle.std.proofs.Common.{◌≡◌, inl, inr, ℕ, ◌+◌, ◌≤◌, Bool, true, false, cond, List, [], ◌∷◌, ◌++◌, length, map, Option, Some, None, Result, Ok, Err, refl, sym, ap, subst, ◌∙◌, arith}
-use Rattle.std.specs.List.{flat_map, AllByRecursion}
+use Rattle.std.specs.List.{flat_map}
 use Rattle.std.specs.Prelude.{take}
 use Rattle.std.proofs.lemmas.List.{length-append, length-drop, length-take}
 use Rattle.std.proofs.lemmas.List.Concat.{flat_map-cons}
@@ -22,7 +22,7 @@ use Rattle.link_meaning.specs.Member.{Member}
 use Rattle.link_meaning.specs.Defines.{Definition, outer_scope, title_of, defined_by, defined_in}
 use Rattle.link_meaning.specs.Search.{Found, entries_from, entries}
 use Rattle.link_meaning.specs.Rings.{has_expr, is_equate, equates}
-use Rattle.link_meaning.specs.LinkFaults.{IsResolved}
+use Rattle.link_meaning.specs.LinkFaults.{Given, HasBytes, IsResolved}
 use Rattle.link_meaning.specs.laws.ReadMembers.{IsRead, members_read}
 use Rattle.link_meaning.specs.laws.PlaceFits.{IsPlaceIn, in-append, of_located, own_entry, entry_there}
 use Rattle.link_meaning.specs.EquateValues.{AreApart, TableOfValues}
@@ -214,7 +214,7 @@ passes_filter {A} p (y ∷ ys) x is = by_test (p y) refl is (λ more. passes_fil
     by_test true e (inr more) go = go more
     by_test false e more go = go more
 
-pub apart : (files : List (List ℕ)) (list : List Member) → AllByRecursion IsBytes files → IsResolved files list → AreApart (equates list)
+pub apart : (files : Given) (list : List Member) → HasBytes files → IsResolved files list → AreApart (equates list)
 unfolding equates found_of
 apart files list bytes resolved e f is other place at =
     let p = in_filter is_equate (entries list) e is in

@@ -9,11 +9,15 @@ use Rattle.omf_base.specs.declared.spot.Spot.{Spot}
 use Rattle.link_meaning.specs.declared.fault.LinkFault.{LinkFault}
 use Rattle.link_meaning.specs.First.{IsFirst}
 use Rattle.link_meaning.specs.laws.FirstLaws.{HasOne, one_first}
-use Rattle.link_meaning.specs.Member.{Row, Input, Member}
+use Rattle.link_meaning.specs.Member.{Row, Input, Member, RuntimeFile, Setting}
+use Rattle.link_meaning.specs.declared.form.LinkForm.{LinkForm}
+use Rattle.load_meaning.specs.declared.load.LoadFault.{LoadFault}
+use Rattle.load_meaning.specs.laws.LoadableLaws.{loadable_same, loadable_sound, first_fault_same}
+use Rattle.load_meaning.specs.Runtime.{runtime_fault, IsFirstRuntimeFault, OfLoading, OfKind}
 use Rattle.link_meaning.specs.LinkedList.{asked, IsLinked}
 use Rattle.link_meaning.specs.laws.LinkedListLaws.{one_linked_list}
 use Rattle.link_meaning.specs.Layout.{load_members, load_headers}
-use Rattle.link_meaning.specs.LinkFaults.{link_cause, segments_fault, rows_in_file, HasFileFault, OfFile, OfSegment, OfDictionary, IsInput, AreInputs, IsProgram, HasUseFault, HasOrgFault, first_spot, HasCountFault, HasLengthFault, Orgs, Count, Lengths, HasLayoutFault, Reading, Objects, Names, Layout, phases, HasPhaseFault, IsFirstResolveFault, IsResolved}
+use Rattle.link_meaning.specs.LinkFaults.{Given, link_cause, segments_fault, rows_in_file, HasFileFault, OfFile, OfSegment, OfDictionary, IsInput, AreInputs, IsProgram, HasUseFault, HasOrgFault, first_spot, HasCountFault, HasLengthFault, Orgs, Count, Lengths, HasLayoutFault, Reading, Objects, Names, Layout, phases, HasPhaseFault, IsFirstResolveFault, IsResolved, IsSetting, AreRuntimes, HasKindFault, Kinds, OfInput, OfRuntime, parts_of, HasPartFault, runtime_cause}
 
 abbrev some : {A : Type 0} → A → Option A
 some x = Some x
@@ -70,7 +74,7 @@ one_input bytes a b p q =
     input : List Segment → List Row → Input
     input segments rows = record { segments = segments; rows = rows }
 
-inputs_same : (files : List (List ℕ)) (a b : List Input) → AreInputs files a → AreInputs files b → a ≡ b
+pub inputs_same : (files : List (List ℕ)) (a b : List Input) → AreInputs files a → AreInputs files b → a ≡ b
 inputs_same [] [] [] p q = refl
 inputs_same [] [] (b ∷ bs) p q = absurd q
 inputs_same [] (a ∷ as') bs p q = absurd p
@@ -79,10 +83,43 @@ inputs_same (f ∷ files) (a ∷ as') [] p q = absurd q
 inputs_same (f ∷ files) (a ∷ as') (b ∷ bs) p q =
     ap (λ (i : Input). i ∷ as') (one_input f a b p.0 q.0) ∙ ap (λ (l : List Input). b ∷ l) (inputs_same files as' bs p.1 q.1)
 
-pub one_program : (files : List (List ℕ)) (a b : List Member) → IsProgram files a → IsProgram files b → a ≡ b
+pub runtimes_same : (files : List (List ℕ × List ℕ)) (a b : List RuntimeFile) → AreRuntimes files a → AreRuntimes files b → a ≡ b
+runtimes_same [] [] [] p q = refl
+runtimes_same [] [] (y ∷ b) p q = absurd q
+runtimes_same [] (x ∷ a) b p q = absurd p
+runtimes_same (f ∷ files) [] b p q = absurd p
+runtimes_same (f ∷ files) (x ∷ a) [] p q = absurd q
+runtimes_same (f ∷ files) (x ∷ a) (y ∷ b) p q =
+    let segments : x.segments ≡ y.segments = loadable_same f.1 x.segments y.segments p.1.loadable q.1.loadable in
+    let one : x ≡ y = ap (λ (path : List ℕ). runtime_of path x.segments) (p.0 ∙ sym q.0) ∙ ap (λ (s : List Segment). runtime_of y.path s) segments in
+    ap (λ (r : RuntimeFile). r ∷ a) one ∙ ap (λ (l : List RuntimeFile). y ∷ l) (runtimes_same files a b p.2 q.2)
+  where
+    runtime_of : List ℕ → List Segment → RuntimeFile
+    runtime_of path segments = record { path = path; segments = segments }
+
+pub setting_same : (given : Given) (a b : Setting) → IsSetting given a → IsSetting given b → a ≡ b
+setting_same given a b p q =
+    ap (λ (f : LinkForm). setting_of f a.runtimes) (p.form' ∙ sym q.form') ∙ ap (λ (r : List RuntimeFile). setting_of b.form r) (runtimes_same given.runtimes a.runtimes b.runtimes p.runtimes' q.runtimes')
+  where
+    setting_of : LinkForm → List RuntimeFile → Setting
+    setting_of form runtimes = record { form = form; runtimes = runtimes }
+
+-- a run-time library file has one first fault
+one_runtime_fault : (file : List ℕ) (a b : LoadFault) → IsFirstRuntimeFault file a → IsFirstRuntimeFault file b → a ≡ b
+one_runtime_fault file a b (OfLoading p) (OfLoading q) = first_fault_same file a b p q
+one_runtime_fault file a b (OfLoading p) (OfKind segments is q) = absurd (loadable_sound file segments a is p)
+one_runtime_fault file a b (OfKind segments is p) (OfLoading q) = absurd (loadable_sound file segments b is q)
+one_runtime_fault file a b (OfKind segments is p) (OfKind other is' q) =
+    some_load a b (sym p ∙ ap runtime_fault (loadable_same file segments other is is') ∙ q)
+  where
+    some_load : (a b : LoadFault) → Some a ≡ Some b → a ≡ b
+    some_load a b e = cc
+
+pub one_program : (files : Given) (a b : List Member) → IsProgram files a → IsProgram files b → a ≡ b
 one_program files a b p q =
-    let same : p.inputs ≡ q.inputs = inputs_same files p.inputs q.inputs p.are_inputs q.are_inputs in
-    one_linked_list q.inputs a b (subst (λ (i : List Input). IsLinked i a) same p.linked) q.linked
+    let same : p.inputs ≡ q.inputs = inputs_same files.inputs p.inputs q.inputs p.are_inputs q.are_inputs in
+    let settings = setting_same files p.setting q.setting p.is_setting q.is_setting in
+    one_linked_list q.setting q.inputs a b (subst (λ (i : List Input). IsLinked q.setting i a) same (subst (λ (s : Setting). IsLinked s p.inputs a) settings p.linked)) q.linked
 
 -- ---- the phases
 
@@ -103,6 +140,9 @@ one_org before m a b p q = p.told ∙ sym q.told
 one_length : (list : List Member) → HasOne (HasLengthFault list)
 one_length list before f a b p q = p.told ∙ sym q.told
 
+one_kind : (list : List Member) → HasOne (HasKindFault list)
+one_kind list before f a b p q = p.told ∙ sym q.told
+
 one_count : (list : List Member) (a b : LinkFault) → HasCountFault list a → HasCountFault list b → a ≡ b
 one_count list a b p q =
     let same : p.load_name ≡ q.load_name = some_same p.load_name q.load_name (sym p.there ∙ q.there) in
@@ -112,23 +152,30 @@ one_layout : (list : List Member) → HasOne (HasLayoutFault list)
 one_layout list before Orgs a b p q = one_first HasOrgFault list a b one_org p q
 one_layout list before Count a b p q = one_count list a b p q
 one_layout list before Lengths a b p q = one_first (HasLengthFault list) (load_headers list) a b (one_length list) p q
+one_layout list before Kinds a b p q = one_first (HasKindFault list) (load_headers list) a b (one_kind list) p q
 
-one_phase : (files : List (List ℕ)) → HasOne (HasPhaseFault files)
+one_part : HasOne HasPartFault
+one_part before (OfInput bytes) a b p q = one_file_fault (length before + 1) bytes a b p q
+one_part before (OfRuntime bytes) a b p q =
+    let same : p.found ≡ q.found = one_runtime_fault bytes p.found q.found p.first q.first in
+    p.told ∙ ap (λ (f : LoadFault). fault_of (runtime_cause f.cause) None (record { file = length before + 1; segment = f.segment; at = f.at })) same ∙ sym q.told
+
+one_phase : (files : Given) → HasOne (HasPhaseFault files)
 one_phase files before Reading a b p q =
-    one_first (λ fronts bytes. HasFileFault (length fronts + 1) bytes) files a b (λ fronts bytes. one_file_fault (length fronts + 1) bytes) p q
-one_phase files before Objects a b p q = p.3 ∙ sym q.3
+    one_first HasPartFault (parts_of files) a b one_part p q
+one_phase files before Objects a b p q = p.5 ∙ sym q.5
 one_phase files before Names a b p q =
     let same : p.0 ≡ q.0 = one_program files p.0 q.0 p.1 q.1 in
     one_first (HasUseFault q.0) (asked q.0) a b (one_use q.0) (subst (λ (l : List Member). IsFirst (HasUseFault l) (asked l) a) same p.2) q.2
 one_phase files before Layout a b p q =
     let same : p.0 ≡ q.0 = one_program files p.0 q.0 p.1 q.1 in
-    one_first (HasLayoutFault q.0) (Orgs ∷ Count ∷ Lengths ∷ []) a b (one_layout q.0)
-    (subst (λ (l : List Member). IsFirst (HasLayoutFault l) (Orgs ∷ Count ∷ Lengths ∷ []) a) same p.2) q.2
+    one_first (HasLayoutFault q.0) (Orgs ∷ Count ∷ Lengths ∷ Kinds ∷ []) a b (one_layout q.0)
+    (subst (λ (l : List Member). IsFirst (HasLayoutFault l) (Orgs ∷ Count ∷ Lengths ∷ Kinds ∷ []) a) same p.2) q.2
 
 -- there is one first fault at most
-pub one_resolve_fault : (files : List (List ℕ)) (a b : LinkFault) → IsFirstResolveFault files a → IsFirstResolveFault files b → a ≡ b
+pub one_resolve_fault : (files : Given) (a b : LinkFault) → IsFirstResolveFault files a → IsFirstResolveFault files b → a ≡ b
 one_resolve_fault files a b p q = one_first (HasPhaseFault files) phases a b (one_phase files) p q
 
 -- files that are resolved have none
-pub resolved_sound : (files : List (List ℕ)) (list : List Member) (fault : LinkFault) → IsResolved files list → IsFirstResolveFault files fault → ⊥
+pub resolved_sound : (files : Given) (list : List Member) (fault : LinkFault) → IsResolved files list → IsFirstResolveFault files fault → ⊥
 resolved_sound files list fault is p = is.sound p.before p.item p.after fault p.parts p.here

@@ -1,6 +1,6 @@
 -- The load file that the linker writes is a file of the load segments and the table, and each stands for its cells.
-use Rattle.std.proofs.Common.{◌≡◌, ℕ, ◌+◌, ◌^◌, ◌<◌, ◌≤◌, Bool, true, false, not, eqb, ltb, List, [], ◌∷◌, ◌++◌, length, map, filter, get_or, refl, sym, ap, subst, ◌∙◌, append_assoc, arith, inl, inr}
-use Rattle.std.specs.Prelude.{◌||◌, ◌&&◌}
+use Rattle.std.proofs.Common.{suc, ◌≡◌, ℕ, ◌+◌, ◌^◌, ◌<◌, ◌≤◌, Bool, true, false, not, eqb, ltb, List, [], ◌∷◌, ◌++◌, length, map, filter, get_or, refl, sym, ap, subst, ◌∙◌, append_assoc, arith, inl, inr}
+use Rattle.std.specs.Prelude.{◌||◌, ◌&&◌, cond}
 use Rattle.std.specs.List.{flat_map, AllByRecursion}
 use Rattle.std.specs.Str.{bytes_eq}
 use Rattle.std.proofs.lemmas.Bool.{cases_lt, cases_Bool, lt-ltb}
@@ -10,7 +10,6 @@ use Rattle.std.proofs.lemmas.Grind.{flat_map-append}
 use Rattle.std.proofs.lemmas.Option.{slice_get-get_or}
 use Rattle.std.proofs.lemmas.Slice.Eq.{bytes_eq-Decides}
 use Rattle.omf_format.specs.Header.{Fields, form_of, is_listed, header_bytes}
-use Rattle.omf_format.specs.Number.{IsBytes}
 use Rattle.omf_format.specs.laws.WrittenHeaderLaws.{length-header}
 use Rattle.omf_format.specs.laws.FieldLaws.{length-trim}
 use Rattle.omf_format.specs.File.{Segment, IsFile}
@@ -19,48 +18,55 @@ use Rattle.load_meaning.specs.Cells.{Cell, cells}
 use Rattle.load_meaning.specs.Table.{file_entry}
 use Rattle.load_meaning.specs.WrittenBody.{written_cells, zeros_behind}
 use Rattle.load_meaning.specs.laws.StoredLaws.{zeros-le}
-use Rattle.load_meaning.specs.WrittenFile.{Image, image_body, image_fields, image_text, file_text, IsImage, IsReadAs, AreReadAs}
+use Rattle.load_meaning.specs.WrittenFile.{Image, image_body, image_fields, image_text, file_text, IsImage, IsReadAs, AreReadAs, IsExport}
 use Rattle.load_meaning.specs.laws.WrittenFileLaws.{file_stands_for}
 use Rattle.load_meaning.specs.laws.WrittenTableLaws.{table_stands_for}
+use Rattle.load_meaning.specs.laws.WrittenPathLaws.{pathnames_image_is, pathnames_cells}
+use Rattle.load_meaning.specs.Pathnames.{IsPath, most_paths}
+use Rattle.omf_format.specs.Record.{Record}
+use Rattle.link_meaning.specs.laws.ExportLaws.{exports_fit}
+use Rattle.link_meaning.specs.laws.SettingLaws.{has_paths}
+use Rattle.link_meaning.specs.declared.form.LinkForm.TheVariants.{Program, Runtime as LibraryForm}
+use Rattle.link_meaning.specs.declared.form.LinkForm.{LinkForm}
 use Rattle.link_meaning.specs.declared.fault.LinkFault.{LinkFault}
 use Rattle.link_meaning.specs.First.{IsIn, HasNone, IsFirst}
 use Rattle.link_meaning.specs.laws.FirstLaws.{none_yet, none_more}
 use Rattle.link_meaning.specs.laws.MemberLists.{in_filter, filter_in}
-use Rattle.link_meaning.specs.Member.{Member}
+use Rattle.link_meaning.specs.Member.{Member, RuntimeFile, setting_in, form_in}
 use Rattle.link_meaning.specs.Layout.{in_load, load_length, distinct, load_names, load_members, lesser_bank, cleared, least_bank, greatest_align, of_first, load_fields, headers_from, load_headers}
-use Rattle.link_meaning.specs.LinkFaults.{HasCountFault, is_too_long, HasLengthFault, Orgs, Count, Lengths, HasLayoutFault, Reading, Objects, Names, Layout, IsResolved}
+use Rattle.link_meaning.specs.LinkFaults.{Given, HasBytes, may_not_stand, HasKindFault, HasCountFault, is_too_long, HasLengthFault, Orgs, Count, Lengths, Kinds, HasLayoutFault, Reading, Objects, Names, Layout, IsResolved}
 use Rattle.link_meaning.specs.LinkValues.{Told}
 use Rattle.link_meaning.specs.LinkedCells.{table_number, items, state_behind, targets, linked}
-use Rattle.link_meaning.specs.LinkWritten.{byte_under, patches_of_cells, image_of, load_images, table_images, images, written_file, table_cells, linked_cells, HaveCells, AreMade, start}
+use Rattle.link_meaning.specs.LinkWritten.{byte_under, patches_of_cells, image_of, load_images, table_images, images, written_file, table_cells, linked_cells, HaveCells, AreMade, start, exports, exports_for, path_images, path_cells}
 use Rattle.link_meaning.specs.laws.RunCells.{AreRuns, runs_written, runs_stand}
 use Rattle.link_meaning.specs.laws.LinkedRuns.{HasCells, MembersHave, linked_has, AreSoundItems, members_have, AreSized, few_on}
 use Rattle.link_meaning.specs.laws.ReadMembers.{IsRead, members_read, HasHeader, read_header, read_size, read_some}
 
 -- ---- what the layout holds
 
-no_layout : (files : List (List ℕ)) (list : List Member) (fault : LinkFault) → IsResolved files list → IsFirst (HasLayoutFault list) (Orgs ∷ Count ∷ Lengths ∷ []) fault → ⊥
+no_layout : (files : Given) (list : List Member) (fault : LinkFault) → IsResolved files list → IsFirst (HasLayoutFault list) (Orgs ∷ Count ∷ Lengths ∷ Kinds ∷ []) fault → ⊥
 no_layout files list fault resolved first = resolved.sound (Reading ∷ Objects ∷ Names ∷ []) Layout [] fault refl (list, resolved.program, first)
 
-no_orgs : (files : List (List ℕ)) (list : List Member) → IsResolved files list → (fault : LinkFault) → HasLayoutFault list [] Orgs fault → ⊥
+no_orgs : (files : Given) (list : List Member) → IsResolved files list → (fault : LinkFault) → HasLayoutFault list [] Orgs fault → ⊥
 no_orgs files list resolved fault has =
-    no_layout files list fault resolved (record { before = []; item = Orgs; after = Count ∷ Lengths ∷ []; parts = refl; none = none_yet (HasLayoutFault list); here = has })
+    no_layout files list fault resolved (record { before = []; item = Orgs; after = Count ∷ Lengths ∷ Kinds ∷ []; parts = refl; none = none_yet (HasLayoutFault list); here = has })
 
-none_one : (files : List (List ℕ)) (list : List Member) → IsResolved files list → HasNone (HasLayoutFault list) (Orgs ∷ [])
+none_one : (files : Given) (list : List Member) → IsResolved files list → HasNone (HasLayoutFault list) (Orgs ∷ [])
 none_one files list resolved = none_more (HasLayoutFault list) [] Orgs (none_yet (HasLayoutFault list)) (no_orgs files list resolved)
 
-no_count : (files : List (List ℕ)) (list : List Member) → IsResolved files list → (fault : LinkFault) → HasCountFault list fault → ⊥
+no_count : (files : Given) (list : List Member) → IsResolved files list → (fault : LinkFault) → HasCountFault list fault → ⊥
 no_count files list resolved fault has =
-    no_layout files list fault resolved (record { before = Orgs ∷ []; item = Count; after = Lengths ∷ []; parts = refl; none = none_one files list resolved; here = has })
+    no_layout files list fault resolved (record { before = Orgs ∷ []; item = Count; after = Lengths ∷ Kinds ∷ []; parts = refl; none = none_one files list resolved; here = has })
 
-none_two : (files : List (List ℕ)) (list : List Member) → IsResolved files list → HasNone (HasLayoutFault list) (Orgs ∷ Count ∷ [])
+none_two : (files : Given) (list : List Member) → IsResolved files list → HasNone (HasLayoutFault list) (Orgs ∷ Count ∷ [])
 none_two files list resolved = none_more (HasLayoutFault list) (Orgs ∷ []) Count (none_one files list resolved) (no_count files list resolved)
 
-no_lengths : (files : List (List ℕ)) (list : List Member) → IsResolved files list → (fault : LinkFault) → IsFirst (HasLengthFault list) (load_headers list) fault → ⊥
+no_lengths : (files : Given) (list : List Member) → IsResolved files list → (fault : LinkFault) → IsFirst (HasLengthFault list) (load_headers list) fault → ⊥
 no_lengths files list resolved fault has =
-    no_layout files list fault resolved (record { before = Orgs ∷ Count ∷ []; item = Lengths; after = []; parts = refl; none = none_two files list resolved; here = has })
+    no_layout files list fault resolved (record { before = Orgs ∷ Count ∷ []; item = Lengths; after = Kinds ∷ []; parts = refl; none = none_two files list resolved; here = has })
 
 -- there are at most 254 load segments
-pub few_loads : (files : List (List ℕ)) (list : List Member) → IsResolved files list → length (load_names list) ≤ 254
+pub few_loads : (files : Given) (list : List Member) → IsResolved files list → length (load_names list) ≤ 254
 few_loads files list resolved = elim (cases_lt 254 (length (load_names list))) [
   | inl lt ↦
       let x = get_or (load_names list) 254 [] in
@@ -71,7 +77,7 @@ few_loads files list resolved = elim (cases_lt 254 (length (load_names list))) [
 true_false : true ≡ false → ⊥
 true_false e = cc
 
-short_from : (files : List (List ℕ)) (list : List Member) (before rest : List Fields) → IsResolved files list → load_headers list ≡ before ++ rest → HasNone (HasLengthFault list) before
+short_from : (files : Given) (list : List Member) (before rest : List Fields) → IsResolved files list → load_headers list ≡ before ++ rest → HasNone (HasLengthFault list) before
     → AllByRecursion (λ f. is_too_long f ≡ false) rest
 short_from files list before [] resolved parts none = tt
 short_from files list before (f ∷ rest) resolved parts none = by_test (is_too_long f) refl (λ is more. (is, short_from files list (before ++ f ∷ []) rest resolved (parts ∙ sym (append_assoc before (f ∷ []) rest)) more))
@@ -81,8 +87,26 @@ short_from files list before (f ∷ rest) resolved parts none = by_test (is_too_
     by_test true is go = absurd (no_lengths files list resolved _ (record { before = before; item = f; after = rest; parts = parts; none = none; here = record { long = is; told = refl } }))
     by_test false is go = go is (none_more (HasLengthFault list) before f none (λ fault has. true_false (sym has.long ∙ is)))
 
-pub short_loads : (files : List (List ℕ)) (list : List Member) → IsResolved files list → AllByRecursion (λ f. is_too_long f ≡ false) (load_headers list)
+pub short_loads : (files : Given) (list : List Member) → IsResolved files list → AllByRecursion (λ f. is_too_long f ≡ false) (load_headers list)
 short_loads files list resolved = short_from files list [] (load_headers list) resolved refl (none_yet (HasLengthFault list))
+
+no_kinds : (files : Given) (list : List Member) → IsResolved files list → (fault : LinkFault) → IsFirst (HasKindFault list) (load_headers list) fault → ⊥
+no_kinds files list resolved fault has =
+    no_layout files list fault resolved (record { before = Orgs ∷ Count ∷ Lengths ∷ []; item = Kinds; after = []; parts = refl; none = none_more (HasLayoutFault list) (Orgs ∷ Count ∷ []) Lengths (none_two files list resolved) (no_lengths files list resolved); here = has })
+
+-- each load segment may stand in what is linked
+standing_from : (files : Given) (list : List Member) (before rest : List Fields) → IsResolved files list → load_headers list ≡ before ++ rest → HasNone (HasKindFault list) before
+    → AllByRecursion (λ f. may_not_stand (form_in list) f ≡ false) rest
+standing_from files list before [] resolved parts none = tt
+standing_from files list before (f ∷ rest) resolved parts none = by_test (may_not_stand (form_in list) f) refl (λ is more. (is, standing_from files list (before ++ f ∷ []) rest resolved (parts ∙ sym (append_assoc before (f ∷ []) rest)) more))
+  where
+    by_test : (b : Bool) → may_not_stand (form_in list) f ≡ b → (may_not_stand (form_in list) f ≡ false → HasNone (HasKindFault list) (before ++ f ∷ []) → AllByRecursion (λ g. may_not_stand (form_in list) g ≡ false) (f ∷ rest))
+        → AllByRecursion (λ g. may_not_stand (form_in list) g ≡ false) (f ∷ rest)
+    by_test true is go = absurd (no_kinds files list resolved _ (record { before = before; item = f; after = rest; parts = parts; none = none; here = record { other = is; told = refl } }))
+    by_test false is go = go is (none_more (HasKindFault list) before f none (λ fault has. true_false (sym has.other ∙ is)))
+
+pub standing_loads : (files : Given) (list : List Member) → IsResolved files list → AllByRecursion (λ f. may_not_stand (form_in list) f ≡ false) (load_headers list)
+standing_loads files list resolved = standing_from files list [] (load_headers list) resolved refl (none_yet (HasKindFault list))
 
 pub short_length : (f : Fields) → is_too_long f ≡ false → f.length ≤ 0xFFFFFF
 short_length f e = elim (cases_lt 0xFFFFFF f.length) [
@@ -165,11 +189,11 @@ load_header_fits list number x each is =
 
 -- ---- a load segment can be written
 
-image_fits : (f : Fields) (cs : List Cell) → HasHeader f → f.version ≡ 2 → f.seg_num < 2 ^ 16 → length f.name ≤ 255 → f.length ≡ length cs → length cs ≤ 0xFFFFFF → AreRuns cs
-    → length (image_text (image_of f cs)) ≤ 0x1000000 → IsImage (image_of f cs)
+image_fits : (f : Fields) (cs : List Cell) (es : List Record) → AllByRecursion IsExport es → HasHeader f → f.version ≡ 2 → f.seg_num < 2 ^ 16 → length f.name ≤ 255 → f.length ≡ length cs → length cs ≤ 0xFFFFFF → AreRuns cs
+    → length (image_text (image_of f cs es)) ≤ 0x1000000 → IsImage (image_of f cs es)
 unfolding image_of image_text
-image_fits f cs header version number name len small runs short =
-    let image : Image = record { fields = f; content = map byte_under cs; patches = patches_of_cells cs } in
+image_fits f cs es exported header version number name len small runs short =
+    let image : Image = record { fields = f; content = map byte_under cs; patches = patches_of_cells cs; exports = es; whole = false } in
     let n = length (image_body image) in
     let zeros : zeros_behind (written_cells (map byte_under cs) (patches_of_cells cs)) ≤ length cs = subst (λ (l : List Cell). zeros_behind l ≤ length cs) (sym (runs_stand cs runs)) (zeros-le cs) in
     let whole : length (header_bytes (image_fields image) n ++ image_body image) ≡ 0x37 + length f.name + n =
@@ -193,16 +217,18 @@ image_fits f cs header version number name len small runs short =
       length' = len ∙ sym size;
       small = omega (arith, size, small);
       patches' = runs_written cs runs;
+      exports' = exported;
+      bare = λ e. absurd cc;
     }
 
-load_image : (list : List Member) (table : List Told) (number : ℕ) (x : List ℕ) → HasHeader (load_fields list number x) → number < 2 ^ 16 → is_too_long (load_fields list number x) ≡ false
-    → HasCells (load_length x list) (linked list table x) → length (image_text (image_of (load_fields list number x) (linked list table x))) ≤ 0x1000000
-    → IsImage (image_of (load_fields list number x) (linked list table x))
+load_image : (list : List Member) (table : List Told) (number : ℕ) (x : List ℕ) (es : List Record) → AllByRecursion IsExport es → HasHeader (load_fields list number x) → number < 2 ^ 16 → is_too_long (load_fields list number x) ≡ false
+    → HasCells (load_length x list) (linked list table x) → length (image_text (image_of (load_fields list number x) (linked list table x) es)) ≤ 0x1000000
+    → IsImage (image_of (load_fields list number x) (linked list table x) es)
 unfolding load_fields
-load_image list table number x header small long has short =
+load_image list table number x es exported header small long has short =
     let f = load_fields list number x in
     let fits = short_length f long in
-    image_fits f (linked list table x) header refl small (omega (arith, length-trim 32 x, header.load_name)) (sym has.size') (omega (arith, has.size', fits)) has.runs short
+    image_fits f (linked list table x) es exported header refl small (omega (arith, length-trim 32 x, header.load_name)) (sym has.size') (omega (arith, has.size', fits)) has.runs short
 
 text_parts : (image : Image) (more : List Image) → length (file_text (image ∷ more)) ≡ length (image_text image) + length (file_text more)
 unfolding file_text
@@ -212,20 +238,39 @@ text_both : (xs ys : List Image) → length (file_text (xs ++ ys)) ≡ length (f
 unfolding file_text
 text_both xs ys = ap length (flat_map-append image_text xs ys) ∙ length-append (flat_map image_text xs) (flat_map image_text ys)
 
-load_all : (list : List Member) (table : List Told) (number : ℕ) (xs : List (List ℕ)) → ((m : Member) → IsIn list m → HasHeader m.segment.fields) → MembersHave list table
+-- those of one load segment
+exports_for_fit : (form : LinkForm) (number : ℕ) (es : List Record) → AllByRecursion IsExport es → AllByRecursion IsExport (exports_for form number es)
+exports_for_fit Program number es all = tt
+exports_for_fit LibraryForm number es all = by_test (eqb number 1)
+  where
+    by_test : (b : Bool) → AllByRecursion IsExport (cond b es [])
+    by_test true = all
+    by_test false = tt
+
+load_all : (list : List Member) (table : List Told) (number : ℕ) (xs : List (List ℕ)) → AllByRecursion IsExport (exports list table) → ((m : Member) → IsIn list m → HasHeader m.segment.fields) → MembersHave list table
     → ((x : List ℕ) → IsIn xs x → IsIn (load_names list) x) → number + length xs ≤ 255 → AllByRecursion (λ f. is_too_long f ≡ false) (headers_from list number xs)
     → length (file_text (load_images list table number xs)) ≤ 0x1000000 → AllByRecursion IsImage (load_images list table number xs)
-load_all list table number [] each have among few shorts size = tt
-load_all list table number (x ∷ xs) each have among few shorts size =
-    let image = image_of (load_fields list number x) (linked list table x) in
+load_all list table number [] exported each have among few shorts size = tt
+load_all list table number (x ∷ xs) exported each have among few shorts size =
+    let es = exports_for (form_in list) number (exports list table) in
+    let image = image_of (load_fields list number x) (linked list table x) es in
     let parts = text_parts image (load_images list table (number + 1) xs) in (
-      load_image list table number x (load_header_fits list number x each (among x (inl refl))) (omega (arith, few)) shorts.0 (linked_has list table x have) (omega (arith, parts, size)),
-      load_all list table (number + 1) xs each have (λ y is. among y (inr is)) (omega (arith, few)) shorts.1 (omega (arith, parts, size)),
+      load_image list table number x es (exports_for_fit (form_in list) number (exports list table) exported) (load_header_fits list number x each (among x (inl refl))) (omega (arith, few)) shorts.0 (linked_has list table x have) (omega (arith, parts, size)),
+      load_all list table (number + 1) xs exported each have (λ y is. among y (inr is)) (omega (arith, few)) shorts.1 (omega (arith, parts, size)),
     )
 
 table_all : (number : ℕ) (ts : List Target) → number < 2 ^ 16 → length ts ≤ 4680 → AllByRecursion IsImage (table_images number ts)
 table_all number [] small few = tt
 table_all number (t ∷ ts) small few = ((table_stands_for number (map file_entry (t ∷ ts)) small (omega (arith, length-map (t ∷ ts) (λ (u : Target). file_entry u), few))).0, tt)
+
+path_all : (number : ℕ) (runtimes : List RuntimeFile) → number < 2 ^ 16 → AllByRecursion IsPath (map (λ (r : RuntimeFile). r.path) runtimes) → length runtimes ≤ most_paths → AllByRecursion IsImage (path_images number runtimes)
+path_all number [] small all few = tt
+path_all number (r ∷ runtimes) small all few =
+    (pathnames_image_is number (map (λ (one : RuntimeFile). one.path) (r ∷ runtimes)) small all (omega (arith, length-map (r ∷ runtimes) (λ (one : RuntimeFile). one.path), few)), tt)
+
+count-tables : (number : ℕ) (ts : List Target) → length (table_images number ts) ≤ 1
+count-tables number [] = omega arith
+count-tables number (t ∷ ts) = omega arith
 
 all-append : (xs ys : List Image) → AllByRecursion IsImage xs → AllByRecursion IsImage ys → AllByRecursion IsImage (xs ++ ys)
 all-append [] ys p q = q
@@ -233,23 +278,31 @@ all-append (x ∷ xs) ys p q = (p.0, all-append xs ys p.1 q)
 
 -- ---- the cells of what is read
 
-table_read : (number : ℕ) (ts : List Target) (segments : List Segment) → number < 2 ^ 16 → length ts ≤ 4680 → AreReadAs (table_images number ts) segments → HaveCells (table_cells ts) segments
-table_read number [] [] small few are = tt
-table_read number [] (s ∷ segments) small few are = absurd are
-table_read number (t ∷ ts) [] small few are = absurd are
-table_read number (t ∷ ts) (s ∷ []) small few are = ((table_stands_for number (map file_entry (t ∷ ts)) small (omega (arith, length-map (t ∷ ts) (λ (u : Target). file_entry u), few))).1 s are.0, tt)
-table_read number (t ∷ ts) (s ∷ u ∷ segments) small few are = absurd are.1
-
-cells_read : (f : Fields) (cs : List Cell) (s : Segment) → AreRuns cs → IsReadAs (image_of f cs) s → cells s ≡ cs
+cells_read : (f : Fields) (cs : List Cell) (es : List Record) (s : Segment) → AreRuns cs → IsReadAs (image_of f cs es) s → cells s ≡ cs
 unfolding image_of
-cells_read f cs s runs is = is.cells' ∙ runs_stand cs runs
+cells_read f cs es s runs is = is.cells' ∙ runs_stand cs runs
 
 loads_read : (list : List Member) (table : List Told) (number : ℕ) (xs : List (List ℕ)) (tables : List Image) (last : List (List Cell)) (segments : List Segment) → MembersHave list table
     → ((rest : List Segment) → AreReadAs tables rest → HaveCells last rest) → AreReadAs (load_images list table number xs ++ tables) segments → HaveCells (map (linked list table) xs ++ last) segments
 loads_read list table number [] tables last segments have rest are = rest segments are
 loads_read list table number (x ∷ xs) tables last [] have rest are = absurd are
 loads_read list table number (x ∷ xs) tables last (s ∷ segments) have rest are =
-    (cells_read (load_fields list number x) (linked list table x) s (linked_has list table x have).runs are.0, loads_read list table (number + 1) xs tables last segments have rest are.1)
+    (cells_read (load_fields list number x) (linked list table x) (exports_for (form_in list) number (exports list table)) s (linked_has list table x have).runs are.0, loads_read list table (number + 1) xs tables last segments have rest are.1)
+
+path_read : (number : ℕ) (runtimes : List RuntimeFile) (segments : List Segment) → AreReadAs (path_images number runtimes) segments → HaveCells (path_cells runtimes) segments
+path_read number [] [] are = tt
+path_read number [] (s ∷ segments) are = absurd are
+path_read number (r ∷ runtimes) [] are = absurd are
+path_read number (r ∷ runtimes) (s ∷ []) are = (pathnames_cells number (map (λ (one : RuntimeFile). one.path) (r ∷ runtimes)) s are.0, tt)
+path_read number (r ∷ runtimes) (s ∷ u ∷ segments) are = absurd are.1
+
+-- the table, and what stands behind it
+behind_read : (number : ℕ) (ts : List Target) (more : List Image) (last : List (List Cell)) (segments : List Segment) → number < 2 ^ 16 → length ts ≤ 4680
+    → ((rest : List Segment) → AreReadAs more rest → HaveCells last rest) → AreReadAs (table_images number ts ++ more) segments → HaveCells (table_cells ts ++ last) segments
+behind_read number [] more last segments small few rest are = rest segments are
+behind_read number (t ∷ ts) more last [] small few rest are = absurd are
+behind_read number (t ∷ ts) more last (s ∷ segments) small few rest are =
+    ((table_stands_for number (map file_entry (t ∷ ts)) small (omega (arith, length-map (t ∷ ts) (λ (u : Target). file_entry u), few))).1 s are.0, rest segments are.1)
 
 -- ---- the file
 
@@ -264,8 +317,16 @@ few_targets : (list : List Member) (table : List Told) → table_number list < 2
 unfolding targets state_behind
 few_targets list table small are sound = few_on list table start (items list) small (omega arith) are sound
 
+length-headers : (list : List Member) (number : ℕ) (xs : List (List ℕ)) → length (headers_from list number xs) ≡ length xs
+length-headers list number [] = refl
+length-headers list number (x ∷ xs) = ap suc (length-headers list (number + 1) xs)
+
+count-headers : (list : List Member) → length (load_headers list) ≡ length (load_names list)
+unfolding load_headers
+count-headers list = length-headers list 1 (load_names list)
+
 -- each of them can be written
-pub are_images : (files : List (List ℕ)) (list : List Member) (table : List Told) → AllByRecursion IsBytes files → IsResolved files list → AreSoundItems list table (items list)
+pub are_images : (files : Given) (list : List Member) (table : List Told) → HasBytes files → IsResolved files list → AreSoundItems list table (items list)
     → AreMade list table start (items list) → length (written_file list table) ≤ 0x1000000 → MembersHave list table × AllByRecursion IsImage (images list table)
 unfolding written_file images load_headers
 are_images files list table bytes resolved sound are short =
@@ -277,11 +338,18 @@ are_images files list table bytes resolved sound are short =
     let have = members_have list table small are sound sized in
     let few : length (targets list table) ≤ 4680 = few_targets list table small are sound in
     let first = load_images list table 1 (load_names list) in
-    let last = table_images (table_number list) (targets list table) in
+    let tables = table_images (table_number list) (targets list table) in
+    let last = tables ++ path_images (table_number list + length tables) (setting_in list).runtimes in
     let parts = text_both first last in
-    (have, all-append first last (load_all list table 1 (load_names list) each have (λ x is. is) (omega (arith, loads)) (short_loads files list resolved) (omega (arith, parts, short))) (table_all (table_number list) (targets list table) small few))
+    let paths = has_paths files list bytes resolved.program in
+    let exported = exports_fit list table read (omega (arith, loads, count-headers list)) (short_loads files list resolved) in
+    let behind = path_all (table_number list + length tables) (setting_in list).runtimes (omega (arith, loads, count-tables (table_number list) (targets list table))) paths.paths paths.few in (
+      have,
+      all-append first last (load_all list table 1 (load_names list) exported each have (λ x is. is) (omega (arith, loads)) (short_loads files list resolved) (omega (arith, parts, short)))
+          (all-append tables (path_images (table_number list + length tables) (setting_in list).runtimes) (table_all (table_number list) (targets list table) small few) behind),
+    )
 
-pub stands_for : (files : List (List ℕ)) (list : List Member) (table : List Told) → AllByRecursion IsBytes files → IsResolved files list → AreSoundItems list table (items list)
+pub stands_for : (files : Given) (list : List Member) (table : List Told) → HasBytes files → IsResolved files list → AreSoundItems list table (items list)
     → AreMade list table start (items list) → length (written_file list table) ≤ 0x1000000
     → (segments : List Segment) × IsFile segments (written_file list table) × AreReadAs (images list table) segments × HaveCells (linked_cells list table) segments
 unfolding written_file images linked_cells
@@ -291,10 +359,14 @@ stands_for files list table bytes resolved sound are short =
     let few : length (targets list table) ≤ 4680 = few_targets list table small are sound in
     let both = are_images files list table bytes resolved sound are short in
     let first = load_images list table 1 (load_names list) in
-    let last = table_images (table_number list) (targets list table) in
+    let tables = table_images (table_number list) (targets list table) in
+    let number = table_number list + length tables in
+    let runtimes = (setting_in list).runtimes in
+    let last = tables ++ path_images number runtimes in
     let made = file_stands_for (first ++ last) both.1 in (
       made.0,
       made.1,
       made.2,
-      loads_read list table 1 (load_names list) last (table_cells (targets list table)) made.0 both.0 (λ rest r. table_read (table_number list) (targets list table) rest small few r) made.2,
+      loads_read list table 1 (load_names list) last (table_cells (targets list table) ++ path_cells runtimes) made.0 both.0
+          (λ rest r. behind_read (table_number list) (targets list table) (path_images number runtimes) (path_cells runtimes) rest small few (λ more q. path_read number runtimes more q) r) made.2,
     )

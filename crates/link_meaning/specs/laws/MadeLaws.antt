@@ -2,7 +2,7 @@
 use Rattle.std.proofs.Common.{◌≡◌, ℕ, ℤ, pos, zero, suc, ◌+◌, ◌^◌, ◌<◌, ◌≤◌, Bool, true, false, eqb, leb, ltb, List, [], ◌∷◌, ◌++◌, length, map, replicate, Option, Some, None, Result, Ok, Err, refl, sym, ap, subst, ◌∙◌, arith, inl, inr}
 use Rattle.std.specs.Prelude.{◌&&◌, ◌||◌, not, cond, IsTrue, unwrap_or, position}
 use Rattle.std.specs.List.{flat_map, list_any, AllByRecursion}
-use Rattle.std.proofs.lemmas.Bool.{ltb-true}
+use Rattle.std.proofs.lemmas.Bool.{ltb-true, eqb-true}
 use Rattle.std.proofs.lemmas.List.{length-append, length-map, length-replicate}
 use Rattle.std.proofs.lemmas.List.Concat.{flat_map-cons}
 use Rattle.std.proofs.lemmas.List.Quantifiers.{position-Some}
@@ -23,11 +23,11 @@ use Rattle.link_meaning.specs.declared.fault.LinkCause.{LinkCause}
 use Rattle.link_meaning.specs.declared.fault.LinkCause.TheVariants.{DoesNotFit, DynamicReference, OutOfSegment, TooManyEntries}
 use Rattle.link_meaning.specs.Sizes.{size_at}
 use Rattle.omf_format.specs.Number.{padding}
-use Rattle.link_meaning.specs.Member.{Member}
+use Rattle.link_meaning.specs.Member.{Member, Setting}
 use Rattle.link_meaning.specs.Layout.{load_headers}
 use Rattle.link_meaning.specs.LinkValues.{Told, value_in}
 use Rattle.link_meaning.specs.Fitting as fitting
-use Rattle.link_meaning.specs.Fitting.{Frame, Fit, Number, Place, number_fit, place_fit, distance_fit, or_does_not_fit, is_dynamic_load, length_of, is_call, target_of, has_room_for, call_fit, fitted, parts, entry_of, fit_cells, targets_behind, valued}
+use Rattle.link_meaning.specs.Fitting.{Frame, Fit, Number, Place, number_fit, place_fit, distance_fit, or_does_not_fit, is_dynamic_load, is_call, target_of, has_room_for, call_fit, fitted, parts, entry_of, fit_cells, targets_behind, valued, is_far, length_there, may_call}
 use Rattle.link_meaning.specs.LinkedCells.{Item, State, Made, zeros, made_by, table_number, frame_of, cells_before}
 use Rattle.link_meaning.specs.laws.RunCells.{Piece, One, Whole, cells_of, IsPiece, AreRuns}
 
@@ -94,7 +94,7 @@ length-bytes bytes = length-map bytes (λ (b : ℕ). Byte b)
 length-fit : (table count : ℕ) (targets : List Target) (fit : Fit) → length (fit_cells table count targets fit) ≡ count
 length-fit table count targets (Number n) = length-bytes (little_bytes count n) ∙ length-bytes_low_first 0 count n
 length-fit table count targets (Place segment offset shift) = length-parts count segment offset shift
-length-fit table count targets (fitting.Entry segment offset) = length-parts count table (entry_place (entry_of targets (target_of segment offset))) (pos 0)
+length-fit table count targets (fitting.Entry t) = length-parts count table (entry_place (entry_of targets t)) (pos 0)
 
 abbrev pub okay : Made → Result Made LinkCause
 okay x = Ok x
@@ -131,19 +131,19 @@ length-made list table state i (Entry segment offset name) x e = size_is _ x _ e
 
 -- ---- what fits
 
--- a place has a shift and an offset that fit a patch record, and its segment's number is one of these
-abbrev pub FitsPlace : (ℕ → Type 0) → Value → Type 0
+-- a place has a shift and an offset that fit a patch record, and its file and its segment's number are some of these
+abbrev pub FitsPlace : (ℕ → ℕ → Type 0) → Value → Type 0
 FitsPlace P (Fixed n) = Unit {0}
-FitsPlace P (At file segment offset shift) = IsTrue (is_shift shift) × P segment × (offset < 2 ^ 32)
+FitsPlace P (At file segment offset shift) = IsTrue (is_shift shift) × P file segment × (file ≡ 1 → offset < 2 ^ 32)
 
 -- a place fits a patch record
 abbrev pub FitsPatch : Value → Type 0
-FitsPatch v = FitsPlace (λ (segment : ℕ). segment < 2 ^ 16) v
+FitsPatch v = FitsPlace (λ (file segment : ℕ). file ≡ 1 → segment < 2 ^ 16) v
 
 abbrev FitsFit : List Target → Fit → Type 0
 FitsFit targets (Number n) = Unit {0}
 FitsFit targets (Place segment offset shift) = IsTrue (is_shift shift) × (segment < 2 ^ 16) × (offset < 2 ^ 32)
-FitsFit targets (fitting.Entry segment offset) = has_room_for targets (target_of segment offset) ≡ true
+FitsFit targets (fitting.Entry t) = has_room_for targets t ≡ true
 
 abbrev fine : Fit → Result Fit LinkCause
 fine fit = Ok fit
@@ -183,23 +183,31 @@ room : (b : Bool) → not b ≡ false → b ≡ true
 room true e = refl
 room false e = absurd cc
 
-call_fits : (headers : List Fields) (targets : List Target) (call : Bool) (segment offset : ℕ) (fit : Fit) → call_fit headers targets call segment offset ≡ Ok fit → FitsFit targets fit
-call_fits headers targets call segment offset fit e = elim (chosen (not call) _ _ (fine fit) e) [
+call_fits : (headers : List Fields) (setting : Setting) (targets : List Target) (call : Bool) (t : Target) (fit : Fit) → call_fit headers setting targets call t ≡ Ok fit → FitsFit targets fit
+call_fits headers setting targets call t fit e = elim (chosen (not (may_call setting.form && call)) _ _ (fine fit) e) [
   | inl x ↦ absurd (not_bad DynamicReference fit x.1)
-  | inr x ↦ elim (chosen (leb (length_of headers segment) offset) (bad OutOfSegment) (cond (not (has_room_for targets (target_of segment offset))) (bad TooManyEntries) (fine (fitting.Entry segment offset))) (fine fit) x.1) [
+  | inr x ↦ elim (chosen (leb (length_there headers setting t) t.offset) (bad OutOfSegment) (cond (not (has_room_for targets t)) (bad TooManyEntries) (fine (fitting.Entry t))) (fine fit) x.1) [
     | inl y ↦ absurd (not_bad OutOfSegment fit y.1)
-    | inr y ↦ elim (chosen (not (has_room_for targets (target_of segment offset))) _ _ (fine fit) y.1) [
+    | inr y ↦ elim (chosen (not (has_room_for targets t)) _ _ (fine fit) y.1) [
       | inl z ↦ absurd (not_bad TooManyEntries fit z.1)
-      | inr z ↦ subst (FitsFit targets) (one_fit (fitting.Entry segment offset) fit z.1) (room (has_room_for targets (target_of segment offset)) z.0)
+      | inr z ↦ subst (FitsFit targets) (one_fit (fitting.Entry t) fit z.1) (room (has_room_for targets t) z.0)
     ]
   ]
 ]
 
+-- a place that isn't far is in the file itself
+pub own_file : (file : ℕ) (d : Bool) → (not (eqb file 1) || d) ≡ false → file ≡ 1
+own_file file d e = by_test (eqb file 1) refl e
+  where
+    by_test : (b : Bool) → eqb file 1 ≡ b → (not b || d) ≡ false → file ≡ 1
+    by_test true is e = eqb-true file 1 is
+    by_test false is e = absurd cc
+
 fits_fit : (headers : List Fields) (f : Frame) (targets : List Target) (before : List Cell) (code count n : ℕ) (v : Value) (fit : Fit) → fitted headers f targets before code count n v ≡ Ok fit → FitsPatch v → FitsFit targets fit
 fits_fit headers f targets before code count n (Fixed k) fit e is = in_fit targets (number_fit code count k) fit e (number_fits targets code count k)
-fits_fit headers f targets before code count n (At file segment offset shift) fit e is = elim (chosen (not (eqb segment f.own) && is_dynamic_load headers segment) _ _ (fine fit) e) [
-  | inl x ↦ call_fits headers targets (is_call code count shift before) segment offset fit x.1
-  | inr x ↦ in_fit targets (place_fit f code count n segment offset shift) fit x.1 (place_fits targets f code count n segment offset shift is)
+fits_fit headers f targets before code count n (At file segment offset shift) fit e is = elim (chosen (is_far headers f.own file segment) _ _ (fine fit) e) [
+  | inl x ↦ call_fits headers f.setting targets (is_call code count shift before) (target_of file segment offset) fit x.1
+  | inr x ↦ in_fit targets (place_fit f code count n segment offset shift) fit x.1 (place_fits targets f code count n segment offset shift (is.0, is.1 (own_file file (not (eqb segment f.own) && is_dynamic_load headers segment) x.0), is.2 (own_file file (not (eqb segment f.own) && is_dynamic_load headers segment) x.0)))
 ]
 
 -- ---- targets
@@ -218,7 +226,7 @@ with_few targets t few fits = by_test (list_any (is_same t) targets) fits
 few_behind : (targets : List Target) (fit : Fit) → Few targets → FitsFit targets fit → Few (targets_behind targets fit)
 few_behind targets (Number n) few is = few
 few_behind targets (Place segment offset shift) few is = few
-few_behind targets (fitting.Entry segment offset) few is = with_few targets (target_of segment offset) few is
+few_behind targets (fitting.Entry t) few is = with_few targets t few is
 
 entry_below : (targets : List Target) (t : Target) → entry_of targets t ≤ length targets
 entry_below targets t = by_option (position (is_same t) targets) (λ i e. (position-Some (is_same t) targets i t e).0)
@@ -230,8 +238,8 @@ entry_below targets t = by_option (position (is_same t) targets) (λ i e. (posit
 fit_runs : (table count : ℕ) (targets all : List Target) (fit : Fit) → table < 2 ^ 16 → Few all → is_count count ≡ true → FitsFit targets fit → AreRuns (fit_cells table count all fit)
 fit_runs table count targets all (Number n) small few counts is = byte_runs (little_bytes count n)
 fit_runs table count targets all (Place segment offset shift) small few counts is = whole_runs count segment offset shift (counts, is.0, is.1, is.2)
-fit_runs table count targets all (fitting.Entry segment offset) small few counts is =
-    whole_runs count table (entry_place (entry_of all (target_of segment offset))) (pos 0) (counts, refl, small, omega (arith, entry_below all (target_of segment offset), few))
+fit_runs table count targets all (fitting.Entry t) small few counts is =
+    whole_runs count table (entry_place (entry_of all t)) (pos 0) (counts, refl, small, omega (arith, entry_below all t, few))
 
 -- ---- a record
 

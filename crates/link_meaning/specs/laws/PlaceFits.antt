@@ -18,7 +18,7 @@ use Rattle.link_meaning.specs.Defines.{Definition, outer_scope, title_of, define
 use Rattle.link_meaning.specs.Search.{Found, entries_from, entries}
 use Rattle.link_meaning.specs.Layout.{in_load, aligned_from, end_from, load_length, offset_of, distinct, load_names, number_in, load_of, load_fields, headers_from, load_headers}
 use Rattle.link_meaning.specs.laws.LayoutLaws.{aligned_from-least, alignment-some}
-use Rattle.link_meaning.specs.LinkFaults.{is_too_long, IsResolved}
+use Rattle.link_meaning.specs.LinkFaults.{Given, is_too_long, IsResolved}
 use Rattle.link_meaning.specs.LinkValues.{place_value}
 use Rattle.link_meaning.specs.laws.MadeLaws.{FitsPatch}
 use Rattle.link_meaning.specs.laws.LinkWrittenLaws.{few_loads, short_loads, short_length}
@@ -75,7 +75,7 @@ length-load : (list : List Member) (n : ℕ) (x : List ℕ) → (load_fields lis
 unfolding load_fields
 length-load list n x = refl
 
-pub short_load : (files : List (List ℕ)) (list : List Member) (x : List ℕ) → IsResolved files list → IsIn (load_names list) x → load_length x list ≤ 0xFFFFFF
+pub short_load : (files : Given) (list : List Member) (x : List ℕ) → IsResolved files list → IsIn (load_names list) x → load_length x list ≤ 0xFFFFFF
 unfolding load_headers
 short_load files list x resolved is =
     let there = header_there list 1 (load_names list) x is (short_loads files list resolved) in
@@ -117,14 +117,14 @@ in_parts list front m back parts = subst (λ (l : List Member). IsIn l m) (sym p
     there [] = inl refl
     there (o ∷ front) = inr (there front)
 
-pub place_fits : (files : List (List ℕ)) (list : List Member) (place : ℕ) (m : Member) (at : ℕ) → IsResolved files list → ((o : Member) → IsIn list o → body_size o.segment ≤ o.segment.fields.length) → IsPlaceIn list place m at → FitsPatch (place_value list place m at)
+pub place_fits : (files : Given) (list : List Member) (place : ℕ) (m : Member) (at : ℕ) → IsResolved files list → ((o : Member) → IsIn list o → body_size o.segment ≤ o.segment.fields.length) → IsPlaceIn list place m at → FitsPatch (place_value list place m at)
 unfolding place_value
 place_fits files list place m at resolved whole is =
     let there = in_parts list is.front m is.back is.parts in
     let le = offset-le list is.front m is.back is.parts in
     let short = short_load files list m.segment.fields.load_name resolved (name_there list m there) in
     let same : offset_of list place m ≡ offset_of list (length is.front + 1) m = ap (λ (n : ℕ). offset_of list n m) is.number in
-    (refl, load_small list m (few_loads files list resolved), omega (arith, le, short, same, whole m there, is.inside))
+    (refl, (λ one. load_small list m (few_loads files list resolved)), (λ one. omega (arith, le, short, same, whole m there, is.inside)))
 
 -- ---- definitions
 

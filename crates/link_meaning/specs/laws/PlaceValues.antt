@@ -1,8 +1,8 @@
 -- What expressions stand for: places whose segments are among those of the places that they name.
-use Rattle.std.proofs.Common.{◌≡◌, ℕ, pos, ◌+◌, ◌-◌, ◌^◌, ◌<◌, Bool, true, false, not, eqb, leb, List, [], ◌∷◌, ◌++◌, Option, Some, None, Result, Ok, Err, refl, sym, ap, subst, ◌∙◌, arith, inl, inr}
+use Rattle.std.proofs.Common.{◌≡◌, ℕ, pos, ◌+◌, ◌-◌, ◌^◌, ◌<◌, Bool, true, false, not, eqb, leb, List, [], ◌∷◌, ◌++◌, Option, Some, None, Result, Ok, Err, refl, sym, ap, subst, ◌∙◌, arith, inl, inr, ◌≤◌}
 use Rattle.std.specs.Prelude.{◌&&◌, cond}
 use Rattle.std.specs.List.{AllByRecursion}
-use Rattle.std.proofs.lemmas.Bool.{and_parts}
+use Rattle.std.proofs.lemmas.Bool.{and_parts, eqb-true}
 use Rattle.omf_format.specs.declared.value.Value.{Value}
 use Rattle.omf_format.specs.declared.value.Value.TheVariants.{Fixed, At}
 use Rattle.omf_format.specs.declared.value.ValueFault.{ValueFault}
@@ -13,12 +13,12 @@ use Rattle.omf_format.specs.Expression.{Term, Operator, Location, Constant, Name
 use Rattle.omf_format.specs.Value.{wrapped, signed, is_unshifted, divides, number_of_two, known, operand_value, apply_one, apply_two, size_of, value}
 use Rattle.link_meaning.specs.First.{IsIn}
 use Rattle.link_meaning.specs.laws.MemberLists.{in_filter, filter_in}
-use Rattle.link_meaning.specs.Member.{Member}
+use Rattle.link_meaning.specs.Member.{Member, setting_in}
 use Rattle.link_meaning.specs.Terms.{asks_value, asked_by, asked_in, tree_in}
-use Rattle.link_meaning.specs.Search.{Found, entries, finds}
+use Rattle.link_meaning.specs.Search.{Found, entries, finds, outside}
 use Rattle.link_meaning.specs.Rings.{has_expr, is_equate, equates, names_in, LeadsTo}
-use Rattle.link_meaning.specs.LinkValues.{Told, told, place_value, found_value, if_ok, label_value, environment, settled, tree_value, value_in, IsTable}
-use Rattle.link_meaning.specs.laws.TableLaws.{in_entries, tells_of, by_rings}
+use Rattle.link_meaning.specs.LinkValues.{Told, told, place_value, found_value, if_ok, label_value, environment, settled, tree_value, value_in, IsTable, outside_value}
+use Rattle.link_meaning.specs.laws.TableLaws.{in_entries, tells_of, by_rings, in_found, is_outside}
 use Rattle.link_meaning.specs.laws.MadeLaws.{FitsPlace}
 use Rattle.link_meaning.specs.laws.PlaceFits.{IsPlaceIn, entry_there}
 
@@ -40,7 +40,7 @@ all_in : {A : Type 0} → (Q : A → Type 0) (xs : List A) → ((x : A) → IsIn
 all_in Q [] f = tt
 all_in Q (x ∷ xs) f = (f x (inl refl), all_in Q xs (λ y is. f y (inr is)))
 
-module _ (P : ℕ → Type 0) where
+module _ (P : ℕ → ℕ → Type 0) where
   fine_fits : (a : Value) → FitsPlace P a → (v : Value) → fine a ≡ Ok v → FitsPlace P v
   fine_fits a is v e = subst (FitsPlace P) (one_value a v e) is
 
@@ -63,12 +63,12 @@ module _ (P : ℕ → Type 0) where
   two_fits code (Fixed a) (Fixed b) p q = cond_fits (divides code && eqb b 0) (bad DivideByZero) (fine (Fixed (number_of_two code a b))) (λ e. bad_fits DivideByZero) (λ e. fine_fits (Fixed (number_of_two code a b)) tt)
   two_fits code (Fixed a) (At file segment offset shift) p q =
       cond_fits (eqb code 0x01 && is_unshifted shift) (fine (At file segment (wrapped (offset + a)) (pos 0))) (bad NotRelocatable)
-      (λ e. fine_fits (At file segment (wrapped (offset + a)) (pos 0)) (refl, q.1, wrapped-lt (offset + a))) (λ e. bad_fits NotRelocatable)
+      (λ e. fine_fits (At file segment (wrapped (offset + a)) (pos 0)) (refl, q.1, (λ one. wrapped-lt (offset + a)))) (λ e. bad_fits NotRelocatable)
   two_fits code (At file segment offset shift) (Fixed b) p q =
       let less = wrapped (offset + (2 ^ 32 - b)) in
       cond_fits (not (is_unshifted shift)) (bad NotRelocatable) _ (λ e. bad_fits NotRelocatable) (λ e.
-      cond_fits (eqb code 0x01) (fine (At file segment (wrapped (offset + b)) (pos 0))) _ (λ e. fine_fits (At file segment (wrapped (offset + b)) (pos 0)) (refl, p.1, wrapped-lt (offset + b))) (λ e.
-      cond_fits (eqb code 0x02) (fine (At file segment less (pos 0))) _ (λ e. fine_fits (At file segment less (pos 0)) (refl, p.1, wrapped-lt (offset + (2 ^ 32 - b)))) (λ e.
+      cond_fits (eqb code 0x01) (fine (At file segment (wrapped (offset + b)) (pos 0))) _ (λ e. fine_fits (At file segment (wrapped (offset + b)) (pos 0)) (refl, p.1, (λ one. wrapped-lt (offset + b)))) (λ e.
+      cond_fits (eqb code 0x02) (fine (At file segment less (pos 0))) _ (λ e. fine_fits (At file segment less (pos 0)) (refl, p.1, (λ one. wrapped-lt (offset + (2 ^ 32 - b))))) (λ e.
       cond_fits (eqb code 0x07 && is_shift (signed b)) (fine (At file segment offset (signed b))) (bad NotRelocatable)
       (λ e. fine_fits (At file segment offset (signed b)) ((and_parts (eqb code 0x07) (is_shift (signed b)) e).1, p.1, p.2)) (λ e. bad_fits NotRelocatable))))
   two_fits code (At file segment offset shift) (At file' segment' offset' shift') p q =
@@ -167,31 +167,48 @@ module _ (P : ℕ → Type 0) where
   ToldFits table e = (v : Value) → told table e.place e.definition.at ≡ Ok v → FitsPlace P v
 
   -- where each entry is a place, and what each equate to which it leads is told fits, what a name found fits
-  found_fits : (list : List Member) (table : List Told) (f : Found) → FitsPlace P (place_value list f.place f.member f.definition.place) → (is_equate f ≡ true → ToldFits table f)
+  found_fits : (list : List Member) (table : List Told) (f : Found) → FitsPlace P (cond (eqb f.place 0) (outside_value f) (place_value list f.place f.member f.definition.place)) → (is_equate f ≡ true → ToldFits table f)
       → (v : Value) → found_value list table f ≡ Ok v → FitsPlace P v
   found_fits list table f here equate v e = by_expr f.definition.expr refl e
     where
       by_expr : (x : Option (List ℕ)) → f.definition.expr ≡ x → elim x as (λ y. Result Value ValueFault) [
-        | None ↦ Ok (place_value list f.place f.member f.definition.place)
+        | None ↦ Ok (cond (eqb f.place 0) (outside_value f) (place_value list f.place f.member f.definition.place))
         | Some text ↦ told table f.place f.definition.at
       ] ≡ Ok v → FitsPlace P v
-      by_expr None is e = fine_fits (place_value list f.place f.member f.definition.place) here v e
+      by_expr None is e = fine_fits (cond (eqb f.place 0) (outside_value f) (place_value list f.place f.member f.definition.place)) here v e
       by_expr (Some text) is e = equate (ap has_expr is) v e
 
 -- ---- all expressions of a list
 
-module _ (P : ℕ → Type 0) (list : List Member) (table : List Told) (is_table : IsTable list table)
-    (there : (place : ℕ) (m : Member) (at : ℕ) → IsPlaceIn list place m at → FitsPlace P (place_value list place m at)) where
+module _ (P : ℕ → ℕ → Type 0) (list : List Member) (table : List Told) (is_table : IsTable list table)
+    (there : (place : ℕ) (m : Member) (at : ℕ) → IsPlaceIn list place m at → FitsPlace P (place_value list place m at))
+    (beyond : (f : Found) → IsIn (outside (setting_in list)) f → FitsPlace P (outside_value f)) where
   from_start : (place : ℕ) (m : Member) (at : ℕ) → IsPlaceIn list place m at → IsPlaceIn list place m 0
   from_start place m at is = record { front = is.front; back = is.back; parts = is.parts; number = is.number; inside = omega arith }
 
   places : (place : ℕ) (m : Member) (at : ℕ) → IsPlaceIn list place m at → HasPlaces P list place m at
   places place m at is = record { here = there place m at is; first = there place m 0 (from_start place m at is) }
 
+  -- what is found stands in a member or beyond
+  stands : (place : ℕ) (m : Member) (name : List ℕ) (f : Found) → IsIn (finds list place m name) f → FitsPlace P (cond (eqb f.place 0) (outside_value f) (place_value list f.place f.member f.definition.place))
+  stands place m name f found = elim (in_found list place m name f found) [
+    | inl h ↦
+        let at = entry_there list f h in
+        subst (λ (b : Bool). FitsPlace P (cond b (outside_value f) (place_value list f.place f.member f.definition.place))) (sym (somewhere f.place (omega (arith, at.number)))) (there f.place f.member f.definition.place at)
+    | inr h ↦ subst (λ (b : Bool). FitsPlace P (cond b (outside_value f) (place_value list f.place f.member f.definition.place))) (sym (ap (λ (n : ℕ). eqb n 0) (is_outside (setting_in list) f h).nowhere)) (beyond f h)
+  ]
+    where
+      somewhere : (n : ℕ) → 1 ≤ n → eqb n 0 ≡ false
+      somewhere n le = by_test (eqb n 0) refl
+        where
+          by_test : (b : Bool) → eqb n 0 ≡ b → b ≡ false
+          by_test true e = absurd (omega (arith, le, eqb-true n 0 e))
+          by_test false e = refl
+
   names : (place : ℕ) (m : Member) (asked : List (List ℕ)) → ((name : List ℕ) → IsIn asked name → (f : Found) → IsIn (finds list place m name) f → is_equate f ≡ true → ToldFits P table f)
       → AllByRecursion (LabelFits P list table place m) asked
   names place m asked equate =
-      all_in (LabelFits P list table place m) asked (λ name is. label_fits P list table (finds list place m name) (λ f found. found_fits P list table f (there f.place f.member f.definition.place (entry_there list f (in_entries list place m name f found))) (equate name is f found)))
+      all_in (LabelFits P list table place m) asked (λ name is. label_fits P list table (finds list place m name) (λ f found. found_fits P list table f (stands place m name f found) (equate name is f found)))
 
   -- what an equate is told fits, where it fits for those to which it leads
   told_step : (e : Found) → IsIn (equates list) e → ((f : Found) → LeadsTo list e f → ToldFits P table f) → ToldFits P table e
@@ -217,7 +234,7 @@ module _ (P : ℕ → Type 0) (list : List Member) (table : List Told) (is_table
 
   equate_in : (place : ℕ) (m : Member) (name : List ℕ) (f : Found) → IsIn (finds list place m name) f → is_equate f ≡ true → IsIn (equates list) f
   unfolding equates
-  equate_in place m name f found is = filter_in is_equate (entries list) f (in_entries list place m name f found) is
+  equate_in place m name f found is = filter_in is_equate (entries list) f (in_entries list place m name f is found) is
 
   -- what an expression in a member stands for fits
   pub expression_fits : (place : ℕ) (m : Member) (location : ℕ) (text : List ℕ) → IsPlaceIn list place m location → (v : Value) → value_in list table place m location text ≡ Ok v → FitsPlace P v
@@ -225,3 +242,20 @@ module _ (P : ℕ → Type 0) (list : List Member) (table : List Told) (is_table
   expression_fits place m location text is =
       let tree = tree_in m.segment.fields.lab_len text in
       tree_fits P list table place m location tree (places place m location is) (names place m (asked_in tree) (λ name asked f found equate. told_fits f (equate_in place m name f found equate)))
+
+  -- what an entry stands for fits
+  pub entry_fits : (f : Found) → IsIn (entries list) f → (v : Value) → found_value list table f ≡ Ok v → FitsPlace P v
+  unfolding equates
+  entry_fits f is = found_fits P list table f (in_member f is) (λ equate. told_fits f (filter_in is_equate (entries list) f is equate))
+    where
+      in_member : (f : Found) → IsIn (entries list) f → FitsPlace P (cond (eqb f.place 0) (outside_value f) (place_value list f.place f.member f.definition.place))
+      in_member f is =
+          let at = entry_there list f is in
+          subst (λ (b : Bool). FitsPlace P (cond b (outside_value f) (place_value list f.place f.member f.definition.place))) (sym (somewhere f.place (omega (arith, at.number)))) (there f.place f.member f.definition.place at)
+        where
+          somewhere : (n : ℕ) → 1 ≤ n → eqb n 0 ≡ false
+          somewhere n le = by_test (eqb n 0) refl
+            where
+              by_test : (b : Bool) → eqb n 0 ≡ b → b ≡ false
+              by_test true e = absurd (omega (arith, le, eqb-true n 0 e))
+              by_test false e = refl

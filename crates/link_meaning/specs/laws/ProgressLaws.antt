@@ -4,7 +4,7 @@ use Rattle.std.specs.Prelude.{◌&&◌, ◌||◌, not, filter, map, ◌==◌, if
 use Rattle.std.specs.Option.{option_or}
 use Rattle.std.specs.List.{list_any}
 use Rattle.std.specs.Str.{bytes_eq}
-use Rattle.link_meaning.specs.Member.{Member, Offer, is_data}
+use Rattle.link_meaning.specs.Member.{Member, Offer, is_data, setting_in}
 use Rattle.omf_format.specs.Header.{is_private}
 use Rattle.omf_format.specs.File.{Segment}
 use Rattle.link_meaning.specs.Defines.{Scope, Definition, outer_scope, title_of, data_title_of, defined_in}
@@ -13,7 +13,7 @@ use Rattle.std.proofs.lemmas.Bool.{eq-eqb, eqb-true}
 use Rattle.link_meaning.specs.laws.MemberLists.{filter_in}
 use Rattle.link_meaning.specs.declared.search.Step.{Step}
 use Rattle.link_meaning.specs.declared.search.Step.TheVariants.{Within, OfUnit, Everyone}
-use Rattle.link_meaning.specs.Search.{Found, step_for, is_step, sees, or_else, decided, outer_steps, steps_of, used_data, entries_from, entries, named, finds, finds_data, data_titles}
+use Rattle.link_meaning.specs.Search.{Found, step_for, is_step, sees, or_else, decided, outer_steps, steps_of, used_data, entries_from, entries, named, finds, finds_data, data_titles, finds_inside, outside}
 use Rattle.link_meaning.specs.declared.search.Want.TheVariants.{Data, One}
 use Rattle.link_meaning.specs.Uses.{Use}
 use Rattle.link_meaning.specs.LinkedList.{has_title, counts_for, is_of_member, first_offer, row_for}
@@ -160,10 +160,14 @@ row_is offers u use' m e = settle (first_offer (λ o. counts_for use' o && is_of
         let tests = both_true (counts_for use' c.offer) (not c.offer.private) c.passes in
         record { offer = c.offer; among = c.among; counts = tests.0; member = c.member; way = inr (negated c.offer.private tests.1) }
 
+none_first : (xs ys : List Found) → or_else xs ys ≡ [] → xs ≡ []
+none_first [] ys e = refl
+none_first (x ∷ xs) ys e = let clash : x ∷ xs ≡ [] = e in absurd cc
+
 -- an ordinary use that finds nothing has no row whose member is in the list
 pub fresh_name : (offers : List Offer) (list : List Member) (place : ℕ) (u m : Member) (name : List ℕ) (at : ℕ) → AreSound offers
     → finds list place u name ≡ [] → row_for offers u (record { want = One; name = name; at = at }) ≡ Some m → IsIn list m → ⊥
-unfolding finds named entries
+unfolding finds finds_inside named entries
 fresh_name offers list place u m name at sound none row there =
     let r = row_is offers u (record { want = One; name = name; at = at }) m row in
     let d = sound r.offer r.among in
@@ -172,7 +176,7 @@ fresh_name offers list place u m name at sound none row there =
     let entry = entry_in defined_in 1 list m d.0 there inside in
     let passes : bytes_eq name d.0.name ≡ true = ap (λ (n : List ℕ). bytes_eq name n) d.2 ∙ named'.0 in
     let among = filter_in (λ (f : Found). bytes_eq name f.definition.name) (entries list) (found_at entry.0 m d.0) entry.1 passes in
-    let steps = none_decided (steps_of list place u) (named name (entries list)) none in
+    let steps = none_decided (steps_of list place u) (named name (entries list)) (none_first (finds_inside list place u name) (named name (outside (setting_in list))) none) in
     not_there m u r.offer.private d.0 (named name (entries list)) entry.0 among d.3 r.way
     (none_behind (map Within (used_data list u)) (outer_steps u) (named name (entries list)) steps.1)
 

@@ -1,8 +1,8 @@
 -- Which segments the linked cells name, and where the entries of the table lead.
-use Rattle.std.proofs.Common.{◌≡◌, ℕ, ℤ, zero, suc, ◌+◌, ◌-◌, ◌≤◌, Bool, true, false, not, eqb, leb, List, [], ◌∷◌, ◌++◌, length, map, filter, Option, Some, None, Result, Ok, Err, refl, sym, ap, subst, ◌∙◌, append_assoc, arith, inl, inr}
+use Rattle.std.proofs.Common.{◌≡◌, ℕ, ℤ, zero, suc, ◌+◌, ◌-◌, ◌≤◌, Bool, true, false, not, eqb, leb, List, [], ◌∷◌, ◌++◌, length, map, filter, Option, Some, None, Result, Ok, Err, refl, sym, ap, subst, ◌∙◌, append_assoc, arith, inl, inr, ◌<◌}
 use Rattle.std.specs.Prelude.{◌⊎◌, ◌&&◌, ◌||◌, cond}
 use Rattle.std.specs.List.{AllByRecursion, list_any}
-use Rattle.std.proofs.lemmas.Bool.{eqb-true, eq-eqb, ne_eqb, leb-false}
+use Rattle.std.proofs.lemmas.Bool.{eqb-true, eq-eqb, ne_eqb, leb-false, eqb-false}
 use Rattle.std.proofs.lemmas.List.{length-append}
 use Rattle.std.proofs.lemmas.Slice.Eq.{bytes_eq-Decides}
 use Rattle.byteorder.specs.Endian.{little_bytes}
@@ -17,15 +17,17 @@ use Rattle.link_meaning.specs.declared.fault.LinkCause.{LinkCause}
 use Rattle.link_meaning.specs.declared.fault.LinkCause.TheVariants.{DoesNotFit, DynamicReference, OutOfSegment, TooManyEntries}
 use Rattle.link_meaning.specs.Sizes.{Located, located_from, located}
 use Rattle.omf_format.specs.Number.{padding}
-use Rattle.link_meaning.specs.Member.{Member}
+use Rattle.link_meaning.specs.Member.{Member, Setting, setting_in, form_in}
+use Rattle.link_meaning.specs.declared.form.LinkForm.TheVariants.{Program, Runtime as LibraryForm}
+use Rattle.link_meaning.specs.declared.form.LinkForm.{LinkForm}
 use Rattle.link_meaning.specs.Layout.{in_load, load_names, number_in, load_of, load_headers, offset_of}
 use Rattle.link_meaning.specs.LinkValues.{Told, value_in}
 use Rattle.link_meaning.specs.Fitting as fitting
-use Rattle.link_meaning.specs.Fitting.{Frame, Fit, Number, Place, number_fit, place_fit, distance_fit, or_does_not_fit, is_dynamic_load, length_of, is_call, target_of, has_room_for, call_fit, fitted, parts, entry_of, fit_cells, targets_behind, valued}
+use Rattle.link_meaning.specs.Fitting.{Frame, Fit, Number, Place, number_fit, place_fit, distance_fit, or_does_not_fit, is_dynamic_load, length_of, is_call, target_of, has_room_for, call_fit, fitted, parts, entry_of, fit_cells, targets_behind, valued, is_far, length_there, length_outside, may_call}
 use Rattle.link_meaning.specs.LinkedCells.{Item, State, Made, zeros, made_by, made, table_number, frame_of, items_from, items, cells_before, gained, state_from, state_behind, targets, member_cells, cells_from, linked}
 use Rattle.link_meaning.specs.LinkWritten.{AreMade, start}
-use Rattle.link_meaning.specs.LinkLoadable.{IsLoad, Reaches, OfLoad, OfTable, Names, IsCalled}
-use Rattle.link_meaning.specs.laws.MadeLaws.{FitsPlace, okay, one_made, value_ok}
+use Rattle.link_meaning.specs.LinkLoadable.{IsLoad, Reaches, OfLoad, OfTable, Names, IsCalled, IsNamed, IsCalledHere, IsCalledThere}
+use Rattle.link_meaning.specs.laws.MadeLaws.{FitsPlace, okay, one_made, value_ok, own_file}
 use Rattle.link_meaning.specs.laws.LinkedRuns.{item, state_from-append, made-append, state_place, are_below, items_from-append, up_to}
 
 -- ---- what a value becomes
@@ -68,18 +70,22 @@ place_is Q all f code count n segment offset shift is =
 abbrev ReachesFit : List Member → ℕ → Fit → Type 0
 ReachesFit list own (Number n) = Unit {0}
 ReachesFit list own (Place segment offset shift) = IsLoad (length (load_names list)) segment × ((segment ≡ own) ⊎ (is_dynamic_load (load_headers list) segment ≡ false))
-ReachesFit list own (fitting.Entry segment offset) = IsCalled list (target_of segment offset)
+ReachesFit list own (fitting.Entry t) = IsCalled list t
 
-call_reaches : (list : List Member) (own : ℕ) (targets : List Target) (call : Bool) (segment offset : ℕ) (fit : Fit) → IsLoad (length (load_names list)) segment → is_dynamic_load (load_headers list) segment ≡ true
-    → call_fit (load_headers list) targets call segment offset ≡ Ok fit → ReachesFit list own fit
-call_reaches list own targets call segment offset fit load dynamic e = elim (chosen (not call) _ _ (fine fit) e) [
+may_program : (form : LinkForm) (call : Bool) → not (may_call form && call) ≡ false → form ≡ Program
+may_program Program call e = refl
+may_program LibraryForm call e = absurd cc
+
+call_reaches : (list : List Member) (own : ℕ) (targets : List Target) (call : Bool) (t : Target) (fit : Fit)
+    → (form_in list ≡ Program → t.offset < length_there (load_headers list) (setting_in list) t → IsCalled list t)
+    → call_fit (load_headers list) (setting_in list) targets call t ≡ Ok fit → ReachesFit list own fit
+call_reaches list own targets call t fit called e = elim (chosen (not (may_call (setting_in list).form && call)) _ _ (fine fit) e) [
   | inl x ↦ absurd (not_bad DynamicReference fit x.1)
-  | inr x ↦ elim (chosen (leb (length_of (load_headers list) segment) offset) (bad OutOfSegment) (cond (not (has_room_for targets (target_of segment offset))) (bad TooManyEntries) (fine (fitting.Entry segment offset))) (fine fit) x.1) [
+  | inr x ↦ elim (chosen (leb (length_there (load_headers list) (setting_in list) t) t.offset) (bad OutOfSegment) (cond (not (has_room_for targets t)) (bad TooManyEntries) (fine (fitting.Entry t))) (fine fit) x.1) [
     | inl y ↦ absurd (not_bad OutOfSegment fit y.1)
-    | inr y ↦ elim (chosen (not (has_room_for targets (target_of segment offset))) _ _ (fine fit) y.1) [
+    | inr y ↦ elim (chosen (not (has_room_for targets t)) _ _ (fine fit) y.1) [
       | inl z ↦ absurd (not_bad TooManyEntries fit z.1)
-      | inr z ↦ subst (ReachesFit list own) (one_fit (fitting.Entry segment offset) fit z.1)
-          (record { file' = refl; load = load; dynamic = dynamic; inside = leb-false (length_of (load_headers list) segment) offset y.0 })
+      | inr z ↦ subst (ReachesFit list own) (one_fit (fitting.Entry t) fit z.1) (called (may_program (form_in list) call x.0) (leb-false (length_there (load_headers list) (setting_in list) t) t.offset y.0))
     ]
   ]
 ]
@@ -95,13 +101,49 @@ own_or_static segment own d e = by_test (eqb segment own) refl e
     by_test true is e = inl (eqb-true segment own is)
     by_test false is e = inr e
 
+-- a place that is far and may be called
+far_called : (list : List Member) (own : ℕ) (t : Target) → IsNamed list t.file t.segment → is_far (load_headers list) own t.file t.segment ≡ true
+    → form_in list ≡ Program → t.offset < length_there (load_headers list) (setting_in list) t → IsCalled list t
+far_called list own t named far form inside = (form, by_file (eqb t.file 1) refl named)
+  where
+    there : (b : Bool) → eqb t.file 1 ≡ b → t.offset < cond b (length_of (load_headers list) t.segment) (length_outside (setting_in list) t.file t.segment)
+    there b is = subst (λ (c : Bool). t.offset < cond c (length_of (load_headers list) t.segment) (length_outside (setting_in list) t.file t.segment)) is inside
+
+    far_is : (b : Bool) → eqb t.file 1 ≡ b → (not b || (not (eqb t.segment own) && is_dynamic_load (load_headers list) t.segment)) ≡ true
+    far_is b is = subst (λ (c : Bool). (not c || (not (eqb t.segment own) && is_dynamic_load (load_headers list) t.segment)) ≡ true) is far
+
+    by_file : (b : Bool) → eqb t.file 1 ≡ b → IsNamed list t.file t.segment → IsCalledHere list t ⊎ IsCalledThere list t
+    by_file true is (inl here) = inl (record {
+      file' = here.0;
+      load = here.1;
+      dynamic = other_dynamic (eqb t.segment own) (is_dynamic_load (load_headers list) t.segment) (far_is true is);
+      inside = there true is;
+    })
+    by_file true is (inr beyond) = absurd (omega (arith, eqb-true t.file 1 is, beyond.0))
+    by_file false is (inl here) = absurd (eqb-false t.file 1 is here.0)
+    by_file false is (inr beyond) = inr (record { file' = beyond; inside = there false is })
+
+-- a place that isn't far is in a load segment of the file itself, its own or a static one
+near_load : (list : List Member) (own file segment : ℕ) → IsNamed list file segment → is_far (load_headers list) own file segment ≡ false
+    → IsLoad (length (load_names list)) segment × ((segment ≡ own) ⊎ (is_dynamic_load (load_headers list) segment ≡ false))
+near_load list own file segment named near =
+    let one = own_file file (not (eqb segment own) && is_dynamic_load (load_headers list) segment) near in
+    let rest : (not (eqb segment own) && is_dynamic_load (load_headers list) segment) ≡ false =
+    sym (ap (λ (n : ℕ). not (eqb n 1) || (not (eqb segment own) && is_dynamic_load (load_headers list) segment)) one) ∙ near in
+    (by_kind one named, own_or_static segment own (is_dynamic_load (load_headers list) segment) rest)
+  where
+    by_kind : file ≡ 1 → IsNamed list file segment → IsLoad (length (load_names list)) segment
+    by_kind one (inl here) = here.1
+    by_kind one (inr beyond) = absurd (omega (arith, one, beyond.0))
+
 fit_reaches : (list : List Member) (f : Frame) (targets : List Target) (before : List Cell) (code count n : ℕ) (v : Value) (fit : Fit) → fitted (load_headers list) f targets before code count n v ≡ Ok fit
-    → FitsPlace (IsLoad (length (load_names list))) v → ReachesFit list f.own fit
-fit_reaches list f targets before code count n (Fixed k) fit e is = in_fit (ReachesFit list f.own) (number_fit code count k) fit e (number_is (ReachesFit list f.own) (λ k. tt) code count k)
-fit_reaches list f targets before code count n (At file segment offset shift) fit e is = elim (chosen (not (eqb segment f.own) && is_dynamic_load (load_headers list) segment) _ _ (fine fit) e) [
-  | inl x ↦ call_reaches list f.own targets (is_call code count shift before) segment offset fit is.1 (other_dynamic (eqb segment f.own) (is_dynamic_load (load_headers list) segment) x.0) x.1
+    → f.setting ≡ setting_in list → FitsPlace (IsNamed list) v → ReachesFit list f.own fit
+fit_reaches list f targets before code count n (Fixed k) fit e set is = in_fit (ReachesFit list f.own) (number_fit code count k) fit e (number_is (ReachesFit list f.own) (λ k. tt) code count k)
+fit_reaches list f targets before code count n (At file segment offset shift) fit e set is = elim (chosen (is_far (load_headers list) f.own file segment) _ _ (fine fit) e) [
+  | inl x ↦ call_reaches list f.own targets (is_call code count shift before) (target_of file segment offset) fit (far_called list f.own (target_of file segment offset) is.1 x.0)
+      (subst (λ (s : Setting). call_fit (load_headers list) s targets (is_call code count shift before) (target_of file segment offset) ≡ Ok fit) set x.1)
   | inr x ↦ in_fit (ReachesFit list f.own) (place_fit f code count n segment offset shift) fit x.1
-      (place_is (ReachesFit list f.own) (λ k. tt) f code count n segment offset shift (is.1, own_or_static segment f.own (is_dynamic_load (load_headers list) segment) x.0))
+      (place_is (ReachesFit list f.own) (λ k. tt) f code count n segment offset shift (near_load list f.own file segment is.1 x.0))
 ]
 
 -- ---- cells
@@ -172,8 +214,7 @@ fit_keeps list own count targets (Place segment offset shift) all is = record {
   called = all;
   grows = λ none. none;
 }
-fit_keeps list own count targets (fitting.Entry segment offset) all is =
-    let t = target_of segment offset in
+fit_keeps list own count targets (fitting.Entry t) all is =
     record {
       cells' = part_names (Reaches list (with_target targets t) own) (record { location = 0; count = count; file = 1; segment = table_number list; offset = entry_place (entry_of (with_target targets t) t); shift = ℤ.pos 0 }) 0 count (OfTable refl (some_with targets t));
       called = called_with list targets t all is;
@@ -188,7 +229,7 @@ keeps_bytes list own targets cells x all names e = keeps_is list own targets (ce
 
 -- an expression that stands here names load segments
 abbrev pub ValuesIn : List Member → List Told → Item → Type 0
-ValuesIn list table i = (text : List ℕ) (v : Value) → value_in list table i.place i.member i.here.location text ≡ Ok v → FitsPlace (IsLoad (length (load_names list))) v
+ValuesIn list table i = (text : List ℕ) (v : Value) → value_in list table i.place i.member i.here.location text ≡ Ok v → FitsPlace (IsNamed list) v
 
 made_keeps : (list : List Member) (table : List Told) (state : State) (i : Item) (r : Record) (x : Made) → ValuesIn list table i → AllByRecursion (IsCalled list) state.targets → made_by list table state i r ≡ Ok x
     → Keeps list (load_of list i.member) state.targets x
@@ -213,7 +254,7 @@ made_keeps list table state i (Formula code count n expr) x in' all e =
     let v = bind_ok (valued (value_in list table i.place i.member i.here.location expr)) _ x e in
     let fit = bind_ok (fitted (load_headers list) (frame_of list i) state.targets (cells_before state i) code count n v.0) _ x v.2 in
     let value = value_ok (value_in list table i.place i.member i.here.location expr) v.0 v.1 in
-    let reaches = fit_reaches list (frame_of list i) state.targets (cells_before state i) code count n v.0 fit.0 fit.1 (in' expr v.0 value) in
+    let reaches = fit_reaches list (frame_of list i) state.targets (cells_before state i) code count n v.0 fit.0 fit.1 refl (in' expr v.0 value) in
     keeps_is list _ state.targets _ x fit.2 (fit_keeps list (load_of list i.member) count state.targets fit.0 all reaches)
 made_keeps list table state i (Entry segment offset name) x in' all e = keeps_bytes list _ state.targets [] x all tt e
 

@@ -21,12 +21,13 @@ use Rattle.link_meaning.specs.declared.fault.LinkCause.{LinkCause}
 use Rattle.link_meaning.specs.declared.fault.LinkCause.TheVariants.{Unsupported, BadRecord}
 use Rattle.link_meaning.specs.First.{IsIn, first_some}
 use Rattle.link_meaning.specs.Sizes.{body_size}
-use Rattle.link_meaning.specs.Member.{Row, Input, Member, is_library, members_from, objects_from, objects, Offer, offer_of, offers_from, offers}
+use Rattle.link_meaning.specs.Member.{Row, Input, Member, is_library, members_from, objects_from, objects, Offer, offer_of, offers_from, offers, Setting}
 use Rattle.link_meaning.specs.Uses.{Use}
 use Rattle.link_meaning.specs.Search.{Found}
 use Rattle.link_meaning.specs.LinkedList.{first_offer, row_for, unless_found, wanted_by, Asked, asked, wanted, Follow}
-use Rattle.link_meaning.specs.Dictionary.{first_pair, or_false, numbered_from, long_bytes, file_numbers, names_from, row_at, rows_from, rows_in, rows_of_records, rows_of}
-use Rattle.link_meaning.specs.LinkFaults.{type_fault, with_place, rows_in_file, segment_fault, segments_fault, AreInputs, IsProgram}
+use Rattle.load_meaning.specs.Pathnames.{long_bytes}
+use Rattle.link_meaning.specs.Dictionary.{first_pair, or_false, numbered_from, file_numbers, names_from, row_at, rows_from, rows_in, rows_of_records, rows_of}
+use Rattle.link_meaning.specs.LinkFaults.{Given, HasBytes, type_fault, with_place, rows_in_file, segment_fault, segments_fault, AreInputs, IsProgram}
 
 -- ---- lists
 
@@ -38,7 +39,7 @@ in-append (y ∷ xs) ys x (inr more) = elim (in-append xs ys x more) [
   | inr h ↦ inr h
 ]
 
-in_at : {A : Type 0} (xs : List A) (k : ℕ) (x : A) → slice_get xs k ≡ Some x → IsIn xs x
+pub in_at : {A : Type 0} (xs : List A) (k : ℕ) (x : A) → slice_get xs k ≡ Some x → IsIn xs x
 in_at [] k x e = absurd cc
 in_at {A} (y ∷ ys) zero x e = inl (same y x e)
   where
@@ -69,7 +70,7 @@ pub record IsRead (s : Segment) : Type 0 where
   pub sound : segment_fault first s ≡ None
   pub no_dictionary : (form_of s.fields.kind == 0x08) ≡ false
 
-of_file : (segments : List Segment) (at : ℕ) (file : List ℕ) (next : ℕ) (s : Segment) → AreSegments segments at file next → IsIn segments s → IsSegment s file
+pub of_file : (segments : List Segment) (at : ℕ) (file : List ℕ) (next : ℕ) (s : Segment) → AreSegments segments at file next → IsIn segments s → IsSegment s file
 of_file [] at file next s are is = absurd is
 of_file (t ∷ segments) at file next s are (inl e) = subst (λ (u : Segment). IsSegment u file) e are.2
 of_file (t ∷ segments) at file next s are (inr more) = of_file segments (at + t.fields.byte_count) file next s are.3 more
@@ -152,25 +153,25 @@ here_is input inputs s is kind = record { input = input; among = inl refl; is = 
 
 -- ---- the members of object files
 
-from_members : (file number : ℕ) (segments : List Segment) (m : Member) → IsIn (members_from file number segments) m → IsIn segments m.segment
-from_members file number [] m is = is
-from_members file number (s ∷ segments) m (inl e) = inl (ap (λ (x : Member). x.segment) e)
-from_members file number (s ∷ segments) m (inr more) = inr (from_members file (number + 1) segments m more)
+from_members : (setting : Setting) (file number : ℕ) (segments : List Segment) (m : Member) → IsIn (members_from setting file number segments) m → IsIn segments m.segment
+from_members setting file number [] m is = is
+from_members setting file number (s ∷ segments) m (inl e) = inl (ap (λ (x : Member). x.segment) e)
+from_members setting file number (s ∷ segments) m (inr more) = inr (from_members setting file (number + 1) segments m more)
 
-from_objects : (file : ℕ) (inputs : List Input) (m : Member) → IsIn (objects_from file inputs) m → IsOf inputs m.segment
-from_objects file [] m is = absurd is
-from_objects file (input ∷ inputs) m is = elim (in-append (cond (is_library input.segments) [] (members_from file 1 input.segments)) (objects_from (file + 1) inputs) m is) [
+from_objects : (setting : Setting) (file : ℕ) (inputs : List Input) (m : Member) → IsIn (objects_from setting file inputs) m → IsOf inputs m.segment
+from_objects setting file [] m is = absurd is
+from_objects setting file (input ∷ inputs) m is = elim (in-append (cond (is_library input.segments) [] (members_from setting file 1 input.segments)) (objects_from setting (file + 1) inputs) m is) [
   | inl h ↦ by_library (is_library input.segments) refl h
-  | inr h ↦ later input inputs m.segment (from_objects (file + 1) inputs m h)
+  | inr h ↦ later input inputs m.segment (from_objects setting (file + 1) inputs m h)
 ]
   where
-    by_library : (b : Bool) → is_library input.segments ≡ b → IsIn (cond b [] (members_from file 1 input.segments)) m → IsOf (input ∷ inputs) m.segment
+    by_library : (b : Bool) → is_library input.segments ≡ b → IsIn (cond b [] (members_from setting file 1 input.segments)) m → IsOf (input ∷ inputs) m.segment
     by_library true is h = absurd h
-    by_library false is h = here_is input inputs m.segment (from_members file 1 input.segments m h) (inl is)
+    by_library false is h = here_is input inputs m.segment (from_members setting file 1 input.segments m h) (inl is)
 
 -- ---- those of libraries
 
-from_filter : {A B : Type 0} (f : A → Option B) (xs : List A) (y : B) → IsIn (filter_map f xs) y → (x : A) × IsIn xs x × (f x ≡ Some y)
+pub from_filter : {A B : Type 0} (f : A → Option B) (xs : List A) (y : B) → IsIn (filter_map f xs) y → (x : A) × IsIn xs x × (f x ≡ Some y)
 from_filter f [] y is = absurd is
 from_filter {A} {B} f (x ∷ xs) y is = by_answer (f x) refl (λ more. from_filter f xs y more)
   where
@@ -303,34 +304,34 @@ file_rows (d ∷ others) rows e row is = by_library (form_of d.fields.kind == 0x
 one_segment : (a b : Segment) → Some a ≡ Some b → a ≡ b
 one_segment a b e = cc
 
-from_row : (file : ℕ) (segments : List Segment) (row : Row) (o : Offer) → NamesMember segments row → offer_of file segments row ≡ Some o → IsIn segments o.member.segment × ((form_of o.member.segment.fields.kind == 0x08) ≡ false)
-from_row file segments row o names e = by_segment (slice_get segments (row.segment - 1)) refl e
+from_row : (setting : Setting) (file : ℕ) (segments : List Segment) (row : Row) (o : Offer) → NamesMember segments row → offer_of setting file segments row ≡ Some o → IsIn segments o.member.segment × ((form_of o.member.segment.fields.kind == 0x08) ≡ false)
+from_row setting file segments row o names e = by_segment (slice_get segments (row.segment - 1)) refl e
   where
     by_segment : (x : Option Segment) → slice_get segments (row.segment - 1) ≡ x
-        → option_map (λ (s : Segment). record { name = row.name; private = row.private; member = record { file = file; number = row.segment; from = row.from; segment = s } }) x ≡ Some o → IsIn segments o.member.segment × ((form_of o.member.segment.fields.kind == 0x08) ≡ false)
+        → option_map (λ (s : Segment). record { name = row.name; private = row.private; member = record { file = file; number = row.segment; from = row.from; segment = s; setting = setting } }) x ≡ Some o → IsIn segments o.member.segment × ((form_of o.member.segment.fields.kind == 0x08) ≡ false)
     by_segment None is e = absurd cc
     by_segment (Some s) is e =
-        let made : Offer = record { name = row.name; private = row.private; member = record { file = file; number = row.segment; from = row.from; segment = s } } in
+        let made : Offer = record { name = row.name; private = row.private; member = record { file = file; number = row.segment; from = row.from; segment = s; setting = setting } } in
         let same : s ≡ o.member.segment = ap (λ (x : Offer). x.member.segment) (one_offer made o e) in
         let named : names.0 ≡ s = one_segment names.0 s (sym names.1 ∙ is) in
         (in_at segments (row.segment - 1) o.member.segment (is ∙ ap (λ (t : Segment). Some t) same), ap (λ (t : Segment). form_of t.fields.kind == 0x08) (sym same ∙ sym named) ∙ names.2)
 
-from_offers : (file : ℕ) (files : List (List ℕ)) (inputs : List Input) (o : Offer) → AreInputs files inputs → IsIn (offers_from file inputs) o → IsOf inputs o.member.segment
-from_offers file files [] o are is = absurd is
-from_offers file [] (input ∷ inputs) o are is = absurd are
-from_offers file (bytes ∷ files) (input ∷ inputs) o are is = elim (in-append (filter_map (offer_of file input.segments) input.rows) (offers_from (file + 1) inputs) o is) [
+from_offers : (setting : Setting) (file : ℕ) (files : List (List ℕ)) (inputs : List Input) (o : Offer) → AreInputs files inputs → IsIn (offers_from setting file inputs) o → IsOf inputs o.member.segment
+from_offers setting file files [] o are is = absurd is
+from_offers setting file [] (input ∷ inputs) o are is = absurd are
+from_offers setting file (bytes ∷ files) (input ∷ inputs) o are is = elim (in-append (filter_map (offer_of setting file input.segments) input.rows) (offers_from setting (file + 1) inputs) o is) [
   | inl h ↦
-      let row = from_filter (offer_of file input.segments) input.rows o h in
-      let found = from_row file input.segments row.0 o (file_rows input.segments input.rows are.0.rows row.0 row.1) row.2 in
+      let row = from_filter (offer_of setting file input.segments) input.rows o h in
+      let found = from_row setting file input.segments row.0 o (file_rows input.segments input.rows are.0.rows row.0 row.1) row.2 in
       here_is input inputs o.member.segment found.0 (inr found.1)
-  | inr h ↦ later input inputs o.member.segment (from_offers (file + 1) files inputs o are.1 h)
+  | inr h ↦ later input inputs o.member.segment (from_offers setting (file + 1) files inputs o are.1 h)
 ]
 
 -- a row that is chosen is one of the offers
-record IsOffered (all : List Offer) (m : Member) : Type 0 where
-  offer : Offer
-  among : IsIn all offer
-  member : offer.member ≡ m
+pub record IsOffered (all : List Offer) (m : Member) : Type 0 where
+  pub offer : Offer
+  pub among : IsIn all offer
+  pub member : offer.member ≡ m
 
 some_member : (a b : Member) → Some a ≡ Some b → a ≡ b
 some_member a b e = cc
@@ -367,21 +368,21 @@ wanted_offered all list m e =
     let a = first_answer (λ (x : Asked). wanted_by all list x.place x.member x.use') (asked list) m e in
     row_offered all a.0.member a.0.use' m (unless_row _ (row_for all a.0.member a.0.use') m a.1)
 
-followed : (all : List Offer) (before added : List Member) (m : Member) → Follow all before added → IsIn added m → IsOffered all m
+pub followed : (all : List Offer) (before added : List Member) (m : Member) → Follow all before added → IsIn added m → IsOffered all m
 followed all before [] m follow is = absurd is
 followed all before (x ∷ added) m follow (inl e) = wanted_offered all before m (follow.0 ∙ ap (λ (y : Member). Some y) e)
 followed all before (x ∷ added) m follow (inr more) = followed all (before ++ x ∷ []) added m follow.1 more
 
 -- each member of the linked list was read
-pub members_read : (files : List (List ℕ)) (list : List Member) (m : Member) → AllByRecursion IsBytes files → IsProgram files list → IsIn list m → IsRead m.segment
+pub members_read : (files : Given) (list : List Member) (m : Member) → HasBytes files → IsProgram files list → IsIn list m → IsRead m.segment
 unfolding objects offers
-members_read files list m bytes program is = of_inputs files program.inputs m.segment bytes program.are_inputs (by_part (in-append (objects program.inputs) program.linked.added m (subst (λ (l : List Member). IsIn l m) program.linked.parts is)))
+members_read files list m bytes program is = of_inputs files.inputs program.inputs m.segment bytes.0 program.are_inputs (by_part (in-append (objects program.setting program.inputs) program.linked.added m (subst (λ (l : List Member). IsIn l m) program.linked.parts is)))
   where
-    by_part : IsIn (objects program.inputs) m ⊎ IsIn program.linked.added m → IsOf program.inputs m.segment
-    by_part (inl h) = from_objects 1 program.inputs m h
+    by_part : IsIn (objects program.setting program.inputs) m ⊎ IsIn program.linked.added m → IsOf program.inputs m.segment
+    by_part (inl h) = from_objects program.setting 1 program.inputs m h
     by_part (inr h) =
-        let offered = followed (offers program.inputs) (objects program.inputs) program.linked.added m program.linked.follow h in
-        subst (λ (x : Member). IsOf program.inputs x.segment) offered.member (from_offers 1 files program.inputs offered.offer program.are_inputs offered.among)
+        let offered = followed (offers program.setting program.inputs) (objects program.setting program.inputs) program.linked.added m program.linked.follow h in
+        subst (λ (x : Member). IsOf program.inputs x.segment) offered.member (from_offers program.setting 1 files.inputs program.inputs offered.offer program.are_inputs offered.among)
 
 -- ---- what is known of its header
 

@@ -1,7 +1,7 @@
 -- A list in which no equate leads back to itself has one table of values at most.
-use Rattle.std.proofs.Common.{◌≡◌, ◌⊎◌, inl, inr, ℕ, zero, suc, ◌+◌, ◌<◌, ◌≤◌, Bool, true, false, eqb, List, [], ◌∷◌, ◌++◌, length, Option, Some, None, Result, Ok, Err, refl, sym, ap, subst, ◌∙◌, arith}
-use Rattle.std.specs.Prelude.{◌||◌, filter, slice_get, nat_le, ◌==◌, if◌then◌else◌}
-use Rattle.std.specs.List.{AllByRecursion, list_any}
+use Rattle.std.proofs.Common.{◌≡◌, ◌⊎◌, inl, inr, ℕ, zero, suc, ◌+◌, ◌<◌, ◌≤◌, Bool, true, false, eqb, List, [], ◌∷◌, ◌++◌, length, Option, Some, None, Result, Ok, Err, refl, sym, ap, subst, ◌∙◌, arith, cond}
+use Rattle.std.specs.Prelude.{◌||◌, filter, slice_get, nat_le, ◌==◌, if◌then◌else◌, filter_map, option_map}
+use Rattle.std.specs.List.{AllByRecursion, list_any, cons_option}
 use Rattle.std.specs.Option.{option_or}
 use Rattle.std.specs.List.{IsDistinct}
 use Rattle.std.proofs.lemmas.Bool.{eqb-true}
@@ -12,12 +12,15 @@ use Rattle.omf_format.specs.declared.value.ValueFault.TheVariants.{DivideByZero,
 use Rattle.omf_format.specs.Field.{◌>>=◌}
 use Rattle.omf_format.specs.Expression.{Term, Operator, Location, Constant, Named, Offset, Tree, Leaf, Unary, Binary}
 use Rattle.omf_format.specs.Value.{known, operand_value, apply_one, apply_two, size_of, value}
+use Rattle.load_meaning.specs.Exports.{Export, exports_of}
+use Rattle.omf_format.specs.File.{Segment, segment_at}
+use Rattle.link_meaning.specs.Defines.{ForAll}
 use Rattle.link_meaning.specs.First.{IsIn}
 use Rattle.link_meaning.specs.laws.MemberLists.{in_filter, filter_in}
-use Rattle.link_meaning.specs.Member.{Member}
+use Rattle.link_meaning.specs.Member.{Member, RuntimeFile, Setting, setting_in, alone}
 use Rattle.link_meaning.specs.Terms.{asks_value, asked_by, asked_in, term_at, tree_in}
 use Rattle.link_meaning.specs.declared.search.Step.{Step}
-use Rattle.link_meaning.specs.Search.{Found, sees, or_else, decided, steps_of, named, entries, finds}
+use Rattle.link_meaning.specs.Search.{Found, sees, or_else, decided, steps_of, named, entries, finds, finds_inside, outside_of, outside_from, outside}
 use Rattle.link_meaning.specs.Rings.{is_equate, equates, names_in, LeadsTo, Path, Last, Through, IsCircular}
 use Rattle.link_meaning.specs.LinkValues.{Told, told, found_value, if_ok, label_value, environment, fault_found, fault_named, settled, tree_value, value_in, equate_value, AreTold, IsTable}
 
@@ -35,15 +38,64 @@ in_decided (s ∷ steps) all f is = settle (in_either (filter (sees s) all) (dec
     settle (inl here) go = in_filter (sees s) all f here
     settle (inr more) go = go more
 
--- what a name finds is an entry
-pub in_entries : (list : List Member) (place : ℕ) (m : Member) (name : List ℕ) (f : Found) → IsIn (finds list place m name) f → IsIn (entries list) f
-unfolding finds named
-in_entries list place m name f is =
-    in_filter _ (entries list) f (in_decided (steps_of list place m) (named name (entries list)) f is)
+-- what a name finds is an entry, or a name of a run-time library file
+pub in_found : (list : List Member) (place : ℕ) (m : Member) (name : List ℕ) (f : Found) → IsIn (finds list place m name) f → IsIn (entries list) f ⊎ IsIn (outside (setting_in list)) f
+unfolding finds finds_inside named
+in_found list place m name f is = elim (in_either (decided (steps_of list place m) (named name (entries list))) (named name (outside (setting_in list))) f is) [
+  | inl h ↦ inl (in_filter _ (entries list) f (in_decided (steps_of list place m) (named name (entries list)) f h))
+  | inr h ↦ inr (in_filter _ (outside (setting_in list)) f h)
+]
+
+-- names of run-time library files stand at place 0, and aren't equates
+pub record IsOutside (f : Found) : Type 0 where
+  pub nowhere : f.place ≡ 0
+  pub place : f.definition.expr ≡ None
+
+outside_one : (file : ℕ) (r : RuntimeFile) (es : List Export) (f : Found) → IsIn (filter_map (outside_of file r) es) f → IsOutside f
+outside_one file r [] f is = absurd is
+outside_one file r (e ∷ es) f is = by_segment (λ h. outside_one file r es f h) (segment_at r.segments e.segment) is
+  where
+    found : Segment → Found
+    found s = record {
+      place = 0;
+      member = record { file = file; number = e.segment; from = 0; segment = s; setting = alone };
+      definition = record { name = e.name; scope = ForAll; place = e.offset; at = s.start; expr = None; size = 0; form = 0x4E };
+    }
+
+    by_segment : (IsIn (filter_map (outside_of file r) es) f → IsOutside f) → (o : Option Segment) → IsIn (cons_option (option_map found o) (filter_map (outside_of file r) es)) f → IsOutside f
+    by_segment go None h = go h
+    by_segment go (Some s) (inl same) = subst IsOutside same (record { nowhere = refl; place = refl })
+    by_segment go (Some s) (inr more) = go more
+
+outside_all : (file : ℕ) (rs : List RuntimeFile) (f : Found) → IsIn (outside_from file rs) f → IsOutside f
+outside_all file [] f is = absurd is
+outside_all file (r ∷ rs) f is = elim (in_parts (filter_map (outside_of file r) (exports_of r.segments)) (outside_from (file + 1) rs) f is) [
+  | inl h ↦ outside_one file r (exports_of r.segments) f h
+  | inr h ↦ outside_all (file + 1) rs f h
+]
+  where
+    in_parts : (xs ys : List Found) (g : Found) → IsIn (xs ++ ys) g → IsIn xs g ⊎ IsIn ys g
+    in_parts [] ys g h = inr h
+    in_parts (x ∷ xs) ys g (inl h) = inl (inl h)
+    in_parts (x ∷ xs) ys g (inr h) = elim (in_parts xs ys g h) [ inl a ↦ inl (inr a) | inr b ↦ inr b ]
+
+pub is_outside : (setting : Setting) (f : Found) → IsIn (outside setting) f → IsOutside f
+unfolding outside
+is_outside setting f is = outside_all 2 setting.runtimes f is
+
+-- an equate that is found is an entry
+pub in_entries : (list : List Member) (place : ℕ) (m : Member) (name : List ℕ) (f : Found) → is_equate f ≡ true → IsIn (finds list place m name) f → IsIn (entries list) f
+in_entries list place m name f equate is = elim (in_found list place m name f is) [
+  | inl h ↦ h
+  | inr h ↦ absurd (no_equate (sym (ap Rattle.link_meaning.specs.Rings.has_expr (is_outside (setting_in list) f h).place) ∙ equate))
+]
+  where
+    no_equate : false ≡ true → ⊥
+    no_equate e = absurd cc
 
 pub in_equates : (list : List Member) (e f : Found) → LeadsTo list e f → IsIn (equates list) f
 unfolding equates
-in_equates list e f leads = filter_in is_equate (entries list) f (in_entries list e.place e.member leads.name f leads.found) leads.equate
+in_equates list e f leads = filter_in is_equate (entries list) f (in_entries list e.place e.member leads.name f leads.equate leads.found) leads.equate
 
 -- ---- the same value where the same names are told
 
@@ -251,7 +303,7 @@ found_same list a b e f name asked found go = by_test (is_equate f) refl
     by_test false is = no_expr f.definition.expr _ _ _ is
     by_test true is =
         let leads : LeadsTo list e f = record { name = name; asked = asked; found = found; equate = is } in
-        ap (λ (r : Result Value ValueFault). elim f.definition.expr as (λ y. Result Value ValueFault) [ None ↦ Ok (Rattle.link_meaning.specs.LinkValues.place_value list f.place f.member f.definition.place) | Some text ↦ r ]) (go f leads)
+        ap (λ (r : Result Value ValueFault). elim f.definition.expr as (λ y. Result Value ValueFault) [ None ↦ Ok (cond (eqb f.place 0) (Rattle.link_meaning.specs.LinkValues.outside_value f) (Rattle.link_meaning.specs.LinkValues.place_value list f.place f.member f.definition.place)) | Some text ↦ r ]) (go f leads)
 
 pub alike_from : (list : List Member) (a b : List Told) (e : Found)
     → ((g : Found) → LeadsTo list e g → told a g.place g.definition.at ≡ told b g.place g.definition.at)

@@ -1,9 +1,10 @@
 -- A table that is laid out as the entries of targets that are there passes the checks of a table.
-use Rattle.std.proofs.Common.{◌≡◌, ℕ, zero, suc, ◌+◌, ◌*◌, ◌<◌, Bool, true, false, not, eqb, ltb, List, [], ◌∷◌, ◌++◌, length, map, take, drop, replicate, get_or, Option, Some, None, refl, sym, ap, subst, ◌∙◌, arith}
+use Rattle.load_meaning.specs.Pathnames.{paths_of}
+use Rattle.std.proofs.Common.{◌≡◌, ℕ, zero, suc, ◌+◌, ◌*◌, ◌<◌, Bool, true, false, not, eqb, ltb, List, [], ◌∷◌, ◌++◌, length, map, take, drop, replicate, get_or, Option, Some, None, refl, sym, ap, subst, ◌∙◌, arith, ◌≤◌, inl, inr}
 use Rattle.std.specs.Prelude.{◌&&◌, slice_get, option_map}
 use Rattle.std.specs.Option.{option_map_or}
 use Rattle.std.specs.List.{AllByRecursion}
-use Rattle.std.proofs.lemmas.Bool.{and_from, eq-eqb, lt-ltb}
+use Rattle.std.proofs.lemmas.Bool.{and_from, eq-eqb, lt-ltb, le-leb, ne_eqb}
 use Rattle.std.proofs.lemmas.List.{length-map, take-append-drop, drop-drop}
 use Rattle.std.proofs.lemmas.Option.{slice_get-map, slice_get-get_or}
 use Rattle.byteorder.specs.Endian.{little_number}
@@ -13,7 +14,7 @@ use Rattle.omf_format.specs.File.{Segment, segment_at}
 use Rattle.load_meaning.specs.declared.table.Target.{Target}
 use Rattle.load_meaning.specs.Table.{IsEntryAt, IsTableOf, entry_start, file_entry}
 use Rattle.load_meaning.specs.laws.TableLaws.{number_front}
-use Rattle.load_meaning.specs.LoadTable.{is_place, is_called, Check, zero_checks, is_call, entry_checks, entries_checks, table_checks}
+use Rattle.load_meaning.specs.LoadTable.{is_place, is_called, Check, zero_checks, is_call, entry_checks, entries_checks, table_checks, is_file_number}
 use Rattle.load_meaning.specs.Loadable.{IsTarget}
 
 -- ---- lists of checks
@@ -63,25 +64,51 @@ zeros_behind bytes at n i is lt = ap (little_number 1) (sym (drop-drop i at byte
 found_test : (o : Option Segment) (test : Segment → Bool) (s : Segment) → o ≡ Some s → test s ≡ true → option_map_or test o false ≡ true
 found_test o test s is e = ap (λ (p : Option Segment). option_map_or test p false) is ∙ e
 
+no_more : (own x : Bool) → x ≡ true → (own && not x) ≡ false
+no_more true x e = ap not e
+no_more false x e = refl
+
+-- a number from 1 on, up to that of the last row
+file_right : (segments : List Segment) (n : ℕ) → 1 ≤ n → n ≤ length (paths_of segments) + 1 → is_file_number segments n ≡ true
+file_right segments n low up = and_from _ _ (le-leb 1 n low) (le-leb n (length (paths_of segments) + 1) up)
+
+call_right : (bytes : List ℕ) (at : ℕ) (t : Target) → IsEntryAt (file_entry t) at bytes → is_call bytes (at + 10) ≡ true
+call_right bytes at t is = and_from _ _ (and_from _ _ (and_from _ _ (eq-eqb _ 0x22 is.code.0) (eq-eqb _ 0x00 is.code.1)) (eq-eqb _ 0xF0 is.code.2)) (eq-eqb _ 0xE1 is.code.3)
+
+not_own : (n : ℕ) → 2 ≤ n → eqb n 1 ≡ false
+not_own n low = ne_eqb n 1 (λ (e : n ≡ 1). absurd (omega (arith, e, low)))
+
 entry_passes : (segments : List Segment) (bytes : List ℕ) (at : ℕ) (t : Target) → IsEntryAt (file_entry t) at bytes → IsTarget segments t → first_of (entry_checks segments bytes at) ≡ None
-entry_passes segments bytes at t is target =
+entry_passes segments bytes at t is (inr target) =
+    let file : 2 ≤ number_at 2 (at + 2) bytes = omega (arith, is.file, target.beyond) in
+    let own = not_own (number_at 2 (at + 2) bytes) file in
+    let five : Check = (not (is_call bytes (at + 10)), at + 10) in
+    let four : Check = (eqb (number_at 2 (at + 2) bytes) 1 && not (is_place segments (number_at 2 (at + 4) bytes) (number_at 4 (at + 6) bytes)), at + 6) in
+    let three : Check = (eqb (number_at 2 (at + 2) bytes) 1 && not (is_called segments (number_at 2 (at + 4) bytes)), at + 4) in
+    let two : Check = (not (is_file_number segments (number_at 2 (at + 2) bytes)), at + 2) in
+    pass (not (eqb (number_at 2 at bytes) 0)) at (two ∷ three ∷ four ∷ five ∷ []) (is_right (number_at 2 at bytes) 0 is.user)
+    (pass two.0 two.1 (three ∷ four ∷ five ∷ []) (ap not (file_right segments (number_at 2 (at + 2) bytes) (omega (arith, file)) (omega (arith, is.file, target.row))))
+    (pass three.0 three.1 (four ∷ five ∷ []) (ap (λ (b : Bool). b && not (is_called segments (number_at 2 (at + 4) bytes))) own)
+    (pass four.0 four.1 (five ∷ []) (ap (λ (b : Bool). b && not (is_place segments (number_at 2 (at + 4) bytes) (number_at 4 (at + 6) bytes))) own)
+    (pass five.0 five.1 [] (ap not (call_right bytes at t is)) refl))))
+entry_passes segments bytes at t is (inl target) =
     let s = target.segment' in
     let there : segment_at segments (number_at 2 (at + 4) bytes) ≡ Some s = ap (segment_at segments) is.segment ∙ target.is in
     let kept : not (is_skipped s.fields.kind) ≡ true = ap not target.kept in
     let called = found_test (segment_at segments (number_at 2 (at + 4) bytes)) (λ s. is_dynamic s.fields.kind && not (is_skipped s.fields.kind)) s there (and_from (is_dynamic s.fields.kind) (not (is_skipped s.fields.kind)) target.dynamic kept) in
     let inside : ltb (number_at 4 (at + 6) bytes) s.fields.length ≡ true = ap (λ (n : ℕ). ltb n s.fields.length) is.offset ∙ lt-ltb t.offset s.fields.length target.inside in
     let place = found_test (segment_at segments (number_at 2 (at + 4) bytes)) (λ s. not (is_skipped s.fields.kind) && ltb (number_at 4 (at + 6) bytes) s.fields.length) s there (and_from (not (is_skipped s.fields.kind)) (ltb (number_at 4 (at + 6) bytes) s.fields.length) kept inside) in
-    let call : is_call bytes (at + 10) ≡ true =
-    and_from _ _ (and_from _ _ (and_from _ _ (eq-eqb _ 0x22 is.code.0) (eq-eqb _ 0x00 is.code.1)) (eq-eqb _ 0xF0 is.code.2)) (eq-eqb _ 0xE1 is.code.3) in
+    let one : number_at 2 (at + 2) bytes ≡ 1 = is.file ∙ target.file' in
+    let own = eqb (number_at 2 (at + 2) bytes) 1 in
     let five : Check = (not (is_call bytes (at + 10)), at + 10) in
-    let four : Check = (not (is_place segments (number_at 2 (at + 4) bytes) (number_at 4 (at + 6) bytes)), at + 6) in
-    let three : Check = (not (is_called segments (number_at 2 (at + 4) bytes)), at + 4) in
-    let two : Check = (not (eqb (number_at 2 (at + 2) bytes) 1), at + 2) in
+    let four : Check = (own && not (is_place segments (number_at 2 (at + 4) bytes) (number_at 4 (at + 6) bytes)), at + 6) in
+    let three : Check = (own && not (is_called segments (number_at 2 (at + 4) bytes)), at + 4) in
+    let two : Check = (not (is_file_number segments (number_at 2 (at + 2) bytes)), at + 2) in
     pass (not (eqb (number_at 2 at bytes) 0)) at (two ∷ three ∷ four ∷ five ∷ []) (is_right (number_at 2 at bytes) 0 is.user)
-    (pass two.0 two.1 (three ∷ four ∷ five ∷ []) (is_right (number_at 2 (at + 2) bytes) 1 (is.file ∙ target.file'))
-    (pass three.0 three.1 (four ∷ five ∷ []) (ap not called)
-    (pass four.0 four.1 (five ∷ []) (ap not place)
-    (pass five.0 five.1 [] (ap not call) refl))))
+    (pass two.0 two.1 (three ∷ four ∷ five ∷ []) (ap not (file_right segments (number_at 2 (at + 2) bytes) (omega (arith, one)) (omega (arith, one))))
+    (pass three.0 three.1 (four ∷ five ∷ []) (no_more own (is_called segments (number_at 2 (at + 4) bytes)) called)
+    (pass four.0 four.1 (five ∷ []) (no_more own (is_place segments (number_at 2 (at + 4) bytes) (number_at 4 (at + 6) bytes)) place)
+    (pass five.0 five.1 [] (ap not (call_right bytes at t is)) refl))))
 
 entries_pass : (segments : List Segment) (bytes : List ℕ) (k n : ℕ) → ((i : ℕ) → i < n → first_of (entry_checks segments bytes (entry_start (k + i))) ≡ None) → first_of (entries_checks segments bytes k n) ≡ None
 entries_pass segments bytes k zero each = refl

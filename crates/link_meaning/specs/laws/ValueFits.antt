@@ -4,13 +4,14 @@ use Rattle.std.specs.List.{AllByRecursion}
 use Rattle.std.proofs.lemmas.List.{length-append}
 use Rattle.omf_format.specs.declared.value.Value.{Value}
 use Rattle.omf_format.specs.Field.{layout_of}
-use Rattle.omf_format.specs.Number.{IsBytes}
 use Rattle.omf_format.specs.Record.{Record, End, Const, LongConst, Align, Org, Space, Reloc, InterSeg, ShortReloc, ShortInterSeg, Super, Using, Strong, Label, Equate, Formula, Entry, IsRecord}
+use Rattle.link_meaning.specs.laws.OutsideLaws.{outside_fits}
+use Rattle.link_meaning.specs.Search.{Found, outside}
 use Rattle.link_meaning.specs.First.{IsIn}
 use Rattle.link_meaning.specs.Sizes.{Located, size_at, located_from, located, place_behind, body_size}
-use Rattle.link_meaning.specs.Member.{Member}
-use Rattle.link_meaning.specs.LinkValues.{Told, place_value, value_in, IsTable}
-use Rattle.link_meaning.specs.LinkFaults.{IsResolved}
+use Rattle.link_meaning.specs.Member.{Member, setting_in}
+use Rattle.link_meaning.specs.LinkValues.{Told, place_value, value_in, IsTable, outside_value}
+use Rattle.link_meaning.specs.LinkFaults.{Given, HasBytes, IsResolved}
 use Rattle.link_meaning.specs.LinkedCells.{Item, items_from, items}
 use Rattle.link_meaning.specs.LinkWritten.{LinkedStandsFor}
 use Rattle.link_meaning.specs.laws.MadeLaws.{FitsPatch, IsSoundAt}
@@ -22,7 +23,7 @@ use Rattle.link_meaning.specs.laws.LinkWrittenLaws.{stands_for}
 
 -- ---- all of a resolved list
 
-module _ (files : List (List ℕ)) (list : List Member) (table : List Told) (bytes : AllByRecursion IsBytes files) (resolved : IsResolved files list) (is_table : IsTable list table) where
+module _ (files : Given) (list : List Member) (table : List Told) (bytes : HasBytes files) (resolved : IsResolved files list) (is_table : IsTable list table) where
   read : (m : Member) → IsIn list m → IsRead m.segment
   read m is = members_read files list m bytes resolved.program is
 
@@ -32,9 +33,12 @@ module _ (files : List (List ℕ)) (list : List Member) (table : List Told) (byt
   there : (place : ℕ) (m : Member) (at : ℕ) → IsPlaceIn list place m at → FitsPatch (place_value list place m at)
   there place m at is = place_fits files list place m at resolved whole is
 
+  beyond : (f : Found) → IsIn (outside (setting_in list)) f → FitsPatch (outside_value f)
+  beyond = outside_fits list
+
   -- what an expression in a member stands for fits
   pub expression_fits : (place : ℕ) (m : Member) (location : ℕ) (text : List ℕ) → IsPlaceIn list place m location → (v : Value) → value_in list table place m location text ≡ Ok v → FitsPatch v
-  expression_fits = values.expression_fits (λ (segment : ℕ). segment < 2 ^ 16) list table is_table there
+  expression_fits = values.expression_fits (λ (file segment : ℕ). file ≡ 1 → segment < 2 ^ 16) list table is_table there beyond
 
   -- ---- records
 

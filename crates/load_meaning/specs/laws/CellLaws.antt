@@ -1,21 +1,23 @@
 -- What the cells of a load file's segments are, and what its segments have.
-use Rattle.std.proofs.Common.{◌≡◌, ℕ, zero, suc, ◌+◌, ◌-◌, ◌≤◌, Bool, true, false, eqb, ltb, List, [], ◌∷◌, ◌++◌, length, map, Option, Some, None, refl, sym, ap, subst, ◌∙◌, arith, inl, inr}
-use Rattle.std.specs.Prelude.{◌⊎◌, ◌&&◌, not, option_map, slice_get, replicate}
-use Rattle.std.specs.List.{flat_map, AllByRecursion}
+use Rattle.std.proofs.Common.{take, ◌≡◌, ℕ, zero, suc, ◌+◌, ◌-◌, ◌≤◌, Bool, true, false, eqb, ltb, List, [], ◌∷◌, ◌++◌, length, map, Option, Some, None, refl, sym, ap, subst, ◌∙◌, arith, inl, inr}
+use Rattle.std.specs.Prelude.{◌⊎◌, ◌&&◌, ◌||◌, cond, not, option_map, slice_get, replicate}
+use Rattle.std.specs.List.{flat_map, AllByRecursion, list_any}
 use Rattle.std.specs.Option.{option_or, option_map_or}
 use Rattle.std.proofs.lemmas.Bool.{and_parts, not-true, not-false, eqb-true, ltb-false}
 use Rattle.std.proofs.lemmas.List.{length-append, length-replicate, length-map, map-append}
 use Rattle.std.proofs.lemmas.List.Concat.{flat_map-cons}
 use Rattle.load_meaning.specs.declared.load.LoadCause.{LoadCause}
-use Rattle.load_meaning.specs.declared.load.LoadCause.TheVariants.{Sequence, DataTooLong, PatchOutside, NoSuchTarget, DynamicTarget}
+use Rattle.load_meaning.specs.declared.load.LoadCause.TheVariants.{Sequence, DataTooLong, PatchOutside, NoSuchTarget, DynamicTarget, BadTable}
 use Rattle.load_meaning.specs.declared.load.LoadFault.{LoadFault}
-use Rattle.omf_format.specs.Header.{is_dynamic, is_skipped}
+use Rattle.omf_format.specs.Header.{is_dynamic, is_skipped, first_of}
 use Rattle.omf_format.specs.Record.{Record}
 use Rattle.omf_format.specs.File.{Segment, IsSegment, AreSegments, segment_at}
 use Rattle.omf_format.specs.Body.{body_bytes}
 use Rattle.load_meaning.specs.Cells.{Cell, Byte, Patch, parts_from, with_patch, segment_bytes, patched, patches_in, patches_of, cells}
 use Rattle.load_meaning.specs.laws.LayingLaws.{laid, Fit, length-laid}
-use Rattle.load_meaning.specs.Loadable.{Fault, IsLoadSegment, in_segment, first_in, shape_fault, is_kept, is_dynamic_at, patch_refusal, first_refusal, entry_refusal, target_refusal, first_target_fault, target_fault, table_fault, later_fault, IsLoadable, patch_list, IsPatch, IsSoundSegment}
+use Rattle.load_meaning.specs.Loadable.{Fault, IsLoadSegment, in_segment, first_in, shape_fault, is_kept, is_dynamic_at, patch_refusal, first_refusal, entry_refusal, target_refusal, first_target_fault, target_fault, pathnames_flaw, IsPathnames, pathnames_fault, table_fault, later_fault, IsLoadable, patch_list, IsPatch, IsSoundSegment}
+use Rattle.load_meaning.specs.Pathnames.{ArePaths, has_pathnames, most_paths, paths_in, paths_of, rows_flaw, is_one_long}
+use Rattle.load_meaning.specs.laws.PathLaws.{paths_there}
 use Rattle.load_meaning.specs.laws.LoadTableLaws.{first_of-none, table_is, table_first}
 
 -- ---- segments of constants
@@ -180,12 +182,14 @@ both_none (Some fault) b e = absurd cc
 
 -- where no later phase finds anything, neither does each
 pub later_none : (segments : List Segment) → later_fault segments ≡ None
-    → (first_in shape_fault 1 segments ≡ None) × (first_in (target_fault segments) 1 segments ≡ None) × (first_in (table_fault segments) 1 segments ≡ None)
+    → (first_in shape_fault 1 segments ≡ None) × (first_in (target_fault segments) 1 segments ≡ None) × (first_in (pathnames_fault segments) 1 segments ≡ None)
+    × (first_in (table_fault segments) 1 segments ≡ None)
 unfolding later_fault
 later_none segments e =
     let one = both_none (first_in shape_fault 1 segments) _ e in
-    let two = both_none (first_in (target_fault segments) 1 segments) (first_in (table_fault segments) 1 segments) one.1 in
-    (one.0, two.0, two.1)
+    let two = both_none (first_in (target_fault segments) 1 segments) _ one.1 in
+    let three = both_none (first_in (pathnames_fault segments) 1 segments) (first_in (table_fault segments) 1 segments) two.1 in
+    (one.0, two.0, three.0, three.1)
 
 pub loadable_at : (file : List ℕ) (segments : List Segment) → IsLoadable file segments → (number : ℕ) (s : Segment) → segment_at segments number ≡ Some s → IsSegmentOf file number s
 loadable_at file segments is zero s e = absurd cc
@@ -197,6 +201,57 @@ loadable_at file segments is (suc k) s e =
       shape = subst (λ (n : ℕ). IsShaped n s) place (shaped (1 + k) s (none_at shape_fault 1 segments (later_none segments is.sound).0 k s e));
     }
 
+-- ---- pathnames
+
+-- the paths of a file are those of its first pathname segment
+paths_first : (segments : List Segment) (k more : ℕ) (s : Segment) → more ≡ most_paths → slice_get segments k ≡ Some s → has_pathnames s ≡ true → list_any has_pathnames (take k segments) ≡ false
+    → paths_of segments ≡ paths_in more (segment_bytes s)
+unfolding paths_of
+paths_first [] k more s most e is none = absurd cc
+paths_first (t ∷ segments) zero more s most e is none =
+    let same = segment_is t s e in
+    let here : has_pathnames t ≡ true = ap has_pathnames same ∙ is in
+    subst (λ (n : ℕ). cond (has_pathnames t) (paths_in n (segment_bytes t)) (paths_of segments) ≡ paths_in more (segment_bytes s)) most
+    (ap (λ (b : Bool). cond b (paths_in more (segment_bytes t)) (paths_of segments)) here ∙ ap (λ (u : Segment). paths_in more (segment_bytes u)) same)
+paths_first (t ∷ segments) (suc k) more s most e is none =
+    let both = neither (has_pathnames t) (list_any has_pathnames (take k segments)) none in
+    ap (λ (b : Bool). cond b (paths_in most_paths (segment_bytes t)) (paths_of segments)) both.0 ∙ paths_first segments k more s most e is both.1
+  where
+    neither : (a b : Bool) → (a || b) ≡ false → (a ≡ false) × (b ≡ false)
+    neither true b e = absurd cc
+    neither false b e = (refl, e)
+
+no_path_flaw : (b : Bool) (o : Option ℕ) → b ≡ true → cond b (elim o as (λ x. Option Fault) [ None ↦ None | Some at ↦ Some (BadTable, at) ]) None ≡ None → o ≡ None
+no_path_flaw true None is e = refl
+no_path_flaw true (Some at) is e = absurd cc
+no_path_flaw false o is e = absurd cc
+
+pathnames_are : (segments : List Segment) (k more : ℕ) (s : Segment) → more ≡ most_paths → slice_get segments k ≡ Some s → has_pathnames s ≡ true → pathnames_fault segments (suc k) s ≡ None → IsPathnames segments s
+unfolding pathnames_flaw
+pathnames_are segments k more s most e is fault =
+    let kind_check : Bool × ℕ = (is_dynamic s.fields.kind || is_skipped s.fields.kind, 0) in
+    let body_check : Bool × ℕ = (not (is_one_long s.fields.length s.records), 0) in
+    let flaw = both_places (first_of ((list_any has_pathnames (take (suc k - 1) segments), 0) ∷ kind_check ∷ body_check ∷ [])) (rows_flaw most_paths 0 0 (segment_bytes s)) (no_path_flaw (has_pathnames s) _ is fault) in
+    let second = first_of-none (list_any has_pathnames (take (suc k - 1) segments)) 0 (kind_check ∷ body_check ∷ []) flaw.0 in
+    let kind = first_of-none kind_check.0 0 (body_check ∷ []) second.1 in
+    let both = neither (is_dynamic s.fields.kind) (is_skipped s.fields.kind) kind.0 in
+    let place : suc k - 1 ≡ k = omega arith in
+    let before : list_any has_pathnames (take k segments) ≡ false = ap (λ (n : ℕ). list_any has_pathnames (take n segments)) (sym place) ∙ second.0 in
+    let rows : rows_flaw more 0 0 (segment_bytes s) ≡ None = subst (λ (n : ℕ). rows_flaw n 0 0 (segment_bytes s) ≡ None) (sym most) flaw.1 in
+    record {
+      static = both.0;
+      kept = both.1;
+      laid_out = subst (λ (paths : List (List ℕ)). ArePaths paths (segment_bytes s)) (sym (paths_first segments k more s most e is before)) (paths_there more (segment_bytes s) most rows);
+    }
+  where
+    neither : (a b : Bool) → (a || b) ≡ false → (a ≡ false) × (b ≡ false)
+    neither true b e = absurd cc
+    neither false b e = (refl, e)
+
+    both_places : (a b : Option ℕ) → option_or a b ≡ None → (a ≡ None) × (b ≡ None)
+    both_places None b e = (refl, e)
+    both_places (Some at) b e = absurd cc
+
 -- what a load file's segment has
 pub loadable_has : (file : List ℕ) (segments : List Segment) → IsLoadable file segments → (number : ℕ) (s : Segment) → segment_at segments number ≡ Some s → IsSoundSegment segments number s
 loadable_has file segments is zero s e = absurd cc
@@ -206,13 +261,14 @@ loadable_has file segments is (suc k) s e =
     let place : 1 + k ≡ suc k = omega arith in
     let sized = length-segment_bytes s shape.fits in
     let table : table_fault segments (suc k) s ≡ None =
-    subst (λ (n : ℕ). table_fault segments n s ≡ None) place (none_at (table_fault segments) 1 segments phases.2 k s e) in
+    subst (λ (n : ℕ). table_fault segments n s ≡ None) place (none_at (table_fault segments) 1 segments phases.3 k s e) in
     record {
       number' = shape.number';
       fits = shape.fits;
       patches = sound_patches segments (1 + k) s (none_at (target_fault segments) 1 segments phases.1 k s e);
       table = λ is_one. table_is segments (suc k) s sized is_one table;
       only = λ is_one. table_first segments k s e is_one table;
+      paths = λ is_one. pathnames_are segments k most_paths s refl e is_one (subst (λ (n : ℕ). pathnames_fault segments n s ≡ None) place (none_at (pathnames_fault segments) 1 segments phases.2 k s e));
     }
 
 -- ---- cells

@@ -15,6 +15,8 @@ use Rattle.omf_format.specs.Reading.{Reader, HandsOut, is_end}
 use Rattle.omf_format.specs.File.{Segment, body_reader}
 use Rattle.omf_format.specs.laws.FileLaws.{HandsOut-same}
 use Rattle.omf_format.specs.Body.{body_bytes}
+use Rattle.load_meaning.specs.laws.ExportLaws.{exports_content, exports_patches}
+use Rattle.load_meaning.specs.WrittenFile.{IsExport}
 use Rattle.load_meaning.specs.Cells.{Byte, Patch, segment_bytes, patched, super_patch, patches_in, patches_of, cells}
 use Rattle.load_meaning.specs.WrittenPages.{pages_of, pages_text, Rise}
 use Rattle.load_meaning.specs.WrittenBody.{IsWrittenPatch, AreWritten, is_own, is_short, super_form, lone_record, with_stored, zeros_behind, written_cells, written_data, data_records, is_form, has_none, of_form, lone, super_records, supers_from, body_records, body_text, HasBody}
@@ -209,7 +211,7 @@ records_fit own content patches small are =
 
 -- ---- the content of the records
 
-data_content : (bytes : List ℕ) → flat_map content_of (data_records bytes) ≡ bytes
+pub data_content : (bytes : List ℕ) → flat_map content_of (data_records bytes) ≡ bytes
 data_content [] = refl
 data_content (byte ∷ bytes) = flat_map-cons content_of (LongConst (byte ∷ bytes)) [] ∙ append-nil (byte ∷ bytes)
 
@@ -291,7 +293,7 @@ lone_patches own s (p ∷ l) number file =
     ∙ ap (λ (m : List Patch). m ++ flat_map (patches_in s) (map (lone_record own) l)) (lone_gives s own p number (file p (inl refl)))
     ∙ ap (λ (m : List Patch). p ∷ m) (lone_patches own s l number (λ q h. file q (inr h)))
 
-data_patches : (s : Segment) (bytes : List ℕ) → flat_map (patches_in s) (data_records bytes) ≡ []
+pub data_patches : (s : Segment) (bytes : List ℕ) → flat_map (patches_in s) (data_records bytes) ≡ []
 data_patches s [] = refl
 data_patches s (byte ∷ bytes) = flat_map-cons (patches_in s) (LongConst (byte ∷ bytes)) []
 
@@ -338,22 +340,27 @@ from_records own patches p h = elim (has-parts (lone own patches) (by_forms own 
 
 -- ---- the law
 
--- a segment that hands out these records and END
+-- a segment that hands out these records, any ENTRY records behind them, and END
 abbrev pub HasRecords : ℕ → List ℕ → List Patch → Segment → Type 0
-HasRecords own content patches s = (end : ℕ) × (s.records ≡ placed end (body_records own content patches))
+HasRecords own content patches s =
+    (end : ℕ) × (exports : List Record) × AllByRecursion IsExport exports × (s.records ≡ placed end (body_records own content patches ++ exports))
+
+pub without : {A : Type 0} (f : Record → List A) (rs exports : List Record) → flat_map f exports ≡ [] → flat_map f (rs ++ exports) ≡ flat_map f rs
+without f rs exports none = flat_map-append f rs exports ∙ ap (λ l. flat_map f rs ++ l) none ∙ append-nil (flat_map f rs)
 
 pub segment_has : (own : ℕ) (content : List ℕ) (patches : List Patch) (s : Segment) → s.fields.length ≡ length content → AreWritten (length content) 0 patches → HasRecords own content patches s
     → segment_bytes s ≡ with_stored own content patches
 unfolding segment_bytes body_bytes
 segment_has own content patches s len are has =
     let records : flat_map (λ (found : ℕ × Record). content_of found.1) s.records ≡ written_data own content patches =
-    ap (flat_map (λ (found : ℕ × Record). content_of found.1)) has.1 ∙ flat-placed content_of has.0 (body_records own content patches) refl ∙ records_content own content patches in
+    ap (flat_map (λ (found : ℕ × Record). content_of found.1)) has.3 ∙ flat-placed content_of has.0 (body_records own content patches ++ has.1) refl
+    ∙ without content_of (body_records own content patches) has.1 (exports_content has.1 has.2) ∙ records_content own content patches in
     ap (λ (l : List ℕ). l ++ replicate (s.fields.length - length l) 0) records
     ∙ ap (λ (n : ℕ). written_data own content patches ++ replicate (n - length (written_data own content patches)) 0) len
     ∙ sym (restored own patches content are)
 
 -- the patches of records without the records' displacements
-without_places : (s : Segment) (founds : List (ℕ × Record))
+pub without_places : (s : Segment) (founds : List (ℕ × Record))
     → map (λ (p : ℕ × Patch). p.1) (flat_map (λ (found : ℕ × Record). map (λ (p : Patch). (found.0, p)) (patches_in s found.1)) founds) ≡ flat_map (λ (found : ℕ × Record). patches_in s found.1) founds
 without_places s [] = refl
 without_places s (found ∷ founds) =
@@ -373,7 +380,8 @@ pub patches_are : (own : ℕ) (content : List ℕ) (patches : List Patch) (s : S
 unfolding patches_of
 patches_are own content patches s has st =
     without_places s s.records
-    ∙ ap (flat_map (λ (found : ℕ × Record). patches_in s found.1)) has.1 ∙ flat-placed (patches_in s) has.0 (body_records own content patches) refl ∙ records_patches own content patches s st
+    ∙ ap (flat_map (λ (found : ℕ × Record). patches_in s found.1)) has.3 ∙ flat-placed (patches_in s) has.0 (body_records own content patches ++ has.1) refl
+    ∙ without (patches_in s) (body_records own content patches) has.1 (exports_patches s has.1 has.2) ∙ records_patches own content patches s st
 
 pub stands : (own : ℕ) (content : List ℕ) (patches : List Patch) (s : Segment) → s.fields.seg_num ≡ own → s.fields.length ≡ length content → AreWritten (length content) 0 patches → HasRecords own content patches s
     → Stands own patches s
@@ -401,7 +409,7 @@ cells_are own content patches s number len are has =
     ∙ sym (patched-laid (map Byte content) patches)
 
 -- a body of version 2 with LABLEN 0 is read as it is written
-reader_is : (own size : ℕ) (bytes : List ℕ) (s : Segment) (file : List ℕ) → HasBody own size bytes s file
+pub reader_is : (own size : ℕ) (bytes : List ℕ) (s : Segment) (file : List ℕ) → HasBody own size bytes s file
     → body_reader s.start s.fields file ≡ reader_at (s.start + s.fields.byte_count) bytes false
 unfolding body_reader length_width_of
 reader_is own size bytes s file has = rw (has.version, has.lab_len, has.body) refl
@@ -415,7 +423,8 @@ has_records own content patches s file small are has =
     let reader = reader_is own (length content) (text rs) s file has in
     let given : HandsOut (reader_at end (text rs) false) s.records has.segment'.last = subst (λ (r : Reader). HandsOut r s.records has.segment'.last) reader has.segment'.records in
     let made = runs rs end (records_fit own content patches small are) in
-    (end, HandsOut-same (reader_at end (text rs) false) s.records (placed end rs) has.segment'.last (reader_at end [] true) given made has.segment'.ended refl)
+    let is = HandsOut-same (reader_at end (text rs) false) s.records (placed end rs) has.segment'.last (reader_at end [] true) given made has.segment'.ended refl in
+    (end, [], tt, is ∙ ap (placed end) (sym (append-nil rs)))
 
 pub stands_for : (own : ℕ) (content : List ℕ) (patches : List Patch) (s : Segment) (file : List ℕ) → length content ≤ 0xFFFFFF → AreWritten (length content) 0 patches
     → HasBody own (length content) (body_text own content patches ++ spelling written_layout End) s file → cells s ≡ written_cells content patches

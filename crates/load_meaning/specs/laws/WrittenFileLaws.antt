@@ -1,5 +1,5 @@
 -- What is written for load segments is a file of exactly these, and each stands for its cells.
-use Rattle.std.proofs.Common.{◌≡◌, ℕ, ◌+◌, ◌<◌, false, true, List, [], ◌∷◌, ◌++◌, length, take, drop, refl, sym, ap, subst, ◌∙◌, append_assoc, arith}
+use Rattle.std.proofs.Common.{◌≡◌, ℕ, ◌+◌, ◌-◌, ◌<◌, ◌≤◌, false, true, List, [], ◌∷◌, ◌++◌, length, take, drop, refl, sym, ap, subst, ◌∙◌, append_assoc, arith, Bool, map, replicate}
 use Rattle.std.specs.List.{flat_map, AllByRecursion}
 use Rattle.std.proofs.lemmas.List.{append-nil, take_at, drop_at, length-append}
 use Rattle.std.proofs.lemmas.List.Concat.{flat_map-cons}
@@ -7,12 +7,18 @@ use Rattle.omf_format.specs.Field.{length_width_of}
 use Rattle.omf_format.specs.Header.{Fields, fields_of, header_fault, written_fields, header_bytes}
 use Rattle.omf_format.specs.laws.HeaderLaws.{drop-more}
 use Rattle.omf_format.specs.laws.WrittenHeaderLaws.{length-header, fields_of-written, header_fault-written}
+use Rattle.omf_format.specs.Record.{Record, content_of}
 use Rattle.omf_format.specs.Reading.{Reader, HandsOut}
 use Rattle.omf_format.specs.File.{Segment, body_reader, IsSegment, AreSegments, IsFile}
-use Rattle.load_meaning.specs.WrittenBody.{body_records, body_text, HasBody}
-use Rattle.load_meaning.specs.laws.RunLaws.{reader_at, text, placed, runs}
-use Rattle.load_meaning.specs.laws.WrittenBodyLaws.{records_fit, stands_for}
-use Rattle.load_meaning.specs.WrittenFile.{Image, image_body, image_fields, image_text, file_text, IsImage, IsReadAs, AreReadAs}
+use Rattle.omf_format.specs.Body.{body_bytes}
+use Rattle.std.specs.Prelude.{cond}
+use Rattle.omf_format.specs.laws.FileLaws.{HandsOut-same}
+use Rattle.load_meaning.specs.Cells.{Byte, Patch, segment_bytes, patches_in, patches_of, patched, cells}
+use Rattle.load_meaning.specs.laws.ExportLaws.{exports_fit, exports_content, exports_patches}
+use Rattle.load_meaning.specs.WrittenBody.{body_records, HasBody, data_records, written_cells}
+use Rattle.load_meaning.specs.laws.RunLaws.{reader_at, text, placed, runs, IsBodyRecord, flat-placed}
+use Rattle.load_meaning.specs.laws.WrittenBodyLaws.{records_fit, cells_are, without, without_places, data_content, data_patches, reader_is}
+use Rattle.load_meaning.specs.WrittenFile.{Image, image_body, image_fields, image_text, file_text, IsImage, IsReadAs, AreReadAs, image_records, IsExport}
 
 -- ---- where a segment is read from
 
@@ -48,13 +54,47 @@ segment_read : ℕ → Image → Segment
 segment_read at image = record {
   start = at;
   fields = written_fields (image_fields image) (length (image_body image));
-  records = placed (at + size_of image) (body_records image.fields.seg_num image.content image.patches);
+  records = placed (at + size_of image) (image_records image);
 }
 
 -- the body is the text of its records
-body_is : (image : Image) → image_body image ≡ text (body_records image.fields.seg_num image.content image.patches)
-unfolding image_body body_text
+body_is : (image : Image) → image_body image ≡ text (image_records image)
+unfolding image_body
 body_is image = refl
+
+-- the records have spellings
+pub image_fit : (image : Image) → IsImage image → AllByRecursion IsBodyRecord (image_records image)
+unfolding image_records
+image_fit image is = all-append (cond image.whole (data_records image.content) (body_records image.fields.seg_num image.content image.patches)) image.exports (by_kind image.whole) (exports_fit image.exports is.exports')
+  where
+    data_fit : (bytes : List ℕ) → length bytes ≤ 0xFFFFFF → AllByRecursion IsBodyRecord (data_records bytes)
+    data_fit [] small = tt
+    data_fit (b ∷ bytes) small = ((omega (arith, small), refl), tt)
+
+    by_kind : (w : Bool) → AllByRecursion IsBodyRecord (cond w (data_records image.content) (body_records image.fields.seg_num image.content image.patches))
+    by_kind true = data_fit image.content is.small
+    by_kind false = records_fit image.fields.seg_num image.content image.patches is.small is.patches'
+
+    all-append : (xs ys : List Record) → AllByRecursion IsBodyRecord xs → AllByRecursion IsBodyRecord ys → AllByRecursion IsBodyRecord (xs ++ ys)
+    all-append [] ys p q = q
+    all-append (x ∷ xs) ys p q = (p.0, all-append xs ys p.1 q)
+
+-- a segment without patches whose records are its content stands for the content
+whole_cells : (content : List ℕ) (exports : List Record) (end : ℕ) (s : Segment) → AllByRecursion IsExport exports → s.fields.length ≡ length content → s.records ≡ placed end (data_records content ++ exports)
+    → cells s ≡ written_cells content []
+unfolding cells written_cells segment_bytes body_bytes patches_of
+whole_cells content exports end s all len is =
+    let bytes : flat_map (λ (found : ℕ × Record). content_of found.1) s.records ≡ content =
+    ap (flat_map (λ (found : ℕ × Record). content_of found.1)) is ∙ flat-placed content_of end (data_records content ++ exports) refl
+    ∙ without content_of (data_records content) exports (exports_content exports all) ∙ data_content content in
+    let size : s.fields.length - length (flat_map (λ (found : ℕ × Record). content_of found.1) s.records) ≡ 0 = omega (arith, len, ap length bytes) in
+    let all_bytes : flat_map (λ (found : ℕ × Record). content_of found.1) s.records ++ replicate (s.fields.length - length (flat_map (λ (found : ℕ × Record). content_of found.1) s.records)) 0 ≡ content =
+    ap (λ (n : ℕ). flat_map (λ (found : ℕ × Record). content_of found.1) s.records ++ replicate n 0) size ∙ append-nil _ ∙ bytes in
+    let none : map (λ (p : ℕ × Patch). p.1) (flat_map (λ (found : ℕ × Record). map (λ (p : Patch). (found.0, p)) (patches_in s found.1)) s.records) ≡ [] =
+    without_places s s.records ∙ ap (flat_map (λ (found : ℕ × Record). patches_in s found.1)) is ∙ flat-placed (patches_in s) end (data_records content ++ exports) refl
+    ∙ without (patches_in s) (data_records content) exports (exports_patches s exports all) ∙ data_patches s content in
+    ap (λ (l : List ℕ). patched (map Byte l) (map (λ (p : ℕ × Patch). p.1) (flat_map (λ (found : ℕ × Record). map (λ (p : Patch). (found.0, p)) (patches_in s found.1)) s.records))) all_bytes
+    ∙ ap (λ (l : List Patch). patched (map Byte content) l) none
 
 -- a part of a file: what stands before a segment, the segment, and what stands behind it
 record IsPart (at : ℕ) (image : Image) (rest file : List ℕ) : Type 0 where
@@ -78,7 +118,7 @@ is_segment at image rest file is part =
     let body = image_body image in
     let n = length body in
     let end = at + size_of image in
-    let rs = body_records image.fields.seg_num image.content image.patches in
+    let rs = image_records image in
     let there : drop at file ≡ header_bytes f n ++ (body ++ rest) =
     ap (drop at) part.parts ∙ drop_at part.front ((header_bytes f n ++ body) ++ rest) at part.size ∙ append_assoc (header_bytes f n) body rest in
     let reader : body_reader at (written_fields f n) file ≡ reader_at end (text rs) false = reader-written f at n body file (cut_there at image rest file is part) ∙ ap (λ (l : List ℕ). reader_at end l false) (body_is image) in
@@ -88,22 +128,32 @@ is_segment at image rest file is part =
         fields = sym (ap fields_of there ∙ fields_of-written f n (body ++ rest) is.fits);
       };
       last = reader_at end [] true;
-      records = subst (λ (r : Reader). HandsOut r (placed end rs) (reader_at end [] true)) (sym reader) (runs rs end (records_fit image.fields.seg_num image.content image.patches is.small is.patches'));
+      records = subst (λ (r : Reader). HandsOut r (placed end rs) (reader_at end [] true)) (sym reader) (runs rs end (image_fit image is));
       ended = refl;
     }
 
 is_read_as : (at : ℕ) (image : Image) (rest file : List ℕ) → IsImage image → IsPart at image rest file → IsReadAs image (segment_read at image)
-unfolding segment_read image_body
-is_read_as at image rest file is part =
-    let has : HasBody image.fields.seg_num (length image.content) (image_body image) (segment_read at image) file = record {
-      segment' = is_segment at image rest file is part;
-      version = refl;
-      lab_len = refl;
-      seg_num = refl;
-      length' = is.length';
-      body = cut_there at image rest file is part;
-    } in
-    record { fields = refl; cells' = stands_for image.fields.seg_num image.content image.patches (segment_read at image) file is.small is.patches' has }
+unfolding segment_read image_records
+is_read_as at image rest file is part = record { fields = refl; cells' = by_kind image.whole refl }
+  where
+    by_kind : (w : Bool) → image.whole ≡ w → cells (segment_read at image) ≡ written_cells image.content image.patches
+    by_kind true e =
+        let rs : image_records image ≡ data_records image.content ++ image.exports = ap (λ (b : Bool). cond b (data_records image.content) (body_records image.fields.seg_num image.content image.patches) ++ image.exports) e in
+        whole_cells image.content image.exports (at + size_of image) (segment_read at image) is.exports' is.length' (ap (placed (at + size_of image)) rs)
+        ∙ ap (written_cells image.content) (sym (is.bare e))
+    by_kind false e =
+        let rs : image_records image ≡ body_records image.fields.seg_num image.content image.patches ++ image.exports = ap (λ (b : Bool). cond b (data_records image.content) (body_records image.fields.seg_num image.content image.patches) ++ image.exports) e in
+        cells_are image.fields.seg_num image.content image.patches (segment_read at image) refl is.length' is.patches' (at + size_of image, image.exports, is.exports', ap (placed (at + size_of image)) rs)
+
+-- the records of a segment whose body was written for an image
+pub has_image : (image : Image) (s : Segment) (file : List ℕ) → IsImage image → HasBody image.fields.seg_num (length image.content) (image_body image) s file
+    → (end : ℕ) × (s.records ≡ placed end (image_records image))
+has_image image s file is has =
+    let end = s.start + s.fields.byte_count in
+    let rs = image_records image in
+    let reader = reader_is image.fields.seg_num (length image.content) (image_body image) s file has ∙ ap (λ (l : List ℕ). reader_at end l false) (body_is image) in
+    let given : HandsOut (reader_at end (text rs) false) s.records has.segment'.last = subst (λ (r : Reader). HandsOut r s.records has.segment'.last) reader has.segment'.records in
+    (end, HandsOut-same (reader_at end (text rs) false) s.records (placed end rs) has.segment'.last (reader_at end [] true) given (runs rs end (image_fit image is)) has.segment'.ended refl)
 
 -- ---- the file
 

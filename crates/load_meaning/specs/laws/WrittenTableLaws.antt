@@ -14,7 +14,7 @@ use Rattle.load_meaning.specs.Table.{entry_bytes, table_bytes}
 use Rattle.load_meaning.specs.laws.TableLaws.{length-entry_bytes}
 use Rattle.load_meaning.specs.WrittenBody.{zeros_behind, written_cells, written_data, data_records, body_records, body_text}
 use Rattle.load_meaning.specs.laws.StoredLaws.{zeros-le}
-use Rattle.load_meaning.specs.WrittenFile.{image_body, IsImage, IsReadAs, table_fields, table_image, TableStandsFor}
+use Rattle.load_meaning.specs.WrittenFile.{image_body, IsImage, IsReadAs, table_fields, table_image, TableStandsFor, image_records}
 
 length-entries : (entries : List Entry) → length (flat_map entry_bytes entries) ≡ 14 * length entries
 length-entries [] = refl
@@ -29,7 +29,7 @@ length-table_bytes entries =
 
 -- ---- a body without patches
 
-plain_data : (bytes : List ℕ) → length (flat_map (spelling written_layout) (data_records bytes)) ≤ 5 + length bytes
+pub plain_data : (bytes : List ℕ) → length (flat_map (spelling written_layout) (data_records bytes)) ≤ 5 + length bytes
 unfolding spelling
 plain_data [] = omega arith
 plain_data (byte ∷ bytes) =
@@ -54,19 +54,21 @@ zeros_within : (content : List ℕ) → zeros_behind (written_cells content []) 
 unfolding written_cells
 zeros_within content = omega (arith, zeros-le (map Byte content), length-map content (λ (n : ℕ). Byte n))
 
-length-end : length (spelling written_layout End) ≡ 1
+pub length-end : length (spelling written_layout End) ≡ 1
 unfolding spelling
 length-end = refl
 
 -- ---- the table
 
 is_image : (number : ℕ) (entries : List Entry) → number < 2 ^ 16 → length entries ≤ 4680 → IsImage (table_image number entries)
-unfolding table_image table_fields image_body
+unfolding table_image table_fields image_body image_records body_text
 is_image number entries small few =
     let size = length-table_bytes entries in
     let zeros = zeros_within (table_bytes entries) in
     let body = length-plain_body number (table_bytes entries) in
     let end = length-end in
+    let body' : length (image_body (table_image number entries)) ≡ length (body_text number (table_bytes entries) [] ++ spelling written_layout End) =
+    ap (λ rs. length (flat_map (spelling written_layout) rs ++ spelling written_layout End)) (append-nil (body_records number (table_bytes entries) [])) in
     record {
       fits = record {
         res_spc = omega (arith, zeros, size, few);
@@ -79,12 +81,14 @@ is_image number entries small few =
         entry = omega arith;
         load_name = refl;
         name = omega arith;
-        total = omega (arith, body, size, few, end, length-append (body_text number (table_bytes entries) []) (spelling written_layout End));
+        total = omega (arith, body, body', size, few, end, length-append (body_text number (table_bytes entries) []) (spelling written_layout End));
       };
       writable = record { version = refl; banks = omega arith; listed = refl; spaced = zeros };
       length' = refl;
       small = omega (arith, size, few);
       patches' = tt;
+      exports' = tt;
+      bare = λ e. absurd cc;
     }
 
 table_cells : (number : ℕ) (entries : List Entry) (s : Segment) → IsReadAs (table_image number entries) s → cells s ≡ map Byte (table_bytes entries)

@@ -116,6 +116,6 @@ module _ (held : FileMap) (old new : Memory) (id : ℕ) (kept : Kept) (user : Us
           static = λ n t is' static. ap (λ (p : Presence). unwrap_or (there_at p) 0) (here old new kept.handles stay n (there n t is' static));
           target = λ table n t is' dynamic kept'. target_stays old new kept.handles stay n (handle_at kept.handles n) refl;
         } in
-        let same = stands_alike agrees.segments number s (loadable_has agrees.holds.file agrees.segments agrees.holds.loadable number s is) (setting id new.slots kept.handles) (setting id old.slots kept.handles) alike (held_at user number).pokes in
+        let same = stands_alike agrees.segments agrees.holds.taken.alone number s (loadable_has agrees.holds.file agrees.segments agrees.holds.taken.loadable number s is) (setting id new.slots kept.handles) (setting id old.slots kept.handles) alike (held_at user number).pokes in
         rw (same, bytes) (agrees.begins (were_there there) number s h is has before);
   }

@@ -5,8 +5,6 @@ use Rattle.omf_format.specs.File.{Segment, segment_at}
 use Rattle.omf_io.specs.Files.{FileMap}
 use Rattle.load_meaning.specs.declared.load.LoadFault.{LoadFault}
 use Rattle.load_meaning.specs.declared.table.Target.{Target}
-use Rattle.load_meaning.specs.Loadable.{IsLoadable, IsFirstLoadFault}
-use Rattle.load_meaning.specs.laws.LoadableLaws.{loadable_same, loadable_sound, first_fault_same}
 use Rattle.load_meaning.specs.LoadTable.{targets_of}
 use Rattle.iigs_meaning.specs.declared.handles.Handle.{Handle}
 use Rattle.iigs_meaning.specs.declared.wants.Want.{Want}
@@ -20,11 +18,13 @@ use Rattle.loader_machine.specs.Heads.{Head, head_of, is_table, want_of, wants_o
 use Rattle.loader_machine.specs.State.{User, Machine, Seen, fresh, held_at, first_id, user_of, with_user, handles_of}
 use Rattle.loader_machine.specs.Presences.{Presence, Absent, Purged, Idle, Active, presence, presence_at, handle_at, lies_in, lies_at}
 use Rattle.loader_machine.specs.Stands.{stands, setting}
+use Rattle.loader_machine.specs.Taken.{IsTaken, IsFirstRefusal}
 use Rattle.loader_machine.specs.Found.{HoldsFile, HoldsLoad, HoldsFault, Found, Unread, Bad, Good, IsFound}
 use Rattle.loader_machine.specs.Commands.{Command, Banks, Load, LoadSegment, UnloadSegment, Jsl, ShutDown, Restart, Purge, Poke, Bytes, Where, Info, Alloc, Free, Lock, Unlock, Level, StateOf, Room, Reply, Entered, Shown, SegmentIs, Placed, BlockIs, RoomIs}
 use Rattle.loader_machine.specs.Refusals.{Refuse, load_refusal, purge_refusal, free_refusal, change_refusal, state_refusal}
 use Rattle.loader_machine.specs.Steps.{seen_of, Sees, IsSeen, Decides, Does, Either, with_slots, with_both, with_segment, active_block, changed, Put, NoSlots, Lacks, PutIn, Lands, Begins, LoadsFound, StepsLoad, Outcome, OutOfSlots, OutOfRoom, Made, ComesAnew, ComesFirst, Activates, Answers, MakesActive, StandsIn, IsAt, Place, Nowhere, In, IsLocated, place_reply, EntersEntry, EntersSegment, Enters, target_at_code, address_of, no_jsl, StepsJsl, StepsShutDown, are_there, RestartsInPlace, StepsRestart, StepsAlloc, StepsChange, Steps}
 use Rattle.loader_machine.specs.Steps.StepsAlloc.{IsPlaced, HasNoHandle, HasNoRoom}
+use Rattle.loader_machine.specs.laws.TakenLaws.{taken_same, taken_sound, first_refusal_same}
 use Rattle.loader_machine.specs.laws.PutLaws.{counts_once, puts_once, anew_once, put_once}
 
 abbrev pub AreSame : Reply → Reply → Machine → Machine → Type 0
@@ -46,17 +46,17 @@ one_file held path a b p q = same_Some a b (sym p.0 ∙ q.0)
 pub one_load : (held : FileMap) (path : List ℕ) (a b : List Segment) → HoldsLoad held path a → HoldsLoad held path b → a ≡ b
 one_load held path a b p q =
     let file = one_file held path p.file q.file p.is_held q.is_held in
-    loadable_same q.file a b (subst (λ (f : List ℕ). IsLoadable f a) file p.loadable) q.loadable
+    taken_same q.file a b (subst (λ (f : List ℕ). IsTaken f a) file p.taken) q.taken
 
 one_fault : (held : FileMap) (path : List ℕ) (a b : LoadFault) → HoldsFault held path a → HoldsFault held path b → a ≡ b
 one_fault held path a b p q =
     let file = one_file held path p.file q.file p.is_held q.is_held in
-    first_fault_same q.file a b (subst (λ (f : List ℕ). IsFirstLoadFault f a) file p.first) q.first
+    first_refusal_same q.file a b (subst (λ (f : List ℕ). IsFirstRefusal f a) file p.first) q.first
 
 no_fault : (held : FileMap) (path : List ℕ) (segments : List Segment) (fault : LoadFault) → HoldsLoad held path segments → HoldsFault held path fault → ⊥
 no_fault held path segments fault p q =
     let file = one_file held path p.file q.file p.is_held q.is_held in
-    loadable_sound q.file segments fault (subst (λ (f : List ℕ). IsLoadable f segments) file p.loadable) q.first
+    taken_sound q.file segments fault (subst (λ (f : List ℕ). IsTaken f segments) file p.taken) q.first
 
 pub found_once : (held : FileMap) (path : List ℕ) (a b : Found) → IsFound held path a → IsFound held path b → a ≡ b
 found_once held path Unread Unread p q = refl

@@ -1,13 +1,14 @@
 -- Each record of the workload's object gives cells: a JSL goes through the table, and a segment's own place fits.
 use Rattle.std.proofs.Common.{◌≡◌, ℕ, pos, zero, suc, ◌+◌, ◌-◌, ◌%◌, ◌<◌, ◌≤◌, Bool, true, false, cond, not, eqb, leb, ltb, List, [], ◌∷◌, ◌++◌, length, map, refl, sym, ap, subst, ◌∙◌, arith, inl, inr}
-use Rattle.std.specs.Prelude.{replicate, Option, Some, None, Result, Ok, ◌⊎◌, ◌&&◌, slice_get}
+use Rattle.std.specs.Prelude.{replicate, Option, Some, None, Result, Ok, Err, ◌⊎◌, ◌&&◌, slice_get}
 use Rattle.std.specs.List.{list_any}
 use Rattle.std.specs.Str.{bytes_eq}
-use Rattle.std.proofs.lemmas.Bool.{cases_Bool, eq-eqb, lt-ltb, lt-leb, or_right}
+use Rattle.std.proofs.lemmas.Bool.{cases_Bool, eq-eqb, eqb-true, lt-ltb, lt-leb, or_right}
 use Rattle.std.proofs.lemmas.List.{length-append}
 use Rattle.std.proofs.lemmas.Slice.Eq.{bytes_eq-Decides}
 use Rattle.omf_format.specs.declared.value.Value.{Value}
 use Rattle.omf_format.specs.declared.value.Value.TheVariants.{At}
+use Rattle.omf_format.specs.declared.value.ValueFault.{ValueFault}
 use Rattle.omf_format.specs.Header.{Fields}
 use Rattle.omf_format.specs.Expression.{Named, Leaf}
 use Rattle.omf_format.specs.Value.{operand_value, known}
@@ -17,16 +18,18 @@ use Rattle.load_meaning.specs.Cells.{Cell, Byte}
 use Rattle.load_meaning.specs.declared.table.Target.{Target}
 use Rattle.load_meaning.specs.Table.{is_same, with_target}
 use Rattle.link_meaning.specs.declared.fault.LinkCause.{LinkCause}
+use Rattle.link_meaning.specs.declared.fault.LinkCause.TheVariants as fault
 use Rattle.link_meaning.specs.First.{IsIn}
 use Rattle.link_meaning.specs.Sizes.{Located, size_at, located_from, located}
-use Rattle.link_meaning.specs.Member.{Member, members_from}
+use Rattle.link_meaning.specs.declared.form.LinkForm.{LinkForm}
+use Rattle.link_meaning.specs.Member.{Setting, alone, Member, members_from}
 use Rattle.link_meaning.specs.Search.{Found}
 use Rattle.link_meaning.specs.Layout.{load_length, load_names, number_in, load_of, offset_of, load_fields, headers_from, load_headers}
 use Rattle.link_meaning.specs.laws.TreeInLaws.{tree_in-again}
 use Rattle.link_meaning.specs.Terms.{tree_in}
 use Rattle.link_meaning.specs.laws.PlaceFits.{name_there, offset-le, in_parts}
-use Rattle.link_meaning.specs.LinkValues.{Told, place_value, label_value, environment, settled, tree_value, value_in}
-use Rattle.link_meaning.specs.Fitting.{Frame, Fit, Place, place_fit, is_dynamic_load, length_of, ends_in_jsl, is_call, target_of, has_room_for, call_fit, or_does_not_fit, fitted, fit_cells, targets_behind}
+use Rattle.link_meaning.specs.LinkValues.{Told, place_value, outside_value, label_value, environment, settled, tree_value, value_in}
+use Rattle.link_meaning.specs.Fitting.{Frame, Fit, Place, place_fit, is_dynamic_load, length_of, ends_in_jsl, is_call, target_of, has_room_for, may_call, call_fit, or_does_not_fit, fitted, fit_cells, targets_behind}
 use Rattle.link_meaning.specs.Fitting as fitting
 use Rattle.link_meaning.specs.LinkedCells.{Item, State, Made, items_from, items, frame_of, table_number, cells_before, made_by, made, gained}
 use Rattle.link_meaning.specs.LinkWritten.{AreMade, start}
@@ -34,8 +37,8 @@ use Rattle.link_meaning.specs.laws.LinkedRuns.{item}
 use Rattle.workload_meaning.specs.Object.{name_of, padded, value_of, calls, dynamic_segment}
 use Rattle.workload_meaning.specs.laws.NameLaws.{is_name, value_spells}
 use Rattle.workload_meaning.specs.laws.ObjectLaws.{IsOwn, AreDynamic, IsWorkload}
-use Rattle.workload_meaning.specs.laws.SearchLaws.{IsNamedAt, finds_one}
-use Rattle.workload_meaning.specs.laws.ResolvedLaws.{all_in, IsList, is_list, has_named}
+use Rattle.workload_meaning.specs.laws.SearchLaws.{IsNamedAt, title_at, finds_one}
+use Rattle.workload_meaning.specs.laws.ResolvedLaws.{all_in, IsList, is_list, is_alone, has_named}
 
 -- ---- the header of a member's load segment
 
@@ -99,18 +102,29 @@ record HasFit (targets : List Target) (answer : Result Fit LinkCause) : Type 0 w
   is : answer ≡ Ok fit
   few : length (targets_behind targets fit) ≤ length targets + 1
 
-call_fits : (headers : List Fields) (targets : List Target) (segment offset : ℕ) → offset < length_of headers segment → length targets < 4680 → HasFit targets (call_fit headers targets true segment offset)
-call_fits headers targets segment offset within few =
-    let inner : leb (length_of headers segment) offset ≡ false = lt-leb (length_of headers segment) offset within in
-    let room : has_room_for targets (target_of segment offset) ≡ true = or_right (list_any (is_same (target_of segment offset)) targets) (ltb (length targets) 4680) (lt-ltb (length targets) 4680 few) in
-    record { fit = fitting.Entry segment offset; is = rw (inner, room) refl; few = with_target-le targets (target_of segment offset) }
+-- what a call of a place in the file itself comes to, once it may call
+abbrev room_fit : List Fields → List Target → ℕ → ℕ → Result Fit LinkCause
+room_fit headers targets segment offset = cond (leb (length_of headers segment) offset) (Err fault.OutOfSegment)
+    (cond (not (has_room_for targets (target_of 1 segment offset))) (Err fault.TooManyEntries) (Ok (fitting.Entry (target_of 1 segment offset))))
 
-jsl_fits : (headers : List Fields) (f : Frame) (targets : List Target) (before : List Cell) (segment offset : ℕ) → ends_in_jsl before ≡ true → offset < length_of headers segment → length targets < 4680
+call_fits : (headers : List Fields) (setting : Setting) (targets : List Target) (segment offset : ℕ) → setting ≡ alone → offset < length_of headers segment → length targets < 4680
+    → HasFit targets (call_fit headers setting targets true (target_of 1 segment offset))
+call_fits headers setting targets segment offset own within few =
+    let inner : leb (length_of headers segment) offset ≡ false = lt-leb (length_of headers segment) offset within in
+    let room : has_room_for targets (target_of 1 segment offset) ≡ true = or_right (list_any (is_same (target_of 1 segment offset)) targets) (ltb (length targets) 4680) (lt-ltb (length targets) 4680 few) in
+    let fits : HasFit targets (room_fit headers targets segment offset) = record {
+      fit = fitting.Entry (target_of 1 segment offset);
+      is = rw (inner, room) refl;
+      few = with_target-le targets (target_of 1 segment offset);
+    } in
+    subst (λ (form : LinkForm). HasFit targets (cond (not (may_call form && true)) (Err fault.DynamicReference) (room_fit headers targets segment offset))) (ap (λ (s : Setting). s.form) (sym own)) fits
+
+jsl_fits : (headers : List Fields) (f : Frame) (targets : List Target) (before : List Cell) (segment offset : ℕ) → f.setting ≡ alone → ends_in_jsl before ≡ true → offset < length_of headers segment → length targets < 4680
     → HasFit targets (fitted headers f targets before 0xF3 3 0 (At 1 segment offset (pos 0)))
-jsl_fits headers f targets before segment offset jsl within few = by_test (not (eqb segment f.own) && is_dynamic_load headers segment)
+jsl_fits headers f targets before segment offset own jsl within few = by_test (not (eqb segment f.own) && is_dynamic_load headers segment)
   where
-    by_test : (b : Bool) → HasFit targets (cond b (call_fit headers targets (is_call 0xF3 3 (pos 0) before) segment offset) (or_does_not_fit (place_fit f 0xF3 3 0 segment offset (pos 0))))
-    by_test true = subst (λ (call : Bool). HasFit targets (call_fit headers targets call segment offset)) (sym jsl) (call_fits headers targets segment offset within few)
+    by_test : (b : Bool) → HasFit targets (cond b (call_fit headers f.setting targets (is_call 0xF3 3 (pos 0) before) (target_of 1 segment offset)) (or_does_not_fit (place_fit f 0xF3 3 0 segment offset (pos 0))))
+    by_test true = subst (λ (call : Bool). HasFit targets (call_fit headers f.setting targets call (target_of 1 segment offset))) (sym jsl) (call_fits headers f.setting targets segment offset own within few)
     by_test false = record { fit = Place segment offset (pos 0); is = refl; few = omega arith }
 
 own_fits : (headers : List Fields) (f : Frame) (targets : List Target) (before : List Cell) (segment offset : ℕ) → segment ≡ f.own → fitted headers f targets before 0xEB 3 0 (At 1 segment offset (pos 0)) ≡ Ok (Place segment offset (pos 0))
@@ -146,6 +160,16 @@ module _ (n : ℕ) (list : List Member) (table : List Told) (few : n ≤ 64) (is
   there : (i : ℕ) → 1 ≤ i → i ≤ n → IsNamedAt i 1 list
   there i some less = has_named n i list is few some less
 
+  abbrev fine : Value → Result Value ValueFault
+  fine v = Ok v
+
+  not_zero : (k : ℕ) → eqb (1 + k) 0 ≡ false
+  not_zero k = by_test (eqb (1 + k) 0) refl
+    where
+      by_test : (b : Bool) → eqb (1 + k) 0 ≡ b → b ≡ false
+      by_test true e = let zero' : 1 + k ≡ 0 = eqb-true (1 + k) 0 e in absurd (omega arith)
+      by_test false e = refl
+
   -- the start of a dynamic segment
   abbrev start_of : (i : ℕ) → IsNamedAt i 1 list → Value
   start_of i at = place_value list (1 + length at.front) at.member 0
@@ -158,6 +182,7 @@ module _ (n : ℕ) (list : List Member) (table : List Told) (few : n ≤ 64) (is
       ap (λ (l : ℕ). tree_value list table place m location (tree_in l (value_of (name_of i)))) own.lab_len
       ∙ ap (tree_value list table place m location) spelled
       ∙ ap (λ (found : List Found). settled list table place m tree (known 0 (label_value list table false found))) (finds_one n i place list m few is.all own at)
+      ∙ ap (λ (outside : Bool). fine (cond outside (outside_value (title_at (1 + length at.front) at.member)) (start_of i at))) (not_zero (length at.front))
 
   -- cells, and not many more targets
   record HasMade (state : State) (i : Item) : Type 0 where
@@ -174,7 +199,7 @@ module _ (n : ℕ) (list : List Member) (table : List Told) (few : n ≤ 64) (is
       let m = at.member in
       let cells = (all_in (λ (o : Member). IsOwn n o.segment) list m is.all (in_parts list at.front m at.back at.parts)).cells in
       let within = inside list at.front m at.back at.parts cells in
-      let fits = jsl_fits (load_headers list) (frame_of list it) state.targets (cells_before state it) (load_of list m) (offset_of list (1 + length at.front) m + 0) jsl within small in
+      let fits = jsl_fits (load_headers list) (frame_of list it) state.targets (cells_before state it) (load_of list m) (offset_of list (1 + length at.front) m + 0) (is_alone n list is) jsl within small in
       let x : Made = (fit_cells (table_number list) 3 (targets_behind state.targets fits.fit) fits.fit, targets_behind state.targets fits.fit) in
       record {
         x = x;
@@ -253,24 +278,24 @@ module _ (n : ℕ) (list : List Member) (table : List Told) (few : n ≤ 64) (is
       step list table state first (map (item place m) (located_from (0 + size_at 0 a.1) founds) ++ rest) x.0 x.1
       (bytes_made m place (0 + size_at 0 a.1) size i founds (gained state first (okay x.0)) rest (tail_is a.1 formula (map (λ found. found.1) founds) more are) behind)
 
-  dynamics_made : (i place number : ℕ) (all : List ℕ) (segments : List Segment) (state : State) → 1 ≤ i → i + length all ≤ n + 1 → AreDynamic n i all segments → AreMade list table state (items_from place (members_from 1 number segments))
+  dynamics_made : (i place number : ℕ) (all : List ℕ) (segments : List Segment) (state : State) → 1 ≤ i → i + length all ≤ n + 1 → AreDynamic n i all segments → AreMade list table state (items_from place (members_from alone 1 number segments))
   unfolding located
   dynamics_made i place number [] [] state some less are = tt
   dynamics_made i place number [] (s ∷ segments) state some less are = absurd are
   dynamics_made i place number (draw ∷ all) [] state some less are = absurd are
   dynamics_made i place number (draw ∷ all) (s ∷ segments) state some less are =
-      let m : Member = record { file = 1; number = number; from = 0; segment = s } in
-      body_made m place i (16 + draw % 4096) s.records state (items_from (place + 1) (members_from 1 (number + 1) segments)) are.0 are.1.load_name some (omega (arith, less)) are.1.records
+      let m : Member = record { file = 1; number = number; from = 0; segment = s; setting = alone } in
+      body_made m place i (16 + draw % 4096) s.records state (items_from (place + 1) (members_from alone 1 (number + 1) segments)) are.0 are.1.load_name some (omega (arith, less)) are.1.records
       (λ later. dynamics_made (i + 1) (place + 1) (number + 1) all segments later (omega (arith, some)) (omega (arith, less)) are.2)
 
 -- each record gives its cells, whatever values equates are told
-pub all_made : (n : ℕ) (sizes : List ℕ) (segments : List Segment) (table : List Told) → n ≤ 64 → length sizes ≡ n → IsWorkload n sizes segments → AreMade (members_from 1 1 segments) table start (items (members_from 1 1 segments))
+pub all_made : (n : ℕ) (sizes : List ℕ) (segments : List Segment) (table : List Told) → n ≤ 64 → length sizes ≡ n → IsWorkload n sizes segments → AreMade (members_from alone 1 1 segments) table start (items (members_from alone 1 1 segments))
 unfolding items located
 all_made n sizes segments table few size w =
-    let list = members_from 1 1 segments in
+    let list = members_from alone 1 1 segments in
     let is = is_list n sizes segments size w in
-    let main : Member = record { file = 1; number = 1; from = 0; segment = w.main } in
-    let others = items_from 2 (members_from 1 2 w.others) in
-    subst (λ (l : List Segment). AreMade list table start (items_from 1 (members_from 1 1 l))) (sym w.parts)
+    let main : Member = record { file = 1; number = 1; from = 0; segment = w.main; setting = alone } in
+    let others = items_from 2 (members_from alone 1 2 w.others) in
+    subst (λ (l : List Segment). AreMade list table start (items_from 1 (members_from alone 1 1 l))) (sym w.parts)
     (calls_made n list table few is main n 1 0 w.main.records start others w.own w.calls'.records (omega arith) (omega arith) (omega (arith, few))
     (λ later. dynamics_made n list table few is 1 2 2 sizes w.others later (omega arith) (omega (arith, size)) w.dynamic))

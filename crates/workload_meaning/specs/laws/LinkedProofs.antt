@@ -6,11 +6,11 @@ use Rattle.omf_format.specs.Number.{IsBytes}
 use Rattle.omf_format.specs.File.{Segment, IsFile}
 use Rattle.link_meaning.specs.declared.fault.LinkFault.{LinkFault}
 use Rattle.link_meaning.specs.First.{IsIn}
-use Rattle.link_meaning.specs.Member.{Member, members_from}
+use Rattle.link_meaning.specs.Member.{Member, alone, members_from}
 use Rattle.link_meaning.specs.Search.{Found}
 use Rattle.link_meaning.specs.Rings.{is_equate, equates}
 use Rattle.link_meaning.specs.Layout.{in_load, load_names, load_members}
-use Rattle.link_meaning.specs.LinkFaults.{IsResolved}
+use Rattle.link_meaning.specs.LinkFaults.{Given, HasBytes, plain, IsResolved}
 use Rattle.link_meaning.specs.LinkValues.{Told, IsTable, AreTold}
 use Rattle.link_meaning.specs.LinkedCells.{table_number, items, targets, state_behind}
 use Rattle.link_meaning.specs.LinkWritten.{AreMade, start, written_file}
@@ -27,7 +27,7 @@ use Rattle.workload_meaning.specs.Draws.{draws}
 use Rattle.workload_meaning.specs.Object.{object}
 use Rattle.workload_meaning.specs.laws.ObjectLaws.{segments_of, are_sound, are_read, length-draws, IsWorkload}
 use Rattle.workload_meaning.specs.laws.SearchLaws.{AreOwn, titles_from, entries_are}
-use Rattle.workload_meaning.specs.laws.ResolvedLaws.{never, never_in, IsList, short_load, few_names, is_resolved, members_listed}
+use Rattle.workload_meaning.specs.laws.ResolvedLaws.{never, never_in, IsList, is_alone, short_load, few_names, is_resolved, members_listed}
 use Rattle.workload_meaning.specs.laws.CallLaws.{all_made}
 use Rattle.workload_meaning.specs.laws.SizeLaws.{file_short}
 use Rattle.workload_meaning.specs.LinkedLaws.{WorkloadIsLinked}
@@ -68,9 +68,15 @@ not_both fault output e = cc
 
 module _ (n : ℕ) (sizes object' : List ℕ) (segments : List Segment) (few : n ≤ 64) (size : length sizes ≡ n) (is_file : IsFile segments object') (w : IsWorkload n sizes segments) (bytes : IsBytes object') where
   abbrev list : List Member
-  list = members_from 1 1 segments
+  list = members_from alone 1 1 segments
 
-  resolved : IsResolved (object' ∷ []) list
+  abbrev given : Given
+  given = plain (object' ∷ [])
+
+  all_bytes : HasBytes given
+  all_bytes = ((bytes, tt), tt, tt, omega arith)
+
+  resolved : IsResolved given list
   resolved = is_resolved n sizes object' segments few size is_file w
 
   listed : IsList n list
@@ -87,17 +93,17 @@ module _ (n : ℕ) (sizes object' : List ℕ) (segments : List Segment) (few : n
   of_ten x is =
       let m = some_members list x is in
       let there : IsIn list m.0 = in_filter (in_load x) list m.0 m.1 in
-      ap length (sym ((bytes_eq-Decides m.0.segment.fields.load_name x).0 (passed x list m.0 m.1))) ∙ (read_header m.0.segment (members_read (object' ∷ []) list m.0 (bytes, tt) resolved.program there)).load_name
+      ap length (sym ((bytes_eq-Decides m.0.segment.fields.load_name x).0 (passed x list m.0 m.1))) ∙ (read_header m.0.segment (members_read given list m.0 all_bytes resolved.program there)).load_name
 
   short : (table : List Told) → IsTable list table → length (written_file list table) ≤ 0x1000000
   unfolding targets state_behind
   short table is_table =
-      let sound = all_sound (object' ∷ []) list table (bytes, tt) resolved is_table in
+      let sound = all_sound given list table all_bytes resolved is_table in
       let small : table_number list < 2 ^ 16 = omega (arith, loads_few) in
-      let sized : AreSized list = λ front m back parts. let r = members_read (object' ∷ []) list m (bytes, tt) resolved.program (in_at list front m back parts) in (read_size m.segment r, read_some m.segment r) in
+      let sized : AreSized list = λ front m back parts. let r = members_read given list m all_bytes resolved.program (in_at list front m back parts) in (read_size m.segment r, read_some m.segment r) in
       let have : MembersHave list table = members_have list table small (made table) sound sized in
       let entries : length (targets list table) ≤ 4680 = few_on list table start (items list) small (omega arith) (made table) sound in
-      file_short list table have (λ x. short_load n x list few listed) loads_few entries of_ten
+      file_short list table have (λ x. short_load n x list few listed) (is_alone n list listed) loads_few entries of_ten
 
   no_emit_fault : (before : List EmitPhase) (phase : EmitPhase) (fault : LinkFault) → HasEmitFault list before phase fault → ⊥
   no_emit_fault before Rings fault has =
@@ -106,14 +112,14 @@ module _ (n : ℕ) (sizes object' : List ℕ) (segments : List Segment) (few : n
       made_sound list table (made table) first.before first.item first.after fault first.parts first.here
   no_emit_fault before Size fault (table, is_table, has) = omega (arith, short table is_table, has.long)
 
-  no_link_fault : (fault : LinkFault) → IsFirstLinkFault (object' ∷ []) fault → ⊥
+  no_link_fault : (fault : LinkFault) → IsFirstLinkFault given fault → ⊥
   no_link_fault fault first =
-      let linkable : IsLinkable (object' ∷ []) list [] = record {
+      let linkable : IsLinkable given list [] = record {
         resolved = resolved;
         emitted = record { valued = empty_table n list listed.all; sound = never (HasEmitFault list) emit_phases no_emit_fault };
       } in
-      let linked : IsLinkAnswer (object' ∷ []) (Ok (written_file list [])) = record { list = list; table = []; linkable = linkable; is_written = refl } in
-      not_both fault (written_file list []) (one_link_answer (object' ∷ []) (Err fault) (Ok (written_file list [])) first linked)
+      let linked : IsLinkAnswer given (Ok (written_file list [])) = record { list = list; table = []; linkable = linkable; is_written = refl } in
+      not_both fault (written_file list []) (one_link_answer given (Err fault) (Ok (written_file list [])) first linked)
 
 pub workload_is_linked : WorkloadIsLinked
 unfolding object

@@ -17,13 +17,15 @@ use Rattle.link_meaning.specs.declared.fault.LinkFault.{LinkFault}
 use Rattle.link_meaning.specs.declared.search.Want.TheVariants.{One}
 use Rattle.link_meaning.specs.First.{IsIn, HasNone, IsFirst, first_some}
 use Rattle.link_meaning.specs.Sizes.{body_size}
-use Rattle.link_meaning.specs.Member.{Row, Input, Member, is_library, members_from, objects, Offer, offers}
+use Rattle.link_meaning.specs.declared.form.LinkForm.{LinkForm}
+use Rattle.link_meaning.specs.declared.form.LinkForm.TheVariants.{Program}
+use Rattle.link_meaning.specs.Member.{Row, Input, RuntimeFile, Setting, alone, Member, is_library, members_from, objects, setting_in, Offer, offers}
 use Rattle.link_meaning.specs.Uses.{Use, uses_of}
 use Rattle.link_meaning.specs.Search.{Found, finds}
 use Rattle.link_meaning.specs.LinkedList.{Asked, asked_from, asked, found_for, unless_found, row_for, wanted_by, wanted, Follow, IsLinked}
 use Rattle.link_meaning.specs.Layout.{in_load, aligned_from, end_from, load_length, distinct, load_names, load_members, lesser_bank, least_bank, load_fields, headers_from, load_headers}
 use Rattle.link_meaning.specs.laws.LayoutLaws.{aligned_from-least}
-use Rattle.link_meaning.specs.LinkFaults.{with_place, type_fault, record_fault, records_fault, length_fault, segment_fault, segments_fault, rows_in_file, HasFileFault, OfFile, OfSegment, OfDictionary, IsInput, AreInputs, IsProgram, use_cause, HasUseFault, HasOrgFault, is_too_long, HasLengthFault, LayoutCheck, Orgs, Count, Lengths, HasLayoutFault, Phase, Reading, Objects, Names, Layout, phases, HasPhaseFault, IsResolved}
+use Rattle.link_meaning.specs.LinkFaults.{plain, Part, OfInput, AreRuntimes, IsSetting, HasPartFault, with_place, type_fault, record_fault, records_fault, length_fault, segment_fault, segments_fault, rows_in_file, HasFileFault, OfFile, OfSegment, OfDictionary, IsInput, AreInputs, IsProgram, use_cause, HasUseFault, HasOrgFault, is_too_long, HasLengthFault, may_not_stand, HasKindFault, LayoutCheck, Orgs, Count, Lengths, Kinds, HasLayoutFault, Phase, Reading, Objects, Names, Layout, phases, HasPhaseFault, IsResolved}
 use Rattle.workload_meaning.specs.Object.{name_of, padded}
 use Rattle.workload_meaning.specs.laws.NameLaws.{padded_differs, padded_not_main}
 use Rattle.workload_meaning.specs.laws.ObjectLaws.{IsOwnRecord, IsOwn, AreDynamic, IsWorkload}
@@ -79,7 +81,7 @@ dynamic_own n i [] (s ∷ segments) are = absurd are
 dynamic_own n i (draw ∷ all) [] are = absurd are
 dynamic_own n i (draw ∷ all) (s ∷ segments) are = let rest = dynamic_own n (i + 1) all segments are.2 in ((are.0, rest.0), ap suc rest.1)
 
-dynamic_named : (n i number : ℕ) (all : List ℕ) (segments : List Segment) → AreDynamic n i all segments → AreNamed i (members_from 1 number segments)
+dynamic_named : (n i number : ℕ) (all : List ℕ) (segments : List Segment) → AreDynamic n i all segments → AreNamed i (members_from alone 1 number segments)
 dynamic_named n i number [] [] are = tt
 dynamic_named n i number [] (s ∷ segments) are = absurd are
 dynamic_named n i number (draw ∷ all) [] are = absurd are
@@ -87,7 +89,7 @@ dynamic_named n i number (draw ∷ all) (s ∷ segments) are = (are.1.name', are
 
 -- ---- the linked list
 
-length-members : (file number : ℕ) (segments : List Segment) → length (members_from file number segments) ≡ length segments
+length-members : (file number : ℕ) (segments : List Segment) → length (members_from alone file number segments) ≡ length segments
 length-members file number [] = refl
 length-members file number (s ∷ segments) = ap suc (length-members file (number + 1) segments)
 
@@ -146,20 +148,26 @@ pub record IsList (n : ℕ) (list : List Member) : Type 0 where
   pub load_name : main.segment.fields.load_name ≡ padded (codes "MAIN")
   pub named' : AreNamed 1 others
   pub count : length others ≡ n
+  pub setting' : main.setting ≡ alone
 
-pub is_list : (n : ℕ) (sizes : List ℕ) (segments : List Segment) → length sizes ≡ n → IsWorkload n sizes segments → IsList n (members_from 1 1 segments)
+pub is_list : (n : ℕ) (sizes : List ℕ) (segments : List Segment) → length sizes ≡ n → IsWorkload n sizes segments → IsList n (members_from alone 1 1 segments)
 is_list n sizes segments size w =
     let dynamic = dynamic_own n 1 sizes w.others w.dynamic in
-    subst (λ (l : List Segment). IsList n (members_from 1 1 l)) (sym w.parts) (record {
-      main = record { file = 1; number = 1; from = 0; segment = w.main };
-      others = members_from 1 2 w.others;
+    subst (λ (l : List Segment). IsList n (members_from alone 1 1 l)) (sym w.parts) (record {
+      main = record { file = 1; number = 1; from = 0; segment = w.main; setting = alone };
+      others = members_from alone 1 2 w.others;
       parts = refl;
       all = (w.own, members_own n 1 2 w.others dynamic.0);
       title = w.calls'.name';
       load_name = w.calls'.load_name;
       named' = dynamic_named n 1 2 sizes w.others w.dynamic;
       count = length-members 1 2 w.others ∙ dynamic.1 ∙ size;
+      setting' = refl;
     })
+
+-- nothing else is linked with it, and it is a program
+pub is_alone : (n : ℕ) (list : List Member) → IsList n list → setting_in list ≡ alone
+is_alone n list is = ap setting_in is.parts ∙ is.setting'
 
 -- each dynamic segment's name has its one member
 pub has_named : (n i : ℕ) (list : List Member) → IsList n list → n ≤ 64 → 1 ≤ i → i ≤ n → IsNamedAt i 1 list
@@ -308,6 +316,9 @@ in_headers list number [] f is = absurd is
 in_headers list number (x ∷ xs) f (inl e) = (number, x, sym e)
 in_headers list number (x ∷ xs) f (inr more) = in_headers list (number + 1) xs f more
 
+true_false : true ≡ false → ⊥
+true_false e = cc
+
 no_layout_fault : (n : ℕ) (list : List Member) → n ≤ 64 → IsList n list → (before : List LayoutCheck) (check : LayoutCheck) (fault : LinkFault) → HasLayoutFault list before check fault → ⊥
 unfolding load_headers
 no_layout_fault n list few is before Orgs fault has =
@@ -317,9 +328,9 @@ no_layout_fault n list few is before Count fault has =
 no_layout_fault n list few is before Lengths fault has =
     never_in (HasLengthFault list) (headers_from list 1 (load_names list)) (λ front f told among long. let of = in_headers list 1 (load_names list) f among in
     true_false (sym long.long ∙ ap is_too_long of.2 ∙ not_too_long n of.0 of.1 list few is)) fault has
-  where
-    true_false : true ≡ false → ⊥
-    true_false e = cc
+no_layout_fault n list few is before Kinds fault has =
+    never_in (HasKindFault list) (headers_from list 1 (load_names list)) (λ front f told among other.
+    true_false (sym other.other ∙ ap (λ (s : Setting). may_not_stand s.form f) (is_alone n list is))) fault has
 
 -- ---- all of it
 
@@ -337,7 +348,7 @@ same_rows a b e = cc
 
 module _ (n : ℕ) (sizes object : List ℕ) (segments : List Segment) (few : n ≤ 64) (size : length sizes ≡ n) (is_file : IsFile segments object) (w : IsWorkload n sizes segments) where
   abbrev list : List Member
-  list = members_from 1 1 segments
+  list = members_from alone 1 1 segments
 
   all_own : AllByRecursion (IsOwn n) segments
   all_own = subst (AllByRecursion (IsOwn n)) (sym w.parts) (w.own, (dynamic_own n 1 sizes w.others w.dynamic).0)
@@ -375,50 +386,64 @@ module _ (n : ℕ) (sizes object : List ℕ) (segments : List Segment) (few : n 
       ap (λ (s : List Segment). record { segments = s; rows = i.rows } ∷ []) same ∙ ap (λ (r : List Row). record { segments = segments; rows = r } ∷ []) rows
   inputs_are (i ∷ j ∷ inputs) are = absurd are.1
 
-  objects_are : objects (input ∷ []) ≡ list
+  objects_are : objects alone (input ∷ []) ≡ list
   unfolding objects input
-  objects_are = rw no_library (append-nil (members_from 1 1 segments))
+  objects_are = rw no_library (append-nil (members_from alone 1 1 segments))
 
-  offers_are : offers (input ∷ []) ≡ []
+  offers_are : offers alone (input ∷ []) ≡ []
   unfolding offers input
   offers_are = refl
 
-  is_program : IsProgram (object ∷ []) list
+  -- it is linked to a program, with no run-time library file
+  alone_is : (setting : Setting) → IsSetting (plain (object ∷ [])) setting → setting ≡ alone
+  alone_is setting is =
+      ap (λ (form : LinkForm). record { form = form; runtimes = setting.runtimes }) is.form'
+      ∙ ap (λ (runtimes : List RuntimeFile). record { form = Program; runtimes = runtimes }) (none setting.runtimes is.runtimes')
+    where
+      none : (runtimes : List RuntimeFile) → AreRuntimes [] runtimes → runtimes ≡ []
+      none [] are = refl
+      none (r ∷ runtimes) are = absurd are
+
+  is_program : IsProgram (plain (object ∷ [])) list
   is_program = record {
+    setting = alone;
+    is_setting = record { form' = refl; runtimes' = tt };
     inputs = input ∷ [];
     are_inputs = (is_input, tt);
     linked = record {
       added = [];
-      parts = sym objects_are ∙ sym (append-nil (objects (input ∷ [])));
-      follow = ap (λ (o : List Offer). wanted o (objects (input ∷ []))) offers_are ∙ none_wanted (objects (input ∷ []));
+      parts = sym objects_are ∙ sym (append-nil (objects alone (input ∷ [])));
+      follow = ap (λ (o : List Offer). wanted o (objects alone (input ∷ []))) offers_are ∙ none_wanted (objects alone (input ∷ []));
     };
   }
 
-  program_is : (other : List Member) → IsProgram (object ∷ []) other → other ≡ list
+  program_is : (other : List Member) → IsProgram (plain (object ∷ [])) other → other ≡ list
   program_is other p =
-      let linked : IsLinked (input ∷ []) other = subst (λ (is : List Input). IsLinked is other) (inputs_are p.inputs p.are_inputs) p.linked in
-      let none : linked.added ≡ [] = none_follow (objects (input ∷ [])) linked.added (subst (λ (o : List Offer). Follow o (objects (input ∷ [])) linked.added) offers_are linked.follow) in
-      linked.parts ∙ ap (λ (l : List Member). objects (input ∷ []) ++ l) none ∙ append-nil (objects (input ∷ [])) ∙ objects_are
+      let with_setting : IsLinked alone p.inputs other = subst (λ (setting : Setting). IsLinked setting p.inputs other) (alone_is p.setting p.is_setting) p.linked in
+      let linked : IsLinked alone (input ∷ []) other = subst (λ (is : List Input). IsLinked alone is other) (inputs_are p.inputs p.are_inputs) with_setting in
+      let none : linked.added ≡ [] = none_follow (objects alone (input ∷ [])) linked.added (subst (λ (o : List Offer). Follow o (objects alone (input ∷ [])) linked.added) offers_are linked.follow) in
+      linked.parts ∙ ap (λ (l : List Member). objects alone (input ∷ []) ++ l) none ∙ append-nil (objects alone (input ∷ [])) ∙ objects_are
 
   listed : IsList n list
   listed = is_list n sizes segments size w
 
-  no_phase_fault : (before : List Phase) (phase : Phase) (fault : LinkFault) → HasPhaseFault (object ∷ []) before phase fault → ⊥
+  no_phase_fault : (before : List Phase) (phase : Phase) (fault : LinkFault) → HasPhaseFault (plain (object ∷ [])) before phase fault → ⊥
   no_phase_fault before Reading fault has =
-      let same = only_one object has.item has.before has.after has.parts in
-      no_file_fault (length has.before + 1) fault (subst (λ (file : List ℕ). HasFileFault (length has.before + 1) file fault) same has.here)
+      let same = only_one (OfInput object) has.item has.before has.after has.parts in
+      no_file_fault (length has.before + 1) fault (subst (λ (part : Part). HasPartFault has.before part fault) same has.here)
   no_phase_fault before Objects fault has =
-      let none : list ≡ [] = sym objects_are ∙ ap objects (sym (inputs_are has.0 has.1)) ∙ has.2 in
+      let none : list ≡ [] =
+      sym objects_are ∙ ap (objects alone) (sym (inputs_are has.1 has.3)) ∙ ap (λ (setting : Setting). objects setting has.1) (sym (alone_is has.0 has.2)) ∙ has.4 in
       omega (arith, ap length none, ap length listed.parts)
   no_phase_fault before Names fault has =
       no_use_fault n list few listed fault (subst (λ (l : List Member). IsFirst (HasUseFault l) (asked l) fault) (program_is has.0 has.1) has.2)
   no_phase_fault before Layout fault has =
-      let first = subst (λ (l : List Member). IsFirst (HasLayoutFault l) (Orgs ∷ Count ∷ Lengths ∷ []) fault) (program_is has.0 has.1) has.2 in
+      let first = subst (λ (l : List Member). IsFirst (HasLayoutFault l) (Orgs ∷ Count ∷ Lengths ∷ Kinds ∷ []) fault) (program_is has.0 has.1) has.2 in
       no_layout_fault n list few listed first.before first.item fault first.here
 
   -- no phase finds a fault in it
-  pub is_resolved : IsResolved (object ∷ []) list
-  is_resolved = record { program = is_program; sound = never (HasPhaseFault (object ∷ [])) phases no_phase_fault }
+  pub is_resolved : IsResolved (plain (object ∷ [])) list
+  is_resolved = record { program = is_program; sound = never (HasPhaseFault (plain (object ∷ []))) phases no_phase_fault }
 
   pub members_listed : IsList n list
   members_listed = listed

@@ -14,10 +14,10 @@ use Rattle.omf_format.specs.File.{Segment}
 use Rattle.link_meaning.specs.declared.search.Want.TheVariants.{One}
 use Rattle.link_meaning.specs.declared.search.Step.{Step}
 use Rattle.link_meaning.specs.Sizes.{Located, size_at, located_from, located}
-use Rattle.link_meaning.specs.Member.{Member, members_from}
+use Rattle.link_meaning.specs.Member.{Member, alone, members_from, setting_in}
 use Rattle.link_meaning.specs.Defines.{Definition, ForAll, outer_scope, title_of, defined_by, defined_in}
 use Rattle.link_meaning.specs.Uses.{Use, used_by, used_in_text, used_by_term, uses_of, data_name, usings_of}
-use Rattle.link_meaning.specs.Search.{Found, entries_from, entries, named, decided, steps_of, outer_steps, only_place, finds_data, used_data, finds}
+use Rattle.link_meaning.specs.Search.{Found, entries_from, entries, named, decided, steps_of, outer_steps, or_else, only_place, finds_data, used_data, finds_inside, outside, finds}
 use Rattle.workload_meaning.specs.Object.{name_of, padded, value_of}
 use Rattle.workload_meaning.specs.laws.NameLaws.{is_name, value_spells, name_differs, name_not_main}
 use Rattle.workload_meaning.specs.laws.ObjectLaws.{IsOwnRecord, IsOwn}
@@ -27,7 +27,7 @@ use Rattle.workload_meaning.specs.laws.ObjectLaws.{IsOwnRecord, IsOwn}
 abbrev pub AreOwn : ℕ → List Member → Type 0
 AreOwn n ms = AllByRecursion (λ (m : Member). IsOwn n m.segment) ms
 
-pub members_own : (n file number : ℕ) (segments : List Segment) → AllByRecursion (IsOwn n) segments → AreOwn n (members_from file number segments)
+pub members_own : (n file number : ℕ) (segments : List Segment) → AllByRecursion (IsOwn n) segments → AreOwn n (members_from alone file number segments)
 members_own n file number [] own = tt
 members_own n file number (s ∷ segments) own = (own.0, members_own n file (number + 1) segments own.1)
 
@@ -234,10 +234,15 @@ named_behind i main ms title_is are some less few =
       found = rw other (rest.found ∙ ap (λ (p : ℕ). title_at p rest.member ∷ []) later);
     }
 
+inside_one : (n i place : ℕ) (list : List Member) (m : Member) → n ≤ 64 → AreOwn n list → IsOwn n m.segment → (at : IsNamedAt i 1 list) → finds_inside list place m (name_of i) ≡ title_at (1 + length at.front) at.member ∷ []
+unfolding finds_inside
+inside_one n i place list m small all own at =
+    ap (λ (l : List Found). decided (steps_of list place m) (named (name_of i) l)) (entries_are n list all)
+    ∙ ap (λ (l : List Found). decided (steps_of list place m) l) at.found
+    ∙ ap (λ (used : List ℕ). decided (Rattle.link_meaning.specs.declared.search.Step.TheVariants.Within place ∷ (map (λ (p : ℕ). Rattle.link_meaning.specs.declared.search.Step.TheVariants.Within p) used ++ outer_steps m)) (title_at (1 + length at.front) at.member ∷ [])) (used_none n list m small own)
+
 -- a name that one member has finds it
 pub finds_one : (n i place : ℕ) (list : List Member) (m : Member) → n ≤ 64 → AreOwn n list → IsOwn n m.segment → (at : IsNamedAt i 1 list) → finds list place m (name_of i) ≡ title_at (1 + length at.front) at.member ∷ []
 unfolding finds
 finds_one n i place list m small all own at =
-    ap (λ (l : List Found). decided (steps_of list place m) (named (name_of i) l)) (entries_are n list all)
-    ∙ ap (λ (l : List Found). decided (steps_of list place m) l) at.found
-    ∙ ap (λ (used : List ℕ). decided (Rattle.link_meaning.specs.declared.search.Step.TheVariants.Within place ∷ (map (λ (p : ℕ). Rattle.link_meaning.specs.declared.search.Step.TheVariants.Within p) used ++ outer_steps m)) (title_at (1 + length at.front) at.member ∷ [])) (used_none n list m small own)
+    ap (λ (l : List Found). or_else l (named (name_of i) (outside (setting_in list)))) (inside_one n i place list m small all own at)

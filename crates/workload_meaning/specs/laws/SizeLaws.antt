@@ -1,9 +1,9 @@
 -- The load file of short load segments is short.
-use Rattle.std.proofs.Common.{◌≡◌, ℕ, zero, suc, ◌+◌, ◌-◌, ◌*◌, ◌/◌, ◌%◌, ◌<◌, ◌≤◌, Bool, eqb, leb, List, [], ◌∷◌, ◌++◌, length, map, replicate, refl, ap, ◌∙◌, arith, inl, inr}
+use Rattle.std.proofs.Common.{◌≡◌, ℕ, zero, suc, ◌+◌, ◌-◌, ◌*◌, ◌/◌, ◌%◌, ◌<◌, ◌≤◌, Bool, false, cond, eqb, leb, List, [], ◌∷◌, ◌++◌, length, map, replicate, refl, ap, ◌∙◌, arith, inl, inr}
 use Rattle.std.specs.Prelude.{◌&&◌}
 use Rattle.std.specs.List.{flat_map, AllByRecursion}
 use Rattle.std.proofs.lemmas.Bool.{cases_Bool, and_parts, leb-true}
-use Rattle.std.proofs.lemmas.List.{length-append, length-map}
+use Rattle.std.proofs.lemmas.List.{append-nil, length-append, length-map}
 use Rattle.std.proofs.lemmas.List.Concat.{flat_map-cons}
 use Rattle.std.proofs.lemmas.Grind.{flat_map-append}
 use Rattle.byteorder.specs.Endian.{little_bytes}
@@ -23,13 +23,13 @@ use Rattle.load_meaning.specs.laws.PageLaws.{held, all_held, all_held_again, Cli
 use Rattle.load_meaning.specs.laws.PageSizeLaws.{Under}
 use Rattle.load_meaning.specs.WrittenBody.{AreWritten, is_own, is_short, lone_record, data_records, written_data, has_none, super_form, of_form, lone, super_records, supers_from, body_records, body_text}
 use Rattle.load_meaning.specs.laws.WrittenBodyLaws.{places, rise_form, under_form, length-written}
-use Rattle.load_meaning.specs.WrittenFile.{Image, image_body, image_fields, image_text, file_text, table_fields, table_image}
+use Rattle.load_meaning.specs.WrittenFile.{Image, image_records, image_body, image_fields, image_text, file_text, table_fields, table_image}
 use Rattle.link_meaning.specs.First.{IsIn}
-use Rattle.link_meaning.specs.Member.{Member}
+use Rattle.link_meaning.specs.Member.{Setting, alone, Member, setting_in, form_in}
 use Rattle.link_meaning.specs.Layout.{load_length, load_names, load_fields}
 use Rattle.link_meaning.specs.LinkValues.{Told}
 use Rattle.link_meaning.specs.LinkedCells.{table_number, targets, linked}
-use Rattle.link_meaning.specs.LinkWritten.{byte_under, image_of, load_images, table_images, images, written_file}
+use Rattle.link_meaning.specs.LinkWritten.{byte_under, image_of, exports, exports_for, load_images, table_images, path_images, images, written_file}
 use Rattle.link_meaning.specs.laws.RunCells.{runs_written}
 use Rattle.link_meaning.specs.laws.LinkedRuns.{MembersHave, linked_has}
 
@@ -178,15 +178,33 @@ body_short own content patches small are =
 
 -- ---- the segments
 
-image_short : (image : Image) → length image.fields.load_name ≡ 10 → length image.fields.name ≤ 10 → length image.content ≤ 4114 → AreWritten (length image.content) 0 image.patches → length (image_text image) ≤ 223101
-unfolding image_text image_body spelling
-image_short image ten name small are =
-    let body = body_text image.fields.seg_num image.content image.patches ++ spelling written_layout End in
+-- an image without ENTRY records that isn't whole
+record IsBare (image : Image) : Type 0 where
+  none : image.exports ≡ []
+  part : image.whole ≡ false
+
+-- its body is the records of its cells, and END
+bare_body : (image : Image) → IsBare image → length (image_body image) ≡ length (body_text image.fields.seg_num image.content image.patches) + length (spelling written_layout End)
+unfolding image_body image_records body_text
+bare_body image bare =
+    let own = body_records image.fields.seg_num image.content image.patches in
+    let records : cond image.whole (data_records image.content) own ++ image.exports ≡ own =
+    ap (λ (b : Bool). cond b (data_records image.content) own ++ image.exports) bare.part ∙ ap (λ (l : List Record). own ++ l) bare.none ∙ append-nil own in
+    length-append (text_of (cond image.whole (data_records image.content) own ++ image.exports)) (spelling written_layout End)
+    ∙ ap (λ (l : List Record). length (text_of l) + length (spelling written_layout End)) records
+
+image_long : (image : Image) → length image.fields.load_name ≡ 10 → IsBare image
+    → length (image_text image) ≡ length (header_bytes (image_fields image) (length (image_body image))) + length (body_text image.fields.seg_num image.content image.patches) + length (spelling written_layout End)
+unfolding image_text
+image_long image ten bare = omega (arith, length-append (header_bytes (image_fields image) (length (image_body image))) (image_body image), bare_body image bare)
+
+image_short : (image : Image) → length image.fields.load_name ≡ 10 → length image.fields.name ≤ 10 → length image.content ≤ 4114 → AreWritten (length image.content) 0 image.patches → IsBare image → length (image_text image) ≤ 223101
+unfolding spelling
+image_short image ten name small are bare =
     omega (
       arith,
-      length-append (header_bytes (image_fields image) (length body)) body,
-      length-header (image_fields image) (length body) ten,
-      length-append (body_text image.fields.seg_num image.content image.patches) (spelling written_layout End),
+      image_long image ten bare,
+      length-header (image_fields image) (length (image_body image)) ten,
       body_short image.fields.seg_num image.content image.patches small are,
       name,
     )
@@ -199,14 +217,19 @@ file_both : (xs ys : List Image) → length (file_text (xs ++ ys)) ≡ length (f
 unfolding file_text
 file_both xs ys = ap length (flat_map-append image_text xs ys) ∙ length-append (flat_map image_text xs) (flat_map image_text ys)
 
-module _ (list : List Member) (table : List Told) (have : MembersHave list table) (short : (x : List ℕ) → load_length x list ≤ 4114) where
-  load_short : (number : ℕ) (x : List ℕ) → length x ≡ 10 → length (image_text (image_of (load_fields list number x) (linked list table x))) ≤ 223101
+module _ (list : List Member) (table : List Told) (have : MembersHave list table) (short : (x : List ℕ) → load_length x list ≤ 4114) (own : setting_in list ≡ alone) where
+  -- a program exports nothing
+  none_exported : (number : ℕ) → exports_for (form_in list) number (exports list table) ≡ []
+  none_exported number = ap (λ (s : Setting). exports_for s.form number (exports list table)) own
+
+  load_short : (number : ℕ) (x : List ℕ) → length x ≡ 10 → length (image_text (image_of (load_fields list number x) (linked list table x) (exports_for (form_in list) number (exports list table)))) ≤ 223101
   unfolding image_of load_fields
   load_short number x ten =
       let cells = linked list table x in
       let has = linked_has list table x have in
       let size : length (map byte_under cells) ≡ length cells = length-map cells byte_under in
-      image_short (image_of (load_fields list number x) cells) ten (omega (arith, length-trim 32 x, ten)) (omega (arith, size, has.size', short x)) (runs_written cells has.runs)
+      image_short (image_of (load_fields list number x) cells (exports_for (form_in list) number (exports list table))) ten (omega (arith, length-trim 32 x, ten)) (omega (arith, size, has.size', short x)) (runs_written cells has.runs)
+      (record { none = none_exported number; part = refl })
 
   loads_short : (number : ℕ) (xs : List (List ℕ)) → ((x : List ℕ) → IsIn xs x → length x ≡ 10) → length (file_text (load_images list table number xs)) ≤ 223101 * length xs
   unfolding file_text
@@ -214,36 +237,42 @@ module _ (list : List Member) (table : List Told) (have : MembersHave list table
   loads_short number (x ∷ xs) ten =
       omega (
         arith,
-        file_parts (image_of (load_fields list number x) (linked list table x)) (load_images list table (number + 1) xs),
+        file_parts (image_of (load_fields list number x) (linked list table x) (exports_for (form_in list) number (exports list table))) (load_images list table (number + 1) xs),
         load_short number x (ten x (inl refl)),
         loads_short (number + 1) xs (λ y is. ten y (inr is)),
       )
 
   table_short : (number : ℕ) (ts : List Target) → length ts ≤ 4680 → length (file_text (table_images number ts)) ≤ 66000
-  unfolding file_text table_image table_fields image_text image_body spelling
+  unfolding file_text table_image table_fields spelling
   table_short number [] few = omega arith
   table_short number (t ∷ ts) few =
       let image = table_image number (map file_entry (t ∷ ts)) in
       let content = table_bytes (map file_entry (t ∷ ts)) in
-      let body = body_text number content [] ++ spelling written_layout End in
       omega (
         arith,
         file_parts image [],
-        length-append (header_bytes (image_fields image) (length body)) body,
-        length-header (image_fields image) (length body) refl,
-        length-append (body_text number content []) (spelling written_layout End),
+        image_long image refl (record { none = refl; part = refl }),
+        length-header (image_fields image) (length (image_body image)) refl,
         length-plain_body number content,
         length-table_bytes (map file_entry (t ∷ ts)),
         length-map (t ∷ ts) (λ (u : Target). file_entry u),
         few,
       )
 
+  no_paths : (number : ℕ) → length (file_text (path_images number (setting_in list).runtimes)) ≡ 0
+  unfolding file_text
+  no_paths number = ap (λ (s : Setting). length (file_text (path_images number s.runtimes))) own
+
   pub file_short : length (load_names list) ≤ 65 → length (targets list table) ≤ 4680 → ((x : List ℕ) → IsIn (load_names list) x → length x ≡ 10) → length (written_file list table) ≤ 0x1000000
   unfolding written_file images
   file_short few entries ten =
+      let tables = table_images (table_number list) (targets list table) in
+      let paths = path_images (table_number list + length tables) (setting_in list).runtimes in
       omega (
         arith,
-        file_both (load_images list table 1 (load_names list)) (table_images (table_number list) (targets list table)),
+        file_both (load_images list table 1 (load_names list)) (tables ++ paths),
+        file_both tables paths,
+        no_paths (table_number list + length tables),
         loads_short 1 (load_names list) ten,
         table_short (table_number list) (targets list table) entries,
         few,

@@ -1,11 +1,11 @@
 use Rattle.std.proofs.Common.{◌-◌, take, length}
-use Rattle.link_meaning.specs.Search.{entries}
+use Rattle.link_resolve.specs.Outside.{all_found}
 use Rattle.link_emit.specs.Equates.{AreFirstSlots}
 use Rattle.link_emit.proofs.equates.first_slots.Given as goal
 
 -- the definitions so far have their slots
 abbrev pub invariant-definitions : goal.invariant-definitions
-invariant-definitions l = AreFirstSlots l.program (take (length l.slots.items) (entries l.program)) l.slots.items
+invariant-definitions l = AreFirstSlots l.program (take (length l.slots.items) (all_found l.program)) l.slots.items
 
 abbrev pub decreases-definitions : goal.decreases-definitions
-decreases-definitions l = length (entries l.program) - length l.slots.items
+decreases-definitions l = length (all_found l.program) - length l.slots.items

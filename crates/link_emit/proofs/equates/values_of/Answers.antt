@@ -1,9 +1,8 @@
-use Rattle.std.proofs.Common.{List, refl, sym, subst, arith}
-use Rattle.link_meaning.specs.Search.{entries}
+use Rattle.std.proofs.Common.{List, refl, sym, subst}
 use Rattle.rings.specs.Ranks.{IsFirstRing}
 use Rattle.link_emit.specs.declared.slots.Slot.{Slot}
 use Rattle.link_emit.specs.Equates.{IsOpen}
-use Rattle.link_emit.proofs.EquateLaws.{firsts_true, all_valued, inside, rows_size, first_circular, none_open}
+use Rattle.link_emit.proofs.EquateLaws.{firsts_true, all_valued, inside, ring_inside, first_circular, none_open}
 use Rattle.link_emit.proofs.equates.values_of.Goals as goal
 
 pub returns-then-not-has_open-clause-valued : goal.returns-then-not-has_open-clause-valued
@@ -25,7 +24,7 @@ first_ring-requires c = inside c.args.program.now c.in-Ok-leads_of.edges c.in-Ok
 pub ring_fault-requires : goal.ring_fault-requires
 ring_fault-requires c =
     let first = subst (IsFirstRing c.in-Ok-leads_of.edges) c.in-Ok-Some.field-0-is c.in-Ok-Some.ensures in
-    omega (arith, first.0, rows_size c.args.program.now (entries c.args.program.now) c.in-Ok-leads_of.edges c.in-Ok-leads_of.ensures)
+    ring_inside c.args.program.now c.in-Ok-leads_of.edges c.in-Ok-leads_of.ensures c.in-Ok-Some.number first.1
 
 pub returns-in-Ok-Some-clause-refused : goal.returns-in-Ok-Some-clause-refused
 returns-in-Ok-Some-clause-refused c =

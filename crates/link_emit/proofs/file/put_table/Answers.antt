@@ -1,4 +1,4 @@
-use Rattle.std.proofs.Common.{◌≤◌, length, map, ap, ◌∙◌, arith}
+use Rattle.std.proofs.Common.{◌≤◌, [], length, map, refl, ap, ◌∙◌, arith}
 use Rattle.omf_header.specs.View.{fields}
 use Rattle.load_meaning.specs.Cells.{Byte}
 use Rattle.load_meaning.specs.Table.{file_entry, table_bytes}
@@ -6,7 +6,7 @@ use Rattle.load_meaning.specs.WrittenFile.{image_text, file_text}
 use Rattle.link_meaning.specs.LinkWritten.{table_images}
 use Rattle.link_emit.specs.Images.{image_in}
 use Rattle.link_emit.proofs.FileLaws.{no_table, table_len, table_ready, table_text}
-use Rattle.link_emit.proofs.ImageLaws.{ok_moved}
+use Rattle.link_emit.proofs.ImageLaws.{ok_moved, on_ok}
 use Rattle.link_emit.proofs.file.put_table.Goals as goal
 
 pub returns-then-count-eq0-clause-ok : goal.returns-then-count-eq0-clause-ok
@@ -29,11 +29,12 @@ returns-clause-ok c =
     let few : length c.args.table.now ≤ 4680 = omega (arith, c.count.ensures.value, c.count.ensures.few) in
     let len = table_len c.args.table.now c.len.result few (c.len.ensures (map Byte (table_bytes (map file_entry c.args.table.now))) c.in_ok-content.ensures.ok) in
     let text = table_text c.args.number c.len.result c.args.table.now (fields c.in_ok-header.header) c.in_ok-content.content c.in_ok-header.ensures.ok len.0 few c.in_ok-content.ensures.ok (λ none. c.if-count-eq0.false (c.count.ensures.value ∙ none)) in
-    ok_moved c.put_image.result c.put_image.new.out.items c.args.out.now.items (image_text (image_in (fields c.in_ok-header.header) c.in_ok-content.content)) (file_text (table_images c.args.number c.args.table.now)) text c.put_image.ensures.ok
+    ok_moved c.put_image.result c.put_image.new.out.items c.args.out.now.items (image_text (image_in (fields c.in_ok-header.header) c.in_ok-content.content [])) (file_text (table_images c.args.number c.args.table.now)) text
+    (on_ok c.put_image.result _ _ (λ go. go [] refl) c.put_image.ensures.ok)
 
 pub returns-clause-too_long : goal.returns-clause-too_long
 returns-clause-too_long c = λ e.
     let few : length c.args.table.now ≤ 4680 = omega (arith, c.count.ensures.value, c.count.ensures.few) in
     let len = table_len c.args.table.now c.len.result few (c.len.ensures (map Byte (table_bytes (map file_entry c.args.table.now))) c.in_ok-content.ensures.ok) in
     let text = table_text c.args.number c.len.result c.args.table.now (fields c.in_ok-header.header) c.in_ok-content.content c.in_ok-header.ensures.ok len.0 few c.in_ok-content.ensures.ok (λ none. c.if-count-eq0.false (c.count.ensures.value ∙ none)) in
-    omega (arith, c.put_image.ensures.too_long e, ap length text)
+    omega (arith, c.put_image.ensures.too_long e [] refl, ap length text)

@@ -1,20 +1,21 @@
-use Rattle.std.proofs.Common.{inl, inr, Ok}
-use Rattle.link_meaning.specs.EmitFaults.{OfResolving, OfEmitting}
-use Rattle.link_meaning.specs.laws.EmitFaultLaws.{link_answers_as_emit}
-use Rattle.link_resolve.specs.Resolved.{all_bytes}
+use Rattle.std.proofs.Common.{List, sym, subst, arith}
+use Rattle.lib_dict.specs.declared.member.Member.{Member}
+use Rattle.link_meaning.specs.declared.form.LinkForm.TheVariants.{Program}
+use Rattle.link_meaning.specs.EmitFaults.{IsLinkedTo}
+use Rattle.link_resolve.specs.Resolved.{given_of, FewGiven, HavePaths}
+use Rattle.link_emit.specs.Answers.{IsLinkRefused}
 use Rattle.link_emit.proofs.linking.link.Goals as goal
 
-pub returns-in-Err-clause-refused : goal.returns-in-Err-clause-refused
-returns-in-Err-clause-refused c = elim c.in-Err.ensures.refused [
-  | inl memory ↦ inl memory
-  | inr first ↦ inr (OfResolving first)
-]
+pub link_with-requires-clause-few : goal.link_with-requires-clause-few
+link_with-requires-clause-few c =
+    subst (λ (ms : List Member). FewGiven (given_of c.args.inputs.now.items ms Program)) (sym c.new-none.ensures.items)
+    (record { files = omega (arith, c.requires.0); bytes = omega (arith, c.requires.1) })
 
-pub returns-in-Ok-emitted-clause-linked : goal.returns-in-Ok-emitted-clause-linked
-returns-in-Ok-emitted-clause-linked c = link_answers_as_emit (all_bytes c.args.inputs.now.items) c.in-Ok.program (Ok c.in-Ok-emitted.output.items) c.in-Ok.ensures.resolved c.in-Ok-emitted.ensures.written
+pub link_with-requires-clause-paths : goal.link_with-requires-clause-paths
+link_with-requires-clause-paths c = subst (λ (ms : List Member). HavePaths (given_of c.args.inputs.now.items ms Program)) (sym c.new-none.ensures.items) (tt, omega arith)
 
-pub returns-in-Err-emitted-clause-refused : goal.returns-in-Err-emitted-clause-refused
-returns-in-Err-emitted-clause-refused c = elim c.in-Err-emitted.ensures.refused [
-  | inl memory ↦ inl memory
-  | inr first ↦ inr (OfEmitting c.in-Ok.program c.in-Ok.ensures.resolved first)
-]
+pub returns-in-Ok-clause-linked : goal.returns-in-Ok-clause-linked
+returns-in-Ok-clause-linked c = subst (λ (ms : List Member). IsLinkedTo (given_of c.args.inputs.now.items ms Program) c.in-Ok.output.items) c.new-none.ensures.items c.in-Ok.ensures.linked
+
+pub returns-clause-refused : goal.returns-clause-refused
+returns-clause-refused c = subst (λ (ms : List Member). IsLinkRefused (given_of c.args.inputs.now.items ms Program) c.in-Err.fault) c.new-none.ensures.items c.in-Err.ensures.refused

@@ -3,7 +3,7 @@ use Rattle.omf_format.specs.declared.value.Value.{Value}
 use Rattle.omf_format.specs.declared.value.ValueFault.{ValueFault}
 use Rattle.omf_format.specs.declared.value.ValueFault.TheVariants.{DivideByZero, NotRelocatable, Unknown}
 use Rattle.omf_format.specs.Expression.{Expression, Spells}
-use Rattle.link_meaning.specs.Search.{entries}
+use Rattle.link_resolve.specs.Outside.{all_found}
 use Rattle.link_meaning.specs.Terms.{term_at}
 use Rattle.link_meaning.specs.LinkValues.{fault_named}
 use Rattle.link_emit.specs.Slots.{rows_of}
@@ -51,7 +51,7 @@ returns-in-Err-Unknown c = λ m is.
     let here = c.place_at-location.result in
     let start = c.place_at-start.result in
     let at = c.in-Err-Unknown.at in
-    let rows = rows_of (entries c.args.program.now) c.args.slots.now in
+    let rows = rows_of (all_found c.args.program.now) c.args.slots.now in
     let e_is = c.expression_of-text.ensures in
     let fault = c.fault_at.ensures m tree is.there (subst (λ (x : Expression). Spells x.lab_len x.text tree) (sym e_is) c.requires.spelled.spells)
     ∙ ap (λ (x : Expression). fault_named c.args.program.now rows seat.place m (Unknown at) (term_at x.lab_len at 0 tree)) e_is

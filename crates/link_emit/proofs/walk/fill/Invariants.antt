@@ -1,12 +1,12 @@
 use Rattle.std.proofs.Common.{◌-◌, length}
-use Rattle.link_meaning.specs.Search.{entries}
+use Rattle.link_resolve.specs.Outside.{all_found}
 use Rattle.link_emit.specs.Slots.{rows_of}
 use Rattle.link_emit.specs.Walks.{IsWalkedTo}
 use Rattle.link_emit.proofs.walk.fill.Given as goal
 
 -- the members so far gave their cells
 abbrev pub invariant-members : goal.invariant-members
-invariant-members l = IsWalkedTo l.whole.program.now (rows_of (entries l.whole.program.now) l.whole.slots.now) l.place l.table l.contents.items
+invariant-members l = IsWalkedTo l.whole.program.now (rows_of (all_found l.whole.program.now) l.whole.slots.now) l.place l.table l.contents.items
 
 abbrev pub decreases-members : goal.decreases-members
 decreases-members l = length l.whole.program.now - l.place

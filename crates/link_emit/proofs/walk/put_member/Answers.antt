@@ -2,7 +2,7 @@ use Rattle.std.proofs.Common.{◌≡◌, inl, inr, ◌+◌, ◌-◌, ◌≤◌, 
 use Rattle.std.specs.Prelude.{slice_get, slice_set}
 use Rattle.std.proofs.lemmas.Option.{slice_get_read}
 use Rattle.omf_records.specs.Segments.{shown}
-use Rattle.link_meaning.specs.Search.{entries}
+use Rattle.link_resolve.specs.Outside.{all_found}
 use Rattle.link_meaning.specs.laws.LinkedWalk.{linked_behind}
 use Rattle.link_meaning.specs.declared.fault.LinkFault.{LinkFault}
 use Rattle.link_resolve.specs.Linked.{member_at}
@@ -17,7 +17,7 @@ counted n le = omega (arith, le)
 pub unreachable-requires : goal.unreachable-requires
 unreachable-requires c =
     let list = c.args.whole.now.program.now in
-    let told = rows_of (entries list) c.args.whole.now.slots.now in
+    let told = rows_of (all_found list) c.args.whole.now.slots.now in
     let place = c.args.place in
     let w = c.requires.walked in
     let again = counted place c.requires.first in
@@ -28,7 +28,7 @@ unreachable-requires c =
 pub overflow_sub-number : goal.overflow_sub-number
 overflow_sub-number c =
     let list = c.args.whole.now.program.now in
-    let told = rows_of (entries list) c.args.whole.now.slots.now in
+    let told = rows_of (all_found list) c.args.whole.now.slots.now in
     let place = c.args.place in
     let w = c.requires.walked in
     let again = counted place c.requires.first in
@@ -42,7 +42,7 @@ overflow_sub-number c =
 pub index_mut-requires : goal.index_mut-requires
 index_mut-requires c =
     let list = c.args.whole.now.program.now in
-    let told = rows_of (entries list) c.args.whole.now.slots.now in
+    let told = rows_of (all_found list) c.args.whole.now.slots.now in
     let place = c.args.place in
     let w = c.requires.walked in
     let again = counted place c.requires.first in
@@ -57,7 +57,7 @@ index_mut-requires c =
 pub put_segment-requires-clause-stood : goal.put_segment-requires-clause-stood
 put_segment-requires-clause-stood c =
     let list = c.args.whole.now.program.now in
-    let told = rows_of (entries list) c.args.whole.now.slots.now in
+    let told = rows_of (all_found list) c.args.whole.now.slots.now in
     let place = c.args.place in
     let w = c.requires.walked in
     let again = counted place c.requires.first in
@@ -76,7 +76,7 @@ put_segment-requires-clause-stood c =
 pub returns-in-Ok-clause-ok : goal.returns-in-Ok-clause-ok
 returns-in-Ok-clause-ok c =
     let list = c.args.whole.now.program.now in
-    let told = rows_of (entries list) c.args.whole.now.slots.now in
+    let told = rows_of (all_found list) c.args.whole.now.slots.now in
     let place = c.args.place in
     let w = c.requires.walked in
     let again = counted place c.requires.first in
@@ -98,7 +98,7 @@ returns-in-Ok-clause-ok c =
 pub returns-in-Err : goal.returns-in-Err
 returns-in-Err c =
     let list = c.args.whole.now.program.now in
-    let told = rows_of (entries list) c.args.whole.now.slots.now in
+    let told = rows_of (all_found list) c.args.whole.now.slots.now in
     let place = c.args.place in
     let w = c.requires.walked in
     let again = counted place c.requires.first in

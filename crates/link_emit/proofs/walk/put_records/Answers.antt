@@ -5,7 +5,7 @@ use Rattle.omf_records.specs.Segments.{shown}
 use Rattle.omf_records.specs.View.{view}
 use Rattle.link_meaning.specs.Sizes.{size_at, place_behind}
 use Rattle.link_meaning.specs.Layout.{load_headers}
-use Rattle.link_meaning.specs.Search.{entries}
+use Rattle.link_resolve.specs.Outside.{all_found}
 use Rattle.link_meaning.specs.LinkedCells.{made}
 use Rattle.link_meaning.specs.laws.LinkedRuns.{item}
 use Rattle.link_emit.specs.Slots.{rows_of}
@@ -18,7 +18,7 @@ use Rattle.link_emit.proofs.walk.put_records.Goals as goal
 pub walk-init : goal.walk-init
 walk-init c =
     let list = c.args.whole.now.program.now in
-    let told = rows_of (entries list) c.args.whole.now.slots.now in
+    let told = rows_of (all_found list) c.args.whole.now.slots.now in
     let s = shown c.args.segment.now in
     record {
       putting = record { done = []; back = s.records; parts = refl; coming = coming_view c.args.segment.now c.records-records.result c.requires.sound c.records-records.ensures; location' = refl };
@@ -29,7 +29,7 @@ walk-init c =
 pub returns-in-None-clause-ok : goal.returns-in-None-clause-ok
 returns-in-None-clause-ok c = λ front m back before b.
     let list = c.args.whole.now.program.now in
-    let told = rows_of (entries list) c.args.whole.now.slots.now in
+    let told = rows_of (all_found list) c.args.whole.now.slots.now in
     let i = c.walk.invariant in
     let none = found_end c.walk.records c.next_record.new.records i.putting.back c.next_record.result i.putting.coming c.next_record.ensures.walk c.in-None.is in
     subst (λ (d : List (ℕ × Record)). Puts list told front m d c.walk.table before c.walk.content) (sym (i.putting.parts ∙ ap (λ (l : List (ℕ × Record)). i.putting.done ++ l) none ∙ append-nil i.putting.done)) (i.puts front m back before b)
@@ -37,7 +37,7 @@ returns-in-None-clause-ok c = λ front m back before b.
 pub value_of-value-requires-clause-near : goal.value_of-value-requires-clause-near
 value_of-value-requires-clause-near c =
     let list = c.args.whole.now.program.now in
-    let told = rows_of (entries list) c.args.whole.now.slots.now in
+    let told = rows_of (all_found list) c.args.whole.now.slots.now in
     let s = shown c.args.segment.now in
     let i = c.walk.invariant in
     let b = c.requires.begun in
@@ -49,7 +49,7 @@ value_of-value-requires-clause-near c =
 pub put_record-requires-clause-near : goal.put_record-requires-clause-near
 put_record-requires-clause-near c =
     let list = c.args.whole.now.program.now in
-    let told = rows_of (entries list) c.args.whole.now.slots.now in
+    let told = rows_of (all_found list) c.args.whole.now.slots.now in
     let s = shown c.args.segment.now in
     let i = c.walk.invariant in
     let b = c.requires.begun in
@@ -61,7 +61,7 @@ put_record-requires-clause-near c =
 pub put_record-requires-clause-small : goal.put_record-requires-clause-small
 put_record-requires-clause-small c =
     let list = c.args.whole.now.program.now in
-    let told = rows_of (entries list) c.args.whole.now.slots.now in
+    let told = rows_of (all_found list) c.args.whole.now.slots.now in
     let s = shown c.args.segment.now in
     let i = c.walk.invariant in
     let b = c.requires.begun in
@@ -76,7 +76,7 @@ put_record-requires-clause-small c =
 pub overflow_add-location : goal.overflow_add-location
 overflow_add-location c =
     let list = c.args.whole.now.program.now in
-    let told = rows_of (entries list) c.args.whole.now.slots.now in
+    let told = rows_of (all_found list) c.args.whole.now.slots.now in
     let s = shown c.args.segment.now in
     let i = c.walk.invariant in
     let b = c.requires.begun in
@@ -89,7 +89,7 @@ overflow_add-location c =
 pub overflow_cast-location : goal.overflow_cast-location
 overflow_cast-location c =
     let list = c.args.whole.now.program.now in
-    let told = rows_of (entries list) c.args.whole.now.slots.now in
+    let told = rows_of (all_found list) c.args.whole.now.slots.now in
     let s = shown c.args.segment.now in
     let i = c.walk.invariant in
     let b = c.requires.begun in
@@ -103,7 +103,7 @@ pub returns-in-Err-clause-err : goal.returns-in-Err-clause-err
 unfolding made
 returns-in-Err-clause-err c = λ front m back before b.
     let list = c.args.whole.now.program.now in
-    let told = rows_of (entries list) c.args.whole.now.slots.now in
+    let told = rows_of (all_found list) c.args.whole.now.slots.now in
     let s = shown c.args.segment.now in
     let i = c.walk.invariant in
     let done = i.putting.done in
@@ -124,7 +124,7 @@ pub walk-preserved : goal.walk-preserved
 unfolding made
 walk-preserved c =
     let list = c.args.whole.now.program.now in
-    let told = rows_of (entries list) c.args.whole.now.slots.now in
+    let told = rows_of (all_found list) c.args.whole.now.slots.now in
     let s = shown c.args.segment.now in
     let i = c.walk.invariant in
     let done = i.putting.done in

@@ -1,6 +1,6 @@
-use Rattle.std.proofs.Common.{◌+◌, ◌-◌, ◌++◌, ℕ, length, subst, arith}
+use Rattle.std.proofs.Common.{◌-◌, ◌++◌, ℕ, length, subst, arith}
 use Rattle.omf_records.specs.Segments.{shown}
-use Rattle.link_meaning.specs.Search.{entries}
+use Rattle.link_resolve.specs.Outside.{all_found}
 use Rattle.link_meaning.specs.LinkedCells.{zeros}
 use Rattle.link_emit.specs.Contents.{HoldsCells}
 use Rattle.link_emit.specs.Slots.{rows_of}
@@ -10,7 +10,7 @@ use Rattle.link_emit.proofs.walk.put_segment.Goals as goal
 pub put_zeros-requires-2 : goal.put_zeros-requires-2
 put_zeros-requires-2 c =
     let list = c.args.whole.now.program.now in
-    let told = rows_of (entries list) c.args.whole.now.slots.now in
+    let told = rows_of (all_found list) c.args.whole.now.slots.now in
     let s = shown c.args.segment.now in
     let st = c.requires.stood in
     let holds = subst (λ (n : ℕ). HoldsCells (st.cells ++ zeros (c.args.seat.offset - n)) c.put_zeros.new.self) (c.len.ensures st.cells st.stands.holds) (c.in-Ok.ensures st.cells st.stands.holds) in
@@ -22,7 +22,7 @@ put_zeros-requires-2 c =
 pub returns-in-Ok-put_zeros-clause-ok : goal.returns-in-Ok-put_zeros-clause-ok
 returns-in-Ok-put_zeros-clause-ok c = λ front m back cells stands.
     let list = c.args.whole.now.program.now in
-    let told = rows_of (entries list) c.args.whole.now.slots.now in
+    let told = rows_of (all_found list) c.args.whole.now.slots.now in
     let s = shown c.args.segment.now in
     let holds = subst (λ (n : ℕ). HoldsCells (cells ++ zeros (c.args.seat.offset - n)) c.put_zeros.new.self) (c.len.ensures cells stands.holds) (c.in-Ok.ensures cells stands.holds) in
     let b = begins_there list c.requires.whole.files told front m back c.args.seat s c.args.table.now cells c.args.content.now stands c.put_zeros.new.self holds in
@@ -32,7 +32,7 @@ returns-in-Ok-put_zeros-clause-ok c = λ front m back cells stands.
 pub returns-in-Err-put_records-clause-err : goal.returns-in-Err-put_records-clause-err
 returns-in-Err-put_records-clause-err c = λ front m back cells stands.
     let list = c.args.whole.now.program.now in
-    let told = rows_of (entries list) c.args.whole.now.slots.now in
+    let told = rows_of (all_found list) c.args.whole.now.slots.now in
     let s = shown c.args.segment.now in
     let holds = subst (λ (n : ℕ). HoldsCells (cells ++ zeros (c.args.seat.offset - n)) c.put_zeros.new.self) (c.len.ensures cells stands.holds) (c.in-Ok.ensures cells stands.holds) in
     let b = begins_there list c.requires.whole.files told front m back c.args.seat s c.args.table.now cells c.args.content.now stands c.put_zeros.new.self holds in

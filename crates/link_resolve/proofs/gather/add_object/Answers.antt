@@ -18,11 +18,11 @@ segments-preserved c =
     let s = shown c.in-Some.segment.now in (
       omega (arith, c.segments-test.true, c.count.ensures),
       omega (arith, c.segments.invariant.1, c.in_ok-add.ensures.one),
-      λ before holds.
-          let list = before ++ members_from c.args.file 1 (take c.segments.number c.args.list.now) in
+      λ setting before holds.
+          let list = before ++ members_from setting c.args.file 1 (take c.segments.number c.args.list.now) in
           let number : 1 + c.segments.number ≡ c.segments.number + 1 = omega arith in
-          let m : Member = member_as c.args.file (1 + c.segments.number) s in
+          let m : Member = member_as setting c.args.file (1 + c.segments.number) s in
           subst (λ (l : List Member). Holds l c.add.new.self)
-          (append_assoc before (members_from c.args.file 1 (take c.segments.number c.args.list.now)) (m ∷ []) ∙ ap (λ (l : List Member). before ++ l) (sym (members_more c.args.file 1 c.args.list.now c.segments.number s there)))
-          (c.in_ok-add.ensures.added list m (refl, number, refl) refl (c.segments.invariant.2 before holds)),
+          (append_assoc before (members_from setting c.args.file 1 (take c.segments.number c.args.list.now)) (m ∷ []) ∙ ap (λ (l : List Member). before ++ l) (sym (members_more setting c.args.file 1 c.args.list.now c.segments.number s there)))
+          (c.in_ok-add.ensures.added list m (refl, number, refl) refl (c.segments.invariant.2 setting before holds)),
     )

@@ -11,17 +11,17 @@ add_row-requires-clause-told c =
     (r.row, r.told', c.requires.told.2 r.row r.among)
 
 pub rows-init : goal.rows-init
-rows-init c = (omega arith, λ os rows told stand are. subst (λ (l : List Offer). AreOffers l c.reserve.new.self) (sym (append-nil os)) (c.reserve.ensures os are))
+rows-init c = (omega arith, λ setting os rows told stand are. subst (λ (l : List Offer). AreOffers l c.reserve.new.self) (sym (append-nil os)) (c.reserve.ensures os are))
 
 pub rows-preserved : goal.rows-preserved
 rows-preserved c = (
   omega (arith, c.rows-test.true, c.count.ensures),
-  λ os rows told stand are.
+  λ setting os rows told stand are.
       let r = row_at c.args.segments.now c.args.dictionary.now rows c.rows.place (seen_row c.in-Some.row) told c.in-Some.ensures in
-      rows_next c.args.file c.args.segments.now os rows c.rows.place (seen_row c.in-Some.row) r stand c.rows.offers c.add_row.new.offers (c.rows.invariant.1 os rows told stand are)
-      (λ os' row o told' stands offer are'. c.in_ok-add_row.ensures os' row o told' stands offer are'),
+      rows_next setting c.args.file c.args.segments.now os rows c.rows.place (seen_row c.in-Some.row) r stand c.rows.offers c.add_row.new.offers (c.rows.invariant.1 setting os rows told stand are)
+      (λ os' row o told' stands offer are'. c.in_ok-add_row.ensures setting os' row o told' stands offer are'),
 )
 
 pub returns : goal.returns
-returns c = λ os rows told stand are.
-    rows_all c.args.file c.args.segments.now c.args.dictionary.now os rows c.rows.place c.rows.offers told (omega (arith, c.rows-test.false, c.count.ensures)) (c.rows.invariant.1 os rows told stand are)
+returns c = λ setting os rows told stand are.
+    rows_all setting c.args.file c.args.segments.now c.args.dictionary.now os rows c.rows.place c.rows.offers told (omega (arith, c.rows-test.false, c.count.ensures)) (c.rows.invariant.1 setting os rows told stand are)

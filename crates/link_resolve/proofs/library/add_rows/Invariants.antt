@@ -1,7 +1,7 @@
 use Rattle.std.proofs.Common.{◌≡◌, ◌-◌, ◌≤◌, ◌++◌, List, length, map, take}
 use Rattle.std.specs.List.{filter_map}
 use Rattle.lib_dict.specs.Library.{told_row}
-use Rattle.link_meaning.specs.Member.{Row, Offer, offer_of}
+use Rattle.link_meaning.specs.Member.{Row, Setting, Offer, offer_of}
 use Rattle.link_resolve.specs.Offers.{AreOffers}
 use Rattle.link_resolve.specs.Libraries.{AllStand}
 use Rattle.link_resolve.proofs.library.add_rows.Given as goal
@@ -10,8 +10,8 @@ use Rattle.link_resolve.proofs.library.add_rows.Given as goal
 abbrev pub invariant-rows : goal.invariant-rows
 invariant-rows l =
     (l.place ≤ length l.dictionary)
-    × ((os : List Offer) (rows : List Row) → l.dictionary ≡ map (told_row l.segments) rows → AllStand l.segments rows → AreOffers os l.fn.offers
-    → AreOffers (os ++ filter_map (offer_of l.file l.segments) (take l.place rows)) l.offers)
+    × ((setting : Setting) (os : List Offer) (rows : List Row) → l.dictionary ≡ map (told_row l.segments) rows → AllStand l.segments rows → AreOffers os l.fn.offers
+    → AreOffers (os ++ filter_map (offer_of setting l.file l.segments) (take l.place rows)) l.offers)
 
 abbrev pub decreases-rows : goal.decreases-rows
 decreases-rows l = length l.dictionary - l.place

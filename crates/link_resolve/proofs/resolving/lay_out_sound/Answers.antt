@@ -1,31 +1,37 @@
-use Rattle.std.proofs.Common.{inl, refl, arith}
+use Rattle.std.proofs.Common.{inl, refl, List, sym, ap, subst, arith}
+use Rattle.omf_format.specs.File.{Segment}
+use Rattle.link_resolve.specs.Gathered.{AllAmong}
+use Rattle.link_meaning.specs.Member.{Setting}
 use Rattle.link_resolve.proofs.LinkedLaws.{count_is}
-use Rattle.link_resolve.proofs.ResolveLaws.{list_held, refused_use, refused_layout, laid_out}
+use Rattle.link_resolve.proofs.ResolveLaws.{list_outside, list_setting, refused_use, refused_layout, laid_out}
 use Rattle.link_resolve.proofs.resolving.lay_out_sound.Goals as goal
 
 pub check_names-requires : goal.check_names-requires
-check_names-requires c = list_held c.requires.0 c.args.files.now c.args.linked.now c.requires.1
+check_names-requires c = let grown = c.requires.1.grown in (grown.list, grown.holds, list_outside c.requires.0 c.args.grown.now c.requires.1)
 
 pub returns-in-Err-clause-refused : goal.returns-in-Err-clause-refused
-returns-in-Err-clause-refused c = λ bytes of. refused_use bytes c.args.files.now c.args.linked.now c.in-Err.fault of (c.in-Err.ensures.refused of.grown.list of.grown.holds)
-
-pub lay_out-requires-clause-held : goal.lay_out-requires-clause-held
-lay_out-requires-clause-held c = let grown = c.requires.1.grown in (grown.list, grown.holds, grown.among)
+returns-in-Err-clause-refused c = λ given of.
+    refused_use given c.args.grown.now c.in-Err.fault of (c.in-Err.ensures.refused of.grown.list of.grown.holds (list_outside given c.args.grown.now of))
 
 pub lay_out-requires-clause-few : goal.lay_out-requires-clause-few
-lay_out-requires-clause-few c = let grown = c.requires.1.grown in omega (arith, count_is grown.list c.args.linked.now grown.holds, grown.few)
+lay_out-requires-clause-few c = let grown = c.requires.1.grown in omega (arith, count_is grown.list c.args.grown.now.linked grown.holds, grown.few)
 
 pub returns-in-Err-lay_out-clause-refused : goal.returns-in-Err-lay_out-clause-refused
-returns-in-Err-lay_out-clause-refused c = λ bytes of. inl c.memory_fault.ensures
+returns-in-Err-lay_out-clause-refused c = λ given of. inl c.memory_fault.ensures
 
 pub returns-in-Some-clause-refused : goal.returns-in-Some-clause-refused
-returns-in-Some-clause-refused c = λ bytes of.
+returns-in-Some-clause-refused c = λ given of.
+    let kept = c.args.grown.now in
     let g = of.grown in
-    let laid = c.in-Ok-lay_out.ensures g.list g.holds g.among in
-    refused_layout bytes c.args.files.now c.args.linked.now c.in-Some.fault of (c.in-Ok.ensures.fine g.list g.holds) (c.in-Some.ensures.told g.list laid)
+    let among = subst (λ (l : List (List Segment)). AllAmong l g.list) (sym c.as_slice.ensures.value) g.among in
+    let laid = c.in-Ok-lay_out.ensures g.list g.holds among in
+    refused_layout given kept c.in-Some.fault of (c.in-Ok.ensures.fine g.list g.holds (list_outside given kept of)) (c.in-Some.ensures.told g.list (ap (λ (s : Setting). s.form) (list_setting given kept of)) laid)
 
 pub returns-clause-laid : goal.returns-clause-laid
-returns-clause-laid c = λ bytes of.
+returns-clause-laid c = λ given of.
+    let kept = c.args.grown.now in
     let g = of.grown in
-    let laid = c.in-Ok-lay_out.ensures g.list g.holds g.among in
-    laid_out bytes c.args.files.now c.args.linked.now c.in-Ok-lay_out.layout of (c.in-Ok.ensures.fine g.list g.holds) (c.in-None.ensures.told g.list laid) laid (c.in-None.ensures.fine refl)
+    let among = subst (λ (l : List (List Segment)). AllAmong l g.list) (sym c.as_slice.ensures.value) g.among in
+    let laid = c.in-Ok-lay_out.ensures g.list g.holds among in
+    laid_out given kept c.in-Ok-lay_out.layout of (c.in-Ok.ensures.fine g.list g.holds (list_outside given kept of)) (c.in-None.ensures.told g.list (ap (λ (s : Setting). s.form) (list_setting given kept of)) laid) laid
+    (c.in-None.ensures.fine refl)

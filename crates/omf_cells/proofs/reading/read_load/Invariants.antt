@@ -1,10 +1,17 @@
-use Rattle.std.proofs.Common.{◌-◌, length}
+use Rattle.std.proofs.Common.{◌≡◌, ◌-◌, ◌≤◌, length, map}
+use Rattle.omf_records.specs.Segments.{shown}
+use Rattle.omf_cells.specs.View.{seen_export}
 use Rattle.omf_cells.proofs.ReadSegments.{Read}
+use Rattle.omf_cells.proofs.ExportWalks.{exports_by}
 use Rattle.omf_cells.proofs.reading.read_load.Given as goal
 
--- the segments so far stand one behind another up to the start of the next, and pass phase 1
+-- the segments so far stand one behind another up to the start of the next, and pass phase 1; what they export was kept
 abbrev pub invariant-segments : goal.invariant-segments
-invariant-segments l = Read l.file l.views.items l.start l.number
+invariant-segments l = record {
+  read : Read l.file l.views.items l.start l.number;
+  exported : map seen_export l.exports.items ≡ exports_by (map shown l.views.items);
+  few : length l.exports.items ≤ l.start;
+}
 
 abbrev pub decreases-segments : goal.decreases-segments
 decreases-segments l = length l.initial.file - l.start

@@ -42,7 +42,7 @@ views-preserved c =
     record {
       passed = passed_more (table_fault segments) views i c.views.number v c.fault_of.result c.views.invariant.passed lt item c.fault_of.ensures.value c.in-None.is;
       second = elim c.if-second.branch [
-        | then-second w ↦ w.second-is ∙ w.if-second.true ∙ sym (any_more segments i (shown v) there ∙ ap (λ b. b || is_table (shown v)) (sym c.views.invariant.second ∙ w.if-second.true))
-        | else-second w ↦ w.second-is ∙ w.is_table-second.ensures ∙ sym (any_more segments i (shown v) there ∙ ap (λ b. b || is_table (shown v)) (sym c.views.invariant.second ∙ w.if-second.false))
+        | then-second w ↦ w.second-is ∙ w.if-second.true ∙ sym (any_more is_table segments i (shown v) there ∙ ap (λ b. b || is_table (shown v)) (sym c.views.invariant.second ∙ w.if-second.true))
+        | else-second w ↦ w.second-is ∙ w.is_table-second.ensures ∙ sym (any_more is_table segments i (shown v) there ∙ ap (λ b. b || is_table (shown v)) (sym c.views.invariant.second ∙ w.if-second.false))
       ];
     }

@@ -9,7 +9,7 @@ pub member_of-requires : goal.member_of-requires
 member_of-requires c =
     let path = c.path-item.result in
     let lt : c.paths.path-index < length c.args.paths.now = omega (arith, c.paths-test.true) in
-    omega (arith, short_path c.args.paths.now c.paths.path-index path c.requires.paths lt c.path-item.is, ap length c.as_str.ensures.value)
+    omega (arith, short_path 1 255 c.args.paths.now c.paths.path-index path c.requires.paths lt c.path-item.is, ap length c.as_str.ensures.value)
 
 pub returns-in-None-clause-are : goal.returns-in-None-clause-are
 returns-in-None-clause-are c =

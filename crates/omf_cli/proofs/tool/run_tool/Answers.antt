@@ -1,6 +1,6 @@
 use Rattle.omf_cli.specs.Words.{words_of}
 use Rattle.omf_cli.proofs.Sources.{few_macros}
-use Rattle.omf_cli.proofs.Forms.{link_few, lib_paths, stress_few}
+use Rattle.omf_cli.proofs.Forms.{link_few, lib_paths, stress_few, rtl_few, linkrt_few, dump_few, list_few, compact_few}
 use Rattle.omf_cli.proofs.tool.run_tool.Goals as goal
 
 pub run_asm-requires : goal.run_asm-requires
@@ -26,3 +26,39 @@ run_stress-requires g c =
     let form = rw c.in-Some-Stress.field-0-is at c.in-Some-Stress.ensures in
     let few = stress_few (words_of c.deref.result.now) c.in-Some-Stress.count c.in-Some-Stress.seed form in
     record { none = c.requires; some = few.0; few = few.1 }
+
+-- `dump`
+pub run_maker-requires-in-Some-Dump : goal.run_maker-requires-in-Some-Dump
+run_maker-requires-in-Some-Dump g c =
+    let form = rw c.in-Some-Dump.field-0-is at c.in-Some-Dump.ensures in
+    record { few = dump_few (words_of c.deref.result.now) c.in-Some-Dump.inputs.now form }
+
+-- `rtl`
+pub run_maker-requires-in-Some-Rtl : goal.run_maker-requires-in-Some-Rtl
+run_maker-requires-in-Some-Rtl g c =
+    let form = rw c.in-Some-Rtl.field-0-is at c.in-Some-Rtl.ensures in
+    record { few = rtl_few (words_of c.deref.result.now) c.in-Some-Rtl.output.now c.in-Some-Rtl.inputs.now form }
+
+-- `linkrt`
+pub invariant_of-run_maker-in-Some-LinkRt : goal.invariant_of-run_maker-in-Some-LinkRt
+invariant_of-run_maker-in-Some-LinkRt g c =
+    let form = rw c.in-Some-LinkRt.field-0-is at c.in-Some-LinkRt.ensures in
+    let has = linkrt_few (words_of c.deref.result.now) c.in-Some-LinkRt.output.now c.in-Some-LinkRt.inputs.now (words_of c.in-Some-LinkRt.runtimes.now) form in
+    record { paths = has.1.0; printing = has.1.1 }
+
+pub run_maker-requires-in-Some-LinkRt : goal.run_maker-requires-in-Some-LinkRt
+run_maker-requires-in-Some-LinkRt g c =
+    let form = rw c.in-Some-LinkRt.field-0-is at c.in-Some-LinkRt.ensures in
+    record { few = (linkrt_few (words_of c.deref.result.now) c.in-Some-LinkRt.output.now c.in-Some-LinkRt.inputs.now (words_of c.in-Some-LinkRt.runtimes.now) form).0 }
+
+-- `list`
+pub run_maker-requires-in-Some-Listing : goal.run_maker-requires-in-Some-Listing
+run_maker-requires-in-Some-Listing g c =
+    let form = rw c.in-Some-Listing.field-0-is at c.in-Some-Listing.ensures in
+    record { few = list_few (words_of c.deref.result.now) c.in-Some-Listing.output.now c.in-Some-Listing.inputs.now form }
+
+-- `compact`
+pub run_maker-requires-in-Some-Compact : goal.run_maker-requires-in-Some-Compact
+run_maker-requires-in-Some-Compact g c =
+    let form = rw c.in-Some-Compact.field-0-is at c.in-Some-Compact.ensures in
+    record { few = compact_few (words_of c.deref.result.now) c.in-Some-Compact.output.now c.in-Some-Compact.inputs.now form }

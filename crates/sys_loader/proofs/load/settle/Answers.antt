@@ -17,7 +17,7 @@ deal-requires c =
     ∙ ap (λ (gs : List Head). length (wants_of gs)) (sym c.requires.heads)
 
 pub fill_all-requires-clause-sound : goal.fill_all-requires-clause-sound
-fill_all-requires-clause-sound c = are_sound c.requires.loadable.0 c.args.load.now c.requires.loadable.1
+fill_all-requires-clause-sound c = are_sound c.requires.taken.0 c.args.load.now c.requires.taken.1
 
 pub fill_all-requires-clause-ready : goal.fill_all-requires-clause-ready
 fill_all-requires-clause-ready c =
@@ -27,6 +27,6 @@ fill_all-requires-clause-ready c =
 pub returns-clause-settled : goal.returns-clause-settled
 returns-clause-settled c =
     let kept = c.deal.new.segments.items in
-    settled c.requires.loadable.0 c.args.load.now c.args.handles.now c.args.user kept c.args.banks.now c.fill_all.new.banks c.requires.loadable.1 (c.deal.ensures.heads ∙ c.requires.heads)
+    settled c.requires.taken.0 c.args.load.now c.args.handles.now c.args.user kept c.args.banks.now c.fill_all.new.banks c.requires.taken.1 (c.deal.ensures.heads ∙ c.requires.heads)
     (c.deal.ensures.handles ∙ ap (λ (gs : List Head). map (λ (held : Held). held.handle) (spread gs c.args.handles.now)) c.requires.heads)
     (subst (λ (places : List (Option ℕ)). AreFilled c.args.load.now (handles_of kept) c.args.user places c.args.banks.now c.fill_all.new.banks (length kept)) c.set_places.ensures c.fill_all.ensures)

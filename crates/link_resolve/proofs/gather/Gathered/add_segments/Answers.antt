@@ -29,5 +29,5 @@ returns-in-Ok-add_rows-clause-added c = λ bytes read.
       refl,
       (c.requires.sound, d.stand),
       few,
-      adds_library c.args.file list d.rows old new library refl (λ os are. c.in-Ok-add_rows.ensures os d.rows d.told' d.stand are),
+      adds_library c.args.file list d.rows old new library refl (λ setting os are. c.in-Ok-add_rows.ensures setting os d.rows d.told' d.stand are),
     )

@@ -1,61 +1,32 @@
-use Rattle.std.proofs.Common.{◌≡◌, ℕ, ◌-◌, ◌<◌, length, map, Some, refl, subst, arith}
-use Rattle.std.specs.Prelude.{slice_get}
-use Rattle.std.proofs.lemmas.Option.{slice_get_read}
-use Rattle.link_meaning.specs.declared.search.Step.TheVariants.{Within}
-use Rattle.link_meaning.specs.Uses.{usings_of}
-use Rattle.link_meaning.specs.Search.{Found, entries, named, decided}
+use Rattle.std.proofs.Common.{sym, subst}
+use Rattle.link_meaning.specs.Search.{entries, outside, finds, finds_inside}
+use Rattle.link_meaning.specs.Member.{setting_in}
 use Rattle.link_resolve.specs.declared.names.Outcome.{Outcome}
-use Rattle.link_resolve.specs.declared.names.Outcome.TheVariants.{Nothing, One, Several}
+use Rattle.link_resolve.specs.declared.names.Outcome.TheVariants.{One, Several}
 use Rattle.link_resolve.specs.Definitions.{Sees}
-use Rattle.link_resolve.specs.Linked.{used_places}
-use Rattle.link_resolve.proofs.SearchLaws.{seen_definitions, finds_own, finds_used, finds_outer, one_some, several_some}
-use Rattle.link_resolve.proofs.LinkedLaws.{member_is}
+use Rattle.link_resolve.specs.Outside.{all_found}
+use Rattle.link_resolve.proofs.SearchLaws.{one_some, several_some}
+use Rattle.link_resolve.proofs.OutsideTables.{found_inside, found_outside}
 use Rattle.link_resolve.proofs.linked.Linked.find.Goals as goal
 
+pub moved-requires-clause-below : goal.moved-requires-clause-below
+moved-requires-clause-below c = c.look.ensures.below c.requires.table
+
+pub returns-in-Nothing : goal.returns-in-Nothing
+returns-in-Nothing c = λ list m holds far at.
+    let name = c.args.name.now in
+    let answer = found_outside list c.args.place m name c.count.result c.find_inside.result c.look.result (c.find_inside.ensures list m holds at) c.in-Nothing.is (c.count.ensures.value (entries list) holds.definitions)
+    (c.look.ensures.found (outside (setting_in list)) far) in
+    subst (λ (o : Outcome). Sees (all_found list) (finds list c.args.place m name) o) (sym c.moved.ensures) answer
+
 pub returns-in-One : goal.returns-in-One
-returns-in-One c = λ list m holds at.
-    let fs = entries list in
-    let seen = seen_definitions fs (Within c.args.place) c.args.name.now c.look.result (One c.in-One.first) (c.look.ensures fs holds.definitions) c.in-One.is in
-    finds_own (λ (f : Found) (number : ℕ). slice_get fs number ≡ Some f) list c.args.place m c.args.name.now (One c.in-One.first) seen (one_some c.in-One.first)
+returns-in-One c = λ list m holds far at.
+    let name = c.args.name.now in
+    let seen = subst (λ (o : Outcome). Sees (entries list) (finds_inside list c.args.place m name) o) c.in-One.is (c.find_inside.ensures list m holds at) in
+    found_inside list c.args.place m name (One c.in-One.first) seen (one_some c.in-One.first)
 
 pub returns-in-Several : goal.returns-in-Several
-returns-in-Several c = λ list m holds at.
-    let fs = entries list in
-    let seen = seen_definitions fs (Within c.args.place) c.args.name.now c.look.result (Several c.in-Several.first) (c.look.ensures fs holds.definitions) c.in-Several.is in
-    finds_own (λ (f : Found) (number : ℕ). slice_get fs number ≡ Some f) list c.args.place m c.args.name.now (Several c.in-Several.first) seen (several_some c.in-Several.first)
-
-pub returns-in-Nothing-find_by_usings : goal.returns-in-Nothing-find_by_usings
-returns-in-Nothing-find_by_usings c = λ list m holds at.
-    let fs = entries list in
-    let items = c.args.self.now.members.items in
-    let k = c.args.place - 1 in
-    let less : k < length items = omega (arith, c.requires.positive, c.requires.within) in
-    let there = slice_get_read items (length items) k c.index-origin.result.now refl less c.index-origin.ensures in
-    let of = member_is list c.args.self.now k m c.index-origin.result.now holds at there in
-    let own = seen_definitions fs (Within c.args.place) c.args.name.now c.look.result Nothing (c.look.ensures fs holds.definitions) c.in-Nothing.is in
-    let used = subst (λ (o : Outcome). Sees fs (decided (map Within (used_places list m (usings_of m.segment))) (named c.args.name.now fs)) o) c.in-Nothing-find_by_usings.is (c.find_by_usings.ensures list m holds at of) in
-    finds_outer (λ (f : Found) (number : ℕ). slice_get fs number ≡ Some f) list c.args.place m c.args.name.now (usings_of m.segment) c.find_outer.result refl own used (c.find_outer.ensures fs m holds.definitions of)
-
-pub returns-in-One-find_by_usings : goal.returns-in-One-find_by_usings
-returns-in-One-find_by_usings c = λ list m holds at.
-    let fs = entries list in
-    let items = c.args.self.now.members.items in
-    let k = c.args.place - 1 in
-    let less : k < length items = omega (arith, c.requires.positive, c.requires.within) in
-    let there = slice_get_read items (length items) k c.index-origin.result.now refl less c.index-origin.ensures in
-    let of = member_is list c.args.self.now k m c.index-origin.result.now holds at there in
-    let own = seen_definitions fs (Within c.args.place) c.args.name.now c.look.result Nothing (c.look.ensures fs holds.definitions) c.in-Nothing.is in
-    let used = subst (λ (o : Outcome). Sees fs (decided (map Within (used_places list m (usings_of m.segment))) (named c.args.name.now fs)) o) c.in-One-find_by_usings.is (c.find_by_usings.ensures list m holds at of) in
-    finds_used (λ (f : Found) (number : ℕ). slice_get fs number ≡ Some f) list c.args.place m c.args.name.now (usings_of m.segment) (One c.in-One-find_by_usings.first) refl own used (one_some c.in-One-find_by_usings.first)
-
-pub returns-in-Several-find_by_usings : goal.returns-in-Several-find_by_usings
-returns-in-Several-find_by_usings c = λ list m holds at.
-    let fs = entries list in
-    let items = c.args.self.now.members.items in
-    let k = c.args.place - 1 in
-    let less : k < length items = omega (arith, c.requires.positive, c.requires.within) in
-    let there = slice_get_read items (length items) k c.index-origin.result.now refl less c.index-origin.ensures in
-    let of = member_is list c.args.self.now k m c.index-origin.result.now holds at there in
-    let own = seen_definitions fs (Within c.args.place) c.args.name.now c.look.result Nothing (c.look.ensures fs holds.definitions) c.in-Nothing.is in
-    let used = subst (λ (o : Outcome). Sees fs (decided (map Within (used_places list m (usings_of m.segment))) (named c.args.name.now fs)) o) c.in-Several-find_by_usings.is (c.find_by_usings.ensures list m holds at of) in
-    finds_used (λ (f : Found) (number : ℕ). slice_get fs number ≡ Some f) list c.args.place m c.args.name.now (usings_of m.segment) (Several c.in-Several-find_by_usings.first) refl own used (several_some c.in-Several-find_by_usings.first)
+returns-in-Several c = λ list m holds far at.
+    let name = c.args.name.now in
+    let seen = subst (λ (o : Outcome). Sees (entries list) (finds_inside list c.args.place m name) o) c.in-Several.is (c.find_inside.ensures list m holds at) in
+    found_inside list c.args.place m name (Several c.in-Several.first) seen (several_some c.in-Several.first)

@@ -9,7 +9,7 @@ use Rattle.link_resolve.proofs.ResolvingLaws.{shape_of}
 use Rattle.link_resolve.proofs.linked.Linked.found_for.Goals as goal
 
 pub returns-in-Data : goal.returns-in-Data
-returns-in-Data c = λ list m holds at.
+returns-in-Data c = λ list m holds far at.
     let used = c.args.used.now in
     let items = c.args.self.now.members.items in
     let k = used.place - 1 in

@@ -9,7 +9,7 @@ use Rattle.omf_cells.proofs.load.LoadFile.content.Goals as goal
 
 pub index-requires-then-place-len : goal.index-requires-then-place-len
 index-requires-then-place-len c =
-    omega (arith, c.if-place-len.true, c.len.ensures, c.self.inside.views.ok, c.self.inside.contents.ok, contents_count c.self.inside.views.items c.self.inside.contents.items c.self.invariant.contents')
+    omega (arith, c.if-place-len.true, c.len.ensures, c.self.inside.views.ok, c.self.inside.contents.ok, contents_count c.self.inside.views.items c.self.inside.contents.items c.self.invariant.views'.contents')
 
 pub returns-then-place-len : goal.returns-then-place-len
 returns-then-place-len c =
@@ -19,8 +19,8 @@ returns-then-place-len c =
     let content = c.index-then-place-len.result.now in
     let place = c.args.number - 1 in
     let lt : place < length views = omega (arith, c.if-place-len.true, c.len.ensures, c.self.inside.views.ok) in
-    let lt' : place < length contents = omega (arith, lt, contents_count views contents c.self.invariant.contents') in
+    let lt' : place < length contents = omega (arith, lt, contents_count views contents c.self.invariant.views'.contents') in
     let here : slice_get views place ≡ Some v = slice_get_read views (length views) place v refl lt c.index.ensures in
     let there : slice_get contents place ≡ Some content = slice_get_read contents (length contents) place content refl lt' c.index-then-place-len.ensures in
     subst (λ (segments : List Segment). ShowsContent segments c.args.number v content) c.self.view_is
-    (shows_content views contents c.args.number v content c.self.invariant (omega (arith, c.if-number-eq0.false)) here there)
+    (shows_content views contents c.args.number v content c.self.invariant.views' (omega (arith, c.if-number-eq0.false)) here there)

@@ -16,4 +16,4 @@ returns-in-Some c =
     let lt : place < length views = omega (arith, c.in-Some.ensures.lookup.3.0, ap length c.deref.ensures.value) in
     let item : v ≡ get_or views place v = c.in-Some.ensures.lookup.1 ∙ ap (λ (l : List SegmentView). get_or l place v) c.deref.ensures.value in
     let found : slice_get views place ≡ Some v = slice_get_read views (length views) place v refl lt item in
-    subst (λ (segments : List Segment). Shows segments c.args.number v) c.self.view_is (shows views c.self.inside.contents.items c.args.number v c.self.invariant more found)
+    subst (λ (segments : List Segment). Shows segments c.args.number v) c.self.view_is (shows views c.self.inside.contents.items c.args.number v c.self.invariant.views' more found)

@@ -58,7 +58,7 @@ set-requires c =
     }
 
 pub fill_block-requires-clause-sound : goal.fill_block-requires-clause-sound
-fill_block-requires-clause-sound c = are_sound c.requires.loadable.0 c.args.load.now c.requires.loadable.1
+fill_block-requires-clause-sound c = are_sound c.requires.taken.0 c.args.load.now c.requires.taken.1
 
 pub fill_block-requires-clause-head : goal.fill_block-requires-clause-head
 fill_block-requires-clause-head c =
@@ -123,8 +123,8 @@ invariant_of-self-2 c =
     let same : k ≡ can.kept = same_Some k can.kept (sym c.user_in-found.ensures ∙ can.made) in
     let made = subst (λ (l : Loaded). user_of l.users c.args.user ≡ Some k) c.self.view_is c.user_in-found.ensures in
     let did = has_come old c.args.user c.args.number c.self.invariant.0 s.head s.handle can c.in-Ok.h c.place_segment.new.banks c.in-Ok.ensures.brought c.place_of-address.result c.place_of-address.ensures
-    k c.user_in-found.ensures last items c.requires.loadable.0 c.args.load.now c.set_places.new.places c.set.new.self c.from.result c.from-2.result c.fill_block.new.banks c.renew_tables.new.banks refl refl
-    c.requires.loadable.1 (c.requires.same k made) c.set_places.ensures c.from.ensures c.set.ensures c.from-2.ensures c.fill_block.ensures c.renew_tables.ensures refl (c.set_handle.ensures.set k c.user_in-found.ensures) in (
+    k c.user_in-found.ensures last items c.requires.taken.0 c.args.load.now c.set_places.new.places c.set.new.self c.from.result c.from-2.result c.fill_block.new.banks c.renew_tables.new.banks refl refl
+    c.requires.taken.1 (c.requires.same k made) c.set_places.ensures c.from.ensures c.set.ensures c.from-2.ensures c.fill_block.ensures c.renew_tables.ensures refl (c.set_handle.ensures.set k c.user_in-found.ensures) in (
       came_sound old last c.args.user c.args.number s.head s.handle c.args.load.now c.place_of-address.result c.self.invariant.0 can
           (ap (λ (l : Loaded). is_read (presence l.memory.slots s.handle)) c.self.view_is ∙ c.requires.gone)
           (subst (λ (x : Kept). HasCome old c.args.user c.args.number x s.head s.handle c.args.load.now c.place_of-address.result last) same did),
@@ -142,7 +142,7 @@ returns-clause-come c = λ k made.
     let same = one_kept old c.args.self.now c.args.user found k c.self.view_is c.user_in-found.ensures made in
     let made_found = subst (λ (l : Loaded). user_of l.users c.args.user ≡ Some found) c.self.view_is c.user_in-found.ensures in
     let did = has_come old c.args.user c.args.number c.self.invariant.0 s.head s.handle can c.in-Ok.h c.place_segment.new.banks c.in-Ok.ensures.brought c.place_of-address.result c.place_of-address.ensures
-    found c.user_in-found.ensures last items c.requires.loadable.0 c.args.load.now c.set_places.new.places c.set.new.self c.from.result c.from-2.result c.fill_block.new.banks c.renew_tables.new.banks refl refl
-    c.requires.loadable.1 (c.requires.same found made_found) c.set_places.ensures c.from.ensures c.set.ensures c.from-2.ensures c.fill_block.ensures c.renew_tables.ensures refl (c.set_handle.ensures.set found c.user_in-found.ensures) in
+    found c.user_in-found.ensures last items c.requires.taken.0 c.args.load.now c.set_places.new.places c.set.new.self c.from.result c.from-2.result c.fill_block.new.banks c.renew_tables.new.banks refl refl
+    c.requires.taken.1 (c.requires.same found made_found) c.set_places.ensures c.from.ensures c.set.ensures c.from-2.ensures c.fill_block.ensures c.renew_tables.ensures refl (c.set_handle.ensures.set found c.user_in-found.ensures) in
     subst (λ (l : Loaded). HasCome l c.args.user c.args.number k s.head s.handle c.args.load.now c.place_of-address.result last) c.self.view_is
     (subst (λ (x : Kept). HasCome old c.args.user c.args.number x s.head s.handle c.args.load.now c.place_of-address.result last) same did)

@@ -2,7 +2,6 @@ use Rattle.std.proofs.Common.{◌≡◌, ℕ, Some}
 use Rattle.std.specs.Prelude.{IfErr}
 use Rattle.iigs_meaning.specs.Puts.{Purges}
 use Rattle.loader_machine.specs.Refusals.{info_refusal}
-use Rattle.loader_machine.specs.Presences.{presence}
 use Rattle.loader_agrees.specs.Agrees.{Loaded, Agrees, seen_by}
 use Rattle.std.specs.Prelude.{Result, Ok, Err, IfOk}
 use Rattle.omf_io.specs.Files.{FileMap}

@@ -17,5 +17,5 @@ pub returns-in-Err-compare-clause-refused : goal.returns-in-Err-compare-clause-r
 returns-in-Err-compare-clause-refused c k made =
     let found = kept c.user_in-found.result.now in
     let same : found ≡ k = same_Some found k (sym c.user_in-found.ensures ∙ ap (λ (l : Loaded). user_of l.users c.args.user) c.self.view_is ∙ made) in
-    again_changed c.args.file.now c.args.self.now c.args.user k c.in-Ok.load c.in-Ok.ensures.ok c.in-Err-compare.fault
+    again_changed c.args.file.now c.args.self.now c.args.user k c.in-Ok.load c.in-Ok.ensures.taken c.in-Err-compare.fault
     (subst (λ (x : Kept). IsChanged x.heads (map head_of c.in-Ok.load) c.in-Err-compare.fault) same c.in-Err-compare.ensures.changed)

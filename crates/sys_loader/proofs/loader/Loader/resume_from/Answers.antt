@@ -16,7 +16,7 @@ set_places-requires-clause-short c =
     its_short (loaded c.self.inside.banks c.self.inside.users.items) c.args.user c.user_in-found.result.now c.self.invariant.0 c.user_in-found.ensures
 
 pub fill_again-requires-clause-sound : goal.fill_again-requires-clause-sound
-fill_again-requires-clause-sound c = are_sound c.requires.loadable.0 c.args.load.now c.requires.loadable.1
+fill_again-requires-clause-sound c = are_sound c.requires.taken.0 c.args.load.now c.requires.taken.1
 
 pub fill_again-requires-clause-short : goal.fill_again-requires-clause-short
 fill_again-requires-clause-short c =
@@ -42,7 +42,7 @@ invariant_of-self c =
     (quiet_sound old.memory c.fill_again.new.banks old.users c.self.invariant.0 (quiet_reread c.args.load.now c.args.user (kept user) old.memory c.fill_again.new.banks reread), c.self.invariant.1)
 
 pub returns : goal.returns
-returns c file k loadable made =
+returns c file k taken made =
     let old = loaded c.self.inside.banks c.self.inside.users.items in
     let user = c.user_in-found.result.now in
     let made' = ap (λ (l : Loaded). user_of l.users c.args.user) (sym c.self.view_is) ∙ c.user_in-found.ensures in
@@ -53,6 +53,6 @@ returns c file k loadable made =
     (subst (λ (places : List (Option ℕ)). AreFilled c.args.load.now (map again_handle user.segments.items) c.args.user places old.memory c.fill_again.new.banks (length user.segments.items)) c.set_places.ensures c.fill_again.ensures) in
     let same : kept user ≡ k = same_Some (kept user) k (sym made' ∙ made) in
     let did : HasReloaded file old c.args.user (kept user) c.resume.result c.resume.new.self =
-    (c.args.load.now, loadable, c.requires.same (kept user) made', c.fill_again.new.banks, reread, c.resume.ensures (kept user) c.user_in-found.ensures) in
+    (c.args.load.now, taken, c.requires.same (kept user) made', c.fill_again.new.banks, reread, c.resume.ensures (kept user) c.user_in-found.ensures) in
     subst (λ (l : Loaded). HasReloaded file l c.args.user k c.resume.result c.resume.new.self) c.self.view_is
     (subst (λ (x : Kept). HasReloaded file old c.args.user x c.resume.result c.resume.new.self) same did)

@@ -1,4 +1,4 @@
-use Rattle.std.proofs.Common.{◌≢◌, false, sym, ap, ◌∙◌, arith}
+use Rattle.std.proofs.Common.{◌≢◌, sym, ap, ◌∙◌, arith}
 use Rattle.loader_machine.specs.Refusals.{free_refusal, change_refusal}
 use Rattle.loader_agrees.specs.Agrees.{Loaded}
 use Rattle.loader_agrees.specs.laws.Checking.{stale}

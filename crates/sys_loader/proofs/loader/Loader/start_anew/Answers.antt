@@ -17,19 +17,19 @@ pub returns-in-Err-compare-clause-refused : goal.returns-in-Err-compare-clause-r
 returns-in-Err-compare-clause-refused c k made =
     let found = kept c.user_in-found.result.now in
     let same : found ≡ k = same_Some found k (sym c.user_in-found.ensures ∙ ap (λ (l : Loaded). user_of l.users c.args.user) c.self.view_is ∙ made) in
-    again_changed c.args.file.now c.args.self.now c.args.user k c.in-Ok.load c.in-Ok.ensures.ok c.in-Err-compare.fault
+    again_changed c.args.file.now c.args.self.now c.args.user k c.in-Ok.load c.in-Ok.ensures.taken c.in-Err-compare.fault
     (subst (λ (x : Kept). IsChanged x.heads (map head_of c.in-Ok.load) c.in-Err-compare.fault) same c.in-Err-compare.ensures.changed)
 
 pub returns-clause-begun : goal.returns-clause-begun
 returns-clause-begun c k made =
     let found = kept c.user_in-found.result.now in
     let same : found ≡ k = same_Some found k (sym c.user_in-found.ensures ∙ ap (λ (l : Loaded). user_of l.users c.args.user) c.self.view_is ∙ made) in
-    begun_from c.args.file.now c.args.self.now c.args.user k c.in-Ok.load c.in-Ok.ensures.ok c.begin_anew.new.self c.begin_anew.result (c.in-Ok-compare.ensures.same ∙ ap (λ (x : Kept). x.heads) same)
+    begun_from c.args.file.now c.args.self.now c.args.user k c.in-Ok.load c.in-Ok.ensures.taken c.begin_anew.new.self c.begin_anew.result (c.in-Ok-compare.ensures.same ∙ ap (λ (x : Kept). x.heads) same)
     (c.begin_anew.ensures.begun k made)
 
 pub returns-clause-refused : goal.returns-clause-refused
 returns-clause-refused c k made =
     let found = kept c.user_in-found.result.now in
     let same : found ≡ k = same_Some found k (sym c.user_in-found.ensures ∙ ap (λ (l : Loaded). user_of l.users c.args.user) c.self.view_is ∙ made) in
-    none_begins c.args.file.now c.args.self.now c.args.user k c.in-Ok.load c.in-Ok.ensures.ok c.begin_anew.result (c.in-Ok-compare.ensures.same ∙ ap (λ (x : Kept). x.heads) same)
+    none_begins c.args.file.now c.args.self.now c.args.user k c.in-Ok.load c.in-Ok.ensures.taken c.begin_anew.result (c.in-Ok-compare.ensures.same ∙ ap (λ (x : Kept). x.heads) same)
     (c.requires.gone k made) c.begin_anew.ensures.refused

@@ -1,0 +1,14 @@
+//! How a test ends where what is told isn't what is wanted.
+use std::fmt::Debug;
+use std::process::Abort;
+
+/// Ends the test where the two aren't equal, and tells at which row. It promises nothing, and an assertion of a test's own would be dearer to
+/// prove.
+pub(crate) fn same<R: Debug, T: Debug + PartialEq + Drop>(
+    rt: &impl Abort,
+    row: &R,
+    told: T,
+    want: T,
+) {
+    assert_eq!(rt; told, want, "at {row:?}");
+}

@@ -1,0 +1,404 @@
+-- Which segments can be listed, and their lines.
+use Rattle.std.specs.Prelude.{ℕ, zero, suc, ◌+◌, ◌==◌, Bool, true, false, not, ◌&&◌, ◌||◌, nat_le, bit_and, List, [], ◌∷◌, ◌++◌, length, take, drop, bytes_eq, slice_get, Option, Some, None, Result, Ok, Err, if◌then◌else◌}
+use Rattle.std.specs.Int.{is_power_of_two}
+use Rattle.std.specs.List.{list_all, list_any, position_or_len, flat_map}
+use Rattle.byteorder.specs.Endian.{little_number}
+use Rattle.omf_format.specs.Ascii as ascii
+use Rattle.omf_format.specs.Field.{◌>>=◌}
+use Rattle.omf_format.specs.Expression.{Tree, Leaf, Binary, Term, Operator, Location, Constant, Named, Offset, terms_of}
+use Rattle.omf_format.specs.File.{Segment}
+use Rattle.omf_format.specs.Header.{Fields, form_of, alignment_of}
+use Rattle.omf_format.specs.Record.{Record, End, Const, LongConst, Align, Org, Space, Using, Strong, Label, Equate, Formula}
+use Rattle.link_meaning.specs.Sizes.{located, body_size}
+use Rattle.link_meaning.specs.Terms.{tree_in}
+use Rattle.orca_meaning.specs.declared.mnemonics.Mnemonic.{Mnemonic}
+use Rattle.orca_meaning.specs.declared.mnemonics.Mnemonic.TheVariants.{Brk, Rep, Sep}
+use Rattle.orca_meaning.specs.declared.modes.Mode.{Mode}
+use Rattle.orca_meaning.specs.declared.modes.Mode.TheVariants.{Signature}
+use Rattle.orca_meaning.specs.Characters.{is_name, folded}
+use Rattle.orca_meaning.specs.Matrix.{matrix, Instruction}
+use Rattle.asm_meaning.specs.declared.directives.Switch.TheVariants.{LongA, LongI}
+use Rattle.asm_meaning.specs.Instruction.{Widths, Kind, Missing, Value, Address, Distance, Banks, Sign, kind_of, operand_bytes, address_code}
+use Rattle.list_meaning.specs.Listed.{Said, NextAlign, NextOrg, Begins, Kinds, Turns, Spaces, Aligns, Moves, Uses, Asks, Labels, Equates, Instructs, Bytes, Weakly, Sums, Ends, Wanted, None', Number, Moved, said_text, listing_text}
+use Rattle.list_meaning.specs.Listed as listed
+
+-- ---- names
+
+-- a name that is written as it stands
+abbrev pub is_listable : List ℕ → Bool
+is_listable name = is_name name && bytes_eq (folded name) name
+
+-- LOADNAME without the spaces behind it
+abbrev pub unpadded : List ℕ → List ℕ
+unpadded text = take (position_or_len (λ byte. byte == ascii.space) text) text
+
+-- behind the first space all are spaces
+abbrev pub is_padded : List ℕ → Bool
+is_padded text = list_all (λ byte. byte == ascii.space) (drop (position_or_len (λ byte. byte == ascii.space) text) text)
+
+-- ---- the front of a segment
+
+-- code, data, initialization, and direct page and stack
+abbrev pub is_listed_form : ℕ → Bool
+is_listed_form form = list_any (λ t. t == form) (0x00 ∷ 0x01 ∷ 0x10 ∷ 0x12 ∷ [])
+
+-- LOADNAME is spaces, or a name that is written as it stands with spaces behind it
+abbrev pub is_listable_load_name : List ℕ → Bool
+is_listable_load_name text = is_padded text && (bytes_eq (unpadded text) [] || is_listable (unpadded text))
+
+-- the greatest LENGTH, where the segment may cross banks and where it may not
+abbrev pub greatest_length : ℕ → ℕ
+greatest_length bank_size = if bank_size == 0 then 0xFFFFFF else 0x10000
+
+-- an ALIGN of 0 away from place 0: no number of zeros meets it
+abbrev pub is_lost : ℕ → Record → Bool
+is_lost at (Align n) = n == 0 && not (at == 0)
+is_lost at _ = false
+
+-- an ALIGN of 0 stands away from place 0
+abbrev pub has_lost_place : Segment → Bool
+has_lost_place s = list_any (λ l. is_lost l.location l.content) (located s)
+
+-- the header can be listed: its type, its names, BANKSIZE, ALIGN and ENTRY, and LENGTH is the number of cells
+abbrev pub has_listable_header : Segment → Bool
+has_listable_header s =
+    is_listed_form (form_of s.fields.kind) && is_listable s.fields.name && is_listable_load_name s.fields.load_name
+    && (s.fields.bank_size == 0 || s.fields.bank_size == 0x10000)
+    && (s.fields.align == 0 || (is_power_of_two s.fields.align && nat_le s.fields.align 0x10000)) && s.fields.entry == 0
+    && not (has_lost_place s) && s.fields.length == body_size s + s.fields.res_spc && nat_le s.fields.length (greatest_length s.fields.bank_size)
+
+-- a line with a number that isn't 0
+abbrev pub unless_zero : (ℕ → Said) → ℕ → List Said
+unless_zero said n = if n == 0 then [] else said n ∷ []
+
+-- the lines before those of the records
+unfoldable pub front_of : Fields → List Said
+front_of f =
+    unless_zero NextAlign f.align
+    ++ (unless_zero NextOrg f.org ++ Begins (f.bank_size == 0) f.name (unpadded f.load_name) ∷ Kinds f.kind ∷ Turns LongA true ∷ Turns LongI true ∷ [])
+
+-- ---- instructions in a run
+
+-- the instruction of an opcode
+abbrev pub or_brk : Option Instruction → Instruction
+or_brk None = (Brk, Signature)
+or_brk (Some i) = i
+
+-- the instruction of an opcode
+abbrev pub decoded : ℕ → Instruction
+decoded opcode = or_brk (slice_get matrix opcode)
+
+-- how many bytes stand behind an opcode
+abbrev pub behind_opcode : Widths → ℕ → ℕ
+behind_opcode w opcode = operand_bytes w (decoded opcode).0 (decoded opcode).1
+
+-- a bit of the operand of REP or SEP sets a width
+abbrev pub width_by : Bool → ℕ → ℕ → Bool → Bool
+width_by on bit operand old = if bit_and operand bit == 0 then old else on
+
+-- REP turns the widths on whose bits are set, and SEP turns them off
+abbrev pub widths_by : Bool → ℕ → Widths → Widths
+widths_by on operand w = record { long_a = width_by on 0x20 operand w.long_a; long_i = width_by on 0x10 operand w.long_i }
+
+-- the widths behind an instruction with constant bytes
+unfoldable pub widths_behind : Mnemonic → List ℕ → Widths → Widths
+widths_behind Rep bytes w = widths_by true (little_number 1 bytes) w
+widths_behind Sep bytes w = widths_by false (little_number 1 bytes) w
+widths_behind _ bytes w = w
+
+-- a width is as it was
+abbrev pub same_bool : Bool → Bool → Bool
+same_bool a b = if a then b else not b
+
+-- LONGA and LONGI where a width changed
+abbrev pub turns_between : Widths → Widths → List Said
+turns_between w v =
+    (if same_bool w.long_a v.long_a then [] else Turns LongA v.long_a ∷ [])
+    ++ (if same_bool w.long_i v.long_i then [] else Turns LongI v.long_i ∷ [])
+
+-- the operand of an instruction by its bytes; None for a branch
+abbrev pub operand_by : Kind → List ℕ → Option Wanted
+operand_by Missing bytes = Some None'
+operand_by Value bytes = Some (Number (length bytes) (little_number (length bytes) bytes))
+operand_by (Address n) bytes = Some (Number (length bytes) (little_number (length bytes) bytes))
+operand_by (Distance n) bytes = None
+operand_by Banks bytes = Some (listed.Banks (little_number 1 (drop 1 bytes)) (little_number 1 bytes))
+operand_by Sign bytes = Some (Number (length bytes) (little_number (length bytes) bytes))
+
+-- an instruction with its operand, or its bytes where it has none that is written
+abbrev pub written_or : Mnemonic → Mode → List ℕ → Option Wanted → List Said
+written_or mnemonic way bytes None = Bytes bytes ∷ []
+written_or mnemonic way bytes (Some wanted) = Instructs mnemonic way wanted ∷ []
+
+-- an instruction with the bytes behind its opcode, of which the rest may have fewer than it should
+unfoldable pub said_instruction : Widths → ℕ → List ℕ → List Said
+said_instruction w opcode bytes =
+    let found = decoded opcode in
+    if length bytes == behind_opcode w opcode
+    then written_or found.0 found.1 (opcode ∷ bytes) (operand_by (kind_of found.1) bytes) ++ turns_between w (widths_behind found.0 bytes w)
+    else Bytes (opcode ∷ bytes) ∷ []
+
+-- the widths behind it
+abbrev pub widths_past : Widths → ℕ → List ℕ → Widths
+widths_past w opcode bytes = if length bytes == behind_opcode w opcode then widths_behind (decoded opcode).0 bytes w else w
+
+-- the rest of a run, of which the first so many bytes were taken already
+unfoldable pub said_rest : Widths → ℕ → List ℕ → List Said
+said_rest w taken [] = []
+said_rest w (suc taken) (byte ∷ behind) = said_rest w taken behind
+said_rest w zero (opcode ∷ behind) =
+    let bytes = take (behind_opcode w opcode) behind in
+    said_instruction w opcode bytes ++ said_rest (widths_past w opcode bytes) (length bytes) behind
+
+-- the widths behind the rest of a run
+unfoldable pub widths_rest : Widths → ℕ → List ℕ → Widths
+widths_rest w taken [] = w
+widths_rest w (suc taken) (byte ∷ behind) = widths_rest w taken behind
+widths_rest w zero (opcode ∷ behind) =
+    let bytes = take (behind_opcode w opcode) behind in widths_rest (widths_past w opcode bytes) (length bytes) behind
+
+-- ---- expression records
+
+-- one name, or one name and a number that is added to it or taken from it
+unfoldable pub simple_of : Tree → Option Wanted
+simple_of (Leaf (Named code name)) = if code == 0x83 then Some (listed.Label name) else None
+simple_of (Binary operator (Leaf (Named code name)) (Leaf (Constant n))) =
+    if code == 0x83 && operator == 0x01 then Some (Moved name true n)
+    else if code == 0x83 && operator == 0x02 then Some (Moved name false n)
+    else None
+simple_of _ = None
+
+-- the name where the expression is one weak name
+unfoldable pub weak_of : Tree → Option (List ℕ)
+weak_of (Leaf (Named code name)) = if code == 0x82 then Some name else None
+weak_of _ = None
+
+-- the code, the count and the n of the record of an operand that is no constant, where the instruction has one such record
+unfoldable pub record_by : Mnemonic → Kind → ℕ → Option (ℕ × ℕ × ℕ)
+record_by mnemonic Missing bytes = None
+record_by mnemonic Value bytes = Some (0xEB, bytes, 0)
+record_by mnemonic (Address n) bytes = Some (address_code mnemonic n, bytes, 0)
+record_by mnemonic (Distance n) bytes = Some (0xEE, bytes, bytes)
+record_by mnemonic Banks bytes = None
+record_by mnemonic Sign bytes = Some (0xEB, bytes, 0)
+
+-- the record of an opcode's operand that is no constant
+abbrev pub record_of_opcode : Widths → ℕ → Option (ℕ × ℕ × ℕ)
+record_of_opcode w opcode = record_by (decoded opcode).0 (kind_of (decoded opcode).1) (behind_opcode w opcode)
+
+-- the record has this code, this count and this n
+abbrev pub is_record : ℕ → ℕ → ℕ → Option (ℕ × ℕ × ℕ) → Bool
+is_record code count n None = false
+is_record code count n (Some (a, b, c)) = a == code && b == count && c == n
+
+-- ---- what lines so far leave, and one more record
+
+-- the present widths, the constant bytes that stand directly before, and the names that were defined
+pub record Before : Type 0 where
+  pub widths : Widths
+  pub run : List ℕ
+  pub names : List (List ℕ)
+
+-- the lines of a record, and what it leaves
+abbrev pub Given : Type 0
+Given = List Said × Before
+
+-- the run is written
+abbrev pub flushed : Before → Given
+flushed b = (said_rest b.widths 0 b.run, record { widths = widths_rest b.widths 0 b.run; run = []; names = b.names })
+
+-- and then these lines
+abbrev pub then_said : List Said → Given → Given
+then_said more given = (given.0 ++ more, given.1)
+
+-- one more name is defined
+abbrev pub with_name : List ℕ → Given → Given
+with_name name given = (given.0, record { widths = given.1.widths; run = given.1.run; names = name ∷ given.1.names })
+
+-- the name is one of these
+abbrev pub is_among : List (List ℕ) → List ℕ → Bool
+is_among names name = list_any (bytes_eq name) names
+
+-- the last byte of a run, and those before it
+abbrev pub behind_byte : ℕ → Option (List ℕ × ℕ) → Option (List ℕ × ℕ)
+behind_byte byte None = Some ([], byte)
+behind_byte byte (Some found) = Some (byte ∷ found.0, found.1)
+
+-- a run without its last byte, and that byte
+unfoldable pub split_last : List ℕ → Option (List ℕ × ℕ)
+split_last [] = None
+split_last (byte ∷ behind) = behind_byte byte (split_last behind)
+
+-- the opcode is held back: the run without it, and one instruction
+abbrev pub held_back : Before → List ℕ → ℕ → Wanted → Given
+held_back b rest opcode wanted =
+    let given = flushed (record b { run = rest }) in
+    then_said (Instructs (decoded opcode).0 (decoded opcode).1 wanted ∷ []) given
+
+-- a DC for an EXPR that isn't part of an instruction
+abbrev pub apart : ℕ → Tree → Option (List ℕ) → Said
+apart count tree None = Sums count tree
+apart count tree (Some name) = Weakly name
+
+-- the last byte is an opcode that has this record, at the widths behind the run without it
+abbrev pub is_held : Before → ℕ → ℕ → ℕ → List ℕ × ℕ → Bool
+is_held b code count n found = is_record code count n (record_of_opcode (widths_rest b.widths 0 found.0) found.1)
+
+-- the lines of an expression record: an instruction with the byte that is held back, or a DC
+unfoldable pub formula_given : Before → ℕ → ℕ → ℕ → Tree → Option (List ℕ × ℕ) → Option Wanted → Given
+formula_given b code count n tree (Some found) (Some wanted) =
+    if is_held b code count n found then held_back b found.0 found.1 wanted else then_said (apart count tree (weak_of tree) ∷ []) (flushed b)
+formula_given b code count n tree (Some found) None = then_said (apart count tree (weak_of tree) ∷ []) (flushed b)
+formula_given b code count n tree None wanted = then_said (apart count tree (weak_of tree) ∷ []) (flushed b)
+
+-- ---- which records can be listed
+
+-- a name in an expression is written as it stands, and is no equate of the segment
+abbrev pub term_listable : List (List ℕ) → Term → Bool
+term_listable equates (Operator code) = true
+term_listable equates Location = true
+term_listable equates (Constant n) = true
+term_listable equates (Named code name) = is_listable name && not (is_among equates name)
+term_listable equates (Offset n) = true
+
+-- $80, $81 and $83, and the operators $01 to $04 and $06 to $11
+abbrev pub term_may_stand : Term → Bool
+term_may_stand (Operator code) = nat_le 0x01 code && nat_le code 0x11 && not (code == 0x05)
+term_may_stand Location = true
+term_may_stand (Constant n) = true
+term_may_stand (Named code name) = code == 0x83
+term_may_stand (Offset n) = false
+
+-- $80 or $83
+abbrev pub is_open : Term → Bool
+is_open (Operator code) = false
+is_open Location = true
+is_open (Constant n) = false
+is_open (Named code name) = code == 0x83
+is_open (Offset n) = false
+
+-- there is a name
+abbrev pub is_some_name : Option (List ℕ) → Bool
+is_some_name None = false
+is_some_name (Some name) = true
+
+-- there is an operand
+abbrev pub is_some_wanted : Option Wanted → Bool
+is_some_wanted None = false
+is_some_wanted (Some wanted) = true
+
+-- an EXPR is one weak name with count 2, or a formula in which a name or the location counter stands
+abbrev pub expr_listable : ℕ → Tree → Bool
+expr_listable count tree =
+    if is_some_name (weak_of tree) then count == 2
+    else list_all term_may_stand (terms_of tree) && list_any is_open (terms_of tree)
+
+-- whatever the widths are: only EXPR follows on them
+abbrev pub both_long : Widths
+both_long = record { long_a = true; long_i = true }
+
+-- the record follows directly on an opcode that has it
+abbrev pub follows_opcode : ℕ → ℕ → ℕ → Option (List ℕ × ℕ) → Bool
+follows_opcode code count n None = false
+follows_opcode code count n (Some found) = is_record code count n (record_of_opcode both_long found.1)
+
+-- an expression record can be listed
+unfoldable pub formula_listable : List (List ℕ) → Before → ℕ → ℕ → ℕ → Tree → Bool
+formula_listable equates b code count n tree =
+    list_all (term_listable equates) (terms_of tree)
+    && (if code == 0xEB then expr_listable count tree else is_some_wanted (simple_of tree) && follows_opcode code count n (split_last b.run))
+
+-- the line fits in 255 bytes
+abbrev pub is_short : Said → Bool
+is_short said = nat_le (length (said_text said)) 255
+
+-- all lines fit in 255 bytes
+abbrev pub are_short : Given → Bool
+are_short given = list_all is_short given.0
+
+-- the lines, where a test holds and they fit
+abbrev pub if_short : Bool → Given → Option Given
+if_short holds given = if holds && are_short given then Some given else None
+
+-- the number where the expression is one
+abbrev pub number_of : Tree → Option ℕ
+number_of (Leaf (Constant n)) = Some n
+number_of _ = None
+
+-- the lines of EQU or GEQU of a number
+abbrev pub equate_given : Before → Bool → List ℕ → Option ℕ → Option Given
+equate_given b global name None = None
+equate_given b global name (Some n) = if_short (is_listable name && not (is_among b.names name)) (with_name name (then_said (Equates global name n ∷ []) (flushed b)))
+
+-- what is said of an expression's tree
+abbrev pub on_tree : {A : Type 0} → Option Tree → (Tree → Option A) → Option A
+on_tree None f = None
+on_tree (Some tree) f = f tree
+
+-- the lines of a record where it can be listed, and what it leaves; what is before ALIGN is in the header
+unfoldable pub given_by : Fields → List (List ℕ) → Before → Record → Option Given
+given_by f equates b End = if_short true (then_said (unless_zero Spaces f.res_spc ++ Ends ∷ []) (flushed b))
+given_by f equates b (Const bytes) = Some ([], record b { run = b.run ++ bytes })
+given_by f equates b (LongConst bytes) = Some ([], record b { run = b.run ++ bytes })
+given_by f equates b (Align n) = if_short (is_power_of_two n && nat_le n 0x10000 && nat_le n (alignment_of f.align)) (then_said (Aligns n ∷ []) (flushed b))
+given_by f equates b (Org n) = if_short true (then_said (Moves n ∷ []) (flushed b))
+given_by f equates b (Space n) = if_short true (then_said (Spaces n ∷ []) (flushed b))
+given_by f equates b (Using name) = if_short (is_listable name) (then_said (Uses name ∷ []) (flushed b))
+given_by f equates b (Strong name) = if_short (is_listable name) (then_said (Asks name ∷ []) (flushed b))
+given_by f equates b (Label global name size form private) =
+    if_short ((not global || private == 0) && is_listable name && not (is_among b.names name)) (with_name name (then_said (Labels global name ∷ []) (flushed b)))
+given_by f equates b (Equate global name size form private expr) =
+    if not global || private == 0 then on_tree (tree_in f.lab_len expr) (λ tree. equate_given b global name (number_of tree)) else None
+given_by f equates b (Formula code count n expr) =
+    on_tree (tree_in f.lab_len expr) (λ tree. if_short (formula_listable equates b code count n tree) (formula_given b code count n tree (split_last b.run) (simple_of tree)))
+given_by f equates b _ = None
+
+-- ---- a segment
+
+-- the name of an equate
+abbrev pub equate_name : Record → List (List ℕ)
+equate_name (Equate global name size form private expr) = name ∷ []
+equate_name _ = []
+
+-- the names of a segment's equates
+abbrev pub equates_of : Segment → List (List ℕ)
+equates_of s = flat_map (λ found. equate_name found.1) s.records
+
+-- a record without lines can't be listed, at its place
+abbrev pub or_record : {A : Type 0} → ℕ → Option A → Result A ℕ
+or_record at None = Err at
+or_record at (Some a) = Ok a
+
+-- the lines of records behind these lines, or the place of the first that can't be listed
+unfoldable pub said_from : Fields → List (List ℕ) → Before → List (ℕ × Record) → Result (List Said) ℕ
+said_from f equates b [] = Ok []
+said_from f equates b (found ∷ founds) =
+    or_record found.0 (given_by f equates b found.1) >>= λ given. said_from f equates given.1 founds >>= λ more. Ok (given.0 ++ more)
+
+-- before the first record: both registers have 16 bits, and SEGNAME is defined
+abbrev pub at_front : Fields → Before
+at_front f = record { widths = both_long; run = []; names = f.name ∷ [] }
+
+-- the lines of a segment, or the place where it can't be listed: its start, or a record
+unfoldable pub listing_of : Segment → Result (List Said) ℕ
+listing_of s =
+    if has_listable_header s && list_all is_short (front_of s.fields)
+    then (said_from s.fields (equates_of s) (at_front s.fields) s.records >>= λ more. Ok (front_of s.fields ++ more))
+    else Err s.start
+
+-- ---- a file
+
+-- a place that can't be listed is told with the number of its segment
+abbrev pub in_segment : {A : Type 0} → ℕ → Result A ℕ → Result A (ℕ × ℕ)
+in_segment number (Ok a) = Ok a
+in_segment number (Err at) = Err (number, at)
+
+-- the lines of segments, of which the first has this number, or the number and the place of the first that can't be listed
+unfoldable pub listing_from : ℕ → List Segment → Result (List Said) (ℕ × ℕ)
+listing_from number [] = Ok []
+listing_from number (s ∷ segments) =
+    in_segment number (listing_of s) >>= λ first. listing_from (number + 1) segments >>= λ more. Ok (first ++ more)
+
+-- the text has at most 16,777,216 bytes and 65,536 lines
+abbrev pub is_small : List Said → Bool
+is_small all = nat_le (length all) 65536 && nat_le (length (listing_text all)) 16777216

@@ -1,0 +1,5 @@
+//! Tests of the lister.
+#![tactic(auto)]
+
+#[cfg(test)]
+mod listings;

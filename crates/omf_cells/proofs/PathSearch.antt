@@ -1,0 +1,23 @@
+-- Looking for the pathname segment, view by view.
+use Rattle.std.proofs.Common.{◌≡◌, ℕ, zero, suc, ◌+◌, ◌<◌, ◌≤◌, List, [], ◌∷◌, length, drop, map, get_or, Some, None, refl, sym, ap, ◌∙◌, arith}
+use Rattle.std.specs.Prelude.{if◌then◌else◌}
+use Rattle.std.proofs.Math.Seq.{drop-cons}
+use Rattle.load_meaning.specs.Pathnames.{has_pathnames, pathnames_from}
+use Rattle.omf_records.specs.declared.segment.SegmentView.{SegmentView}
+use Rattle.omf_records.specs.Segments.{shown}
+
+-- one view, and then the others
+pub path-next : (views : List SegmentView) (i number : ℕ) (v : SegmentView) → i < length views → v ≡ get_or views i v
+    → pathnames_from number (map shown (drop i views)) ≡ (if has_pathnames (shown v) then Some number else pathnames_from (number + 1) (map shown (drop (suc i) views)))
+path-next views i number v lt is =
+    ap (λ l. pathnames_from number (map shown l)) (drop-cons views i v lt)
+    ∙ ap (λ (w : SegmentView). pathnames_from number (map shown (w ∷ drop (suc i) views))) (sym is)
+
+pub path-past : (views : List SegmentView) (i number : ℕ) → length views ≤ i → pathnames_from number (map shown (drop i views)) ≡ None
+path-past views i number past = ap (λ l. pathnames_from number (map shown l)) (drop-past i views past)
+  where
+    drop-past : (k : ℕ) (xs : List SegmentView) → length xs ≤ k → drop k xs ≡ []
+    drop-past zero [] h = refl
+    drop-past zero (x ∷ xs) h = absurd (omega arith)
+    drop-past (suc k) [] h = refl
+    drop-past (suc k) (x ∷ xs) h = drop-past k xs (omega arith)

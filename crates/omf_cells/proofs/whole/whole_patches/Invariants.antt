@@ -1,0 +1,8 @@
+use Rattle.std.proofs.Common.{◌≡◌, map, take}
+use Rattle.omf_cells.specs.Content.{spread_all, shown_spots}
+use Rattle.omf_cells.specs.WrittenParts.{seen}
+use Rattle.omf_cells.proofs.whole.whole_patches.Given as goal
+
+-- the patches so far give the bytes of the spots so far
+abbrev pub invariant-spots : goal.invariant-spots
+invariant-spots l = spread_all (map seen l.patches.items) ≡ shown_spots (take l.spot-index l.spots)

@@ -1,0 +1,8 @@
+use Rattle.std.proofs.Common.{map}
+use Rattle.omf_cells.specs.WrittenParts.{seen}
+use Rattle.omf_compact.proofs.PartWalks.{Walked}
+use Rattle.omf_compact.proofs.parting.part_cells.Given as goal
+
+-- the cells so far have these patches
+abbrev pub invariant-cells : goal.invariant-cells
+invariant-cells l = Walked l.load l.number l.at (map seen l.patches.items)

@@ -1,0 +1,15 @@
+use Rattle.std.proofs.Common.{subst}
+use Rattle.std.proofs.lemmas.Result.{on_ok_weaker}
+use Rattle.orca_meaning.specs.Matrix.{Instruction}
+use Rattle.list_meaning.specs.Listed.{Instructs}
+use Rattle.list_meaning.specs.Listing.{flushed, decoded}
+use Rattle.w65_list.specs.LineView.{Wrote, operand_view}
+use Rattle.w65_list.proofs.Gives.{line_gave}
+use Rattle.w65_list.proofs.records.Before.put_held.Goals as goal
+
+pub returns-clause-gave : goal.returns-clause-gave
+returns-clause-gave c =
+    let opcode = c.args.opcode in
+    let w = operand_view c.args.operand in
+    on_ok_weaker c.instructs.result (λ wrote b rest is run. line_gave (flushed (record b { run = rest })) (Instructs (decoded opcode).0 (decoded opcode).1 w) c.args.out.now c.flush_rest.new.out c.instructs.new.out c.flush_rest.new.self
+    (c.in_ok-flush_rest.ensures.gave b rest opcode is run) (subst (λ (f : Instruction). Wrote (Instructs f.0 f.1 w) c.flush_rest.new.out c.instructs.new.out) c.instruction_of-mnemonic.ensures wrote)) c.instructs.ensures.wrote

@@ -1,0 +1,11 @@
+-- What the lines so far leave, as it is kept.
+use Rattle.std.specs.Prelude.{◌≡◌}
+use Rattle.list_meaning.specs.Listing as listing
+use Rattle.w65_list.specs.declared.records.Before.{Before}
+use Rattle.w65_list.specs.LineView.{widths_view}
+use Rattle.w65_list.specs.NamesView.{AreNames}
+
+pub record IsBefore (before : Before) (b : listing.Before) : Type 0 where
+  pub widths : widths_view before.widths ≡ b.widths
+  pub run : before.run.items ≡ b.run
+  pub names : AreNames before.names b.names

@@ -1,0 +1,17 @@
+//! A lister: from an object file to the source that is assembled to the same content (ORCA/M reference manual, "Assembler
+//! directives"; WDC 65C816 data sheet, addressing modes). Which segments can be listed, and how, is this project's own.
+#![tactic(auto)]
+
+mod formula;
+mod front;
+mod lines;
+mod names;
+mod output;
+mod records;
+mod run;
+mod source;
+mod spellings;
+mod stop;
+
+pub use list_meaning::{ListCause, ListFault};
+pub use source::list_source;

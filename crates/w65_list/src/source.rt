@@ -1,0 +1,226 @@
+//! The source of a file.
+
+ghost use Rattle.std.specs.Prelude.{◌≡◌, ◌<◌, ◌^◌, ◌∷◌, ◌++◌, [], ℕ, List, Err, Some, length, IfOk, IfErr, OnOk, OnErr, IsErrOf};
+ghost use Rattle.omf_format.specs.declared.fault.FileFault.{FileFault};
+ghost use Rattle.omf_format.specs.Header.{Fields};
+ghost use Rattle.omf_format.specs.Reading.{records_of, IsBody};
+ghost use Rattle.omf_header.specs.View.{fields};
+ghost use Rattle.omf_records.specs.View.{view};
+ghost use Rattle.omf_records.specs.Segments.{IsSound, IsRefused, shown};
+ghost use Rattle.list_meaning.specs.Answer.{IsListing, IsListFault, cause_of};
+ghost use Rattle.list_meaning.specs.Listing as listing;
+ghost use Rattle.list_meaning.specs.Listing.{equate_name, said_from, listing_of};
+ghost use Rattle.list_meaning.specs.declared.faults.ListCause.TheVariants as causes;
+ghost use Rattle.w65_list.specs.BeforeView.{IsBefore};
+ghost use Rattle.w65_list.specs.LineView.{WroteAll};
+ghost use Rattle.w65_list.specs.NamesView.{AreNames};
+ghost use Rattle.w65_list.specs.OutputView.{kept, open_line};
+ghost use Rattle.w65_list.specs.SourceView.{WroteRecords, WroteSegment, WroteFile, equates_in, IsStop, IsRefusal, IsTold, IsSegmentFault};
+
+use crate::front::put_front;
+use crate::names::Names;
+use crate::output::Output;
+use crate::records::Before;
+use crate::stop::Stop;
+use list_meaning::{ListCause, ListFault};
+use omf_header::Header;
+use omf_records::{FileCause, FileFault, Rec, Records, SegmentList, SegmentView, segments};
+use std::alloc::{AllocError, Global};
+
+/// The names of the equates among records.
+fn equated<'a>(alloc: Global, records: Records<'a>) -> Result<Names<'a>, AllocError>
+    requires { IsBody records }
+    ensures { IfOk result (λ names. AreNames names (equates_in (records_of records.entry))) }
+{
+    let mut names = Names::new(alloc);
+    let mut records = records;
+    'records: loop {
+        match records.next() {
+            Ok(None) => return Ok(names),
+            Ok(Some((_, rec))) => add_equate(&mut names, &rec)?,
+            Err(_) => unreachable!(),
+        }
+    }
+}
+
+/// The name of an equate, or nothing.
+fn add_equate<'a>(names: &mut Names<'a>, rec: &Rec<'a>) -> Result<(), AllocError>
+    ensures { OnOk result ((all : List (List ℕ)) → AreNames names.old all → AreNames names.new (equate_name (view rec.now) ++ all)) }
+{
+    match rec {
+        Rec::Equate { name, .. } => names.add(name),
+        Rec::End
+        | Rec::Const { .. }
+        | Rec::LongConst { .. }
+        | Rec::Align { .. }
+        | Rec::Org { .. }
+        | Rec::Space { .. }
+        | Rec::Reloc { .. }
+        | Rec::InterSeg { .. }
+        | Rec::ShortReloc { .. }
+        | Rec::ShortInterSeg { .. }
+        | Rec::Super { .. }
+        | Rec::Using { .. }
+        | Rec::Strong { .. }
+        | Rec::Label { .. }
+        | Rec::Formula { .. }
+        | Rec::Entry { .. } => Ok(()),
+    }
+}
+
+/// Why a segment has no listing, and where.
+#[derive(Clone, Copy, Debug, PartialEq, Eq)]
+enum Refusal {
+    /// There is no line for what stands at this displacement.
+    NotListable(u32),
+    /// Memory ran out.
+    Memory,
+}
+
+impl From<AllocError> for Refusal {
+    ghost use Rattle.std.specs.Prelude.{◌≡◌};
+    ghost use Rattle.w65_list.specs.declared.source.Refusal.TheVariants.{Memory};
+
+    ghost from_gives = { λ _ refusal. refusal ≡ Memory };
+
+    fn from(_: AllocError) -> Refusal {
+        Refusal::Memory
+    }
+}
+
+/// What stops at a place.
+fn stopped(place: u32, stop: Stop) -> Refusal
+    ensures { IsStop place stop result }
+{
+    match stop {
+        Stop::NotListable => Refusal::NotListable(place),
+        Stop::Memory => Refusal::Memory,
+    }
+}
+
+/// The lines of records.
+fn put_records<'a>(
+    alloc: Global,
+    out: &mut Output,
+    header: &Header,
+    names: &Names,
+    before: Before<'a>,
+    records: Records<'a>,
+) -> Result<(), Refusal>
+    requires line { open_line out.old ≡ [] }
+    requires body { IsBody records }
+    requires layout { records.layout.lab_len ≡ header.now.lab_len }
+    requires known { (b : listing.Before) × (all : List (List ℕ)) × IsBefore before b × AreNames names.now all }
+    ensures wrote { OnOk result ((b : listing.Before) (all : List (List ℕ)) → IsBefore before.entry b → AreNames names.now all
+        → WroteRecords (fields header.now) all b (records_of records.entry) out.old out.new) }
+    ensures refused { IfErr result (λ refusal. (b : listing.Before) (all : List (List ℕ)) → IsBefore before.entry b → AreNames names.now all
+        → IsRefusal refusal (λ at. said_from (fields header.now) all b (records_of records.entry) ≡ Err at)) }
+{
+    let mut before = before;
+    let mut records = records;
+    'records: loop {
+        match records.next() {
+            Ok(None) => return Ok(()),
+            Ok(Some((place, rec))) => match before.put_record(alloc, out, header, names, &rec) {
+                Ok(()) => {}
+                Err(stop) => return Err(stopped(place, stop)),
+            },
+            Err(_) => unreachable!(),
+        }
+    }
+}
+
+/// The lines of a segment.
+fn put_segment(alloc: Global, out: &mut Output, view: &SegmentView) -> Result<(), Refusal>
+    requires line { open_line out.old ≡ [] }
+    requires sound { IsSound view.now }
+    ensures wrote { OnOk result (WroteSegment (shown view.now) out.old out.new) }
+    ensures refused { IfErr result (λ refusal. IsRefusal refusal (λ at. listing_of (shown view.now) ≡ Err at)) }
+{
+    if let Err(stop) = put_front(out, view) {
+        return Err(stopped(view.start, stop));
+    }
+    let names = equated(alloc, view.records())?;
+    let before = Before::new(alloc, view.header.name.bytes())?;
+    put_records(alloc, out, &view.header, &names, before, view.records())
+}
+
+/// A fault of a segment.
+fn segment_fault(refusal: Refusal, segment: u32) -> ListFault
+    ensures { IsTold refusal segment result }
+{
+    match refusal {
+        Refusal::NotListable(at) => ListFault {
+            cause: ListCause::NotListable,
+            segment,
+            at,
+        },
+        Refusal::Memory => ListFault {
+            cause: ListCause::Memory,
+            segment: 0,
+            at: 0,
+        },
+    }
+}
+
+/// A fault of the file.
+fn file_fault(fault: FileFault) -> ListFault
+    ensures { result ≡ record { cause = cause_of fault.cause; segment = fault.segment; at = fault.at } }
+{
+    let cause = match fault.cause {
+        FileCause::Truncated => ListCause::Truncated,
+        FileCause::BadHeader => ListCause::BadHeader,
+        FileCause::Unsupported => ListCause::Unsupported,
+        FileCause::BadRecord => ListCause::BadRecord,
+        FileCause::Memory => ListCause::Memory,
+    };
+    ListFault {
+        cause,
+        segment: fault.segment,
+        at: fault.at,
+    }
+}
+
+/// The lines of all segments.
+fn put_file(alloc: Global, list: &SegmentList) -> Result<Output, ListFault>
+    ensures line { IfOk result (λ out. open_line out ≡ []) }
+    ensures wrote { IfOk result (λ out. WroteFile list.now out) }
+    ensures refused { IfErr result (λ fault. IsSegmentFault list.now fault) }
+{
+    let mut out = Output::new(alloc);
+    'segments: for place in 0..list.count() {
+        match list.get(place + 1) {
+            Some(view) => match put_segment(alloc, &mut out, view) {
+                Ok(()) => {}
+                Err(refusal) => return Err(segment_fault(refusal, place + 1)),
+            },
+            None => unreachable!(),
+        }
+    }
+    Ok(out)
+}
+
+/// The source of an object file: assembled without macros it gives segments that stand for the same. Or the first fault of the
+/// file, else the first place that can't be listed, else that the text is too long.
+pub fn list_source(alloc: Global, file: &[u8]) -> Result<Vec<u8>, ListFault>
+    requires { length file.now < 2 ^ 32 }
+    ensures listed { IfOk result (λ text. IsListing file.now text.items) }
+    ensures refused { IfErr result (λ fault. IsListFault file.now fault) }
+{
+    let list = match segments(alloc, file) {
+        Ok(list) => list,
+        Err(fault) => return Err(file_fault(fault)),
+    };
+    let out = match put_file(alloc, &list) {
+        Ok(out) => out,
+        Err(fault) => return Err(fault),
+    };
+    match out.into_text() {
+        Some(text) => Ok(text),
+        None => Err(ListFault {
+            cause: ListCause::TooLong,
+            segment: 0,
+            at: 0,
+        }),
+    }
+}

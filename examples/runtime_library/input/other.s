@@ -1,0 +1,5 @@
+* Names the greeting other than by a call.
+MAIN     START
+         LDA   >HELLO
+         RTL
+         END
