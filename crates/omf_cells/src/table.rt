@@ -3,10 +3,11 @@
 ghost use Rattle.std.specs.Prelude.{◌≡◌, ◌+◌, ◌-◌, ◌<◌, ◌≤◌, ◌^◌, length, map, take, slice_get, option_map, nat_le, ◌&&◌, IfSome, IsSomeAnd};
 ghost use Rattle.std.specs.List.{list_any};
 ghost use Rattle.omf_format.specs.Header.{first_of};
+ghost use Rattle.omf_format.specs.Number.{number_at};
 ghost use Rattle.load_meaning.specs.Cells.{segment_bytes};
 ghost use Rattle.load_meaning.specs.Table.{entry_start};
 ghost use Rattle.load_meaning.specs.Pathnames.{paths_of};
-ghost use Rattle.load_meaning.specs.LoadTable.{is_table, table_of, is_called, target_at, zero_checks, entry_checks, entries_checks, table_checks};
+ghost use Rattle.load_meaning.specs.LoadTable.{is_table, table_of, is_called, is_call, target_at, zero_checks, entry_checks, entries_checks, table_checks};
 ghost use Rattle.load_meaning.specs.Loadable.{table_flaw, table_fault, in_segment, first_in};
 ghost use Rattle.omf_records.specs.Segments.{shown};
 ghost use Rattle.omf_cells.specs.Load.{IsLoadView, AreShown};
@@ -55,10 +56,11 @@ pub fn table_of(views: &Vec<SegmentView>) -> Option<u32>
 }
 
 /// The bytes of the entry that begins there.
-fn entry_from(view: &SegmentView, pieces: &[Piece], at: u32) -> [u8; 14]
+fn entry_from<'a>(view: &SegmentView<'a>, pieces: &[Piece<'a>], at: u32) -> [u8; 14]
     requires pieces { HasPieces view.now pieces.now }
     requires inside { at + 14 ≤ view.now.header.length }
-    ensures { IsNear view.now at result }
+    ensures near { IsNear view.now at result }
+    ensures size { length result ≡ 14 }
 {
     let (near, _) = data_from(view, pieces, 0, at);
     let mut entry = [0; 14];
@@ -70,6 +72,32 @@ fn entry_from(view: &SegmentView, pieces: &[Piece], at: u32) -> [u8; 14]
     entry
 }
 
+/// What an entry has: its user ID, where it leads, and whether it calls the loader.
+#[derive(Clone, Copy)]
+struct Fields {
+    user: u16,
+    target: Target,
+    unloaded: bool,
+}
+
+/// The fields of the entry that begins there.
+fn fields_from(view: &SegmentView, pieces: &[Piece], at: u32) -> Fields
+    requires pieces { HasPieces view.now pieces.now }
+    requires inside { at + 14 ≤ view.now.header.length }
+    ensures user { result.user ≡ number_at 2 at (segment_bytes (shown view.now)) }
+    ensures file { result.target.file ≡ number_at 2 (at + 2) (segment_bytes (shown view.now)) }
+    ensures segment { result.target.segment ≡ number_at 2 (at + 4) (segment_bytes (shown view.now)) }
+    ensures offset { result.target.offset ≡ number_at 4 (at + 6) (segment_bytes (shown view.now)) }
+    ensures unloaded { result.unloaded ≡ is_call (segment_bytes (shown view.now)) (at + 10) }
+{
+    let entry = entry_from(view, pieces, at);
+    Fields {
+        user: user_in(&entry, 0),
+        target: target_in(&entry, 0),
+        unloaded: is_unloaded(&entry, 0),
+    }
+}
+
 /// Where the entry at a place among the entries, from 0, leads.
 #[tactic(auto, unfolding(load_meaning::specs::LoadTable::target_at))]
 pub fn target_from(view: &SegmentView, pieces: &[Piece], place: u32) -> Target
@@ -77,7 +105,7 @@ pub fn target_from(view: &SegmentView, pieces: &[Piece], place: u32) -> Target
     requires inside { entry_start place + 14 ≤ view.now.header.length }
     ensures { result ≡ target_at (segment_bytes (shown view.now)) place }
 {
-    target_in(&entry_from(view, pieces, FRONT + ENTRY * place), 0)
+    fields_from(view, pieces, FRONT + ENTRY * place).target
 }
 
 /// The first of so many bytes of the data, from there on, that isn't 0.
@@ -131,11 +159,11 @@ fn entry_flaw(
     requires inside { at + 14 ≤ view.now.header.length }
     ensures { result ≡ first_of (entry_checks (map shown views.now.items) (segment_bytes (shown view.now)) at) }
 {
-    let entry = entry_from(view, pieces, at);
-    if user_in(&entry, 0) != 0 {
+    let entry = fields_from(view, pieces, at);
+    if entry.user != 0 {
         return Some(at);
     }
-    let target = target_in(&entry, 0);
+    let target = entry.target;
     if !is_file_number(paths, target.file) {
         return Some(at + 2);
     }
@@ -146,7 +174,7 @@ fn entry_flaw(
     if own && !is_place(views, target.segment, target.offset) {
         return Some(at + 6);
     }
-    if !is_unloaded(&entry, 0) {
+    if !entry.unloaded {
         return Some(at + 10);
     }
     None
