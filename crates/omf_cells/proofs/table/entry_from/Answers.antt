@@ -1,6 +1,5 @@
-use Rattle.std.proofs.Common.{◌≡◌, ◌+◌, ◌<◌, ℕ, length, sym, ap, ◌∙◌, arith}
+use Rattle.std.proofs.Common.{◌∙◌, arith}
 use Rattle.std.proofs.lemmas.List.{length-set}
-use Rattle.omf_format.specs.Number.{number_at}
 use Rattle.load_meaning.specs.Cells.{segment_bytes}
 use Rattle.omf_records.specs.Segments.{shown}
 use Rattle.omf_cells.proofs.EntryNumbers.{near_more}
