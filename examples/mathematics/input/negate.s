@@ -1,0 +1,6 @@
+* Minus A, in A.
+NEGATE   START
+         EOR   #$FFFF
+         INC   A
+         RTL
+         END
