@@ -15,21 +15,23 @@ use Rattle.loader_machine.specs.declared.seen.Life.{Life}
 use Rattle.loader_machine.specs.declared.seen.Life.TheVariants.{Running, Dormant}
 use Rattle.loader_machine.specs.declared.faults.LoaderFault.TheVariants as refusal
 use Rattle.loader_machine.specs.Heads.{head_of, at_number, is_static}
+pub use Rattle.loader_machine.specs.State.{Outline, outline_of, outlines}
 use Rattle.loader_machine.specs.State.{User, Machine, Seen, no_pokes, first_id, max_users, user_of, handles_of, held_at}
 use Rattle.loader_machine.specs.Presences.{handle_at, presence_at, there_at, is_active}
-use Rattle.loader_machine.specs.Stands.{setting, stands}
+use Rattle.loader_machine.specs.Stands.{Far, nowhere, setting_with, stands}
 use Rattle.loader_machine.specs.Found.{HoldsLoad}
 use Rattle.loader_machine.specs.Commands.{Command, Reply, Refused}
 use Rattle.loader_machine.specs.Steps.{Steps}
 use Rattle.loader_machine.specs.Needs.{Needs, IsReadFor}
 
--- a user as a loader keeps it: the path of its file, whether it runs, and for each segment of the file its handle and what was
--- read of its header
+-- a user as a loader keeps it: the path of its file, whether it runs, for each segment of the file its handle and what was read of
+-- its header, and the IDs of the users that are attached to it
 pub record Kept : Type 0 where
   pub path : List ℕ
   pub life : Life
   pub handles : List (Option Handle)
   pub heads : List Head
+  pub attached : List ℕ
 
 -- memory of banks, with the bytes of the blocks, and the users in the order in which they were made; None is gone
 pub record Loaded : Type 0 where
@@ -43,17 +45,11 @@ seen_in kept = record { life = kept.life; handles = kept.handles; heads = kept.h
 abbrev pub seen_by : Loaded → ℕ → Option Seen
 seen_by loader id = option_map seen_in (user_of loader.users id)
 
--- what of a user a loader and the machine both hold: all but headers and pokes
-pub record Outline : Type 0 where
-  pub path : List ℕ
-  pub life : Life
-  pub handles : List (Option Handle)
-
 abbrev pub outline : Kept → Outline
-outline kept = record { path = kept.path; life = kept.life; handles = kept.handles }
+outline kept = record { path = kept.path; life = kept.life; handles = kept.handles; attached = kept.attached }
 
-abbrev pub outline_of : User → Outline
-outline_of user = record { path = user.path; life = user.life; handles = handles_of user }
+abbrev pub kept_outlines : List (Option Kept) → List (Option Outline)
+kept_outlines users = map (option_map outline) users
 
 -- every static segment is there
 abbrev pub AreThere : Slots → List (Option Handle) → List Segment → Type 0
@@ -61,8 +57,9 @@ AreThere slots handles segments = (number : ℕ) (s : Segment) → segment_at se
     → IsSome (there_at (presence_at slots handles number))
 
 -- A user agrees: the path holds a load file that is taken, whose headers are kept; a table has no pokes; the static segments of a
--- running user are active; and while all static segments are there, the block of each segment that is there begins with what stands in it.
-pub record UserAgrees (held : FileMap) (memory : Memory) (id : ℕ) (kept : Kept) (user : User) : Type 0 where
+-- running user are active; and while all static segments are there, the block of each segment that is there begins with what stands in it,
+-- where the segments of attached users are active so.
+pub record UserAgrees (held : FileMap) (memory : Memory) (far : Far) (id : ℕ) (kept : Kept) (user : User) : Type 0 where
   pub same : outline kept ≡ outline_of user
   pub segments : List Segment
   pub holds : HoldsLoad held kept.path segments
@@ -73,15 +70,20 @@ pub record UserAgrees (held : FileMap) (memory : Memory) (id : ℕ) (kept : Kept
       → is_active (presence_at memory.slots kept.handles number) ≡ true
   pub begins : AreThere memory.slots kept.handles segments → (number : ℕ) (s : Segment) (h : Handle) → segment_at segments number ≡ Some s
       → handle_at kept.handles number ≡ Some h → IsSome (there_at (presence_at memory.slots kept.handles number))
-      → IsFront (stands (setting id memory.slots kept.handles) (held_at user number).pokes s) (bytes_at memory h.slot)
+      → IsFront (stands (setting_with far id memory.slots kept.handles) (held_at user number).pokes s) (bytes_at memory h.slot)
+
+-- no user has attached users: a file with a pathname segment isn't loaded yet
+abbrev pub AreBare : List (Option Kept) → Type 0
+AreBare users = (place : ℕ) (kept : Kept) → slice_get users place ≡ Some (Some kept) → kept.attached ≡ []
 
 -- over these files the loader agrees with the state: all of it but bytes and headers is the state's, and each user agrees
 pub record Agrees (held : FileMap) (loader : Loaded) (state : Machine) : Type 0 where
   pub banks : loader.memory.banks ≡ state.banks
   pub slots : loader.memory.slots ≡ state.slots
-  pub users : map (option_map outline) loader.users ≡ map (option_map outline_of) state.users
+  pub users : kept_outlines loader.users ≡ outlines state.users
+  pub bare : AreBare loader.users
   pub each : (place : ℕ) (kept : Kept) (user : User) → slice_get loader.users place ≡ Some (Some kept) → slice_get state.users place ≡ Some (Some user)
-      → UserAgrees held loader.memory (first_id + place) kept user
+      → UserAgrees held loader.memory nowhere (first_id + place) kept user
 
 -- ---- what is true of every loader
 

@@ -2,6 +2,7 @@ pub mod Lists
 pub mod Frame
 pub mod Stay
 pub mod Seeing
+pub mod Bare
 pub mod Apart
 pub mod Begun
 pub mod Purged

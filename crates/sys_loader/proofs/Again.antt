@@ -12,12 +12,14 @@ use Rattle.loader_machine.specs.State.{User, Machine, first_id, user_of, with_us
 use Rattle.loader_machine.specs.Found.{HoldsLoad}
 use Rattle.loader_machine.specs.Commands.{Started}
 use Rattle.loader_machine.specs.Steps.{PutIn, Begins, started_user, dropped_state}
-use Rattle.loader_agrees.specs.Agrees.{Kept, Loaded, outline, outline_of, UserAgrees, Agrees, IsSound}
+use Rattle.loader_machine.specs.Stands.{nowhere}
+use Rattle.loader_agrees.specs.Agrees.{Kept, Loaded, outline, outline_of, UserAgrees, AreBare, Agrees, IsSound}
 use Rattle.loader_agrees.specs.Acts.{IsAdded, started_kept}
 use Rattle.loader_agrees.specs.laws.Begun.{user_agrees, others_agree}
 use Rattle.loader_agrees.specs.laws.BegunSound.{sound_placed}
 use Rattle.loader_agrees.specs.laws.Lists.{set_map, set_at, set_apart, length_set}
 use Rattle.loader_agrees.specs.laws.Seeing.{made_at}
+use Rattle.loader_agrees.specs.laws.Bare.{bare_set}
 use Rattle.sys_loader.specs.declared.answers.Started as answers
 use Rattle.sys_loader.specs.Lives.{HasDropped}
 use Rattle.sys_loader.specs.Restarting.{released_memory, HasBegunAnew}
@@ -97,18 +99,19 @@ module _ (old new : Loaded) (id : ℕ) (kept : Kept) (segments : List Segment) (
       slots = refl;
       users = ap (map (option_map outline)) did.users' ∙ set_map (option_map outline) old.users place (Some its) ∙ ap (λ us. slice_set us place (Some (outline its))) agrees.users
           ∙ sym (set_map (option_map outline_of) state.users place (Some user));
+      bare = subst AreBare (sym did.users') (bare_set old.users agrees.bare id its refl);
       each = λ p k u made' made''. elim (cases_eq p place) [
         | inl eq ↦
             let kept_is : its ≡ k = kept_one its k (sym at_place ∙ ap (slice_get new.users) (sym eq) ∙ made') in
             let user_is : user ≡ u = user_one user u (sym (set_at state.users place (Some user) (omega (arith, inside, lists))) ∙ ap (slice_get (slice_set state.users place (Some user))) (sym eq) ∙ made'') in
             let id_is : id ≡ first_id + p = omega (arith, its_users.1, eq) in
-            subst (λ (n : ℕ). UserAgrees held new.memory n k u) id_is
-            (subst (λ (x : User). UserAgrees held new.memory id k x) user_is (subst (λ (x : Kept). UserAgrees held new.memory id x user) kept_is
-            (user_agrees held dropped new kept.path segments id started.entry without_sound did.placed holds)))
+            subst (λ (n : ℕ). UserAgrees held new.memory nowhere n k u) id_is
+            (subst (λ (x : User). UserAgrees held new.memory nowhere id k x) user_is (subst (λ (x : Kept). UserAgrees held new.memory nowhere id x user) kept_is
+            (user_agrees held dropped new kept.path segments id started.entry without_sound did.placed holds [] nowhere (λ file n. refl))))
         | inr ne ↦
             let was : slice_get dropped.users p ≡ Some (Some k) = sym (at_other p ne) ∙ made' in
             let was' : slice_get (dropped_state state id).users p ≡ Some (Some u) = set_apart state.users place p None ne ∙ sym (set_apart state.users place p (Some user) ne) ∙ made'' in
-            others_agree held dropped new kept.path segments id started.entry without_sound did.placed holds p k u was (without_agrees.each p k u was was')
+            others_agree held dropped new kept.path segments id started.entry without_sound did.placed holds [] nowhere nowhere p k u was (λ file n above. refl) (without_agrees.each p k u was was')
       ];
     }
       where

@@ -106,7 +106,7 @@ settled file load hs user kept old new taken same handles filled = record {
 pub kept_started : (user : User) (load : List Segment) (path : List ℕ) (hs : List Handle) → heads_of user.segments.items ≡ map head_of load → handles_of user.segments.items ≡ spread_handles load hs
     → string_bytes user.path ≡ path → user.life ≡ Running → kept user ≡ started_kept path (map head_of load) hs
 kept_started user load path hs same handles path_is runs =
-    let made : List ℕ → Life → List (Option Handle) → List Head → Kept = λ p l os gs. record { path = p; life = l; handles = os; heads = gs } in
+    let made : List ℕ → Life → List (Option Handle) → List Head → Kept = λ p l os gs. record { path = p; life = l; handles = os; heads = gs; attached = [] } in
     ap (λ (p : List ℕ). made p user.life (handles_of user.segments.items) (heads_of user.segments.items)) path_is
     ∙ ap (λ (l : Life). made path l (handles_of user.segments.items) (heads_of user.segments.items)) runs
     ∙ ap (λ (os : List (Option Handle)). made path Running os (heads_of user.segments.items)) handles

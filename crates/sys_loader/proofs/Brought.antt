@@ -32,6 +32,7 @@ use Rattle.loader_agrees.specs.laws.Keeping.{of_kept}
 use Rattle.loader_agrees.specs.laws.Lists.{set_map}
 use Rattle.loader_agrees.specs.laws.Reads.{head_at, headed}
 use Rattle.loader_agrees.specs.laws.Seeing.{made_at, has_any}
+use Rattle.loader_agrees.specs.laws.Bare.{no_far}
 use Rattle.sys_loader.specs.declared.user.Segment as users
 use Rattle.sys_loader.specs.Renewing.{AreRoomy, AreRenewed}
 use Rattle.sys_loader.specs.Lives.{with_bytes}
@@ -123,8 +124,9 @@ module _ (old : Loaded) (id number : ℕ) (sound : IsSound old.memory old.users)
             static = λ n t there static. refl;
             target = λ table n t there dynamic kept'.
                 let clash : true ≡ false = sym can.dynamic ∙ ap (λ (x : Head). is_dynamic x.kind) (sym (same_head s is)) ∙ (its.table table).static in absurd cc;
+            far = λ table file n above. sym (no_far placed.slots (with_handle can.kept number h).handles file n above);
           } in
-          subst (λ (bytes : List ℕ). IsFront bytes content) (stands_alike load taken.alone number s its bare (setting id placed.slots (with_handle can.kept number h).handles) alike no_pokes) (filled bare s bare_setting is)
+          subst (λ (bytes : List ℕ). IsFront bytes content) (stands_alike load number s its bare (setting id placed.slots (with_handle can.kept number h).handles) alike no_pokes) (filled bare s bare_setting is)
 
   -- ---- room for the tables
 

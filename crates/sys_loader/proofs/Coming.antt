@@ -22,16 +22,17 @@ use Rattle.loader_machine.specs.declared.seen.Life.TheVariants.{Running, Dormant
 use Rattle.loader_machine.specs.Heads.{head_of, at_number, is_static, is_table, want_of}
 use Rattle.loader_machine.specs.State.{Pokes, Held, User, Machine, absent, fresh, no_pokes, first_id, user_of, with_user, held_at}
 use Rattle.loader_machine.specs.Presences.{handle_at, presence, presence_at, there_at, active_at, is_active, lies_in, lies_at}
-use Rattle.loader_machine.specs.Stands.{setting, stands}
+use Rattle.loader_machine.specs.Stands.{nowhere, setting, stands}
 use Rattle.loader_machine.specs.Steps.{with_both, with_segment}
-use Rattle.loader_agrees.specs.Agrees.{Kept, Loaded, Outline, outline, outline_of, UserAgrees, Agrees, IsOf, Has, IsSound}
+use Rattle.loader_agrees.specs.Agrees.{Kept, Loaded, Outline, outline, outline_of, UserAgrees, AreBare, Agrees, IsOf, Has, IsSound}
 use Rattle.loader_agrees.specs.laws.Begun.{decide}
 use Rattle.loader_agrees.specs.laws.BegunSound.{want_size}
-use Rattle.loader_agrees.specs.laws.Frame.{Keeps, Same, Gone, unlocked, agrees_still}
+use Rattle.loader_agrees.specs.laws.Frame.{Keeps, Same, Gone, unlocked}
 use Rattle.loader_agrees.specs.laws.Keeping.{of_kept}
 use Rattle.loader_agrees.specs.laws.Lists.{set_map, set_at, set_apart, length_set}
 use Rattle.loader_agrees.specs.laws.Reads.{head_at}
 use Rattle.loader_agrees.specs.laws.Seeing.{made_at, IsKept, kept_is, has_any}
+use Rattle.loader_agrees.specs.laws.Bare.{bare_still, bare_set}
 use Rattle.sys_loader.specs.Renewing.{AreRenewed}
 use Rattle.sys_loader.specs.Lives.{with_bytes}
 use Rattle.sys_loader.specs.Activating.{with_handle}
@@ -506,11 +507,11 @@ module _ (old new : Loaded) (id number : ℕ) (kept : Kept) (head : Head) (handl
       ];
     }
 
-    pub come_agrees_own : UserAgrees held new.memory id come user'
+    pub come_agrees_own : UserAgrees held new.memory nowhere id come user'
     come_agrees_own = turned_agrees held old.memory new.memory id (Some number) (Some address) kept come is.user user' is.does_agree (sound.short place kept its_users.0) turned
 
-    others_agree : (p : ℕ) (k : Kept) (u : User) → slice_get old.users p ≡ Some (Some k) → p ≢ place → UserAgrees held old.memory (first_id + p) k u → UserAgrees held new.memory (first_id + p) k u
-    others_agree p k u found ne was = agrees_still held old.memory new.memory (first_id + p) k u was (λ n j has.
+    others_agree : (p : ℕ) (k : Kept) (u : User) → slice_get old.users p ≡ Some (Some k) → p ≢ place → UserAgrees held old.memory nowhere (first_id + p) k u → UserAgrees held new.memory nowhere (first_id + p) k u
+    others_agree p k u found ne was = bare_still held old.memory new.memory (first_id + p) k u was (λ n j has.
         let one = has_any old sound p k found n j has in
         let other = apart p n one.0 j one.1 (λ e e'. ne (id_of p e)) in
         moved j (plain_bytes p n one.0 j one.1 other (λ e. absurd (ne e))) (brings.keeps p n one.0 j one.1 other))
@@ -525,13 +526,14 @@ module _ (old new : Loaded) (id number : ℕ) (kept : Kept) (head : Head) (handl
       slots = refl;
       users = ap (map (option_map outline)) users ∙ set_map (option_map outline) old.users place (Some come) ∙ ap (λ us. slice_set us place (Some (outline come))) agrees.users
           ∙ ap (λ (o : Outline). slice_set (map (option_map outline_of) state.users) place (Some o)) outlines ∙ sym (set_map (option_map outline_of) state.users place (Some user'));
+      bare = subst AreBare (sym users) (bare_set old.users agrees.bare id come (agrees.bare place kept its_users.0));
       each = λ p k u found found'. elim (users_now p k found) [
         | inl it ↦
             let within = slice_get_within state.users place (Some is.user) (made_at state.users id is.user is.made).0 in
             let user_same : u ≡ user' = user_one u user' (sym found' ∙ ap (slice_get (slice_set state.users place (Some user'))) it.0 ∙ set_at state.users place (Some user') within) in
             let id_is : id ≡ first_id + p = omega (arith, its_users.1, it.0) in
-            subst (λ (n : ℕ). UserAgrees held new.memory n k u) id_is
-            (subst (λ (x : User). UserAgrees held new.memory id k x) (sym user_same) (subst (λ (x : Kept). UserAgrees held new.memory id x user') (sym it.1) come_agrees_own))
+            subst (λ (n : ℕ). UserAgrees held new.memory nowhere n k u) id_is
+            (subst (λ (x : User). UserAgrees held new.memory nowhere id k x) (sym user_same) (subst (λ (x : Kept). UserAgrees held new.memory nowhere id x user') (sym it.1) come_agrees_own))
         | inr other ↦ others_agree p k u other.1 other.0 (agrees.each p k u other.1 (sym (set_apart state.users place p (Some user') other.0) ∙ found'))
       ];
     }

@@ -20,13 +20,15 @@ use Rattle.loader_machine.specs.Presences.{handle_at, presence, presence_at, the
 use Rattle.loader_machine.specs.Refusals.{shut_down_refusal}
 use Rattle.loader_machine.specs.Commands.{Okay, ShutDown}
 use Rattle.loader_machine.specs.Steps.{dropped_state}
-use Rattle.loader_agrees.specs.Agrees.{Kept, Loaded, outline, outline_of, seen_in, seen_by, UserAgrees, Agrees, IsOf, Has, IsSound, Met}
-use Rattle.loader_agrees.specs.laws.Frame.{Same, agrees_still}
+use Rattle.loader_machine.specs.Stands.{nowhere}
+use Rattle.loader_agrees.specs.Agrees.{Kept, Loaded, outline, outline_of, seen_in, seen_by, UserAgrees, AreBare, Agrees, IsOf, Has, IsSound, Met}
+use Rattle.loader_agrees.specs.laws.Frame.{Same}
 use Rattle.loader_agrees.specs.laws.Lists.{set_map, set_at, set_apart, length_set}
 use Rattle.loader_agrees.specs.laws.Seeing.{made_at, IsKept, kept_is, does, has_any}
 use Rattle.loader_agrees.specs.laws.ScriptBlocks.{released_none}
 use Rattle.loader_agrees.specs.laws.Slotted.{live_block}
 use Rattle.loader_agrees.specs.laws.Stay.{get_is, in_slot, slot_map, is_there}
+use Rattle.loader_agrees.specs.laws.Bare.{bare_still, bare_gone}
 use Rattle.sys_loader.specs.Lives.{HasDropped}
 use Rattle.sys_loader.proofs.Shifting.{there_block}
 
@@ -180,8 +182,8 @@ module _ (old new : Loaded) (id : ℕ) (sound : IsSound old.memory old.users) (d
     abbrev next : Machine
     next = dropped_state state id
 
-    still : (p : ℕ) (kept : Kept) (user : User) → slice_get old.users p ≡ Some (Some kept) → p ≢ place → UserAgrees held old.memory (first_id + p) kept user → UserAgrees held new.memory (first_id + p) kept user
-    still p kept user made ne was = agrees_still held old.memory new.memory (first_id + p) kept user was (λ n h found.
+    still : (p : ℕ) (kept : Kept) (user : User) → slice_get old.users p ≡ Some (Some kept) → p ≢ place → UserAgrees held old.memory nowhere (first_id + p) kept user → UserAgrees held new.memory nowhere (first_id + p) kept user
+    still p kept user made ne was = bare_still held old.memory new.memory (first_id + p) kept user was (λ n h found.
         let one = has_any old sound p kept made n h found in Same (live_before p n one.0 h one.1 ne) (bytes_same h))
 
     pub agrees_next : Agrees held new (dropped_state state id)
@@ -190,6 +192,7 @@ module _ (old new : Loaded) (id : ℕ) (sound : IsSound old.memory old.users) (d
       slots = did.slots ∙ ap (λ (t : Slots). without_user t id) agrees.slots;
       users = ap (map (option_map outline)) did.users ∙ set_map (option_map outline) old.users place None ∙ ap (λ us. slice_set us place None) agrees.users
           ∙ sym (set_map (option_map outline_of) state.users place None);
+      bare = subst AreBare (sym did.users) (bare_gone old.users agrees.bare id);
       each = λ p kept user made made'.
           let was = before p kept made in
           still p kept user was.0 was.1 (agrees.each p kept user was.0 (sym (set_apart state.users place p None was.1) ∙ made'));

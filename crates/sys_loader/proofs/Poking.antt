@@ -21,7 +21,7 @@ use Rattle.loader_machine.specs.declared.seen.Head.{Head}
 use Rattle.loader_machine.specs.Heads.{head_of, at_number, is_table}
 use Rattle.loader_machine.specs.State.{Seen, Held, User, Machine, no_pokes, first_id, handles_of, held_at}
 use Rattle.loader_machine.specs.Presences.{handle_at, presence, is_active}
-use Rattle.loader_machine.specs.Stands.{stands, setting}
+use Rattle.loader_machine.specs.Stands.{nowhere, stands, setting}
 use Rattle.loader_machine.specs.laws.StandsLaws.{stands_long}
 use Rattle.loader_machine.specs.laws.PokeLaws.{poked_begins}
 use Rattle.loader_machine.specs.Refusals.{Refuse, of_user, of_running, of_segment, of_active, of_plain, of_inside, poke_refusal}
@@ -33,7 +33,8 @@ use Rattle.loader_agrees.specs.laws.Checking.{active_none, active_passes, inside
 use Rattle.loader_agrees.specs.laws.Lists.{set_map, set_same, set_at, set_apart, length_set, set_like}
 use Rattle.loader_agrees.specs.laws.Seeing.{made_at, IsKept, kept_is, refuses, does, has, block_room, has_any}
 use Rattle.loader_agrees.specs.laws.Reads.{head_at}
-use Rattle.loader_agrees.specs.laws.Frame.{Same, agrees_still}
+use Rattle.loader_agrees.specs.laws.Frame.{Same}
+use Rattle.loader_agrees.specs.laws.Bare.{bare_still}
 use Rattle.sys_loader.specs.Replies.{done_reply}
 use Rattle.sys_loader.specs.Lives.{with_bytes, with_byte, CanPoke, DidPoke}
 
@@ -205,7 +206,7 @@ module _ (held : FileMap) (old : Loaded) (state : Machine) (id number at byte : 
           rw back (set_like (λ (held : Held). held.handle) is.user.segments k (record (held_at is.user (suc k)) { pokes = insert was.pokes at byte }) (absent_one) (omega (arith, within)) refl)
 
   outline_with : List (Option Handle) → Outline
-  outline_with hs = record { path = is.user.path; life = is.user.life; handles = hs }
+  outline_with hs = record { path = is.user.path; life = is.user.life; handles = hs; attached = is.user.attached }
 
   outlines_same : outline_of is.user ≡ outline_of (with_segment is.user number now)
   unfolding outline_with
@@ -225,7 +226,7 @@ module _ (held : FileMap) (old : Loaded) (state : Machine) (id number at byte : 
   its_users = made_at old.users id can.is.kept can.is.made
 
   -- the user agrees
-  user_agrees : UserAgrees held new.memory id can.is.kept (with_segment is.user number now)
+  user_agrees : UserAgrees held new.memory nowhere id can.is.kept (with_segment is.user number now)
   user_agrees = record {
     same = is.does_agree.same ∙ outlines_same;
     segments = is.does_agree.segments;
@@ -261,9 +262,9 @@ module _ (held : FileMap) (old : Loaded) (state : Machine) (id number at byte : 
   }
 
   -- and so do the others
-  others_agree : (place' : ℕ) (kept : Kept) (user : User) → slice_get old.users place' ≡ Some (Some kept) → place' ≢ place → UserAgrees held old.memory (first_id + place') kept user
-      → UserAgrees held new.memory (first_id + place') kept user
-  others_agree place' kept user made ne was' = agrees_still held old.memory new.memory (first_id + place') kept user was'
+  others_agree : (place' : ℕ) (kept : Kept) (user : User) → slice_get old.users place' ≡ Some (Some kept) → place' ≢ place → UserAgrees held old.memory nowhere (first_id + place') kept user
+      → UserAgrees held new.memory nowhere (first_id + place') kept user
+  others_agree place' kept user made ne was' = bare_still held old.memory new.memory (first_id + place') kept user was'
       (λ n k found. Same refl (λ there. others_bytes old.memory h.slot (slice_set (bytes_at old.memory h.slot) at byte) k.slot (apart place' kept made n k found (λ p e. ne p))))
 
   state_users : slice_get state.users place ≡ Some (Some is.user)
@@ -277,14 +278,15 @@ module _ (held : FileMap) (old : Loaded) (state : Machine) (id number at byte : 
         ∙ ap (λ (o : Outline). slice_set (map (option_map outline_of) state.users) place (Some o)) (sym outlines_same)
         ∙ sym (set_map (option_map outline_of) state.users place (Some is.user))
         ∙ ap (map (option_map outline_of)) (set_same state.users place (Some is.user) state_users));
+    bare = agrees.bare;
     each = λ place' kept user made made'. elim (cases_eq place' place) [
       | inl eq ↦
           let kept_is' : kept ≡ can.is.kept = cc (made, its_users.0, ap (slice_get old.users) eq) in
           let inside = slice_get_within state.users place (Some is.user) state_users in
           let user_is' : with_segment is.user number now ≡ user = cc (made', ap (slice_get next.users) eq, set_at state.users place (Some (with_segment is.user number now)) inside) in
           let id_is : id ≡ first_id + place' = omega (arith, its_users.1) in
-          subst (λ (n : ℕ). UserAgrees held new.memory n kept user) id_is
-          (subst (λ (u : User). UserAgrees held new.memory id kept u) user_is' (subst (λ (k : Kept). UserAgrees held new.memory id k (with_segment is.user number now)) (sym kept_is') user_agrees))
+          subst (λ (n : ℕ). UserAgrees held new.memory nowhere n kept user) id_is
+          (subst (λ (u : User). UserAgrees held new.memory nowhere id kept u) user_is' (subst (λ (k : Kept). UserAgrees held new.memory nowhere id k (with_segment is.user number now)) (sym kept_is') user_agrees))
       | inr ne ↦ others_agree place' kept user made ne (agrees.each place' kept user made (sym (set_apart state.users place place' (Some (with_segment is.user number now)) ne) ∙ made'))
     ];
   }

@@ -23,7 +23,7 @@ use Rattle.loader_machine.specs.Heads.{head_of, at_number, is_static, entry_in}
 use Rattle.loader_machine.specs.State.{Seen, first_id, user_of, with_user}
 use Rattle.loader_machine.specs.Presences.{handle_at, presence, presence_at, is_there, is_active, active_at}
 use Rattle.loader_machine.specs.Refusals.{restart_refusal}
-use Rattle.loader_machine.specs.Stands.{place_in, setting, target_in}
+use Rattle.loader_machine.specs.Stands.{nowhere, place_in, setting, target_with}
 use Rattle.loader_machine.specs.Steps.{active_block, changed_all, static_handles, is_read_again}
 use Rattle.loader_agrees.specs.Agrees.{Kept, Loaded, Has, IsSound}
 use Rattle.loader_agrees.specs.laws.Lists.{number_map}
@@ -189,14 +189,14 @@ module _ (old : Loaded) (id : ℕ) (user : User) (sound : IsSound old.memory old
       by_place (Idle h a) e = refl
       by_place (Active h a) e = absurd cc
 
-  no_target : user.life ≡ Dormant → (file n : ℕ) → target_in old.memory.slots (handles_of items) file n ≡ None
+  no_target : user.life ≡ Dormant → (file n : ℕ) → target_with nowhere old.memory.slots (handles_of items) file n ≡ None
   no_target rests file n = go (file == 1) (none_active rests n)
     where
       go : (b : Bool) → active_at (presence_at old.memory.slots (handles_of items) n) ≡ None → cond b (active_at (presence_at old.memory.slots (handles_of items) n)) None ≡ None
       go true e = e
       go false e = refl
 
-  no_targets : user.life ≡ Dormant → (ts : List Target) → AllByRecursion (λ (t : Target). target_in old.memory.slots (handles_of items) t.file t.segment ≡ None) ts
+  no_targets : user.life ≡ Dormant → (ts : List Target) → AllByRecursion (λ (t : Target). target_with nowhere old.memory.slots (handles_of items) t.file t.segment ≡ None) ts
   no_targets rests [] = tt
   no_targets rests (t ∷ ts) = (no_target rests t.file t.segment, no_targets rests ts)
 

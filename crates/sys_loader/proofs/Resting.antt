@@ -21,18 +21,19 @@ use Rattle.loader_machine.specs.declared.seen.Presence.TheVariants.{Absent, Purg
 use Rattle.loader_machine.specs.Heads.{head_of, at_number, is_static, is_table}
 use Rattle.loader_machine.specs.State.{Seen, User, Machine, first_id, user_of, with_user}
 use Rattle.loader_machine.specs.Presences.{handle_at, presence, presence_at, there_at, active_at, is_active, lies_in, lies_at}
-use Rattle.loader_machine.specs.Stands.{setting}
+use Rattle.loader_machine.specs.Stands.{nowhere, setting}
 use Rattle.loader_machine.specs.Refusals.{of_user, of_running, shut_down_refusal}
 use Rattle.loader_machine.specs.Commands.{Okay, ShutDown}
 use Rattle.loader_machine.specs.Steps.{let_go, changed_all, kept_state}
-use Rattle.loader_agrees.specs.Agrees.{Kept, Loaded, Outline, outline, outline_of, seen_by, UserAgrees, Agrees, IsOf, Has, IsSound, Met}
+use Rattle.loader_agrees.specs.Agrees.{Kept, Loaded, Outline, outline, outline_of, seen_by, UserAgrees, AreBare, Agrees, IsOf, Has, IsSound, Met}
 use Rattle.loader_agrees.specs.laws.Begun.{decide}
 use Rattle.loader_agrees.specs.laws.Checks.{PassesRunning, StopsRunning}
-use Rattle.loader_agrees.specs.laws.Frame.{Same, agrees_still}
+use Rattle.loader_agrees.specs.laws.Frame.{Same}
 use Rattle.loader_agrees.specs.laws.Lists.{set_map, set_at, set_apart, length_set}
 use Rattle.loader_agrees.specs.laws.Reads.{head_at}
 use Rattle.loader_agrees.specs.laws.Seeing.{made_at, IsKept, kept_is, does, has_any}
 use Rattle.loader_agrees.specs.laws.Stay.{is_there}
+use Rattle.loader_agrees.specs.laws.Bare.{bare_still, bare_set}
 use Rattle.sys_loader.specs.Renewing.{AreRenewed}
 use Rattle.sys_loader.specs.Lives.{AreIdled, HasKept}
 use Rattle.sys_loader.proofs.Shifting.{there_block}
@@ -342,14 +343,14 @@ module _ (old new : Loaded) (id : ℕ) (sound : IsSound old.memory old.users) (d
       each = λ there n s k found has present. becomes n s k found has present;
     }
 
-    user_agrees : UserAgrees held new.memory id rests user'
+    user_agrees : UserAgrees held new.memory nowhere id rests user'
     user_agrees = turned_agrees held old.memory new.memory id None None kept rests is.user user' is.does_agree (sound.short place kept its_users.0) turned
 
     abbrev next : Machine
     next = kept_state state id is.user
 
-    others_agree : (p : ℕ) (k : Kept) (u : User) → slice_get old.users p ≡ Some (Some k) → p ≢ place → UserAgrees held old.memory (first_id + p) k u → UserAgrees held new.memory (first_id + p) k u
-    others_agree p k u made ne was = agrees_still held old.memory new.memory (first_id + p) k u was (λ n j found.
+    others_agree : (p : ℕ) (k : Kept) (u : User) → slice_get old.users p ≡ Some (Some k) → p ≢ place → UserAgrees held old.memory nowhere (first_id + p) k u → UserAgrees held new.memory nowhere (first_id + p) k u
+    others_agree p k u made ne was = bare_still held old.memory new.memory (first_id + p) k u was (λ n j found.
         let one = has_any old sound p k made n j found in
         Same (other_get p n one.0 j one.1 ne) (λ there. bytes_middle j there ∙ plain_bytes p n one.0 j one.1 (λ e. absurd (ne e))))
 
@@ -362,13 +363,14 @@ module _ (old new : Loaded) (id : ℕ) (sound : IsSound old.memory old.users) (d
       slots = slots_are ∙ ap (λ (t : Slots). changed_all let_go t kept.handles) agrees.slots ∙ ap (λ (o : Outline). changed_all let_go state.slots o.handles) is.does_agree.same;
       users = ap (map (option_map outline)) did.users ∙ set_map (option_map outline) old.users place (Some rests) ∙ ap (λ us. slice_set us place (Some (outline rests))) agrees.users
           ∙ ap (λ (o : Outline). slice_set (map (option_map outline_of) state.users) place (Some o)) turned.same ∙ sym (set_map (option_map outline_of) state.users place (Some user'));
+      bare = subst AreBare (sym did.users) (bare_set old.users agrees.bare id rests (agrees.bare place kept its_users.0));
       each = λ p k u made made'. elim (users_now p k made) [
         | inl it ↦
             let inside = slice_get_within state.users place (Some is.user) state_users in
             let user_same : u ≡ user' = user_one u user' (sym made' ∙ ap (slice_get (slice_set state.users place (Some user'))) it.0 ∙ set_at state.users place (Some user') inside) in
             let id_is : id ≡ first_id + p = omega (arith, its_users.1, it.0) in
-            subst (λ (n : ℕ). UserAgrees held new.memory n k u) id_is
-            (subst (λ (x : User). UserAgrees held new.memory id k x) (sym user_same) (subst (λ (x : Kept). UserAgrees held new.memory id x user') (sym it.1) user_agrees))
+            subst (λ (n : ℕ). UserAgrees held new.memory nowhere n k u) id_is
+            (subst (λ (x : User). UserAgrees held new.memory nowhere id k x) (sym user_same) (subst (λ (x : Kept). UserAgrees held new.memory nowhere id x user') (sym it.1) user_agrees))
         | inr other ↦ others_agree p k u other.1 other.0 (agrees.each p k u other.1 (sym (set_apart state.users place p (Some user') other.0) ∙ made'))
       ];
     }

@@ -22,16 +22,17 @@ use Rattle.loader_machine.specs.State.{Held, User, Machine, fresh, absent, no_po
 use Rattle.loader_machine.specs.declared.seen.Presence.{Presence}
 use Rattle.loader_machine.specs.declared.seen.Presence.TheVariants.{Absent, Purged, Idle, Active}
 use Rattle.loader_machine.specs.Presences.{handle_at, presence, presence_at, there_at, active_at, is_active, is_there, lies_in, lies_at}
-use Rattle.loader_machine.specs.Stands.{Setting, setting, stands}
+use Rattle.loader_machine.specs.Stands.{Setting, nowhere, setting, stands}
 use Rattle.loader_machine.specs.laws.StandsLaws.{AreAlike, stands_alike}
 use Rattle.loader_machine.specs.Steps.{active_block, changed_all, are_there, static_handles, is_read_again, read_again, with_both}
-use Rattle.loader_agrees.specs.Agrees.{Kept, Loaded, Outline, outline, outline_of, IsSegments, AreThere, UserAgrees, Agrees, IsOf, Has, IsSound}
+use Rattle.loader_agrees.specs.Agrees.{Kept, Loaded, Outline, outline, outline_of, IsSegments, AreThere, UserAgrees, AreBare, Agrees, IsOf, Has, IsSound}
 use Rattle.loader_agrees.specs.laws.Begun.{decide}
-use Rattle.loader_agrees.specs.laws.Frame.{Same, agrees_still}
+use Rattle.loader_agrees.specs.laws.Frame.{Same}
 use Rattle.loader_agrees.specs.laws.Lists.{set_map, set_at, set_apart, length_set}
 use Rattle.loader_agrees.specs.laws.Reads.{head_at}
 use Rattle.loader_agrees.specs.laws.Seeing.{made_at, IsKept, kept_is, has_any}
 use Rattle.loader_agrees.specs.laws.Stay as stay
+use Rattle.loader_agrees.specs.laws.Bare.{no_far, bare_still, bare_set}
 use Rattle.sys_loader.specs.declared.answers.Started.{Started}
 use Rattle.sys_loader.specs.Restarting.{AreReread, HasResumed}
 use Rattle.sys_loader.proofs.Shifting.{there_block}
@@ -430,10 +431,11 @@ module _ (old new : Loaded) (id : ℕ) (kept : Kept) (started : Started) (sound 
       own = ap (λ (o : Option ℕ). unwrap_or o 0) (sym (there_now n));
       static = λ m t found static. ap (λ (o : Option ℕ). unwrap_or o 0) (sym (there_now m));
       target = λ table m t found dynamic kept'. ap active_at (sym (dynamic_now m (head_of t) (heads_at m t found) (not_static t dynamic)));
+      far = λ table file m above. no_far old.memory.slots kept.handles file m above ∙ sym (no_far new.memory.slots kept.handles file m above);
     }
 
     alike_stands : (n : ℕ) (s : Segment) (pokes : Rattle.loader_machine.specs.State.Pokes) → segment_at is.does_agree.segments n ≡ Some s → stands a pokes s ≡ stands b pokes s
-    alike_stands n s pokes found = stands_alike is.does_agree.segments is.does_agree.holds.taken.alone n s (loadable_has is.does_agree.holds.file is.does_agree.segments is.does_agree.holds.taken.loadable n s found) a b (alike n s) pokes
+    alike_stands n s pokes found = stands_alike is.does_agree.segments n s (loadable_has is.does_agree.holds.file is.does_agree.segments is.does_agree.holds.taken.loadable n s found) a b (alike n s) pokes
 
     pokes_now : (n : ℕ) (s : Segment) → segment_at is.does_agree.segments n ≡ Some s → held_at user' n ≡ cond (is_read_again (head_of s)) (fresh (held_at user n).handle) (held_at user n)
     pokes_now zero s found = absurd cc
@@ -466,9 +468,9 @@ module _ (old new : Loaded) (id : ℕ) (kept : Kept) (started : Started) (sound 
     outlines =
         let new_life : Outline → Outline = λ o. record o { life = Running } in
         ap new_life is.does_agree.same
-        ∙ ap (λ (hs : List (Option Handle)). let o : Outline = record { path = is.user.path; life = Running; handles = hs } in o) (sym (again_handles (map head_of is.does_agree.segments) is.user.segments count))
+        ∙ ap (λ (hs : List (Option Handle)). let o : Outline = record { path = is.user.path; life = Running; handles = hs; attached = is.user.attached } in o) (sym (again_handles (map head_of is.does_agree.segments) is.user.segments count))
 
-    user_agrees : UserAgrees held new.memory id runs user'
+    user_agrees : UserAgrees held new.memory nowhere id runs user'
     user_agrees = record {
       same = outlines;
       segments = is.does_agree.segments;
@@ -480,8 +482,8 @@ module _ (old new : Loaded) (id : ℕ) (kept : Kept) (started : Started) (sound 
       begins = λ there n s h found has present. begins (λ m t found' static. was_there m (head_of t) (heads_at m t found') static) n s h found has present;
     }
 
-    others_agree : (p : ℕ) (k : Kept) (u : User) → slice_get old.users p ≡ Some (Some k) → p ≢ place → UserAgrees held old.memory (first_id + p) k u → UserAgrees held new.memory (first_id + p) k u
-    others_agree p k u made' ne was = agrees_still held old.memory new.memory (first_id + p) k u was (λ n j found.
+    others_agree : (p : ℕ) (k : Kept) (u : User) → slice_get old.users p ≡ Some (Some k) → p ≢ place → UserAgrees held old.memory nowhere (first_id + p) k u → UserAgrees held new.memory nowhere (first_id + p) k u
+    others_agree p k u made' ne was = bare_still held old.memory new.memory (first_id + p) k u was (λ n j found.
         let one = has_any old sound p k made' n j found in
         Same (apart_get p n one.0 j one.1 (λ e. absurd (ne e))) (λ there. bytes_middle j there ∙ plain_bytes p n one.0 j one.1 (λ e. absurd (ne e))))
 
@@ -503,13 +505,14 @@ module _ (old new : Loaded) (id : ℕ) (kept : Kept) (started : Started) (sound 
       slots = next_slots;
       users = ap (map (option_map outline)) did.users' ∙ set_map (option_map outline) old.users place (Some runs) ∙ ap (λ us. slice_set us place (Some (outline runs))) agrees.users
           ∙ ap (λ (o : Outline). slice_set (map (option_map outline_of) state.users) place (Some o)) outlines ∙ sym (set_map (option_map outline_of) state.users place (Some user'));
+      bare = subst AreBare (sym did.users') (bare_set old.users agrees.bare id runs (agrees.bare place kept its_users.0));
       each = λ p k u made' made''. elim (users_now p k made') [
         | inl it ↦
             let inside = slice_get_within state.users place (Some is.user) state_users in
             let user_same : u ≡ user' = user_one u user' (sym made'' ∙ ap (slice_get (slice_set state.users place (Some user'))) it.0 ∙ set_at state.users place (Some user') inside) in
             let id_is : id ≡ first_id + p = omega (arith, its_users.1, it.0) in
-            subst (λ (n : ℕ). UserAgrees held new.memory n k u) id_is
-            (subst (λ (x : User). UserAgrees held new.memory id k x) (sym user_same) (subst (λ (x : Kept). UserAgrees held new.memory id x user') (sym it.1) user_agrees))
+            subst (λ (n : ℕ). UserAgrees held new.memory nowhere n k u) id_is
+            (subst (λ (x : User). UserAgrees held new.memory nowhere id k x) (sym user_same) (subst (λ (x : Kept). UserAgrees held new.memory nowhere id x user') (sym it.1) user_agrees))
         | inr other ↦ others_agree p k u other.1 other.0 (agrees.each p k u other.1 (sym (set_apart state.users place p (Some user') other.0) ∙ made''))
       ];
     }

@@ -21,15 +21,16 @@ use Rattle.loader_machine.specs.declared.seen.Life.TheVariants.{Running, Dormant
 use Rattle.loader_machine.specs.Heads.{head_of, at_number, is_static, is_table}
 use Rattle.loader_machine.specs.State.{User, Machine, first_id, user_of}
 use Rattle.loader_machine.specs.Presences.{handle_at, presence, presence_at, there_at, active_at, is_active, lies_in, lies_at}
-use Rattle.loader_machine.specs.Stands.{setting}
+use Rattle.loader_machine.specs.Stands.{nowhere, setting}
 use Rattle.loader_machine.specs.Steps.{changed, with_slots}
-use Rattle.loader_agrees.specs.Agrees.{Kept, Loaded, outline, UserAgrees, Agrees, IsSegments, IsOf, Has, IsSound}
+use Rattle.loader_agrees.specs.Agrees.{Kept, Loaded, outline, UserAgrees, AreBare, Agrees, IsSegments, IsOf, Has, IsSound}
 use Rattle.loader_agrees.specs.laws.Begun.{decide}
-use Rattle.loader_agrees.specs.laws.Frame.{Same, agrees_still}
+use Rattle.loader_agrees.specs.laws.Frame.{Same}
 use Rattle.loader_agrees.specs.laws.Reads.{head_at}
 use Rattle.loader_agrees.specs.laws.Seeing.{made_at, IsKept, kept_is, has_any}
 use Rattle.loader_agrees.specs.laws.Slotted.{slot_apart, slot_set}
 use Rattle.loader_agrees.specs.laws.Stay.{is_there}
+use Rattle.loader_agrees.specs.laws.Bare.{bare_still}
 use Rattle.sys_loader.specs.Renewing.{is_chosen}
 use Rattle.sys_loader.specs.Lives.{HasShifted}
 use Rattle.sys_loader.proofs.Turned.{Becomes, Stays, Turns, Turned, turned_agrees}
@@ -320,11 +321,11 @@ module _ (old new : Loaded) (id number : ℕ) (kept : Kept) (h : Handle) (change
       each = λ there n s k found has present. becomes n s k found has present;
     }
 
-    user_agrees : UserAgrees held new.memory id kept is.user
+    user_agrees : UserAgrees held new.memory nowhere id kept is.user
     user_agrees = turned_agrees held old.memory new.memory id (Some number) address kept kept is.user is.user is.does_agree (sound.short place kept its_users.0) turned
 
-    others_agree : (p : ℕ) (k : Kept) (user : User) → slice_get old.users p ≡ Some (Some k) → p ≢ place → UserAgrees held old.memory (first_id + p) k user → UserAgrees held new.memory (first_id + p) k user
-    others_agree p k user made' ne was' = agrees_still held old.memory new.memory (first_id + p) k user was' (λ n j found.
+    others_agree : (p : ℕ) (k : Kept) (user : User) → slice_get old.users p ≡ Some (Some k) → p ≢ place → UserAgrees held old.memory nowhere (first_id + p) k user → UserAgrees held new.memory nowhere (first_id + p) k user
+    others_agree p k user made' ne was' = bare_still held old.memory new.memory (first_id + p) k user was' (λ n j found.
         let one = has_any old sound p k made' n j found in
         Same (get_apart j (apart p n one.0 j one.1 (λ e q. ne e))) (λ there. bytes_middle j there ∙ plain_bytes p n one.0 j one.1 (λ e. absurd (ne e))))
 
@@ -333,6 +334,7 @@ module _ (old new : Loaded) (id number : ℕ) (kept : Kept) (h : Handle) (change
       banks = shifted.changes.kept.banks ∙ shifted.renewed.banks ∙ agrees.banks;
       slots = slots_changed ∙ ap (λ (t : Slots). changed change t h) agrees.slots;
       users = ap (map (option_map outline)) shifted.users ∙ agrees.users;
+      bare = subst AreBare (sym shifted.users) agrees.bare;
       each = λ p k user made' made''.
           let old_made : slice_get old.users p ≡ Some (Some k) = ap (λ (us : List (Option Kept)). slice_get us p) (sym shifted.users) ∙ made' in
           elim (cases_eq p place) [
@@ -340,8 +342,8 @@ module _ (old new : Loaded) (id number : ℕ) (kept : Kept) (h : Handle) (change
                 let kept_same : k ≡ kept = kept_one p k old_made eq in
                 let user_same : user ≡ is.user = user_one user is.user (sym made'' ∙ ap (slice_get state.users) eq ∙ (made_at state.users id is.user is.made).0) in
                 let id_is : id ≡ first_id + p = omega (arith, its_users.1, eq) in
-                subst (λ (n : ℕ). UserAgrees held new.memory n k user) id_is
-                (subst (λ (u : User). UserAgrees held new.memory id k u) (sym user_same) (subst (λ (x : Kept). UserAgrees held new.memory id x is.user) (sym kept_same) user_agrees))
+                subst (λ (n : ℕ). UserAgrees held new.memory nowhere n k user) id_is
+                (subst (λ (u : User). UserAgrees held new.memory nowhere id k u) (sym user_same) (subst (λ (x : Kept). UserAgrees held new.memory nowhere id x is.user) (sym kept_same) user_agrees))
             | inr ne ↦ others_agree p k user old_made ne (agrees.each p k user old_made made'')
           ];
     }

@@ -21,7 +21,7 @@ use Rattle.loader_machine.specs.declared.seen.Life.TheVariants.{Running}
 use Rattle.loader_machine.specs.Heads.{head_of, is_static}
 use Rattle.loader_machine.specs.State.{User, no_pokes, held_at}
 use Rattle.loader_machine.specs.Presences.{handle_at, presence_at, there_at, active_at, is_active}
-use Rattle.loader_machine.specs.Stands.{Setting, setting, place_in, entry_for, entries_bytes, read_bytes, stands}
+use Rattle.loader_machine.specs.Stands.{Setting, nowhere, setting, place_in, entry_for, entries_bytes, read_bytes, stands}
 use Rattle.loader_machine.specs.laws.TakenLaws.{own_targets}
 use Rattle.loader_machine.specs.laws.StandsLaws.{AreAlike, stands_alike}
 use Rattle.loader_machine.specs.laws.PokeLaws.{over_none}
@@ -78,7 +78,7 @@ pub number_within : (segments : List Segment) (number : ℕ) (s : Segment) → s
 number_within segments zero s is = omega arith
 number_within segments (suc k) s is = let within = slice_get_within segments k s is in omega (arith, within)
 
-module _ (held : FileMap) (old new : Memory) (id : ℕ) (only address : Option ℕ) (kept kept' : Kept) (user user' : User) (agrees : UserAgrees held old id kept user)
+module _ (held : FileMap) (old new : Memory) (id : ℕ) (only address : Option ℕ) (kept kept' : Kept) (user user' : User) (agrees : UserAgrees held old nowhere id kept user)
     (short : length kept.heads < 2 ^ 16) (turned : Turned old new id only address kept kept' user user' agrees.segments) where
   abbrev a : Setting
   a = setting id old.slots kept.handles
@@ -113,8 +113,9 @@ module _ (held : FileMap) (old new : Memory) (id : ℕ) (only address : Option �
         own = sym place;
         static = λ n t is static. sym (turned.places there n t is static);
         target = λ table n t is dynamic kept''. let clash : true ≡ false = sym table ∙ plain in absurd cc;
+        far = λ table file n above. let clash : true ≡ false = sym table ∙ plain in absurd cc;
       } in
-      let same = stands_alike agrees.segments agrees.holds.taken.alone number s (sound number s found) a b alike (held_at user number).pokes in
+      let same = stands_alike agrees.segments number s (sound number s found) a b alike (held_at user number).pokes in
       rw (pokes, ← same, bytes) before
   begins there number s h found (Turns table handle was bytes) =
       let before = agrees.begins (turned.were there) number s h found handle was in
@@ -125,7 +126,7 @@ module _ (held : FileMap) (old new : Memory) (id : ℕ) (only address : Option �
   begins there number s h found (Anew front) = front
 
   -- the user agrees still
-  pub turned_agrees : UserAgrees held new id kept' user'
+  pub turned_agrees : UserAgrees held new nowhere id kept' user'
   turned_agrees = record {
     same = turned.same;
     segments = agrees.segments;

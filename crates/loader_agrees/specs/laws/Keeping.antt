@@ -14,8 +14,9 @@ use Rattle.loader_machine.specs.Heads.{at_number, is_static}
 use Rattle.loader_machine.specs.State.{Machine, first_id}
 use Rattle.loader_machine.specs.Presences.{handle_at, presence, presence_at, there_at, is_active, lies_in, lies_at}
 use Rattle.loader_machine.specs.Steps.{with_slots}
-use Rattle.loader_agrees.specs.Agrees.{Kept, Loaded, outline, Agrees, IsOf, Has, IsSegments, IsSound}
-use Rattle.loader_agrees.specs.laws.Frame.{Keeps, Same, Gone, AreKept, was_active, not_active_still, agrees_still}
+use Rattle.loader_agrees.specs.Agrees.{Kept, Loaded, outline, AreBare, Agrees, IsOf, Has, IsSegments, IsSound}
+use Rattle.loader_agrees.specs.laws.Frame.{Keeps, Same, Gone, AreKept, was_active, not_active_still}
+use Rattle.loader_agrees.specs.laws.Bare.{bare_still}
 use Rattle.loader_agrees.specs.laws.Seeing.{has_any}
 
 -- each handle of a user's segment is kept
@@ -92,8 +93,9 @@ module _ (held : FileMap) (old new : Loaded) (state : Machine) (sound : IsSound 
     banks = banks ∙ agrees.banks;
     slots = refl;
     users = ap (map (option_map outline)) users ∙ agrees.users;
+    bare = subst AreBare (sym users) agrees.bare;
     each = λ place user made_user made made'.
         let made_old : slice_get old.users place ≡ Some (Some user) = ap (λ (us : List (Option Kept)). slice_get us place) (sym users) ∙ made in
-        agrees_still held old.memory new.memory (first_id + place) user made_user (agrees.each place user made_user made_old made')
+        bare_still held old.memory new.memory (first_id + place) user made_user (agrees.each place user made_user made_old made')
         (handles_kept old new.memory sound kept place user made_old);
   }

@@ -1,5 +1,5 @@
 -- A loader after a user's blocks were purged.
-use Rattle.std.proofs.Common.{◌≡◌, ℕ, Bool, true, false, cond, ◌==◌, ◌+◌, List, [], map, Option, Some, None, IsSome, refl, sym, ap, ◌∙◌, arith}
+use Rattle.std.proofs.Common.{◌≡◌, ℕ, Bool, true, false, cond, ◌==◌, ◌+◌, List, [], map, Option, Some, None, IsSome, refl, sym, ap, subst, ◌∙◌, arith}
 use Rattle.std.specs.Prelude.{◌&&◌, slice_get, option_map, Contains}
 use Rattle.omf_io.specs.Files.{FileMap}
 use Rattle.iigs_meaning.specs.declared.handles.Handle.{Handle}
@@ -15,8 +15,9 @@ use Rattle.loader_machine.specs.State.{Machine, first_id}
 use Rattle.loader_machine.specs.Refusals.{purge_refusal}
 use Rattle.loader_machine.specs.Commands.{Counted, Purge}
 use Rattle.loader_machine.specs.Steps.{with_slots}
-use Rattle.loader_agrees.specs.Agrees.{Kept, Loaded, outline, seen_by, Agrees, IsSound, Met}
-use Rattle.loader_agrees.specs.laws.Frame.{Keeps, Same, Gone, agrees_still}
+use Rattle.loader_agrees.specs.Agrees.{Kept, Loaded, outline, seen_by, AreBare, Agrees, IsSound, Met}
+use Rattle.loader_agrees.specs.laws.Frame.{Keeps, Same, Gone}
+use Rattle.loader_agrees.specs.laws.Bare.{bare_still}
 use Rattle.loader_agrees.specs.laws.Seeing.{has_any, is_seen}
 use Rattle.loader_agrees.specs.laws.Stay.{in_slot, get_is, slot_map, emptied_block, is_there}
 
@@ -53,9 +54,10 @@ module _ (held : FileMap) (old new : Loaded) (state : Machine) (id count : ℕ) 
     banks = is.kept.banks ∙ agrees.banks;
     slots = is.slots ∙ ap (map (emptied_where (can_purge_of id))) agrees.slots;
     users = ap (map (option_map outline)) users ∙ agrees.users;
+    bare = subst AreBare (sym users) agrees.bare;
     each = λ place kept user made made'.
         let made_old : slice_get old.users place ≡ Some (Some kept) = ap (λ (us : List (Option Kept)). slice_get us place) (sym users) ∙ made in
-        agrees_still held old.memory new.memory (first_id + place) kept user (agrees.each place kept user made_old made')
+        bare_still held old.memory new.memory (first_id + place) kept user (agrees.each place kept user made_old made')
         (λ n h found. let one = has_any old sound place kept made_old n h found in
         let of' = sound.each place n one.0 h one.1 in
         let live : IsSome (get old.memory.slots h) = rw of'.live refl in

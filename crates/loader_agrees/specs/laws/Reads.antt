@@ -19,7 +19,7 @@ use Rattle.loader_machine.specs.declared.faults.LoaderFault.{LoaderFault}
 use Rattle.loader_machine.specs.Heads.{head_of, at_number}
 use Rattle.loader_machine.specs.State.{User, Machine, handles_of, held_at}
 use Rattle.loader_machine.specs.Presences.{handle_at, presence, presence_at, there_at, is_active}
-use Rattle.loader_machine.specs.Stands.{setting, stands}
+use Rattle.loader_machine.specs.Stands.{nowhere, setting, stands}
 use Rattle.loader_machine.specs.laws.StandsLaws.{stands_long}
 use Rattle.loader_machine.specs.Found.{HoldsLoad}
 use Rattle.loader_machine.specs.Commands.{Bytes, Info, Where, Shown, SegmentIs, Refused}
@@ -31,6 +31,7 @@ use Rattle.loader_agrees.specs.Acts.{IsActive, HasLent, HasTold, LiesIn}
 use Rattle.loader_agrees.specs.laws.Lists.{number_map}
 use Rattle.loader_agrees.specs.laws.Seeing.{IsKept, kept_is, refuses, does}
 use Rattle.loader_agrees.specs.laws.Apart.{back}
+use Rattle.loader_agrees.specs.laws.Bare.{bare_stands}
 
 pub number_is : (segments : List Segment) (number : ℕ) → at_number segments number ≡ segment_at segments number
 number_is segments zero = refl
@@ -55,7 +56,7 @@ active_there (Idle h a) e = absurd cc
 active_there (Active h a) e = refl
 
 -- while a user runs, its static segments are there
-pub all_there : (held : FileMap) (loader : Loaded) (id : ℕ) (kept : Kept) (user : User) → (agrees : UserAgrees held loader.memory id kept user) → kept.life ≡ Running
+pub all_there : (held : FileMap) (loader : Loaded) (id : ℕ) (kept : Kept) (user : User) → (agrees : UserAgrees held loader.memory nowhere id kept user) → kept.life ≡ Running
     → AreThere loader.memory.slots kept.handles agrees.segments
 all_there held loader id kept user agrees runs number s is static = active_there (presence_at loader.memory.slots kept.handles number) (agrees.statics runs number s is static)
 
@@ -99,7 +100,9 @@ module _ (held : FileMap) (loader : Loaded) (state : Machine) (agrees : Agrees h
       s = its_segment.0;
       is = its_segment.1;
       bytes_are = ap (λ (t : Slots). stands (setting id t is.kept.handles) (held_at user number).pokes its_segment.0) agrees.slots
-          ∙ ap (λ (hs : List (Option Handle)). stands (setting id state.slots hs) (held_at user number).pokes its_segment.0) handles;
+          ∙ ap (λ (hs : List (Option Handle)). stands (setting id state.slots hs) (held_at user number).pokes its_segment.0) handles
+          ∙ bare_stands held loader state agrees id user one.does_agree.segments number its_segment.0
+          (loadable_has one.does_agree.holds.file one.does_agree.segments one.does_agree.holds.taken.loadable number its_segment.0 its_segment.1) (held_at user number).pokes;
     }
 
     pub stands_size : length (stands (setting id loader.memory.slots is.kept.handles) (held_at user number).pokes its_segment.0) ≡ is.head.length
