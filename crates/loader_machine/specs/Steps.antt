@@ -145,6 +145,16 @@ pub record Begins (Makes : MakesRoom) (state : Machine) (slots : Slots) (path : 
 
 -- ---- load
 
+-- a running user that is attached to another: none of its segments is there
+abbrev pub joined_user : List ℕ → List Head → User
+joined_user path heads = record { path = path; life = Running; segments = map (λ head. absent) heads; attached = [] }
+
+-- the same for each row
+abbrev pub joined_users : List (List ℕ) → List (List Segment) → List (Option User)
+joined_users [] all = []
+joined_users (path ∷ paths) [] = []
+joined_users (path ∷ paths) (segments ∷ all) = Some (joined_user path (map head_of segments)) ∷ joined_users paths all
+
 -- by what the read of the path finds
 abbrev pub LoadsFound : MakesRoom → Machine → List ℕ → Found → Reply → Machine → Type 0
 LoadsFound Makes state path Unread reply next = (reply ≡ Refused CannotRead) × (next ≡ state)

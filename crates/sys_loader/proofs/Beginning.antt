@@ -159,8 +159,8 @@ module _ (old : Loaded) (memory middle new : Memory) (users' users'' : List (Opt
   pub started : HasBegun old path load id entry (loaded new users'')
   started = subst (λ (l : Loaded). HasBegun l path load id entry (loaded new users'')) (sym view) (subst (λ (us : List (Option User)). HasBegun (loaded memory users') path load id entry (loaded new us)) (sym pushed) as_begun)
 
-  pub started_sound : IsSound memory (map (option_map kept) users') → IsSound new (map (option_map kept) users'')
-  started_sound sound = subst (λ (us : List (Option User)). IsSound new (map (option_map kept) us)) (sym pushed) (sound_begun (loaded memory users') (loaded new (users' ++ Some user ∷ [])) path load id entry sound as_begun)
+  pub started_sound : IsSound memory (map (option_map kept) users') → (file : List ℕ) → IsTaken file load → IsSound new (map (option_map kept) users'')
+  started_sound sound file taken = subst (λ (us : List (Option User)). IsSound new (map (option_map kept) us)) (sym pushed) (sound_begun (loaded memory users') (loaded new (users' ++ Some user ∷ [])) path load id entry sound as_begun file taken)
 
 -- the handles that were given, as the list of them holds them
 pub same_handles : (banks : List ℕ) (user : ℕ) (slots last : Slots) (wants wants' : List Want) (hs given old : List Handle) (len : ℕ) → PutsAll Purges banks user slots wants given last → wants ≡ wants'

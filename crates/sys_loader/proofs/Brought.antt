@@ -188,7 +188,7 @@ module _ (old : Loaded) (id number : ℕ) (sound : IsSound old.memory old.users)
 
     come_at : (last : Loaded) (items : List users.Segment) (file : List ℕ) (load : List Segment) (places : List (Option ℕ)) (filled new : Memory) (count : ℕ) → handles_of items ≡ k.handles → IsTaken file load
         → map head_of load ≡ k.heads → count ≡ length k.heads → places ≡ slice_set (addresses placed.slots items) (number - 1) (Some address) → IsWritten load number id places placed h filled
-        → AreRenewed k.heads k.handles (Some number) (Some address) filled new count → last.memory ≡ new → last.users ≡ with_user old.users id (Some (with_handle k number h))
+        → AreRenewed k.heads k.handles (Some (1, number)) (Some address) filled new count → last.memory ≡ new → last.users ≡ with_user old.users id (Some (with_handle k number h))
         → HasCome old id number k head handle load address last
     come_at last items file load places filled new count handles taken heads long at_places written renewed memory users' = record {
       h = h;
@@ -200,9 +200,9 @@ module _ (old : Loaded) (id number : ℕ) (sound : IsSound old.memory old.users)
           subst (λ (x : Kept). IsFront (stands (setting id placed.slots (with_handle x number h).handles) no_pokes s) written.content) same_kept
           (begins items (handles ∙ ap (λ (x : Kept). x.handles) (sym same_kept)) file load taken (heads ∙ ap (λ (x : Kept). x.heads) (sym same_kept)) written.content
           (subst (λ (ps : List (Option ℕ)). IsFilled load number id ps written.content) at_places written.filled) s is);
-      renewed = subst (λ (m : Memory). AreRenewed k.heads k.handles (Some number) (Some address) (with_bytes placed h.slot written.content) m (length k.heads)) (sym memory)
-          (subst (AreRenewed k.heads k.handles (Some number) (Some address) (with_bytes placed h.slot written.content) new) long
-          (subst (λ (m : Memory). AreRenewed k.heads k.handles (Some number) (Some address) m new count) written.new_is renewed));
+      renewed = subst (λ (m : Memory). AreRenewed k.heads k.handles (Some (1, number)) (Some address) (with_bytes placed h.slot written.content) m (length k.heads)) (sym memory)
+          (subst (AreRenewed k.heads k.handles (Some (1, number)) (Some address) (with_bytes placed h.slot written.content) new) long
+          (subst (λ (m : Memory). AreRenewed k.heads k.handles (Some (1, number)) (Some address) m new count) written.new_is renewed));
       users = users';
     }
 
@@ -215,7 +215,7 @@ module _ (old : Loaded) (id number : ℕ) (sound : IsSound old.memory old.users)
 
   pub has_come : (k : Kept) → user_of old.users id ≡ Some k → (last : Loaded) (items : List users.Segment) (file : List ℕ) (load : List Segment) (others places : List (Option ℕ)) (m n : ℕ) (filled new : Memory)
       → heads_of items ≡ k.heads → handles_of items ≡ k.handles → IsTaken file load → map head_of load ≡ k.heads → others ≡ addresses placed.slots items → m ≡ number → places ≡ slice_set others (m - 1) (Some address)
-      → n ≡ number → IsWritten load n id places placed h filled → AreRenewed k.heads k.handles (Some number) (Some address) filled new (length items) → last.memory ≡ new
+      → n ≡ number → IsWritten load n id places placed h filled → AreRenewed k.heads k.handles (Some (1, number)) (Some address) filled new (length items) → last.memory ≡ new
       → last.users ≡ with_user old.users id (Some (with_handle k number h)) → HasCome old id number k head handle load address last
   has_come k made last items file load others places m n filled new heads handles taken same others_so m_so placed_so n_so written renewed memory users' =
       come_at old id number sound head handle can h address placed brought_there k made last items file load places filled new (length items) handles taken same (sym (length-map items (λ s. s.head)) ∙ ap length heads)
