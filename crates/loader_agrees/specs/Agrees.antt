@@ -19,7 +19,7 @@ use Rattle.loader_machine.specs.declared.faults.LoaderFault.TheVariants as refus
 use Rattle.loader_machine.specs.Heads.{head_of, at_number, is_static}
 use Rattle.loader_machine.specs.Heads.{is_table as is_table_head}
 pub use Rattle.loader_machine.specs.State.{Outline, outline_of, outlines}
-use Rattle.loader_machine.specs.State.{User, Machine, Seen, attached_at, named_by, no_pokes, first_id, max_users, user_of, handles_of, held_at}
+use Rattle.loader_machine.specs.State.{User, Machine, Seen, attached_at, named_by, no_pokes, first_id, max_users, user_of, held_at}
 use Rattle.loader_machine.specs.Presences.{handle_at, presence, presence_at, there_at, is_active}
 use Rattle.loader_machine.specs.Stands.{Far, setting_with, far_of, stands}
 use Rattle.loader_machine.specs.Found.{HoldsLoad}

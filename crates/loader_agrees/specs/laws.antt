@@ -14,7 +14,6 @@ pub mod Keeping
 pub mod ScriptBlocks
 pub mod Checking
 pub mod Joining
-pub mod Families
 pub mod Empty
 pub mod BegunSound
 pub mod BegunRows

@@ -4,7 +4,6 @@ use Rattle.std.specs.Prelude.{slice_get}
 use Rattle.std.specs.Option.{option_map}
 use Rattle.std.specs.List.{AllByRecursion}
 use Rattle.std.proofs.lemmas.Option.{same_Some}
-use Rattle.omf_format.specs.Header.{is_dynamic, is_skipped}
 use Rattle.omf_format.specs.File.{Segment, segment_at}
 use Rattle.omf_io.specs.Counts.{IsFront}
 use Rattle.omf_io.specs.Files.{FileMap}
@@ -23,9 +22,8 @@ use Rattle.iigs_meaning.specs.Puts.{Purges}
 use Rattle.iigs_meaning.specs.Memory.{bytes_at}
 use Rattle.loader_machine.specs.declared.faults.LoaderFault.{LoaderFault}
 use Rattle.loader_machine.specs.declared.seen.Head.{Head}
-use Rattle.loader_machine.specs.declared.seen.Life.TheVariants.{Running}
 use Rattle.loader_machine.specs.Heads.{head_of, at_number, is_table}
-use Rattle.loader_machine.specs.State.{Machine, Seen, first_id, handles_of, held_at}
+use Rattle.loader_machine.specs.State.{Machine, first_id, handles_of, held_at}
 use Rattle.loader_machine.specs.declared.seen.Presence.{Presence}
 use Rattle.loader_machine.specs.declared.seen.Presence.TheVariants.{Absent, Purged, Idle, Active}
 use Rattle.loader_machine.specs.Presences.{presence, presence_at, there_at, lies_in, lies_at}
@@ -47,6 +45,7 @@ use Rattle.sys_loader.specs.Activating.{CanLoad, HasCome, HasActivated, DidActiv
 use Rattle.sys_loader.specs.Following.{jsl_reply, HasJsl, IsEntry, IsJslRefusal, NoBytes, NoJsl, NoPlace, NoEntry, EntersPlace, entered_at, DidJsl, Stops, Leads, Calls}
 use Rattle.sys_loader.proofs.Activated.{IsMet, activated, presence_same}
 use Rattle.sys_loader.proofs.Came.{is_new}
+use Rattle.sys_loader.proofs.Reaching.{passes_all}
 use Rattle.sys_loader.proofs.Entries.{found_code, no_code}
 use Rattle.loader_agrees.specs.laws.EntryReads.{segment_read, offset_read, table_stands, targets_count, number_within}
 
@@ -57,12 +56,6 @@ decided r state reply next Done is done = rw is done
 
 stopped : (r : Refuse) (why : LoaderFault) (state : Machine) (Done : Type 0) → r ≡ Some why → Decides r state (Refused why) state Done
 stopped r why state Done is = rw is (refl, refl)
-
--- a dynamic segment of a user that runs can be made active
-passes_all : (seen : Seen) (number : ℕ) (head : Head) → seen.life ≡ Running → at_number seen.heads number ≡ Some head → is_skipped head.kind ≡ false → is_dynamic head.kind ≡ true
-    → load_segment_refusal (Some seen) number ≡ None
-unfolding load_segment_refusal
-passes_all seen number head runs head' kept dynamic = rw (runs, head', kept, dynamic) refl
 
 module _ (held : FileMap) (old : Loaded) (state : Machine) (sound : IsSound old.memory old.users) (agrees : Agrees held old state) where
   -- ---- the four bytes

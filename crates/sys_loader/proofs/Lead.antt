@@ -1,8 +1,7 @@
 -- The targets of a table stay while its entries follow.
-use Rattle.std.proofs.Common.{◌≡◌, inl, inr, ℕ, zero, suc, Bool, true, false, cond, ◌+◌, ◌*◌, ◌<◌, ◌≤◌, List, length, Option, refl, sym, ap, ◌∙◌, arith}
+use Rattle.std.proofs.Common.{◌≡◌, inl, inr, ℕ, zero, suc, Bool, true, false, cond, ◌+◌, ◌≤◌, List, length, Option, refl, ◌∙◌, arith}
 use Rattle.std.proofs.lemmas.Bool.{cases_lt}
 use Rattle.omf_format.specs.Number.{number_at}
-use Rattle.load_meaning.specs.declared.table.Target.{Target}
 use Rattle.load_meaning.specs.Table.{entry_start, written_at}
 use Rattle.load_meaning.specs.laws.TableLaws.{length-written_at, written-before, written-behind, length-code_bytes}
 use Rattle.load_meaning.specs.LoadTable.{target_at}

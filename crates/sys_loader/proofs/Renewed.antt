@@ -7,7 +7,7 @@ use Rattle.omf_format.specs.Number.{number_at}
 use Rattle.omf_io.specs.Counts.{IsFront}
 use Rattle.load_meaning.specs.declared.table.Target.{Target}
 use Rattle.load_meaning.specs.declared.table.Entry.{Entry}
-use Rattle.load_meaning.specs.Table.{entry_start, table_bytes, code_bytes, written_at}
+use Rattle.load_meaning.specs.Table.{entry_start, table_bytes, written_at}
 use Rattle.loader_machine.specs.Stands.{Setting, entry_for}
 use Rattle.loader_agrees.specs.laws.EntryBytes.{file_is, segment_is, offset_is, code_set}
 use Rattle.sys_loader.specs.Renewing.{Choice, is_chosen, code_for, renewed_at, renewed}

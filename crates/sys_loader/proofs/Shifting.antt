@@ -1,5 +1,5 @@
 -- A loader after a user's segment woke or idled.
-use Rattle.std.proofs.Common.{◌≡◌, ◌≢◌, ◌⊎◌, inl, inr, ℕ, zero, suc, Bool, true, false, cond, ◌==◌, ◌+◌, ◌-◌, ◌^◌, ◌<◌, ◌≤◌, List, [], length, map, Option, Some, None, IsSome, refl, sym, ap, subst, ◌∙◌, arith}
+use Rattle.std.proofs.Common.{◌≡◌, ◌≢◌, ◌⊎◌, inl, inr, ℕ, zero, suc, Bool, true, false, cond, ◌==◌, ◌+◌, ◌-◌, ◌^◌, ◌<◌, ◌≤◌, List, [], length, Option, Some, None, IsSome, refl, sym, ap, subst, ◌∙◌, arith}
 use Rattle.std.specs.Prelude.{slice_get, slice_set, option_map, unwrap_or, not, ◌&&◌, Contains}
 use Rattle.std.specs.Option.{option_map_or, option_and_then}
 use Rattle.std.proofs.lemmas.Option.{same_Some, slice_get_within}
@@ -29,7 +29,7 @@ use Rattle.load_meaning.specs.LoadTable.{targets_of, target_at, entry_count}
 use Rattle.load_meaning.specs.Table.{entry_start}
 use Rattle.std.specs.List.{AllByRecursion}
 use Rattle.loader_machine.specs.Steps.{changed, with_slots}
-use Rattle.loader_agrees.specs.Agrees.{Kept, Loaded, outline, kept_outlines, far_in, UserAgrees, EntriesLead, AreAttached, AreBare, IsCall, Agrees, IsSegments, IsOf, Has, IsSound}
+use Rattle.loader_agrees.specs.Agrees.{Kept, Loaded, outline, kept_outlines, UserAgrees, EntriesLead, AreAttached, AreBare, IsCall, Agrees, IsSegments, IsOf, Has, IsSound}
 use Rattle.loader_agrees.specs.laws.Bare.{bare_row}
 use Rattle.loader_agrees.specs.laws.Begun.{decide}
 use Rattle.loader_agrees.specs.laws.Frame.{Same, agrees_still}
@@ -37,7 +37,7 @@ use Rattle.loader_agrees.specs.laws.Reads.{head_at}
 use Rattle.loader_agrees.specs.laws.Seeing.{made_at, user_is, IsKept, kept_is, has_any}
 use Rattle.loader_agrees.specs.laws.Slotted.{slot_apart, slot_set}
 use Rattle.loader_agrees.specs.laws.Stay.{is_there}
-use Rattle.sys_loader.specs.Renewing.{Choice, is_chosen, renewed}
+use Rattle.sys_loader.specs.Renewing.{is_chosen, renewed}
 use Rattle.sys_loader.proofs.Lead.{target_stays as target_kept}
 use Rattle.sys_loader.specs.Lives.{HasShifted}
 use Rattle.sys_loader.proofs.Turned.{Becomes, Stays, Turns, Turned, Leads, turned_agrees}

@@ -4,7 +4,7 @@ use Rattle.std.specs.Prelude.{slice_get, slice_set, option_map, position, not, â
 use Rattle.std.specs.List.{prefix_len}
 use Rattle.std.specs.Option.{option_map_or, option_and_then}
 use Rattle.std.proofs.lemmas.Option.{same_Some, slice_get_within}
-use Rattle.std.proofs.lemmas.List.{get_or-set_same, length-map, length-append, map-append}
+use Rattle.std.proofs.lemmas.List.{get_or-set_same, length-map, length-append}
 use Rattle.std.proofs.lemmas.List.Quantifiers.{position-Some}
 use Rattle.std.proofs.lemmas.Bool.Decides.{nat_tests}
 use Rattle.omf_format.specs.File.{Segment, segment_at}
@@ -22,16 +22,15 @@ use Rattle.iigs_meaning.specs.Puts.{Purges, Puts, PutsAll, placed}
 use Rattle.iigs_meaning.specs.Memory.{Memory}
 use Rattle.loader_machine.specs.declared.seen.Head.{Head}
 use Rattle.loader_machine.specs.Heads.{head_of, at_number, is_static, wants_of}
-use Rattle.loader_machine.specs.State.{Held, User, Machine, absent, no_pokes, first_id, max_users, held_at}
+use Rattle.loader_machine.specs.State.{Held, User, absent, no_pokes, first_id, max_users, held_at}
 use Rattle.loader_machine.specs.Presences.{handle_at, presence, presence_at, there_at, is_active}
-use Rattle.loader_machine.specs.Found.{HoldsLoad, Good}
-use Rattle.loader_machine.specs.Commands.{Started, Load}
+use Rattle.loader_machine.specs.Found.{HoldsLoad}
 use Rattle.loader_machine.specs.Refusals.{load_refusal}
-use Rattle.loader_machine.specs.Steps.{PutIn, Begins, Steps, spread, started_user}
+use Rattle.loader_machine.specs.Steps.{spread, started_user}
 use Rattle.loader_machine.specs.Stands.{Far, nowhere, setting, setting_with, target_with}
 use Rattle.loader_machine.specs.laws.StandsLaws.{AreAlike, stands_alike}
 use Rattle.load_meaning.specs.laws.CellLaws.{loadable_has}
-use Rattle.loader_agrees.specs.Agrees.{Kept, Loaded, Outline, outline, outline_of, UserAgrees, Agrees, IsSound, Met}
+use Rattle.loader_agrees.specs.Agrees.{Kept, Loaded, UserAgrees, IsSound}
 use Rattle.loader_agrees.specs.laws.Frame.{Keeps, Same, Gone, agrees_still}
 use Rattle.loader_agrees.specs.Acts.{HasPlaced, IsAdded, HasBegun, started_kept}
 use Rattle.loader_agrees.specs.laws.Lists.{number_map}

@@ -1,34 +1,29 @@
 -- A loader after a program was loaded with the run-time library files of its rows.
-use Rattle.std.proofs.Common.{◌≡◌, ◌≢◌, ◌⊎◌, inl, inr, ℕ, zero, suc, Bool, true, false, cond, ◌==◌, ◌+◌, ◌-◌, ◌^◌, ◌<◌, ◌≤◌, List, [], ◌∷◌, ◌++◌, length, map, Option, Some, None, IsSome, nat_lt, refl, sym, ap, subst, ◌∙◌, arith}
-use Rattle.std.specs.Prelude.{slice_get, option_map, not, ◌&&◌, ◌||◌}
-use Rattle.std.specs.Option.{option_map_or, option_and_then}
+use Rattle.std.proofs.Common.{◌≡◌, ℕ, zero, suc, Bool, true, false, ◌+◌, ◌-◌, ◌<◌, ◌≤◌, List, [], ◌∷◌, ◌++◌, length, map, Option, Some, None, nat_lt, refl, sym, ap, subst, ◌∙◌, arith}
+use Rattle.std.specs.Prelude.{slice_get, option_map, not, ◌&&◌}
+use Rattle.std.specs.Option.{option_and_then}
 use Rattle.std.proofs.lemmas.Option.{same_Some, slice_get_within, slice_get-map}
-use Rattle.std.proofs.lemmas.List.{length-map, length-append, map-append}
-use Rattle.std.proofs.lemmas.Bool.{cases_lt, cases_eq}
+use Rattle.std.proofs.lemmas.List.{length-map, map-append}
 use Rattle.omf_format.specs.Header.{is_dynamic, is_skipped}
 use Rattle.omf_format.specs.File.{Segment, segment_at}
 use Rattle.omf_io.specs.Files.{FileMap}
 use Rattle.load_meaning.specs.declared.table.Target.{Target}
 use Rattle.load_meaning.specs.LoadTable.{is_table, targets_of}
 use Rattle.iigs_meaning.specs.declared.handles.Handle.{Handle}
-use Rattle.iigs_meaning.specs.Slots.{get}
-use Rattle.iigs_meaning.specs.Fits.{Slots}
-use Rattle.iigs_meaning.specs.Memory.{Memory}
 use Rattle.loader_machine.specs.declared.seen.Head.{Head}
 use Rattle.loader_machine.specs.declared.seen.Life.TheVariants.{Running}
-use Rattle.loader_machine.specs.Heads.{head_of, at_number, is_static}
-use Rattle.loader_machine.specs.State.{Held, User, Machine, Outline, absent, no_pokes, first_id, max_users, user_of, held_at, handles_of, attached_at, handles_in, ids_from, outline_of, outlines}
-use Rattle.loader_machine.specs.Presences.{handle_at, presence, presence_at, there_at, active_at, is_active}
+use Rattle.loader_machine.specs.Heads.{head_of, at_number}
+use Rattle.loader_machine.specs.State.{Held, User, Machine, Outline, absent, first_id, user_of, attached_at, handles_in, ids_from, outline_of, outlines}
+use Rattle.loader_machine.specs.Presences.{handle_at, presence, presence_at, active_at}
 use Rattle.loader_machine.specs.Stands.{Far, far_of}
 use Rattle.loader_machine.specs.Found.{HoldsLoad}
 use Rattle.loader_machine.specs.Steps.{started_user, joined_user, joined_users}
 use Rattle.loader_machine.specs.laws.OnceLaws.{one_load}
-use Rattle.loader_agrees.specs.Agrees.{Kept, Loaded, outline, kept_outlines, far_in, IsJoined, AreAttached, LeadsFar, EntriesLead, UserAgrees, Agrees, IsSound}
+use Rattle.loader_agrees.specs.Agrees.{Kept, Loaded, outline, kept_outlines, IsJoined, AreAttached, LeadsFar, EntriesLead, UserAgrees, Agrees, IsSound}
 use Rattle.loader_agrees.specs.Acts.{HasPlaced, started_kept}
 use Rattle.loader_agrees.specs.laws.Begun.{user_agrees, others_agree, begun_keeps}
 use Rattle.loader_agrees.specs.laws.Joining.{user_stays}
 use Rattle.loader_agrees.specs.laws.Keeping.{AllKept, far_kept}
-use Rattle.loader_agrees.specs.laws.Lists.{number_map}
 use Rattle.loader_agrees.specs.laws.Seeing.{user_is, made_at}
 
 -- ---- users behind others

@@ -1,21 +1,17 @@
 -- Users that are made before they have anything in memory: a place for a user, and those that are to be attached to it behind it.
-use Rattle.std.proofs.Common.{◌≡◌, ◌≢◌, ◌⊎◌, inl, inr, ℕ, zero, suc, Bool, true, false, cond, ◌==◌, ◌+◌, ◌-◌, ◌^◌, ◌<◌, ◌≤◌, List, [], ◌∷◌, ◌++◌, length, map, Option, Some, None, nat_lt, refl, sym, ap, subst, ◌∙◌, arith}
-use Rattle.std.specs.Prelude.{slice_get, slice_set, option_map}
+use Rattle.std.proofs.Common.{◌≡◌, ◌⊎◌, inl, inr, ℕ, Bool, true, false, cond, ◌==◌, ◌+◌, ◌-◌, ◌^◌, ◌<◌, ◌≤◌, List, [], length, Option, Some, None, nat_lt, refl, sym, ap, subst, ◌∙◌}
+use Rattle.std.specs.Prelude.{slice_get, option_map}
 use Rattle.std.specs.Option.{option_and_then}
-use Rattle.std.proofs.lemmas.Option.{same_Some, slice_get_within}
-use Rattle.omf_format.specs.Header.{is_dynamic, is_skipped}
 use Rattle.iigs_meaning.specs.declared.handles.Handle.{Handle}
-use Rattle.iigs_meaning.specs.declared.wants.Block.{Block}
-use Rattle.iigs_meaning.specs.Memory.{Memory, bytes_at}
+use Rattle.iigs_meaning.specs.Memory.{Memory}
 use Rattle.load_meaning.specs.declared.table.Target.{Target}
 use Rattle.loader_machine.specs.declared.seen.Head.{Head}
-use Rattle.loader_machine.specs.declared.seen.Life.{Life}
 use Rattle.loader_machine.specs.declared.seen.Life.TheVariants.{Running, Dormant}
 use Rattle.loader_machine.specs.Heads.{at_number, is_static}
 use Rattle.loader_machine.specs.State.{first_id, max_users, user_of, named_by, attached_at}
 use Rattle.loader_machine.specs.Presences.{handle_at}
-use Rattle.loader_agrees.specs.Agrees.{Kept, Outline, outline, kept_outlines, IsJoined, AreAttached, IsCall, Has, IsOf, IsSound}
-use Rattle.loader_agrees.specs.laws.Seeing.{user_is, made_at}
+use Rattle.loader_agrees.specs.Agrees.{Kept, Outline, outline, kept_outlines, AreAttached, IsCall, Has, IsSound}
+use Rattle.loader_agrees.specs.laws.Seeing.{user_is}
 
 -- a user without a handle, none of whose segments is static, to which nothing is attached
 pub record IsQuiet (kept : Kept) : Type 0 where

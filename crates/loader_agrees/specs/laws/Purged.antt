@@ -1,6 +1,6 @@
 -- A loader after a user's blocks were purged.
-use Rattle.std.proofs.Common.{◌≡◌, ℕ, Bool, true, false, cond, ◌==◌, ◌+◌, List, [], map, Option, Some, None, IsSome, refl, sym, ap, subst, ◌∙◌, arith}
-use Rattle.std.specs.Prelude.{◌&&◌, slice_get, option_map, Contains}
+use Rattle.std.proofs.Common.{◌≡◌, ℕ, Bool, true, false, cond, ◌==◌, [], map, Option, Some, None, IsSome, refl, sym, ap, subst, ◌∙◌, arith}
+use Rattle.std.specs.Prelude.{◌&&◌, Contains}
 use Rattle.omf_io.specs.Files.{FileMap}
 use Rattle.iigs_meaning.specs.declared.handles.Handle.{Handle}
 use Rattle.iigs_meaning.specs.declared.slots.Slot.{Slot}
@@ -11,14 +11,14 @@ use Rattle.iigs_meaning.specs.Blocks.{can_purge_of}
 use Rattle.iigs_meaning.specs.Memory.{Memory, IsPurged}
 use Rattle.iigs_meaning.specs.Fits.{Slots}
 use Rattle.iigs_meaning.specs.Puts.{Purges}
-use Rattle.loader_machine.specs.State.{Machine, first_id}
+use Rattle.loader_machine.specs.State.{Machine}
 use Rattle.loader_machine.specs.Refusals.{purge_refusal}
 use Rattle.loader_machine.specs.Commands.{Counted, Purge}
 use Rattle.loader_machine.specs.Steps.{with_slots}
-use Rattle.loader_agrees.specs.Agrees.{Kept, Loaded, outline, seen_by, Agrees, IsSound, Met}
-use Rattle.loader_agrees.specs.laws.Frame.{Keeps, Same, Gone, agrees_still}
+use Rattle.loader_agrees.specs.Agrees.{Loaded, seen_by, Agrees, IsSound, Met}
+use Rattle.loader_agrees.specs.laws.Frame.{Keeps, Same, Gone}
 use Rattle.loader_agrees.specs.laws.Keeping.{agrees_kept}
-use Rattle.loader_agrees.specs.laws.Seeing.{has_any, is_seen}
+use Rattle.loader_agrees.specs.laws.Seeing.{is_seen}
 use Rattle.loader_agrees.specs.laws.Stay.{in_slot, get_is, slot_map, emptied_block, is_there}
 
 none_in : (place : ℕ) → ¬ Contains {X = ℕ} [] place
