@@ -16,7 +16,7 @@ use Rattle.loader_machine.specs.declared.seen.Life.TheVariants.{Running, Dormant
 use Rattle.loader_machine.specs.declared.faults.LoaderFault.TheVariants as refusal
 use Rattle.loader_machine.specs.Heads.{head_of, at_number, is_static}
 pub use Rattle.loader_machine.specs.State.{Outline, outline_of, outlines}
-use Rattle.loader_machine.specs.State.{User, Machine, Seen, no_pokes, first_id, max_users, user_of, handles_of, held_at}
+use Rattle.loader_machine.specs.State.{User, Machine, Seen, no_pokes, first_id, max_users, user_of, held_at}
 use Rattle.loader_machine.specs.Presences.{handle_at, presence_at, there_at, is_active}
 use Rattle.loader_machine.specs.Stands.{Far, nowhere, setting_with, stands}
 use Rattle.loader_machine.specs.Found.{HoldsLoad}
