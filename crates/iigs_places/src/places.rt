@@ -1,6 +1,6 @@
 //! Places of blocks among banks.
 
-ghost use Rattle.std.specs.Prelude.{◌≡◌, ◌≢◌, ◌+◌, ◌-◌, ◌<◌, ◌≤◌, ◌^◌, ℕ, [], All, MatchOption, IsSome, IsSomeAnd, IfOk, IfErr, OnErr, OnOk, length, count_by, map, vec_capacity};
+ghost use Rattle.std.specs.Prelude.{◌≡◌, ◌≢◌, ◌+◌, ◌-◌, ◌<◌, ◌≤◌, ◌^◌, ℕ, [], false, All, MatchOption, IsSome, IsSomeAnd, IfOk, IfErr, OnErr, OnOk, length, count_by, map, vec_capacity};
 ghost use Rattle.std.specs.Option.{option_map_or};
 ghost use Rattle.std.specs.Result.{result_ok};
 ghost use Rattle.iigs_meaning.specs.declared.handles.Handle as declared;
