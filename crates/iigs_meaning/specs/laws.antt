@@ -1,1 +1,3 @@
 pub mod PlacementLaws
+pub mod SlideLaws
+pub mod SlideRoomLaws

@@ -202,7 +202,7 @@ impl Banks {
     }
 
     // Puts a block in the place of a live handle's, with its place and size.
-    fn put(&mut self, h: Handle, block: Block)
+    fn change(&mut self, h: Handle, block: Block)
         requires same { IsSomeAnd (get self.old.slots h) (λ old. (block.at ≡ old.at) × (block.want ≡ old.want)) }
         requires level { block.level < 256 }
         ensures slots { self.new.slots ≡ with_value self.old.slots h block }
@@ -218,7 +218,7 @@ impl Banks {
         ensures err { OnErr result (self.new ≡ self.old) }
     {
         let block = self.there(h)?;
-        self.put(
+        self.change(
             h,
             Block {
                 locked: true,
@@ -235,7 +235,7 @@ impl Banks {
         ensures err { OnErr result (self.new ≡ self.old) }
     {
         let block = self.there(h)?;
-        self.put(
+        self.change(
             h,
             Block {
                 locked: false,
@@ -252,7 +252,7 @@ impl Banks {
         ensures err { OnErr result (self.new ≡ self.old) }
     {
         let block = self.there(h)?;
-        self.put(h, Block { level, ..block });
+        self.change(h, Block { level, ..block });
         Ok(())
     }
 
@@ -292,7 +292,7 @@ impl Banks {
         self.places.purge_user(user)
     }
 
-    /// Places a block under a new handle. It is all zeros. Blocks are purged for it as needed.
+    /// Places a block under a new handle, which isn't movable. It is all zeros. Blocks are purged for it as needed.
     pub fn place(
         &mut self,
         want: &Want,
@@ -301,12 +301,29 @@ impl Banks {
         level: u8,
     ) -> Result<Handle, PlaceFault>
         requires want { IsWant want.now }
-        ensures placed { IfOk result (λ h. IsPlaced Purges self.old want.now user locked level h self.new) }
+        ensures placed { IfOk result (λ h. IsPlaced Purges self.old want.now user locked level false h self.new) }
+        ensures refused { IfErr result (IsPlaceRefusal Purges self.old.banks self.old.slots want.now) }
+        ensures err { OnErr result (self.new ≡ self.old) }
+    {
+        self.put(want, user, locked, level, false)
+    }
+
+    /// Places a block under a new handle, which may be movable. It is all zeros. Blocks are purged for it as needed.
+    pub fn put(
+        &mut self,
+        want: &Want,
+        user: u16,
+        locked: bool,
+        level: u8,
+        movable: bool,
+    ) -> Result<Handle, PlaceFault>
+        requires want { IsWant want.now }
+        ensures placed { IfOk result (λ h. IsPlaced Purges self.old want.now user locked level movable h self.new) }
         ensures refused { IfErr result (IsPlaceRefusal Purges self.old.banks self.old.slots want.now) }
         ensures err { OnErr result (self.new ≡ self.old) }
     {
         self.places.know_arranged();
-        let put = match self.places.place(want, user, locked, level) {
+        let put = match self.places.place(want, user, locked, level, movable) {
             Ok(put) => put,
             Err(fault) => return Err(fault),
         };
@@ -319,7 +336,8 @@ impl Banks {
         Ok(put.handle)
     }
 
-    /// Places an empty block anew under its handle. It is all zeros, and keeps its user, level and lock.
+    /// Places an empty block anew under its handle. It is all zeros, keeps its user, level and lock,
+    /// and isn't movable.
     pub fn replace(&mut self, h: Handle, want: &Want) -> Result<(), PlaceFault>
         requires want { IsWant want.now }
         ensures replaced { IfOk result (λ _. IsReplaced Purges self.old h want.now self.new) }

@@ -77,6 +77,7 @@ module _ (slots : List (Slot Block)) (h : Handle) (block old : Block) (was : get
       let some : 0 < block.want.size = rw want old_bounded.some in
       rw (with_is slots h (record { generation = h.generation; content = Used block }) live)
       (set_bounded slots h.slot (record { generation = h.generation; content = Used block }) bounded (record {
+        want = rw want old_bounded.want;
         some = some;
         level = level;
         ends = rw (place, want) old_bounded.ends;

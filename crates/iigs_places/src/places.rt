@@ -208,9 +208,10 @@ impl Places {
         user: u16,
         locked: bool,
         level: u8,
+        movable: bool,
     ) -> Result<Put, PlaceFault>
         requires want { IsWant want.now }
-        ensures put { IfOk result (λ put. IsPut self.old.banks self.old.slots want.now user locked level put self.new.slots) }
+        ensures put { IfOk result (λ put. IsPut self.old.banks self.old.slots want.now user locked level movable put self.new.slots) }
         ensures banks { self.new.banks ≡ self.old.banks }
         ensures refused { IfErr result (IsPlaceRefusal Purges self.old.banks self.old.slots want.now) }
         ensures err { OnErr result (self.new ≡ self.old) }
@@ -225,10 +226,12 @@ impl Places {
             user,
             locked,
             level,
+            movable,
         )
     }
 
-    /// Places an empty block anew under its handle, and gives the address. It keeps its user, level and lock.
+    /// Places an empty block anew under its handle, and gives the address. It keeps its user, level and lock, and
+    /// isn't movable.
     pub fn replace(&mut self, h: Handle, want: &Want) -> Result<u32, PlaceFault>
         requires want { IsWant want.now }
         ensures put { IfOk result (λ address. IsReput self.old.banks self.old.slots h want.now address self.new.slots) }

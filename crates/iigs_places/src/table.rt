@@ -157,13 +157,14 @@ pub fn put_block(
     user: u16,
     locked: bool,
     level: u8,
+    movable: bool,
 ) -> Result<Put, PlaceFault>
     requires want { IsWant want.now }
     requires arranged { IsArranged map.now table.old }
     requires laid { IsLayout table.old layout.old }
     requires spots_room { 4096 ≤ vec_capacity spots.old }
     requires turns_room { 4096 ≤ vec_capacity turns.old }
-    ensures put { IfOk result (λ put. IsPut map.now table.old want.now user locked level put table.new) }
+    ensures put { IfOk result (λ put. IsPut map.now table.old want.now user locked level movable put table.new) }
     ensures refused { IfErr result (IsPlaceRefusal Purges map.now table.old want.now) }
     ensures err { OnErr result (table.new ≡ table.old) }
     ensures arranged { IsArranged map.now table.new }
@@ -185,6 +186,7 @@ pub fn put_block(
         user,
         locked,
         level,
+        movable,
     };
     let handle = match table.take(block) {
         Ok(handle) => handle,
@@ -240,6 +242,7 @@ pub fn replace_block(
     let block = Block {
         at: Some(found.at),
         want: *want,
+        movable: false,
         ..block
     };
     set(table, h, block);
@@ -327,6 +330,7 @@ pub fn put_all(
             user,
             true,
             0,
+            false,
         ) {
             Ok(put) => made.push_reserved(put),
             Err(PlaceFault::NoRoom(_)) => return Err(PlaceFault::NoRoom(place as u32)),
