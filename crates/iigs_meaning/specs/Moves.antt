@@ -34,11 +34,15 @@ pub record IsNth (slots : Slots) (place : ℕ) (h : Handle) : Type 0 where
 -- ---- purge of one block
 
 -- the handle's block, which is purgeable, is emptied
-pub record IsEmptied (old : Memory) (h : Handle) (new : Memory) : Type 0 where
+pub record Empties (slots : Slots) (h : Handle) (next : Slots) : Type 0 where
   pub block : Block
-  pub was : get old.slots h ≡ Some block
+  pub was : get slots h ≡ Some block
   pub can : can_purge block ≡ true
-  pub slots : new.slots ≡ with_value old.slots h (record block { at = None })
+  pub next_is : next ≡ with_value slots h (record block { at = None })
+
+-- so it is in memory, and the other blocks keep their bytes
+pub record IsEmptied (old : Memory) (h : Handle) (new : Memory) : Type 0 where
+  pub empties : Empties old.slots h new.slots
   pub kept : KeepsBut old new []
 
 -- why it isn't: the handle isn't live; its block was purged; and else it is locked or has level 0
@@ -49,37 +53,38 @@ IsEmptyRefusal slots h empty.NotPurgeable = IsSomeAnd (get slots h) (λ block. I
 
 -- ---- one block moved
 
--- the slots without the handle's block
+-- the slots without the handle's block, whose handle stays
 abbrev pub without_block : Slots → Handle → Block → Slots
 without_block slots h block = with_value slots h (record block { at = None })
 
 -- the handle's block, which isn't locked, is moved to an address not above its own at which its kept want fits beside the other
--- blocks; each block keeps its bytes
-pub record IsShifted (old : Memory) (h : Handle) (to : ℕ) (new : Memory) : Type 0 where
+-- blocks
+pub record Shifts (banks : List ℕ) (slots : Slots) (h : Handle) (to : ℕ) (next : Slots) : Type 0 where
   pub block : Block
-  pub was : get old.slots h ≡ Some block
+  pub was : get slots h ≡ Some block
   pub unlocked : block.locked ≡ false
   pub lower : IsSomeAnd block.at (λ at. to ≤ at)
-  pub fits : Fits old.banks (without_block old.slots h block) block.want to
-  pub slots : new.slots ≡ with_value old.slots h (record block { at = Some to })
+  pub fits : Fits banks (without_block slots h block) block.want to
+  pub next_is : next ≡ with_value slots h (record block { at = Some to })
+
+-- so it is in memory, and each block keeps its bytes, that one too
+pub record IsShifted (old : Memory) (h : Handle) (to : ℕ) (new : Memory) : Type 0 where
+  pub shifts : Shifts old.banks old.slots h to new.slots
   pub kept : KeepsBut old new []
 
 -- why it isn't: the handle isn't live; its block was purged; it is locked; the address is above its own; and else its kept want
 -- doesn't fit there beside the other blocks
-abbrev pub IsShiftRefusal : Memory → Handle → ℕ → ShiftFault → Type 0
-IsShiftRefusal memory h to shift.Stale = get memory.slots h ≡ None
-IsShiftRefusal memory h to shift.Empty = IsSomeAnd (get memory.slots h) (λ block. block.at ≡ None)
-IsShiftRefusal memory h to shift.Locked = IsSomeAnd (get memory.slots h) (λ block. IsSome block.at × (block.locked ≡ true))
-IsShiftRefusal memory h to shift.Higher = IsSomeAnd (get memory.slots h) (λ block. (block.locked ≡ false) × IsSomeAnd block.at (λ at. at < to))
-IsShiftRefusal memory h to shift.NoFit = IsSomeAnd (get memory.slots h) (λ block.
-    (block.locked ≡ false) × IsSomeAnd block.at (λ at. to ≤ at) × ¬ Fits memory.banks (without_block memory.slots h block) block.want to)
+abbrev pub IsShiftRefusal : List ℕ → Slots → Handle → ℕ → ShiftFault → Type 0
+IsShiftRefusal banks slots h to shift.Stale = get slots h ≡ None
+IsShiftRefusal banks slots h to shift.Empty = IsSomeAnd (get slots h) (λ block. block.at ≡ None)
+IsShiftRefusal banks slots h to shift.Locked = IsSomeAnd (get slots h) (λ block. IsSome block.at × (block.locked ≡ true))
+IsShiftRefusal banks slots h to shift.Higher = IsSomeAnd (get slots h) (λ block. (block.locked ≡ false) × IsSomeAnd block.at (λ at. at < to))
+IsShiftRefusal banks slots h to shift.NoFit = IsSomeAnd (get slots h) (λ block.
+    (block.locked ≡ false) × IsSomeAnd block.at (λ at. to ≤ at) × ¬ Fits banks (without_block slots h block) block.want to)
 
--- the least address at which the kept want of the handle's block fits beside the other blocks
-pub record GoesLowest (banks : List ℕ) (slots : Slots) (h : Handle) (block : Block) (address : ℕ) : Type 0 where
-  pub fits : Fits banks (without_block slots h block) block.want address
-  pub least : (other : ℕ) → Fits banks (without_block slots h block) block.want other → address ≤ other
+-- ---- all movable blocks
 
--- the movable blocks are slid down; each block keeps its bytes
+-- the movable blocks are slid down, and each block keeps its bytes
 pub record IsSlid (old new : Memory) : Type 0 where
   pub slides : Slides old.banks old.slots new.slots
   pub kept : KeepsBut old new []

@@ -1,3 +1,4 @@
 pub mod PlacementLaws
+pub mod PurgeLaws
 pub mod SlideLaws
 pub mod SlideRoomLaws

@@ -12,12 +12,17 @@ ghost use Rattle.iigs_meaning.specs.Puts.{Purges, IsPlaceRefusal, IsReplaceRefus
 ghost use Rattle.iigs_meaning.specs.Blocks.{IsBlockRefusal, IsStale, AreApart, new_slots, state_of};
 ghost use Rattle.iigs_meaning.specs.Banks.{IsBanksRefusal};
 ghost use Rattle.iigs_meaning.specs.Memory.{bytes_at, IsLent, KeepsBut, Changes, IsFreed, IsPurged, IsPlaced, AreAllPlaced, IsReplaced, IsNew};
+ghost use Rattle.iigs_meaning.specs.Placement.{emptied};
+ghost use Rattle.iigs_meaning.specs.Moves.{count_there, IsNth, IsEmptied, IsEmptyRefusal, IsShifted, IsShiftRefusal};
 ghost use Rattle.iigs_meaning.specs.Room.{CountsBelow, IsRoom};
 
 use crate::part::Part;
-use crate::placed::{clear, clear_all, give};
+use crate::placed::{clear, clear_all, copy_bytes, give};
 use iigs_handles::SLOTS;
-use iigs_meaning::{BanksFault, Block, BlockFault, BlockState, Handle, PlaceFault, Stale, Want};
+use iigs_meaning::{
+    BanksFault, Block, BlockFault, BlockState, EmptyFault, Handle, PlaceFault, ShiftFault, Stale,
+    Want,
+};
 use iigs_places::{Places, Put};
 use std::alloc::{AllocError, Global};
 use std::marker::Model;
@@ -391,6 +396,85 @@ impl Banks {
             &self.made,
         );
         give(&self.made, handles);
+        Ok(())
+    }
+
+    /// Where the blocks lie.
+    pub fn places(&self) -> &Places
+        ensures { result.now ≡ record { banks = self.now.banks; slots = self.now.slots } }
+    {
+        &self.places
+    }
+
+    /// How many blocks are there.
+    pub fn count(&self) -> u32
+        ensures { result ≡ count_there self.now.slots }
+    {
+        self.places.count()
+    }
+
+    /// The handle of the block at a place, from 0, in order of address.
+    pub fn nth(&self, place: u32) -> Option<Handle>
+        ensures { MatchOption result (count_there self.now.slots ≤ place) (IsNth self.now.slots place) }
+    {
+        self.places.nth(place)
+    }
+
+    /// The want with which a handle's block was last placed, whether it is there or was purged.
+    pub fn kept(&self, h: Handle) -> Result<Want, BlockFault>
+        ensures want { result_ok result ≡ option_map (λ block. block.want) (get self.now.slots h) }
+        ensures refused { IfErr result (IsStale self.now.slots h) }
+    {
+        match self.places.look(h) {
+            Ok(block) => Ok(block.want),
+            Err(Stale) => Err(BlockFault::Stale),
+        }
+    }
+
+    /// Purges a block. Its handle stays.
+    pub fn empty(&mut self, h: Handle) -> Result<(), EmptyFault>
+        ensures emptied { IfOk result (λ _. IsEmptied self.old h self.new) }
+        ensures refused { IfErr result (IsEmptyRefusal self.old.slots h) }
+        ensures err { OnErr result (self.new ≡ self.old) }
+    {
+        self.places.know_arranged();
+        match self.places.empty(h) {
+            Ok(()) => Ok(()),
+            Err(fault) => Err(fault),
+        }
+    }
+
+    /// Purges the first so many purgeable blocks, whose handles stay.
+    pub fn purge_first(&mut self, count: u32)
+        ensures slots { self.new.slots ≡ emptied self.old.slots count }
+        ensures kept { KeepsBut self.old self.new [] }
+    {
+        self.places.purge_first(count);
+    }
+
+    /// Moves a block that isn't locked, with its bytes, to an address not above its own.
+    pub fn shift(&mut self, h: Handle, to: u32) -> Result<(), ShiftFault>
+        ensures shifted { IfOk result (λ _. IsShifted self.old h to self.new) }
+        ensures refused { IfErr result (IsShiftRefusal self.old.banks self.old.slots h to) }
+        ensures err { OnErr result (self.new ≡ self.old) }
+    {
+        self.places.know_arranged();
+        let block = match self.places.shift(h, to) {
+            Ok(block) => block,
+            Err(fault) => return Err(fault),
+        };
+        let Some(at) = block.at else {
+            unreachable!();
+        };
+        let from = self.places.offset(at);
+        let start = self.places.offset(to);
+        copy_bytes(
+            &mut self.bytes,
+            self.blank,
+            from,
+            block.want.size as usize,
+            start,
+        );
         Ok(())
     }
 

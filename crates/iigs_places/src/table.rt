@@ -15,7 +15,7 @@ ghost use Rattle.iigs_places.specs.Runs.{IsLayout};
 ghost use Rattle.iigs_places.specs.Arranged.{IsArranged};
 
 use crate::bank_map::BankMap;
-use crate::layout::{Layout, lay_put};
+use crate::layout::{Layout, join, lay_put};
 use crate::marks::Mark;
 use crate::search::find;
 use crate::spots::{Spot, turn_of};
@@ -123,8 +123,9 @@ fn is_purgeable(table: &Handles<Block>, place: usize, user: u16) -> bool
     can_be_purged(block) && block.user == user
 }
 
+/// Whether a block is purgeable.
 #[tactic(auto, unfolding(iigs_meaning::specs::Placement::can_purge))]
-fn can_be_purged(block: &Block) -> bool
+pub fn can_be_purged(block: &Block) -> bool
     ensures { result ≡ can_purge block.now }
 {
     block.at.is_some() && !block.locked && block.level != 0
@@ -175,6 +176,7 @@ pub fn put_block(
     if table.left() == 0 {
         return Err(PlaceFault::NoHandle);
     }
+    join(layout);
     let Some(found) = find(map, want, table, layout, spots, turns) else {
         return Err(PlaceFault::NoRoom(0));
     };
@@ -234,6 +236,7 @@ pub fn replace_block(
     if block.at.is_some() {
         return Err(PlaceFault::NotEmpty);
     }
+    join(layout);
     let Some(found) = find(map, want, table, layout, spots, turns) else {
         return Err(PlaceFault::NoRoom(0));
     };

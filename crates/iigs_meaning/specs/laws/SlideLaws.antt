@@ -97,7 +97,7 @@ module _ (banks : List ℕ) (old now : Slots) (apart : AreApart banks old) (sett
   turn_fits limit moved place block is le = present_fits place block is (are_low limit moved (place_of block) le)
 
 -- where a block fits follows from where the blocks stand that moved before it
-fits_there : (banks : List ℕ) (old a b : Slots) (block : Block) (address : ℕ)
+pub fits_there : (banks : List ℕ) (old a b : Slots) (block : Block) (address : ℕ)
     → ((place : ℕ) (other : Block) → mover (slot_at old place) ≡ Some other → place_of other < place_of block → slot_at a place ≡ slot_at b place)
     → FitsBeside banks old a block address → FitsBeside banks old b block address
 fits_there banks old a b block address same fits = record {
@@ -221,7 +221,7 @@ module _ (banks : List ℕ) (old now : Slots) (apart : AreApart banks old) (sett
       ne (apart.apart p place (place_of other) first second)
 
   -- where it fits beside all others it fits in the slide
-  to_slide : (a : ℕ) → Fits banks (without now place block) block.want a → FitsBeside banks old now block a
+  pub to_slide : (a : ℕ) → Fits banks (without now place block) block.want a → FitsBeside banks old now block a
   to_slide a fits = record {
     open_ = record {
       free = fits.free;
@@ -242,7 +242,7 @@ module _ (banks : List ℕ) (old now : Slots) (apart : AreApart banks old) (sett
   }
 
   -- and where it fits in the slide, not above where it lies, it fits beside all others
-  from_slide : (a : ℕ) → a ≤ place_of block → FitsBeside banks old now block a → Fits banks (without now place block) block.want a
+  pub from_slide : (a : ℕ) → a ≤ place_of block → FitsBeside banks old now block a → Fits banks (without now place block) block.want a
   from_slide a le fits = record {
     free = fits.open_.free;
     apart = all_at a block.want.size (without now place block) each;

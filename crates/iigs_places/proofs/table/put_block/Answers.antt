@@ -38,7 +38,7 @@ lay_put-requires-clause-bounded c = (arranged_put c.args.map.now c.args.table.no
     (rw c.empty_below.ensures at c.in-Ok.ensures.handle) (rw c.empty_below.ensures at c.take.ensures.after))).bounded
 
 pub lay_put-requires-clause-more : goal.lay_put-requires-clause-more
-lay_put-requires-clause-more c none = rw (c.take.ensures.after, c.empty_below.ensures)
+lay_put-requires-clause-more c none = rw (c.take.ensures.after, c.empty_below.ensures, c.join.ensures.marks)
     (have_taken c.args.table.now c.in-Some.found.limit none c.args.layout.now.marks.items c.requires.laid.have c.args.want.now c.in-Some.found.at c.args.user c.args.locked c.args.level c.args.movable c.in-Ok.handle
     (sym (c.in-Ok.ensures.handle ∙ rw c.empty_below.ensures (emptied_handle (λ block. nat_lt (turn_of block) c.in-Some.found.limit) c.args.table.now))))
 

@@ -21,7 +21,7 @@ lay_put-requires-clause-bounded c = (arranged_reput c.args.map.now c.args.table.
 pub lay_put-requires-clause-more : goal.lay_put-requires-clause-more
 lay_put-requires-clause-more c none =
     let empty : c.in-Ok.block.now.at ≡ None = is_none c.in-Ok.block.now.at (sym c.is_some.ensures ∙ c.if-is_some.false) in
-    rw (c.set.ensures, c.empty_below.ensures)
+    rw (c.set.ensures, c.empty_below.ensures, c.join.ensures.marks)
     (have_reput c.args.table.now c.in-Some.found.limit none c.args.layout.now.marks.items c.requires.laid.have c.args.want.now c.in-Some.found.at c.in-Ok.block.now.user c.in-Ok.block.now.locked c.in-Ok.block.now.level false c.args.h c.in-Ok.block.now (sym c.in-Ok.ensures) empty)
 
 pub returns-clause-arranged : goal.returns-clause-arranged
