@@ -6,7 +6,6 @@ pub mod Fits
 pub mod Placement
 pub mod Puts
 pub mod Slide
-pub mod Left
 pub mod Blocks
 pub mod Room
 pub mod Banks

@@ -293,17 +293,17 @@ pub passed_count : (banks : List ℕ) (slots next : Slots) (place address size t
     → (s : Sinks banks slots place address to next) → length next ≡ length slots → limit ≤ address → to ≤ address
     → count_by (lies_below limit) slots + 1 ≤ count_by (lies_below (suc address)) next
 passed_count banks slots next place address size to limit there arranged s len late low = count_more (lies_below limit) (lies_below (suc address)) new_slot new_slot slots next place (sym len)
-    (past_none slots place (address, size) there) each no yes
+    (past_none slots place (address, size) there) each not_below now_below
   where
-    no : lies_below limit (slot_at slots place) ≡ false
-    no = rw (address_told (slot_at slots place) (address, size) there) (grind (arith, nat_tests))
+    not_below : lies_below limit (slot_at slots place) ≡ false
+    not_below = rw (address_told (slot_at slots place) (address, size) there) (grind (arith, nat_tests))
 
-    yes : lies_below (suc address) (slot_at next place) ≡ true
-    yes = rw (address_told (slot_at next place) (to, size) (next_extent banks slots arranged place address size to there next s)) (grind (arith, nat_tests))
+    now_below : lies_below (suc address) (slot_at next place) ≡ true
+    now_below = rw (address_told (slot_at next place) (to, size) (next_extent banks slots arranged place address size to there next s)) (grind (arith, nat_tests))
 
     each : (k : ℕ) → lies_below limit (slot_at slots k) ≡ true → lies_below (suc address) (slot_at next k) ≡ true
     each k is = elim (cases_eq k place) [
-      | inl same ↦ ap (λ (n : ℕ). lies_below (suc address) (slot_at next n)) same ∙ yes
+      | inl same ↦ ap (λ (n : ℕ). lies_below (suc address) (slot_at next n)) same ∙ now_below
       | inr ne ↦ ap (lies_below (suc address)) (next_other banks slots arranged place address size to there next s k ne) ∙ below_more limit (suc address) (address_in (slot_at slots k)) (omega (arith, late)) is
     ]
 
@@ -403,23 +403,25 @@ module _ (banks : List ℕ) (slots : Slots) (arranged : IsArranged banks slots) 
             let here : IsApart other block.want.size (slot_at (without slots place block) p) = each_slot (IsApart other block.want.size) (without slots place block) (λ i from to holds. absurd holds) fits.apart p in
             subst (IsApart other block.want.size) (get_or-set_other slots place p empty new_slot ne) here
 
--- moved to where it was, it stays
-pub moved_same : (slots : Slots) (place : ℕ) (block : Block) (at : ℕ) → place < length slots → block_in (slot_at slots place) ≡ Some block → block.at ≡ Some at → with_moved slots place block at ≡ slots
-moved_same slots place block at inside' is lies' = set_same slots place (holding (slot_at slots place) (moved_to at block)) inside' (go (slot_at slots place) is)
+-- ---- what is put again as it was
+
+pub held_same : (slot : Slot Block) (block : Block) (at : ℕ) → block_in slot ≡ Some block → block.at ≡ Some at → holding slot (moved_to at block) ≡ slot
+held_same slot block at is lies' = ap (holding slot) same_block ∙ holds slot.generation slot.content is
   where
     same_block : moved_to at block ≡ block
     same_block = rw (← lies') refl
 
-    go : (slot : Slot Block) → block_in slot ≡ Some block → holding slot (moved_to at block) ≡ slot
-    go slot is' = ap (holding slot) same_block ∙ holds_it slot.generation slot.content is'
-      where
-        holds_it : (generation : ℕ) (content : Content Block) → used_value content ≡ Some block
-            → ◌≡◌ {A = Slot Block} (record { generation = generation; content = Used block }) (record { generation = generation; content = content })
-        holds_it generation Free used = absurd cc
-        holds_it generation Retired used = absurd cc
-        holds_it generation (Used value) used = ap (λ (b : Block). record { generation = generation; content = Used b }) (sym (same_Some value block used))
+    holds : (generation : ℕ) (content : Content Block) → used_value content ≡ Some block
+        → ◌≡◌ {A = Slot Block} (record { generation = generation; content = Used block }) (record { generation = generation; content = content })
+    holds generation Free used = absurd cc
+    holds generation Retired used = absurd cc
+    holds generation (Used value) used = ap (λ (b : Block). record { generation = generation; content = Used b }) (sym (same_Some value block used))
 
-    set_same : (xs : Slots) (k : ℕ) (x : Slot Block) → k < length xs → x ≡ slot_at xs k → slice_set xs k x ≡ xs
-    set_same [] k x less same = absurd (omega (arith, less))
-    set_same (y ∷ ys) zero x less same = ap (λ (z : Slot Block). z ∷ ys) same
-    set_same (y ∷ ys) (suc k) x less same = ap (λ (zs : Slots). y ∷ zs) (set_same ys k x (omega (arith, less)) same)
+pub set_same : (xs : Slots) (k : ℕ) (x : Slot Block) → k < length xs → x ≡ slot_at xs k → slice_set xs k x ≡ xs
+set_same [] k x less same = absurd (omega (arith, less))
+set_same (y ∷ ys) zero x less same = ap (λ (z : Slot Block). z ∷ ys) same
+set_same (y ∷ ys) (suc k) x less same = ap (λ (zs : Slots). y ∷ zs) (set_same ys k x (omega (arith, less)) same)
+
+-- moved to where it was, a block stays
+pub moved_same : (slots : Slots) (place : ℕ) (block : Block) (at : ℕ) → place < length slots → block_in (slot_at slots place) ≡ Some block → block.at ≡ Some at → with_moved slots place block at ≡ slots
+moved_same slots place block at inside' is lies' = set_same slots place (holding (slot_at slots place) (moved_to at block)) inside' (held_same (slot_at slots place) block at is lies')

@@ -24,7 +24,7 @@ module _ {X Y : Type 0} (p : X → Bool) (q : Y → Bool) where
       go false is = omega arith
 
   head_less : (x : X) (y : Y) → p x ≡ false → q y ≡ true → cond {A = ℕ} (p x) 1 0 + 1 ≤ cond {A = ℕ} (q y) 1 0
-  head_less x y no yes = rw (no, yes) (omega arith)
+  head_less x y fails meets = rw (fails, meets) (omega arith)
 
   pub count_less : (d : X) (e : Y) (xs : List X) (ys : List Y) → length xs ≡ length ys → ((k : ℕ) → p (get_or xs k d) ≡ true → q (get_or ys k e) ≡ true) → count_by p xs ≤ count_by q ys
   count_less d e [] ys len each = omega arith
@@ -35,13 +35,13 @@ module _ {X Y : Type 0} (p : X → Bool) (q : Y → Bool) where
   -- where whatever passes one test passes the other, and at a place only the other is passed, that one is passed more often
   pub count_more : (d : X) (e : Y) (xs : List X) (ys : List Y) (place : ℕ) → length xs ≡ length ys → place < length xs → ((k : ℕ) → p (get_or xs k d) ≡ true → q (get_or ys k e) ≡ true)
       → p (get_or xs place d) ≡ false → q (get_or ys place e) ≡ true → count_by p xs + 1 ≤ count_by q ys
-  count_more d e [] ys place len inside each no yes = absurd (omega (arith, inside))
-  count_more d e (x ∷ xs) [] place len inside each no yes = absurd (omega (arith, len))
-  count_more d e (x ∷ xs) (y ∷ ys) zero len inside each no yes =
-      omega (arith, sum_by-cons (λ x. cond (p x) 1 0) x xs, sum_by-cons (λ y. cond (q y) 1 0) y ys, head_less x y no yes, count_less d e xs ys (omega (arith, len)) (λ k. each (suc k)))
-  count_more d e (x ∷ xs) (y ∷ ys) (suc place) len inside each no yes =
+  count_more d e [] ys place len inside each fails meets = absurd (omega (arith, inside))
+  count_more d e (x ∷ xs) [] place len inside each fails meets = absurd (omega (arith, len))
+  count_more d e (x ∷ xs) (y ∷ ys) zero len inside each fails meets =
+      omega (arith, sum_by-cons (λ x. cond (p x) 1 0) x xs, sum_by-cons (λ y. cond (q y) 1 0) y ys, head_less x y fails meets, count_less d e xs ys (omega (arith, len)) (λ k. each (suc k)))
+  count_more d e (x ∷ xs) (y ∷ ys) (suc place) len inside each fails meets =
       omega (arith, sum_by-cons (λ x. cond (p x) 1 0) x xs, sum_by-cons (λ y. cond (q y) 1 0) y ys, one_less x y (each 0),
-      count_more d e xs ys place (omega (arith, len)) (omega (arith, inside)) (λ k. each (suc k)) no yes)
+      count_more d e xs ys place (omega (arith, len)) (omega (arith, inside)) (λ k. each (suc k)) fails meets)
 
 -- ---- nothing is emptied
 
@@ -72,7 +72,7 @@ rank_less : (slots : Slots) (place : ℕ) (d : Slot Block) (block : Block) → p
 unfolding rank goes_before
 rank_less slots place d block inside is can =
     let more = count_more (λ slot. option_map_or (λ one. can_purge one && goes_before one block) (block_in slot) false) (λ slot. option_map_or can_purge (block_in slot) false) d d slots slots place refl inside
-    (λ k. passes (block_in (get_or slots k d))) (rw is no) (rw is can) in
+    (λ k. passes (block_in (get_or slots k d))) (rw is not_before) (rw is can) in
     omega (arith, more)
   where
     itself : (a b : ℕ) → (nat_lt a a || (a == a && nat_lt b b)) ≡ false
@@ -85,8 +85,8 @@ rank_less slots place d block inside is can =
         and_false true = refl
         and_false false = refl
 
-    no : (can_purge block && goes_before block block) ≡ false
-    no = rw (can, itself block.level (unwrap_or block.at 0)) refl
+    not_before : (can_purge block && goes_before block block) ≡ false
+    not_before = rw (can, itself block.level (unwrap_or block.at 0)) refl
 
     passes : (o : Option Block) → option_map_or (λ one. can_purge one && goes_before one block) o false ≡ true → option_map_or can_purge o false ≡ true
     passes None e = e

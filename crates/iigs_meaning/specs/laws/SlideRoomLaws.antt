@@ -17,8 +17,8 @@ use Rattle.iigs_meaning.specs.Puts.{LacksRoom, IsOnce}
 use Rattle.iigs_meaning.specs.laws.PlacementLaws.{purges_once, no_number, no_room}
 use Rattle.iigs_meaning.specs.Blocks.{AreApart}
 use Rattle.iigs_meaning.specs.Slide.{can_move, mover, place_of, holding, moved_to, Slides, MakesBySlide, PurgesOrSlides, HasNoRoomBySlides, AreSettled}
-use Rattle.iigs_meaning.specs.Left.{IsLeft, AreLeft}
-use Rattle.iigs_meaning.specs.Left.IsLeft.{Unmoved, Emptied, Shifted}
+use Rattle.iigs_meaning.specs.laws.Left.{IsLeft, AreLeft}
+use Rattle.iigs_meaning.specs.laws.Left.IsLeft.{Unmoved, Emptied, Shifted}
 use Rattle.iigs_meaning.specs.laws.SlideLaws.{mover_in, has_bytes, slides_once}
 
 -- ---- one outcome
@@ -124,7 +124,7 @@ emptied_len : (slots : Slots) (count : ℕ) → length (emptied slots count) ≡
 unfolding emptied
 emptied_len slots count = length-map slots (emptied_where (is_gone slots count))
 
-emptied_left : (slots : Slots) (count : ℕ) → AreLeft slots (emptied slots count)
+pub emptied_left : (slots : Slots) (count : ℕ) → AreLeft slots (emptied slots count)
 emptied_left slots count = record {
   len = emptied_len slots count;
   each = λ place. subst (IsLeft (slot_at slots place)) (sym (emptied_at slots count place)) (emptied_slot slots count (slot_at slots place));
@@ -135,7 +135,7 @@ empty_stays : (slot : Slot Block) (block : Block) → mover (holding slot (recor
 unfolding can_move
 empty_stays slot block = refl
 
-slid_left : (banks : List ℕ) (slots middle room : Slots) → AreLeft slots middle → Slides banks middle room → AreLeft slots room
+pub slid_left : (banks : List ℕ) (slots middle room : Slots) → AreLeft slots middle → Slides banks middle room → AreLeft slots room
 slid_left banks slots middle room left slides = record { len = slides.len ∙ left.len; each = λ place. go place (left.each place) }
   where
     moves : (place : ℕ) → slot_at middle place ≡ slot_at slots place → (o : Option Block) → mover (slot_at middle place) ≡ o → IsLeft (slot_at slots place) (slot_at room place)

@@ -1,0 +1,4 @@
+pub mod Settled
+pub mod Moved
+pub mod Carrying
+pub mod Making
