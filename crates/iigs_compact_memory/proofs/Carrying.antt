@@ -71,6 +71,16 @@ module _ (banks : List ℕ) (slots plan : Slots) (h : Handle) (at : ℕ) (can : 
     pub no_nofit : IsSomeAnd (get slots h) (λ block. (block.locked ≡ false) × IsSomeAnd block.at (λ a. can.to ≤ a) × ¬ Fits banks (without_block slots h block) block.want can.to) → ⊥
     no_nofit nofit = let both = rw can.was at nofit in both.2 (can.goes ne).2
 
+isnt_locked : (block : Block) → can_move block ≡ true → block.locked ≡ false
+unfolding can_move
+isnt_locked block can = last (is_some block.at) block.movable block.locked can
+  where
+    last : (a b c : Bool) → (a && b && not c) ≡ true → c ≡ false
+    last true true true e = absurd cc
+    last true true false e = refl
+    last true false c e = absurd cc
+    last false b c e = absurd cc
+
 -- ---- where blocks lie while the slide is carried out
 
 pub carried_none : (old plan : Slots) → AreCarried old plan old 0
@@ -188,16 +198,6 @@ module _ (banks : List ℕ) (old plan now : Slots) (apart : AreApart banks old) 
               goes = λ ne. (isnt_locked its.0 can, omega (arith, low, place_first), subst (λ (s : Slots). Fits banks s its.0.want it.0) (sym (set_is now put.handle its.0 its.1 (record its.0 { at = None }))) fits);
             }
           where
-            isnt_locked : (block : Block) → can_move block ≡ true → block.locked ≡ false
-            unfolding can_move
-            isnt_locked block can = last (is_some block.at) block.movable block.locked can
-              where
-                last : (a b c : Bool) → (a && b && not c) ≡ true → c ≡ false
-                last true true true e = absurd cc
-                last true true false e = refl
-                last true false c e = absurd cc
-                last false b c e = absurd cc
-
             low_of : (m : mover (slot_at old put.handle.slot) ≡ Some its.0) → (slides.goes put.handle.slot its.0 m).0 ≤ place_of its.0
             low_of m =
                 let it = are_low banks old plan apart settled (suc (place_of its.0)) (slides_moved banks old plan slides (suc (place_of its.0))) (suc (place_of its.0)) (omega arith) put.handle.slot its.0 m (omega arith) in

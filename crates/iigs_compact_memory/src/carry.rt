@@ -7,9 +7,9 @@ ghost use Rattle.iigs_meaning.specs.Blocks.{AreApart};
 ghost use Rattle.iigs_meaning.specs.Slide.{is_moved, count_moved, Slides, AreSettled};
 ghost use Rattle.iigs_compact_memory.specs.Carried.{CanCarry};
 
+use iigs_meaning::Stale;
 use iigs_memory::{Banks, Handle, ShiftFault};
 use iigs_places::Places;
-use iigs_meaning::Stale;
 
 // Moves a block, which is at an address, to where it is in the plan, and tells whether that is another one.
 fn carry(banks: &mut Banks, plan: &Places, h: Handle, at: u32) -> bool

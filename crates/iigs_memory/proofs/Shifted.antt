@@ -40,9 +40,16 @@ copied_zeros from size start xs within within' zeros = same_lists xs (overlay st
     n = length-part from size xs within
 
     same_length : length xs ≡ length (overlay start (part from size xs) xs)
-    same_length = omega (arith, n, within', length-append (take start xs) (part from size xs ++ drop (length (part from size xs)) (drop start xs)),
-        length-append (part from size xs) (drop (length (part from size xs)) (drop start xs)), length-take start xs,
-        length-drop (length (part from size xs)) (drop start xs), length-drop start xs)
+    same_length = omega (
+      arith,
+      n,
+      within',
+      length-append (take start xs) (part from size xs ++ drop (length (part from size xs)) (drop start xs)),
+      length-append (part from size xs) (drop (length (part from size xs)) (drop start xs)),
+      length-take start xs,
+      length-drop (length (part from size xs)) (drop start xs),
+      length-drop start xs,
+    )
 
     each : (k d : ℕ) → k < length xs → get_or xs k d ≡ get_or (overlay start (part from size xs) xs) k d
     each k d less = zero_at xs zeros k d less ∙ sym (elim (cases_lt k start) [

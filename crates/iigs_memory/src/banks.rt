@@ -388,13 +388,7 @@ impl Banks {
             Err(fault) => return Err(fault),
         }
         mem::swap(&mut self.places, &mut self.plan);
-        clear_all(
-            &self.places,
-            &mut self.bytes,
-            self.blank,
-            wants,
-            &self.made,
-        );
+        clear_all(&self.places, &mut self.bytes, self.blank, wants, &self.made);
         give(&self.made, handles);
         Ok(())
     }

@@ -32,9 +32,7 @@ fn copy(bytes: &mut Vec<u8>, from: usize, size: usize, start: usize)
     requires to { start + size ≤ length bytes.old.items }
     ensures { bytes.new.items ≡ take start bytes.old.items ++ (take size (drop from bytes.old.items) ++ drop (start + size) bytes.old.items) }
 {
-    bytes
-        .as_mut_slice()
-        .copy_within(from..from + size, start);
+    bytes.as_mut_slice().copy_within(from..from + size, start);
 }
 
 /// Copies bytes of the buffer to another place, which may overlap theirs. Where it is blank they are there already.

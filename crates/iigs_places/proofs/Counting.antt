@@ -134,8 +134,14 @@ module _ (slots : List (Slot Block)) (marks : List Mark) (have : HaveMarks slots
       let more : take (suc n) slots ≡ take n slots ++ slot_at slots n ∷ [] = rw add-one at (take_more slots n new_slot (omega (arith, le))) in
       let front : count_by passes (take (suc n) slots) ≡ count_by passes (take n slots) + count_by passes (slot_at slots n ∷ []) =
       ap (count_by passes) more ∙ sum_by-append (λ s. cond (passes s) 1 0) (take n slots) (slot_at slots n ∷ []) in
-      omega (arith, count_split (λ (m : Mark). nat_lt m.slot (suc n) && Q m.at) (λ (m : Mark). nat_lt m.slot n && Q m.at) (λ (m : Mark). m.slot == n && Q m.at) (λ m. parted m.slot n (Q m.at)) marks,
-          upto n (omega (arith, le)), here n, front, count-cons passes (slot_at slots n) [])
+      omega (
+        arith,
+        count_split (λ (m : Mark). nat_lt m.slot (suc n) && Q m.at) (λ (m : Mark). nat_lt m.slot n && Q m.at) (λ (m : Mark). m.slot == n && Q m.at) (λ m. parted m.slot n (Q m.at)) marks,
+        upto n (omega (arith, le)),
+        here n,
+        front,
+        count-cons passes (slot_at slots n) [],
+      )
 
   -- as many marks pass a test of their addresses as blocks
   pub count_marks : count_by (λ (m : Mark). Q m.at) marks ≡ count_by passes slots
@@ -204,8 +210,12 @@ count_place (m ∷ ms) (suc k) d inside rises =
     let up : m.at < (get_or ms k d).at = rises 0 (suc k) (omega arith) inside in
     let test : nat_lt m.at (get_or ms k d).at ≡ true = grind (arith, nat_tests) in
     let first : cond {A = ℕ} (nat_lt m.at (get_or ms k d).at) 1 0 ≡ 1 = rw test refl in
-    omega (arith, count-cons (λ (x : Mark). nat_lt x.at (get_or ms k d).at) m ms, first,
-        count_place ms k d (omega (arith, inside)) (λ i j less inside'. rises (suc i) (suc j) (omega (arith, less)) (omega (arith, inside'))))
+    omega (
+      arith,
+      count-cons (λ (x : Mark). nat_lt x.at (get_or ms k d).at) m ms,
+      first,
+      count_place ms k d (omega (arith, inside)) (λ i j less inside'. rises (suc i) (suc j) (omega (arith, less)) (omega (arith, inside'))),
+    )
 
 -- so many blocks lie below the one whose mark is at a place
 pub below_is : (slots : List (Slot Block)) (marks : List Mark) → IsMarked slots marks → HaveMarks slots marks → All IsSized marks → (k : ℕ) (d : Mark) → k < length marks

@@ -273,8 +273,8 @@ module _ (banks : List ℕ) (slots : Slots) (arranged : IsArranged banks slots) 
         | inl old ↦
             let has = passed.from i old in
             let ne : has.place ≢ place = λ same.
-                let one : has.at ≡ (address, size) = same_extent has.at (address, size) (sym has.is ∙ ap (λ (n : ℕ). extent (slot_at slots n)) same ∙ there) in
-                absurd (omega (arith, ap (λ (x : ℕ × ℕ). x.0) one, has.before)) in
+            let one : has.at ≡ (address, size) = same_extent has.at (address, size) (sym has.is ∙ ap (λ (n : ℕ). extent (slot_at slots n)) same ∙ there) in
+            absurd (omega (arith, ap (λ (x : ℕ × ℕ). x.0) one, has.before)) in
             record { place = has.place; at = has.at; is = ap extent (next_other has.place ne) ∙ has.is; before = omega (arith, has.before); spans = has.spans }
         | inr new ↦ record { place = place; at = (to, size); is = next_extent; before = omega (arith, low); spans = new }
       ];
@@ -390,18 +390,18 @@ module _ (banks : List ℕ) (slots : Slots) (arranged : IsArranged banks slots) 
       | inr ne ↦ subst (IsApart to block.want.size) (sym (get_or-set_other slots place p empty new_slot ne)) (others p ne)
     ]
 
+    each_apart : (other : ℕ) → Fits banks (without slots place block) block.want other → (p : ℕ) → p ≢ place → IsApart other block.want.size (slot_at slots p)
+    unfolding empty
+    each_apart other fits p ne =
+        let here : IsApart other block.want.size (slot_at (without slots place block) p) = each_slot (IsApart other block.want.size) (without slots place block) (λ i from to holds. absurd holds) fits.apart p in
+        subst (IsApart other block.want.size) (get_or-set_other slots place p empty new_slot ne) here
+
     pub sinks_to : SinksTo banks slots place block to
     sinks_to = record {
       fits = open_fits banks (without slots place block) block.want to least.fits.open_ (all_at to block.want.size (without slots place block) each);
       least = λ other fits. least.least other (among other (fits_open banks (without slots place block) block.want other its_want.some fits)
           (λ i p from before ne holds. each_apart other fits p ne i from before holds));
     }
-      where
-        each_apart : (other : ℕ) → Fits banks (without slots place block) block.want other → (p : ℕ) → p ≢ place → IsApart other block.want.size (slot_at slots p)
-        unfolding empty
-        each_apart other fits p ne =
-            let here : IsApart other block.want.size (slot_at (without slots place block) p) = each_slot (IsApart other block.want.size) (without slots place block) (λ i from to holds. absurd holds) fits.apart p in
-            subst (IsApart other block.want.size) (get_or-set_other slots place p empty new_slot ne) here
 
 -- ---- what is put again as it was
 

@@ -49,7 +49,12 @@ fn any(size: u32) -> Want
 }
 
 // The calls as the steps make them. They promise nothing.
-fn put(banks: &mut Banks, size: u32, level: u8, locked: bool) -> Option<Result<Handle, PlaceFault>> {
+fn put(
+    banks: &mut Banks,
+    size: u32,
+    level: u8,
+    locked: bool,
+) -> Option<Result<Handle, PlaceFault>> {
     if size == 0 {
         return None;
     }

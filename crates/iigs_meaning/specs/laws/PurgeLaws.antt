@@ -40,8 +40,13 @@ module _ {X Y : Type 0} (p : X → Bool) (q : Y → Bool) where
   count_more d e (x ∷ xs) (y ∷ ys) zero len inside each fails meets =
       omega (arith, sum_by-cons (λ x. cond (p x) 1 0) x xs, sum_by-cons (λ y. cond (q y) 1 0) y ys, head_less x y fails meets, count_less d e xs ys (omega (arith, len)) (λ k. each (suc k)))
   count_more d e (x ∷ xs) (y ∷ ys) (suc place) len inside each fails meets =
-      omega (arith, sum_by-cons (λ x. cond (p x) 1 0) x xs, sum_by-cons (λ y. cond (q y) 1 0) y ys, one_less x y (each 0),
-      count_more d e xs ys place (omega (arith, len)) (omega (arith, inside)) (λ k. each (suc k)) fails meets)
+      omega (
+        arith,
+        sum_by-cons (λ x. cond (p x) 1 0) x xs,
+        sum_by-cons (λ y. cond (q y) 1 0) y ys,
+        one_less x y (each 0),
+        count_more d e xs ys place (omega (arith, len)) (omega (arith, inside)) (λ k. each (suc k)) fails meets,
+      )
 
 -- ---- nothing is emptied
 

@@ -9,7 +9,7 @@ clear-requires-clause-within c =
     reput_facts c.self.inside.places.banks c.self.inside.places.slots c.replace.new.self.slots c.args.h c.args.want.now c.in-Ok.at
     c.know_arranged.ensures.small c.requires.want c.know_arranged.ensures.bounded c.know_arranged.ensures.sound c.in-Ok.ensures.put in
     rw (c.offset.ensures.value, c.in-Ok.ensures.banks) (put_within c.self.inside.places.banks c.self.inside.bytes.items c.self.inside.places.slots c.replace.new.self.slots (vec_capacity c.self.inside.made) c.self.invariant.0
-      c.args.h.slot (c.in-Ok.at, c.args.want.now.size) f.bounded f.sound f.others f.is)
+    c.args.h.slot (c.in-Ok.at, c.args.want.now.size) f.bounded f.sound f.others f.is)
 
 pub invariant_of-self-2 : goal.invariant_of-self-2
 invariant_of-self-2 c =
@@ -18,7 +18,7 @@ invariant_of-self-2 c =
     c.know_arranged.ensures.small c.requires.want c.know_arranged.ensures.bounded c.know_arranged.ensures.sound c.in-Ok.ensures.put in
     rw (c.clear.ensures.value, c.offset.ensures.value, c.in-Ok.ensures.banks, clear_overlay) (
       put_store c.self.inside.places.banks c.self.inside.bytes.items c.self.inside.places.slots c.replace.new.self.slots (vec_capacity c.self.inside.made) c.self.invariant.0
-      c.args.h.slot (c.in-Ok.at, c.args.want.now.size) f.bounded f.sound f.others f.is,
+          c.args.h.slot (c.in-Ok.at, c.args.want.now.size) f.bounded f.sound f.others f.is,
       c.self.invariant.1,
       rw (c.clear.ensures.value, c.offset.ensures.value, c.in-Ok.ensures.banks, clear_overlay) at c.clear.ensures.blank,
     )
@@ -31,9 +31,9 @@ returns-clause-replaced c =
     rw (← c.self.view_is, c.clear.ensures.value, c.offset.ensures.value, c.in-Ok.ensures.banks, clear_overlay) (record {
       puts = reput_is c.self.inside.places.banks c.self.inside.places.slots c.replace.new.self.slots c.args.h c.args.want.now c.in-Ok.at c.in-Ok.ensures.put;
       zeros = put_zeros c.self.inside.places.banks c.self.inside.bytes.items c.self.inside.places.slots c.replace.new.self.slots (vec_capacity c.self.inside.made) c.self.invariant.0
-      c.args.h.slot (c.in-Ok.at, c.args.want.now.size) f.bounded f.sound f.others f.is;
+          c.args.h.slot (c.in-Ok.at, c.args.want.now.size) f.bounded f.sound f.others f.is;
       kept = put_keeps c.self.inside.places.banks c.self.inside.bytes.items c.self.inside.places.slots c.replace.new.self.slots (vec_capacity c.self.inside.made) c.self.invariant.0
-      c.args.h.slot (c.in-Ok.at, c.args.want.now.size) f.bounded f.sound f.others f.is;
+          c.args.h.slot (c.in-Ok.at, c.args.want.now.size) f.bounded f.sound f.others f.is;
     })
 
 pub returns-in-Err-clause-refused : goal.returns-in-Err-clause-refused
