@@ -2,3 +2,4 @@ pub mod Settled
 pub mod Moved
 pub mod Carrying
 pub mod Making
+pub mod Alls

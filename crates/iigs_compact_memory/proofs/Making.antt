@@ -54,7 +54,7 @@ module _ (banks : List ℕ) (slots : Slots) (want : Want) where
 
 -- ---- the next handle
 
-left_free : (was now : Slot Block) → IsLeft was now → (is_free now ≡ is_free was) × (now.generation ≡ was.generation)
+pub left_free : (was now : Slot Block) → IsLeft was now → (is_free now ≡ is_free was) × (now.generation ≡ was.generation)
 left_free was now = go
   where
     used : (block : Block) (content : Content Block) → used_value content ≡ Some block → is_free_content content ≡ false

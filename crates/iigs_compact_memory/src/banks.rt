@@ -1,13 +1,12 @@
 //! Memory of banks with movable blocks.
 
-ghost use Rattle.std.specs.Prelude.{◌≡◌, ◌<◌, ◌^◌, ℕ, List, [], All, IfErr, IfOk, IsSome, IsSomeAnd, IsTrue, MatchOption, OnErr, OnOk, None, false, true, length, slice_set};
+ghost use Rattle.std.specs.Prelude.{◌≡◌, ◌<◌, ◌≤◌, ◌^◌, ℕ, List, [], All, IfErr, IfOk, IsSome, IsSomeAnd, IsTrue, MatchOption, OnErr, OnOk, None, false, true, count_by, length, slice_set};
 ghost use Rattle.std.specs.Option.{option_map};
 ghost use Rattle.std.specs.Result.{result_ok};
 ghost use Rattle.std.specs.Borrow.{sem};
 ghost use Rattle.iigs_meaning.specs.declared.handles.Handle as declared;
-ghost use Rattle.iigs_meaning.specs.Slots.{get, slot_at, new_handle};
+ghost use Rattle.iigs_meaning.specs.Slots.{get, slot_at, is_free};
 ghost use Rattle.iigs_meaning.specs.Fits.{IsWant, HoldsByte};
-ghost use Rattle.iigs_meaning.specs.Placement.{HasNoRoom};
 ghost use Rattle.iigs_meaning.specs.Puts.{IsPlaceRefusal, IsReplaceRefusal, IsPlaceAllRefusal, slots_for};
 ghost use Rattle.iigs_meaning.specs.Slide.{AsksNoPlace, PurgesOrSlides, NoAddressRises, count_moved};
 ghost use Rattle.iigs_meaning.specs.Moves.{IsSlid};
@@ -17,10 +16,10 @@ ghost use Rattle.iigs_meaning.specs.Memory.{bytes_at, IsLent, KeepsBut, Changes,
 ghost use Rattle.iigs_meaning.specs.Room.{CountsBelow, IsRoom};
 ghost use Rattle.iigs_places.specs.Holder.{Has, IsHolder};
 ghost use Rattle.iigs_memory.specs.Overlay.{overlaid};
-ghost use Rattle.iigs_compact_memory.specs.Needs.{NoneAfter, NeedsPurges};
 
+use crate::alls::{place_each, plan_all, release};
 use crate::carry::carry_out;
-use crate::needs::needed;
+use crate::place::{place, replace};
 use iigs_meaning::{BanksFault, BlockFault, BlockState, Handle, PlaceFault, Want};
 use iigs_memory::Banks;
 use iigs_places::Places;
@@ -31,12 +30,14 @@ use std::marker::Model;
 #[derive(Drop)]
 pub struct CompactBanks {
     banks: Banks,
-    // Scratch space on which a slide is planned.
+    // Scratch space: on `plan` several blocks are placed, and on `trial` a slide is planned.
+    plan: Places,
     trial: Places,
+    handles: Vec<Handle>,
 }
 
 impl Model for CompactBanks {
-    ghost use Rattle.std.specs.Prelude.{◌≡◌};
+    ghost use Rattle.std.specs.Prelude.{◌≡◌, ◌≤◌, vec_capacity};
     ghost use Rattle.iigs_meaning.specs.Memory.{Memory};
     ghost use Rattle.iigs_meaning.specs.Slide.{AreSettled};
 
@@ -44,7 +45,8 @@ impl Model for CompactBanks {
 
     ghost view = { λ s. s.banks };
 
-    ghost invariant = { λ s. AreSettled s.banks.banks s.banks.slots × (s.trial.banks ≡ s.banks.banks) };
+    ghost invariant = { λ s. AreSettled s.banks.banks s.banks.slots × (s.plan.banks ≡ s.banks.banks) × (s.trial.banks ≡ s.banks.banks)
+        × (4096 ≤ vec_capacity s.handles) };
 }
 
 impl CompactBanks {
@@ -55,14 +57,24 @@ impl CompactBanks {
         ensures made { IfOk result (IsNew banks.now) }
         ensures refused { IfErr result (IsBanksRefusal banks.now) }
     {
-        let places = match Places::new(alloc, banks) {
+        let plan = match Places::new(alloc, banks) {
             Ok(places) => places,
             Err(fault) => return Err(fault),
+        };
+        let trial = match Places::new(alloc, banks) {
+            Ok(places) => places,
+            Err(fault) => return Err(fault),
+        };
+        let handles = match Vec::with_capacity(alloc, 4096) {
+            Ok(handles) => handles,
+            Err(_) => return Err(BanksFault::Memory),
         };
         match Banks::new(alloc, banks) {
             Ok(banks) => Ok(CompactBanks {
                 banks,
-                trial: places,
+                plan,
+                trial,
+                handles,
             }),
             Err(fault) => Err(fault),
         }
@@ -102,7 +114,11 @@ impl CompactBanks {
         ensures lent { IfOk result (λ bytes. IsLent self.old h bytes.now) }
         ensures refused { IfErr result (IsBlockRefusal self.old.slots h) }
     {
-        self.banks.block_mut(h)
+        match self.banks.state(h) {
+            Ok(state) if state.at.is_some() => Ok(self.banks.lend(h)),
+            Ok(_) => Err(BlockFault::Empty),
+            Err(_) => Err(BlockFault::Stale),
+        }
     }
 
     /// The bytes of a block that is there, to be written. A caller can follow the write.
@@ -188,53 +204,6 @@ impl CompactBanks {
         carry_out(&mut self.banks, &self.trial)
     }
 
-    // Purges as few blocks as are needed for a slide to make room for the want, and slides. Where none makes room, nothing is
-    // done.
-    fn make_room(&mut self, want: &Want) -> bool
-        requires { IsWant want.now }
-        ensures yes { IsTrue result → (count : ℕ) × NeedsPurges self.old.banks self.old.slots want.now count self.new.slots }
-        ensures kept { IsTrue result → KeepsBut self.old self.new [] }
-        ensures no { result ≡ false → (count : ℕ) → NoneAfter self.old.banks self.old.slots want.now count }
-        ensures same { result ≡ false → self.new ≡ self.old }
-    {
-        let Some(count) = needed(self.banks.places(), &mut self.trial, want) else {
-            return false;
-        };
-        self.banks.purge_first(count);
-        self.banks.blocks_lie_apart();
-        carry_out(&mut self.banks, &self.trial);
-        true
-    }
-
-    // Places a block for which there is no room by purges alone.
-    fn slide_and_place(
-        &mut self,
-        want: &Want,
-        user: u16,
-        locked: bool,
-        level: u8,
-        movable: bool,
-    ) -> Result<Handle, PlaceFault>
-        requires want { IsWant want.now }
-        requires none { HasNoRoom self.old.banks self.old.slots want.now }
-        requires handle { IsSome (new_handle self.old.slots) }
-        ensures placed { IfOk result (λ h. IsPlaced PurgesOrSlides self.old want.now user locked level movable h self.new) }
-        ensures refused { IfErr result (IsPlaceRefusal PurgesOrSlides self.old.banks self.old.slots want.now) }
-        ensures err { OnErr result (self.new ≡ self.old) }
-    {
-        if !self.make_room(want) {
-            return Err(PlaceFault::NoRoom(0));
-        }
-        match self.banks.put(want, user, locked, level, movable) {
-            Ok(h) => Ok(h),
-            Err(PlaceFault::Stale) => unreachable!(),
-            Err(PlaceFault::NotEmpty) => unreachable!(),
-            Err(PlaceFault::NoHandle) => unreachable!(),
-            Err(PlaceFault::NoRoom(_)) => unreachable!(),
-            Err(PlaceFault::Memory) => unreachable!(),
-        }
-    }
-
     /// Places a block under a new handle. It is all zeros. Blocks are purged for it as needed, and where none makes room, as
     /// few as are needed for a slide of the movable ones to make it.
     pub fn place(
@@ -251,35 +220,17 @@ impl CompactBanks {
         ensures refused { IfErr result (IsPlaceRefusal PurgesOrSlides self.old.banks self.old.slots want.now) }
         ensures err { OnErr result (self.new ≡ self.old) }
     {
-        match self.banks.put(want, user, locked, level, movable) {
+        match place(
+            &mut self.banks,
+            &mut self.trial,
+            want,
+            user,
+            locked,
+            level,
+            movable,
+        ) {
             Ok(h) => Ok(h),
-            Err(PlaceFault::NoRoom(_)) => self.slide_and_place(want, user, locked, level, movable),
-            Err(PlaceFault::NoHandle) => Err(PlaceFault::NoHandle),
-            Err(PlaceFault::Stale) => unreachable!(),
-            Err(PlaceFault::NotEmpty) => unreachable!(),
-            Err(PlaceFault::Memory) => unreachable!(),
-        }
-    }
-
-    // Places an empty block anew for which there is no room by purges alone.
-    fn slide_and_replace(&mut self, h: Handle, want: &Want) -> Result<(), PlaceFault>
-        requires want { IsWant want.now }
-        requires none { HasNoRoom self.old.banks self.old.slots want.now }
-        requires empty { IsSomeAnd (get self.old.slots h) (λ block. block.at ≡ None) }
-        ensures replaced { IfOk result (λ _. IsReplaced PurgesOrSlides self.old h want.now self.new) }
-        ensures refused { IfErr result (IsReplaceRefusal PurgesOrSlides self.old.banks self.old.slots h want.now) }
-        ensures err { OnErr result (self.new ≡ self.old) }
-    {
-        if !self.make_room(want) {
-            return Err(PlaceFault::NoRoom(0));
-        }
-        match self.banks.replace(h, want) {
-            Ok(()) => Ok(()),
-            Err(PlaceFault::Stale) => unreachable!(),
-            Err(PlaceFault::NotEmpty) => unreachable!(),
-            Err(PlaceFault::NoHandle) => unreachable!(),
-            Err(PlaceFault::NoRoom(_)) => unreachable!(),
-            Err(PlaceFault::Memory) => unreachable!(),
+            Err(fault) => Err(fault),
         }
     }
 
@@ -291,12 +242,68 @@ impl CompactBanks {
         ensures refused { IfErr result (IsReplaceRefusal PurgesOrSlides self.old.banks self.old.slots h want.now) }
         ensures err { OnErr result (self.new ≡ self.old) }
     {
-        match self.banks.replace(h, want) {
+        match replace(&mut self.banks, &mut self.trial, h, want) {
             Ok(()) => Ok(()),
-            Err(PlaceFault::NoRoom(_)) => self.slide_and_replace(h, want),
-            Err(PlaceFault::Stale) => Err(PlaceFault::Stale),
-            Err(PlaceFault::NotEmpty) => Err(PlaceFault::NotEmpty),
-            Err(PlaceFault::NoHandle) => unreachable!(),
+            Err(fault) => Err(fault),
+        }
+    }
+
+    // Places blocks for wants in order, all or none, of which one needs a slide.
+    fn slide_and_place_all(
+        &mut self,
+        user: u16,
+        fresh: bool,
+        wants: &[Want],
+        handles: &mut [Handle],
+    ) -> Result<(), PlaceFault>
+        requires wants { All IsWant wants.now }
+        requires lengths { length handles.old ≡ length wants.now }
+        requires enough { length wants.now ≤ count_by is_free (slots_for self.old.slots user fresh) }
+        ensures placed { OnOk result (AreAllPlaced PurgesOrSlides self.old user fresh wants.now handles.new self.new) }
+        ensures refused { IfErr result (IsPlaceAllRefusal PurgesOrSlides self.old.banks user (slots_for self.old.slots user fresh) wants.now) }
+        ensures err { OnErr result (self.new ≡ self.old) }
+        ensures handles_kept { OnErr result (handles.new ≡ handles.old) }
+    {
+        self.plan.start_from(self.banks.places(), user, fresh);
+        self.plan.know_arranged();
+        match plan_all(&mut self.plan, &mut self.trial, user, wants) {
+            Ok(()) => {}
+            Err(fault) => return Err(fault),
+        }
+        release(&mut self.banks, user, fresh);
+        place_each(
+            &mut self.banks,
+            &mut self.trial,
+            user,
+            wants,
+            &mut self.handles,
+        );
+        handles.copy_from_slice(&self.handles);
+        Ok(())
+    }
+
+    /// Places blocks for these wants in order, locked with level 0, all or none, with room made as for `place`. They aren't
+    /// movable. With `fresh` the user's handles are released first.
+    pub fn place_all(
+        &mut self,
+        user: u16,
+        fresh: bool,
+        wants: &[Want],
+        handles: &mut [Handle],
+    ) -> Result<(), PlaceFault>
+        requires wants { All IsWant wants.now }
+        requires lengths { length handles.old ≡ length wants.now }
+        ensures placed { OnOk result (AreAllPlaced PurgesOrSlides self.old user fresh wants.now handles.new self.new) }
+        ensures refused { IfErr result (IsPlaceAllRefusal PurgesOrSlides self.old.banks user (slots_for self.old.slots user fresh) wants.now) }
+        ensures err { OnErr result (self.new ≡ self.old) }
+        ensures handles_kept { OnErr result (handles.new ≡ handles.old) }
+    {
+        match self.banks.place_all(user, fresh, wants, handles) {
+            Ok(()) => Ok(()),
+            Err(PlaceFault::NoRoom(_)) => self.slide_and_place_all(user, fresh, wants, handles),
+            Err(PlaceFault::NoHandle) => Err(PlaceFault::NoHandle),
+            Err(PlaceFault::Stale) => unreachable!(),
+            Err(PlaceFault::NotEmpty) => unreachable!(),
             Err(PlaceFault::Memory) => unreachable!(),
         }
     }

@@ -3,10 +3,12 @@
 //! `CompactBanks` takes all of its memory when it is made. No other call takes any, so none refuses for want of memory.
 #![tactic(auto)]
 
+mod alls;
 mod banks;
 mod carry;
 mod law;
 mod needs;
+mod place;
 
 pub use banks::CompactBanks;
 pub use iigs_memory::{
