@@ -15,7 +15,7 @@ use Rattle.iigs_meaning.specs.Fits.{Slots, IsWant, Fits, block_in}
 use Rattle.iigs_meaning.specs.Placement.{emptied_where, emptied, is_gone}
 use Rattle.iigs_meaning.specs.Puts.{Purges, Puts, PutsAnew, PutsAll, placed, without_user, without_user_in, slots_for}
 use Rattle.iigs_meaning.specs.Blocks.{new_slots, can_purge_of}
-use Rattle.iigs_meaning.specs.Memory.{Memory, Changes}
+use Rattle.iigs_meaning.specs.Memory.{Memory, Changes, IsFreed, IsPurged}
 use Rattle.iigs_meaning.specs.Slide.{AreSettled}
 use Rattle.iigs_places.proofs.Stays.{slot_at-map}
 use Rattle.iigs_places.proofs.Changed.{live_block}
@@ -176,3 +176,22 @@ settled_changes old new h change same settled (Ok a) did err =
     } in
     subst (λ (bs : List ℕ). AreSettled bs new.slots) (sym did.kept.banks) (subst (AreSettled old.banks) (sym did.slots) (settled_value old.banks old.slots h (change did.block) settled now))
 settled_changes old new h change same settled (Err e) did err = subst (λ (m : Memory). AreSettled m.banks m.slots) (sym err) settled
+
+-- and the banks
+pub same_banks : {E : Type 0} (old new : Memory) (h : Handle) (change : Block → Block) (banks : List ℕ) → banks ≡ old.banks → {A : Type 0} (r : Result A E) → IfOk r (λ _. Changes old h change new) → OnErr r (new ≡ old) → banks ≡ new.banks
+same_banks old new h change banks same (Ok a) did err = same ∙ sym did.kept.banks
+same_banks old new h change banks same (Err e) did err = same ∙ ap (λ (m : Memory). m.banks) (sym err)
+
+-- a release does too, and a purge
+pub settled_freed : {E : Type 0} (old new : Memory) (h : Handle) → AreSettled old.banks old.slots → {A : Type 0} (r : Result A E) → IfOk r (λ _. IsFreed old h new) → OnErr r (new ≡ old) → AreSettled new.banks new.slots
+settled_freed old new h settled (Ok a) did err =
+    subst (λ (bs : List ℕ). AreSettled bs new.slots) (sym did.kept.banks) (subst (AreSettled old.banks) (sym did.slots) (settled_release old.banks old.slots h settled))
+settled_freed old new h settled (Err e) did err = subst (λ (m : Memory). AreSettled m.banks m.slots) (sym err) settled
+
+pub freed_banks : {E : Type 0} (old new : Memory) (h : Handle) (banks : List ℕ) → banks ≡ old.banks → {A : Type 0} (r : Result A E) → IfOk r (λ _. IsFreed old h new) → OnErr r (new ≡ old) → banks ≡ new.banks
+freed_banks old new h banks same (Ok a) did err = same ∙ sym did.kept.banks
+freed_banks old new h banks same (Err e) did err = same ∙ ap (λ (m : Memory). m.banks) (sym err)
+
+pub settled_purged : (old new : Memory) (user count : ℕ) → AreSettled old.banks old.slots → IsPurged old user count new → AreSettled new.banks new.slots
+settled_purged old new user count settled did =
+    subst (λ (bs : List ℕ). AreSettled bs new.slots) (sym did.kept.banks) (subst (AreSettled old.banks) (sym did.slots) (settled_map old.banks (can_purge_of user) old.slots settled))

@@ -1,12 +1,12 @@
 //! Places of blocks among banks.
 
-ghost use Rattle.std.specs.Prelude.{◌≡◌, ◌≢◌, ◌+◌, ◌-◌, ◌<◌, ◌≤◌, ◌^◌, ℕ, [], false, All, MatchOption, IsSome, IsSomeAnd, IsTrue, Some, IfOk, IfErr, OnErr, OnOk, length, count_by, map, vec_capacity};
+ghost use Rattle.std.specs.Prelude.{◌≡◌, ◌≢◌, ◌+◌, ◌-◌, ◌<◌, ◌≤◌, ◌^◌, ℕ, [], false, All, MatchOption, IsSome, IsSomeAnd, IsTrue, Some, IfSome, IfOk, IfErr, OnErr, OnOk, length, count_by, map, vec_capacity};
 ghost use Rattle.std.specs.Option.{option_map_or};
 ghost use Rattle.std.specs.Result.{result_ok};
 ghost use Rattle.iigs_meaning.specs.declared.handles.Handle as declared;
 ghost use Rattle.iigs_meaning.specs.Slots.{get, slot_at, with_value, after_release, is_free};
 ghost use Rattle.iigs_meaning.specs.Fits.{IsWant, Fits, HoldsByte, block_in};
-ghost use Rattle.iigs_meaning.specs.Placement.{emptied_where, emptied, count_purgeable};
+ghost use Rattle.iigs_meaning.specs.Placement.{emptied_where, emptied, count_purgeable as purgeable_of};
 ghost use Rattle.iigs_meaning.specs.Slide.{Slides, AreSettled};
 ghost use Rattle.iigs_meaning.specs.Moves.{count_there, IsNth, Empties, IsEmptyRefusal, Shifts, IsShiftRefusal};
 ghost use Rattle.iigs_meaning.specs.Puts.{Purges, IsPlaceRefusal, IsReplaceRefusal, IsPlaceAllRefusal, slots_for};
@@ -333,7 +333,8 @@ impl Places {
 
     /// The lowest block from an address on.
     pub fn first_from(&self, address: u32) -> Option<Put>
-        ensures { MatchOption result ((place at : ℕ) → address_in (slot_at self.now.slots place) ≡ Some at → at < address) (IsFirstPut self.now.slots address) }
+        ensures found { MatchOption result ((place at : ℕ) → address_in (slot_at self.now.slots place) ≡ Some at → at < address) (IsFirstPut self.now.slots address) }
+        ensures small { IfSome result (λ put. put.at < 2 ^ 24) }
     {
         match first_from(&self.layout.marks, address) {
             Some(mark) => Some(Put {
@@ -346,7 +347,7 @@ impl Places {
 
     /// How many blocks may be purged.
     pub fn purgeable(&self) -> u32
-        ensures value { result ≡ count_purgeable self.now.slots }
+        ensures value { result ≡ purgeable_of self.now.slots }
         ensures small { result ≤ 4096 }
     {
         count_purgeable(self.table.slots())
