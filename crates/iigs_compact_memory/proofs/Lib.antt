@@ -2,4 +2,5 @@ pub mod Settled
 pub mod Moved
 pub mod Carrying
 pub mod Making
+pub mod Searching
 pub mod Alls

@@ -1,5 +1,5 @@
 -- One block emptied, or moved to an address at which it lies beside the others.
-use Rattle.std.proofs.Common.{◌≡◌, ◌≢◌, ◌⊎◌, inl, inr, ℕ, not, ◌==◌, ◌+◌, ◌<◌, ◌≤◌, ◌^◌, max, List, ◌∷◌, All, Contains, length, Option, Some, None, IsSome, IsSomeAnd, IfSome, is_some, arith, refl, sym, ap, subst, ◌∙◌}
+use Rattle.std.proofs.Common.{◌≡◌, ◌≢◌, ◌⊎◌, inl, inr, ℕ, not, ◌==◌, ◌+◌, ◌<◌, ◌≤◌, ◌^◌, max, List, ◌∷◌, All, Contains, length, Option, Some, None, IsSome, IsSomeAnd, IfSome, is_some, Result, Ok, Err, OnOk, OnErr, arith, refl, sym, ap, subst, ◌∙◌}
 use Rattle.std.specs.List.{filter}
 use Rattle.std.specs.List.Sorted.{IsPermutation}
 use Rattle.std.proofs.Math.ListN.{set, length-set}
@@ -12,6 +12,8 @@ use Rattle.iigs_meaning.specs.declared.wants.Want.{Want}
 use Rattle.iigs_meaning.specs.declared.wants.Block.{Block}
 use Rattle.iigs_meaning.specs.Slots.{slot_at, get, with_value}
 use Rattle.iigs_meaning.specs.Fits.{Fits, IsApart, HoldsByte, block_in}
+use Rattle.iigs_meaning.specs.Placement.{emptied}
+use Rattle.iigs_meaning.specs.Moves.{Empties}
 use Rattle.iigs_meaning.specs.Blocks.{AreApart}
 use Rattle.iigs_places.specs.declared.marks.Mark.{Mark}
 use Rattle.iigs_places.specs.Extent.{extent, Spans}
@@ -21,10 +23,10 @@ use Rattle.iigs_places.specs.Open.{IsOpen}
 use Rattle.iigs_places.specs.Marks.{mark, HaveMarks, IsSized, LiesBeside, SharesByte}
 use Rattle.iigs_places.proofs.Extents.{each_slot, all_slots, holds_to, holds_from}
 use Rattle.iigs_places.proofs.Stays.{Stays, apart_placed}
-use Rattle.iigs_places.proofs.Changed.{live_block, live_in, with_is, set_here, set_other, set_stays, set_others_stay, set_bounded}
+use Rattle.iigs_places.proofs.Changed.{live_block, live_in, with_is, set_here, set_other, set_stays, set_others_stay, set_bounded, gone_bounded}
 use Rattle.iigs_places.proofs.Holds.{arranged_stays, length-with_slot}
 use Rattle.iigs_places.proofs.Marked.{extent_in, have_set, have_gone, have_moved}
-use Rattle.iigs_places.proofs.Puts.{free_limit}
+use Rattle.iigs_places.proofs.Puts.{free_limit, gone_stays, length-emptied}
 use Rattle.iigs_places.proofs.Placed.{fits_open, open_fits}
 
 -- ---- what marks tell of blocks
@@ -165,3 +167,13 @@ module _ (slots : List (Slot Block)) (h : Handle) (block : Block) (was : get slo
         bounded = moved_bounded;
         sound = moved_apart;
       }
+
+-- ---- where a call may refuse
+
+pub arranged_either : {E : Type 0} (banks : List ℕ) (old new : List (Slot Block)) (h : Handle) {A : Type 0} (r : Result A E) → OnOk r (Empties old h new) → OnErr r (new ≡ old) → IsArranged banks old → IsArranged banks new
+arranged_either banks old new h (Ok a) did err arranged = subst (IsArranged banks) (sym did.next_is) (arranged_emptied old h did.block did.was banks arranged)
+arranged_either banks old new h (Err e) did err arranged = subst (IsArranged banks) (sym err) arranged
+
+-- the first so many purgeable blocks are emptied
+pub arranged_gone : (banks : List ℕ) (slots : List (Slot Block)) (count : ℕ) → IsArranged banks slots → IsArranged banks (emptied slots count)
+arranged_gone banks slots count arranged = arranged_stays banks slots (emptied slots count) arranged (length-emptied slots count) (gone_bounded count slots arranged.bounded) (gone_stays slots count)

@@ -109,3 +109,13 @@ module _ (marks : List Mark) (once : AreOnce marks) where
         let two : get_or marks has'.0 m ≡ o = get_or_default marks has'.0 m o has'.1 ∙ has'.2 in
         absurd (once_apart has.0 has'.0 m ne has.1 has'.1 (ap (λ (x : Mark). x.slot) one ∙ same ∙ ap (λ (x : Mark). x.slot) (sym two)))
   ]
+
+-- where a mark of the slot is dropped there are fewer
+pub dropped_less : (marks : List Mark) (slot : ℕ) → (m : Mark) × Contains marks m × (m.slot ≡ slot) → length (filter (λ (o : Mark). not (o.slot == slot)) marks) < length marks
+dropped_less marks slot found =
+    let m : Mark = found.0 in
+    let test : ((get_or marks found.1.0 m).slot == slot) ≡ true = rw found.1.2 (same found.0.slot found.2) in
+    filter_less (λ (o : Mark). not (o.slot == slot)) marks found.1.0 m found.1.1 (rw test refl)
+  where
+    same : (n : ℕ) → n ≡ slot → (n == slot) ≡ true
+    same n e = grind (arith, nat_tests)

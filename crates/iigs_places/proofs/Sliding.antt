@@ -1,5 +1,5 @@
 -- One block after the other is slid down.
-use Rattle.std.proofs.Common.{◌≡◌, ◌≢◌, ◌⊎◌, inl, inr, ℕ, zero, suc, Bool, true, false, cond, ◌==◌, nat_lt, ◌+◌, ◌<◌, ◌≤◌, max, List, [], ◌∷◌, All, Contains, length, get_or, count_by, Option, Some, None, is_some, arith, refl, sym, ap, subst, ◌∙◌}
+use Rattle.std.proofs.Common.{◌≡◌, ◌≢◌, ◌⊎◌, inl, inr, ℕ, zero, suc, Bool, true, false, cond, ◌==◌, nat_lt, ◌+◌, ◌<◌, ◌≤◌, max, List, [], ◌∷◌, All, Contains, length, get_or, count_by, Option, Some, None, IsSome, is_some, arith, refl, sym, ap, subst, ◌∙◌}
 use Rattle.std.specs.Prelude.{slice_set}
 use Rattle.std.specs.Option.{option_map, option_map_or, option_and_then}
 use Rattle.std.proofs.Math.ListN.{set, length-set}
@@ -425,3 +425,64 @@ set_same (y ∷ ys) (suc k) x less same = ap (λ (zs : Slots). y ∷ zs) (set_sa
 -- moved to where it was, a block stays
 pub moved_same : (slots : Slots) (place : ℕ) (block : Block) (at : ℕ) → place < length slots → block_in (slot_at slots place) ≡ Some block → block.at ≡ Some at → with_moved slots place block at ≡ slots
 moved_same slots place block at inside' is lies' = set_same slots place (holding (slot_at slots place) (moved_to at block)) inside' (held_same (slot_at slots place) block at is lies')
+
+-- ---- what became of the block at a place
+
+pub extent_there : (slot : Slot Block) (e : ℕ × ℕ) → extent slot ≡ Some e → IsSome (block_in slot)
+extent_there slot e = go (block_in slot)
+  where
+    go : (o : Option Block) → option_and_then extent_of o ≡ Some e → IsSome o
+    go None is = absurd cc
+    go (Some block) is = refl
+
+module _ (banks : List ℕ) (slots : Slots) (arranged : IsArranged banks slots) (settled : AreSettled banks slots) (place address size : ℕ) (there : extent (slot_at slots place) ≡ Some (address, size))
+    (block : Block) (is : block_in (slot_at slots place) ≡ Some block) where
+  pub sinks_none : can_move block ≡ false → Sinks banks slots place address address slots
+  sinks_none cannot = record {
+    block = block;
+    is = is;
+    stays = λ e. (refl, refl);
+    sinks = λ can. let clash : true ≡ false = sym can ∙ cannot in absurd cc;
+  }
+
+  module _ (runs : List Spot) (passed : ArePassed slots address runs) (can : can_move block ≡ true) (to : ℕ) (least : IsLeastAmong banks block.want runs 0 to) where
+    pub sinks_there : (next : Slots) → next ≡ with_moved slots place block to → Sinks banks slots place address to next
+    sinks_there next moved = record {
+      block = block;
+      is = is;
+      stays = λ cannot. let clash : true ≡ false = sym can ∙ cannot in absurd cc;
+      sinks = λ e. (sinks_to banks slots arranged settled place address size there block is runs passed to least, moved);
+    }
+
+    pub sinks_here : to ≡ address → Sinks banks slots place address to slots
+    sinks_here same = sinks_there slots (sym (ap (λ (n : ℕ). with_moved slots place block n) same
+        ∙ moved_same slots place block address (past_none slots place (address, size) there) is (extent_block (slot_at slots place) block (address, size) is there).0))
+
+-- ---- a mark's block
+
+module _ (slots : Slots) (marks : List Mark) (have : HaveMarks slots marks) (m : Mark) (has : Contains marks m) where
+  pub mark_size : ℕ
+  mark_size = (have.are m has).0.1
+
+  pub mark_extent : extent (slot_at slots m.slot) ≡ Some (m.at, mark_size)
+  unfolding mark_size
+  mark_extent =
+      let one = have.are m has in
+      one.1 ∙ ap (λ (n : ℕ). Some (n, one.0.1)) (sym (ap (λ (x : Mark). x.at) one.2))
+
+  pub mark_ends : m.end ≡ m.at + mark_size
+  unfolding mark_size
+  mark_ends =
+      let one = have.are m has in
+      omega (arith, ap (λ (x : Mark). x.at) one.2, ap (λ (x : Mark). x.end) one.2)
+
+  pub mark_there : IsSome (block_in (slot_at slots m.slot))
+  mark_there = extent_there (slot_at slots m.slot) (m.at, mark_size) mark_extent
+
+-- a live handle's block sinks
+module _ (banks : List ℕ) (slots : Slots) (arranged : IsArranged banks slots) (h : Handle) (block : Block) (was : get slots h ≡ Some block) (to : ℕ) (sinks : SinksTo banks slots h.slot block to) where
+  pub sink_fits : Fits banks (with_value slots h (record block { at = None })) block.want to
+  sink_fits = subst (λ (s : Slots). Fits banks s block.want to) (sym (set_is slots h block was (record block { at = None }))) sinks.fits
+
+  pub sink_moved : with_value slots h (record block { at = Some to }) ≡ with_moved slots h.slot block to
+  sink_moved = set_is slots h block was (moved_to to block)

@@ -373,10 +373,7 @@ impl Places {
         ensures refused { IfErr result (IsEmptyRefusal self.old.slots h) }
         ensures err { OnErr result (self.new ≡ self.old) }
     {
-        match empty_block(&mut self.table, &mut self.layout, h) {
-            Ok(()) => Ok(()),
-            Err(fault) => Err(fault),
-        }
+        empty_block(&mut self.table, &mut self.layout, h)
     }
 
     /// Moves a block that isn't locked to an address not above its own at which its kept want fits beside the other

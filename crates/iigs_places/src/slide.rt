@@ -25,10 +25,10 @@ fn can_be_moved(block: &Block) -> bool
     block.at.is_some() && block.movable && !block.locked
 }
 
-// A block with its handle.
+// A block, and the generation of its handle.
 #[derive(Clone, Copy)]
 struct Held {
-    handle: Handle,
+    generation: u8,
     block: Block,
 }
 
@@ -36,18 +36,14 @@ struct Held {
 fn held_in(table: &Handles<Block>, slot: u16) -> Held
     requires place { slot < 4096 }
     requires there { IsSome (block_in (slot_at table.now slot)) }
-    ensures slot { result.handle.slot ≡ slot }
-    ensures live { get table.now result.handle ≡ Some result.block }
+    ensures { get table.now (record { slot = slot; generation = result.generation }) ≡ Some result.block }
 {
     let held = &table.slots()[usize::from(slot)];
     let Content::Used(block) = &held.content else {
         unreachable!();
     };
     Held {
-        handle: Handle {
-            slot,
-            generation: held.generation,
-        },
+        generation: held.generation,
         block: *block,
     }
 }
@@ -67,6 +63,8 @@ fn sink(
     requires marked { Contains layout.old.marks.items mark }
     requires passed { ArePassed table.old mark.at passed.now }
     ensures sinks { Sinks map.now table.old mark.slot mark.at result table.new }
+    ensures low { result ≤ mark.at }
+    ensures arranged { IsArranged map.now table.new }
     ensures laid { IsLayout table.new layout.new }
 {
     let held = held_in(table, mark.slot);
@@ -76,9 +74,14 @@ fn sink(
     let Some(to) = least_among(map, &held.block.want, passed, 0) else {
         unreachable!();
     };
-    if to != mark.at {
-        move_to(table, layout, held.handle, &held.block, mark.at, to);
+    if to == mark.at {
+        return to;
     }
+    let h = Handle {
+        slot: mark.slot,
+        generation: held.generation,
+    };
+    move_to(table, layout, h, &held.block, mark.at, to);
     to
 }
 
