@@ -1,5 +1,5 @@
 -- One block after the other is slid down.
-use Rattle.std.proofs.Common.{◌≡◌, ◌≢◌, ◌⊎◌, inl, inr, ℕ, zero, suc, Bool, true, false, cond, ◌==◌, nat_lt, ◌+◌, ◌<◌, ◌≤◌, max, List, [], ◌∷◌, All, Contains, length, get_or, count_by, Option, Some, None, IsSome, is_some, arith, refl, sym, ap, subst, ◌∙◌}
+use Rattle.std.proofs.Common.{◌≡◌, ◌≢◌, ◌⊎◌, inl, inr, ℕ, zero, suc, Bool, true, false, cond, ◌==◌, nat_lt, ◌+◌, ◌-◌, ◌<◌, ◌≤◌, max, List, [], ◌∷◌, All, Contains, length, get_or, count_by, Option, Some, None, IsSome, is_some, arith, refl, sym, ap, subst, ◌∙◌}
 use Rattle.std.specs.Prelude.{slice_set}
 use Rattle.std.specs.Option.{option_map, option_map_or, option_and_then}
 use Rattle.std.proofs.Math.ListN.{set, length-set}
@@ -8,6 +8,7 @@ use Rattle.std.proofs.lemmas.Bool.{cases_lt, cases_eq, eqb-true}
 use Rattle.std.proofs.lemmas.Bool.Decides.{nat_tests}
 use Rattle.std.proofs.lemmas.List.{get_or-set_same, get_or-set_other}
 use Rattle.std.proofs.lemmas.List.Elements.{Contains-get_or, All-contains}
+use Rattle.std.proofs.lemmas.List.Sums.{count_by-le-length}
 use Rattle.iigs_meaning.specs.declared.handles.Handle.{Handle}
 use Rattle.iigs_meaning.specs.declared.slots.Slot.{Slot}
 use Rattle.iigs_meaning.specs.declared.slots.Content.{Content}
@@ -26,11 +27,11 @@ use Rattle.iigs_places.specs.Extent.{extent, extent_of, Spans}
 use Rattle.iigs_places.specs.Spots.{IsBoundedSlot, FitsAmong, IsLeastAmong, IsBeside}
 use Rattle.iigs_places.specs.Arranged.{IsArranged}
 use Rattle.iigs_places.specs.Open.{IsOpen}
-use Rattle.iigs_places.specs.Marks.{mark, HaveMarks, IsFirstFrom}
+use Rattle.iigs_places.specs.Marks.{mark, HaveMarks, IsSized, IsFirstFrom}
 use Rattle.iigs_places.specs.Runs.{AreRuns, InRuns, RunsAdd}
 use Rattle.iigs_places.specs.Sliding.{HasPassed, ArePassed, Sinks}
 use Rattle.iigs_places.proofs.Extents.{each_slot, bounded_extent, holds_to, holds_from}
-use Rattle.iigs_places.proofs.Marked.{extent_in, past_none}
+use Rattle.iigs_places.proofs.Marked.{extent_in, past_none, marks_sized}
 use Rattle.iigs_places.proofs.Placed.{fits_open, open_fits}
 use Rattle.iigs_places.proofs.Counting.{address_extent}
 
@@ -486,3 +487,25 @@ module _ (banks : List ℕ) (slots : Slots) (arranged : IsArranged banks slots) 
 
   pub sink_moved : with_value slots h (record block { at = Some to }) ≡ with_moved slots h.slot block to
   sink_moved = set_is slots h block was (moved_to to block)
+
+-- one mark further
+module _ (banks : List ℕ) (now : Slots) (arranged : IsArranged banks now) (marks : List Mark) (have : HaveMarks now marks) (limit : ℕ) (m : Mark) (first : IsFirstFrom marks limit m)
+    (to : ℕ) (low : to ≤ m.at) (next : Slots) (after : IsArranged banks next) (s : Sinks banks now m.slot m.at to next) where
+  step_there : extent (slot_at now m.slot) ≡ Some (m.at, mark_size now marks have m first.is)
+  step_there = mark_extent now marks have m first.is
+
+  pub step_count : count_by (lies_below limit) now + 1 ≤ count_by (lies_below (suc m.at)) next
+  step_count = passed_count banks now next m.slot m.at (mark_size now marks have m first.is) to limit step_there arranged s (after.count ∙ sym arranged.count) first.from low
+
+  pub step_room : count_by (lies_below limit) now < 4096
+  step_room = omega (arith, step_count, count_by-le-length (lies_below (suc m.at)) next, after.count)
+
+  pub step_passed : (end : ℕ) → end ≡ to + (m.end - m.at) → (runs added : List Spot) → ArePassed now limit runs → AreRuns added → RunsAdd runs to end added → ArePassed next (suc m.at) added
+  step_passed end is runs added passed are adds =
+      let ends : end ≡ to + mark_size now marks have m first.is = omega (arith, is, mark_ends now marks have m first.is) in
+      passed_next banks now arranged m.slot m.at (mark_size now marks have m first.is) to step_there next s low runs added (passed_to now marks have limit m first runs passed) are
+      (subst (λ (n : ℕ). RunsAdd runs to n added) ends adds)
+
+-- a mark's block has a byte, and ends within the addresses of banks
+pub mark_sized : (slots : Slots) (marks : List Mark) → All IsBoundedSlot slots → HaveMarks slots marks → (m : Mark) → Contains marks m → IsSized m
+mark_sized slots marks bounded have m has = All-contains IsSized marks m (marks_sized slots marks bounded have) has
