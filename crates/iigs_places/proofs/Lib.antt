@@ -24,6 +24,7 @@ pub mod Quick
 pub mod Puts
 pub mod Moved
 pub mod Sliding
+pub mod Orders
 pub mod Fresh
 pub mod Alls
 pub mod Starts

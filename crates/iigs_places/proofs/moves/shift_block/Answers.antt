@@ -1,4 +1,6 @@
-use Rattle.std.proofs.Common.{sym, arith, IsTrue, rules}
+use Rattle.std.proofs.Common.{◌≡◌, true, None, sym, arith}
+use Rattle.iigs_meaning.specs.Slots.{with_value}
+use Rattle.iigs_meaning.specs.Fits.{Fits}
 use Rattle.iigs_places.proofs.Marked.{marks_sized, is_marked}
 use Rattle.iigs_places.proofs.Counting.{marks_apart}
 use Rattle.iigs_places.proofs.Moved.{block_bounded, beside_apart, fits_others, fits_not, arranged_moved}
@@ -24,3 +26,40 @@ fits_beside-requires-clause-sized c = rw c.deref.ensures.value (marks_sized c.ar
 
 pub fits_beside-requires-clause-apart : goal.fits_beside-requires-clause-apart
 fits_beside-requires-clause-apart c = rw c.deref.ensures.value (marks_apart c.args.table.now c.args.layout.now.marks.items (is_marked c.args.map.now c.args.table.now c.args.layout.now c.requires.arranged c.requires.laid) c.requires.laid.have)
+
+pub returns-then-not-fits_beside-clause-refused : goal.returns-then-not-fits_beside-clause-refused
+returns-then-not-fits_beside-clause-refused c =
+    let bounded = block_bounded c.args.table.now c.args.h c.in-Ok.block.now (sym c.in-Ok.ensures) c.requires.arranged.bounded in
+    rw (← c.in-Ok.ensures) (
+      c.if-block.false,
+      rw c.in-Some.is (omega (arith, c.if-at-to.false)),
+      fits_not c.args.table.now c.args.h c.in-Ok.block.now (sym c.in-Ok.ensures) c.args.layout.now.marks.items c.requires.laid.have
+          (marks_sized c.args.table.now c.args.layout.now.marks.items c.requires.arranged.bounded c.requires.laid.have)
+          c.args.map.now c.in-Ok.block.now.want c.args.to bounded.some (rw c.deref.ensures.value at c.fits_beside.ensures.no c.if-not-fits_beside.true),
+    )
+
+pub move_to-requires-clause-live : goal.move_to-requires-clause-live
+move_to-requires-clause-live c = sym c.in-Ok.ensures
+
+pub move_to-requires-clause-small : goal.move_to-requires-clause-small
+move_to-requires-clause-small c = omega (arith, c.if-at-to.false, rw c.in-Some.is at (block_bounded c.args.table.now c.args.h c.in-Ok.block.now (sym c.in-Ok.ensures) c.requires.arranged.bounded).ends)
+
+-- it fits beside the others
+fits : (c : goal.After-fits_beside) → c.fits_beside.result ≡ true → Fits c.args.map.now (with_value c.args.table.now c.args.h (record c.in-Ok.block.now { at = None })) c.in-Ok.block.now.want c.args.to
+fits c is =
+    let both = rw c.deref.ensures.value at c.fits_beside.ensures.yes is in
+    fits_others c.args.table.now c.args.h c.in-Ok.block.now (sym c.in-Ok.ensures) c.args.map.now c.in-Ok.block.now.want c.args.to both.0
+    (beside_apart c.args.table.now c.args.layout.now.marks.items c.requires.laid.have c.args.h.slot c.args.to c.in-Ok.block.now.want.size both.1)
+
+pub returns-clause-shifted : goal.returns-clause-shifted
+returns-clause-shifted c = record {
+  block = c.in-Ok.block.now;
+  was = sym c.in-Ok.ensures;
+  unlocked = c.if-block.false;
+  lower = rw c.in-Some.is (omega (arith, c.if-at-to.false));
+  fits = fits c c.if-not-fits_beside.false;
+  next_is = c.move_to.ensures.table;
+}
+
+pub returns-clause-arranged : goal.returns-clause-arranged
+returns-clause-arranged c = rw c.move_to.ensures.table (arranged_moved c.args.table.now c.args.h c.in-Ok.block.now (sym c.in-Ok.ensures) c.args.to c.args.map.now c.requires.arranged (fits c c.if-not-fits_beside.false))
