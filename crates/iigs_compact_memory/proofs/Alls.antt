@@ -1,5 +1,5 @@
 -- Several blocks placed in order, with slides where these are needed.
-use Rattle.std.proofs.Common.{◌≡◌, ◌≢◌, inl, inr, ℕ, zero, suc, Bool, true, false, cond, not, ◌==◌, ◌&&◌, ◌+◌, ◌<◌, ◌≤◌, List, [], ◌∷◌, ◌++◌, map, take, drop, replicate, length, get_or, Contains, count_by, Option, Some, None, IsSome, is_some, refl, sym, ap, subst, ◌∙◌, arith, add-one}
+use Rattle.std.proofs.Common.{◌≡◌, ◌≢◌, inl, ℕ, zero, suc, Bool, true, false, cond, not, ◌==◌, ◌&&◌, ◌+◌, ◌<◌, List, [], ◌∷◌, ◌++◌, drop, replicate, length, get_or, Contains, count_by, Option, Some, None, IsSome, is_some, refl, sym, ap, subst, ◌∙◌, arith}
 use Rattle.std.specs.Prelude.{slice_get, slice_set, option_map}
 use Rattle.std.specs.Option.{option_map_or}
 use Rattle.std.proofs.lemmas.Option.{same_Some}
@@ -15,16 +15,16 @@ use Rattle.iigs_meaning.specs.declared.wants.Block.{Block}
 use Rattle.iigs_meaning.specs.Slots.{slot_at, new_slot, is_free, lowest_free, new_handle, after_take}
 use Rattle.iigs_meaning.specs.Fits.{Slots, block_in}
 use Rattle.iigs_meaning.specs.Placement.{can_purge}
-use Rattle.iigs_meaning.specs.Puts.{Purges, Puts, PutsAll, LacksRoom, LacksRoomAt, placed}
+use Rattle.iigs_meaning.specs.Puts.{Purges, Puts, PutsAll, LacksRoom, placed}
 use Rattle.iigs_meaning.specs.Blocks.{address_in}
-use Rattle.iigs_meaning.specs.Memory.{Memory, KeepsBut, IsPlaced, IsThere, bytes_at}
+use Rattle.iigs_meaning.specs.Memory.{Memory, IsPlaced, IsThere, bytes_at}
 use Rattle.iigs_meaning.specs.Slide.{can_move, PurgesOrSlides}
 use Rattle.iigs_meaning.specs.laws.Left.{IsLeft, AreLeft}
 use Rattle.iigs_meaning.specs.laws.Left.IsLeft.{Unmoved, Emptied, Shifted}
 use Rattle.iigs_meaning.specs.laws.SlideRoomLaws.{purges_or_slides_once, are_left}
 use Rattle.iigs_places.proofs.Changed.{taken}
 use Rattle.iigs_compact_memory.specs.Alls.{AreZeros}
-use Rattle.iigs_compact_memory.proofs.Making.{left_handle, left_free, kept_twice}
+use Rattle.iigs_compact_memory.proofs.Making.{left_handle, left_free}
 
 -- ---- purges alone are purges and slides
 

@@ -1,7 +1,6 @@
 -- A slide that was planned is carried out, one block after the other.
-use Rattle.std.proofs.Common.{◌≡◌, ◌≢◌, ◌⊎◌, inl, inr, ℕ, zero, suc, Bool, true, false, cond, ◌==◌, not, ◌&&◌, ◌+◌, ◌<◌, ◌≤◌, ◌^◌, List, [], ◌∷◌, length, Option, Some, None, IsSome, is_some, IsSomeAnd, refl, sym, ap, subst, ◌∙◌, arith}
-use Rattle.std.specs.Prelude.{slice_set, unwrap_or}
-use Rattle.std.specs.Option.{option_map, option_and_then}
+use Rattle.std.proofs.Common.{◌≡◌, ◌≢◌, inl, inr, ℕ, suc, Bool, true, false, cond, ◌==◌, not, ◌&&◌, ◌+◌, ◌<◌, ◌≤◌, List, length, Option, Some, None, IsSome, is_some, IsSomeAnd, refl, sym, ap, subst, ◌∙◌, arith}
+use Rattle.std.specs.Prelude.{slice_set}
 use Rattle.std.proofs.lemmas.Option.{same_Some}
 use Rattle.std.proofs.lemmas.Bool.{cases_eq, cases_lt, eqb-true}
 use Rattle.std.proofs.lemmas.Bool.Decides.{nat_tests}
@@ -12,10 +11,9 @@ use Rattle.iigs_meaning.specs.declared.wants.Block.{Block}
 use Rattle.iigs_meaning.specs.Slots.{slot_at, new_slot, used_value, get, with_value}
 use Rattle.iigs_meaning.specs.Fits.{Slots, Fits, block_in}
 use Rattle.iigs_meaning.specs.Blocks.{AreApart, address_in}
-use Rattle.iigs_meaning.specs.Memory.{Memory, KeepsBut, IsThere}
-use Rattle.iigs_meaning.specs.Moves.{without_block, Shifts}
-use Rattle.iigs_meaning.specs.Slide.{can_move, is_moved, count_moved, mover, place_of, holding, moved_to, GoesBeside, Slides, AreSettled}
-use Rattle.iigs_meaning.specs.laws.SlideLaws.{mover_in, lies, inside, are_low, slides_moved, without, AreSlidTo, IsNext, fits_there, from_slide}
+use Rattle.iigs_meaning.specs.Moves.{without_block}
+use Rattle.iigs_meaning.specs.Slide.{can_move, is_moved, count_moved, mover, place_of, holding, moved_to, Slides, AreSettled}
+use Rattle.iigs_meaning.specs.laws.SlideLaws.{mover_in, lies, are_low, slides_moved, AreSlidTo, IsNext, fits_there, from_slide}
 use Rattle.iigs_places.specs.declared.table.Put.{Put}
 use Rattle.iigs_places.specs.Lowest.{IsFirstPut}
 use Rattle.iigs_places.proofs.Changed.{live_block, live_in}

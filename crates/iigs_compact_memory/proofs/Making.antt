@@ -1,12 +1,11 @@
 -- Room that is made by purges and a slide, and placements after it.
-use Rattle.std.proofs.Common.{◌≡◌, ◌≢◌, ◌⊎◌, inl, inr, ℕ, suc, Bool, true, false, cond, not, ◌==◌, ◌+◌, ◌<◌, ◌≤◌, ◌&&◌, nat_lt, List, [], ◌∷◌, length, Contains, get_or, Option, Some, None, IsSome, is_some, IsSomeAnd, refl, sym, ap, subst, ◌∙◌, arith}
+use Rattle.std.proofs.Common.{◌≡◌, ◌≢◌, inl, inr, ℕ, suc, Bool, true, false, cond, not, ◌==◌, ◌+◌, ◌<◌, ◌&&◌, nat_lt, List, [], ◌∷◌, length, Contains, Option, Some, None, IsSome, is_some, refl, sym, ap, subst, ◌∙◌, arith}
 use Rattle.std.specs.Prelude.{option_map, slice_set}
-use Rattle.std.specs.Option.{option_map_or, option_and_then}
+use Rattle.std.specs.Option.{option_map_or}
 use Rattle.std.specs.List.{prefix_len}
 use Rattle.std.proofs.lemmas.Option.{same_Some}
-use Rattle.std.proofs.lemmas.Bool.{cases_lt, cases_eq, eqb-true}
-use Rattle.std.proofs.lemmas.List.{get_or-set_same, get_or-set_other}
-use Rattle.std.proofs.lemmas.List.Quantifiers.{position-Some}
+use Rattle.std.proofs.lemmas.Bool.{cases_lt}
+use Rattle.std.proofs.lemmas.List.{get_or-set_other}
 use Rattle.iigs_meaning.specs.declared.handles.Handle.{Handle}
 use Rattle.iigs_meaning.specs.declared.slots.Slot.{Slot}
 use Rattle.iigs_meaning.specs.declared.slots.Content.{Content}
@@ -19,13 +18,13 @@ use Rattle.iigs_meaning.specs.Placement.{can_purge, emptied, emptied_where, is_g
 use Rattle.iigs_meaning.specs.Puts.{Purges, Puts, PutsAnew, LacksRoom, placed}
 use Rattle.iigs_meaning.specs.Blocks.{address_in}
 use Rattle.iigs_meaning.specs.Memory.{Memory, KeepsBut, IsThere}
-use Rattle.iigs_meaning.specs.Slide.{can_move, mover, holding, moved_to, Slides, PurgesOrSlides, HasNoRoomBySlides}
+use Rattle.iigs_meaning.specs.Slide.{can_move, mover, Slides, PurgesOrSlides}
 use Rattle.iigs_meaning.specs.laws.Left.{IsLeft, AreLeft}
 use Rattle.iigs_meaning.specs.laws.Left.IsLeft.{Unmoved, Emptied, Shifted}
 use Rattle.iigs_meaning.specs.laws.PlacementLaws.{no_room}
 use Rattle.iigs_meaning.specs.laws.PurgeLaws.{emptied_none, emptied_past}
 use Rattle.iigs_meaning.specs.laws.SlideLaws.{mover_in, lies, slides_once}
-use Rattle.iigs_meaning.specs.laws.SlideRoomLaws.{are_left, lacks_room_by_slides, emptied_left, slid_left}
+use Rattle.iigs_meaning.specs.laws.SlideRoomLaws.{lacks_room_by_slides, emptied_left, slid_left}
 use Rattle.iigs_places.proofs.Stays.{slot_at-map}
 use Rattle.iigs_compact_memory.specs.Needs.{NoneAfter, NeedsPurges}
 

@@ -1,5 +1,5 @@
 -- Blocks whose kept wants fit where they lie stay so.
-use Rattle.std.proofs.Common.{◌≡◌, ◌≢◌, inl, inr, ℕ, zero, suc, ◌+◌, replicate, Bool, true, false, cond, ◌==◌, List, [], map, length, Option, Some, None, IsSome, is_some, Result, Ok, Err, IfOk, OnErr, refl, sym, ap, subst, ◌∙◌, arith}
+use Rattle.std.proofs.Common.{◌≡◌, inl, inr, ℕ, zero, suc, ◌+◌, replicate, Bool, true, false, cond, ◌==◌, List, [], map, length, Option, Some, None, is_some, Result, Ok, Err, IfOk, OnErr, refl, sym, ap, subst, ◌∙◌, arith}
 use Rattle.std.specs.Prelude.{slice_set}
 use Rattle.std.specs.Option.{option_map_or}
 use Rattle.std.proofs.lemmas.Option.{same_Some}
@@ -13,7 +13,7 @@ use Rattle.iigs_meaning.specs.declared.wants.Block.{Block}
 use Rattle.iigs_meaning.specs.Slots.{slot_at, new_slot, get, with_slot, with_value, released, after_release, after_take, lowest_free}
 use Rattle.iigs_meaning.specs.Fits.{Slots, IsWant, Fits, block_in}
 use Rattle.iigs_meaning.specs.Placement.{emptied_where, emptied, is_gone}
-use Rattle.iigs_meaning.specs.Puts.{Purges, Puts, PutsAnew, PutsAll, placed, without_user, without_user_in, slots_for}
+use Rattle.iigs_meaning.specs.Puts.{Purges, Puts, PutsAnew, placed, without_user, without_user_in, slots_for}
 use Rattle.iigs_meaning.specs.Blocks.{new_slots, can_purge_of}
 use Rattle.iigs_meaning.specs.Memory.{Memory, Changes, IsFreed, IsPurged}
 use Rattle.iigs_meaning.specs.Slide.{AreSettled}

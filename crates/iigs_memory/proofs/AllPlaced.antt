@@ -1,14 +1,11 @@
 -- What is left once several blocks were placed.
-use Rattle.std.proofs.Common.{◌≡◌, ℕ, Bool, true, false, ◌≤◌, List, map, All, length, count_by, refl, sym, ◌∙◌, inr}
-use Rattle.std.proofs.lemmas.List.{length-map}
+use Rattle.std.proofs.Common.{◌≡◌, ℕ, Bool, ◌≤◌, List, map, length, count_by, refl, sym, ◌∙◌}
 use Rattle.iigs_meaning.specs.declared.slots.Slot.{Slot}
 use Rattle.iigs_meaning.specs.declared.wants.Want.{Want}
 use Rattle.iigs_meaning.specs.declared.wants.Block.{Block}
 use Rattle.iigs_meaning.specs.Slots.{slot_at, is_free}
-use Rattle.iigs_meaning.specs.Puts.{Purges, slots_for, without_user_in}
-use Rattle.iigs_meaning.specs.Blocks.{AreApart}
+use Rattle.iigs_meaning.specs.Puts.{Purges, slots_for}
 use Rattle.iigs_meaning.specs.Memory.{AreAllPlaced}
-use Rattle.iigs_places.specs.Spots.{IsBoundedSlot}
 use Rattle.iigs_memory.specs.Store.{IsStore, memory_of}
 use Rattle.iigs_places.specs.declared.table.Put.{Put}
 use Rattle.iigs_places.specs.Alls.{handle_of, AllPut}

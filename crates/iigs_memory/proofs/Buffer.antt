@@ -1,23 +1,21 @@
 -- How the bytes of blocks stand in the buffer.
-use Rattle.std.proofs.Common.{◌≡◌, ◌≢◌, ◌⊎◌, inl, inr, ℕ, ◌+◌, ◌<◌, ◌≤◌, ◌^◌, List, [], take, drop, All, Contains, length, Option, Some, None, IsSomeAnd, IfSome, is_some, unwrap_or, arith, refl, sym, ap, ◌∙◌, max}
+use Rattle.std.proofs.Common.{◌≡◌, ◌≢◌, ◌⊎◌, inl, inr, ℕ, ◌+◌, ◌<◌, ◌≤◌, ◌^◌, List, [], take, drop, All, Contains, length, Option, Some, None, IfSome, unwrap_or, arith, refl, sym, ap, ◌∙◌, max}
 use Rattle.std.specs.Option.{option_map_or, option_and_then}
-use Rattle.std.proofs.Math.ListN.{get_or-eq_default}
-use Rattle.std.proofs.lemmas.List.{get_or_default}
 use Rattle.std.proofs.lemmas.Bool.{cases_lt}
 use Rattle.iigs_meaning.specs.declared.slots.Slot.{Slot}
 use Rattle.iigs_meaning.specs.declared.wants.Block.{Block}
-use Rattle.iigs_meaning.specs.Slots.{slot_at, new_slot}
+use Rattle.iigs_meaning.specs.Slots.{slot_at}
 use Rattle.iigs_meaning.specs.Free.{bank_of}
 use Rattle.iigs_meaning.specs.Fits.{HoldsByte, block_in}
 use Rattle.iigs_meaning.specs.Blocks.{AreApart, address_in}
 use Rattle.iigs_places.specs.Offsets.{bytes_below, offset_of}
-use Rattle.iigs_places.specs.Spots.{IsBounded, IsBoundedSlot}
+use Rattle.iigs_places.specs.Spots.{IsBoundedSlot}
 use Rattle.iigs_memory.specs.Overlay.{written_over}
 use Rattle.iigs_places.specs.Extent.{sized, extent_of, extent, Spans}
 use Rattle.iigs_memory.specs.Store.{bytes_of, bytes_in}
 use Rattle.iigs_memory.proofs.Parts.{part, overlay, part-overlay, written_beside, written_whole, length-part}
 use Rattle.iigs_memory.proofs.Ranges.{range_inside, range_before}
-use Rattle.iigs_places.proofs.Extents.{holds_to, holds_from, there_extent, bounded_extent, each_slot, all_slots, start_extent}
+use Rattle.iigs_places.proofs.Extents.{holds_from, bounded_extent, each_slot, start_extent}
 
 abbrev pub bytes_from : List ℕ → List ℕ → Option (ℕ × ℕ) → List ℕ
 bytes_from banks buffer o = option_map_or (λ e. part (offset_of banks e.0) e.1 buffer) o []

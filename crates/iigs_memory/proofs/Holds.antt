@@ -1,5 +1,5 @@
 -- A block that is changed in its place.
-use Rattle.std.proofs.Common.{◌≡◌, ℕ, List, [], All, length, IsSomeAnd, ◌∙◌}
+use Rattle.std.proofs.Common.{◌≡◌, ℕ, List, [], IsSomeAnd}
 use Rattle.iigs_meaning.specs.declared.handles.Handle.{Handle}
 use Rattle.iigs_meaning.specs.declared.slots.Slot.{Slot}
 use Rattle.iigs_meaning.specs.declared.wants.Block.{Block}

@@ -1,5 +1,5 @@
 -- A block that is moved with its bytes, and blocks that are emptied.
-use Rattle.std.proofs.Common.{◌≡◌, ◌≢◌, ◌⊎◌, inl, inr, ℕ, zero, suc, ◌+◌, ◌-◌, ◌<◌, ◌≤◌, List, [], ◌∷◌, ◌++◌, take, drop, All, Contains, length, get_or, slice_index, length-append, length-drop, Some, None, arith, refl, sym, ap, subst, ◌∙◌}
+use Rattle.std.proofs.Common.{◌≡◌, ◌≢◌, ◌⊎◌, inl, inr, ℕ, zero, suc, ◌+◌, ◌-◌, ◌<◌, ◌≤◌, List, [], ◌∷◌, ◌++◌, take, drop, Contains, length, get_or, slice_index, length-append, length-drop, Some, None, arith, refl, sym, ap, subst, ◌∙◌}
 use Rattle.std.proofs.lemmas.Option.{same_Some}
 use Rattle.std.proofs.lemmas.Bool.{cases_lt, cases_eq}
 use Rattle.std.proofs.lemmas.List.{drop-drop, same_lists, length-take}
@@ -69,6 +69,12 @@ shift_facts banks old next h to s block was =
       subst (λ (b : Block). Fits banks (with_value old h (record b { at = None })) b.want to) same s.fits,
       s.next_is ∙ ap (λ (b : Block). with_value old h (record b { at = Some to })) same,
     )
+
+-- it isn't moved up
+pub shift_low : (banks : List ℕ) (old next : List (Slot Block)) (h : Handle) (to : ℕ) → Shifts banks old h to next → (block : Block) → get old h ≡ Some block → (at : ℕ) → block.at ≡ Some at → to ≤ at
+shift_low banks old next h to s block was at lies =
+    let same : s.block ≡ block = same_Some s.block block (sym s.was ∙ was) in
+    rw (same, lies) at s.lower
 
 module _ (banks buffer : List ℕ) (old : List (Slot Block)) (arranged : IsArranged banks old) (made : ℕ) (store : IsStore banks buffer made)
     (h : Handle) (block : Block) (was : get old h ≡ Some block) (at : ℕ) (lies : block.at ≡ Some at) (to : ℕ) (fits : Fits banks (with_value old h (record block { at = None })) block.want to) where

@@ -1,22 +1,13 @@
 -- The bytes of blocks that stay, and of one that is put.
-use Rattle.std.proofs.Common.{◌≡◌, ◌≢◌, ◌⊎◌, inl, inr, ℕ, Bool, true, false, cond, ◌==◌, ◌+◌, ◌≤◌, List, [], ◌∷◌, map, All, length, Some, None, IsSome, IsSomeAnd, is_some, arith, refl, sym, ap, ◌∙◌, subst}
-use Rattle.std.proofs.Math.ListN.{get_or-eq_default}
-use Rattle.std.proofs.lemmas.List.{get_or-map, length-map}
-use Rattle.std.proofs.lemmas.Bool.{cases_lt, cases_eq}
+use Rattle.std.proofs.Common.{◌≡◌, ◌≢◌, inl, inr, ℕ, true, false, ◌≤◌, List, [], ◌∷◌, All, length, Some, IsSome, is_some, arith, refl, sym, ap, ◌∙◌}
 use Rattle.iigs_meaning.specs.declared.slots.Slot.{Slot}
-use Rattle.iigs_meaning.specs.declared.slots.Content.{Content}
-use Rattle.iigs_meaning.specs.declared.slots.Content.TheVariants.{Free, Used, Retired}
 use Rattle.iigs_meaning.specs.declared.wants.Block.{Block}
-use Rattle.iigs_meaning.specs.Slots.{slot_at, new_slot, released}
-use Rattle.iigs_meaning.specs.Free.{IsFree}
-use Rattle.iigs_meaning.specs.Fits.{HoldsByte}
-use Rattle.iigs_meaning.specs.Placement.{emptied_where}
-use Rattle.iigs_meaning.specs.Puts.{without_user, without_user_in}
+use Rattle.iigs_meaning.specs.Slots.{slot_at}
 use Rattle.iigs_meaning.specs.Blocks.{AreApart, address_in}
 use Rattle.iigs_meaning.specs.Memory.{KeepsBut, bytes_at}
 use Rattle.iigs_places.specs.Offsets.{bytes_below, offset_of}
 use Rattle.iigs_places.specs.Spots.{IsBoundedSlot}
-use Rattle.iigs_places.specs.Extent.{extent, Spans}
+use Rattle.iigs_places.specs.Extent.{extent}
 use Rattle.iigs_memory.specs.Store.{bytes_in, memory_of}
 use Rattle.iigs_memory.proofs.Parts.{overlay}
 use Rattle.iigs_places.proofs.Extents.{there_extent}

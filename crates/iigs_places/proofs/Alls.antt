@@ -1,8 +1,8 @@
 -- Several blocks that are placed in order.
-use Rattle.std.proofs.Common.{◌≡◌, ◌≢◌, inl, inr, ℕ, Bool, true, false, cond, nat_lt, zero, suc, ◌&&◌, not, ◌==◌, ◌+◌, ◌<◌, ◌≤◌, List, [], ◌∷◌, ◌++◌, map, take, drop, replicate, All, length, get_or, count_by, Option, Some, None, is_some, length-append, length-drop, add-one, arith, refl, sym, ap, ◌∙◌, subst}
+use Rattle.std.proofs.Common.{◌≡◌, ◌≢◌, inl, inr, ℕ, Bool, true, false, cond, nat_lt, ◌&&◌, not, ◌==◌, ◌+◌, ◌<◌, List, [], ◌∷◌, ◌++◌, map, take, All, length, get_or, count_by, Option, Some, None, is_some, arith, refl, sym, ap, ◌∙◌, subst}
 use Rattle.std.specs.Option.{option_map, option_map_or}
 use Rattle.std.proofs.Math.ListN.{set}
-use Rattle.std.proofs.lemmas.List.{length-replicate, map-append, take_more, length-take}
+use Rattle.std.proofs.lemmas.List.{map-append, take_more}
 use Rattle.std.proofs.lemmas.List.Sums.{sum_by-set, sum_by-cons}
 use Rattle.std.proofs.lemmas.List.Quantifiers.{position-Some}
 use Rattle.iigs_meaning.specs.declared.handles.Handle.{Handle}

@@ -1,5 +1,5 @@
 -- How many blocks are there, and how many lie below an address.
-use Rattle.std.proofs.Common.{◌≡◌, ◌≢◌, inl, inr, ℕ, Bool, true, false, cond, zero, suc, ◌==◌, ◌&&◌, nat_lt, ◌+◌, ◌<◌, ◌≤◌, List, [], ◌∷◌, ◌++◌, take, All, Contains, length, get_or, count_by, Option, Some, None, is_some, add-one, arith, refl, sym, ap, subst, ◌∙◌}
+use Rattle.std.proofs.Common.{◌≡◌, inl, inr, ℕ, Bool, true, false, cond, zero, suc, ◌==◌, ◌&&◌, nat_lt, ◌+◌, ◌<◌, ◌≤◌, List, [], ◌∷◌, ◌++◌, take, All, Contains, length, get_or, count_by, Option, Some, None, is_some, add-one, arith, refl, sym, ap, ◌∙◌}
 use Rattle.std.specs.Option.{option_map, option_map_or, option_and_then}
 use Rattle.std.specs.List.Sorted.{IsNonDecreasingBy}
 use Rattle.std.proofs.lemmas.Bool.{cases_lt, cases_eq}
@@ -14,7 +14,7 @@ use Rattle.iigs_meaning.specs.Fits.{block_in}
 use Rattle.iigs_meaning.specs.Blocks.{address_in}
 use Rattle.iigs_meaning.specs.Moves.{count_there, lies_below}
 use Rattle.iigs_places.specs.declared.marks.Mark.{Mark}
-use Rattle.iigs_places.specs.Extent.{extent, extent_of, sized, Spans}
+use Rattle.iigs_places.specs.Extent.{extent, extent_of, sized}
 use Rattle.iigs_places.specs.Marks.{mark, HaveMarks, IsMarked, IsSized, AreOnce, AreMarksApart}
 use Rattle.iigs_places.proofs.Turns.{count-same}
 use Rattle.iigs_places.proofs.Once.{count-cons, count_none, count_one, once_apart}

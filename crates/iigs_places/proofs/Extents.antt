@@ -1,15 +1,14 @@
 -- Where blocks begin, and how many bytes they have.
-use Rattle.std.proofs.Common.{◌≡◌, ◌≢◌, ◌⊎◌, inl, inr, ℕ, ◌+◌, ◌<◌, ◌≤◌, ◌^◌, List, [], take, drop, All, Contains, length, Option, Some, None, IsSomeAnd, IfSome, is_some, unwrap_or, arith, refl, sym, ap, ◌∙◌, max}
-use Rattle.std.specs.Option.{option_map_or, option_and_then}
+use Rattle.std.proofs.Common.{◌≡◌, inl, inr, ℕ, ◌+◌, ◌<◌, ◌≤◌, ◌^◌, List, All, length, Option, Some, None, IsSomeAnd, IfSome, is_some, unwrap_or, arith, refl}
+use Rattle.std.specs.Option.{option_and_then}
 use Rattle.std.proofs.Math.ListN.{get_or-eq_default}
 use Rattle.std.proofs.lemmas.List.{get_or_default}
 use Rattle.std.proofs.lemmas.Bool.{cases_lt}
 use Rattle.iigs_meaning.specs.declared.slots.Slot.{Slot}
 use Rattle.iigs_meaning.specs.declared.wants.Block.{Block}
 use Rattle.iigs_meaning.specs.Slots.{slot_at, new_slot}
-use Rattle.iigs_meaning.specs.Free.{bank_of}
 use Rattle.iigs_meaning.specs.Fits.{HoldsByte, block_in}
-use Rattle.iigs_meaning.specs.Blocks.{AreApart, address_in}
+use Rattle.iigs_meaning.specs.Blocks.{address_in}
 use Rattle.iigs_places.specs.Spots.{IsBounded, IsBoundedSlot}
 use Rattle.iigs_places.specs.Extent.{sized, extent_of, extent, Spans}
 

@@ -1,5 +1,5 @@
 -- Banks without blocks.
-use Rattle.std.proofs.Common.{◌≡◌, ℕ, zero, suc, ◌<◌, ◌≤◌, List, [], replicate, All, length, refl, Some, None, sym, ap, ◌∙◌, arith}
+use Rattle.std.proofs.Common.{◌≡◌, ℕ, zero, suc, ◌<◌, List, [], replicate, All, length, refl, Some, None, sym, ap, ◌∙◌, arith}
 use Rattle.std.proofs.lemmas.List.{length-replicate}
 use Rattle.iigs_meaning.specs.declared.wants.Block.{Block}
 use Rattle.iigs_meaning.specs.Slots.{slot_at, new_slot}

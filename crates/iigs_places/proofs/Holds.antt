@@ -1,5 +1,5 @@
 -- Blocks that are arranged stay so where the slots are changed.
-use Rattle.std.proofs.Common.{◌≡◌, inl, inr, ℕ, Bool, true, false, cond, ◌<◌, List, [], map, All, length, Option, Some, None, IsSome, IsSomeAnd, IfSome, is_some, refl, ap, ◌∙◌}
+use Rattle.std.proofs.Common.{◌≡◌, inl, inr, ℕ, Bool, true, false, cond, ◌<◌, List, map, All, length, Option, Some, None, IsSome, IsSomeAnd, IfSome, is_some, refl, ap, ◌∙◌}
 use Rattle.std.proofs.Math.ListN.{set, length-set}
 use Rattle.std.proofs.lemmas.List.{length-map}
 use Rattle.std.proofs.lemmas.Bool.{cases_eq}

@@ -1,10 +1,10 @@
 -- One block emptied, or moved to an address at which it lies beside the others.
-use Rattle.std.proofs.Common.{◌≡◌, ◌≢◌, ◌⊎◌, inl, inr, ℕ, not, ◌==◌, ◌+◌, ◌<◌, ◌≤◌, ◌^◌, max, List, ◌∷◌, All, Contains, length, Option, Some, None, IsSome, IsSomeAnd, IfSome, is_some, Result, Ok, Err, OnOk, OnErr, arith, refl, sym, ap, subst, ◌∙◌}
+use Rattle.std.proofs.Common.{◌≡◌, ◌≢◌, ◌⊎◌, inl, inr, ℕ, not, ◌==◌, ◌+◌, ◌<◌, max, List, ◌∷◌, All, length, Some, None, IsSome, IfSome, is_some, Result, Ok, Err, OnOk, OnErr, arith, refl, sym, ap, subst, ◌∙◌}
 use Rattle.std.specs.List.{filter}
 use Rattle.std.specs.List.Sorted.{IsPermutation}
 use Rattle.std.proofs.Math.ListN.{set, length-set}
 use Rattle.std.proofs.lemmas.List.{set-set}
-use Rattle.std.proofs.lemmas.Bool.{cases_eq, cases_lt}
+use Rattle.std.proofs.lemmas.Bool.{cases_eq}
 use Rattle.iigs_meaning.specs.declared.handles.Handle.{Handle}
 use Rattle.iigs_meaning.specs.declared.slots.Slot.{Slot}
 use Rattle.iigs_meaning.specs.declared.slots.Content.TheVariants.{Used}
@@ -16,7 +16,7 @@ use Rattle.iigs_meaning.specs.Placement.{emptied}
 use Rattle.iigs_meaning.specs.Moves.{Empties}
 use Rattle.iigs_meaning.specs.Blocks.{AreApart}
 use Rattle.iigs_places.specs.declared.marks.Mark.{Mark}
-use Rattle.iigs_places.specs.Extent.{extent, Spans}
+use Rattle.iigs_places.specs.Extent.{extent}
 use Rattle.iigs_places.specs.Spots.{IsBounded, IsBoundedSlot}
 use Rattle.iigs_places.specs.Arranged.{IsArranged}
 use Rattle.iigs_places.specs.Open.{IsOpen}

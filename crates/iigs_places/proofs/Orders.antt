@@ -12,7 +12,6 @@ use Rattle.iigs_meaning.specs.Fits.{block_in}
 use Rattle.iigs_meaning.specs.Blocks.{address_in}
 use Rattle.iigs_meaning.specs.Moves.{count_there, lies_below, IsNth}
 use Rattle.iigs_places.specs.declared.marks.Mark.{Mark}
-use Rattle.iigs_places.specs.declared.table.Put.{Put}
 use Rattle.iigs_places.specs.Extent.{extent, extent_of}
 use Rattle.iigs_places.specs.Marks.{mark, HaveMarks, IsMarked, IsSized, IsFirstFrom}
 use Rattle.iigs_places.specs.Lowest.{IsFirstPut}

@@ -1,8 +1,7 @@
 -- One block after the other is slid down.
-use Rattle.std.proofs.Common.{◌≡◌, ◌≢◌, ◌⊎◌, inl, inr, ℕ, zero, suc, Bool, true, false, cond, ◌==◌, nat_lt, ◌+◌, ◌-◌, ◌<◌, ◌≤◌, max, List, [], ◌∷◌, All, Contains, length, get_or, count_by, Option, Some, None, IsSome, is_some, arith, refl, sym, ap, subst, ◌∙◌}
+use Rattle.std.proofs.Common.{◌≡◌, ◌≢◌, inl, inr, ℕ, zero, suc, Bool, true, false, cond, ◌==◌, nat_lt, ◌+◌, ◌-◌, ◌<◌, ◌≤◌, max, List, [], ◌∷◌, All, Contains, length, get_or, count_by, Option, Some, None, IsSome, arith, refl, sym, ap, subst, ◌∙◌}
 use Rattle.std.specs.Prelude.{slice_set}
 use Rattle.std.specs.Option.{option_map, option_map_or, option_and_then}
-use Rattle.std.proofs.Math.ListN.{set, length-set}
 use Rattle.std.proofs.lemmas.Option.{same_Some}
 use Rattle.std.proofs.lemmas.Bool.{cases_lt, cases_eq, eqb-true}
 use Rattle.std.proofs.lemmas.Bool.Decides.{nat_tests}
@@ -20,16 +19,16 @@ use Rattle.iigs_meaning.specs.Blocks.{AreApart, address_in}
 use Rattle.iigs_meaning.specs.Moves.{lies_below}
 use Rattle.iigs_meaning.specs.Slide.{can_move, mover, place_of, holding, moved_to, Slides, AreSettled}
 use Rattle.iigs_meaning.specs.laws.PurgeLaws.{count_more}
-use Rattle.iigs_meaning.specs.laws.SlideLaws.{mover_in, lies, inside, are_low, without, with_moved, AreSlidTo, AreMoved, SinksTo, IsNext, slid_next, sinks_low, slid_all, all_at}
+use Rattle.iigs_meaning.specs.laws.SlideLaws.{mover_in, lies, are_low, without, with_moved, AreSlidTo, SinksTo, IsNext, slid_next, slid_all, all_at}
 use Rattle.iigs_places.specs.declared.marks.Mark.{Mark}
 use Rattle.iigs_places.specs.declared.spots.Spot.{Spot}
-use Rattle.iigs_places.specs.Extent.{extent, extent_of, Spans}
+use Rattle.iigs_places.specs.Extent.{extent, extent_of}
 use Rattle.iigs_places.specs.Spots.{IsBoundedSlot, FitsAmong, IsLeastAmong, IsBeside}
 use Rattle.iigs_places.specs.Arranged.{IsArranged}
 use Rattle.iigs_places.specs.Open.{IsOpen}
 use Rattle.iigs_places.specs.Marks.{mark, HaveMarks, IsSized, IsFirstFrom}
 use Rattle.iigs_places.specs.Runs.{AreRuns, InRuns, RunsAdd}
-use Rattle.iigs_places.specs.Sliding.{HasPassed, ArePassed, Sinks}
+use Rattle.iigs_places.specs.Sliding.{ArePassed, Sinks}
 use Rattle.iigs_places.proofs.Extents.{each_slot, bounded_extent, holds_to, holds_from}
 use Rattle.iigs_places.proofs.Marked.{extent_in, past_none, marks_sized}
 use Rattle.iigs_places.proofs.Placed.{fits_open, open_fits}

@@ -1,5 +1,5 @@
 -- Slots whose blocks stay where they are, or are gone.
-use Rattle.std.proofs.Common.{◌≡◌, ◌≢◌, ◌⊎◌, inl, inr, ℕ, Bool, true, false, cond, ◌==◌, ◌+◌, ◌≤◌, List, [], ◌∷◌, map, All, length, Some, None, IsSome, IsSomeAnd, is_some, arith, refl, sym, ap, ◌∙◌, subst}
+use Rattle.std.proofs.Common.{◌≡◌, ◌≢◌, ◌⊎◌, inl, inr, ℕ, Bool, true, false, cond, ◌==◌, ◌+◌, ◌≤◌, List, map, length, Some, None, IsSomeAnd, arith, refl, sym, ◌∙◌, subst}
 use Rattle.std.proofs.Math.ListN.{get_or-eq_default}
 use Rattle.std.proofs.lemmas.List.{get_or-map, length-map}
 use Rattle.std.proofs.lemmas.Bool.{cases_lt, cases_eq}
@@ -12,10 +12,9 @@ use Rattle.iigs_meaning.specs.Free.{IsFree}
 use Rattle.iigs_meaning.specs.Fits.{HoldsByte}
 use Rattle.iigs_meaning.specs.Placement.{emptied_where}
 use Rattle.iigs_meaning.specs.Puts.{without_user, without_user_in}
-use Rattle.iigs_meaning.specs.Blocks.{AreApart, address_in}
-use Rattle.iigs_places.specs.Spots.{IsBoundedSlot}
+use Rattle.iigs_meaning.specs.Blocks.{AreApart}
 use Rattle.iigs_places.specs.Extent.{extent, Spans}
-use Rattle.iigs_places.proofs.Extents.{there_extent, holds_to, holds_from}
+use Rattle.iigs_places.proofs.Extents.{holds_to, holds_from}
 
 -- the slot's block stays where it is, or none is there
 abbrev pub StaysIn : Slot Block → Slot Block → Type 0

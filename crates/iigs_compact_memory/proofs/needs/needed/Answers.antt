@@ -1,4 +1,4 @@
-use Rattle.std.proofs.Common.{◌∙◌, ap, IsTrue, rules}
+use Rattle.std.proofs.Common.{◌∙◌, ap}
 use Rattle.iigs_places.specs.Arranged.{Arrangement}
 use Rattle.iigs_compact_memory.specs.Needs.{NoneAfter}
 use Rattle.iigs_compact_memory.proofs.Making.{none_past}

@@ -1,4 +1,4 @@
-use Rattle.std.proofs.Common.{sym, ◌∙◌, IsTrue, rules}
+use Rattle.std.proofs.Common.{sym}
 use Rattle.iigs_places.proofs.Marked.{marks_at}
 use Rattle.iigs_places.proofs.Moved.{have_emptied}
 use Rattle.iigs_places.proofs.moves.empty_block.Goals as goal

@@ -1,4 +1,4 @@
-use Rattle.std.proofs.Common.{refl, ap, is_some, ◌≡◌, Some}
+use Rattle.std.proofs.Common.{refl, ◌≡◌, Some}
 use Rattle.iigs_places.specs.Extent.{extent}
 use Rattle.iigs_meaning.specs.Slots.{slot_at}
 use Rattle.iigs_places.specs.Marks.{mark}

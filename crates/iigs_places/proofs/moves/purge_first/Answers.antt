@@ -1,8 +1,5 @@
 use Rattle.std.proofs.Common.{◌∙◌}
-use Rattle.iigs_places.specs.Spots.{IsSurvey}
-use Rattle.iigs_places.proofs.Turns.{turns_small}
 use Rattle.iigs_places.proofs.First.{first_emptied}
-use Rattle.iigs_places.proofs.Changed.{gone_bounded}
 use Rattle.iigs_places.proofs.moves.purge_first.Goals as goal
 
 pub returns-clause-after : goal.returns-clause-after
