@@ -1,6 +1,6 @@
 -- A slide that was planned is carried out, one block after the other.
 use Rattle.std.proofs.Common.{◌≡◌, ◌≢◌, inl, inr, ℕ, suc, Bool, true, false, cond, ◌==◌, not, ◌&&◌, ◌+◌, ◌<◌, ◌≤◌, List, length, Option, Some, None, IsSome, is_some, IsSomeAnd, refl, sym, ap, subst, ◌∙◌, arith}
-use Rattle.std.specs.Prelude.{slice_set}
+use Rattle.std.specs.Prelude.{slice_set, unwrap_or}
 use Rattle.std.proofs.lemmas.Option.{same_Some}
 use Rattle.std.proofs.lemmas.Bool.{cases_eq, cases_lt, eqb-true}
 use Rattle.std.proofs.lemmas.Bool.Decides.{nat_tests}
@@ -11,7 +11,7 @@ use Rattle.iigs_meaning.specs.declared.wants.Block.{Block}
 use Rattle.iigs_meaning.specs.Slots.{slot_at, new_slot, used_value, get, with_value}
 use Rattle.iigs_meaning.specs.Fits.{Slots, Fits, block_in}
 use Rattle.iigs_meaning.specs.Blocks.{AreApart, address_in}
-use Rattle.iigs_meaning.specs.Moves.{without_block}
+use Rattle.iigs_meaning.specs.Moves.{without_block, Shifts}
 use Rattle.iigs_meaning.specs.Slide.{can_move, is_moved, count_moved, mover, place_of, holding, moved_to, Slides, AreSettled}
 use Rattle.iigs_meaning.specs.laws.SlideLaws.{mover_in, lies, are_low, slides_moved, AreSlidTo, IsNext, fits_there, from_slide}
 use Rattle.iigs_places.specs.declared.table.Put.{Put}
@@ -55,7 +55,38 @@ module _ (banks : List ℕ) (slots plan : Slots) (h : Handle) (at : ℕ) (can : 
   pub moved_told : is_moved (slot_at slots h.slot) (slot_at plan h.slot) ≡ not (at == can.to)
   moved_told = rw (can.planned, live_block slots h can.block can.was, can.there) refl
 
+  -- and where it is moved
+  pub carried_shift : (next : Slots) (to : ℕ) → to ≡ can.to → Shifts banks slots h to next → next ≡ slice_set slots h.slot (slot_at plan h.slot)
+  carried_shift next to same shifts =
+      let block : shifts.block ≡ can.block = same_Some shifts.block can.block (sym shifts.was ∙ can.was) in
+      shifts.next_is ∙ ap (λ (b : Block). with_value slots h (moved_to to b)) block ∙ ap (λ (n : ℕ). with_value slots h (moved_to n can.block)) same ∙ carried_is
+
+  pub counts_one : can.to ≢ at → 1 ≡ cond {A = ℕ} (is_moved (slot_at slots h.slot) (slot_at plan h.slot)) 1 0
+  counts_one ne = let other : (at == can.to) ≡ false = grind (arith, nat_tests) in rw (moved_told, other) refl
+
+  pub counts_none : can.to ≡ at → 0 ≡ cond {A = ℕ} (is_moved (slot_at slots h.slot) (slot_at plan h.slot)) 1 0
+  counts_none eq = let same : (at == can.to) ≡ true = grind (arith, nat_tests) in rw (moved_told, same) refl
+
+  -- what is there once it is carried was there
+  pub there_before : (place : ℕ) → IsSome (address_in (slot_at (slice_set slots h.slot (slot_at plan h.slot)) place)) → IsSome (address_in (slot_at slots place))
+  there_before place some = elim (cases_eq place h.slot) [
+    | inl same ↦ rw (same, live_block slots h can.block can.was, can.there) refl
+    | inr ne ↦ subst (λ (s : Slot Block). IsSome (address_in s)) (get_or-set_other slots h.slot place (slot_at plan h.slot) new_slot ne) some
+  ]
+
+  -- where the plan has it is what was looked up
+  pub looked_up : (block : Block) → Some block ≡ get plan h → (to : ℕ) → to ≡ unwrap_or block.at at → to ≡ can.to
+  looked_up block is to told =
+      let same : block ≡ moved_to can.to can.block = same_Some block (moved_to can.to can.block) (is ∙ planned_block) in
+      told ∙ ap (λ (b : Block). unwrap_or b.at at) same
+
   -- why it isn't refused
+  pub no_stale : get slots h ≡ None → ⊥
+  no_stale none = let clash : Some can.block ≡ None = sym can.was ∙ none in cc
+
+  pub no_gone : None ≡ get plan h → ⊥
+  no_gone none = let clash : None ≡ Some (moved_to can.to can.block) = none ∙ planned_block in cc
+
   pub no_empty : IsSomeAnd (get slots h) (λ block. block.at ≡ None) → ⊥
   no_empty none = let no : can.block.at ≡ None = rw can.was at none in let clash : Some at ≡ None = sym can.there ∙ no in cc
 

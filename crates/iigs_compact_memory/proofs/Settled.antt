@@ -16,7 +16,8 @@ use Rattle.iigs_meaning.specs.Placement.{emptied_where, emptied, is_gone}
 use Rattle.iigs_meaning.specs.Puts.{Purges, Puts, PutsAnew, placed, without_user, without_user_in, slots_for}
 use Rattle.iigs_meaning.specs.Blocks.{new_slots, can_purge_of}
 use Rattle.iigs_meaning.specs.Memory.{Memory, Changes, IsFreed, IsPurged}
-use Rattle.iigs_meaning.specs.Slide.{AreSettled}
+use Rattle.iigs_meaning.specs.Slide.{mover, moved_to, Slides, AreSettled}
+use Rattle.iigs_meaning.specs.laws.SlideLaws.{mover_in}
 use Rattle.iigs_places.proofs.Stays.{slot_at-map}
 use Rattle.iigs_places.proofs.Changed.{live_block}
 
@@ -153,6 +154,20 @@ module _ (banks : List ℕ) where
       let room : AreSettled banks puts.room = subst (AreSettled banks) (sym puts.makes.room_is) (settled_emptied slots puts.makes.count settled) in
       subst (AreSettled banks) (sym puts.next_is) (settled_value puts.room h (placed want puts.address puts.block.user puts.block.locked puts.block.level false) room
       (placed_settled (emptied slots puts.makes.count) want puts.address puts.block.user puts.block.locked puts.block.level false is_want puts.makes.goes.fits))
+
+  -- ---- a slide
+
+  pub settled_slides : (old new : Slots) → AreSettled banks old → Slides banks old new → AreSettled banks new
+  settled_slides old new settled slides = all_slots new (λ place. go place (mover (slot_at old place)) refl)
+    where
+      go : (place : ℕ) (o : Option Block) → mover (slot_at old place) ≡ o → SettledIn banks (slot_at new place)
+      go place None m = subst (SettledIn banks) (sym (slides.stay place m)) (in_slots old settled place)
+      go place (Some was) m =
+          let goes = slides.goes place was m in
+          subst (SettledIn banks) (sym goes.2) (in_used (slot_at old place).generation (moved_to goes.0 was) (record {
+            want = settled.wants place was (mover_in (slot_at old place) was m).0;
+            fits = λ at lies. subst (λ (n : ℕ). Fits banks [] was.want n) (same_Some goes.0 at lies) goes.1.fits.open_;
+          }))
 
   -- ---- without blocks
 
