@@ -1,9 +1,9 @@
 -- Several blocks placed in order, with slides where these are needed.
-use Rattle.std.proofs.Common.{◌≡◌, ◌≢◌, inl, ℕ, zero, suc, Bool, true, false, cond, not, ◌==◌, ◌&&◌, ◌+◌, ◌<◌, List, [], ◌∷◌, ◌++◌, drop, replicate, length, get_or, Contains, count_by, Option, Some, None, IsSome, is_some, refl, sym, ap, subst, ◌∙◌, arith}
+use Rattle.std.proofs.Common.{◌≡◌, ◌≢◌, inl, ℕ, zero, suc, Bool, true, false, cond, not, ◌==◌, ◌&&◌, ◌+◌, ◌<◌, List, [], ◌∷◌, ◌++◌, take, drop, map, replicate, length, get_or, Contains, count_by, Option, Some, None, IsSome, is_some, refl, sym, ap, subst, ◌∙◌, add-one, arith}
 use Rattle.std.specs.Prelude.{slice_get, slice_set, option_map}
 use Rattle.std.specs.Option.{option_map_or}
 use Rattle.std.proofs.lemmas.Option.{same_Some}
-use Rattle.std.proofs.lemmas.List.{get_or-set_same, get_or-set_other}
+use Rattle.std.proofs.lemmas.List.{get_or-set_same, get_or-set_other, take_more, map-append}
 use Rattle.std.proofs.lemmas.List.Sums.{sum_by-cons, sum_by-set}
 use Rattle.std.proofs.lemmas.List.Elements.{Contains-append_left, Contains-push}
 use Rattle.std.proofs.lemmas.List.Quantifiers.{position-Some}
@@ -17,13 +17,13 @@ use Rattle.iigs_meaning.specs.Fits.{Slots, block_in}
 use Rattle.iigs_meaning.specs.Placement.{can_purge}
 use Rattle.iigs_meaning.specs.Puts.{Purges, Puts, PutsAll, LacksRoom, placed}
 use Rattle.iigs_meaning.specs.Blocks.{address_in}
-use Rattle.iigs_meaning.specs.Memory.{Memory, IsPlaced, IsThere, bytes_at}
+use Rattle.iigs_meaning.specs.Memory.{Memory, KeepsBut, IsPlaced, IsThere, bytes_at}
 use Rattle.iigs_meaning.specs.Slide.{can_move, PurgesOrSlides}
 use Rattle.iigs_meaning.specs.laws.Left.{IsLeft, AreLeft}
 use Rattle.iigs_meaning.specs.laws.Left.IsLeft.{Unmoved, Emptied, Shifted}
 use Rattle.iigs_meaning.specs.laws.SlideRoomLaws.{purges_or_slides_once, are_left}
 use Rattle.iigs_places.proofs.Changed.{taken}
-use Rattle.iigs_compact_memory.specs.Alls.{AreZeros}
+use Rattle.iigs_compact_memory.specs.Alls.{AreZeros, CanPutAll}
 use Rattle.iigs_compact_memory.proofs.Making.{left_handle, left_free}
 
 -- ---- purges alone are purges and slides
@@ -228,3 +228,50 @@ not_among places slot place out = (
   λ has. out (Contains-append_left places (slot ∷ []) place has),
   λ same. out (subst (λ (n : ℕ). Contains (places ++ slot ∷ []) n) (sym same) (Contains-push places slot)),
 )
+
+-- ---- one more is placed
+
+not_alone : (slot place : ℕ) → place ≢ slot → ¬ Contains (slot ∷ []) place
+not_alone slot place ne has = ne (sym (only has.0 has.1 has.2))
+  where
+    only : (k : ℕ) → k < 1 → get_or (slot ∷ []) k place ≡ place → slot ≡ place
+    only zero lt e = e
+    only (suc k) lt e = absurd (omega (arith, lt))
+
+abbrev slots_of : List Handle → List ℕ
+slots_of hs = map (λ h. h.slot) hs
+
+module _ (start now next : Memory) (user : ℕ) (wants : List Want) (k : ℕ) (d : Want) (less : k < length wants) (h : Handle) (hs : List Handle) (banks : now.banks ≡ start.banks)
+    (one : IsPlaced PurgesOrSlides now (get_or wants k d) user true 0 false h next) where
+  its : Puts PurgesOrSlides start.banks now.slots (get_or wants k d) user true 0 false h next.slots
+  its = subst (λ (bs : List ℕ). Puts PurgesOrSlides bs now.slots (get_or wants k d) user true 0 false h next.slots) banks one.puts
+
+  pub each_puts : PutsAll PurgesOrSlides start.banks user start.slots (take k wants) hs now.slots → PutsAll PurgesOrSlides start.banks user start.slots (take (k + 1) wants) (hs ++ h ∷ []) next.slots
+  each_puts done = rw (take_more wants k d less) (puts_more start.banks user start.slots (take k wants) hs now.slots next.slots (get_or wants k d) h done its)
+
+  pub each_can : CanPutAll start.banks user now.slots (drop k wants) → CanPutAll start.banks user next.slots (drop (k + 1) wants)
+  each_can can =
+      let rest = can_next start.banks user now.slots wants k d less can in
+      let same : rest.1 ≡ next.slots = puts_once start.banks user now.slots (get_or wants k d) rest.0 h rest.1 next.slots rest.2 its in
+      rw add-one (subst (λ (s : Slots). CanPutAll start.banks user s (drop (suc k) wants)) same rest.3)
+
+  pub each_zeros : AreZeros now (take k wants) hs → AreZeros next (take (k + 1) wants) (hs ++ h ∷ [])
+  each_zeros zeros = rw (take_more wants k d less) (zeros_more now next (get_or wants k d) user h one (take k wants) hs zeros)
+
+  outside : (place : ℕ) → ¬ Contains (slots_of (hs ++ h ∷ [])) place → (¬ Contains (slots_of hs) place) × (place ≢ h.slot)
+  outside place out = not_among (slots_of hs) h.slot place (subst (λ (l : List ℕ). ¬ Contains l place) (map-append (λ (x : Handle). x.slot) hs (h ∷ [])) out)
+
+  before : (place : ℕ) → place ≢ h.slot → IsThere next place → IsThere now place
+  before place ne some = there_puts now.banks now.slots next.slots (get_or wants k d) user h one.puts place ne some
+
+  pub each_kept : KeepsBut start now (slots_of hs) → KeepsBut start next (slots_of (hs ++ h ∷ []))
+  each_kept kept = record {
+    banks = one.kept.banks ∙ kept.banks;
+    bytes = λ place out some.
+        let o = outside place out in
+        one.kept.bytes place (not_alone h.slot place o.1) some ∙ kept.bytes place o.0 (before place o.1 some);
+  }
+
+  pub each_there : ((place : ℕ) → ¬ Contains (slots_of hs) place → IsThere now place → IsThere start place)
+      → (place : ℕ) → ¬ Contains (slots_of (hs ++ h ∷ [])) place → IsThere next place → IsThere start place
+  each_there there place out some = let o = outside place out in there place o.0 (before place o.1 some)

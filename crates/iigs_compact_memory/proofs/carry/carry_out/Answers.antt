@@ -1,4 +1,4 @@
-use Rattle.std.proofs.Common.{[], sym, arith}
+use Rattle.std.proofs.Common.{[], add-one, sym, arith}
 use Rattle.iigs_compact_memory.proofs.Moved.{count_none}
 use Rattle.iigs_compact_memory.proofs.Carrying.{there_before, carried_none, can_carry, carried_step, carried_count, carried_all}
 use Rattle.iigs_compact_memory.proofs.Making.{kept_same, kept_twice}
@@ -21,7 +21,7 @@ pub loop-first-preserved : goal.loop-first-preserved
 loop-first-preserved c =
     let first = rw c.places.ensures at c.in-Some.ensures.found in
     record {
-      carried = rw c.carry.ensures.carried (carried_step c.args.banks.now.banks c.args.banks.now.slots c.args.plan.now.slots c.loop-first.banks.slots c.requires.apart c.requires.settled c.requires.planned
+      carried = rw (add-one, c.carry.ensures.carried) (carried_step c.args.banks.now.banks c.args.banks.now.slots c.args.plan.now.slots c.loop-first.banks.slots c.requires.apart c.requires.settled c.requires.planned
           c.loop-first.limit c.loop-first.invariant.carried c.in-Some.first first);
       kept = kept_twice c.args.banks.now c.loop-first.banks c.carry.new.banks [] c.loop-first.invariant.kept c.carry.ensures.kept
           (λ place out some. there_before c.args.banks.now.banks c.loop-first.banks.slots c.args.plan.now.slots c.in-Some.first.handle c.in-Some.first.at

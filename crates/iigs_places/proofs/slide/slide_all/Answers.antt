@@ -1,4 +1,4 @@
-use Rattle.std.proofs.Common.{arith}
+use Rattle.std.proofs.Common.{add-one, arith}
 use Rattle.iigs_meaning.specs.laws.SlideLaws.{slid_none}
 use Rattle.iigs_places.proofs.Sliding.{passed_none, passed_to, slid_settled, slid_step, slid_whole, step_count, step_room, step_passed, mark_sized}
 use Rattle.iigs_places.proofs.slide.slide_all.Goals as goal
@@ -60,14 +60,14 @@ loop-mark-preserved c =
     let more = step_count c.args.map.now c.loop-mark.table c.loop-mark.invariant.arranged c.loop-mark.layout.marks.items c.loop-mark.invariant.laid.have c.loop-mark.limit c.in-Some.mark
     first c.sink-at.result c.sink-at.ensures.low c.sink-at.new.table c.sink-at.ensures.arranged c.sink-at.ensures.sinks in
     record {
-      slid = slid_step c.args.map.now c.args.table.now c.loop-mark.table c.requires.arranged.sound c.requires.settled c.loop-mark.limit c.loop-mark.invariant.slid
-          c.loop-mark.layout.marks.items c.loop-mark.invariant.laid.have c.loop-mark.invariant.arranged c.in-Some.mark first c.sink-at.result c.sink-at.new.table c.sink-at.ensures.sinks;
+      slid = rw add-one (slid_step c.args.map.now c.args.table.now c.loop-mark.table c.requires.arranged.sound c.requires.settled c.loop-mark.limit c.loop-mark.invariant.slid
+          c.loop-mark.layout.marks.items c.loop-mark.invariant.laid.have c.loop-mark.invariant.arranged c.in-Some.mark first c.sink-at.result c.sink-at.new.table c.sink-at.ensures.sinks);
       arranged = c.sink-at.ensures.arranged;
       laid = c.sink-at.ensures.laid;
-      passed = step_passed c.args.map.now c.loop-mark.table c.loop-mark.invariant.arranged c.loop-mark.layout.marks.items c.loop-mark.invariant.laid.have c.loop-mark.limit c.in-Some.mark
+      passed = rw add-one (step_passed c.args.map.now c.loop-mark.table c.loop-mark.invariant.arranged c.loop-mark.layout.marks.items c.loop-mark.invariant.laid.have c.loop-mark.limit c.in-Some.mark
           first c.sink-at.result c.sink-at.ensures.low c.sink-at.new.table c.sink-at.ensures.arranged c.sink-at.ensures.sinks
-          _ (omega arith) c.loop-mark.passed.items c.add_run.new.runs.items c.loop-mark.invariant.passed c.add_run.ensures.runs c.add_run.ensures.added;
-      few = omega (arith, more, c.add_run.ensures.len, c.loop-mark.invariant.few);
+          _ (omega arith) c.loop-mark.passed.items c.add_run.new.runs.items c.loop-mark.invariant.passed c.add_run.ensures.runs c.add_run.ensures.added);
+      few = rw add-one (omega (arith, more, c.add_run.ensures.len, c.loop-mark.invariant.few));
       room = omega (arith, c.loop-mark.invariant.room, c.add_run.ensures.capacity);
       within = omega (arith, sized.0, sized.1);
     }
