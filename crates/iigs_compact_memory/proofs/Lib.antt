@@ -6,3 +6,4 @@ pub mod Compacted
 pub mod Placing
 pub mod Searching
 pub mod Alls
+pub mod AllPlaced
