@@ -153,6 +153,7 @@ impl Banks {
         ensures lent { IfOk result (λ bytes. IsLent self.now h bytes.now) }
         ensures refused { IfErr result (IsBlockRefusal self.now.slots h) }
     {
+        self.places.know_arranged();
         let part = self.part_of(h)?;
         Ok(slice(&self.bytes, part.start, part.end))
     }
@@ -169,6 +170,7 @@ impl Banks {
         ensures lent { IfOk result (λ bytes. IsLent self.old h bytes.now) }
         ensures refused { IfErr result (IsBlockRefusal self.old.slots h) }
     {
+        self.places.know_arranged();
         let part = self.part_of(h)?;
         self.blank = false;
         Ok(self.bytes.slice_mut(part.start..part.end))
@@ -182,6 +184,7 @@ impl Banks {
         ensures alone { (w : List ℕ) → length w ≡ length (bytes_at self.old h.slot)
             → overlaid self.old h w ≡ record self.old { bytes = slice_set self.old.bytes h.slot w } }
     {
+        self.places.know_arranged();
         let part = match self.part_of(h) {
             Ok(part) => part,
             Err(BlockFault::Stale) => unreachable!(),
@@ -267,10 +270,10 @@ impl Banks {
         ensures refused { IfErr result (IsStale self.old.slots h) }
         ensures err { OnErr result (self.new ≡ self.old) }
     {
-        match self.places.release(h) {
-            Ok(()) => Ok(()),
-            Err(Stale) => Err(BlockFault::Stale),
-        }
+        let Ok(()) = self.places.release(h) else {
+            return Err(BlockFault::Stale);
+        };
+        Ok(())
     }
 
     /// What is told of a handle's block, whether it is there or was purged.

@@ -1,3 +1,4 @@
+use Rattle.std.proofs.Common.{refl}
 use Rattle.iigs_memory.proofs.Stores.{keeps_stays}
 use Rattle.iigs_places.proofs.Changed.{release_stays}
 use Rattle.iigs_memory.proofs.banks.Banks.free.Goals as goal

@@ -18,15 +18,15 @@ give-requires c = c.requires.lengths ∙ rw c.deref-2.ensures.value (all_lengths
     c.args.user c.args.fresh c.args.wants.now c.place_all.new.made.items (rw (c.start_from.ensures, c.self.invariant.1) at c.in-Ok.ensures.put))
 
 pub invariant_of-self-2 : goal.invariant_of-self-2
-invariant_of-self-2 c = rw (c.swap.ensures.x_after, c.swap.ensures.y_after, c.in-Ok.ensures.banks, c.start_from.ensures, c.self.invariant.1, c.clear_all.ensures.value, c.deref.ensures.value) (
+invariant_of-self-2 c = rw (c.clear_all.ensures.value, c.swap.ensures.x_after, c.swap.ensures.y_after, c.in-Ok.ensures.banks, c.start_from.ensures, c.self.invariant.1, c.deref.ensures.value) (
   all_store c.self.inside.places.banks c.self.inside.bytes.items c.self.inside.places.slots c.place_all.new.self.slots (vec_capacity c.self.inside.made) c.self.invariant.0
       c.args.user c.args.fresh c.args.wants.now c.place_all.new.made.items (rw (c.start_from.ensures, c.self.invariant.1) at c.in-Ok.ensures.put) (vec_capacity c.place_all.new.made) (omega (arith, c.self.invariant.0.made_room, c.in-Ok.ensures.capacity)),
   refl,
-  rw (c.swap.ensures.x_after, c.in-Ok.ensures.banks, c.start_from.ensures, c.self.invariant.1, c.clear_all.ensures.value, c.deref.ensures.value) at c.clear_all.ensures.blank,
+  rw (c.clear_all.ensures.value, c.swap.ensures.x_after, c.in-Ok.ensures.banks, c.start_from.ensures, c.self.invariant.1, c.deref.ensures.value) at c.clear_all.ensures.blank,
 )
 
 pub returns-clause-placed : goal.returns-clause-placed
-returns-clause-placed c = rw (← c.self.view_is, c.swap.ensures.x_after, c.in-Ok.ensures.banks, c.clear_all.ensures.value, c.give.ensures, c.deref.ensures.value, c.deref-2.ensures.value)
+returns-clause-placed c = rw (← c.self.view_is, c.clear_all.ensures.value, c.swap.ensures.x_after, c.in-Ok.ensures.banks, c.start_from.ensures, c.self.invariant.1, c.give.ensures, c.deref.ensures.value, c.deref-2.ensures.value)
     (all_placed c.self.inside.places.banks c.self.inside.bytes.items c.self.inside.places.slots c.place_all.new.self.slots (vec_capacity c.self.inside.made) c.self.invariant.0
     c.args.user c.args.fresh c.args.wants.now c.place_all.new.made.items (rw (c.start_from.ensures, c.self.invariant.1) at c.in-Ok.ensures.put)
-    (omega (arith, c.left.ensures, c.if-left-wants.false)))
+    (omega (arith, rw c.start_from.ensures at c.left.ensures, c.if-left-wants.false)))
