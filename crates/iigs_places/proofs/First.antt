@@ -74,9 +74,10 @@ module _ (slots : List (Slot Block)) (spots : List Spot) (turns : List ℕ) (sur
   first_emptied count within is = elim (cases_lt (length turns) count) [
     | inr le ↦
         let same : within ≡ count = omega (arith, is, le) in
-        rw same (emptied_is slots spots turns survey bounded count le)
+        ap (λ (n : ℕ). map (emptied_where (below (limit_of turns n))) slots) same ∙ emptied_is slots spots turns survey bounded count le
     | inl less ↦
         let same : within ≡ length turns = omega (arith, is, less) in
-        rw same (emptied_is slots spots turns survey bounded (length turns) (omega arith))
-        ∙ ap (emptied slots) turns_count ∙ sym (emptied_past slots count (omega (arith, less, turns_count)))
+        let enough : count_purgeable slots ≤ count = omega (arith, less, turns_count) in
+        ap (λ (n : ℕ). map (emptied_where (below (limit_of turns n))) slots) same ∙ emptied_is slots spots turns survey bounded (length turns) (omega arith)
+        ∙ ap (emptied slots) turns_count ∙ sym (emptied_past slots count enough)
   ]

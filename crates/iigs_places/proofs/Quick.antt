@@ -1,5 +1,5 @@
 -- Where a want fits beside all blocks.
-use Rattle.std.proofs.Common.{◌≡◌, ◌⊎◌, inl, inr, ℕ, Bool, true, false, ◌&&◌, nat_lt, ◌+◌, ◌<◌, ◌≤◌, List, ◌∷◌, map, get_or, max, Some, None, IsSome, is_some, arith, refl, sym, ap, subst, ◌∙◌}
+use Rattle.std.proofs.Common.{◌≡◌, ◌⊎◌, inl, inr, ℕ, Bool, true, false, ◌&&◌, nat_lt, ◌+◌, ◌<◌, ◌≤◌, List, ◌∷◌, map, get_or, max, MatchOption, Option, Some, None, IsSome, is_some, arith, refl, sym, ap, subst, ◌∙◌}
 use Rattle.std.specs.Option.{option_and_then}
 use Rattle.std.proofs.lemmas.Bool.{cases_lt}
 use Rattle.std.proofs.lemmas.Bool.Decides.{nat_tests}
@@ -87,6 +87,17 @@ module _ (slots : List (Slot Block)) (marks : List Mark) (have : HaveMarks slots
           | inl before ↦ absurd (omega (arith, before, r.2, to))
           | inr behind ↦ absurd (omega (arith, behind, r.3, from))
         ]))
+
+    -- so a search among runs tells whether the want fits anywhere
+    pub has_yes : (o : Option ℕ) (b : Bool) → b ≡ is_some o → MatchOption o ((address : ℕ) → ¬ FitsAmong banks want runs 0 address) (IsLeastAmong banks want runs 0) → b ≡ true
+        → (address : ℕ) × Fits banks slots want address
+    has_yes None b is told yes = let clash : true ≡ false = sym yes ∙ is in absurd cc
+    has_yes (Some at) b is told yes = (at, runs_fit at told.fits)
+
+    pub has_no : (o : Option ℕ) (b : Bool) → b ≡ is_some o → MatchOption o ((address : ℕ) → ¬ FitsAmong banks want runs 0 address) (IsLeastAmong banks want runs 0) → b ≡ false
+        → (address : ℕ) → ¬ Fits banks slots want address
+    has_no None b is told no = λ address fits. told address (fits_runs address fits)
+    has_no (Some at) b is told no = let clash : true ≡ false = sym is ∙ no in absurd cc
 
     -- the least such address is where the want goes, and no block is purged
     pub quick_found : (address : ℕ) → IsLeastAmong banks want runs 0 address → IsFound banks slots want (record { limit = 0; at = address })

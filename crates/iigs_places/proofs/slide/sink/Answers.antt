@@ -12,24 +12,25 @@ use Rattle.iigs_places.proofs.Moved.{arranged_moved}
 use Rattle.iigs_places.proofs.Puts.{free_limit}
 use Rattle.iigs_places.proofs.Sliding.{mark_size, mark_extent, mark_there, present_among, goes_low, sinks_none, sinks_here, sinks_there, sinks_to, sink_fits, sink_moved, extent_block}
 use Rattle.iigs_places.proofs.slide.sink.Goals as goal
+use Rattle.iigs_places.proofs.slide.sink.Goals.{After-held_in-held}
 
-pub held_in-requires-clause-place : goal.held_in-requires-clause-place
-held_in-requires-clause-place c = (is_marked c.args.map.now c.args.table.now c.args.layout.now c.requires.arranged c.requires.laid).small c.args.mark c.requires.marked
+pub held_in-held-requires-clause-place : goal.held_in-held-requires-clause-place
+held_in-held-requires-clause-place c = (is_marked c.args.map.now c.args.table.now c.args.layout.now c.requires.arranged c.requires.laid).small c.args.mark c.requires.marked
 
-pub held_in-requires-clause-there : goal.held_in-requires-clause-there
-held_in-requires-clause-there c = mark_there c.args.table.now c.args.layout.now.marks.items c.requires.laid.have c.args.mark c.requires.marked
+pub held_in-held-requires-clause-there : goal.held_in-held-requires-clause-there
+held_in-held-requires-clause-there c = mark_there c.args.table.now c.args.layout.now.marks.items c.requires.laid.have c.args.mark c.requires.marked
 
 -- the block that lies at the mark, and its handle
-handle : goal.After-held_in-held → Handle
+handle : After-held_in-held → Handle
 handle c = record { slot = c.args.mark.slot; generation = c.held_in-held.result.generation }
 
-held : (c : goal.After-held_in-held) → block_in (slot_at c.args.table.now c.args.mark.slot) ≡ Some c.held_in-held.result.block
+held : (c : After-held_in-held) → block_in (slot_at c.args.table.now c.args.mark.slot) ≡ Some c.held_in-held.result.block
 held c = live_block c.args.table.now (record { slot = c.args.mark.slot; generation = c.held_in-held.result.generation }) c.held_in-held.result.block c.held_in-held.ensures
 
-size : goal.After-held_in-held → ℕ
+size : After-held_in-held → ℕ
 size c = mark_size c.args.table.now c.args.layout.now.marks.items c.requires.laid.have c.args.mark c.requires.marked
 
-lies : (c : goal.After-held_in-held) → extent (slot_at c.args.table.now c.args.mark.slot) ≡ Some (c.args.mark.at, size c)
+lies : (c : After-held_in-held) → extent (slot_at c.args.table.now c.args.mark.slot) ≡ Some (c.args.mark.at, size c)
 unfolding size
 lies c = mark_extent c.args.table.now c.args.layout.now.marks.items c.requires.laid.have c.args.mark c.requires.marked
 
@@ -39,8 +40,6 @@ returns-then-not-can_be_moved-clause-sinks c = sinks_none c.args.map.now c.args.
     c.held_in-held.result.block (held c) (sym c.can_be_moved.ensures ∙ c.if-not-can_be_moved.true)
 
 -- a block that goes
-can : (c : goal.After-can_be_moved) → c.can_be_moved.result ≡ true → can_move c.held_in-held.result.block ≡ true
-can c is = sym c.can_be_moved.ensures ∙ is
 
 pub least_among-requires-clause-want : goal.least_among-requires-clause-want
 least_among-requires-clause-want c = c.requires.settled.wants c.args.mark.slot c.held_in-held.result.block (held c)
@@ -57,7 +56,7 @@ unreachable-requires c = c.in_default.ensures c.args.mark.at (present_among c.ar
 
 pub returns-then-to-mark-clause-sinks : goal.returns-then-to-mark-clause-sinks
 returns-then-to-mark-clause-sinks c = sinks_here c.args.map.now c.args.table.now c.requires.arranged c.requires.settled c.args.mark.slot c.args.mark.at (size c) (lies c)
-    c.held_in-held.result.block (held c) c.args.passed.now c.requires.passed (can c c.if-not-can_be_moved.false) c.in-Some.to c.in-Some.ensures (omega (arith, c.if-to-mark.true))
+    c.held_in-held.result.block (held c) c.args.passed.now c.requires.passed (sym c.can_be_moved.ensures ∙ c.if-not-can_be_moved.false) c.in-Some.to c.in-Some.ensures (omega (arith, c.if-to-mark.true))
 
 pub move_to-requires-clause-live : goal.move_to-requires-clause-live
 move_to-requires-clause-live c = c.held_in-held.ensures
@@ -66,7 +65,7 @@ pub move_to-requires-clause-there : goal.move_to-requires-clause-there
 move_to-requires-clause-there c = (extent_block (slot_at c.args.table.now c.args.mark.slot) c.held_in-held.result.block (c.args.mark.at, size c) (held c) (lies c)).0
 
 -- it sinks to the least address that was found
-falls : (c : goal.After-held_in-held) → (to : ℕ) → IsLeastAmong c.args.map.now c.held_in-held.result.block.want c.args.passed.now 0 to
+falls : (c : After-held_in-held) → (to : ℕ) → IsLeastAmong c.args.map.now c.held_in-held.result.block.want c.args.passed.now 0 to
     → SinksTo c.args.map.now c.args.table.now c.args.mark.slot c.held_in-held.result.block to
 falls c to least = sinks_to c.args.map.now c.args.table.now c.requires.arranged c.requires.settled c.args.mark.slot c.args.mark.at (size c) (lies c)
     c.held_in-held.result.block (held c) c.args.passed.now c.requires.passed to least
@@ -79,7 +78,7 @@ pub returns-clause-sinks : goal.returns-clause-sinks
 returns-clause-sinks c =
     let to = falls c c.in-Some.to c.in-Some.ensures in
     sinks_there c.args.map.now c.args.table.now c.requires.arranged c.requires.settled c.args.mark.slot c.args.mark.at (size c) (lies c)
-    c.held_in-held.result.block (held c) c.args.passed.now c.requires.passed (can c c.if-not-can_be_moved.false) c.in-Some.to c.in-Some.ensures c.move_to.new.table
+    c.held_in-held.result.block (held c) c.args.passed.now c.requires.passed (sym c.can_be_moved.ensures ∙ c.if-not-can_be_moved.false) c.in-Some.to c.in-Some.ensures c.move_to.new.table
     (c.move_to.ensures.table ∙ sink_moved c.args.map.now c.args.table.now c.requires.arranged (handle c) c.held_in-held.result.block c.held_in-held.ensures c.in-Some.to to)
 
 pub returns-clause-low : goal.returns-clause-low

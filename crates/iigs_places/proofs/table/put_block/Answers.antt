@@ -3,6 +3,7 @@ use Rattle.iigs_meaning.specs.declared.handles.Handle.{Handle}
 use Rattle.iigs_meaning.specs.laws.PlacementLaws.{lacks_room}
 use Rattle.iigs_meaning.specs.Slots.{new_handle}
 use Rattle.iigs_places.specs.Spots.{turn_of}
+use Rattle.iigs_places.proofs.Marked.{marks_sized}
 use Rattle.iigs_places.proofs.Puts.{arranged_put, free_limit}
 use Rattle.iigs_places.proofs.Quick.{put_done, have_taken}
 use Rattle.iigs_places.proofs.Takes.{no_handle, some_handle, emptied_handle}
@@ -51,3 +52,6 @@ returns-clause-arranged c = arranged_put c.args.map.now c.args.table.now c.take.
     (record { handle = c.in-Ok.handle; at = c.in-Some.found.at }) c.requires.arranged c.requires.want c.ranges.level.fits
     (put_done c.args.map.now c.args.table.now c.args.want.now c.in-Some.found c.in-Some.ensures.found c.args.user c.args.locked c.args.level c.args.movable c.in-Ok.handle c.take.new.self
     (rw c.empty_below.ensures at c.in-Ok.ensures.handle) (rw c.empty_below.ensures at c.take.ensures.after))
+
+pub join-requires-clause-sized : goal.join-requires-clause-sized
+join-requires-clause-sized c = marks_sized c.args.table.now c.args.layout.now.marks.items c.requires.arranged.bounded c.requires.laid.have

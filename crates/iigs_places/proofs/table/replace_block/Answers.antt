@@ -1,5 +1,6 @@
 use Rattle.std.proofs.Common.{◌≡◌, ◌∙◌, sym, refl, None, false, arith}
 use Rattle.iigs_meaning.specs.laws.PlacementLaws.{lacks_room}
+use Rattle.iigs_places.proofs.Marked.{marks_sized}
 use Rattle.iigs_places.proofs.Puts.{arranged_reput, free_limit, is_none}
 use Rattle.iigs_places.proofs.Quick.{reput_done, have_reput}
 use Rattle.iigs_places.proofs.table.replace_block.Goals as goal
@@ -28,3 +29,6 @@ pub returns-clause-arranged : goal.returns-clause-arranged
 returns-clause-arranged c = arranged_reput c.args.map.now c.args.table.now c.set.new.table c.args.h c.args.want.now c.in-Some.found.at c.requires.arranged c.requires.want
     (reput_done c.args.map.now c.args.table.now c.args.want.now c.in-Some.found c.in-Some.ensures.found c.args.h c.in-Ok.block.now c.set.new.table (sym c.in-Ok.ensures)
     (is_none c.in-Ok.block.now.at (sym c.is_some.ensures ∙ c.if-is_some.false)) (rw c.empty_below.ensures at c.set.ensures))
+
+pub join-requires-clause-sized : goal.join-requires-clause-sized
+join-requires-clause-sized c = marks_sized c.args.table.now c.args.layout.now.marks.items c.requires.arranged.bounded c.requires.laid.have
