@@ -29,6 +29,10 @@ use Rattle.iigs_places.proofs.Marked.{extent_in, have_set, have_gone, have_moved
 use Rattle.iigs_places.proofs.Puts.{free_limit, gone_stays, length-emptied}
 use Rattle.iigs_places.proofs.Placed.{fits_open, open_fits}
 
+-- what is so of the value that an option has
+pub some_and : {X : Type 0} (o : Option X) (x : X) (P : X → Type 0) → o ≡ Some x → P x → IsSomeAnd o P
+some_and o x P is holds = rw is holds
+
 -- ---- what marks tell of blocks
 
 module _ (slots : List (Slot Block)) (marks : List Mark) (have : HaveMarks slots marks) (slot address size : ℕ) where

@@ -1,5 +1,5 @@
 -- One block after the other is slid down.
-use Rattle.std.proofs.Common.{◌≡◌, ◌≢◌, inl, inr, ℕ, zero, suc, Bool, true, false, cond, ◌==◌, nat_lt, ◌+◌, ◌-◌, ◌<◌, ◌≤◌, max, List, [], ◌∷◌, All, Contains, length, get_or, count_by, Option, Some, None, IsSome, arith, refl, sym, ap, subst, ◌∙◌}
+use Rattle.std.proofs.Common.{◌≡◌, ◌≢◌, inl, inr, ℕ, zero, suc, Bool, true, false, cond, ◌==◌, nat_lt, ◌+◌, ◌-◌, ◌<◌, ◌≤◌, ◌^◌, max, List, [], ◌∷◌, All, Contains, length, get_or, count_by, Option, Some, None, IsSome, arith, refl, sym, ap, subst, ◌∙◌}
 use Rattle.std.specs.Prelude.{slice_set}
 use Rattle.std.specs.Option.{option_map, option_map_or, option_and_then}
 use Rattle.std.proofs.lemmas.Option.{same_Some}
@@ -33,6 +33,9 @@ use Rattle.iigs_places.proofs.Extents.{each_slot, bounded_extent, holds_to, hold
 use Rattle.iigs_places.proofs.Marked.{extent_in, past_none, marks_sized}
 use Rattle.iigs_places.proofs.Placed.{fits_open, open_fits}
 use Rattle.iigs_places.proofs.Counting.{address_extent}
+use Rattle.iigs_places.proofs.Changed.{live_block}
+use Rattle.iigs_places.proofs.Puts.{free_limit}
+use Rattle.iigs_places.proofs.Moved.{arranged_moved}
 
 -- ---- blocks and extents
 
@@ -508,3 +511,47 @@ module _ (banks : List ℕ) (now : Slots) (arranged : IsArranged banks now) (mar
 -- a mark's block has a byte, and ends within the addresses of banks
 pub mark_sized : (slots : Slots) (marks : List Mark) → All IsBoundedSlot slots → HaveMarks slots marks → (m : Mark) → Contains marks m → IsSized m
 mark_sized slots marks bounded have m has = All-contains IsSized marks m (marks_sized slots marks bounded have) has
+
+-- ---- the block that lies at a mark, under its handle
+
+module _ (banks : List ℕ) (slots : Slots) (arranged : IsArranged banks slots) (settled : AreSettled banks slots) (marks : List Mark) (have : HaveMarks slots marks) (m : Mark) (has : Contains marks m)
+    (generation : ℕ) (block : Block) (was : get slots (record { slot = m.slot; generation = generation }) ≡ Some block) where
+  held_is : block_in (slot_at slots m.slot) ≡ Some block
+  held_is = live_block slots (record { slot = m.slot; generation = generation }) block was
+
+  held_lies : extent (slot_at slots m.slot) ≡ Some (m.at, mark_size slots marks have m has)
+  held_lies = mark_extent slots marks have m has
+
+  pub held_want : IsWant block.want
+  held_want = settled.wants m.slot block held_is
+
+  pub held_at : block.at ≡ Some m.at
+  held_at = (extent_block (slot_at slots m.slot) block (m.at, mark_size slots marks have m has) held_is held_lies).0
+
+  pub held_stays : can_move block ≡ false → Sinks banks slots m.slot m.at m.at slots
+  held_stays cannot = sinks_none banks slots arranged settled m.slot m.at (mark_size slots marks have m has) held_lies block held_is cannot
+
+  module _ (runs : List Spot) (passed : ArePassed slots m.at runs) where
+    pub held_fits : FitsAmong banks block.want runs 0 m.at
+    held_fits = present_among banks slots arranged settled m.slot m.at (mark_size slots marks have m has) held_lies block held_is runs passed
+
+    module _ (to : ℕ) (least : IsLeastAmong banks block.want runs 0 to) where
+      held_to : SinksTo banks slots m.slot block to
+      held_to = sinks_to banks slots arranged settled m.slot m.at (mark_size slots marks have m has) held_lies block held_is runs passed to least
+
+      pub held_low : to ≤ m.at
+      held_low = goes_low banks slots arranged settled m.slot m.at (mark_size slots marks have m has) held_lies block held_is runs passed to least
+
+      pub held_small : to + block.want.size ≤ 2 ^ 24
+      held_small = free_limit banks to block.want.size arranged.small held_want.some held_to.fits.free
+
+      pub held_here : can_move block ≡ true → to ≡ m.at → Sinks banks slots m.slot m.at to slots
+      held_here can same = sinks_here banks slots arranged settled m.slot m.at (mark_size slots marks have m has) held_lies block held_is runs passed can to least same
+
+      pub held_sinks : can_move block ≡ true → (next : Slots) → next ≡ with_value slots (record { slot = m.slot; generation = generation }) (record block { at = Some to }) → Sinks banks slots m.slot m.at to next
+      held_sinks can next is = sinks_there banks slots arranged settled m.slot m.at (mark_size slots marks have m has) held_lies block held_is runs passed can to least next
+          (is ∙ sink_moved banks slots arranged (record { slot = m.slot; generation = generation }) block was to held_to)
+
+      pub held_arranged : (next : Slots) → next ≡ with_value slots (record { slot = m.slot; generation = generation }) (record block { at = Some to }) → IsArranged banks next
+      held_arranged next is = subst (IsArranged banks) (sym is) (arranged_moved slots (record { slot = m.slot; generation = generation }) block was to banks arranged
+          (sink_fits banks slots arranged (record { slot = m.slot; generation = generation }) block was to held_to))

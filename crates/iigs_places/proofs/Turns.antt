@@ -85,7 +85,7 @@ first_true : (a b c : Bool) → (a && b && c) ≡ true → a ≡ true
 first_true true b c e = refl
 first_true false b c e = absurd (cc)
 
-there_purge : (one : Block) → can_purge one ≡ true → is_some one.at ≡ true
+pub there_purge : (one : Block) → can_purge one ≡ true → is_some one.at ≡ true
 unfolding can_purge
 there_purge one can = first_true (is_some one.at) (not one.locked) (not (one.level == 0)) can
 

@@ -1,9 +1,10 @@
-use Rattle.std.proofs.Common.{◌≡◌, true, None, sym, arith}
-use Rattle.iigs_meaning.specs.Slots.{with_value}
+use Rattle.std.proofs.Common.{◌≡◌, ◌≤◌, false, IsSomeAnd, sym, arith}
+use Rattle.iigs_meaning.specs.Slots.{get}
+use Rattle.iigs_meaning.specs.Moves.{without_block}
 use Rattle.iigs_meaning.specs.Fits.{Fits}
 use Rattle.iigs_places.proofs.Marked.{marks_sized, is_marked}
 use Rattle.iigs_places.proofs.Counting.{marks_apart}
-use Rattle.iigs_places.proofs.Moved.{block_bounded, beside_apart, fits_others, fits_not, arranged_moved}
+use Rattle.iigs_places.proofs.Moved.{some_and, block_bounded, beside_apart, fits_others, fits_not, arranged_moved}
 use Rattle.iigs_places.proofs.moves.shift_block.Goals as goal
 
 pub fits_beside-requires-clause-want : goal.fits_beside-requires-clause-want
@@ -30,7 +31,8 @@ fits_beside-requires-clause-apart c = rw c.deref.ensures.value (marks_apart c.ar
 pub returns-then-not-fits_beside-clause-refused : goal.returns-then-not-fits_beside-clause-refused
 returns-then-not-fits_beside-clause-refused c =
     let bounded = block_bounded c.args.table.now c.args.h c.in-Ok.block.now (sym c.in-Ok.ensures) c.requires.arranged.bounded in
-    rw (← c.in-Ok.ensures) (
+    some_and (get c.args.table.now c.args.h) c.in-Ok.block.now
+    (λ block. (block.locked ≡ false) × IsSomeAnd block.at (λ at. c.args.to ≤ at) × ¬ Fits c.args.map.now (without_block c.args.table.now c.args.h block) block.want c.args.to) (sym c.in-Ok.ensures) (
       c.if-block.false,
       rw c.in-Some.is (omega (arith, c.if-at-to.false)),
       fits_not c.args.table.now c.args.h c.in-Ok.block.now (sym c.in-Ok.ensures) c.args.layout.now.marks.items c.requires.laid.have
@@ -44,22 +46,21 @@ move_to-requires-clause-live c = sym c.in-Ok.ensures
 pub move_to-requires-clause-small : goal.move_to-requires-clause-small
 move_to-requires-clause-small c = omega (arith, c.if-at-to.false, rw c.in-Some.is at (block_bounded c.args.table.now c.args.h c.in-Ok.block.now (sym c.in-Ok.ensures) c.requires.arranged.bounded).ends)
 
--- it fits beside the others
-fits : (c : goal.After-fits_beside) → c.fits_beside.result ≡ true → Fits c.args.map.now (with_value c.args.table.now c.args.h (record c.in-Ok.block.now { at = None })) c.in-Ok.block.now.want c.args.to
-fits c is =
-    let both = rw c.deref.ensures.value at c.fits_beside.ensures.yes is in
-    fits_others c.args.table.now c.args.h c.in-Ok.block.now (sym c.in-Ok.ensures) c.args.map.now c.in-Ok.block.now.want c.args.to both.0
-    (beside_apart c.args.table.now c.args.layout.now.marks.items c.requires.laid.have c.args.h.slot c.args.to c.in-Ok.block.now.want.size both.1)
-
 pub returns-clause-shifted : goal.returns-clause-shifted
-returns-clause-shifted c = record {
-  block = c.in-Ok.block.now;
-  was = sym c.in-Ok.ensures;
-  unlocked = c.if-block.false;
-  lower = rw c.in-Some.is (omega (arith, c.if-at-to.false));
-  fits = fits c c.if-not-fits_beside.false;
-  next_is = c.move_to.ensures.table;
-}
+returns-clause-shifted c =
+    let both = rw c.deref.ensures.value at c.fits_beside.ensures.yes c.if-not-fits_beside.false in
+    record {
+      block = c.in-Ok.block.now;
+      was = sym c.in-Ok.ensures;
+      unlocked = c.if-block.false;
+      lower = rw c.in-Some.is (omega (arith, c.if-at-to.false));
+      fits = fits_others c.args.table.now c.args.h c.in-Ok.block.now (sym c.in-Ok.ensures) c.args.map.now c.in-Ok.block.now.want c.args.to both.0
+          (beside_apart c.args.table.now c.args.layout.now.marks.items c.requires.laid.have c.args.h.slot c.args.to c.in-Ok.block.now.want.size both.1);
+      next_is = c.move_to.ensures.table;
+    }
 
 pub returns-clause-arranged : goal.returns-clause-arranged
-returns-clause-arranged c = rw c.move_to.ensures.table (arranged_moved c.args.table.now c.args.h c.in-Ok.block.now (sym c.in-Ok.ensures) c.args.to c.args.map.now c.requires.arranged (fits c c.if-not-fits_beside.false))
+returns-clause-arranged c =
+    let both = rw c.deref.ensures.value at c.fits_beside.ensures.yes c.if-not-fits_beside.false in
+    rw c.move_to.ensures.table (arranged_moved c.args.table.now c.args.h c.in-Ok.block.now (sym c.in-Ok.ensures) c.args.to c.args.map.now c.requires.arranged (fits_others c.args.table.now c.args.h c.in-Ok.block.now (sym c.in-Ok.ensures) c.args.map.now c.in-Ok.block.now.want c.args.to both.0
+    (beside_apart c.args.table.now c.args.layout.now.marks.items c.requires.laid.have c.args.h.slot c.args.to c.in-Ok.block.now.want.size both.1)))

@@ -21,7 +21,7 @@ pub sink-at-requires-clause-marked : goal.sink-at-requires-clause-marked
 sink-at-requires-clause-marked c = (rw c.deref.ensures.value at c.in-Some.ensures).is
 
 pub sink-at-requires-clause-passed : goal.sink-at-requires-clause-passed
-sink-at-requires-clause-passed c = rw c.deref-2.ensures.value (passed_to c.loop-mark.table c.loop-mark.layout.marks.items c.loop-mark.invariant.laid.have c.loop-mark.limit c.in-Some.mark
+sink-at-requires-clause-passed c = rw c.deref-in-Some.ensures.value (passed_to c.loop-mark.table c.loop-mark.layout.marks.items c.loop-mark.invariant.laid.have c.loop-mark.limit c.in-Some.mark
     (rw c.deref.ensures.value at c.in-Some.ensures) c.loop-mark.passed.items c.loop-mark.invariant.passed)
 
 pub add_run-requires-clause-runs : goal.add_run-requires-clause-runs
@@ -43,13 +43,13 @@ add_run-requires-clause-room c =
     (rw c.deref.ensures.value at c.in-Some.ensures) c.sink-at.result c.sink-at.ensures.low c.sink-at.new.table c.sink-at.ensures.arranged c.sink-at.ensures.sinks in
     omega (arith, less, c.loop-mark.invariant.few, c.loop-mark.invariant.room, c.requires.room)
 
-pub overflow_sub-result : goal.overflow_sub-result
-overflow_sub-result c =
+pub overflow_sub-mark : goal.overflow_sub-mark
+overflow_sub-mark c =
     let sized = mark_sized c.loop-mark.table c.loop-mark.layout.marks.items c.loop-mark.invariant.arranged.bounded c.loop-mark.invariant.laid.have c.in-Some.mark (rw c.deref.ensures.value at c.in-Some.ensures).is in
     omega (arith, sized.0)
 
-pub overflow_add-result : goal.overflow_add-result
-overflow_add-result c =
+pub overflow_add-limit : goal.overflow_add-limit
+overflow_add-limit c =
     let sized = mark_sized c.loop-mark.table c.loop-mark.layout.marks.items c.loop-mark.invariant.arranged.bounded c.loop-mark.invariant.laid.have c.in-Some.mark (rw c.deref.ensures.value at c.in-Some.ensures).is in
     omega (arith, sized.0, sized.1, c.sink-at.ensures.low)
 
