@@ -1,5 +1,5 @@
 -- One block emptied, or moved to an address at which it lies beside the others.
-use Rattle.std.proofs.Common.{◌≡◌, ◌≢◌, ◌⊎◌, inl, inr, ℕ, not, ◌==◌, ◌+◌, ◌<◌, max, List, ◌∷◌, All, length, Some, None, IsSome, IfSome, is_some, Result, Ok, Err, OnOk, OnErr, arith, refl, sym, ap, subst, ◌∙◌}
+use Rattle.std.proofs.Common.{◌≡◌, ◌≢◌, ◌⊎◌, inl, inr, ℕ, not, ◌==◌, ◌+◌, ◌<◌, max, List, ◌∷◌, All, length, Option, Some, None, IsSome, IsSomeAnd, IfSome, is_some, Result, Ok, Err, OnOk, OnErr, arith, refl, sym, ap, subst, ◌∙◌}
 use Rattle.std.specs.List.{filter}
 use Rattle.std.specs.List.Sorted.{IsPermutation}
 use Rattle.std.proofs.Math.ListN.{set, length-set}
