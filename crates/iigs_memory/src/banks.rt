@@ -436,9 +436,10 @@ impl Banks {
     {
         self.places.know_arranged();
         match self.places.empty(h) {
-            Ok(()) => Ok(()),
-            Err(fault) => Err(fault),
+            Ok(()) => {}
+            Err(fault) => return Err(fault),
         }
+        Ok(())
     }
 
     /// Purges the first so many purgeable blocks, whose handles stay.
