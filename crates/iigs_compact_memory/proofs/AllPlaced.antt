@@ -11,7 +11,7 @@ use Rattle.iigs_meaning.specs.Slide.{AreSettled, PurgesOrSlides}
 use Rattle.iigs_compact_memory.specs.Alls.{AreZeros, CanPutAll}
 use Rattle.iigs_compact_memory.proofs.Settled.{settled_for, settled_puts}
 use Rattle.iigs_compact_memory.proofs.Making.{kept_twice}
-use Rattle.iigs_compact_memory.proofs.Alls.{puts_all_at_once, zeros_get}
+use Rattle.iigs_compact_memory.proofs.Several.{puts_all_at_once, zeros_get}
 
 -- as many handles as wants
 pub as_many : (Makes : MakesRoom) (banks : List ℕ) (user : ℕ) (slots last : Slots) (wants : List Want) (hs : List Handle) → PutsAll Makes banks user slots wants hs last → length hs ≡ length wants

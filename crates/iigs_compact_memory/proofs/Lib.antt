@@ -5,5 +5,5 @@ pub mod Making
 pub mod Compacted
 pub mod Placing
 pub mod Searching
-pub mod Alls
+pub mod Several
 pub mod AllPlaced

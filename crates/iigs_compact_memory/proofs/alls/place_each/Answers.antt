@@ -1,5 +1,5 @@
 use Rattle.std.proofs.Common.{◌<◌, length, arith}
-use Rattle.iigs_compact_memory.proofs.Alls.{each_puts, each_can, each_zeros, each_kept, each_there}
+use Rattle.iigs_compact_memory.proofs.Several.{each_puts, each_can, each_zeros, each_kept, each_there}
 use Rattle.iigs_compact_memory.proofs.alls.place_each.Goals as goal
 
 pub loop-number-preserved : goal.loop-number-preserved
