@@ -98,7 +98,7 @@ module _ (banks : List ℕ) (slots plan : Slots) (h : Handle) (at : ℕ) (can : 
     no_higher higher = let both = rw can.was at higher in let less = rw can.there at both.1 in omega (arith, less, (can.goes ne).1)
 
     pub no_nofit : IsSomeAnd (get slots h) (λ block. (block.locked ≡ false) × IsSomeAnd block.at (λ a. can.to ≤ a) × ¬ Fits banks (without_block slots h block) block.want can.to) → ⊥
-    no_nofit nofit = let both = rw can.was at nofit in both.2 (can.goes ne).2
+    no_nofit nofit = let both = subst (λ (o : Option Block). IsSomeAnd o (λ block. (block.locked ≡ false) × IsSomeAnd block.at (λ a. can.to ≤ a) × ¬ Fits banks (without_block slots h block) block.want can.to)) can.was nofit in both.2 (can.goes ne).2
 
 isnt_locked : (block : Block) → can_move block ≡ true → block.locked ≡ false
 unfolding can_move

@@ -1,4 +1,4 @@
-use Rattle.std.proofs.Common.{◌∙◌, ap}
+use Rattle.std.proofs.Common.{◌∙◌, ap, arith}
 use Rattle.iigs_places.specs.Arranged.{Arrangement}
 use Rattle.iigs_compact_memory.specs.Needs.{NoneAfter}
 use Rattle.iigs_compact_memory.proofs.Making.{none_past}
@@ -20,4 +20,5 @@ loop-count-preserved c = record {
 }
 
 pub returns-clause-needs : goal.returns-clause-needs
-returns-clause-needs c = none_past c.args.places.now.banks c.args.places.now.slots c.args.want.now c.purgeable-most.result c.purgeable-most.ensures.value c.loop-count.invariant.none
+returns-clause-needs c = none_past c.args.places.now.banks c.args.places.now.slots c.args.want.now c.purgeable-most.result c.purgeable-most.ensures.value
+    (λ count less. c.loop-count.invariant.none count (omega (arith, less, c.loop-count-test.false)))
