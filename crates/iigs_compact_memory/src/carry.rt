@@ -27,13 +27,14 @@ fn carry(banks: &mut Banks, plan: &Places, h: Handle, at: u32) -> u32
         return 0;
     }
     match banks.shift(h, to) {
-        Ok(()) => 1,
+        Ok(()) => {}
         Err(ShiftFault::Stale) => unreachable!(),
         Err(ShiftFault::Empty) => unreachable!(),
         Err(ShiftFault::Locked) => unreachable!(),
         Err(ShiftFault::Higher) => unreachable!(),
         Err(ShiftFault::NoFit) => unreachable!(),
     }
+    1
 }
 
 /// Slides blocks down as in the plan, and counts those that changed their address.
