@@ -13,23 +13,23 @@ loop-first-init c = record {
   within = omega arith;
 }
 
-pub carry-requires : goal.carry-requires
-carry-requires c = rw c.loop-first.invariant.kept.banks (can_carry c.args.banks.now.banks c.args.banks.now.slots c.args.plan.now.slots c.loop-first.banks.slots c.requires.apart c.requires.settled c.requires.planned
-    c.loop-first.limit c.loop-first.invariant.carried c.in-Some.first (rw c.places.ensures at c.in-Some.ensures.found))
+pub carry-moved-requires : goal.carry-moved-requires
+carry-moved-requires c = record { can = rw c.loop-first.invariant.kept.banks (can_carry c.args.banks.now.banks c.args.banks.now.slots c.args.plan.now.slots c.loop-first.banks.slots c.requires.apart c.requires.settled c.requires.planned
+    c.loop-first.limit c.loop-first.invariant.carried c.in-Some.first (rw c.places.ensures at c.in-Some.ensures.found)) }
 
 pub loop-first-preserved : goal.loop-first-preserved
 loop-first-preserved c =
     let first = rw c.places.ensures at c.in-Some.ensures.found in
     record {
-      carried = rw (add-one, c.carry.ensures.carried) (carried_step c.args.banks.now.banks c.args.banks.now.slots c.args.plan.now.slots c.loop-first.banks.slots c.requires.apart c.requires.settled c.requires.planned
+      carried = rw (add-one, c.carry-moved.ensures.carried) (carried_step c.args.banks.now.banks c.args.banks.now.slots c.args.plan.now.slots c.loop-first.banks.slots c.requires.apart c.requires.settled c.requires.planned
           c.loop-first.limit c.loop-first.invariant.carried c.in-Some.first first);
-      kept = kept_twice c.args.banks.now c.loop-first.banks c.carry.new.banks [] c.loop-first.invariant.kept c.carry.ensures.kept
+      kept = kept_twice c.args.banks.now c.loop-first.banks c.carry-moved.new.banks [] c.loop-first.invariant.kept c.carry-moved.ensures.kept
           (λ place out some. there_before c.args.banks.now.banks c.loop-first.banks.slots c.args.plan.now.slots c.in-Some.first.handle c.in-Some.first.at
           (can_carry c.args.banks.now.banks c.args.banks.now.slots c.args.plan.now.slots c.loop-first.banks.slots c.requires.apart c.requires.settled c.requires.planned
-          c.loop-first.limit c.loop-first.invariant.carried c.in-Some.first first) place (rw c.carry.ensures.carried at some));
-      count = rw (c.carry.ensures.moved, c.loop-first.invariant.count, c.carry.ensures.carried) (sym (carried_count c.args.banks.now.banks c.args.banks.now.slots c.args.plan.now.slots c.loop-first.banks.slots
+          c.loop-first.limit c.loop-first.invariant.carried c.in-Some.first first) place (rw c.carry-moved.ensures.carried at some));
+      count = rw (c.carry-moved.ensures.moved, c.loop-first.invariant.count, c.carry-moved.ensures.carried) (sym (carried_count c.args.banks.now.banks c.args.banks.now.slots c.args.plan.now.slots c.loop-first.banks.slots
           c.requires.apart c.requires.settled c.requires.planned c.loop-first.limit c.loop-first.invariant.carried c.in-Some.first first));
-      small = omega (arith, c.loop-first.invariant.small, c.carry.ensures.one, first.from);
+      small = omega (arith, c.loop-first.invariant.small, c.carry-moved.ensures.one, first.from);
       within = omega (arith, c.in-Some.ensures.small);
     }
 
