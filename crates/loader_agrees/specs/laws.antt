@@ -18,5 +18,6 @@ pub mod Empty
 pub mod BegunSound
 pub mod BegunRows
 pub mod BegunMet
+pub mod Likes
 pub mod Bare
 pub mod Filled
