@@ -32,11 +32,12 @@ use Rattle.loader_machine.specs.Needs.{Needs, is_read, path_if}
 use Rattle.loader_agrees.specs.Agrees.{Loaded, Outline, seen_in, Agrees, Has, IsSound, Meets}
 use Rattle.loader_agrees.specs.laws.Reads.{headed}
 use Rattle.loader_agrees.specs.laws.Seeing.{made_at, IsKept, kept_is, refuses, does}
+use Rattle.loader_agrees.specs.laws.Leading.{own_leading}
 use Rattle.sys_loader.specs.Replies.{activation_reply}
 use Rattle.sys_loader.specs.Lives.{HasShifted}
 use Rattle.sys_loader.specs.Activating.{IsChanged, CanLoad, IsBringRefusal, HasCome, IsComeRefusal, IsReadRefusal, CantRead, LacksMemory, CantCome, DidCome, HasActivated, DidActivate}
 use Rattle.sys_loader.proofs.Came.{dynamic_plain, came_agrees}
-use Rattle.sys_loader.proofs.Shifting.{IsTurn, own_leading, shifted_agrees}
+use Rattle.sys_loader.proofs.Shifting.{IsTurn, shifted_agrees}
 use Rattle.sys_loader.proofs.Turned.{own_leads}
 
 -- ---- a segment that wakes

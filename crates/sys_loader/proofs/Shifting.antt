@@ -29,10 +29,10 @@ use Rattle.load_meaning.specs.LoadTable.{targets_of, target_at, entry_count}
 use Rattle.load_meaning.specs.Table.{entry_start}
 use Rattle.std.specs.List.{AllByRecursion}
 use Rattle.loader_machine.specs.Steps.{changed, with_slots}
-use Rattle.loader_agrees.specs.Agrees.{Kept, Loaded, outline, kept_outlines, UserAgrees, EntriesLead, AreAttached, AreBare, IsCall, Agrees, IsSegments, IsOf, Has, IsSound}
-use Rattle.loader_agrees.specs.laws.Bare.{bare_row}
+use Rattle.loader_agrees.specs.Agrees.{Kept, Loaded, outline, kept_outlines, UserAgrees, EntriesLead, AreAttached, IsCall, Agrees, IsSegments, IsOf, Has, IsSound}
 use Rattle.loader_agrees.specs.laws.Begun.{decide}
 use Rattle.loader_agrees.specs.laws.Frame.{Same, agrees_still}
+use Rattle.loader_agrees.specs.laws.Leading.{Leading}
 use Rattle.loader_agrees.specs.laws.Reads.{head_at}
 use Rattle.loader_agrees.specs.laws.Seeing.{made_at, user_is, IsKept, kept_is, has_any}
 use Rattle.loader_agrees.specs.laws.Slotted.{slot_apart, slot_set}
@@ -114,17 +114,6 @@ room_there loader sound p n g j has there =
     go : (at : Option ℕ) (locked : Bool) → IsSome (there_at (lies_at j at locked)) → IsSome at
     go None locked e = absurd cc
     go (Some a) locked e = refl
-
--- the tables of this user lead to the segments of the user of an ID, under this file number: its own under 1, or those of the user to which
--- it is attached
-pub data Leading (users : List (Option Kept)) (id owner file : ℕ) : Type 0 where
-  Its : owner ≡ id → file ≡ 1 → ((q f : ℕ) → attached_at (kept_outlines users) q f ≡ Some id → ⊥) → Leading users id owner file
-  Holder : 2 ≤ file → owner ≢ id → attached_at (kept_outlines users) owner file ≡ Some id → ((f : ℕ) → attached_at (kept_outlines users) id f ≡ None)
-      → ((q f : ℕ) → 2 ≤ f → attached_at (kept_outlines users) q f ≡ Some id → (q ≡ owner) × (f ≡ file)) → Leading users id owner file
-
--- where none has attached users, the tables of a user lead to its own segments
-pub own_leading : (users : List (Option Kept)) → AreBare users → (id : ℕ) → Leading users id id 1
-own_leading users bare id = Its refl refl (λ q f found. let clash : None ≡ Some id = sym (bare_row users bare q f) ∙ found in cc)
 
 module _ (old new : Loaded) (id number owner file : ℕ) (kept lead : Kept) (h : Handle) (change : Block → Block) (address : Option ℕ) (head : Head)
     (sound : IsSound old.memory old.users) (leading : Leading old.users id owner file) (lead_made : user_of old.users owner ≡ Some lead)

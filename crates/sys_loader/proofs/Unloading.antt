@@ -21,10 +21,11 @@ use Rattle.loader_agrees.specs.Agrees.{Kept, Loaded, Outline, seen_by, Agrees, H
 use Rattle.loader_agrees.specs.laws.Checks.{PassesRunning, StopsRunning, PassesSegment, StopsSegment}
 use Rattle.loader_agrees.specs.laws.Checking.{active_none, active_passes}
 use Rattle.loader_agrees.specs.laws.Seeing.{IsKept, kept_is, refuses, does, has_any}
+use Rattle.loader_agrees.specs.laws.Leading.{own_leading}
 use Rattle.sys_loader.specs.Replies.{done_reply}
 use Rattle.sys_loader.specs.Renewing.{AreRoomy, AreRenewed}
 use Rattle.sys_loader.specs.Lives.{CanUnload, HasUnloaded, DidUnload}
-use Rattle.sys_loader.proofs.Shifting.{IsTurn, own_leading, shifted_sound, shifted_agrees}
+use Rattle.sys_loader.proofs.Shifting.{IsTurn, shifted_sound, shifted_agrees}
 use Rattle.sys_loader.proofs.Turned.{own_leads}
 
 -- ---- the refusal, check by check

@@ -1,9 +1,10 @@
 -- Users of whom a call changes nothing but handles.
-use Rattle.std.proofs.Common.{◌≡◌, ℕ, Bool, true, false, cond, ◌==◌, ◌+◌, ◌-◌, ◌≤◌, ◌<◌, List, Option, Some, None, nat_lt, refl, sym, ap, subst, ◌∙◌, arith}
+use Rattle.std.proofs.Common.{◌≡◌, ℕ, cond, ◌==◌, ◌+◌, ◌-◌, ◌≤◌, List, length, Option, Some, None, refl, sym, ap, subst, ◌∙◌}
 use Rattle.std.specs.Prelude.{slice_get, option_map}
 use Rattle.std.specs.Option.{option_and_then}
 use Rattle.omf_io.specs.Files.{FileMap}
 use Rattle.load_meaning.specs.declared.table.Target.{Target}
+use Rattle.load_meaning.specs.Pathnames.{most_paths}
 use Rattle.loader_machine.specs.declared.seen.Head.{Head}
 use Rattle.loader_machine.specs.declared.seen.Life.{Life}
 use Rattle.loader_machine.specs.Heads.{at_number}
@@ -78,10 +79,12 @@ module _ (old new : List (Option Kept)) (like : AreLike old new) where
     same = is.life ∙ joined.same ∙ sym lives;
     alone = is.attached ∙ joined.alone;
     dynamic = λ number head found. joined.dynamic number head (ap (λ (hs : List Head). at_number hs number) (sym is.heads) ∙ found);
+    plain = λ number head found. joined.plain number head (ap (λ (hs : List Head). at_number hs number) (sym is.heads) ∙ found);
   }
 
   pub like_attached : AreAttached old → AreAttached new
   like_attached attached = record {
+    few = λ place now made. let was = like.back place now made in subst (λ (ids : List ℕ). length ids ≤ most_paths) (sym was.2.attached) (attached.few place was.0 was.1);
     each = λ place i n now made is.
         let was = like.back place now made in
         let one = attached.each place i n was.0 was.1 (ap (λ (ids : List ℕ). slice_get ids i) (sym was.2.attached) ∙ is) in
