@@ -26,7 +26,6 @@ use Rattle.sys_loader.specs.Replies.{done_reply}
 use Rattle.sys_loader.specs.Renewing.{AreRoomy, AreRenewed}
 use Rattle.sys_loader.specs.Lives.{CanUnload, HasUnloaded, DidUnload}
 use Rattle.sys_loader.proofs.Shifting.{IsTurn, shifted_sound, shifted_agrees}
-use Rattle.sys_loader.proofs.Turned.{own_leads}
 
 -- ---- the refusal, check by check
 
@@ -100,7 +99,7 @@ module _ (old new : Loaded) (id number : ℕ) (sound : IsSound old.memory old.us
     agrees_next : Agrees held new next
     agrees_next = subst (λ (t : Slots). Agrees held new (with_slots state t)) slots_same
         (shifted_agrees old new id number id 1 did.can.is.kept did.can.is.kept did.h idle_block None did.can.is.head sound (own_leading old.users sound.bare id) did.can.is.made (inl refl) did.can.is.made did.can.is.head' did.can.is.handle did.can.dynamic idles did.shifted
-        (none_active did.h did.shifted.changes.block) held state agrees (λ some. absurd cc) (own_leads held))
+        (none_active did.h did.shifted.changes.block) held state agrees (λ some. absurd cc))
 
     unload_met : Met Purges held state (UnloadSegment id number) Okay new
     unload_met = (
