@@ -319,4 +319,3 @@ module _ (held : FileMap) (old new : Loaded) (path : List ℕ) (segments : List 
       let of' = sound.each place n one.0 h one.1 in
       let live : IsSome (get old.memory.slots h) = rw of'.live refl in
       keeps h live) same
-
