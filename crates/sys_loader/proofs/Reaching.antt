@@ -96,23 +96,23 @@ module _ (loader : Loaded) (id number at : ℕ) (place : Entered) (leads : Leads
       let its_bytes = lent_here loader place.address place.user place.segment place.offset leads.lies handle bytes its_handle here in
       let its_target : t ≡ target_at (bytes_at loader.memory leads.lies.h.slot) k = is ∙ ap (λ (bs : List ℕ). target_at bs k) its_bytes in
       record {
-    place = place;
-    leads = leads;
-    its = refl;
-    target = t;
-    entry = record {
-      lies = leads.lies;
-      table = ap is_table same ∙ table;
-      k = k;
-      inside = subst (λ (h : Head). k < entry_count h.length) (sym same) inside;
-      code = code;
-      target_is = its_target;
-    };
-    segment' = refl;
-    offset' = refl;
-    passes = rw its_target (entry_passes loader place.address place.user place.segment place.offset leads.lies sound (ap is_table same ∙ table) k
-        (subst (λ (h : Head). k < entry_count h.length) (sym same) inside));
-  }
+        place = place;
+        leads = leads;
+        its = refl;
+        target = t;
+        entry = record {
+          lies = leads.lies;
+          table = ap is_table same ∙ table;
+          k = k;
+          inside = subst (λ (h : Head). k < entry_count h.length) (sym same) inside;
+          code = code;
+          target_is = its_target;
+        };
+        segment' = refl;
+        offset' = refl;
+        passes = rw its_target (entry_passes loader place.address place.user place.segment place.offset leads.lies sound (ap is_table same ∙ table) k
+            (subst (λ (h : Head). k < entry_count h.length) (sym same) inside));
+      }
 
 -- ---- reads
 

@@ -339,7 +339,6 @@ module _ (old new : Loaded) (id number owner file : ℕ) (kept lead : Kept) (h :
   pub shifted_sound : kept.life ≡ Running → IsSound new.memory old.users
   shifted_sound runs = record { few = sound.few; lengths = sound.lengths; short = sound.short; statics = statics_now; rests = rests_now runs; each = each_now; once = sound.once; only = only_now; bare = sound.bare; attached = sound.attached; calls = calls_now }
 
-
   -- ---- agreement
 
   -- another user's segments are where they were

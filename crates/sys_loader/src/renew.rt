@@ -63,7 +63,13 @@ fn renew(bytes: &mut [u8], count: usize, only: Option<(u16, u16)>, place: Option
 }
 
 /// The entries of a table's block follow.
-fn renew_block(banks: &mut Banks, h: Handle, count: usize, only: Option<(u16, u16)>, place: Option<u32>)
+fn renew_block(
+    banks: &mut Banks,
+    h: Handle,
+    count: usize,
+    only: Option<(u16, u16)>,
+    place: Option<u32>,
+)
     requires there { IsSomeAnd (get banks.old.slots h) (λ block. IsSome block.at) }
     requires room { 14 * count ≤ length (bytes_at banks.old h.slot) - 12 }
     ensures written { banks.new ≡ with_bytes banks.old h.slot (renewed only place count (bytes_at banks.old h.slot)) }
