@@ -20,7 +20,7 @@ use Rattle.loader_machine.specs.declared.faults.LoaderFault.TheVariants as fault
 use Rattle.loader_machine.specs.declared.seen.Head.{Head}
 use Rattle.loader_machine.specs.declared.seen.Presence.{Presence}
 use Rattle.loader_machine.specs.declared.seen.Presence.TheVariants.{Absent, Purged, Idle, Active}
-use Rattle.loader_machine.specs.Heads.{head_of, at_number, want_of}
+use Rattle.loader_machine.specs.Heads.{head_of, at_number, is_table, want_of}
 use Rattle.loader_machine.specs.State.{Machine, Seen, fresh, first_id, handles_of}
 use Rattle.loader_machine.specs.Presences.{handle_at, presence, presence_at, lies_in, lies_at, active_at}
 use Rattle.loader_machine.specs.Found.{HoldsLoad, Bad, Good}

@@ -1,5 +1,5 @@
 -- A segment of a load file that gets a block and is written into it.
-use Rattle.std.proofs.Common.{◌≡◌, ◌≢◌, inl, inr, ℕ, zero, suc, Bool, true, false, ◌+◌, ◌-◌, ◌<◌, ◌≤◌, List, [], ◌∷◌, length, map, Option, Some, None, IsSome, refl, sym, ap, subst, ◌∙◌, arith}
+use Rattle.std.proofs.Common.{◌≡◌, ◌≢◌, inl, inr, ℕ, zero, suc, Bool, true, false, ◌==◌, ◌+◌, ◌-◌, ◌<◌, ◌≤◌, List, [], ◌∷◌, length, map, Option, Some, None, IsSome, refl, sym, ap, subst, ◌∙◌, arith}
 use Rattle.std.specs.Prelude.{slice_get, slice_set, unwrap_or, IsSomeAnd}
 use Rattle.std.specs.List.{AllByRecursion}
 use Rattle.std.proofs.lemmas.Option.{same_Some, slice_get_within}
@@ -24,7 +24,7 @@ use Rattle.loader_machine.specs.Heads.{head_of, at_number}
 use Rattle.loader_machine.specs.State.{no_pokes, first_id, user_of, with_user}
 use Rattle.loader_machine.specs.Presences.{handle_at, presence, there_at, lies_in, lies_at}
 use Rattle.loader_machine.specs.Stands as machine
-use Rattle.loader_machine.specs.Stands.{Setting, setting, stands}
+use Rattle.loader_machine.specs.Stands.{Setting, nowhere, target_with, setting, stands}
 use Rattle.loader_machine.specs.laws.StandsLaws.{AreAlike, stands_alike}
 use Rattle.loader_agrees.specs.Agrees.{Kept, Loaded, Has, IsSound}
 use Rattle.loader_agrees.specs.laws.BegunSound.{want_size}
@@ -32,7 +32,6 @@ use Rattle.loader_agrees.specs.laws.Keeping.{of_kept}
 use Rattle.loader_agrees.specs.laws.Lists.{set_map}
 use Rattle.loader_agrees.specs.laws.Reads.{head_at, headed}
 use Rattle.loader_agrees.specs.laws.Seeing.{made_at, has_any}
-use Rattle.loader_agrees.specs.laws.Bare.{no_far}
 use Rattle.sys_loader.specs.declared.user.Segment as users
 use Rattle.sys_loader.specs.Renewing.{AreRoomy, AreRenewed}
 use Rattle.sys_loader.specs.Lives.{with_bytes}
@@ -46,6 +45,10 @@ use Rattle.sys_loader.proofs.Written.{heads_of, handles_of}
 none_active : (ts : List Target) → AllByRecursion (λ (t : Target). ◌≡◌ {A = Option ℕ} None None) ts
 none_active [] = tt
 none_active (t ∷ ts) = (refl, none_active ts)
+
+-- where no segment of an attached user is active, none is for a file above 1
+no_far : (slots : Slots) (handles : List (Option Handle)) (file n : ℕ) → 2 ≤ file → target_with nowhere slots handles file n ≡ None
+no_far slots handles file n above = let other : (file == 1) ≡ false = grind arith in rw other refl
 
 module _ (old : Loaded) (id number : ℕ) (sound : IsSound old.memory old.users) (head : Head) (handle : Option Handle) (can : CanLoad old id number head handle)
     (h : Handle) (address : ℕ) (placed : Memory) (brought : IsBrought old.memory id head handle h address placed) where

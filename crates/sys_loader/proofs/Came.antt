@@ -66,7 +66,7 @@ pub dynamic_plain : (file : List ℕ) (segments : List Segment) → IsTaken file
 dynamic_plain file segments taken number head is dynamic =
     let s = headed segments number head is in
     elim (decide (is_table head)) [
-      | inr no ↦ no
+      | inr other ↦ other
       | inl table ↦
           (let t = (loadable_has file segments taken.loadable number s.0 s.1).table (ap is_table s.2 ∙ table) in
           let clash : false ≡ true = sym t.static ∙ ap (λ (h : Head). is_dynamic h.kind) s.2 ∙ dynamic in absurd cc)

@@ -1,13 +1,11 @@
 -- A loader without users.
-use Rattle.std.proofs.Common.{◌≡◌, ℕ, zero, suc, List, [], replicate, Some, None, refl, sym, ap, ◌∙◌, arith}
+use Rattle.std.proofs.Common.{◌≡◌, ℕ, zero, suc, [], replicate, Some, None, refl, sym, ap, ◌∙◌, arith}
 use Rattle.iigs_meaning.specs.declared.wants.Block.{Block}
 use Rattle.iigs_meaning.specs.Slots.{slot_at, new_slot}
 use Rattle.iigs_meaning.specs.Fits.{Slots, block_in}
 use Rattle.iigs_meaning.specs.Blocks.{new_slots}
 use Rattle.iigs_meaning.specs.Memory.{Memory}
-use Rattle.omf_io.specs.Files.{FileMap}
-use Rattle.loader_machine.specs.State.{empty_of}
-use Rattle.loader_agrees.specs.Agrees.{Agrees, IsSound}
+use Rattle.loader_agrees.specs.Agrees.{IsSound}
 
 all_new : (n slot : ℕ) → slot_at (replicate n (new_slot {T = Block})) slot ≡ new_slot
 all_new zero slot = refl
@@ -33,15 +31,4 @@ sound_empty memory new = record {
   bare = λ place kept made. absurd cc;
   attached = record { few = λ place kept made. absurd cc; each = λ place i n kept made is. absurd cc; once = λ place other i j n one two made made' is is'. absurd cc };
   calls = λ place number k head h has table there inside. let made = has.made in absurd cc;
-}
-
--- over any files it agrees with the empty state
-pub agrees_empty : (held : FileMap) (memory : Memory) (banks : List ℕ) → memory.banks ≡ banks → memory.slots ≡ new_slots → Agrees held (record { memory = memory; users = [] }) (empty_of banks)
-agrees_empty held memory banks same new = record {
-  banks = same;
-  slots = new;
-  users = refl;
-  attached = record { few = λ place kept made. absurd cc; each = λ place i n kept made is. absurd cc; once = λ place other i j n one two made made' is is'. absurd cc };
-  entries = λ place number k kept segments s t made holds is table found above. absurd cc;
-  each = λ place kept user made made'. absurd cc;
 }

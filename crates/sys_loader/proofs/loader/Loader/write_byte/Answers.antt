@@ -21,7 +21,7 @@ pub invariant_of-self : goal.invariant_of-self
 invariant_of-self c =
     let old = c.self.inside.banks in
     let before = loaded old c.self.inside.users.items in
-    let can = subst (λ (l : Loaded). CanPoke l c.args.user c.args.segment c.args.at c.in-Ok.h) (sym c.self.view_is) c.in-Ok.ensures in (
+    let can = subst (λ (l : Loaded). CanPoke l c.args.user c.args.segment c.args.at c.in-Ok.h) (sym c.self.view_is) c.in-Ok.ensures.can in (
       rw c.put.ensures (sound_written old (map (option_map kept) c.self.inside.users.items) c.in-Ok.h.slot (slice_set (bytes_at old c.in-Ok.h.slot) c.args.at c.args.byte) c.self.invariant.0
           (length-set (bytes_at old c.in-Ok.h.slot) c.args.at c.args.byte) (poked_tables before c.args.user c.args.segment c.args.at c.in-Ok.h c.self.invariant.0 can)),
       c.self.invariant.1,
