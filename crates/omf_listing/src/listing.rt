@@ -26,9 +26,9 @@ fn shown(byte: u8) -> u8
     }
 }
 
-/// Appends a name in quotes.
+/// Appends a name in quotes. A byte of it outside $20 to $7E, and a quote, is shown as `?`.
 #[tactic(auto, unfolding(crate::specs::Listing::quoted))]
-fn put_quoted(line: &mut Line, name: &[u8]) -> Result<(), LineFault>
+pub fn put_quoted(line: &mut Line, name: &[u8]) -> Result<(), LineFault>
     ensures { OnOk result (line.new ≡ line.old ++ quoted name.now) }
 {
     line.text("\"")?;
