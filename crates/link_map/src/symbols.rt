@@ -17,7 +17,7 @@ use link_emit::{Seat, Slot, place_at, value_in};
 use link_resolve::{Program, next_record, size_at};
 use omf_base::{Line, LineFault};
 use omf_format::{Value, ValueFault};
-use omf_listing::put_name;
+use omf_listing::{put_field, put_name};
 use omf_records::{Rec, SegmentView};
 
 /// Who sees a label or an equate.
@@ -44,8 +44,8 @@ fn put_shift(line: &mut Line, shift: i8) -> Result<(), LineFault>
     if shift == 0 {
         return Ok(());
     }
-    line.text(" shift ")?;
-    line.hex(u32::from(shift.cast_unsigned()), 2)
+    line.text(" shift")?;
+    put_field(line, 2, u32::from(shift.cast_unsigned()))
 }
 
 /// Appends a number; or a place, with its load segment, its offset there and its shift.
@@ -63,10 +63,9 @@ fn put_value(line: &mut Line, value: Value) -> Result<(), LineFault>
             offset,
             shift,
         } => {
-            line.text(" at ")?;
-            line.hex(u32::from(segment), 4)?;
-            line.text(" ")?;
-            line.hex(offset, 8)?;
+            line.text(" at")?;
+            put_field(line, 4, u32::from(segment))?;
+            put_field(line, 8, offset)?;
             put_shift(line, shift)
         }
     }

@@ -6,6 +6,7 @@ ghost use Rattle.link_map.specs.MapText.{entry_line, entries_from};
 
 use jump_table::{Table, Target, target_at};
 use omf_base::{Line, LineFault};
+use omf_listing::put_field;
 use std::alloc::Global;
 
 /// Appends the line of an entry: the table's number and the offset of the entry's code there, and where it leads.
@@ -14,14 +15,12 @@ fn put_entry(line: &mut Line, number: u16, place: u32, target: Target) -> Result
     requires { place < most_entries }
     ensures { OnOk result (line.new ≡ line.old ++ entry_line number place target) }
 {
-    line.text("entry at ")?;
-    line.hex(u32::from(number), 4)?;
-    line.text(" ")?;
-    line.hex(8 + 14 * place + 10, 8)?;
-    line.text(" calls ")?;
-    line.hex(u32::from(target.segment), 4)?;
-    line.text(" ")?;
-    line.hex(target.offset, 8)?;
+    line.text("entry at")?;
+    put_field(line, 4, u32::from(number))?;
+    put_field(line, 8, 8 + 14 * place + 10)?;
+    line.text(" calls")?;
+    put_field(line, 4, u32::from(target.segment))?;
+    put_field(line, 8, target.offset)?;
     line.text("\n")
 }
 

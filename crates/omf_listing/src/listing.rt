@@ -121,7 +121,7 @@ fn put_segment_line(
 }
 
 /// Appends a space and a number in so many digits, 1 to 8.
-fn put_field(line: &mut Line, digits: u32, n: u32) -> Result<(), LineFault>
+pub fn put_field(line: &mut Line, digits: u32, n: u32) -> Result<(), LineFault>
     requires some { 1 ≤ digits }
     requires most { digits ≤ 8 }
     ensures { OnOk result (line.new ≡ line.old ++ field digits n) }
