@@ -1,15 +1,13 @@
 -- The text of a map, as far as it has come.
-use Rattle.std.proofs.Common.{◌≡◌, ◌⊎◌, inl, inr, ℕ, zero, suc, ◌+◌, ◌<◌, ◌≤◌, List, [], ◌∷◌, ◌++◌, length, map, take, Some, refl, sym, ap, ◌∙◌, append_assoc, append-nil, arith}
+use Rattle.std.proofs.Common.{◌≡◌, ℕ, zero, suc, ◌+◌, List, [], ◌∷◌, ◌++◌, length, map, take, Some, refl, sym, ap, ◌∙◌, append_assoc, append-nil, arith}
 use Rattle.std.specs.Prelude.{slice_get, option_map}
 use Rattle.std.specs.List.{flat_map}
 use Rattle.std.proofs.lemmas.Grind.{flat_map-append}
-use Rattle.std.proofs.lemmas.List.{length-append}
 use Rattle.std.proofs.lemmas.Option.{slice_get-map}
 use Rattle.omf_format.specs.Record.{Record}
 use Rattle.omf_format.specs.Header.{Fields}
 use Rattle.omf_format.specs.File.{Segment}
 use Rattle.load_meaning.specs.declared.table.Target.{Target}
-use Rattle.load_meaning.specs.declared.table.Entry.{Entry}
 use Rattle.load_meaning.specs.Table.{file_entry, IsTableOf}
 use Rattle.load_meaning.specs.LoadTable.{target_at}
 use Rattle.link_meaning.specs.Sizes.{place_behind}

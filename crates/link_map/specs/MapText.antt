@@ -1,6 +1,6 @@
 -- The map of a link: its load segments, their members with what these define, and the entries of the jump table (this project's own
 -- form).
-use Rattle.std.specs.Prelude.{◌≡◌, ℕ, ◌+◌, ℤ, Bool, List, [], ◌∷◌, ◌++◌, codes, Option, Some, None, Result, Ok, Err, ◌==◌, if◌then◌else◌}
+use Rattle.std.specs.Prelude.{◌≡◌, ℕ, ◌+◌, ℤ, List, [], ◌∷◌, ◌++◌, codes, Some, None, Result, Ok, Err, ◌==◌, if◌then◌else◌}
 use Rattle.std.specs.List.{flat_map}
 use Rattle.omf_base.specs.Digits.{decimal, hexadecimal}
 use Rattle.omf_base.specs.Lines.{line}

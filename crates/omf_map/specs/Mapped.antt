@@ -1,7 +1,5 @@
 -- What the program `omf_map` does.
-use Rattle.std.specs.Prelude.{◌≡◌, ℕ, ◌+◌, Bool, true, false, List, None}
-use Rattle.omf_base.specs.Lines.{line}
-use Rattle.omf_io.specs.Outside.{Outside}
+use Rattle.std.specs.Prelude.{◌≡◌, ℕ, List}
 use Rattle.link_meaning.specs.declared.fault.LinkFault.{LinkFault}
 use Rattle.link_meaning.specs.LinkFaults.{plain}
 use Rattle.link_meaning.specs.EmitFaults.{IsFirstLinkFault}
