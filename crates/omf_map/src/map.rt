@@ -1,11 +1,10 @@
 //! All that the program does.
 
-ghost use Rattle.std.specs.Prelude.{◌≡◌, ◌⊎◌, ◌≤◌, None, IfOk, length};
+ghost use Rattle.std.specs.Prelude.{◌≡◌, ◌≤◌, IfOk, length};
 ghost use Rattle.omf_io.specs.Outside.{outside};
 ghost use Rattle.omf_cli.specs.Words.{words_of};
 ghost use Rattle.omf_cli.specs.Made.{all_bytes, made_of, AreShort};
-ghost use Rattle.omf_cli.specs.Making.{MakesRun};
-ghost use Rattle.omf_map.specs.Mapped.{MapMakes};
+ghost use Rattle.omf_map.specs.Mapped.{MapMakes, map_usage_line, HasMapped};
 
 use link_map::map_files;
 use omf_base::{Line, LineFault};
@@ -38,7 +37,9 @@ impl Maker for Map {
 }
 
 /// The line that says which words there are.
-fn usage_line(alloc: Global) -> Result<Line, LineFault> {
+fn usage_line(alloc: Global) -> Result<Line, LineFault>
+    ensures { IfOk result (λ text. text ≡ map_usage_line) }
+{
     let mut line = Line::new(alloc);
     line.text("usage: omf_map FILE..")?;
     line.text("\n")?;
@@ -51,7 +52,9 @@ pub fn run_map<F: Files, S: Sink>(
     words: &[String],
     files: &mut F,
     out: &mut S,
-) -> Status {
+) -> Status
+    ensures { HasMapped (words_of words.now) result (outside (F.seen files.old) (F.seen files.new) (S.seen out.old) (S.seen out.new)) }
+{
     if !are_paths(1, 255, words) {
         return print(usage_line(alloc), Status::Usage, out);
     }
