@@ -1,8 +1,8 @@
 -- Blocks whose bytes are made zeros.
-use Rattle.std.proofs.Common.{◌≡◌, ◌≢◌, inl, inr, ℕ, true, zero, suc, ◌+◌, ◌<◌, ◌≤◌, ◌^◌, List, [], ◌∷◌, map, take, replicate, All, Contains, length, get_or, slice_get, Some, IfSome, arith, add-one, refl, sym, ap, ◌∙◌}
+use Rattle.std.proofs.Common.{◌≡◌, ◌≢◌, inl, inr, ℕ, true, zero, suc, ◌+◌, ◌<◌, ◌≤◌, ◌^◌, List, [], ◌∷◌, map, take, replicate, All, Contains, length, get_or, slice_get, Some, IfSome, length-append, length-drop, ◌++◌, drop, arith, add-one, refl, sym, ap, ◌∙◌}
 use Rattle.std.specs.Option.{option_and_then}
 use Rattle.std.proofs.Math.ListN.{set}
-use Rattle.std.proofs.lemmas.List.{length-replicate}
+use Rattle.std.proofs.lemmas.List.{length-take, length-replicate}
 use Rattle.std.proofs.lemmas.Bool.{cases_eq}
 use Rattle.iigs_meaning.specs.declared.handles.Handle.{Handle}
 use Rattle.iigs_meaning.specs.declared.slots.Slot.{Slot}
@@ -12,14 +12,38 @@ use Rattle.iigs_meaning.specs.Slots.{slot_at}
 use Rattle.iigs_meaning.specs.Fits.{block_in}
 use Rattle.iigs_meaning.specs.Puts.{placed}
 use Rattle.iigs_meaning.specs.Blocks.{AreApart}
-use Rattle.iigs_memory.specs.Offsets.{offset_of, bytes_below}
-use Rattle.iigs_memory.specs.Spots.{IsBoundedSlot}
-use Rattle.iigs_memory.specs.Store.{extent, extent_of, bytes_in}
-use Rattle.iigs_memory.specs.declared.table.Put.{Put}
-use Rattle.iigs_memory.specs.Alls.{handle_of, BlocksAre, NotAmong, cleared, FitIn}
-use Rattle.iigs_memory.proofs.Extents.{in_buffer, over_here, over_other, bounded_extent, each_slot}
+use Rattle.iigs_places.specs.Offsets.{offset_of, bytes_below}
+use Rattle.iigs_places.specs.Spots.{IsBoundedSlot}
+use Rattle.iigs_places.specs.Extent.{extent, extent_of}
+use Rattle.iigs_memory.specs.Store.{bytes_in}
+use Rattle.iigs_places.specs.declared.table.Put.{Put}
+use Rattle.iigs_places.specs.Alls.{handle_of, BlocksAre, NotAmong}
+use Rattle.iigs_memory.specs.Cleared.{cleared, FitIn}
+use Rattle.iigs_places.proofs.Extents.{bounded_extent, each_slot}
+use Rattle.iigs_memory.proofs.Buffer.{in_buffer, over_here, over_other}
 use Rattle.iigs_memory.proofs.Puts.{clear_overlay}
-use Rattle.iigs_memory.proofs.Alls.{clear_one, length-clear_one}
+
+-- the buffer with one block's bytes zeros
+abbrev pub clear_one : ℕ → ℕ → List ℕ → List ℕ
+clear_one start size buffer = take start buffer ++ (replicate size 0 ++ drop (start + size) buffer)
+
+-- one more is cleared
+cleared_suc : (banks : List ℕ) (wants : List Want) (puts : List Put) (buffer : List ℕ) (k : ℕ) (w : Want) (p : Put) → k < length wants → k < length puts
+    → cleared banks (take (suc k) wants) (take (suc k) puts) buffer ≡ clear_one (offset_of banks (get_or puts k p).at) (get_or wants k w).size (cleared banks (take k wants) (take k puts) buffer)
+cleared_suc banks [] puts buffer k w p inside inside' = absurd (omega arith)
+cleared_suc banks (want ∷ wants) [] buffer k w p inside inside' = absurd (omega arith)
+cleared_suc banks (want ∷ wants) (put ∷ puts) buffer zero w p inside inside' = refl
+cleared_suc banks (want ∷ wants) (put ∷ puts) buffer (suc k) w p inside inside' =
+    cleared_suc banks wants puts (clear_one (offset_of banks put.at) want.size buffer) k w p (omega arith) (omega arith)
+
+pub cleared_more : (banks : List ℕ) (wants : List Want) (puts : List Put) (buffer : List ℕ) (k : ℕ) (w : Want) (p : Put) → k < length wants → k < length puts
+    → cleared banks (take (k + 1) wants) (take (k + 1) puts) buffer ≡ clear_one (offset_of banks (get_or puts k p).at) (get_or wants k w).size (cleared banks (take k wants) (take k puts) buffer)
+cleared_more banks wants puts buffer k w p inside inside' = rw add-one (cleared_suc banks wants puts buffer k w p inside inside')
+
+pub length-clear_one : (start size : ℕ) (buffer : List ℕ) → start + size ≤ length buffer → length (clear_one start size buffer) ≡ length buffer
+length-clear_one start size buffer le =
+    let n : length {A = ℕ} (replicate size 0) ≡ size = length-replicate size 0 in
+    omega (arith, length-append (take start buffer) (replicate size 0 ++ drop (start + size) buffer), length-append (replicate size 0) (drop (start + size) buffer), length-take start buffer, length-drop (start + size) buffer)
 
 -- where a block was put is its extent
 here_is : (slot : Slot Block) (block : Block) → block_in slot ≡ Some block → extent slot ≡ extent_of block

@@ -10,13 +10,16 @@ use Rattle.iigs_meaning.specs.declared.wants.Block.{Block}
 use Rattle.iigs_meaning.specs.Slots.{slot_at, new_slot}
 use Rattle.iigs_meaning.specs.Blocks.{AreApart}
 use Rattle.iigs_meaning.specs.Memory.{Memory, bytes_at}
-use Rattle.iigs_memory.specs.Offsets.{bytes_below, offset_of}
-use Rattle.iigs_memory.specs.Spots.{IsBoundedSlot}
+use Rattle.iigs_places.specs.Offsets.{bytes_below, offset_of}
+use Rattle.iigs_places.specs.Spots.{IsBoundedSlot}
 use Rattle.iigs_memory.specs.Overlay.{written_over, overlaid, start_of}
 use Rattle.iigs_memory.specs.declared.part.Part.{Part}
-use Rattle.iigs_memory.specs.Store.{bytes_in, memory_of, extent, IsPart, IsStore}
+use Rattle.iigs_places.specs.Extent.{extent}
+use Rattle.iigs_places.specs.Arranged.{IsArranged}
+use Rattle.iigs_memory.specs.Store.{bytes_in, memory_of, IsPart, IsStore}
 use Rattle.iigs_memory.proofs.Parts.{part, overlay, length-part, length-overlay, get-part}
-use Rattle.iigs_memory.proofs.Extents.{start_extent, bytes_from, bytes_extent, in_buffer, over_slot, over_here, over_other}
+use Rattle.iigs_places.proofs.Extents.{start_extent}
+use Rattle.iigs_memory.proofs.Buffer.{bytes_from, bytes_extent, in_buffer, over_slot, over_here, over_other}
 
 module _ (banks buffer : List ℕ) (slots : List (Slot Block)) where
   -- the bytes at a place are those of its slot
@@ -153,30 +156,30 @@ module _ (banks buffer : List ℕ) (slots : List (Slot Block)) (bounded : All Is
           part-refill (offset_of banks f.0) f.1 n xs ys (omega arith) (omega arith)
 
 -- the same of a store's memory
-module _ (banks buffer : List ℕ) (slots : List (Slot Block)) (spots turns made : ℕ) (store : IsStore banks slots buffer spots turns made)
+module _ (banks buffer : List ℕ) (slots : List (Slot Block)) (arranged : IsArranged banks slots) (made : ℕ) (store : IsStore banks buffer made)
     (memory : Memory) (view : memory_of banks slots buffer ≡ memory) (h : Handle) (at : Part) (is_part : IsPart memory h at) where
   part_here : IsPart (memory_of banks slots buffer) h (record { start = at.start; end = at.end })
   part_here = rw view is_part
 
   pub store_within : at.end ≤ length buffer
-  store_within = within_buffer banks buffer slots store.bounded store.sound store.room h at.start at.end part_here
+  store_within = within_buffer banks buffer slots arranged.bounded arranged.sound store.room h at.start at.end part_here
 
   pub store_order : at.start ≤ at.end
-  store_order = in_order banks buffer slots store.bounded store.sound store.room h at.start at.end part_here
+  store_order = in_order banks buffer slots arranged.bounded arranged.sound store.room h at.start at.end part_here
 
   pub store_bytes : part at.start (at.end - at.start) buffer ≡ bytes_at memory h.slot
-  store_bytes = bytes_there banks buffer slots store.bounded store.sound store.room h at.start at.end part_here ∙ ap (λ m. bytes_at m h.slot) view
+  store_bytes = bytes_there banks buffer slots arranged.bounded arranged.sound store.room h at.start at.end part_here ∙ ap (λ m. bytes_at m h.slot) view
 
   pub store_memory : (ws : List ℕ) → memory_of banks slots (overlay at.start ws buffer) ≡ overlaid memory h ws
-  store_memory ws = memory_there banks buffer slots store.bounded store.sound store.room h at.start at.end part_here ws ∙ ap (λ m. overlaid m h ws) view
+  store_memory ws = memory_there banks buffer slots arranged.bounded arranged.sound store.room h at.start at.end part_here ws ∙ ap (λ m. overlaid m h ws) view
 
   pub store_refilled : (n : ℕ) → n ≡ length buffer → (ws : List ℕ)
       → memory_of banks slots (take n (overlay at.start ws buffer ++ drop (length (overlay at.start ws buffer)) buffer)) ≡ overlaid memory h ws
   store_refilled n is ws =
       let order = store_order in
       let within = store_within in
-      refilled banks buffer slots store.bounded store.sound store.room n is (overlay at.start ws buffer) (drop (length (overlay at.start ws buffer)) buffer)
+      refilled banks buffer slots arranged.bounded arranged.sound store.room n is (overlay at.start ws buffer) (drop (length (overlay at.start ws buffer)) buffer)
       (length-overlay at.start ws buffer (omega arith)) ∙ store_memory ws
 
   pub store_alone : (ws : List ℕ) → length ws ≡ length (bytes_at memory h.slot) → overlaid memory h ws ≡ record memory { bytes = set memory.bytes h.slot ws }
-  store_alone ws = rw (← view) (alone_there banks buffer slots store.bounded store.sound store.room h at.start at.end part_here ws)
+  store_alone ws = rw (← view) (alone_there banks buffer slots arranged.bounded arranged.sound store.room h at.start at.end part_here ws)

@@ -1,100 +1,37 @@
--- A block that was put where its want goes.
-use Rattle.std.proofs.Common.{◌≡◌, ◌≢◌, inl, inr, ℕ, Bool, true, false, cond, ◌==◌, ◌+◌, ◌-◌, ◌<◌, ◌≤◌, ◌^◌, ◌/◌, List, [], ◌∷◌, ◌++◌, map, take, drop, replicate, All, length, Option, Some, None, IsSome, IsSomeAnd, IfSome, is_some, arith, refl, sym, ap, ◌∙◌, subst}
-use Rattle.std.proofs.Math.ListN.{set, length-set}
-use Rattle.std.proofs.lemmas.List.{length-map, length-replicate, drop-drop}
-use Rattle.iigs_meaning.specs.declared.handles.Handle.{Handle}
+-- A store with a block put in it.
+use Rattle.std.proofs.Common.{◌≡◌, ◌≢◌, ℕ, ◌+◌, ◌≤◌, List, [], ◌∷◌, ◌++◌, take, drop, replicate, All, length, Some, arith, sym, ap}
+use Rattle.std.proofs.lemmas.List.{length-replicate, drop-drop}
 use Rattle.iigs_meaning.specs.declared.slots.Slot.{Slot}
-use Rattle.iigs_meaning.specs.declared.slots.Content.{Content}
-use Rattle.iigs_meaning.specs.declared.slots.Content.TheVariants.{Free, Used, Retired}
-use Rattle.iigs_meaning.specs.declared.wants.Want.{Want}
 use Rattle.iigs_meaning.specs.declared.wants.Block.{Block}
-use Rattle.iigs_meaning.specs.Slots.{slot_at, get, used_value}
-use Rattle.iigs_meaning.specs.Free.{IsFree}
-use Rattle.iigs_meaning.specs.Fits.{IsWant, HoldsByte, IsApart, block_in}
-use Rattle.iigs_meaning.specs.Placement.{emptied_where, emptied, is_gone, GoesTo}
-use Rattle.iigs_meaning.specs.Puts.{placed, Purges, Puts, PutsAnew}
+use Rattle.iigs_meaning.specs.Slots.{slot_at}
 use Rattle.iigs_meaning.specs.Blocks.{AreApart}
 use Rattle.iigs_meaning.specs.Memory.{KeepsBut, bytes_at}
-use Rattle.iigs_memory.specs.Offsets.{offset_of}
-use Rattle.iigs_memory.specs.Spots.{IsBounded, IsBoundedSlot}
-use Rattle.iigs_memory.specs.Store.{memory_of, extent, Spans, IsStore}
-use Rattle.iigs_memory.specs.declared.table.Put.{Put}
-use Rattle.iigs_memory.specs.Table.{IsPut, IsReput}
+use Rattle.iigs_places.specs.Offsets.{offset_of}
+use Rattle.iigs_places.specs.Spots.{IsBoundedSlot}
+use Rattle.iigs_places.specs.Extent.{extent}
+use Rattle.iigs_memory.specs.Store.{memory_of, IsStore}
 use Rattle.iigs_memory.proofs.Parts.{overlay, length-overlay}
-use Rattle.iigs_memory.proofs.Extents.{each_slot, in_buffer, holds_to}
-use Rattle.iigs_memory.proofs.Takes.{gone_handle}
-use Rattle.iigs_memory.proofs.Stores.{StaysIn, Stays, apart_stays, apart_placed, map_stays, slot_at-map, bytes_placed, keeps_placed}
-use Rattle.iigs_memory.proofs.Changed.{set_other, set_here, set_bounded, gone_bounded, taken, set_others_stay, live_block, live_in, with_is}
-
-pub gone_stays : (slots : List (Slot Block)) (count place : ℕ) → Stays slots (emptied slots count) place
-unfolding emptied
-gone_stays slots count = map_stays (is_gone slots count) slots
-
-pub length-emptied : (slots : List (Slot Block)) (count : ℕ) → length (emptied slots count) ≡ length slots
-unfolding emptied
-length-emptied slots count = length-map slots (emptied_where (is_gone slots count))
-
--- a block whose bytes are all free ends within the addresses of banks
-pub free_limit : (banks : List ℕ) (address size : ℕ) → All (λ bank. bank < 256) banks → 0 < size
-    → ((i : ℕ) → address ≤ i → i < address + size → IsFree banks i) → address + size ≤ 2 ^ 24
-free_limit banks address size small some free =
-    let last : ℕ = address + size - 1 in
-    let here : IsFree banks last = free last (omega arith) (omega arith) in
-    let bank : last / 0x10000 < 256 = subst (λ (b : ℕ). b < 256) here.configured.2 (small here.configured.0 (last / 0x10000) here.configured.1) in
-    omega arith
+use Rattle.iigs_memory.proofs.Buffer.{in_buffer}
+use Rattle.iigs_places.proofs.Stays.{Stays}
+use Rattle.iigs_memory.proofs.Stores.{bytes_placed, keeps_placed}
 
 pub clear_overlay : (start size : ℕ) (xs : List ℕ) → take start xs ++ (replicate size 0 ++ drop (start + size) xs) ≡ overlay start (replicate size 0) xs
 clear_overlay start size xs =
     let n : length {A = ℕ} (replicate size 0) ≡ size = length-replicate size 0 in
     rw n (ap (λ ys. take start xs ++ (replicate size 0 ++ ys)) (sym (drop-drop size start xs)))
 
--- slots in which one has a block where its want goes, and the first blocks are emptied
-module _ (banks : List ℕ) (small : All (λ bank. bank < 256) banks) (old : List (Slot Block)) (want : Want) (is_want : IsWant want) (count address : ℕ)
-    (goes : GoesTo banks old want count address) (bounded : All IsBoundedSlot old) (sound : AreApart banks old)
-    (user : ℕ) (locked : Bool) (level : ℕ) (low : level < 256) (at generation : ℕ) (inside : at < length old) where
-  abbrev pub put_in : List (Slot Block)
-  put_in = set (emptied old count) at (record { generation = generation; content = Used (placed want address user locked level) })
-
-  inside' : at < length (emptied old count)
-  inside' = omega (arith, length-emptied old count)
-
-  pub put_length : length put_in ≡ length old
-  put_length = length-set (emptied old count) at (record { generation = generation; content = Used (placed want address user locked level) }) ∙ length-emptied old count
-
-  pub put_extent : extent (slot_at put_in at) ≡ Some (address, want.size)
-  put_extent = rw (set_here (emptied old count) at (record { generation = generation; content = Used (placed want address user locked level) }) inside') refl
-
-  pub put_bounded : All IsBoundedSlot put_in
-  put_bounded = set_bounded (emptied old count) at (record { generation = generation; content = Used (placed want address user locked level) })
-      (gone_bounded count old bounded) (record { some = is_want.some; level = low; ends = free_limit banks address want.size small is_want.some goes.fits.free })
-
-  pub put_others : (place : ℕ) → place ≢ at → Stays old put_in place
-  put_others place ne = rw (set_other (emptied old count) at (record { generation = generation; content = Used (placed want address user locked level) }) place ne) (gone_stays old count place)
-
-  pub put_apart : ((i : ℕ) → ¬ HoldsByte i (slot_at (emptied old count) at)) → AreApart banks put_in
-  put_apart none = apart_placed banks (emptied old count) put_in at (address, want.size) (apart_stays banks old (emptied old count) sound (gone_stays old count))
-      (set_others_stay (emptied old count) at (record { generation = generation; content = Used (placed want address user locked level) }))
-      put_extent (λ i spans. goes.fits.free i spans.0 spans.1)
-      (λ place i ne spans holds. each_slot (IsApart address want.size) (emptied old count) (λ i from to holds. absurd holds) goes.fits.apart place i spans.0 spans.1 holds)
-
 -- a store with a block put in it, all zeros
-module _ (banks buffer : List ℕ) (old new : List (Slot Block)) (spots turns made : ℕ) (store : IsStore banks old buffer spots turns made)
-    (at : ℕ) (e : ℕ × ℕ) (len : length new ≡ length old) (bounded : All IsBoundedSlot new) (sound : AreApart banks new)
+module _ (banks buffer : List ℕ) (old new : List (Slot Block)) (made : ℕ) (store : IsStore banks buffer made)
+    (at : ℕ) (e : ℕ × ℕ) (bounded : All IsBoundedSlot new) (sound : AreApart banks new)
     (others : (place : ℕ) → place ≢ at → Stays old new place) (is : extent (slot_at new at) ≡ Some e) where
   pub put_within : offset_of banks e.0 + e.1 ≤ length buffer
   put_within = in_buffer banks buffer new bounded sound store.room at e is
 
-  pub put_store : (spots' turns' : ℕ) → 4096 ≤ spots' → 4096 ≤ turns' → IsStore banks new (overlay (offset_of banks e.0) (replicate e.1 0) buffer) spots' turns' made
-  put_store spots' turns' s t =
+  pub put_store : IsStore banks (overlay (offset_of banks e.0) (replicate e.1 0) buffer) made
+  put_store =
       let within = put_within in
       record {
-        small = store.small;
-        count = len ∙ store.count;
-        bounded = bounded;
-        sound = sound;
         room = omega (arith, store.room, length-overlay (offset_of banks e.0) (replicate e.1 0) buffer (omega arith));
-        spots_room = s;
-        turns_room = t;
         made_room = store.made_room;
       }
 
@@ -103,117 +40,3 @@ module _ (banks buffer : List ℕ) (old new : List (Slot Block)) (spots turns ma
 
   pub put_keeps : KeepsBut (memory_of banks old buffer) (memory_of banks new (overlay (offset_of banks e.0) (replicate e.1 0) buffer)) (at ∷ [])
   put_keeps = keeps_placed banks buffer old new bounded sound store.room at e is (replicate e.1 0) (length-replicate e.1 0) others
-
--- what a placement leaves of the slots
-pub record PutFacts (banks : List ℕ) (old : List (Slot Block)) (want : Want) (put : Put) (new : List (Slot Block)) : Type 0 where
-  pub len : length new ≡ length old
-  pub bounded : All IsBoundedSlot new
-  pub others : (place : ℕ) → place ≢ put.handle.slot → Stays old new place
-  pub is : extent (slot_at new put.handle.slot) ≡ Some (put.at, want.size)
-  pub sound : AreApart banks new
-
-no_byte : (slot : Slot Block) (i : ℕ) → block_in slot ≡ None → ¬ HoldsByte i slot
-no_byte slot i none holds = let no : IsSomeAnd {T = Block} None (λ block. IsSomeAnd block.at (λ first. (first ≤ i) × (i < first + block.want.size))) = rw none at holds in absurd no
-
--- the same in the words of placement
-pub put_is : (banks : List ℕ) (old new : List (Slot Block)) (want : Want) (user : ℕ) (locked : Bool) (level : ℕ) (put : Put)
-    → IsPut banks old want user locked level put new → Puts Purges banks old want user locked level put.handle new
-put_is banks old new want user locked level put done = record {
-  address = put.at;
-  room = emptied old done.count;
-  makes = record { count = done.count; goes = done.goes; room_is = refl };
-  handle = done.handle;
-  next_is = done.slots;
-}
-
-pub reput_is : (banks : List ℕ) (old new : List (Slot Block)) (h : Handle) (want : Want) (address : ℕ)
-    → IsReput banks old h want address new → PutsAnew Purges banks old h want new
-reput_is banks old new h want address done = record {
-  block = done.block;
-  was = done.was;
-  empty = done.empty;
-  address = address;
-  room = emptied old done.count;
-  makes = record { count = done.count; goes = done.goes; room_is = refl };
-  next_is = done.slots;
-}
-
-pub put_facts : (banks : List ℕ) (old new : List (Slot Block)) (want : Want) (user : ℕ) (locked : Bool) (level : ℕ) (put : Put)
-    → All (λ bank. bank < 256) banks → IsWant want → All IsBoundedSlot old → AreApart banks old → level < 256
-    → IsPut banks old want user locked level put new → PutFacts banks old want put new
-put_facts banks old new want user locked level put small is_want bounded sound low done =
-    let block : Block = placed want put.at user locked level in
-    let took = taken (emptied old done.count) put.handle block (gone_handle done.count old ∙ done.handle) in
-    let new_is : new ≡ set (emptied old done.count) put.handle.slot (record { generation = put.handle.generation; content = Used block }) = done.slots ∙ took.0 in
-    let inside : put.handle.slot < length old = omega (arith, took.1, length-emptied old done.count) in
-    rw new_is (record {
-      len = put_length banks small old want is_want done.count put.at done.goes bounded sound user locked level low put.handle.slot put.handle.generation inside;
-      bounded = put_bounded banks small old want is_want done.count put.at done.goes bounded sound user locked level low put.handle.slot put.handle.generation inside;
-      others = put_others banks small old want is_want done.count put.at done.goes bounded sound user locked level low put.handle.slot put.handle.generation inside;
-      is = put_extent banks small old want is_want done.count put.at done.goes bounded sound user locked level low put.handle.slot put.handle.generation inside;
-      sound = put_apart banks small old want is_want done.count put.at done.goes bounded sound user locked level low put.handle.slot put.handle.generation inside
-          (λ i. no_byte (slot_at (emptied old done.count) put.handle.slot) i took.2);
-    })
-
--- a live handle stays live when blocks are emptied
-emptied_live : (test : Block → Bool) (slot : Slot Block) (h : Handle) → IsSome (cond (slot.generation == h.generation) (block_in slot) None)
-    → IsSome (cond ((emptied_where test slot).generation == h.generation) (block_in (emptied_where test slot)) None)
-emptied_live test slot h = go slot.generation slot.content
-  where
-    used : (b : Bool) (generation : ℕ) (block : Block) → IsSome (cond (generation == h.generation) (Some block) None)
-        → IsSome (cond ((cond {A = Slot Block} b (record { generation = generation; content = Used (record block { at = None }) }) (record { generation = generation; content = Used block })).generation == h.generation)
-        (block_in (cond b (record { generation = generation; content = Used (record block { at = None }) }) (record { generation = generation; content = Used block }))) None)
-    used true generation block some = same (generation == h.generation) some
-      where
-        same : (c : Bool) → IsSome (cond c (Some block) None) → IsSome {T = Block} (cond c (Some (record block { at = None })) None)
-        same true some = refl
-        same false some = cc
-    used false generation block some = some
-
-    go : (generation : ℕ) (content : Content Block) → IsSome (cond (generation == h.generation) (used_value content) None)
-        → IsSome (cond ((emptied_where test (record { generation = generation; content = content })).generation == h.generation)
-        (block_in (emptied_where test (record { generation = generation; content = content }))) None)
-    go generation Free some = some
-    go generation Retired some = some
-    go generation (Used block) some = used (test block) generation block some
-
-pub map_live : (test : Block → Bool) (slots : List (Slot Block)) (h : Handle) → IsSome (get slots h) → IsSome (get (map (emptied_where test) slots) h)
-map_live test slots h some = rw (slot_at-map (emptied_where test) slots h.slot refl) (emptied_live test (slot_at slots h.slot) h some)
-
-pub gone_live : (count : ℕ) (slots : List (Slot Block)) (h : Handle) → IsSome (get slots h) → IsSome (get (emptied slots count) h)
-unfolding emptied
-gone_live count slots h = map_live (is_gone slots count) slots h
-
-no_extent : (slot : Slot Block) (i : ℕ) → extent slot ≡ None → ¬ HoldsByte i slot
-no_extent slot i none holds = let no : IsSomeAnd {T = ℕ × ℕ} None (Spans i) = rw none at (holds_to i slot holds) in absurd no
-
-stays_empty : (old new : Slot Block) → StaysIn old new → extent old ≡ None → extent new ≡ None
-stays_empty old new (inl none) empty = none
-stays_empty old new (inr same) empty = same ∙ empty
-
-pub reput_facts : (banks : List ℕ) (old new : List (Slot Block)) (h : Handle) (want : Want) (address : ℕ)
-    → All (λ bank. bank < 256) banks → IsWant want → All IsBoundedSlot old → AreApart banks old
-    → IsReput banks old h want address new → PutFacts banks old want (record { handle = h; at = address }) new
-reput_facts banks old new h want address small is_want bounded sound done =
-    let block : Block = placed want address done.block.user done.block.locked done.block.level in
-    let live : IsSome (get old h) = ap is_some done.was in
-    let there : block_in (slot_at old h.slot) ≡ Some done.block = live_block old h done.block done.was in
-    let one : IfSome (block_in (slot_at old h.slot)) IsBounded = each_slot IsBoundedSlot old tt bounded h.slot in
-    let old_bounded : IsBounded done.block = rw there at one in
-    let low : done.block.level < 256 = old_bounded.level in
-    let inside : h.slot < length old = live_in old h live in
-    let empty : extent (slot_at old h.slot) ≡ None = rw (there, done.empty) refl in
-    let new_is : new ≡ set (emptied old done.count) h.slot (record { generation = h.generation; content = Used block }) =
-    done.slots ∙ with_is (emptied old done.count) h (record { generation = h.generation; content = Used block }) (gone_live done.count old h live) in
-    rw new_is (record {
-      len = put_length banks small old want is_want done.count address done.goes bounded sound done.block.user done.block.locked done.block.level low h.slot h.generation inside;
-      bounded = put_bounded banks small old want is_want done.count address done.goes bounded sound done.block.user done.block.locked done.block.level low h.slot h.generation inside;
-      others = put_others banks small old want is_want done.count address done.goes bounded sound done.block.user done.block.locked done.block.level low h.slot h.generation inside;
-      is = put_extent banks small old want is_want done.count address done.goes bounded sound done.block.user done.block.locked done.block.level low h.slot h.generation inside;
-      sound = put_apart banks small old want is_want done.count address done.goes bounded sound done.block.user done.block.locked done.block.level low h.slot h.generation inside
-          (λ i. no_extent (slot_at (emptied old done.count) h.slot) i (stays_empty (slot_at old h.slot) (slot_at (emptied old done.count) h.slot) (gone_stays old done.count h.slot) empty));
-    })
-
-pub is_none : (o : Option ℕ) → is_some o ≡ false → o ≡ None
-is_none None e = refl
-is_none (Some x) e = absurd (cc)

@@ -2,8 +2,8 @@
 use Rattle.std.proofs.Common.{◌≡◌, inl, inr, ℕ, true, cond, zero, suc, ◌+◌, ◌-◌, ◌^◌, ◌<◌, ◌≤◌, List, Contains, arith, refl, ◌∙◌}
 use Rattle.std.proofs.lemmas.Bool.{cases_lt, cases_eq}
 use Rattle.iigs_meaning.specs.Free.{bank_of}
-use Rattle.iigs_memory.specs.Offsets.{is_named, bytes_below, offset_of}
-use Rattle.iigs_memory.proofs.Counts.{bytes_below-suc, named-Contains}
+use Rattle.iigs_places.specs.Offsets.{is_named, bytes_below, offset_of}
+use Rattle.iigs_places.proofs.Counts.{bytes_below-suc, named-Contains}
 
 module _ (banks : List ℕ) where
   -- a configured bank has its bytes before the next

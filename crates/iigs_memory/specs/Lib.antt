@@ -1,11 +1,4 @@
-pub mod Offsets
-pub mod Sizes
-pub mod Open
-pub mod Spots
 pub mod Store
 pub mod Overlay
-pub mod Table
-pub mod Alls
-pub mod Marks
-pub mod Runs
-pub mod Holder
+pub mod Cleared
+pub use Rattle.iigs_places.specs.Holder

@@ -8,7 +8,7 @@ use Rattle.iigs_meaning.specs.declared.wants.Block.{Block}
 use Rattle.iigs_meaning.specs.Slots.{slot_at}
 use Rattle.iigs_meaning.specs.Blocks.{address_in}
 use Rattle.iigs_meaning.specs.Memory.{Memory}
-use Rattle.iigs_memory.specs.Offsets.{offset_of}
+use Rattle.iigs_places.specs.Offsets.{offset_of}
 use Rattle.iigs_memory.specs.contracts.banks.Banks.{the_row}
 
 -- where the block in a slot begins in the buffer

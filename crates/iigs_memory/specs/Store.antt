@@ -1,30 +1,15 @@
 -- How the bytes of blocks stand in one buffer. No public clause cites this module.
-use Rattle.std.specs.Prelude.{◌≡◌, ℕ, ◌+◌, ◌<◌, ◌≤◌, Bool, true, List, [], All, map, take, drop, length, Option, IsSome, IsSomeAnd, slice_index}
-use Rattle.std.specs.Option.{option_map, option_map_or, option_and_then}
+use Rattle.std.specs.Prelude.{◌≡◌, ℕ, ◌+◌, ◌≤◌, Bool, true, List, [], map, take, drop, length, IsSome, IsSomeAnd, slice_index}
+use Rattle.std.specs.Option.{option_map_or}
 use Rattle.iigs_meaning.specs.declared.slots.Slot.{Slot}
 use Rattle.iigs_meaning.specs.declared.wants.Block.{Block}
 use Rattle.iigs_meaning.specs.declared.handles.Handle.{Handle}
 use Rattle.iigs_meaning.specs.Slots.{get, slot_at}
 use Rattle.iigs_memory.specs.declared.part.Part.{Part}
 use Rattle.iigs_meaning.specs.Fits.{block_in}
-use Rattle.iigs_meaning.specs.Blocks.{AreApart}
 use Rattle.iigs_meaning.specs.Memory.{Memory}
-use Rattle.iigs_memory.specs.Offsets.{offset_of, bytes_below}
-use Rattle.iigs_memory.specs.Spots.{IsBoundedSlot}
-
-abbrev pub sized : ℕ → Option ℕ → Option (ℕ × ℕ)
-sized size o = option_map (λ at. (at, size)) o
-
--- where a block begins and how many bytes it has, if it is there
-abbrev pub extent_of : Block → Option (ℕ × ℕ)
-extent_of block = sized block.want.size block.at
-
-abbrev pub extent : Slot Block → Option (ℕ × ℕ)
-extent slot = option_and_then extent_of (block_in slot)
-
--- the address is that of one of the bytes
-abbrev pub Spans : ℕ → ℕ × ℕ → Type 0
-Spans i e = (e.0 ≤ i) × (i < e.0 + e.1)
+use Rattle.iigs_places.specs.Offsets.{offset_of, bytes_below}
+use Rattle.iigs_places.specs.Extent.{extent}
 
 -- the bytes of a block, if it is there
 abbrev pub bytes_of : List ℕ → List ℕ → Block → List ℕ
@@ -41,15 +26,9 @@ IsBlank blank buffer = blank ≡ true → (i : ℕ) → slice_index buffer i ≡
 abbrev pub memory_of : List ℕ → List (Slot Block) → List ℕ → Memory
 memory_of banks slots buffer = record { banks = banks; slots = slots; bytes = map (bytes_in banks buffer) slots }
 
--- blocks lie apart in free memory of the banks, whose bytes the buffer has; scratch space has room for all blocks
-pub record IsStore (banks : List ℕ) (slots : List (Slot Block)) (buffer : List ℕ) (spots turns made : ℕ) : Type 0 where
-  pub small : All (λ bank. bank < 256) banks
-  pub count : length slots ≡ 4096
-  pub bounded : All IsBoundedSlot slots
-  pub sound : AreApart banks slots
+-- the buffer has the bytes of the banks, and scratch space has room for all blocks
+pub record IsStore (banks buffer : List ℕ) (made : ℕ) : Type 0 where
   pub room : bytes_below banks 256 ≤ length buffer
-  pub spots_room : 4096 ≤ spots
-  pub turns_room : 4096 ≤ turns
   pub made_room : 4096 ≤ made
 
 -- the part of the buffer that a live handle's block has, which is there

@@ -14,19 +14,11 @@ ghost use Rattle.iigs_meaning.specs.Banks.{IsBanksRefusal};
 ghost use Rattle.iigs_meaning.specs.Memory.{bytes_at, IsLent, KeepsBut, Changes, IsFreed, IsPurged, IsPlaced, AreAllPlaced, IsReplaced, IsNew};
 ghost use Rattle.iigs_meaning.specs.Room.{CountsBelow, IsRoom};
 
-use crate::bank_map::BankMap;
-use crate::layout::{Layout, lay_all, lay_less, new_layout};
-use crate::marks::last_mark;
 use crate::part::Part;
-use crate::spots::Spot;
-use crate::table::{
-    Put, clear, clear_all, give, purge_user, put_all, put_block, replace_block, set, start_plan,
-    used_bytes,
-};
-use iigs_handles::{Handles, HandlesFault, SLOTS};
-use iigs_meaning::{
-    BanksFault, Block, BlockFault, BlockState, Content, Handle, PlaceFault, Stale, Want,
-};
+use crate::placed::{clear, clear_all, give};
+use iigs_handles::SLOTS;
+use iigs_meaning::{BanksFault, Block, BlockFault, BlockState, Handle, PlaceFault, Stale, Want};
+use iigs_places::{Places, Put};
 use std::alloc::{AllocError, Global};
 use std::marker::Model;
 use std::mem;
@@ -34,20 +26,14 @@ use std::mem;
 /// Banks of memory with blocks under handles.
 #[derive(Drop)]
 pub struct Banks {
-    map: BankMap,
-    table: Handles<Block>,
+    places: Places,
+    // Scratch space for the placement of several blocks, all or none.
+    plan: Places,
+    made: Vec<Put>,
     // The bytes of all configured banks.
     bytes: Vec<u8>,
     // Whether they are all zeros: none was ever lent to be written.
     blank: bool,
-    // Scratch space for the placement of several blocks, all or none.
-    plan: Handles<Block>,
-    spots: Vec<Spot>,
-    turns: Vec<u32>,
-    made: Vec<Put>,
-    // Where the blocks of the table lie, and those of the plan.
-    layout: Layout,
-    plan_layout: Layout,
 }
 
 impl Model for Banks {
@@ -56,14 +42,13 @@ impl Model for Banks {
 
     ghost Value = { Memory };
 
-    ghost use Rattle.std.specs.Prelude.{◌≤◌};
+    ghost use Rattle.std.specs.Prelude.{◌≡◌};
     ghost use Rattle.iigs_memory.specs.Store.{memory_of, IsStore, IsBlank};
-    ghost use Rattle.iigs_memory.specs.Runs.{IsLayout, HasRoom};
 
-    ghost view = { λ s. memory_of s.map s.table s.bytes.items };
+    ghost view = { λ s. memory_of s.places.banks s.places.slots s.bytes.items };
 
-    ghost invariant = { λ s. IsStore s.map s.table s.bytes.items (vec_capacity s.spots) (vec_capacity s.turns) (vec_capacity s.made)
-        × IsLayout s.table s.layout × HasRoom s.plan_layout × IsBlank s.blank s.bytes.items };
+    ghost invariant = { λ s. IsStore s.places.banks s.bytes.items (vec_capacity s.made) × (s.plan.banks ≡ s.places.banks)
+        × IsBlank s.blank s.bytes.items };
 }
 
 fn slice(bytes: &[u8], start: usize, end: usize) -> &[u8]
@@ -86,51 +71,40 @@ fn scratch<T>(alloc: Global, count: usize) -> Result<Vec<T>, AllocError>
     Vec::with_capacity(alloc, count)
 }
 
-#[tactic(auto, unfolding(iigs_meaning::specs::Blocks::new_slots))]
-fn table(alloc: Global) -> Result<Handles<Block>, AllocError>
-    ensures { IfOk result (λ table. table ≡ new_slots) }
+// What `new` makes beside the places.
+fn parts(alloc: Global, places: Places, plan: Places) -> Result<Banks, AllocError>
+    requires { plan.banks ≡ places.banks }
+    ensures { IfOk result (λ banks. (banks.banks ≡ places.banks) × (banks.slots ≡ places.slots)) }
 {
-    match Handles::new(alloc) {
-        Ok(table) => Ok(table),
-        Err(HandlesFault::Memory) => Err(AllocError),
-    }
-}
-
-// What `new` makes beside the map of the banks.
-fn parts(alloc: Global, map: BankMap) -> Result<Banks, AllocError>
-    requires { All (λ bank. bank < 256) map }
-    ensures { IfOk result (λ banks. (banks.banks ≡ map) × (banks.slots ≡ new_slots)) }
-{
-    let bytes = zeros(alloc, map.size())?;
+    let bytes = zeros(alloc, places.size())?;
     Ok(Banks {
-        map,
-        table: table(alloc)?,
+        places,
+        plan,
+        made: scratch(alloc, SLOTS)?,
         bytes,
         blank: true,
-        plan: table(alloc)?,
-        spots: scratch(alloc, SLOTS)?,
-        turns: scratch(alloc, SLOTS)?,
-        made: scratch(alloc, SLOTS)?,
-        layout: new_layout(alloc)?,
-        plan_layout: new_layout(alloc)?,
     })
 }
 
 impl Banks {
     ghost use Rattle.iigs_memory.specs.Overlay.{overlaid, lends_block};
     ghost use Rattle.iigs_memory.specs.Store.{IsPart};
-    ghost use Rattle.iigs_memory.specs.Holder.{Has, IsHolder};
+    ghost use Rattle.iigs_places.specs.Holder.{Has, IsHolder};
 
     /// Memory of these banks, without blocks. It takes all the memory that it ever takes.
     pub fn new(alloc: Global, banks: &[u8]) -> Result<Banks, BanksFault>
         ensures made { IfOk result (IsNew banks.now) }
         ensures refused { IfErr result (IsBanksRefusal banks.now) }
     {
-        let map = match BankMap::new(alloc, banks) {
-            Ok(map) => map,
+        let places = match Places::new(alloc, banks) {
+            Ok(places) => places,
             Err(fault) => return Err(fault),
         };
-        match parts(alloc, map) {
+        let plan = match Places::new(alloc, banks) {
+            Ok(plan) => plan,
+            Err(fault) => return Err(fault),
+        };
+        match parts(alloc, places, plan) {
             Ok(banks) => Ok(banks),
             Err(_) => Err(BanksFault::Memory),
         }
@@ -140,35 +114,14 @@ impl Banks {
     pub fn blocks_lie_apart(&self)
         ensures { AreApart self.now.banks self.now.slots }
     {
-        let _map = &self.map;
+        self.places.know_arranged();
     }
 
     /// Each byte of a block has an address of 24 bits.
     pub fn blocks_have_addresses(&self)
         ensures { (place address : ℕ) → HoldsByte address (slot_at self.now.slots place) → address < 2 ^ 24 }
     {
-        let _map = &self.map;
-    }
-
-    // The handle of a slot whose block has the byte at an address.
-    fn held_at(&self, place: u16, address: u32) -> Option<Handle>
-        requires { place < 4096 }
-        ensures { MatchOption result (¬ HoldsByte address (slot_at self.now.slots place)) (λ h. (h.slot ≡ place) × Has self.now.slots address h) }
-    {
-        let slot = &self.table.slots()[usize::from(place)];
-        let Content::Used(block) = &slot.content else {
-            return None;
-        };
-        let Some(at) = block.at else {
-            return None;
-        };
-        if at <= address && address - at < block.want.size {
-            return Some(Handle {
-                slot: place,
-                generation: slot.generation,
-            });
-        }
-        None
+        self.places.know_arranged();
     }
 
     // The part of the buffer that a block has which is there.
@@ -176,13 +129,14 @@ impl Banks {
         ensures part { IfOk result (IsPart self.now h) }
         ensures refused { IfErr result (IsBlockRefusal self.now.slots h) }
     {
-        let Ok(block) = self.table.look(h) else {
+        self.places.know_arranged();
+        let Ok(block) = self.places.look(h) else {
             return Err(BlockFault::Stale);
         };
         let Some(at) = block.at else {
             return Err(BlockFault::Empty);
         };
-        let start = self.map.offset(at);
+        let start = self.places.offset(at);
         Ok(Part {
             start,
             end: start + block.want.size as usize,
@@ -194,6 +148,7 @@ impl Banks {
         ensures lent { IfOk result (λ bytes. IsLent self.now h bytes.now) }
         ensures refused { IfErr result (IsBlockRefusal self.now.slots h) }
     {
+        self.places.know_arranged();
         let part = self.part_of(h)?;
         Ok(slice(&self.bytes, part.start, part.end))
     }
@@ -202,10 +157,7 @@ impl Banks {
     pub fn holder(&self, address: u32) -> Option<Handle>
         ensures { MatchOption result ((h : declared.Handle) → ¬ Has self.now.slots address h) (IsHolder self.now.slots address) }
     {
-        match last_mark(&self.layout.marks, address) {
-            Some(mark) => self.held_at(mark.slot, address),
-            None => None,
-        }
+        self.places.holder(address)
     }
 
     /// The bytes of a block, to be written. Of the write itself `lend` says more.
@@ -213,6 +165,7 @@ impl Banks {
         ensures lent { IfOk result (λ bytes. IsLent self.old h bytes.now) }
         ensures refused { IfErr result (IsBlockRefusal self.old.slots h) }
     {
+        self.places.know_arranged();
         let part = self.part_of(h)?;
         self.blank = false;
         Ok(self.bytes.slice_mut(part.start..part.end))
@@ -226,6 +179,7 @@ impl Banks {
         ensures alone { (w : List ℕ) → length w ≡ length (bytes_at self.old h.slot)
             → overlaid self.old h w ≡ record self.old { bytes = slice_set self.old.bytes h.slot w } }
     {
+        self.places.know_arranged();
         let part = match self.part_of(h) {
             Ok(part) => part,
             Err(BlockFault::Stale) => unreachable!(),
@@ -241,13 +195,13 @@ impl Banks {
         ensures level { IfOk result (λ block. block.level < 256) }
         ensures refused { IfErr result (IsBlockRefusal self.now.slots h) }
     {
-        let Ok(block) = self.table.look(h) else {
+        let Ok(block) = self.places.look(h) else {
             return Err(BlockFault::Stale);
         };
         if block.at.is_none() {
             return Err(BlockFault::Empty);
         }
-        Ok(*block)
+        Ok(block)
     }
 
     // Puts a block in the place of a live handle's, with its place and size.
@@ -257,7 +211,7 @@ impl Banks {
         ensures slots { self.new.slots ≡ with_value self.old.slots h block }
         ensures kept { KeepsBut self.old self.new [] }
     {
-        set(&mut self.table, h, block);
+        self.places.set(h, block);
     }
 
     /// Locks a block, so that no placement purges it.
@@ -311,10 +265,9 @@ impl Banks {
         ensures refused { IfErr result (IsStale self.old.slots h) }
         ensures err { OnErr result (self.new ≡ self.old) }
     {
-        let Ok(block) = self.table.release(h) else {
+        let Ok(()) = self.places.release(h) else {
             return Err(BlockFault::Stale);
         };
-        lay_less(&mut self.layout, h.slot, block.at.unwrap_or(0));
         Ok(())
     }
 
@@ -323,7 +276,7 @@ impl Banks {
         ensures state { result_ok result ≡ option_map state_of (get self.now.slots h) }
         ensures refused { IfErr result (IsStale self.now.slots h) }
     {
-        match self.table.look(h) {
+        match self.places.look(h) {
             Ok(block) => Ok(BlockState {
                 at: block.at,
                 size: block.want.size,
@@ -339,9 +292,7 @@ impl Banks {
     pub fn purge_user(&mut self, user: u16) -> u32
         ensures { IsPurged self.old user result self.new }
     {
-        let count = purge_user(&mut self.table, user);
-        lay_all(&mut self.layout, &self.table);
-        count
+        self.places.purge_user(user)
     }
 
     /// Places a block under a new handle. It is all zeros. Blocks are purged for it as needed.
@@ -357,24 +308,15 @@ impl Banks {
         ensures refused { IfErr result (IsPlaceRefusal Purges self.old.banks self.old.slots want.now) }
         ensures err { OnErr result (self.new ≡ self.old) }
     {
-        let put = match put_block(
-            &self.map,
-            &mut self.table,
-            &mut self.layout,
-            &mut self.spots,
-            &mut self.turns,
-            want,
-            user,
-            locked,
-            level,
-        ) {
+        self.places.know_arranged();
+        let put = match self.places.place(want, user, locked, level) {
             Ok(put) => put,
             Err(fault) => return Err(fault),
         };
         clear(
             &mut self.bytes,
             self.blank,
-            self.map.offset(put.at),
+            self.places.offset(put.at),
             want.size as usize,
         );
         Ok(put.handle)
@@ -387,22 +329,15 @@ impl Banks {
         ensures refused { IfErr result (IsReplaceRefusal Purges self.old.banks self.old.slots h want.now) }
         ensures err { OnErr result (self.new ≡ self.old) }
     {
-        let at = match replace_block(
-            &self.map,
-            &mut self.table,
-            &mut self.layout,
-            &mut self.spots,
-            &mut self.turns,
-            h,
-            want,
-        ) {
+        self.places.know_arranged();
+        let at = match self.places.replace(h, want) {
             Ok(at) => at,
             Err(fault) => return Err(fault),
         };
         clear(
             &mut self.bytes,
             self.blank,
-            self.map.offset(at),
+            self.places.offset(at),
             want.size as usize,
         );
         Ok(())
@@ -424,27 +359,16 @@ impl Banks {
         ensures err { OnErr result (self.new ≡ self.old) }
         ensures handles_kept { OnErr result (handles.new ≡ handles.old) }
     {
-        start_plan(&mut self.plan, &self.table, user, fresh);
+        self.plan.start_from(&self.places, user, fresh);
         if (self.plan.left() as usize) < wants.len() {
             return Err(PlaceFault::NoHandle);
         }
-        lay_all(&mut self.plan_layout, &self.plan);
-        match put_all(
-            &self.map,
-            &mut self.plan,
-            &mut self.plan_layout,
-            &mut self.spots,
-            &mut self.turns,
-            &mut self.made,
-            user,
-            wants,
-        ) {
+        match self.plan.place_all(user, wants, &mut self.made) {
             Ok(()) => {}
             Err(fault) => return Err(fault),
         }
-        self.table.copy_from(&self.plan);
-        mem::swap(&mut self.layout, &mut self.plan_layout);
-        clear_all(&self.map, &mut self.bytes, self.blank, wants, &self.made);
+        mem::swap(&mut self.places, &mut self.plan);
+        clear_all(&self.places, &mut self.bytes, self.blank, wants, &self.made);
         give(&self.made, handles);
         Ok(())
     }
@@ -455,8 +379,6 @@ impl Banks {
         ensures only { (other : ℕ) → CountsBelow (IsRoom self.now.banks self.now.slots) (2 ^ 24) other → other ≡ result }
         ensures all { (address : ℕ) → IsRoom self.now.banks self.now.slots address → address < 2 ^ 24 }
     {
-        let free = self.map.free_bytes();
-        let used = used_bytes(&self.table);
-        free - used as u32
+        self.places.room()
     }
 }

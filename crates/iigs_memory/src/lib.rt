@@ -3,17 +3,10 @@
 //! `Banks` takes all of its memory when it is made. No other call takes any, so none refuses for want of memory.
 #![tactic(auto)]
 
-mod bank_map;
 mod banks;
 mod law;
-mod layout;
-mod marks;
-mod open;
 mod part;
-mod runs;
-mod search;
-mod spots;
-mod table;
+mod placed;
 
 pub use banks::Banks;
 pub use iigs_handles::Handle;

@@ -5,6 +5,7 @@ ghost use Rattle.byteorder.specs.Endian.{little_bytes};
 ghost use Rattle.load_meaning.specs.declared.table.Entry.{Entry};
 ghost use Rattle.load_meaning.specs.Table.{HasCode, IsEntryAt, code_bytes, entry_bytes, entry_place, written_at};
 ghost use Rattle.load_meaning.specs.LoadTable as tables;
+ghost use Rattle.omf_format.specs.Number.{number_at};
 
 use byteorder::{ByteOrder, LittleEndian};
 use load_meaning::{Entry, Target};
@@ -44,13 +45,47 @@ pub fn read_entry(bytes: &[u8], at: usize) -> Option<Entry>
         return None;
     }
     let loaded = read_code(bytes, at + 10)?;
+    let target = target_in(bytes, at);
     Some(Entry {
-        user: number(bytes, at, 2) as u16,
+        user: user_in(bytes, at),
+        file: target.file,
+        segment: target.segment,
+        offset: target.offset,
+        loaded,
+    })
+}
+
+/// The user ID of the entry that begins at a displacement, whatever its code is.
+pub fn user_in(bytes: &[u8], at: usize) -> u16
+    requires { at + 14 ≤ length bytes.now }
+    ensures { result ≡ number_at 2 at bytes.now }
+{
+    number(bytes, at, 2) as u16
+}
+
+/// Where the entry that begins at a displacement leads, whatever its code is.
+pub fn target_in(bytes: &[u8], at: usize) -> Target
+    requires { at + 14 ≤ length bytes.now }
+    ensures file { result.file ≡ number_at 2 (at + 2) bytes.now }
+    ensures segment { result.segment ≡ number_at 2 (at + 4) bytes.now }
+    ensures offset { result.offset ≡ number_at 4 (at + 6) bytes.now }
+{
+    Target {
         file: number(bytes, at + 2, 2) as u16,
         segment: number(bytes, at + 4, 2) as u16,
         offset: number(bytes, at + 6, 4),
-        loaded,
-    })
+    }
+}
+
+/// Whether the entry that begins at a displacement calls the loader.
+pub fn is_unloaded(bytes: &[u8], at: usize) -> bool
+    requires { at + 14 ≤ length bytes.now }
+    ensures { result ≡ tables.is_call bytes.now (at + 10) }
+{
+    number(bytes, at + 10, 1) == 0x22
+        && number(bytes, at + 11, 1) == 0x00
+        && number(bytes, at + 12, 1) == 0xF0
+        && number(bytes, at + 13, 1) == 0xE1
 }
 
 // Writes bytes over others from a displacement on.
@@ -92,12 +127,7 @@ pub fn target_at(bytes: &[u8], place: usize) -> Target
     requires { 22 + 14 * place ≤ length bytes.now }
     ensures { result ≡ tables.target_at bytes.now place }
 {
-    let start = 8 + 14 * place;
-    Target {
-        file: number(bytes, start + 2, 2) as u16,
-        segment: number(bytes, start + 4, 2) as u16,
-        offset: number(bytes, start + 6, 4),
-    }
+    target_in(bytes, 8 + 14 * place)
 }
 
 /// Writes an entry of a user for a target that isn't loaded, from a displacement on.

@@ -2,7 +2,7 @@
 use Rattle.std.proofs.Common.{◌≡◌, ℕ, zero, suc, ◌+◌, ◌≤◌, Bool, true, false, cond, leb, take, List, [], ◌∷◌, ◌++◌, length, Some, None, Ok, Err, refl, sym, ap, ◌∙◌, arith}
 use Rattle.std.specs.Prelude.{◌&&◌, ◌||◌, ◌==◌, not, unwrap_or, nat_lt}
 use Rattle.std.specs.List.{list_any, position_or_len}
-use Rattle.std.proofs.lemmas.Bool.{and_parts, eqb-true, eq-eqb, lt-ltb, leb-true}
+use Rattle.std.proofs.lemmas.Bool.{and_parts, eqb-true, eq-eqb, lt-ltb, ltb-false, leb-true}
 use Rattle.std.proofs.lemmas.List.{length-append}
 use Rattle.std.proofs.lemmas.Option.{slice_get_within}
 use Rattle.byteorder.specs.Endian.{little_bytes}
@@ -69,6 +69,25 @@ pub lacks_room : (xs : List Target) (t : Target) → length xs ≡ most_entries 
 lacks_room xs t full none =
     let gone = nowhere xs t none in
     rw (gone, full) refl
+
+somewhere : (xs : List Target) (t : Target) (k : ℕ) → IsAtPlace xs t k → list_any (is_same t) xs ≡ true
+somewhere [] t k there = absurd cc
+somewhere (x ∷ xs) t zero there = let is : x ≡ t = cc in rw (is, same_self t) refl
+somewhere (x ∷ xs) t (suc k) there = or_true (is_same t x) (list_any (is_same t) xs) (somewhere xs t k there)
+  where
+    or_true : (a b : Bool) → b ≡ true → (a || b) ≡ true
+    or_true true b e = refl
+    or_true false b e = e
+
+-- where a target lacks room, the table is full, and the target isn't there
+pub is_full : (xs : List Target) (t : Target) → with_room xs (meaning.Entry t) ≡ Err TooManyEntries → length xs ≤ most_entries → (length xs ≡ most_entries) × ((k : ℕ) → ¬ IsAtPlace xs t k)
+is_full xs t lacks few = by_test (list_any (is_same t) xs) (nat_lt (length xs) most_entries) refl refl lacks
+  where
+    by_test : (a b : Bool) → list_any (is_same t) xs ≡ a → nat_lt (length xs) most_entries ≡ b → cond (not (a || b)) (Err TooManyEntries) (Ok (meaning.Entry t)) ≡ Err TooManyEntries
+        → (length xs ≡ most_entries) × ((k : ℕ) → ¬ IsAtPlace xs t k)
+    by_test true b has less e = absurd cc
+    by_test false true has less e = absurd cc
+    by_test false false has less e = (omega (arith, few, ltb-false (length xs) most_entries less), λ k there. absurd (cc (somewhere xs t k there, has)))
 
 -- a target that was entered had room
 pub entered_room : (old new : List Target) (t : Target) → new ≡ with_target old t → length new ≤ most_entries → with_room old (meaning.Entry t) ≡ Ok (meaning.Entry t)

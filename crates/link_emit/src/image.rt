@@ -98,6 +98,7 @@ pub fn front_of(
     requires { IsWritable (with_space (fields header.now) zeros) }
     ensures ok { IfOk result (λ front. front.items ≡ header_bytes (with_space (fields header.now) zeros) (size + 1)) }
     ensures too_long { IsErrOf result ImageFault.TooLong → 0x1000000 < 0x37 + length header.now.name + (size + 1) }
+    ensures long { 0x1000000 ≤ size → IsErrOf result ImageFault.TooLong }
 {
     if size >= MOST_BYTES {
         return Err(ImageFault::TooLong);
@@ -188,6 +189,7 @@ fn close(out: &mut Vec<u8>, start: usize, front: &[u8]) -> Result<(), ImageFault
     ensures ok { OnOk result (out.new.items ≡ take start out.old.items ++ front.now ++ drop (start + length front.now) out.old.items ++ 0 ∷ []) }
     ensures short { OnOk result (length out.new.items ≤ 0x1000000) }
     ensures too_long { IsErrOf result ImageFault.TooLong → 0x1000000 < length out.old.items + 1 }
+    ensures long { 0x1000000 < length out.old.items + 1 → IsErrOf result ImageFault.TooLong }
 {
     if out.as_slice().len() >= MOST_BYTES {
         return Err(ImageFault::TooLong);

@@ -1,6 +1,6 @@
 //! What an expression record puts into its load segment.
 
-ghost use Rattle.std.specs.Prelude.{◌≡◌, ◌⊎◌, ◌+◌, ◌<◌, ◌≤◌, ◌^◌, ◌++◌, Err, List, IsTrue, IfOk, IfErr, OnOk, length, map};
+ghost use Rattle.std.specs.Prelude.{◌≡◌, ◌⊎◌, ◌+◌, ◌<◌, ◌≤◌, ◌^◌, ◌++◌, Err, List, IsTrue, IfOk, IfErr, IsErrOf, OnOk, length, map};
 ghost use Rattle.byteorder.specs.Endian.{little_bytes};
 ghost use Rattle.omf_format.specs.Field.{is_count};
 ghost use Rattle.omf_format.specs.Header.{Fields};
@@ -46,7 +46,11 @@ fn put_number(content: &mut Content<'_>, count: u8, n: u32) -> Result<(), LinkCa
 fn entry(table: &mut Table, target: Target) -> Result<u32, LinkCause>
     ensures ok { IfOk result (λ at. EntersTarget table.old table.new target at) }
     ensures err { IfErr result (λ cause. (cause ≡ causes.Memory) ⊎ LacksRoom table.old target cause) }
+
+    // Where there is no room, this and no want of memory is told.
+    ensures full { LacksRoom table.old target causes.TooManyEntries → IsErrOf result causes.TooManyEntries }
 {
+    let _most = table.count();
     let at = match table.entry(target.file, target.segment, target.offset) {
         Ok(at) => at,
         Err(TableFault::TooMany) => return Err(LinkCause::TooManyEntries),

@@ -26,5 +26,6 @@ pub mod EquateOrder
 pub mod OutsideLaws
 pub mod Reached
 pub mod LinkLoadableLaws
+pub mod LoadSegmentLaws
 pub mod TablePasses
 pub mod WrittenSegments

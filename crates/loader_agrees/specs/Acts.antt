@@ -70,6 +70,7 @@ started_kept path heads handles = record {
   life = Running;
   handles = handles_of (started_user path heads handles);
   heads = heads;
+  attached = [];
 }
 
 -- The same of memory alone: the static segments of a file are in new blocks, each of which begins with what stands in its segment,

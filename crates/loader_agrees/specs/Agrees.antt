@@ -3,7 +3,9 @@ use Rattle.std.specs.Prelude.{◌≡◌, ◌≢◌, ◌⊎◌, ℕ, ◌+◌, ◌
 use Rattle.omf_format.specs.File.{Segment, segment_at}
 use Rattle.omf_io.specs.Counts.{risen, one_more, IsFront}
 use Rattle.omf_io.specs.Files.{FileMap}
-use Rattle.load_meaning.specs.LoadTable.{is_table}
+use Rattle.load_meaning.specs.declared.table.Target.{Target}
+use Rattle.load_meaning.specs.LoadTable.{is_table, targets_of, target_at, entry_count}
+use Rattle.omf_format.specs.Header.{is_dynamic, is_skipped}
 use Rattle.iigs_meaning.specs.declared.handles.Handle.{Handle}
 use Rattle.iigs_meaning.specs.declared.wants.Block.{Block}
 use Rattle.iigs_meaning.specs.Slots.{get, slot_at}
@@ -15,21 +17,24 @@ use Rattle.loader_machine.specs.declared.seen.Life.{Life}
 use Rattle.loader_machine.specs.declared.seen.Life.TheVariants.{Running, Dormant}
 use Rattle.loader_machine.specs.declared.faults.LoaderFault.TheVariants as refusal
 use Rattle.loader_machine.specs.Heads.{head_of, at_number, is_static}
-use Rattle.loader_machine.specs.State.{User, Machine, Seen, no_pokes, first_id, max_users, user_of, handles_of, held_at}
-use Rattle.loader_machine.specs.Presences.{handle_at, presence_at, there_at, is_active}
-use Rattle.loader_machine.specs.Stands.{setting, stands}
+use Rattle.loader_machine.specs.Heads.{is_table as is_table_head}
+pub use Rattle.loader_machine.specs.State.{Outline, outline_of, outlines}
+use Rattle.loader_machine.specs.State.{User, Machine, Seen, attached_at, named_by, no_pokes, first_id, max_users, user_of, held_at}
+use Rattle.loader_machine.specs.Presences.{handle_at, presence, presence_at, there_at, is_active}
+use Rattle.loader_machine.specs.Stands.{Far, setting_with, far_of, stands}
 use Rattle.loader_machine.specs.Found.{HoldsLoad}
 use Rattle.loader_machine.specs.Commands.{Command, Reply, Refused}
 use Rattle.loader_machine.specs.Steps.{Steps}
 use Rattle.loader_machine.specs.Needs.{Needs, IsReadFor}
 
--- a user as a loader keeps it: the path of its file, whether it runs, and for each segment of the file its handle and what was
--- read of its header
+-- a user as a loader keeps it: the path of its file, whether it runs, for each segment of the file its handle and what was read of
+-- its header, and the IDs of the users that are attached to it
 pub record Kept : Type 0 where
   pub path : List ℕ
   pub life : Life
   pub handles : List (Option Handle)
   pub heads : List Head
+  pub attached : List ℕ
 
 -- memory of banks, with the bytes of the blocks, and the users in the order in which they were made; None is gone
 pub record Loaded : Type 0 where
@@ -43,17 +48,15 @@ seen_in kept = record { life = kept.life; handles = kept.handles; heads = kept.h
 abbrev pub seen_by : Loaded → ℕ → Option Seen
 seen_by loader id = option_map seen_in (user_of loader.users id)
 
--- what of a user a loader and the machine both hold: all but headers and pokes
-pub record Outline : Type 0 where
-  pub path : List ℕ
-  pub life : Life
-  pub handles : List (Option Handle)
-
 abbrev pub outline : Kept → Outline
-outline kept = record { path = kept.path; life = kept.life; handles = kept.handles }
+outline kept = record { path = kept.path; life = kept.life; handles = kept.handles; attached = kept.attached }
 
-abbrev pub outline_of : User → Outline
-outline_of user = record { path = user.path; life = user.life; handles = handles_of user }
+abbrev pub kept_outlines : List (Option Kept) → List (Option Outline)
+kept_outlines users = map (option_map outline) users
+
+-- where the segments of the attached users of the user of an ID are active
+abbrev pub far_in : Loaded → ℕ → Far
+far_in loader id = far_of loader.memory.slots (kept_outlines loader.users) id
 
 -- every static segment is there
 abbrev pub AreThere : Slots → List (Option Handle) → List Segment → Type 0
@@ -61,8 +64,9 @@ AreThere slots handles segments = (number : ℕ) (s : Segment) → segment_at se
     → IsSome (there_at (presence_at slots handles number))
 
 -- A user agrees: the path holds a load file that is taken, whose headers are kept; a table has no pokes; the static segments of a
--- running user are active; and while all static segments are there, the block of each segment that is there begins with what stands in it.
-pub record UserAgrees (held : FileMap) (memory : Memory) (id : ℕ) (kept : Kept) (user : User) : Type 0 where
+-- running user are active; and while all static segments are there, the block of each segment that is there begins with what stands in it,
+-- where the segments of attached users are active so.
+pub record UserAgrees (held : FileMap) (memory : Memory) (far : Far) (id : ℕ) (kept : Kept) (user : User) : Type 0 where
   pub same : outline kept ≡ outline_of user
   pub segments : List Segment
   pub holds : HoldsLoad held kept.path segments
@@ -73,15 +77,51 @@ pub record UserAgrees (held : FileMap) (memory : Memory) (id : ℕ) (kept : Kept
       → is_active (presence_at memory.slots kept.handles number) ≡ true
   pub begins : AreThere memory.slots kept.handles segments → (number : ℕ) (s : Segment) (h : Handle) → segment_at segments number ≡ Some s
       → handle_at kept.handles number ≡ Some h → IsSome (there_at (presence_at memory.slots kept.handles number))
-      → IsFront (stands (setting id memory.slots kept.handles) (held_at user number).pokes s) (bytes_at memory h.slot)
+      → IsFront (stands (setting_with far id memory.slots kept.handles) (held_at user number).pokes s) (bytes_at memory h.slot)
 
--- over these files the loader agrees with the state: all of it but bytes and headers is the state's, and each user agrees
+-- an attached user: it runs where its user does, nothing is attached to it, and its segments are dynamic and not skipped
+pub record IsJoined (life : Life) (other : Kept) : Type 0 where
+  pub same : other.life ≡ life
+  pub alone : other.attached ≡ []
+  pub dynamic : (number : ℕ) (head : Head) → at_number other.heads number ≡ Some head → (is_dynamic head.kind ≡ true) × (is_skipped head.kind ≡ false)
+
+-- each ID in a list of attached users is that of such a user, and stands in one list, at one place
+pub record AreAttached (users : List (Option Kept)) : Type 0 where
+  pub each : (place i n : ℕ) (kept : Kept) → slice_get users place ≡ Some (Some kept) → slice_get kept.attached i ≡ Some n
+      → (other : Kept) × (user_of users n ≡ Some other) × IsJoined kept.life other
+  pub once : (place other i j n : ℕ) (one two : Kept) → slice_get users place ≡ Some (Some one) → slice_get users other ≡ Some (Some two)
+      → slice_get one.attached i ≡ Some n → slice_get two.attached j ≡ Some n → (place ≡ other) × (i ≡ j)
+
+-- no user has attached users: a file with a pathname segment isn't loaded yet
+abbrev pub AreBare : List (Option Kept) → Type 0
+AreBare users = (place : ℕ) (kept : Kept) → slice_get users place ≡ Some (Some kept) → kept.attached ≡ []
+
+-- a target of a file above 1 leads to a segment of the attached user of that file, and to an offset below its LENGTH
+pub record LeadsFar (users : List (Option Kept)) (id : ℕ) (t : Target) : Type 0 where
+  pub other : ℕ
+  pub named : attached_at (kept_outlines users) id t.file ≡ Some other
+  pub kept : Kept
+  pub made : user_of users other ≡ Some kept
+  pub head : Head
+  pub head' : at_number kept.heads t.segment ≡ Some head
+  pub inside : t.offset < head.length
+
+-- and so does each entry for an attached user in the table of a user's file
+abbrev pub EntriesLead : FileMap → List (Option Kept) → Type 0
+EntriesLead held users = (place number k : ℕ) (kept : Kept) (segments : List Segment) (s : Segment) (t : Target) → slice_get users place ≡ Some (Some kept)
+    → HoldsLoad held kept.path segments → segment_at segments number ≡ Some s → is_table s ≡ true → slice_get (targets_of s) k ≡ Some t → 2 ≤ t.file
+    → LeadsFar users (first_id + place) t
+
+-- over these files the loader agrees with the state: all of it but bytes and headers is the state's, and each user agrees; attached
+-- users live as their users do, and each entry for one leads to a place in one
 pub record Agrees (held : FileMap) (loader : Loaded) (state : Machine) : Type 0 where
   pub banks : loader.memory.banks ≡ state.banks
   pub slots : loader.memory.slots ≡ state.slots
-  pub users : map (option_map outline) loader.users ≡ map (option_map outline_of) state.users
+  pub users : kept_outlines loader.users ≡ outlines state.users
+  pub attached : AreAttached loader.users
+  pub entries : EntriesLead held loader.users
   pub each : (place : ℕ) (kept : Kept) (user : User) → slice_get loader.users place ≡ Some (Some kept) → slice_get state.users place ≡ Some (Some user)
-      → UserAgrees held loader.memory (first_id + place) kept user
+      → UserAgrees held loader.memory (far_in loader (first_id + place)) (first_id + place) kept user
 
 -- ---- what is true of every loader
 
@@ -105,6 +145,17 @@ pub record Has (users : List (Option Kept)) (place number : ℕ) (head : Head) (
   pub head' : at_number kept.heads number ≡ Some head
   pub handle : handle_at kept.handles number ≡ Some h
 
+-- an entry of a table in memory leads to a dynamic segment that isn't skipped, of the user or of an attached one
+pub record IsCall (users : List (Option Kept)) (id : ℕ) (t : Target) : Type 0 where
+  pub other : ℕ
+  pub named : named_by (kept_outlines users) id t.file ≡ Some other
+  pub kept : Kept
+  pub made : user_of users other ≡ Some kept
+  pub head : Head
+  pub head' : at_number kept.heads t.segment ≡ Some head
+  pub dynamic : is_dynamic head.kind ≡ true
+  pub loaded : is_skipped head.kind ≡ false
+
 -- At most 255 users were made. Each has fewer than 65,536 segments, and a place for a handle for each header. The static segments of a
 -- running user are active, and no segment of a dormant one is. Each handle of a user is its own, no two segments have one slot, and
 -- each block of a user is a segment's.
@@ -121,6 +172,10 @@ pub record IsSound (memory : Memory) (users : List (Option Kept)) : Type 0 where
       → h.slot ≡ k.slot → (place ≡ other) × (number ≡ n)
   pub only : (slot : ℕ) (block : Block) → block_in (slot_at memory.slots slot) ≡ Some block → block.user ≢ 0
       → (place : ℕ) × (number : ℕ) × (head : Head) × (h : Handle) × Has users place number head h × (h.slot ≡ slot)
+  pub bare : AreBare users
+  pub attached : AreAttached users
+  pub calls : (place number k : ℕ) (head : Head) (h : Handle) → Has users place number head h → is_table_head head ≡ true → IsSome (there_at (presence memory.slots (Some h)))
+      → k < entry_count head.length → IsCall users (first_id + place) (target_at (bytes_at memory h.slot) k)
 
 -- ---- a call, over files that are told
 

@@ -8,9 +8,15 @@ pub mod Purged
 pub mod Checks
 pub mod Reads
 pub mod Slotted
+pub mod EntryBytes
+pub mod EntryReads
 pub mod Keeping
 pub mod ScriptBlocks
 pub mod Checking
+pub mod Joining
 pub mod Empty
 pub mod BegunSound
+pub mod BegunRows
+pub mod BegunMet
+pub mod Bare
 pub mod Filled

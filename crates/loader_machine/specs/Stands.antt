@@ -1,7 +1,7 @@
 -- What stands in a segment in memory: its cells at the places of the user's segments, or a table's entries, and the pokes over
 -- them (GS/OS Reference, appendix F, "Segment body" and jump table segment).
 use Rattle.std.specs.Prelude.{ℕ, ◌+◌, ◌==◌, List, [], ◌∷◌, map, Option, None, unwrap_or, if◌then◌else◌}
-use Rattle.std.specs.Option.{option_map}
+use Rattle.std.specs.Option.{option_map, option_and_then}
 use Rattle.std.specs.FinMap.{get}
 use Rattle.omf_format.specs.File.{Segment}
 use Rattle.load_meaning.specs.declared.table.Target.{Target}
@@ -11,7 +11,7 @@ use Rattle.load_meaning.specs.Table.{table_bytes}
 use Rattle.load_meaning.specs.LoadTable.{is_table, targets_of}
 use Rattle.iigs_meaning.specs.declared.handles.Handle.{Handle}
 use Rattle.iigs_meaning.specs.Fits.{Slots}
-use Rattle.loader_machine.specs.State.{Pokes}
+use Rattle.loader_machine.specs.State.{Pokes, Outline, handles_in, attached_at}
 use Rattle.loader_machine.specs.Presences.{presence_at, there_at, active_at}
 
 -- where the segments of a user are: its ID; the address of each of its segments; and the address of the segment that a table's
@@ -57,10 +57,26 @@ stands at pokes s = over pokes (read_bytes at s)
 abbrev pub place_in : Slots → List (Option Handle) → ℕ → ℕ
 place_in slots handles number = unwrap_or (there_at (presence_at slots handles number)) 0
 
--- the address of an active segment; file 1 is the user's own
-abbrev pub target_in : Slots → List (Option Handle) → ℕ → ℕ → Option ℕ
-target_in slots handles file number = if file == 1 then active_at (presence_at slots handles number) else None
+-- where the segments of attached users are active, by file, from 2 on, and number
+abbrev pub Far : Type 0
+Far = ℕ → ℕ → Option ℕ
 
--- the setting of the user with an ID, from the slots and the handles of its segments
+-- no such segment is active
+abbrev pub nowhere : Far
+nowhere file number = None
+
+-- the address of an active segment; file 1 is the user's own
+abbrev pub target_with : Far → Slots → List (Option Handle) → ℕ → ℕ → Option ℕ
+target_with far slots handles file number = if file == 1 then active_at (presence_at slots handles number) else far file number
+
+-- the setting of the user with an ID, from the slots, the handles of its segments, and where those of attached users are active
+abbrev pub setting_with : Far → ℕ → Slots → List (Option Handle) → Setting
+setting_with far id slots handles = record { id = id; place = place_in slots handles; target = target_with far slots handles }
+
+-- the same where no segment of an attached user is active
 abbrev pub setting : ℕ → Slots → List (Option Handle) → Setting
-setting id slots handles = record { id = id; place = place_in slots handles; target = target_in slots handles }
+setting id slots handles = setting_with nowhere id slots handles
+
+-- where the segments of a user's attached users are active
+abbrev pub far_of : Slots → List (Option Outline) → ℕ → Far
+far_of slots users id file number = option_and_then (λ other. active_at (presence_at slots (handles_in users other) number)) (attached_at users id file)

@@ -1,6 +1,6 @@
 -- What a state of the loader's machine holds, and what is seen of a user. User IDs and limits are this project's own.
-use Rattle.std.specs.Prelude.{ℕ, ◌-◌, Bool, true, false, List, [], map, nat_lt, Option, None, slice_get, slice_set, if◌then◌else◌}
-use Rattle.std.specs.Option.{option_and_then, option_map_or}
+use Rattle.std.specs.Prelude.{ℕ, zero, suc, ◌+◌, ◌-◌, ◌==◌, Bool, true, false, List, [], ◌∷◌, map, nat_lt, Option, Some, None, slice_get, slice_set, if◌then◌else◌}
+use Rattle.std.specs.Option.{option_map, option_and_then, option_map_or}
 use Rattle.std.specs.FinMap.{FinMap, empty}
 use Rattle.std.specs.Ordering.{nat_cmp}
 use Rattle.iigs_meaning.specs.declared.handles.Handle.{Handle}
@@ -35,11 +35,13 @@ absent = record { handle = None; pokes = no_pokes }
 abbrev pub fresh : Option Handle → Held
 fresh handle = record { handle = handle; pokes = no_pokes }
 
--- a program: the path of its file, whether it runs, and for each segment of the file what is held of it
+-- a program, or a run-time library file that is attached to one: the path of its file, whether it runs, for each segment of the
+-- file what is held of it, and the IDs of the users that are attached to it, in the order of the rows of its pathname segment
 pub record User : Type 0 where
   pub path : List ℕ
   pub life : Life
   pub segments : List Held
+  pub attached : List ℕ
 
 -- the configured banks, the slots with their blocks, and the users in the order in which they were made; None is gone
 pub record Machine : Type 0 where
@@ -70,6 +72,38 @@ with_user users id user = slice_set users (id - first_id) user
 -- the handles of a user's segments
 abbrev pub handles_of : User → List (Option Handle)
 handles_of user = map (λ held. held.handle) user.segments
+
+-- what of a user the machine and a loader both hold: all but headers and pokes
+pub record Outline : Type 0 where
+  pub path : List ℕ
+  pub life : Life
+  pub handles : List (Option Handle)
+  pub attached : List ℕ
+
+abbrev pub outline_of : User → Outline
+outline_of user = record { path = user.path; life = user.life; handles = handles_of user; attached = user.attached }
+
+abbrev pub outlines : List (Option User) → List (Option Outline)
+outlines users = map (option_map outline_of) users
+
+-- ---- attached users
+
+-- the attached user of the user of an ID that has this file number, from 2 on in the order of the rows
+abbrev pub attached_at : List (Option Outline) → ℕ → ℕ → Option ℕ
+attached_at users id file = option_and_then (λ user. slice_get user.attached (file - 2)) (user_of users id)
+
+-- the user whose segment an entry of a user's table names by its file number: with file 1 the user itself
+abbrev pub named_by : List (Option Outline) → ℕ → ℕ → Option ℕ
+named_by users id file = if file == 1 then Some id else attached_at users id file
+
+-- the handles of all segments of the user of an ID
+abbrev pub handles_in : List (Option Outline) → ℕ → List (Option Handle)
+handles_in users id = option_map_or (λ user. user.handles) (user_of users id) []
+
+-- so many IDs from one on
+abbrev pub ids_from : ℕ → ℕ → List ℕ
+ids_from id zero = []
+ids_from id (suc more) = id ∷ ids_from (id + 1) more
 
 -- what is held of the segment with a number
 abbrev pub held_at : User → ℕ → Held

@@ -22,9 +22,9 @@ use Rattle.iigs_meaning.specs.Blocks.{state_of, can_purge_of}
 use Rattle.iigs_meaning.specs.Room.{CountsBelow, IsRoom}
 use Rattle.loader_machine.specs.declared.faults.LoaderFault.TheVariants.{NotJsl, NoTarget, NotEntry, CannotRead, BadFile, NoHandle, NoRoom}
 use Rattle.loader_machine.specs.Heads.{Head, head_of, is_static, is_table, want_of, wants_of, number_of, entry_in}
-use Rattle.loader_machine.specs.State.{Running, Dormant, Held, User, Machine, absent, fresh, Seen, empty_of, first_id, user_of, with_user, handles_of, held_at}
+use Rattle.loader_machine.specs.State.{Running, Dormant, Held, User, Machine, absent, fresh, Seen, empty_of, first_id, user_of, with_user, handles_of, held_at, outlines}
 use Rattle.loader_machine.specs.Presences.{Presence, Absent, Purged, Idle, Active, presence_at, handle_at, is_there}
-use Rattle.loader_machine.specs.Stands.{stands, setting}
+use Rattle.loader_machine.specs.Stands.{Setting, stands, setting, setting_with, far_of}
 use Rattle.loader_machine.specs.Found.{HoldsLoad, Found, Unread, Bad, Good, IsFound}
 use Rattle.loader_machine.specs.Commands.{Command, Banks, Load, LoadSegment, UnloadSegment, Jsl, ShutDown, Restart, Purge, Poke, Bytes, Where, Info, Alloc, Free, Lock, Unlock, Level, StateOf, Room, Reply, Okay, Started, MadeActive, Entered, Counted, Shown, Lies, Nothing, SegmentIs, Placed, BlockIs, RoomIs, Refused}
 use Rattle.loader_machine.specs.Refusals.{Refuse, load_refusal, bytes_refusal, info_refusal, load_segment_refusal, unload_refusal, poke_refusal, shut_down_refusal, restart_refusal, purge_refusal, state_refusal, free_refusal, change_refusal}
@@ -126,7 +126,7 @@ entry_of id slots heads handles = entry_in heads ((setting id slots handles).pla
 
 -- a running user whose static segments have these handles
 abbrev pub started_user : List ℕ → List Head → List Handle → User
-started_user path heads handles = record { path = path; life = Running; segments = spread heads handles }
+started_user path heads handles = record { path = path; life = Running; segments = spread heads handles; attached = [] }
 
 -- the static segments of a program are placed, and the users are these then
 abbrev pub Lands : Machine → List ℕ → ℕ → List Head → (User → List (Option User)) → Put → Reply → Machine → Type 0
@@ -144,6 +144,16 @@ pub record Begins (Makes : MakesRoom) (state : Machine) (slots : Slots) (path : 
   pub lands : Lands state path id (map head_of segments) users put reply next
 
 -- ---- load
+
+-- a running user that is attached to another: none of its segments is there
+abbrev pub joined_user : List ℕ → List Head → User
+joined_user path heads = record { path = path; life = Running; segments = map (λ head. absent) heads; attached = [] }
+
+-- the same for each row
+abbrev pub joined_users : List (List ℕ) → List (List Segment) → List (Option User)
+joined_users [] all = []
+joined_users (path ∷ paths) [] = []
+joined_users (path ∷ paths) (segments ∷ all) = Some (joined_user path (map head_of segments)) ∷ joined_users paths all
 
 -- by what the read of the path finds
 abbrev pub LoadsFound : MakesRoom → Machine → List ℕ → Found → Reply → Machine → Type 0
@@ -211,11 +221,15 @@ pub record MakesActive (Makes : MakesRoom) (held : FileMap) (state : Machine) (i
 
 -- ---- what stands in a user's segment
 
+-- where the segments of the user of an ID are, and where those that its table names
+abbrev pub setting_in : Machine → ℕ → User → Setting
+setting_in state id user = setting_with (far_of state.slots (outlines state.users) id) id state.slots (handles_of user)
+
 pub record StandsIn (held : FileMap) (state : Machine) (id number : ℕ) (bytes : List ℕ) : Type 0 where
   pub sees : Sees held state id
   pub s : Segment
   pub is : segment_at sees.segments number ≡ Some s
-  pub bytes_are : bytes ≡ stands (setting id state.slots (handles_of sees.user)) (held_at sees.user number).pokes s
+  pub bytes_are : bytes ≡ stands (setting_in state id sees.user) (held_at sees.user number).pokes s
 
 -- ---- where an address lies
 

@@ -33,3 +33,4 @@ pub mod EndLists
 pub mod FilledLists
 pub mod WholeLists
 pub mod EndShows
+pub mod EntryNumbers

@@ -37,6 +37,11 @@ byte_there at b bytes is =
     let same : at + 0 ≡ at = omega arith in
     one_byte at bytes ∙ ap (slice_index bytes) same ∙ get_or_from_slice_get bytes at b 0 is
 
+pub byte_of_slice : (at : ℕ) (bytes : List ℕ) → number_at 1 at bytes ≡ slice_index bytes at
+byte_of_slice at bytes =
+    let same : at + 0 ≡ at = omega arith in
+    one_byte at bytes ∙ ap (slice_index bytes) same
+
 -- a number of two bytes, from those bytes
 pub two_there : (at : ℕ) (bytes : List ℕ) → number_at 2 at bytes ≡ number_at 1 at bytes + 256 * number_at 1 (at + 1) bytes
 two_there at bytes =

@@ -60,24 +60,3 @@ pub fn near_u16(near: &[u8], view: &SegmentView, pieces: &[Piece], at: u32) -> u
     let high = u16::from(near_u8(near, 1, view, pieces, at));
     low + 0x100 * high
 }
-
-/// The number in the two bytes of the data there.
-pub fn data_u16(view: &SegmentView, pieces: &[Piece], at: u32) -> u16
-    requires pieces { HasPieces view.now pieces.now }
-    requires inside { at + 2 ≤ view.now.header.length }
-    ensures { number_at 2 at (segment_bytes (shown view.now)) ≡ result }
-{
-    let (near, _) = data_from(view, pieces, 0, at);
-    near_u16(near, view, pieces, at)
-}
-
-/// The number in the four bytes of the data there.
-pub fn data_u32(view: &SegmentView, pieces: &[Piece], at: u32) -> u32
-    requires pieces { HasPieces view.now pieces.now }
-    requires inside { at + 4 ≤ view.now.header.length }
-    ensures { number_at 4 at (segment_bytes (shown view.now)) ≡ result }
-{
-    let low = u32::from(data_u16(view, pieces, at));
-    let high = u32::from(data_u16(view, pieces, at + 2));
-    low + 0x1_0000 * high
-}

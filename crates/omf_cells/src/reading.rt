@@ -1,6 +1,6 @@
 //! Reading a load file: each segment in order, header, name and type before its records, and then the segments together.
 
-ghost use Rattle.std.specs.Prelude.{◌≡◌, ◌<◌, ◌^◌, length, map, IfOk, IfErr, OnOk, None};
+ghost use Rattle.std.specs.Prelude.{◌≡◌, ◌<◌, ◌^◌, length, map, IfOk, IfErr, IsErrAnd, OnOk, None};
 ghost use Rattle.load_meaning.specs.Pathnames.{paths_of};
 ghost use Rattle.load_meaning.specs.Loadable.{IsLoadable, later_fault};
 ghost use Rattle.load_meaning.specs.Runtime.{IsRuntime};
@@ -84,6 +84,9 @@ pub fn read_load<'a>(alloc: Global, file: &'a [u8]) -> Result<LoadFile<'a>, Load
     requires { length file.now < 2 ^ 32 }
     ensures ok { IfOk result (λ load. IsLoadable file.now load) }
     ensures refused { IfErr result (λ fault. IsRefused fault file.now) }
+
+    // An empty file takes no memory.
+    ensures empty { length file.now ≡ 0 → IsErrAnd result (λ fault. fault.cause ≡ LoadCause.NotLoadFile) }
 {
     if file.is_empty() {
         return Err(LoadFault {

@@ -3,6 +3,7 @@
 ghost use Rattle.std.specs.Prelude.{◌≡◌, ◌+◌, ◌-◌, ◌<◌, ◌≤◌, ◌^◌, length, map, take, slice_get, option_map, nat_le, ◌&&◌, IfSome, IsSomeAnd};
 ghost use Rattle.std.specs.List.{list_any};
 ghost use Rattle.omf_format.specs.Header.{first_of};
+ghost use Rattle.omf_format.specs.Number.{number_at};
 ghost use Rattle.load_meaning.specs.Cells.{segment_bytes};
 ghost use Rattle.load_meaning.specs.Table.{entry_start};
 ghost use Rattle.load_meaning.specs.Pathnames.{paths_of};
@@ -10,13 +11,13 @@ ghost use Rattle.load_meaning.specs.LoadTable.{is_table, table_of, is_called, is
 ghost use Rattle.load_meaning.specs.Loadable.{table_flaw, table_fault, in_segment, first_in};
 ghost use Rattle.omf_records.specs.Segments.{shown};
 ghost use Rattle.omf_cells.specs.Load.{IsLoadView, AreShown};
-ghost use Rattle.omf_cells.specs.Content.{HasPieces, AreContents};
+ghost use Rattle.omf_cells.specs.Content.{HasPieces, IsNear, AreContents};
 
-use crate::data::{data_u8, data_u16, data_u32};
+use crate::data::{data_from, data_u8, near_u8};
 use crate::patches::gives_patches;
 use crate::pieces::Piece;
 use crate::targets::{Content, is_place};
-use jump_table::entry_count;
+use jump_table::{entry_count, is_unloaded, target_in, user_in};
 use load_meaning::{LoadCause, LoadFault, Target};
 use omf_records::SegmentView;
 
@@ -54,6 +55,49 @@ pub fn table_of(views: &Vec<SegmentView>) -> Option<u32>
     None
 }
 
+/// The bytes of the entry that begins there.
+fn entry_from<'a>(view: &SegmentView<'a>, pieces: &[Piece<'a>], at: u32) -> [u8; 14]
+    requires pieces { HasPieces view.now pieces.now }
+    requires inside { at + 14 ≤ view.now.header.length }
+    ensures near { IsNear view.now at result }
+    ensures size { length result ≡ 14 }
+{
+    let (near, _) = data_from(view, pieces, 0, at);
+    let mut entry = [0; 14];
+    let mut place = 0;
+    'bytes: while place < 14 {
+        entry[place] = near_u8(near, place as u32, view, pieces, at);
+        place += 1;
+    }
+    entry
+}
+
+/// What an entry has: its user ID, where it leads, and whether it calls the loader.
+#[derive(Clone, Copy)]
+struct Fields {
+    user: u16,
+    target: Target,
+    unloaded: bool,
+}
+
+/// The fields of the entry that begins there.
+fn fields_from(view: &SegmentView, pieces: &[Piece], at: u32) -> Fields
+    requires pieces { HasPieces view.now pieces.now }
+    requires inside { at + 14 ≤ view.now.header.length }
+    ensures user { result.user ≡ number_at 2 at (segment_bytes (shown view.now)) }
+    ensures file { result.target.file ≡ number_at 2 (at + 2) (segment_bytes (shown view.now)) }
+    ensures segment { result.target.segment ≡ number_at 2 (at + 4) (segment_bytes (shown view.now)) }
+    ensures offset { result.target.offset ≡ number_at 4 (at + 6) (segment_bytes (shown view.now)) }
+    ensures unloaded { result.unloaded ≡ is_call (segment_bytes (shown view.now)) (at + 10) }
+{
+    let entry = entry_from(view, pieces, at);
+    Fields {
+        user: user_in(&entry, 0),
+        target: target_in(&entry, 0),
+        unloaded: is_unloaded(&entry, 0),
+    }
+}
+
 /// Where the entry at a place among the entries, from 0, leads.
 #[tactic(auto, unfolding(load_meaning::specs::LoadTable::target_at))]
 pub fn target_from(view: &SegmentView, pieces: &[Piece], place: u32) -> Target
@@ -61,12 +105,7 @@ pub fn target_from(view: &SegmentView, pieces: &[Piece], place: u32) -> Target
     requires inside { entry_start place + 14 ≤ view.now.header.length }
     ensures { result ≡ target_at (segment_bytes (shown view.now)) place }
 {
-    let at = FRONT + ENTRY * place;
-    Target {
-        file: data_u16(view, pieces, at + 2),
-        segment: data_u16(view, pieces, at + 4),
-        offset: data_u32(view, pieces, at + 6),
-    }
+    fields_from(view, pieces, FRONT + ENTRY * place).target
 }
 
 /// The first of so many bytes of the data, from there on, that isn't 0.
@@ -98,18 +137,6 @@ fn is_called(views: &Vec<SegmentView>, number: u16) -> bool
     }
 }
 
-/// Whether a JSL to the loader stands there.
-fn is_call(view: &SegmentView, pieces: &[Piece], at: u32) -> bool
-    requires pieces { HasPieces view.now pieces.now }
-    requires inside { at + 4 ≤ view.now.header.length }
-    ensures { result ≡ is_call (segment_bytes (shown view.now)) at }
-{
-    data_u8(view, pieces, at) == 0x22
-        && data_u8(view, pieces, at + 1) == 0x00
-        && data_u8(view, pieces, at + 2) == 0xF0
-        && data_u8(view, pieces, at + 3) == 0xE1
-}
-
 /// Whether an entry can lead to a file with this number: 1 is the file itself, and each path has one more.
 fn is_file_number(paths: u32, file: u16) -> bool
     requires { paths + 1 < 2 ^ 32 }
@@ -132,22 +159,22 @@ fn entry_flaw(
     requires inside { at + 14 ≤ view.now.header.length }
     ensures { result ≡ first_of (entry_checks (map shown views.now.items) (segment_bytes (shown view.now)) at) }
 {
-    if data_u16(view, pieces, at) != 0 {
+    let entry = fields_from(view, pieces, at);
+    if entry.user != 0 {
         return Some(at);
     }
-    let file = data_u16(view, pieces, at + 2);
-    if !is_file_number(paths, file) {
+    let target = entry.target;
+    if !is_file_number(paths, target.file) {
         return Some(at + 2);
     }
-    let own = file == 1;
-    let segment = data_u16(view, pieces, at + 4);
-    if own && !is_called(views, segment) {
+    let own = target.file == 1;
+    if own && !is_called(views, target.segment) {
         return Some(at + 4);
     }
-    if own && !is_place(views, segment, data_u32(view, pieces, at + 6)) {
+    if own && !is_place(views, target.segment, target.offset) {
         return Some(at + 6);
     }
-    if !is_call(view, pieces, at + 10) {
+    if !entry.unloaded {
         return Some(at + 10);
     }
     None

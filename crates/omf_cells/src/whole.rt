@@ -30,10 +30,13 @@ pub fn whole_patches(alloc: Global, spots: &[Spot]) -> Result<Option<Vec<Patch>>
     Ok(Some(patches))
 }
 
-/// The patches in the order of their offsets.
+/// The patches in the order of their offsets. Those that lie apart in order already stay as they are.
 pub fn in_places(patches: Vec<Patch>) -> Result<Vec<Patch>, AllocError>
     ensures { IfOk result (λ sorted. IsPermutation patches.items sorted.items) }
 {
+    if are_spaced(&patches, u32::MAX) {
+        return Ok(patches);
+    }
     let mut patches = patches;
     patches.sort_by_key(|patch| patch.at)?;
     Ok(patches)

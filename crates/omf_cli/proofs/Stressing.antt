@@ -26,7 +26,7 @@ use Rattle.link_meaning.specs.laws.LinkWrittenLaws.{few_loads}
 use Rattle.link_meaning.specs.LinkFaults.{Given, plain, IsResolved}
 use Rattle.link_meaning.specs.EmitFaults.{IsFirstLinkFault, IsLinkedTo}
 use Rattle.link_meaning.specs.laws.EmitFaultLaws.{linkable_stands_for}
-use Rattle.link_meaning.specs.laws.LinkLoadableLaws.{is_read_whole}
+use Rattle.link_meaning.specs.laws.LoadSegmentLaws.{is_read_whole}
 use Rattle.omf_io.specs.Counts.{Rose}
 use Rattle.omf_io.specs.Files.{FileMap}
 use Rattle.omf_io.specs.Sinks.{SinkSeen, FailsToPrint}

@@ -1,6 +1,7 @@
 // Whole files through readers and writers.
-ghost use Rattle.std.specs.Prelude.{◌≡◌, ◌⊎◌, ◌<◌, ◌≤◌, length, IfOk, IfErr, OnOk, IfSome, take};
+ghost use Rattle.std.specs.Prelude.{◌≡◌, ◌⊎◌, ◌↔◌, ◌<◌, ◌≤◌, length, IfOk, IfErr, OnOk, IfSome, take};
 ghost use Rattle.std.specs.Io.{ReadsAtMost};
+ghost use Rattle.std.specs.IoError.{error_kind};
 ghost use Rattle.std.specs.Io.KnownBytes.{Appends, Consumes};
 ghost use Rattle.omf_io.specs.Files.{max_file};
 
@@ -11,9 +12,10 @@ use std::io::{self, Error, ErrorKind, Read, Write};
 /// How many bytes are read at once: so few that they are still near the processor when they are copied.
 const PIECE: usize = 0x1_0000;
 
-/// Why a stream that was there gave no bytes.
+/// Why a stream that was there gave no bytes: memory ran out exactly where the error says so.
 fn stream_fault(error: Error) -> ReadFault
-    ensures { (result ≡ ReadFault.Failed) ⊎ (result ≡ ReadFault.Memory) }
+    ensures cause { (result ≡ ReadFault.Failed) ⊎ (result ≡ ReadFault.Memory) }
+    ensures memory { result ≡ ReadFault.Memory ↔ error_kind error ≡ ErrorKind.OutOfMemory }
 {
     match error.kind() {
         ErrorKind::OutOfMemory => ReadFault::Memory,
@@ -21,8 +23,12 @@ fn stream_fault(error: Error) -> ReadFault
     }
 }
 
-/// Why nothing was opened, or nothing told of it.
-pub fn open_fault(error: Error) -> ReadFault {
+/// Why nothing was opened, or nothing told of it: nothing is there, or memory ran out, exactly where the error says so.
+pub fn open_fault(error: Error) -> ReadFault
+    ensures absent { result ≡ ReadFault.Absent ↔ error_kind error ≡ ErrorKind.NotFound }
+    ensures memory { result ≡ ReadFault.Memory ↔ error_kind error ≡ ErrorKind.OutOfMemory }
+    ensures long { result ≡ ReadFault.TooLong → ⊥ }
+{
     match error.kind() {
         ErrorKind::NotFound => ReadFault::Absent,
         _ => stream_fault(error),

@@ -20,7 +20,7 @@ use Rattle.loader_machine.specs.declared.faults.LoaderFault.TheVariants as fault
 use Rattle.loader_machine.specs.declared.seen.Head.{Head}
 use Rattle.loader_machine.specs.declared.seen.Presence.{Presence}
 use Rattle.loader_machine.specs.declared.seen.Presence.TheVariants.{Absent, Purged, Idle, Active}
-use Rattle.loader_machine.specs.Heads.{head_of, at_number, want_of}
+use Rattle.loader_machine.specs.Heads.{head_of, at_number, is_table, want_of}
 use Rattle.loader_machine.specs.State.{Machine, Seen, fresh, first_id, handles_of}
 use Rattle.loader_machine.specs.Presences.{handle_at, presence, presence_at, lies_in, lies_at, active_at}
 use Rattle.loader_machine.specs.Found.{HoldsLoad, Bad, Good}
@@ -35,8 +35,9 @@ use Rattle.loader_agrees.specs.laws.Seeing.{made_at, IsKept, kept_is, refuses, d
 use Rattle.sys_loader.specs.Replies.{activation_reply}
 use Rattle.sys_loader.specs.Lives.{HasShifted}
 use Rattle.sys_loader.specs.Activating.{IsChanged, CanLoad, IsBringRefusal, HasCome, IsComeRefusal, IsReadRefusal, CantRead, LacksMemory, CantCome, DidCome, HasActivated, DidActivate}
-use Rattle.sys_loader.proofs.Came.{came_agrees}
-use Rattle.sys_loader.proofs.Shifting.{IsTurn, shifted_agrees}
+use Rattle.sys_loader.proofs.Came.{dynamic_plain, came_agrees}
+use Rattle.sys_loader.proofs.Shifting.{IsTurn, own_leading, shifted_agrees}
+use Rattle.sys_loader.proofs.Turned.{own_leads}
 
 -- ---- a segment that wakes
 
@@ -142,7 +143,7 @@ module _ (held : FileMap) (old : Loaded) (state : Machine) (id number : ℕ) (so
   stays : (h : Handle) (at now : ℕ) (of : ℕ → Reply) → presence old.memory.slots handle ≡ Active h at → IsMet held state id number of false (of at) old now now
   stays h at now of here = inl (state, makes (Active h at) here (Made at state) refl of (of at) state (refl, refl), agrees, refl)
 
-  woke : (new : Loaded) (h : Handle) (at now : ℕ) (of : ℕ → Reply) → presence old.memory.slots handle ≡ Idle h at → HasShifted old can.kept number h active_block (Some at) new
+  woke : (new : Loaded) (h : Handle) (at now : ℕ) (of : ℕ → Reply) → presence old.memory.slots handle ≡ Idle h at → HasShifted old can.kept (1, number) h active_block (Some at) new
       → IsMet held state id number of false (of at) new now now
   woke new h at now of here shifted =
       let its : handle ≡ Some h = idle_handle old.memory.slots handle h at here in
@@ -152,12 +153,15 @@ module _ (held : FileMap) (old : Loaded) (state : Machine) (id number : ℕ) (so
       inl (
         next,
         makes (Idle h at) here (Made at next) refl of (of at) next (refl, refl),
-        shifted_agrees old new id number can.kept h active_block (Some at) head sound can.made can.head' (can.handle' ∙ its) can.dynamic wakes shifted held state agrees
-            (ap (λ (o : Option ℕ). active_at (lies_at h o true)) its_at) (λ some. can.fits),
+        shifted_agrees old new id number id 1 can.kept can.kept h active_block (Some at) head sound (own_leading old.users sound.bare id) can.made (inl refl) can.made can.head' (can.handle' ∙ its) can.dynamic wakes shifted
+            (ap (λ (o : Option ℕ). active_at (lies_at h o true)) its_at) held state agrees (λ some. can.fits) (own_leads held),
         refl,
       )
 
   -- ---- it comes
+
+  plain : is_table head ≡ false
+  plain = dynamic_plain is.does_agree.holds.file is.does_agree.segments is.does_agree.holds.taken number head (ap (λ (hs : List Head). at_number hs number) (sym is.does_agree.heads) ∙ can.head') can.dynamic
 
   same_load : (file : List ℕ) (segments : List Segment) → IsRead (Some held) can.kept.path file → IsTaken file segments → is.does_agree.segments ≡ segments
   same_load file segments is_read taken =
@@ -193,7 +197,7 @@ module _ (held : FileMap) (old : Loaded) (state : Machine) (id number : ℕ) (so
         next,
         makes Absent here (Made address next) (did.h, did.placed.slots, there.0, there.1, ap (λ (t : Slots). with_both state id t (Some (with_segment is.user number (fresh (Some did.h))))) slots)
             of (of address) next (refl, refl),
-        came_agrees old new id number head handle segments address sound can (ap is_read here) did held state agrees same,
+        came_agrees old new id number head handle segments address sound can (ap is_read here) plain did held state agrees same,
         refl,
       )
     where
@@ -218,7 +222,7 @@ module _ (held : FileMap) (old : Loaded) (state : Machine) (id number : ℕ) (so
       inl (
         next,
         makes (Purged did.h) here' (Made address next) activates of (of address) next (refl, refl),
-        came_agrees old new id number head handle segments address sound can (ap is_read here) did held state agrees same,
+        came_agrees old new id number head handle segments address sound can (ap is_read here) plain did held state agrees same,
         refl,
       )
     where

@@ -1,23 +1,34 @@
 -- A user that begins again in new blocks.
-use Rattle.std.proofs.Common.{◌≡◌, ◌≢◌, inl, inr, ℕ, ◌+◌, ◌-◌, ◌<◌, ◌≤◌, List, length, map, Option, Some, None, refl, sym, ap, subst, ◌∙◌, arith}
+use Rattle.std.proofs.Common.{◌≡◌, ◌≢◌, inl, inr, ℕ, true, ◌+◌, ◌-◌, ◌<◌, ◌≤◌, List, [], length, map, Option, Some, None, refl, sym, ap, subst, ◌∙◌, arith}
 use Rattle.std.specs.Prelude.{slice_get, slice_set, option_map}
 use Rattle.std.proofs.lemmas.Bool.{cases_eq}
 use Rattle.std.proofs.lemmas.Option.{slice_get_within}
 use Rattle.omf_format.specs.File.{Segment}
 use Rattle.omf_io.specs.Files.{FileMap}
+use Rattle.load_meaning.specs.LoadTable.{target_at, entry_count}
+use Rattle.iigs_meaning.specs.declared.handles.Handle.{Handle}
 use Rattle.iigs_meaning.specs.Fits.{Slots}
+use Rattle.iigs_meaning.specs.Memory.{bytes_at}
+use Rattle.loader_machine.specs.declared.seen.Head.{Head}
 use Rattle.iigs_meaning.specs.Puts.{Purges, PutsAll, without_user}
-use Rattle.loader_machine.specs.Heads.{head_of, wants_of}
+use Rattle.loader_machine.specs.Heads.{head_of, at_number, is_table, wants_of}
 use Rattle.loader_machine.specs.State.{User, Machine, first_id, user_of, with_user}
+use Rattle.loader_machine.specs.Presences.{handle_at}
+use Rattle.loader_machine.specs.Stands.{setting}
+use Rattle.loader_machine.specs.Taken.{IsTaken}
 use Rattle.loader_machine.specs.Found.{HoldsLoad}
 use Rattle.loader_machine.specs.Commands.{Started}
 use Rattle.loader_machine.specs.Steps.{PutIn, Begins, started_user, dropped_state}
-use Rattle.loader_agrees.specs.Agrees.{Kept, Loaded, outline, outline_of, UserAgrees, Agrees, IsSound}
+use Rattle.loader_agrees.specs.Agrees.{Kept, Loaded, outline, outline_of, far_in, UserAgrees, AreBare, Agrees, IsCall, IsSound}
 use Rattle.loader_agrees.specs.Acts.{IsAdded, started_kept}
 use Rattle.loader_agrees.specs.laws.Begun.{user_agrees, others_agree}
 use Rattle.loader_agrees.specs.laws.BegunSound.{sound_placed}
 use Rattle.loader_agrees.specs.laws.Lists.{set_map, set_at, set_apart, length_set}
 use Rattle.loader_agrees.specs.laws.Seeing.{made_at}
+use Rattle.loader_agrees.specs.laws.Bare.{bare_far, bare_attached, bare_both, bare_set, bare_entries}
+use Rattle.loader_agrees.specs.laws.BegunRows.{user_there}
+use Rattle.loader_agrees.specs.laws.EntryReads.{own_call}
+use Rattle.loader_agrees.specs.laws.Reads.{headed}
 use Rattle.sys_loader.specs.declared.answers.Started as answers
 use Rattle.sys_loader.specs.Lives.{HasDropped}
 use Rattle.sys_loader.specs.Restarting.{released_memory, HasBegunAnew}
@@ -73,8 +84,22 @@ module _ (old new : Loaded) (id : ℕ) (kept : Kept) (segments : List Segment) (
       gone : (k : Kept) → Some None ≡ Some (Some k) → ⊥
       gone k e = cc
 
-  pub begun_anew_sound : IsSound new.memory new.users
-  begun_anew_sound = sound_placed dropped new kept.path segments id started.entry without_sound did.placed place (sym its_users.1) added
+  pub bare_now : AreBare new.users
+  bare_now = subst AreBare (sym did.users') (bare_set old.users sound.bare id its refl)
+
+  its_made : user_of new.users id ≡ Some its
+  its_made = subst (λ (n : ℕ). user_of new.users n ≡ Some its) its_users.1 (user_there new.users place its at_place)
+
+  calls_anew : (file : List ℕ) → IsTaken file segments → (number k : ℕ) (head : Head) (h : Handle) → at_number (map head_of segments) number ≡ Some head → handle_at its.handles number ≡ Some h → is_table head ≡ true
+      → k < entry_count head.length → IsCall new.users id (target_at (bytes_at new.memory h.slot) k)
+  calls_anew file taken number k head h head' handle table inside' =
+      let s = headed segments number head head' in
+      own_call file segments taken did.placed.short new.users id its its_made refl (setting id new.memory.slots its.handles) number k s.0 (bytes_at new.memory h.slot) s.1
+      (ap is_table s.2 ∙ table) (did.placed.begins number s.0 h s.1 handle) (omega (arith, inside', ap (λ (x : Head). entry_count x.length) s.2))
+
+  pub begun_anew_sound : (file : List ℕ) → IsTaken file segments → IsSound new.memory new.users
+  begun_anew_sound file taken =
+      sound_placed dropped new kept.path segments id started.entry without_sound did.placed [] place (sym its_users.1) added bare_now (bare_attached new.users bare_now) (calls_anew file taken)
 
   -- ---- agreement
 
@@ -97,18 +122,21 @@ module _ (old new : Loaded) (id : ℕ) (kept : Kept) (segments : List Segment) (
       slots = refl;
       users = ap (map (option_map outline)) did.users' ∙ set_map (option_map outline) old.users place (Some its) ∙ ap (λ us. slice_set us place (Some (outline its))) agrees.users
           ∙ sym (set_map (option_map outline_of) state.users place (Some user));
+      attached = bare_attached new.users bare_now;
+      entries = bare_entries held new.users;
       each = λ p k u made' made''. elim (cases_eq p place) [
         | inl eq ↦
             let kept_is : its ≡ k = kept_one its k (sym at_place ∙ ap (slice_get new.users) (sym eq) ∙ made') in
             let user_is : user ≡ u = user_one user u (sym (set_at state.users place (Some user) (omega (arith, inside, lists))) ∙ ap (slice_get (slice_set state.users place (Some user))) (sym eq) ∙ made'') in
             let id_is : id ≡ first_id + p = omega (arith, its_users.1, eq) in
-            subst (λ (n : ℕ). UserAgrees held new.memory n k u) id_is
-            (subst (λ (x : User). UserAgrees held new.memory id k x) user_is (subst (λ (x : Kept). UserAgrees held new.memory id x user) kept_is
-            (user_agrees held dropped new kept.path segments id started.entry without_sound did.placed holds)))
+            subst (λ (n : ℕ). UserAgrees held new.memory (far_in new n) n k u) id_is
+            (subst (λ (x : User). UserAgrees held new.memory (far_in new id) id k x) user_is (subst (λ (x : Kept). UserAgrees held new.memory (far_in new id) id x user) kept_is
+            (user_agrees held dropped new kept.path segments id started.entry without_sound did.placed holds [] (far_in new id) (λ file n. bare_far new.users bare_now new.memory.slots id file n))))
         | inr ne ↦
             let was : slice_get dropped.users p ≡ Some (Some k) = sym (at_other p ne) ∙ made' in
             let was' : slice_get (dropped_state state id).users p ≡ Some (Some u) = set_apart state.users place p None ne ∙ sym (set_apart state.users place p (Some user) ne) ∙ made'' in
-            others_agree held dropped new kept.path segments id started.entry without_sound did.placed holds p k u was (without_agrees.each p k u was was')
+            others_agree held dropped new kept.path segments id started.entry without_sound did.placed holds [] (far_in dropped (first_id + p)) (far_in new (first_id + p)) p k u was
+            (λ file n above. bare_both dropped new without_sound.bare bare_now (first_id + p) file n) (without_agrees.each p k u was was')
       ];
     }
       where

@@ -106,7 +106,7 @@ settled file load hs user kept old new taken same handles filled = record {
 pub kept_started : (user : User) (load : List Segment) (path : List ℕ) (hs : List Handle) → heads_of user.segments.items ≡ map head_of load → handles_of user.segments.items ≡ spread_handles load hs
     → string_bytes user.path ≡ path → user.life ≡ Running → kept user ≡ started_kept path (map head_of load) hs
 kept_started user load path hs same handles path_is runs =
-    let made : List ℕ → Life → List (Option Handle) → List Head → Kept = λ p l os gs. record { path = p; life = l; handles = os; heads = gs } in
+    let made : List ℕ → Life → List (Option Handle) → List Head → Kept = λ p l os gs. record { path = p; life = l; handles = os; heads = gs; attached = [] } in
     ap (λ (p : List ℕ). made p user.life (handles_of user.segments.items) (heads_of user.segments.items)) path_is
     ∙ ap (λ (l : Life). made path l (handles_of user.segments.items) (heads_of user.segments.items)) runs
     ∙ ap (λ (os : List (Option Handle)). made path Running os (heads_of user.segments.items)) handles
@@ -159,8 +159,8 @@ module _ (old : Loaded) (memory middle new : Memory) (users' users'' : List (Opt
   pub started : HasBegun old path load id entry (loaded new users'')
   started = subst (λ (l : Loaded). HasBegun l path load id entry (loaded new users'')) (sym view) (subst (λ (us : List (Option User)). HasBegun (loaded memory users') path load id entry (loaded new us)) (sym pushed) as_begun)
 
-  pub started_sound : IsSound memory (map (option_map kept) users') → IsSound new (map (option_map kept) users'')
-  started_sound sound = subst (λ (us : List (Option User)). IsSound new (map (option_map kept) us)) (sym pushed) (sound_begun (loaded memory users') (loaded new (users' ++ Some user ∷ [])) path load id entry sound as_begun)
+  pub started_sound : IsSound memory (map (option_map kept) users') → (file : List ℕ) → IsTaken file load → IsSound new (map (option_map kept) users'')
+  started_sound sound file taken = subst (λ (us : List (Option User)). IsSound new (map (option_map kept) us)) (sym pushed) (sound_begun (loaded memory users') (loaded new (users' ++ Some user ∷ [])) path load id entry sound as_begun file taken)
 
 -- the handles that were given, as the list of them holds them
 pub same_handles : (banks : List ℕ) (user : ℕ) (slots last : Slots) (wants wants' : List Want) (hs given old : List Handle) (len : ℕ) → PutsAll Purges banks user slots wants given last → wants ≡ wants'

@@ -1,5 +1,5 @@
 -- A segment of a load file that gets a block and is written into it.
-use Rattle.std.proofs.Common.{◌≡◌, ◌≢◌, inl, inr, ℕ, zero, suc, Bool, true, false, ◌+◌, ◌-◌, ◌<◌, ◌≤◌, List, [], ◌∷◌, length, map, Option, Some, None, IsSome, refl, sym, ap, subst, ◌∙◌, arith}
+use Rattle.std.proofs.Common.{◌≡◌, ◌≢◌, inl, inr, ℕ, zero, suc, Bool, true, false, ◌==◌, ◌+◌, ◌-◌, ◌<◌, ◌≤◌, List, [], ◌∷◌, length, map, Option, Some, None, IsSome, refl, sym, ap, subst, ◌∙◌, arith}
 use Rattle.std.specs.Prelude.{slice_get, slice_set, unwrap_or, IsSomeAnd}
 use Rattle.std.specs.List.{AllByRecursion}
 use Rattle.std.proofs.lemmas.Option.{same_Some, slice_get_within}
@@ -24,7 +24,7 @@ use Rattle.loader_machine.specs.Heads.{head_of, at_number}
 use Rattle.loader_machine.specs.State.{no_pokes, first_id, user_of, with_user}
 use Rattle.loader_machine.specs.Presences.{handle_at, presence, there_at, lies_in, lies_at}
 use Rattle.loader_machine.specs.Stands as machine
-use Rattle.loader_machine.specs.Stands.{Setting, setting, stands}
+use Rattle.loader_machine.specs.Stands.{Setting, nowhere, target_with, setting, stands}
 use Rattle.loader_machine.specs.laws.StandsLaws.{AreAlike, stands_alike}
 use Rattle.loader_agrees.specs.Agrees.{Kept, Loaded, Has, IsSound}
 use Rattle.loader_agrees.specs.laws.BegunSound.{want_size}
@@ -45,6 +45,10 @@ use Rattle.sys_loader.proofs.Written.{heads_of, handles_of}
 none_active : (ts : List Target) → AllByRecursion (λ (t : Target). ◌≡◌ {A = Option ℕ} None None) ts
 none_active [] = tt
 none_active (t ∷ ts) = (refl, none_active ts)
+
+-- where no segment of an attached user is active, none is for a file above 1
+no_far : (slots : Slots) (handles : List (Option Handle)) (file n : ℕ) → 2 ≤ file → target_with nowhere slots handles file n ≡ None
+no_far slots handles file n above = let other : (file == 1) ≡ false = grind arith in rw other refl
 
 module _ (old : Loaded) (id number : ℕ) (sound : IsSound old.memory old.users) (head : Head) (handle : Option Handle) (can : CanLoad old id number head handle)
     (h : Handle) (address : ℕ) (placed : Memory) (brought : IsBrought old.memory id head handle h address placed) where
@@ -123,8 +127,9 @@ module _ (old : Loaded) (id number : ℕ) (sound : IsSound old.memory old.users)
             static = λ n t there static. refl;
             target = λ table n t there dynamic kept'.
                 let clash : true ≡ false = sym can.dynamic ∙ ap (λ (x : Head). is_dynamic x.kind) (sym (same_head s is)) ∙ (its.table table).static in absurd cc;
+            far = λ table file n above. sym (no_far placed.slots (with_handle can.kept number h).handles file n above);
           } in
-          subst (λ (bytes : List ℕ). IsFront bytes content) (stands_alike load taken.alone number s its bare (setting id placed.slots (with_handle can.kept number h).handles) alike no_pokes) (filled bare s bare_setting is)
+          subst (λ (bytes : List ℕ). IsFront bytes content) (stands_alike load number s its bare (setting id placed.slots (with_handle can.kept number h).handles) alike no_pokes) (filled bare s bare_setting is)
 
   -- ---- room for the tables
 
@@ -186,7 +191,7 @@ module _ (old : Loaded) (id number : ℕ) (sound : IsSound old.memory old.users)
 
     come_at : (last : Loaded) (items : List users.Segment) (file : List ℕ) (load : List Segment) (places : List (Option ℕ)) (filled new : Memory) (count : ℕ) → handles_of items ≡ k.handles → IsTaken file load
         → map head_of load ≡ k.heads → count ≡ length k.heads → places ≡ slice_set (addresses placed.slots items) (number - 1) (Some address) → IsWritten load number id places placed h filled
-        → AreRenewed k.heads k.handles (Some number) (Some address) filled new count → last.memory ≡ new → last.users ≡ with_user old.users id (Some (with_handle k number h))
+        → AreRenewed k.heads k.handles (Some (1, number)) (Some address) filled new count → last.memory ≡ new → last.users ≡ with_user old.users id (Some (with_handle k number h))
         → HasCome old id number k head handle load address last
     come_at last items file load places filled new count handles taken heads long at_places written renewed memory users' = record {
       h = h;
@@ -198,9 +203,9 @@ module _ (old : Loaded) (id number : ℕ) (sound : IsSound old.memory old.users)
           subst (λ (x : Kept). IsFront (stands (setting id placed.slots (with_handle x number h).handles) no_pokes s) written.content) same_kept
           (begins items (handles ∙ ap (λ (x : Kept). x.handles) (sym same_kept)) file load taken (heads ∙ ap (λ (x : Kept). x.heads) (sym same_kept)) written.content
           (subst (λ (ps : List (Option ℕ)). IsFilled load number id ps written.content) at_places written.filled) s is);
-      renewed = subst (λ (m : Memory). AreRenewed k.heads k.handles (Some number) (Some address) (with_bytes placed h.slot written.content) m (length k.heads)) (sym memory)
-          (subst (AreRenewed k.heads k.handles (Some number) (Some address) (with_bytes placed h.slot written.content) new) long
-          (subst (λ (m : Memory). AreRenewed k.heads k.handles (Some number) (Some address) m new count) written.new_is renewed));
+      renewed = subst (λ (m : Memory). AreRenewed k.heads k.handles (Some (1, number)) (Some address) (with_bytes placed h.slot written.content) m (length k.heads)) (sym memory)
+          (subst (AreRenewed k.heads k.handles (Some (1, number)) (Some address) (with_bytes placed h.slot written.content) new) long
+          (subst (λ (m : Memory). AreRenewed k.heads k.handles (Some (1, number)) (Some address) m new count) written.new_is renewed));
       users = users';
     }
 
@@ -213,7 +218,7 @@ module _ (old : Loaded) (id number : ℕ) (sound : IsSound old.memory old.users)
 
   pub has_come : (k : Kept) → user_of old.users id ≡ Some k → (last : Loaded) (items : List users.Segment) (file : List ℕ) (load : List Segment) (others places : List (Option ℕ)) (m n : ℕ) (filled new : Memory)
       → heads_of items ≡ k.heads → handles_of items ≡ k.handles → IsTaken file load → map head_of load ≡ k.heads → others ≡ addresses placed.slots items → m ≡ number → places ≡ slice_set others (m - 1) (Some address)
-      → n ≡ number → IsWritten load n id places placed h filled → AreRenewed k.heads k.handles (Some number) (Some address) filled new (length items) → last.memory ≡ new
+      → n ≡ number → IsWritten load n id places placed h filled → AreRenewed k.heads k.handles (Some (1, number)) (Some address) filled new (length items) → last.memory ≡ new
       → last.users ≡ with_user old.users id (Some (with_handle k number h)) → HasCome old id number k head handle load address last
   has_come k made last items file load others places m n filled new heads handles taken same others_so m_so placed_so n_so written renewed memory users' =
       come_at old id number sound head handle can h address placed brought_there k made last items file load places filled new (length items) handles taken same (sym (length-map items (λ s. s.head)) ∙ ap length heads)

@@ -23,12 +23,12 @@ use Rattle.loader_machine.specs.declared.seen.Life.TheVariants.{Running}
 use Rattle.loader_machine.specs.Heads.{head_of, at_number, is_table}
 use Rattle.loader_machine.specs.State.{User, Machine, Seen, handles_of, held_at}
 use Rattle.loader_machine.specs.Presences.{presence_at, is_active}
-use Rattle.loader_machine.specs.Stands.{setting, place_in, stands}
+use Rattle.loader_machine.specs.Stands.{place_in, stands}
 use Rattle.loader_machine.specs.Found.{HoldsLoad}
 use Rattle.loader_machine.specs.Refusals.{Refuse, bytes_refusal}
 use Rattle.loader_machine.specs.Commands.{Reply, Bytes, Jsl, Where, Entered, Lies, Shown, Refused}
 use Rattle.loader_machine.specs.laws.OnceLaws.{one_load}
-use Rattle.loader_machine.specs.Steps.{Sees, seen_of, StandsIn, IsAt, Place, Nowhere, In, IsLocated, place_reply, Decides, Either, no_jsl, address_of, target_at_code, Enters, EntersEntry, EntersSegment, StepsJsl, Outcome, OutOfSlots, OutOfRoom, Made, Answers, Steps}
+use Rattle.loader_machine.specs.Steps.{Sees, seen_of, setting_in, StandsIn, IsAt, Place, Nowhere, In, IsLocated, place_reply, Decides, Either, no_jsl, address_of, target_at_code, Enters, EntersEntry, EntersSegment, StepsJsl, Outcome, OutOfSlots, OutOfRoom, Made, Answers, Steps}
 use Rattle.loader_agrees.specs.Agrees.{Loaded, Agrees, IsSound, Meets}
 use Rattle.loader_agrees.specs.laws.Apart.{steps_once_there}
 use Rattle.loader_agrees.specs.laws.Reads.{head_at}
@@ -101,7 +101,7 @@ module _ (held : FileMap) (loader : Loaded) (state : Machine) (agrees : Agrees h
   sees = call.address.sees
 
   abbrev bytes : List ℕ
-  bytes = stands (setting id state.slots (handles_of sees.user)) (held_at sees.user number).pokes has.s
+  bytes = stands (setting_in state id sees.user) (held_at sees.user number).pokes has.s
 
   abbrev four : List ℕ
   four = take 4 (drop at bytes)
@@ -134,11 +134,11 @@ module _ (held : FileMap) (loader : Loaded) (state : Machine) (agrees : Agrees h
       (at + 1 + 0) 1 call.table (entry_place call.k) 0 (has.parts 0 (omega arith))
 
   starts : slice_index four 0 ≡ 0x22
-  starts = first_in bytes at 0x22 (cell_stands (setting id state.slots (handles_of sees.user)) (held_at sees.user number).pokes has.s at (Byte 0x22) plain call.code call.unwritten)
+  starts = first_in bytes at 0x22 (cell_stands (setting_in state id sees.user) (held_at sees.user number).pokes has.s at (Byte 0x22) plain call.code call.unwritten)
 
   leads : address_of four ≡ place_in state.slots (handles_of sees.user) call.table + entry_place call.k
   leads =
-      let byte = byte_there (setting id state.slots (handles_of sees.user)) (held_at sees.user number).pokes has.s (at + 1) call.table (entry_place call.k) plain
+      let byte = byte_there (setting_in state id sees.user) (held_at sees.user number).pokes has.s (at + 1) call.table (entry_place call.k) plain
       has.parts has.unwritten (target_small held loader state agrees sound below id number (at + 1) call.table (entry_place call.k) has) in
       number_in bytes at _ _ _ (byte 0 (omega arith)) (byte 1 (omega arith)) (byte 2 (omega arith))
       ∙ read_is held loader state agrees sound below id number (at + 1) call.table (entry_place call.k) has

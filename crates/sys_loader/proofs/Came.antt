@@ -1,21 +1,26 @@
 -- A loader after a dynamic segment of its file has come.
-use Rattle.std.proofs.Common.{◌≡◌, ◌≢◌, ℕ, true, ◌+◌, ◌-◌, List, Option, Some, None, refl, sym, ap, subst, ◌∙◌}
+use Rattle.std.proofs.Common.{◌≡◌, ◌≢◌, inl, inr, ℕ, true, false, ◌+◌, ◌-◌, List, map, Option, Some, None, refl, sym, ap, subst, ◌∙◌}
 use Rattle.std.specs.Prelude.{slice_get}
 use Rattle.std.proofs.lemmas.Option.{same_Some}
+use Rattle.omf_format.specs.Header.{is_dynamic}
 use Rattle.omf_format.specs.File.{Segment, segment_at}
 use Rattle.omf_io.specs.Files.{FileMap}
+use Rattle.load_meaning.specs.laws.CellLaws.{loadable_has}
 use Rattle.iigs_meaning.specs.declared.handles.Handle.{Handle}
 use Rattle.iigs_meaning.specs.declared.wants.Block.{Block}
 use Rattle.iigs_meaning.specs.Memory.{Memory}
 use Rattle.loader_machine.specs.declared.seen.Head.{Head}
 use Rattle.loader_machine.specs.declared.seen.Presence.{Presence}
 use Rattle.loader_machine.specs.declared.seen.Presence.TheVariants.{Absent, Purged, Idle, Active}
-use Rattle.loader_machine.specs.Heads.{at_number}
+use Rattle.loader_machine.specs.Heads.{head_of, at_number, is_table}
 use Rattle.loader_machine.specs.State.{Machine, fresh, first_id}
 use Rattle.loader_machine.specs.Presences.{handle_at, presence, there_at}
+use Rattle.loader_machine.specs.Taken.{IsTaken}
 use Rattle.loader_machine.specs.Steps.{with_both, with_segment}
 use Rattle.loader_machine.specs.Needs.{is_read}
 use Rattle.loader_agrees.specs.Agrees.{Kept, Loaded, Agrees, Has, IsSound}
+use Rattle.loader_agrees.specs.laws.Begun.{decide}
+use Rattle.loader_agrees.specs.laws.Reads.{headed}
 use Rattle.loader_agrees.specs.laws.Seeing.{made_at, kept_is}
 use Rattle.sys_loader.specs.Activating.{CanLoad, IsBrought, HasCome}
 use Rattle.sys_loader.proofs.Bringing.{Brings, brings_first, first_apart, brings_anew}
@@ -56,8 +61,19 @@ module _ (old : Loaded) (id number : ℕ) (sound : IsSound old.memory old.users)
         own = λ j e. sym (same_Some k j e) ∙ brought.0;
       }
 
+-- a dynamic segment of a load file is no table
+pub dynamic_plain : (file : List ℕ) (segments : List Segment) → IsTaken file segments → (number : ℕ) (head : Head) → at_number (map head_of segments) number ≡ Some head → is_dynamic head.kind ≡ true → is_table head ≡ false
+dynamic_plain file segments taken number head is dynamic =
+    let s = headed segments number head is in
+    elim (decide (is_table head)) [
+      | inr other ↦ other
+      | inl table ↦
+          (let t = (loadable_has file segments taken.loadable number s.0 s.1).table (ap is_table s.2 ∙ table) in
+          let clash : false ≡ true = sym t.static ∙ ap (λ (h : Head). is_dynamic h.kind) s.2 ∙ dynamic in absurd cc)
+    ]
+
 module _ (old new : Loaded) (id number : ℕ) (head : Head) (handle : Option Handle) (segments : List Segment) (address : ℕ) (sound : IsSound old.memory old.users)
-    (can : CanLoad old id number head handle) (gone : is_read (presence old.memory.slots handle) ≡ true) (did : HasCome old id number can.kept head handle segments address new) where
+    (can : CanLoad old id number head handle) (gone : is_read (presence old.memory.slots handle) ≡ true) (plain : is_table head ≡ false) (did : HasCome old id number can.kept head handle segments address new) where
   its_users : (slice_get old.users (id - first_id) ≡ Some (Some can.kept)) × (first_id + (id - first_id) ≡ id)
   its_users = made_at old.users id can.kept can.made
 
@@ -66,12 +82,12 @@ module _ (old new : Loaded) (id number : ℕ) (head : Head) (handle : Option Han
 
   pub came_sound : IsSound new.memory new.users
   came_sound =
-      come_sound old new id number can.kept head handle did.h address did.placed did.content sound can.made can.head' can.handle' can.dynamic (not_there (presence old.memory.slots handle) gone)
+      come_sound old new id number can.kept head handle did.h address did.placed did.content sound can.made can.head' can.handle' can.dynamic plain (not_there (presence old.memory.slots handle) gone)
       new_one.brings new_one.apart new_one.own did.same did.renewed did.users can.runs
 
   module _ (held : FileMap) (state : Machine) (agrees : Agrees held old state) (same : (kept_is held old state agrees id can.kept can.made).does_agree.segments ≡ segments) where
     pub came_agrees : Agrees held new (with_both state id new.memory.slots (Some (with_segment (kept_is held old state agrees id can.kept can.made).user number (fresh (Some did.h)))))
     came_agrees =
-        come_agrees old new id number can.kept head handle did.h address did.placed did.content sound can.made can.head' can.handle' can.dynamic (not_there (presence old.memory.slots handle) gone)
+        come_agrees old new id number can.kept head handle did.h address did.placed did.content sound can.made can.head' can.handle' can.dynamic plain (not_there (presence old.memory.slots handle) gone)
         new_one.brings new_one.apart new_one.own did.same did.renewed did.users held state agrees can.fits
         (λ s found. did.begins s (subst (λ (ss : List Segment). segment_at ss number ≡ Some s) same found))

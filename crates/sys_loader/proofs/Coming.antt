@@ -22,22 +22,28 @@ use Rattle.loader_machine.specs.declared.seen.Life.TheVariants.{Running, Dormant
 use Rattle.loader_machine.specs.Heads.{head_of, at_number, is_static, is_table, want_of}
 use Rattle.loader_machine.specs.State.{Pokes, Held, User, Machine, absent, fresh, no_pokes, first_id, user_of, with_user, held_at}
 use Rattle.loader_machine.specs.Presences.{handle_at, presence, presence_at, there_at, active_at, is_active, lies_in, lies_at}
-use Rattle.loader_machine.specs.Stands.{setting, stands}
+use Rattle.loader_machine.specs.Stands.{setting, setting_with, stands}
 use Rattle.loader_machine.specs.Steps.{with_both, with_segment}
-use Rattle.loader_agrees.specs.Agrees.{Kept, Loaded, Outline, outline, outline_of, UserAgrees, Agrees, IsOf, Has, IsSound}
+use Rattle.loader_agrees.specs.Agrees.{Kept, Loaded, Outline, outline, outline_of, far_in, UserAgrees, AreBare, Agrees, IsCall, IsOf, Has, IsSound}
 use Rattle.loader_agrees.specs.laws.Begun.{decide}
 use Rattle.loader_agrees.specs.laws.BegunSound.{want_size}
-use Rattle.loader_agrees.specs.laws.Frame.{Keeps, Same, Gone, unlocked, agrees_still}
+use Rattle.loader_agrees.specs.laws.Frame.{Keeps, Same, Gone, unlocked}
 use Rattle.loader_agrees.specs.laws.Keeping.{of_kept}
 use Rattle.loader_agrees.specs.laws.Lists.{set_map, set_at, set_apart, length_set}
 use Rattle.loader_agrees.specs.laws.Reads.{head_at}
 use Rattle.loader_agrees.specs.laws.Seeing.{made_at, IsKept, kept_is, has_any}
+use Rattle.loader_agrees.specs.laws.Bare.{bare_attached, bare_both, bare_still, bare_set, bare_stands, bare_entries, bare_call}
+use Rattle.loader_agrees.specs.laws.BegunRows.{user_there}
 use Rattle.sys_loader.specs.Renewing.{AreRenewed}
 use Rattle.sys_loader.specs.Lives.{with_bytes}
 use Rattle.sys_loader.specs.Activating.{with_handle}
 use Rattle.sys_loader.proofs.Beginning.{want_some}
 use Rattle.sys_loader.proofs.Bringing.{Brings}
-use Rattle.sys_loader.proofs.Turned.{Becomes, Stays, Turns, Anew, Turned, turned_agrees}
+use Rattle.load_meaning.specs.declared.table.Target.{Target}
+use Rattle.sys_loader.specs.Renewing.{is_chosen}
+use Rattle.sys_loader.proofs.Lead.{target_stays}
+use Rattle.sys_loader.proofs.Shifting.{room_there}
+use Rattle.sys_loader.proofs.Turned.{Becomes, Stays, Turns, Anew, Turned, own_leads, turned_agrees}
 
 -- ---- a handle that is kept
 
@@ -109,12 +115,12 @@ module _ (kept : Kept) (number : ℕ) (h : Handle) (inside : number - 1 < length
 
 module _ (old new : Loaded) (id number : ℕ) (kept : Kept) (head : Head) (handle : Option Handle) (h : Handle) (address : ℕ) (placed : Memory) (content : List ℕ)
     (sound : IsSound old.memory old.users) (made : user_of old.users id ≡ Some kept) (head' : at_number kept.heads number ≡ Some head) (handle' : handle_at kept.handles number ≡ handle)
-    (dynamic : is_dynamic head.kind ≡ true) (gone : there_at (presence old.memory.slots handle) ≡ None)
+    (dynamic : is_dynamic head.kind ≡ true) (plain : is_table head ≡ false) (gone : there_at (presence old.memory.slots handle) ≡ None)
     (brings : Brings old id head h address placed)
     (apart : (p n : ℕ) (g : Head) (k : Handle) → Has old.users p n g k → ((first_id + p ≡ id) → (n ≡ number) → ⊥) → k.slot ≢ h.slot)
     (own_handle : (k : Handle) → handle ≡ Some k → k ≡ h)
     (same : length content ≡ length (bytes_at placed h.slot))
-    (renewed : AreRenewed kept.heads kept.handles (Some number) (Some address) (with_bytes placed h.slot content) new.memory (length kept.heads))
+    (renewed : AreRenewed kept.heads kept.handles (Some (1, number)) (Some address) (with_bytes placed h.slot content) new.memory (length kept.heads))
     (users : new.users ≡ with_user old.users id (Some (with_handle kept number h))) where
   abbrev place : ℕ
   place = id - first_id
@@ -350,6 +356,60 @@ module _ (old new : Loaded) (id number : ℕ) (kept : Kept) (head : Head) (handl
     | inr other ↦ (sound.lengths p k other.1, sound.short p k other.1)
   ]
 
+  pub bare_now : AreBare new.users
+  bare_now = subst AreBare (sym users) (bare_set old.users sound.bare id come (sound.bare place kept its_users.0))
+
+  at_most : (heads : List Head) (n : ℕ) (g : Head) → at_number heads n ≡ Some g → n ≤ length heads
+  at_most heads zero g e = omega arith
+  at_most heads (suc m) g e = let within = slice_get_within heads m g e in omega (arith, within)
+
+  -- no table's block is written but the user's own
+  plain_bytes : (p n : ℕ) (g : Head) (k : Handle) → Has old.users p n g k → k.slot ≢ h.slot → ((p ≡ place) → is_table g ≡ false) → bytes_at new.memory k.slot ≡ bytes_at placed k.slot
+  plain_bytes p n g k has ne plain = renewed.stay k.slot (λ m f j le fhead fhandle table same'.
+      let other : Has old.users place m f j = record { kept = kept; made = its_users.0; head' = fhead; handle = fhandle } in
+      let both = sound.once place p m n f g j k other has same' in
+      let kept_same = kept_one p has.kept has.made (sym both.0) in
+      let heads : Some g ≡ Some f = sym has.head' ∙ ap (λ (x : Kept). at_number x.heads n) kept_same ∙ ap (at_number kept.heads) (sym both.1) ∙ fhead in
+      let clash : true ≡ false = sym table ∙ ap is_table (sym (same_Some g f heads)) ∙ plain (sym both.0) in absurd cc) ∙ filled_apart k.slot ne
+
+  -- the headers of a user stay
+  heads_stay : (p : ℕ) (now was : Kept) → slice_get new.users p ≡ Some (Some now) → slice_get old.users p ≡ Some (Some was) → now.heads ≡ was.heads
+  heads_stay p now was made' before = elim (users_now p now made') [
+    | inl it ↦ ap (λ (x : Kept). x.heads) it.1 ∙ ap (λ (x : Kept). x.heads) (sym (kept_one p was before it.0))
+    | inr other ↦ ap (λ (x : Kept). x.heads) (one now was (sym other.1 ∙ before))
+  ]
+    where
+      one : (a b : Kept) → Some (Some a) ≡ Some (Some b) → a ≡ b
+      one a b e = cc
+
+  calls_now : (p n k : ℕ) (g : Head) (j : Handle) → Has new.users p n g j → is_table g ≡ true → IsSome (there_at (presence new.memory.slots (Some j))) → k < load.entry_count g.length
+      → IsCall new.users (first_id + p) (load.target_at (bytes_at new.memory j.slot) k)
+  calls_now p n k g j has table there inside' = elim (has_before p n g j has) [
+    | inl it ↦ (let clash : true ≡ false = sym table ∙ ap is_table it.2 ∙ plain in absurd cc)
+    | inr was ↦ by_old was.0 was.1
+  ]
+    where
+      by_old : (has_old : Has old.users p n g j) → j.slot ≢ h.slot → IsCall new.users (first_id + p) (load.target_at (bytes_at new.memory j.slot) k)
+      by_old has_old ne =
+          let keeps = brings.keeps p n g j has_old ne in
+          let here : IsSome (there_at (presence placed.slots (Some j))) = subst (λ (t : Slots). IsSome (there_at (presence t (Some j)))) slots_are there in
+          let before : IsSome (there_at (presence old.memory.slots (Some j))) = subst (λ p. IsSome (there_at p)) (keeps_there old.memory placed j keeps here) here in
+          let bytes = keeps_bytes old.memory placed j keeps here in
+          let call = bare_call old.users new.users sound.bare (first_id + p) has_old.kept has.kept (user_there old.users p has_old.kept has_old.made) (user_there new.users p has.kept has.made)
+          (heads_stay p has.kept has_old.kept has.made has_old.made) (load.target_at (bytes_at old.memory j.slot) k) (sound.calls p n k g j has_old table before inside') in
+          elim (cases_eq p place) [
+            | inl eq ↦
+                let user = kept_one p has_old.kept has_old.made eq in
+                let ghead : at_number kept.heads n ≡ Some g = ap (λ (x : Kept). at_number x.heads n) (sym user) ∙ has_old.head' in
+                let ghandle : handle_at kept.handles n ≡ Some j = ap (λ (x : Kept). handle_at x.handles n) (sym user) ∙ has_old.handle in
+                let follows = renewed.follow n g j (at_most kept.heads n g ghead) ghead ghandle table here in
+                let room : g.length ≤ length (bytes_at old.memory j.slot) = room_there old sound p n g j has_old before in
+                subst (λ (t : Target). IsCall new.users (first_id + p) t)
+                (sym (ap (λ (bs : List ℕ). load.target_at bs k) (follows ∙ ap (Rattle.sys_loader.specs.Renewing.renewed (Some (1, number)) (Some address) (load.entry_count g.length)) (filled_apart j.slot ne ∙ bytes))
+                ∙ target_stays (Some (1, number)) (Some address) k (load.entry_count g.length) (bytes_at old.memory j.slot) (omega (arith, inside', room)))) call
+            | inr other ↦ subst (λ (bs : List ℕ). IsCall new.users (first_id + p) (load.target_at bs k)) (sym (plain_bytes p n g j has_old ne (λ e. absurd (other e)) ∙ bytes)) call
+          ]
+
   pub come_sound : kept.life ≡ Running → IsSound new.memory new.users
   come_sound runs = record {
     few = omega (arith, sound.few, ap (λ (us : List (Option Kept)). length us) users, length_set old.users place (Some come));
@@ -360,18 +420,12 @@ module _ (old new : Loaded) (id number : ℕ) (kept : Kept) (head : Head) (handl
     each = each_now;
     once = once_now;
     only = only_now;
+    bare = bare_now;
+    attached = bare_attached new.users bare_now;
+    calls = calls_now;
   }
 
   -- ---- agreement
-
-  -- no table's block is written but the user's own
-  plain_bytes : (p n : ℕ) (g : Head) (k : Handle) → Has old.users p n g k → k.slot ≢ h.slot → ((p ≡ place) → is_table g ≡ false) → bytes_at new.memory k.slot ≡ bytes_at placed k.slot
-  plain_bytes p n g k has ne plain = renewed.stay k.slot (λ m f j le fhead fhandle table same'.
-      let other : Has old.users place m f j = record { kept = kept; made = its_users.0; head' = fhead; handle = fhandle } in
-      let both = sound.once place p m n f g j k other has same' in
-      let kept_same = kept_one p has.kept has.made (sym both.0) in
-      let heads : Some g ≡ Some f = sym has.head' ∙ ap (λ (x : Kept). at_number x.heads n) kept_same ∙ ap (at_number kept.heads) (sym both.1) ∙ fhead in
-      let clash : true ≡ false = sym table ∙ ap is_table (sym (same_Some g f heads)) ∙ plain (sym both.0) in absurd cc) ∙ filled_apart k.slot ne
 
   module _ (held : FileMap) (state : Machine) (agrees : Agrees held old state) (fits : head.length < 2 ^ 32)
       (begins : (s : Segment) → segment_at (kept_is held old state agrees id kept made).does_agree.segments number ≡ Some s → IsFront (stands (setting id placed.slots come.handles) no_pokes s) content) where
@@ -453,12 +507,8 @@ module _ (old new : Loaded) (id number : ℕ) (kept : Kept) (head : Head) (handl
           | inr ne ↦ apart place m g j has (λ a b. ne b) same'
         ]) ∙ filled_here
 
-    at_most : (heads : List Head) (n : ℕ) (g : Head) → at_number heads n ≡ Some g → n ≤ length heads
-    at_most heads zero g e = omega arith
-    at_most heads (suc m) g e = let within = slice_get_within heads m g e in omega (arith, within)
-
     becomes_other : (n : ℕ) (s : Segment) (k : Handle) → n ≢ number → segment_at is.does_agree.segments n ≡ Some s → handle_at come.handles n ≡ Some k → IsSome (there_at (presence_at new.memory.slots come.handles n))
-        → Becomes (setting id old.memory.slots kept.handles) (setting id new.memory.slots come.handles) (Some number) (Some address) old.memory new.memory kept is.user user' n s k
+        → Becomes (setting_with (far_in old id) id old.memory.slots kept.handles) (setting_with (far_in new id) id new.memory.slots come.handles) (Some (1, number)) (Some address) old.memory new.memory kept is.user user' n s k
     becomes_other n s k ne found has there =
         let was : handle_at kept.handles n ≡ Some k = sym (handle_apart kept number h inside number_in.0 n ne) ∙ has in
         let one : Has old.users place n (head_of s) k = record { kept = kept; made = its_users.0; head' = heads_at n s found; handle = was } in
@@ -470,12 +520,31 @@ module _ (old new : Loaded) (id number : ℕ) (kept : Kept) (head : Head) (handl
         elim (decide (load.is_table s)) [
           | inl table ↦ Turns table was before (
               renewed.follow n (head_of s) k (at_most kept.heads n (head_of s) (heads_at n s found)) (heads_at n s found) was table here
-              ∙ ap (Rattle.sys_loader.specs.Renewing.renewed (Some number) (Some address) (load.entry_count s.fields.length)) (filled_apart k.slot other ∙ kept_bytes))
+              ∙ ap (Rattle.sys_loader.specs.Renewing.renewed (Some (1, number)) (Some address) (load.entry_count s.fields.length)) (filled_apart k.slot other ∙ kept_bytes))
           | inr plain ↦ Stays plain was before (ap (λ p. unwrap_or (there_at p) 0) presence_same) (ap (λ (x : Held). x.pokes) (held_apart n ne))
               (plain_bytes place n (head_of s) k one other (λ e. plain) ∙ kept_bytes)
         ]
 
-    turned : Turned old.memory new.memory id (Some number) (Some address) kept come is.user user' is.does_agree.segments
+    chosen_is : (n : ℕ) → is_chosen (Some (1, number)) 1 n ≡ true → n ≡ number
+    chosen_is n c = grind (arith, c)
+
+    not_chosen : (n : ℕ) → is_chosen (Some (1, number)) 1 n ≡ false → n ≢ number
+    not_chosen n c eq =
+        let test : (n == number) ≡ true = grind (arith, eq) in
+        let one : (1 == 1) ≡ true = refl in
+        let clash : true ≡ false = (rw test at c) in cc
+
+    far_not : (f n : ℕ) → 2 ≤ f → is_chosen (Some (1, number)) f n ≡ true → ⊥
+    far_not f n above c = let test : (f == 1) ≡ false = grind arith in let clash : false ≡ true = (rw test at c) in cc
+
+    -- what stands in it, with the attached users, of which there are none
+    stands_now : (s : Segment) → segment_at is.does_agree.segments number ≡ Some s → IsFront (stands (setting_with (far_in new id) id new.memory.slots come.handles) no_pokes s) content
+    stands_now s found =
+        let one = bare_stands new.users bare_now new.memory.slots id come.handles is.does_agree.segments number s
+        (loadable_has is.does_agree.holds.file is.does_agree.segments is.does_agree.holds.taken.loadable number s found) no_pokes in
+        subst (λ (bs : List ℕ). IsFront bs content) one (subst (λ (t : Slots). IsFront (stands (setting id t come.handles) no_pokes s) content) (sym slots_are) (begins s found))
+
+    turned : Turned old.memory new.memory (far_in old id) (far_in new id) id (Some (1, number)) (Some address) kept come is.user user' is.does_agree.segments
     turned = record {
       same = outlines;
       path = refl;
@@ -486,31 +555,34 @@ module _ (old new : Loaded) (id number : ℕ) (kept : Kept) (head : Head) (handl
       were = λ there n s found static. let now = there n s found static in subst (λ p. IsSome (there_at p)) (there_same n (static_ne n s found static) now) now;
       places = λ there n s found static. ap (λ p. unwrap_or (there_at p) 0) (there_same n (static_ne n s found static) (there n s found static));
       chosen = λ n s found dynamic' kept'' c.
-          let eq : n ≡ number = grind (arith, c) in
+          let eq = chosen_is n c in
           ap (λ (m : ℕ). active_at (presence_at new.memory.slots come.handles m)) eq ∙ ap (λ (o : Option Handle). active_at (presence new.memory.slots o)) (handle_here kept number h inside number_in.0) ∙ ap active_at now_active;
       fits = λ n s found c some.
-          let eq : n ≡ number = grind (arith, c) in
+          let eq = chosen_is n c in
           let same' : head_of s ≡ head = same_Some (head_of s) head (sym (heads_at n s found) ∙ ap (at_number kept.heads) eq ∙ head') in
           omega (arith, fits, ap (λ (x : Head). x.length) same');
-      others = λ n s found dynamic' kept'' c. target_same n (λ eq. let yes : (n == number) ≡ true = grind (arith, eq) in absurd cc);
+      others = λ n s found dynamic' kept'' c. target_same n (not_chosen n c);
+      far_chosen = λ f n above c. absurd (far_not f n above c);
+      far_others = λ f n above c. bare_both old new sound.bare bare_now id f n;
       each = λ there n s k found has present. elim (cases_eq n number) [
         | inl eq ↦
             let found' : segment_at is.does_agree.segments number ≡ Some s = subst (λ (m : ℕ). segment_at is.does_agree.segments m ≡ Some s) eq found in
             let it : k ≡ h = same_Some k h (sym has ∙ ap (handle_at come.handles) eq ∙ handle_here kept number h inside number_in.0) in
-            let at : IsFront (stands (setting id new.memory.slots come.handles) no_pokes s) content = subst (λ (t : Slots). IsFront (stands (setting id t come.handles) no_pokes s) content) (sym slots_are) (begins s found') in
-            let held' : IsFront (stands (setting id new.memory.slots come.handles) (held_at user' n).pokes s) content =
-            subst (λ (p : Pokes). IsFront (stands (setting id new.memory.slots come.handles) p s) content) (sym (ap (λ (x : Held). x.pokes) (ap (held_at user') eq ∙ held_here))) at in
-            Anew (subst (λ (x : Handle). IsFront (stands (setting id new.memory.slots come.handles) (held_at user' n).pokes s) (bytes_at new.memory x.slot)) (sym it)
-            (subst (λ (bs : List ℕ). IsFront (stands (setting id new.memory.slots come.handles) (held_at user' n).pokes s) bs) (sym (bytes_here s found')) held'))
+            let at = stands_now s found' in
+            let held' : IsFront (stands (setting_with (far_in new id) id new.memory.slots come.handles) (held_at user' n).pokes s) content =
+            subst (λ (p : Pokes). IsFront (stands (setting_with (far_in new id) id new.memory.slots come.handles) p s) content) (sym (ap (λ (x : Held). x.pokes) (ap (held_at user') eq ∙ held_here))) at in
+            Anew (subst (λ (x : Handle). IsFront (stands (setting_with (far_in new id) id new.memory.slots come.handles) (held_at user' n).pokes s) (bytes_at new.memory x.slot)) (sym it)
+            (subst (λ (bs : List ℕ). IsFront (stands (setting_with (far_in new id) id new.memory.slots come.handles) (held_at user' n).pokes s) bs) (sym (bytes_here s found')) held'))
         | inr ne ↦ becomes_other n s k ne found has present
       ];
     }
 
-    pub come_agrees_own : UserAgrees held new.memory id come user'
-    come_agrees_own = turned_agrees held old.memory new.memory id (Some number) (Some address) kept come is.user user' is.does_agree (sound.short place kept its_users.0) turned
+    pub come_agrees_own : UserAgrees held new.memory (far_in new id) id come user'
+    come_agrees_own = turned_agrees held old.memory new.memory (far_in old id) (far_in new id) id (Some (1, number)) (Some address) kept come is.user user' is.does_agree
+        (λ n s found table. own_leads held kept.path is.does_agree.segments is.does_agree.holds n s found table) (sound.short place kept its_users.0) turned
 
-    others_agree : (p : ℕ) (k : Kept) (u : User) → slice_get old.users p ≡ Some (Some k) → p ≢ place → UserAgrees held old.memory (first_id + p) k u → UserAgrees held new.memory (first_id + p) k u
-    others_agree p k u found ne was = agrees_still held old.memory new.memory (first_id + p) k u was (λ n j has.
+    others_agree : (p : ℕ) (k : Kept) (u : User) → slice_get old.users p ≡ Some (Some k) → p ≢ place → UserAgrees held old.memory (far_in old (first_id + p)) (first_id + p) k u → UserAgrees held new.memory (far_in new (first_id + p)) (first_id + p) k u
+    others_agree p k u found ne was = bare_still held old new sound.bare bare_now (first_id + p) k u was (λ n j has.
         let one = has_any old sound p k found n j has in
         let other = apart p n one.0 j one.1 (λ e e'. ne (id_of p e)) in
         moved j (plain_bytes p n one.0 j one.1 other (λ e. absurd (ne e))) (brings.keeps p n one.0 j one.1 other))
@@ -525,13 +597,15 @@ module _ (old new : Loaded) (id number : ℕ) (kept : Kept) (head : Head) (handl
       slots = refl;
       users = ap (map (option_map outline)) users ∙ set_map (option_map outline) old.users place (Some come) ∙ ap (λ us. slice_set us place (Some (outline come))) agrees.users
           ∙ ap (λ (o : Outline). slice_set (map (option_map outline_of) state.users) place (Some o)) outlines ∙ sym (set_map (option_map outline_of) state.users place (Some user'));
+      attached = bare_attached new.users bare_now;
+      entries = bare_entries held new.users;
       each = λ p k u found found'. elim (users_now p k found) [
         | inl it ↦
             let within = slice_get_within state.users place (Some is.user) (made_at state.users id is.user is.made).0 in
             let user_same : u ≡ user' = user_one u user' (sym found' ∙ ap (slice_get (slice_set state.users place (Some user'))) it.0 ∙ set_at state.users place (Some user') within) in
             let id_is : id ≡ first_id + p = omega (arith, its_users.1, it.0) in
-            subst (λ (n : ℕ). UserAgrees held new.memory n k u) id_is
-            (subst (λ (x : User). UserAgrees held new.memory id k x) (sym user_same) (subst (λ (x : Kept). UserAgrees held new.memory id x user') (sym it.1) come_agrees_own))
+            subst (λ (n : ℕ). UserAgrees held new.memory (far_in new n) n k u) id_is
+            (subst (λ (x : User). UserAgrees held new.memory (far_in new id) id k x) (sym user_same) (subst (λ (x : Kept). UserAgrees held new.memory (far_in new id) id x user') (sym it.1) come_agrees_own))
         | inr other ↦ others_agree p k u other.1 other.0 (agrees.each p k u other.1 (sym (set_apart state.users place p (Some user') other.0) ∙ found'))
       ];
     }

@@ -1,9 +1,10 @@
 -- A user that is dropped.
-use Rattle.std.proofs.Common.{◌≡◌, ◌≢◌, inl, inr, ℕ, Bool, true, false, cond, ◌==◌, ◌+◌, ◌-◌, List, [], ◌∷◌, length, map, Option, Some, None, IsSome, refl, sym, ap, subst, ◌∙◌, arith}
+use Rattle.std.proofs.Common.{◌≡◌, ◌≢◌, inl, inr, ℕ, Bool, true, false, cond, ◌==◌, ◌+◌, ◌-◌, ◌<◌, List, [], ◌∷◌, length, map, Option, Some, None, IsSome, refl, sym, ap, subst, ◌∙◌, arith}
 use Rattle.std.specs.Prelude.{slice_get, slice_set, option_map, Contains}
 use Rattle.std.proofs.lemmas.Bool.{cases_eq}
 use Rattle.std.proofs.lemmas.Option.{same_Some, slice_get_within}
 use Rattle.omf_io.specs.Files.{FileMap}
+use Rattle.load_meaning.specs.LoadTable.{target_at, entry_count}
 use Rattle.iigs_meaning.specs.declared.handles.Handle.{Handle}
 use Rattle.iigs_meaning.specs.declared.slots.Slot.{Slot}
 use Rattle.iigs_meaning.specs.declared.wants.Block.{Block}
@@ -14,19 +15,21 @@ use Rattle.iigs_meaning.specs.Memory.{Memory, KeepsBut, AreAllPlaced, bytes_at}
 use Rattle.loader_machine.specs.declared.faults.LoaderFault.{LoaderFault}
 use Rattle.loader_machine.specs.declared.seen.Head.{Head}
 use Rattle.loader_machine.specs.declared.seen.Life.TheVariants.{Running, Dormant}
-use Rattle.loader_machine.specs.Heads.{at_number, is_static}
+use Rattle.loader_machine.specs.Heads.{at_number, is_static, is_table}
 use Rattle.loader_machine.specs.State.{Seen, User, Machine, first_id, user_of, with_user}
 use Rattle.loader_machine.specs.Presences.{handle_at, presence, presence_at, there_at, is_active, lies_in}
 use Rattle.loader_machine.specs.Refusals.{shut_down_refusal}
 use Rattle.loader_machine.specs.Commands.{Okay, ShutDown}
 use Rattle.loader_machine.specs.Steps.{dropped_state}
-use Rattle.loader_agrees.specs.Agrees.{Kept, Loaded, outline, outline_of, seen_in, seen_by, UserAgrees, Agrees, IsOf, Has, IsSound, Met}
-use Rattle.loader_agrees.specs.laws.Frame.{Same, agrees_still}
+use Rattle.loader_agrees.specs.Agrees.{Kept, Loaded, outline, outline_of, seen_in, seen_by, far_in, UserAgrees, AreBare, Agrees, IsCall, IsOf, Has, IsSound, Met}
+use Rattle.loader_agrees.specs.laws.Frame.{Same}
 use Rattle.loader_agrees.specs.laws.Lists.{set_map, set_at, set_apart, length_set}
 use Rattle.loader_agrees.specs.laws.Seeing.{made_at, IsKept, kept_is, does, has_any}
 use Rattle.loader_agrees.specs.laws.ScriptBlocks.{released_none}
 use Rattle.loader_agrees.specs.laws.Slotted.{live_block}
 use Rattle.loader_agrees.specs.laws.Stay.{get_is, in_slot, slot_map, is_there}
+use Rattle.loader_agrees.specs.laws.Bare.{bare_attached, bare_still, bare_gone, bare_entries, bare_call}
+use Rattle.loader_agrees.specs.laws.BegunRows.{user_there}
 use Rattle.sys_loader.specs.Lives.{HasDropped}
 use Rattle.sys_loader.proofs.Shifting.{there_block}
 
@@ -161,6 +164,19 @@ module _ (old new : Loaded) (id : ℕ) (sound : IsSound old.memory old.users) (d
       let made : slice_get new.users it.0 ≡ Some (Some it.4.kept) = ap (λ (us : List (Option Kept)). slice_get us it.0) did.users ∙ set_apart old.users place it.0 None ne ∙ it.4.made in
       (it.0, it.1, it.2, it.3, record { kept = it.4.kept; made = made; head' = it.4.head'; handle = it.4.handle }, it.5)
 
+  pub bare_now : AreBare new.users
+  bare_now = subst AreBare (sym did.users) (bare_gone old.users sound.bare id)
+
+  calls_now : (p n k : ℕ) (g : Head) (j : Handle) → Has new.users p n g j → is_table g ≡ true → IsSome (there_at (presence new.memory.slots (Some j))) → k < entry_count g.length
+      → IsCall new.users (first_id + p) (target_at (bytes_at new.memory j.slot) k)
+  calls_now p n k g j has table there inside =
+      let was = before p has.kept has.made in
+      let one : Has old.users p n g j = record { kept = has.kept; made = was.0; head' = has.head'; handle = has.handle } in
+      let there' : IsSome (there_at (presence old.memory.slots (Some j))) = subst (λ (o : Option Block). IsSome (there_at (lies_in j o))) (live_before p n g j one was.1) there in
+      subst (λ (bs : List ℕ). IsCall new.users (first_id + p) (target_at bs k)) (sym (bytes_same j there))
+      (bare_call old.users new.users sound.bare (first_id + p) has.kept has.kept (user_there old.users p has.kept was.0) (user_there new.users p has.kept has.made) refl
+      (target_at (bytes_at old.memory j.slot) k) (sound.calls p n k g j one table there' inside))
+
   pub dropped_sound : IsSound new.memory new.users
   dropped_sound = record {
     few = omega (arith, sound.few, ap (λ (us : List (Option Kept)). length us) did.users, length_set old.users place None);
@@ -171,6 +187,9 @@ module _ (old new : Loaded) (id : ℕ) (sound : IsSound old.memory old.users) (d
     each = each_now;
     once = λ p q n m head second h k one two same. sound.once p q n m head second h k (has_before p n head h one).0 (has_before q m second k two).0 same;
     only = only_now;
+    bare = bare_now;
+    attached = bare_attached new.users bare_now;
+    calls = calls_now;
   }
 
   module _ (held : FileMap) (state : Machine) (agrees : Agrees held old state) where
@@ -180,8 +199,8 @@ module _ (old new : Loaded) (id : ℕ) (sound : IsSound old.memory old.users) (d
     abbrev next : Machine
     next = dropped_state state id
 
-    still : (p : ℕ) (kept : Kept) (user : User) → slice_get old.users p ≡ Some (Some kept) → p ≢ place → UserAgrees held old.memory (first_id + p) kept user → UserAgrees held new.memory (first_id + p) kept user
-    still p kept user made ne was = agrees_still held old.memory new.memory (first_id + p) kept user was (λ n h found.
+    still : (p : ℕ) (kept : Kept) (user : User) → slice_get old.users p ≡ Some (Some kept) → p ≢ place → UserAgrees held old.memory (far_in old (first_id + p)) (first_id + p) kept user → UserAgrees held new.memory (far_in new (first_id + p)) (first_id + p) kept user
+    still p kept user made ne was = bare_still held old new sound.bare bare_now (first_id + p) kept user was (λ n h found.
         let one = has_any old sound p kept made n h found in Same (live_before p n one.0 h one.1 ne) (bytes_same h))
 
     pub agrees_next : Agrees held new (dropped_state state id)
@@ -190,6 +209,8 @@ module _ (old new : Loaded) (id : ℕ) (sound : IsSound old.memory old.users) (d
       slots = did.slots ∙ ap (λ (t : Slots). without_user t id) agrees.slots;
       users = ap (map (option_map outline)) did.users ∙ set_map (option_map outline) old.users place None ∙ ap (λ us. slice_set us place None) agrees.users
           ∙ sym (set_map (option_map outline_of) state.users place None);
+      attached = bare_attached new.users bare_now;
+      entries = bare_entries held new.users;
       each = λ p kept user made made'.
           let was = before p kept made in
           still p kept user was.0 was.1 (agrees.each p kept user was.0 (sym (set_apart state.users place p None was.1) ∙ made'));

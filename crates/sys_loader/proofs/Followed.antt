@@ -4,7 +4,6 @@ use Rattle.std.specs.Prelude.{slice_get}
 use Rattle.std.specs.Option.{option_map}
 use Rattle.std.specs.List.{AllByRecursion}
 use Rattle.std.proofs.lemmas.Option.{same_Some}
-use Rattle.omf_format.specs.Header.{is_dynamic, is_skipped}
 use Rattle.omf_format.specs.File.{Segment, segment_at}
 use Rattle.omf_io.specs.Counts.{IsFront}
 use Rattle.omf_io.specs.Files.{FileMap}
@@ -23,19 +22,18 @@ use Rattle.iigs_meaning.specs.Puts.{Purges}
 use Rattle.iigs_meaning.specs.Memory.{bytes_at}
 use Rattle.loader_machine.specs.declared.faults.LoaderFault.{LoaderFault}
 use Rattle.loader_machine.specs.declared.seen.Head.{Head}
-use Rattle.loader_machine.specs.declared.seen.Life.TheVariants.{Running}
 use Rattle.loader_machine.specs.Heads.{head_of, at_number, is_table}
-use Rattle.loader_machine.specs.State.{Machine, Seen, first_id, handles_of, held_at}
+use Rattle.loader_machine.specs.State.{Machine, first_id, handles_of, held_at}
 use Rattle.loader_machine.specs.declared.seen.Presence.{Presence}
 use Rattle.loader_machine.specs.declared.seen.Presence.TheVariants.{Absent, Purged, Idle, Active}
 use Rattle.loader_machine.specs.Presences.{presence, presence_at, there_at, lies_in, lies_at}
-use Rattle.loader_machine.specs.Stands.{setting, entry_for, stands}
+use Rattle.loader_machine.specs.Stands.{setting_with, entry_for, stands}
 use Rattle.loader_machine.specs.Refusals.{Refuse, bytes_refusal, load_segment_refusal}
 use Rattle.loader_machine.specs.Steps.{Sees, StandsIn, IsAt, Place, Nowhere, In, IsLocated, Decides, Either, no_jsl, address_of, target_at_code, Enters, EntersEntry, MakesActive, StepsJsl}
 use Rattle.loader_machine.specs.Needs.{Needs, Reaches, is_read, path_if}
 use Rattle.loader_machine.specs.Commands.{Reply, Jsl, Entered, Refused}
 use Rattle.loader_machine.specs.laws.TakenLaws.{own_targets}
-use Rattle.loader_agrees.specs.Agrees.{Kept, Loaded, seen_in, seen_by, Agrees, Has, IsSound, Meets}
+use Rattle.loader_agrees.specs.Agrees.{far_in, Kept, Loaded, seen_in, seen_by, Agrees, Has, IsSound, Meets}
 use Rattle.loader_agrees.specs.Acts.{HasLent, LiesIn}
 use Rattle.loader_agrees.specs.laws.Reads.{its_segment, begins, stands_there, stands_size, at_there, within_front, lies_back, sees_of, one, user}
 use Rattle.loader_agrees.specs.laws.BegunSound.{want_size}
@@ -47,8 +45,9 @@ use Rattle.sys_loader.specs.Activating.{CanLoad, HasCome, HasActivated, DidActiv
 use Rattle.sys_loader.specs.Following.{jsl_reply, HasJsl, IsEntry, IsJslRefusal, NoBytes, NoJsl, NoPlace, NoEntry, EntersPlace, entered_at, DidJsl, Stops, Leads, Calls}
 use Rattle.sys_loader.proofs.Activated.{IsMet, activated, presence_same}
 use Rattle.sys_loader.proofs.Came.{is_new}
-use Rattle.sys_loader.proofs.Entries.{segment_read, offset_read, found_code, no_code}
-use Rattle.sys_loader.proofs.Turned.{table_stands, targets_count, number_within}
+use Rattle.sys_loader.proofs.Reaching.{passes_all}
+use Rattle.sys_loader.proofs.Entries.{found_code, no_code}
+use Rattle.loader_agrees.specs.laws.EntryReads.{segment_read, offset_read, table_stands, targets_count, number_within}
 
 -- ---- what decides
 
@@ -57,12 +56,6 @@ decided r state reply next Done is done = rw is done
 
 stopped : (r : Refuse) (why : LoaderFault) (state : Machine) (Done : Type 0) → r ≡ Some why → Decides r state (Refused why) state Done
 stopped r why state Done is = rw is (refl, refl)
-
--- a dynamic segment of a user that runs can be made active
-passes_all : (seen : Seen) (number : ℕ) (head : Head) → seen.life ≡ Running → at_number seen.heads number ≡ Some head → is_skipped head.kind ≡ false → is_dynamic head.kind ≡ true
-    → load_segment_refusal (Some seen) number ≡ None
-unfolding load_segment_refusal
-passes_all seen number head runs head' kept dynamic = rw (runs, head', kept, dynamic) refl
 
 module _ (held : FileMap) (old : Loaded) (state : Machine) (sound : IsSound old.memory old.users) (agrees : Agrees held old state) where
   -- ---- the four bytes
@@ -73,7 +66,7 @@ module _ (held : FileMap) (old : Loaded) (state : Machine) (sound : IsSound old.
   pub four : (id number at : ℕ) (bytes : List ℕ) → HasLent old id number at 4 bytes → Four id number at bytes
   four id number at bytes lent =
       let is = lent.can.is in
-      let whole = stands (setting id old.memory.slots is.kept.handles) (held_at (user held old state agrees id number lent.h is) number).pokes (its_segment held old state agrees id number lent.h is).0 in
+      let whole = stands (setting_with (far_in old id) id old.memory.slots is.kept.handles) (held_at (user held old state agrees id number lent.h is) number).pokes (its_segment held old state agrees id number lent.h is).0 in
       let front = begins held old state agrees id number lent.h is in (
         whole,
         stands_there held old state agrees id number lent.h is,
@@ -175,10 +168,10 @@ module _ (held : FileMap) (old : Loaded) (state : Machine) (sound : IsSound old.
       count : length (targets_of s) ≡ entry_count lies.is.head.length
       count = targets_count s ∙ ap (λ (h : Head). entry_count h.length) same_head
 
-      front : IsFront (table_bytes (map (entry_for (setting owner old.memory.slots lies.is.kept.handles)) (targets_of s))) (bytes_at old.memory lies.h.slot)
+      front : IsFront (table_bytes (map (entry_for (setting_with (far_in old owner) owner old.memory.slots lies.is.kept.handles)) (targets_of s))) (bytes_at old.memory lies.h.slot)
       front =
           let was = begins held old state agrees owner number lies.h lies.is in
-          subst (λ (l : List ℕ). IsFront l (bytes_at old.memory lies.h.slot)) (table_stands s (setting owner old.memory.slots lies.is.kept.handles) its_table)
+          subst (λ (l : List ℕ). IsFront l (bytes_at old.memory lies.h.slot)) (table_stands s (setting_with (far_in old owner) owner old.memory.slots lies.is.kept.handles) its_table)
           (rw (← its.does_agree.unpoked number s found its_table) was)
 
       pub none : ((k : ℕ) → k < entry_count lies.is.head.length → entry_place k ≢ offset) → target_at_code (targets_of s) 0 offset ≡ None
@@ -210,11 +203,11 @@ module _ (held : FileMap) (old : Loaded) (state : Machine) (sound : IsSound old.
         -- what is read of the entry is its target
         segment_same : (target_at (bytes_at old.memory lies.h.slot) k).segment ≡ entry.0.segment
         unfolding target_at
-        segment_same = segment_read (setting owner old.memory.slots lies.is.kept.handles) (targets_of s) (bytes_at old.memory lies.h.slot) front k entry.0 entry.1 segment_fits
+        segment_same = segment_read (setting_with (far_in old owner) owner old.memory.slots lies.is.kept.handles) (targets_of s) (bytes_at old.memory lies.h.slot) front k entry.0 entry.1 segment_fits
 
         offset_same : entry.0.offset < 256 ^ 4 → (target_at (bytes_at old.memory lies.h.slot) k).offset ≡ entry.0.offset
         unfolding target_at
-        offset_same fits = offset_read (setting owner old.memory.slots lies.is.kept.handles) (targets_of s) (bytes_at old.memory lies.h.slot) front k entry.0 entry.1 fits
+        offset_same fits = offset_read (setting_with (far_in old owner) owner old.memory.slots lies.is.kept.handles) (targets_of s) (bytes_at old.memory lies.h.slot) front k entry.0 entry.1 fits
 
         head_there : at_number lies.is.kept.heads entry.0.segment ≡ Some (head_of is_target.segment')
         head_there = ap (λ (hs : List Head). at_number hs entry.0.segment) its.does_agree.heads

@@ -13,6 +13,7 @@ pub mod Purging
 pub mod Poking
 pub mod Renewed
 pub mod Turned
+pub mod Lead
 pub mod Shifting
 pub mod Renewing
 pub mod Turning

@@ -23,7 +23,8 @@ use Rattle.loader_machine.specs.Steps.{NoSlots, Lacks, Begins, Steps}
 use Rattle.loader_machine.specs.Needs.{Needs}
 use Rattle.loader_agrees.specs.Agrees.{Loaded, outline, outline_of, IsSound, Agrees, Meets}
 use Rattle.loader_agrees.specs.Acts.{HasBegun}
-use Rattle.loader_agrees.specs.laws.Begun.{may_load, load_met}
+use Rattle.loader_agrees.specs.laws.Begun.{may_load}
+use Rattle.loader_agrees.specs.laws.BegunMet.{load_met}
 use Rattle.sys_loader.specs.declared.answers.Started.{Started}
 use Rattle.sys_loader.specs.Replies.{load_reply}
 use Rattle.sys_loader.specs.Calls.{IsBeginRefusal, IsStartRefusal, HasStartedFrom, IsLoadRefusal, IsFull, CantRead, LacksMemory, CantStart, HasLoaded}

@@ -44,7 +44,7 @@ module _ (loader : Loaded) (id number : ℕ) (head : Head) (handle : Option Hand
     pub was_active : (h : Handle) (at : ℕ) → presence loader.memory.slots handle ≡ Active h at → new ≡ loader → now ≡ before → DidActivate held loader id number (Ok at) new before now
     was_active h at is same count = activates (Active h at) (Ok at) is (refl, same, count)
 
-    pub was_idle : (h : Handle) (at : ℕ) → presence loader.memory.slots handle ≡ Idle h at → ((k : Kept) → user_of loader.users id ≡ Some k → HasShifted loader k number h active_block (Some at) new)
+    pub was_idle : (h : Handle) (at : ℕ) → presence loader.memory.slots handle ≡ Idle h at → ((k : Kept) → user_of loader.users id ≡ Some k → HasShifted loader k (1, number) h active_block (Some at) new)
         → now ≡ before → DidActivate held loader id number (Ok at) new before now
     was_idle h at is shifted count = activates (Idle h at) (Ok at) is (refl, shifted can.kept can.made, count)
 

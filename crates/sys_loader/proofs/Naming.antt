@@ -28,11 +28,11 @@ use Rattle.loader_machine.specs.declared.seen.Presence.TheVariants.{Absent, Purg
 use Rattle.loader_machine.specs.Heads.{head_of, is_static}
 use Rattle.loader_machine.specs.State.{Pokes, User, Machine, handles_of, held_at}
 use Rattle.loader_machine.specs.Presences.{presence_at, there_at, is_active}
-use Rattle.loader_machine.specs.Stands.{Setting, setting, place_in, over_from, over, read_bytes, stands, entries_bytes}
+use Rattle.loader_machine.specs.Stands.{Setting, place_in, over_from, over, read_bytes, stands, entries_bytes}
 use Rattle.loader_machine.specs.Found.{HoldsLoad}
 use Rattle.loader_machine.specs.Commands.{Where, Lies}
 use Rattle.loader_machine.specs.laws.OnceLaws.{one_load}
-use Rattle.loader_machine.specs.Steps.{IsAt}
+use Rattle.loader_machine.specs.Steps.{IsAt, setting_in}
 use Rattle.loader_agrees.specs.Agrees.{Outline, Loaded, Agrees, IsSound, Met}
 use Rattle.loader_agrees.specs.Acts.{LiesIn}
 use Rattle.loader_agrees.specs.laws.Apart.{back, steps_once_there}
@@ -214,7 +214,7 @@ module _ (held : FileMap) (loader : Loaded) (state : Machine) (agrees : Agrees h
   target_small = below target_lies.h.slot _ (has_byte loader.memory.slots _ target_lies.h (lies_block loader sound _ id target offset target_lies).0)
 
   pub read_is : address_read has ≡ place_in state.slots (handles_of has.sees.user) target + offset
-  read_is = number_there (setting id state.slots (handles_of has.sees.user)) (held_at has.sees.user number).pokes has.s at target offset
+  read_is = number_there (setting_in state id has.sees.user) (held_at has.sees.user number).pokes has.s at target offset
       (part_plain has.sees.segments number has.s segment_sound (at + 0) 1 target offset 0 (has.parts 0 (omega arith))) has.parts has.unwritten target_small
 
   found_is : (address : ℕ) (found : Option Entered) → MatchOption found (Unit {0}) (λ (entered : Entered). entered.address ≡ address) → where_reply found ≡ Lies id target offset

@@ -29,7 +29,7 @@ use Rattle.loader_agrees.specs.laws.Reads.{lies_back}
 use Rattle.loader_agrees.specs.laws.Seeing.{IsKept, is_seen}
 use Rattle.sys_loader.specs.declared.answers.Entered as answers
 use Rattle.sys_loader.specs.Activating.{segment_reads}
-use Rattle.sys_loader.specs.Following.{IsJslRefusal, NoBytes, NoJsl, NoPlace, NoEntry, EntersPlace, CallsEntry, IsRefused, IsPlace, IsStopped, IsThere, HasAsked}
+use Rattle.sys_loader.specs.Following.{IsJslRefusal, NoBytes, NoJsl, NoPlace, NoEntry, EntersPlace, CallsEntry, IsRefused, IsPlace, IsThere, HasAsked}
 use Rattle.sys_loader.specs.Restarting.{restart_reads}
 use Rattle.sys_loader.proofs.Followed as followed
 
@@ -246,24 +246,9 @@ module _ (held : FileMap) (old : Loaded) (state : Machine) (sound : IsSound old.
         refl,
       )
 
-      -- it can be made active
-      never_stopped : IsSome (load_segment_refusal (seen_by old owner) segment) → ⊥
-      never_stopped some =
-          let lies = calls.entry.lies in
-          let passes' : load_segment_refusal (seen_by old place.user) t.segment ≡ None =
-          followed.can_load held old state sound agrees place.address place.user place.segment place.offset lies calls.entry.table calls.entry.k calls.entry.inside calls.entry.code in
-          let none : load_segment_refusal (seen_by old owner) segment ≡ None =
-          sym (ap (λ (n : ℕ). load_segment_refusal (seen_by old n) t.segment) calls.its ∙ ap (λ (n : ℕ). load_segment_refusal (seen_by old owner) n) same_number) ∙ passes' in
-          no_some (load_segment_refusal (seen_by old owner) segment) none some
-        where
-          no_some : (r : Refuse) → r ≡ None → IsSome r → ⊥
-          no_some None e some' = cc
-          no_some (Some why) e some' = cc
-
     pub jsl_needs : (below : (place address : ℕ) → HoldsByte address (slot_at old.memory.slots place) → address < 2 ^ 24) (before now : ℕ) → HasAsked old id number at before now
         → ReadsNeeded held state (Jsl id number at) before now
     jsl_needs below before now (inl (reads, is)) = (1, entry_needs below reads.owner reads.segment reads.offset reads.calls true reads.reads, is)
     jsl_needs below before now (inr (IsRefused why stopped, is)) = (0, none_needed (λ owner t r. stops owner t r why stopped), is)
     jsl_needs below before now (inr (IsPlace place enters, is)) = (0, none_needed (λ owner t r. leads owner t r place enters), is)
-    jsl_needs below before now (inr (IsStopped owner segment offset calls some, is)) = absurd (never_stopped below owner segment offset calls some)
     jsl_needs below before now (inr (IsThere owner segment offset calls there, is)) = (0, entry_needs below owner segment offset calls false there, is)

@@ -11,6 +11,7 @@ use Rattle.omf_format.specs.File.{Segment, segment_at}
 use Rattle.omf_io.specs.Counts.{IsFront}
 use Rattle.omf_io.specs.Files.{FileMap}
 use Rattle.load_meaning.specs.laws.CellLaws.{loadable_has}
+use Rattle.load_meaning.specs.LoadTable.{target_at}
 use Rattle.iigs_meaning.specs.declared.handles.Handle.{Handle}
 use Rattle.iigs_meaning.specs.Fits.{Slots}
 use Rattle.iigs_meaning.specs.Puts.{Purges}
@@ -21,13 +22,13 @@ use Rattle.loader_machine.specs.declared.seen.Head.{Head}
 use Rattle.loader_machine.specs.Heads.{head_of, at_number, is_table}
 use Rattle.loader_machine.specs.State.{Seen, Held, User, Machine, no_pokes, first_id, handles_of, held_at}
 use Rattle.loader_machine.specs.Presences.{handle_at, presence, is_active}
-use Rattle.loader_machine.specs.Stands.{stands, setting}
+use Rattle.loader_machine.specs.Stands.{stands, setting_with}
 use Rattle.loader_machine.specs.laws.StandsLaws.{stands_long}
 use Rattle.loader_machine.specs.laws.PokeLaws.{poked_begins}
 use Rattle.loader_machine.specs.Refusals.{Refuse, of_user, of_running, of_segment, of_active, of_plain, of_inside, poke_refusal}
 use Rattle.loader_machine.specs.Commands.{Okay, Refused, Poke}
 use Rattle.loader_machine.specs.Steps.{with_segment, with_both}
-use Rattle.loader_agrees.specs.Agrees.{Kept, Loaded, Outline, outline_of, seen_by, UserAgrees, Agrees, IsOf, IsSound, Met}
+use Rattle.loader_agrees.specs.Agrees.{Kept, Loaded, Outline, outline_of, seen_by, far_in, UserAgrees, Agrees, IsCall, IsOf, Has, IsSound, Met}
 use Rattle.loader_agrees.specs.laws.Checks.{PassesRunning, PassesSegment}
 use Rattle.loader_agrees.specs.laws.Checking.{active_none, active_passes, inside_none, inside_passes}
 use Rattle.loader_agrees.specs.laws.Lists.{set_map, set_same, set_at, set_apart, length_set, set_like}
@@ -106,9 +107,10 @@ same_length memory slot w other same = elim (cases_eq other slot) [
   | inr ne ↦ rw (others_bytes memory slot w other ne) (omega arith)
 ]
 
--- what is true of every loader stays, where a block's bytes are written
-pub sound_written : (memory : Memory) (users : List (Option Kept)) (slot : ℕ) (w : List ℕ) → IsSound memory users → length w ≡ length (bytes_at memory slot) → IsSound (with_bytes memory slot w) users
-sound_written memory users slot w sound same = record {
+-- what is true of every loader stays, where the bytes of a block are written that is no table's
+pub sound_written : (memory : Memory) (users : List (Option Kept)) (slot : ℕ) (w : List ℕ) → IsSound memory users → length w ≡ length (bytes_at memory slot)
+    → ((p n : ℕ) (g : Head) (j : Handle) → Has users p n g j → is_table g ≡ true → j.slot ≢ slot) → IsSound (with_bytes memory slot w) users
+sound_written memory users slot w sound same tables = record {
   few = sound.few;
   lengths = sound.lengths;
   short = sound.short;
@@ -126,7 +128,23 @@ sound_written memory users slot w sound same = record {
       } in is';
   once = sound.once;
   only = sound.only;
+  bare = sound.bare;
+  attached = sound.attached;
+  calls = λ p n k g j has table there inside. subst (λ (bs : List ℕ). IsCall users (first_id + p) (target_at bs k)) (sym (others_bytes memory slot w j.slot (tables p n g j has table)))
+      (sound.calls p n k g j has table there inside);
 }
+
+-- a block in which a byte can be poked is no table's
+pub poked_tables : (old : Loaded) (id number at : ℕ) (h : Handle) → IsSound old.memory old.users → CanPoke old id number at h → (p n : ℕ) (g : Head) (j : Handle) → Has old.users p n g j → is_table g ≡ true → j.slot ≢ h.slot
+poked_tables old id number at h sound can p n g j it table same =
+    let mine = has old sound id number h can.is in
+    let both = sound.once p (id - first_id) n number g can.is.head j h it mine same in
+    let user : it.kept ≡ mine.kept = one it.kept mine.kept (sym it.made ∙ ap (slice_get old.users) both.0 ∙ mine.made) in
+    let heads : Some g ≡ Some can.is.head = sym it.head' ∙ ap (λ (k : Kept). at_number k.heads n) user ∙ ap (at_number mine.kept.heads) both.1 ∙ mine.head' in
+    let clash : true ≡ false = sym table ∙ ap is_table (same_Some g can.is.head heads) ∙ can.plain in cc
+  where
+    one : (a b : Kept) → Some (Some a) ≡ Some (Some b) → a ≡ b
+    one a b e = cc
 
 -- ---- agreement
 
@@ -205,7 +223,7 @@ module _ (held : FileMap) (old : Loaded) (state : Machine) (id number at byte : 
           rw back (set_like (λ (held : Held). held.handle) is.user.segments k (record (held_at is.user (suc k)) { pokes = insert was.pokes at byte }) (absent_one) (omega (arith, within)) refl)
 
   outline_with : List (Option Handle) → Outline
-  outline_with hs = record { path = is.user.path; life = is.user.life; handles = hs }
+  outline_with hs = record { path = is.user.path; life = is.user.life; handles = hs; attached = is.user.attached }
 
   outlines_same : outline_of is.user ≡ outline_of (with_segment is.user number now)
   unfolding outline_with
@@ -225,7 +243,7 @@ module _ (held : FileMap) (old : Loaded) (state : Machine) (id number at byte : 
   its_users = made_at old.users id can.is.kept can.is.made
 
   -- the user agrees
-  user_agrees : UserAgrees held new.memory id can.is.kept (with_segment is.user number now)
+  user_agrees : UserAgrees held new.memory (far_in old id) id can.is.kept (with_segment is.user number now)
   user_agrees = record {
     same = is.does_agree.same ∙ outlines_same;
     segments = is.does_agree.segments;
@@ -245,14 +263,14 @@ module _ (held : FileMap) (old : Loaded) (state : Machine) (id number at byte : 
           let found' : segment_at is.does_agree.segments number ≡ Some s = subst (λ (m : ℕ). segment_at is.does_agree.segments m ≡ Some s) eq found in
           let heads = its_head s found' in
           let plain : is_table (head_of s) ≡ false = subst (λ (f : Head). is_table f ≡ false) heads can.plain in
-          let sized = stands_long is.does_agree.segments n s (setting id old.memory.slots can.is.kept.handles) was.pokes (loadable_has is.does_agree.holds.file is.does_agree.segments is.does_agree.holds.taken.loadable n s found) in
+          let sized = stands_long is.does_agree.segments n s (setting_with (far_in old id) id old.memory.slots can.is.kept.handles) was.pokes (loadable_has is.does_agree.holds.file is.does_agree.segments is.does_agree.holds.taken.loadable n s found) in
           let inside : at < s.fields.length = omega (arith, can.inside, ap (λ (f : Head). f.length) heads) in
           let handle : k ≡ h = same_Some k h (sym has' ∙ ap (handle_at can.is.kept.handles) eq ∙ can.is.handle) in
-          let before : IsFront (stands (setting id old.memory.slots can.is.kept.handles) (held_at is.user n).pokes s) (bytes_at old.memory k.slot) = is.does_agree.begins there n s k found has' present in
-          let before' : IsFront (stands (setting id old.memory.slots can.is.kept.handles) was.pokes s) (bytes_at old.memory h.slot) =
-          subst (λ (j : Handle). IsFront (stands (setting id old.memory.slots can.is.kept.handles) was.pokes s) (bytes_at old.memory j.slot)) handle
-          (subst (λ (m : ℕ). IsFront (stands (setting id old.memory.slots can.is.kept.handles) (held_at is.user m).pokes s) (bytes_at old.memory k.slot)) eq before) in
-          let after = poked_begins (setting id old.memory.slots can.is.kept.handles) s was.pokes at byte (bytes_at old.memory h.slot) (omega (arith, sized, inside)) before' in
+          let before : IsFront (stands (setting_with (far_in old id) id old.memory.slots can.is.kept.handles) (held_at is.user n).pokes s) (bytes_at old.memory k.slot) = is.does_agree.begins there n s k found has' present in
+          let before' : IsFront (stands (setting_with (far_in old id) id old.memory.slots can.is.kept.handles) was.pokes s) (bytes_at old.memory h.slot) =
+          subst (λ (j : Handle). IsFront (stands (setting_with (far_in old id) id old.memory.slots can.is.kept.handles) was.pokes s) (bytes_at old.memory j.slot)) handle
+          (subst (λ (m : ℕ). IsFront (stands (setting_with (far_in old id) id old.memory.slots can.is.kept.handles) (held_at is.user m).pokes s) (bytes_at old.memory k.slot)) eq before) in
+          let after = poked_begins (setting_with (far_in old id) id old.memory.slots can.is.kept.handles) s was.pokes at byte (bytes_at old.memory h.slot) (omega (arith, sized, inside)) before' in
           rw (eq, held_here, handle, its_now) after
       | inr ne ↦
           rw (held_apart n ne, others_bytes old.memory h.slot (slice_set (bytes_at old.memory h.slot) at byte) k.slot (apart place can.is.kept its_users.0 n k has' (λ p e. ne e)))
@@ -261,10 +279,10 @@ module _ (held : FileMap) (old : Loaded) (state : Machine) (id number at byte : 
   }
 
   -- and so do the others
-  others_agree : (place' : ℕ) (kept : Kept) (user : User) → slice_get old.users place' ≡ Some (Some kept) → place' ≢ place → UserAgrees held old.memory (first_id + place') kept user
-      → UserAgrees held new.memory (first_id + place') kept user
-  others_agree place' kept user made ne was' = agrees_still held old.memory new.memory (first_id + place') kept user was'
-      (λ n k found. Same refl (λ there. others_bytes old.memory h.slot (slice_set (bytes_at old.memory h.slot) at byte) k.slot (apart place' kept made n k found (λ p e. ne p))))
+  others_agree : (place' : ℕ) (kept : Kept) (user : User) → slice_get old.users place' ≡ Some (Some kept) → place' ≢ place → UserAgrees held old.memory (far_in old (first_id + place')) (first_id + place') kept user
+      → UserAgrees held new.memory (far_in old (first_id + place')) (first_id + place') kept user
+  others_agree place' kept user made ne was' = agrees_still held old.memory new.memory (far_in old (first_id + place')) (far_in old (first_id + place')) (first_id + place') kept user was'
+      (λ n k found. Same refl (λ there. others_bytes old.memory h.slot (slice_set (bytes_at old.memory h.slot) at byte) k.slot (apart place' kept made n k found (λ p e. ne p)))) (λ file n above. refl)
 
   state_users : slice_get state.users place ≡ Some (Some is.user)
   state_users = (made_at state.users id is.user is.made).0
@@ -277,14 +295,16 @@ module _ (held : FileMap) (old : Loaded) (state : Machine) (id number at byte : 
         ∙ ap (λ (o : Outline). slice_set (map (option_map outline_of) state.users) place (Some o)) (sym outlines_same)
         ∙ sym (set_map (option_map outline_of) state.users place (Some is.user))
         ∙ ap (map (option_map outline_of)) (set_same state.users place (Some is.user) state_users));
+    attached = agrees.attached;
+    entries = agrees.entries;
     each = λ place' kept user made made'. elim (cases_eq place' place) [
       | inl eq ↦
           let kept_is' : kept ≡ can.is.kept = cc (made, its_users.0, ap (slice_get old.users) eq) in
           let inside = slice_get_within state.users place (Some is.user) state_users in
           let user_is' : with_segment is.user number now ≡ user = cc (made', ap (slice_get next.users) eq, set_at state.users place (Some (with_segment is.user number now)) inside) in
           let id_is : id ≡ first_id + place' = omega (arith, its_users.1) in
-          subst (λ (n : ℕ). UserAgrees held new.memory n kept user) id_is
-          (subst (λ (u : User). UserAgrees held new.memory id kept u) user_is' (subst (λ (k : Kept). UserAgrees held new.memory id k (with_segment is.user number now)) (sym kept_is') user_agrees))
+          subst (λ (n : ℕ). UserAgrees held new.memory (far_in old n) n kept user) id_is
+          (subst (λ (u : User). UserAgrees held new.memory (far_in old id) id kept u) user_is' (subst (λ (k : Kept). UserAgrees held new.memory (far_in old id) id k (with_segment is.user number now)) (sym kept_is') user_agrees))
       | inr ne ↦ others_agree place' kept user made ne (agrees.each place' kept user made (sym (set_apart state.users place place' (Some (with_segment is.user number now)) ne) ∙ made'))
     ];
   }

@@ -1,33 +1,36 @@
 -- A user that is restarted in place, as it is done.
-use Rattle.std.proofs.Common.{◌≡◌, ℕ, zero, suc, Bool, true, false, cond, ◌==◌, ◌+◌, ◌-◌, ◌^◌, ◌<◌, ◌≤◌, List, [], ◌∷◌, length, map, get_or, Option, Some, None, IsSome, refl, sym, ap, subst, ◌∙◌, arith}
+use Rattle.std.proofs.Common.{◌≡◌, inl, inr, ℕ, zero, suc, Bool, true, false, cond, ◌==◌, ◌+◌, ◌-◌, ◌^◌, ◌<◌, ◌≤◌, List, [], ◌∷◌, length, map, get_or, Option, Some, None, IsSome, refl, sym, ap, subst, ◌∙◌, arith}
 use Rattle.std.specs.Prelude.{slice_get, IsSomeAnd, option_map}
 use Rattle.std.specs.Option.{option_and_then}
 use Rattle.std.specs.List.{AllByRecursion}
-use Rattle.std.proofs.lemmas.Bool.{and_parts}
+use Rattle.std.proofs.lemmas.Bool.{and_parts, cases_eq}
 use Rattle.std.proofs.lemmas.Option.{same_Some, slice_get_within, slice_get-get_or}
 use Rattle.std.proofs.lemmas.List.{length-map}
 use Rattle.omf_format.specs.File.{Segment}
 use Rattle.load_meaning.specs.declared.table.Target.{Target}
-use Rattle.load_meaning.specs.LoadTable.{targets_of}
+use Rattle.load_meaning.specs.LoadTable.{targets_of, target_at, entry_count}
 use Rattle.iigs_meaning.specs.declared.handles.Handle.{Handle}
 use Rattle.iigs_meaning.specs.declared.wants.Block.{Block}
 use Rattle.iigs_meaning.specs.Slots.{get, slot_at}
 use Rattle.iigs_meaning.specs.Fits.{Slots, block_in}
-use Rattle.iigs_meaning.specs.Memory.{Memory}
+use Rattle.iigs_meaning.specs.Memory.{Memory, bytes_at}
 use Rattle.loader_machine.specs.declared.faults.LoaderFault.TheVariants as fault
 use Rattle.loader_machine.specs.declared.seen.Head.{Head}
 use Rattle.loader_machine.specs.declared.seen.Life.TheVariants.{Running, Dormant}
 use Rattle.loader_machine.specs.declared.seen.Presence.{Presence}
 use Rattle.loader_machine.specs.declared.seen.Presence.TheVariants.{Absent, Purged, Idle, Active}
-use Rattle.loader_machine.specs.Heads.{head_of, at_number, is_static, entry_in}
+use Rattle.loader_machine.specs.Heads.{head_of, at_number, is_static, is_table, entry_in}
 use Rattle.loader_machine.specs.State.{Seen, first_id, user_of, with_user}
-use Rattle.loader_machine.specs.Presences.{handle_at, presence, presence_at, is_there, is_active, active_at}
+use Rattle.loader_machine.specs.Presences.{handle_at, presence, presence_at, there_at, is_there, is_active, active_at}
+use Rattle.loader_machine.specs.Taken.{IsTaken}
 use Rattle.loader_machine.specs.Refusals.{restart_refusal}
-use Rattle.loader_machine.specs.Stands.{place_in, setting, target_in}
+use Rattle.loader_machine.specs.Stands.{nowhere, place_in, setting, target_with}
 use Rattle.loader_machine.specs.Steps.{active_block, changed_all, static_handles, is_read_again}
-use Rattle.loader_agrees.specs.Agrees.{Kept, Loaded, Has, IsSound}
+use Rattle.loader_agrees.specs.Agrees.{Kept, Loaded, IsCall, Has, IsSound}
+use Rattle.loader_agrees.specs.laws.Begun.{decide}
+use Rattle.loader_agrees.specs.laws.EntryReads.{own_call}
 use Rattle.loader_agrees.specs.laws.Lists.{number_map}
-use Rattle.loader_agrees.specs.laws.Reads.{head_at}
+use Rattle.loader_agrees.specs.laws.Reads.{headed, head_at}
 use Rattle.loader_agrees.specs.laws.Seeing.{made_at}
 use Rattle.sys_loader.specs.declared.answers.Started.{Started}
 use Rattle.sys_loader.specs.declared.user.Segment as users
@@ -74,9 +77,11 @@ has_resumed old users' id k items started new heads handles user activated runs 
 
 -- ---- bytes that are written
 
--- a loader is sound still where nothing but bytes changes
-pub quiet_sound : (old new : Memory) (users' : List (Option Kept)) → IsSound old users' → IsQuiet old new → IsSound new users'
-quiet_sound old new users' sound quiet = record {
+-- a loader is sound still where nothing but bytes changes, and each entry of a table leads to a segment
+pub quiet_sound : (old new : Memory) (users' : List (Option Kept)) → IsSound old users' → IsQuiet old new
+    → ((p n k : ℕ) (g : Head) (j : Handle) → Has users' p n g j → is_table g ≡ true → IsSome (there_at (presence old.slots (Some j))) → k < entry_count g.length
+    → IsCall users' (first_id + p) (target_at (bytes_at new j.slot) k)) → IsSound new users'
+quiet_sound old new users' sound quiet calls = record {
   few = sound.few;
   lengths = sound.lengths;
   short = sound.short;
@@ -94,7 +99,55 @@ quiet_sound old new users' sound quiet = record {
       };
   once = sound.once;
   only = λ slot b found user. sound.only slot b (sym (ap (λ (t : Slots). block_in (slot_at t slot)) quiet.slots) ∙ found) user;
+  bare = sound.bare;
+  attached = sound.attached;
+  calls = λ p n k g j has table there inside. calls p n k g j has table (subst (λ (t : Slots). IsSome (there_at (presence t (Some j)))) quiet.slots there) inside;
 }
+
+-- so they do where a user's segments are read again from the file that was loaded
+module _ (old middle : Memory) (users' : List (Option Kept)) (id : ℕ) (kept : Kept) (sound : IsSound old users') (made : user_of users' id ≡ Some kept) (file : List ℕ) (segments : List Segment)
+    (taken : IsTaken file segments) (heads : map head_of segments ≡ kept.heads) (reread : AreReread segments id kept old middle) where
+  its_place : (slice_get users' (id - first_id) ≡ Some (Some kept)) × (first_id + (id - first_id) ≡ id)
+  its_place = made_at users' id kept made
+
+  one_kept : (a b : Kept) → Some (Some a) ≡ Some (Some b) → a ≡ b
+  one_kept a b e = cc
+
+  -- a segment that is read again
+  again_call : (p n k : ℕ) (g : Head) (j : Handle) → Has users' p n g j → is_table g ≡ true → k < entry_count g.length → p ≡ id - first_id → is_read_again g ≡ true
+      → IsCall users' (first_id + p) (target_at (bytes_at middle j.slot) k)
+  again_call p n k g j has table inside here again =
+      let same : has.kept ≡ kept = one_kept has.kept kept (sym has.made ∙ ap (slice_get users') here ∙ its_place.0) in
+      let head : at_number (map head_of segments) n ≡ Some g = ap (λ (hs : List Head). at_number hs n) heads ∙ ap (λ (x : Kept). at_number x.heads n) (sym same) ∙ has.head' in
+      let handle : handle_at kept.handles n ≡ Some j = ap (λ (x : Kept). handle_at x.handles n) (sym same) ∙ has.handle in
+      let s = headed segments n g head in
+      let short : length segments < 2 ^ 16 = omega (arith, sound.short (id - first_id) kept its_place.0, ap length heads, length-map segments head_of) in
+      let front = reread.begins n s.0 j s.1 (ap is_read_again s.2 ∙ again) handle in
+      subst (λ (q : ℕ). IsCall users' q (target_at (bytes_at middle j.slot) k)) (omega (arith, its_place.1, here))
+      (own_call file segments taken short users' id kept made (sym heads) (setting id old.slots kept.handles) n k s.0 (bytes_at middle j.slot) s.1 (ap is_table s.2 ∙ table) front
+      (omega (arith, inside, ap (λ (x : Head). entry_count x.length) s.2)))
+
+  -- and any other
+  plain_call : (p n k : ℕ) (g : Head) (j : Handle) → Has users' p n g j → is_table g ≡ true → IsSome (there_at (presence old.slots (Some j))) → k < entry_count g.length
+      → (p ≡ id - first_id → is_read_again g ≡ false) → IsCall users' (first_id + p) (target_at (bytes_at middle j.slot) k)
+  plain_call p n k g j has table there inside plain =
+      let stays = reread.stay j.slot (λ m f i found again fhandle same.
+      let other : Has users' (id - first_id) m f i = record { kept = kept; made = its_place.0; head' = found; handle = fhandle } in
+      let both = sound.once (id - first_id) p m n f g i j other has same in
+      let user : has.kept ≡ kept = one_kept has.kept kept (sym has.made ∙ ap (slice_get users') (sym both.0) ∙ its_place.0) in
+      let heads' : Some g ≡ Some f = sym has.head' ∙ ap (λ (x : Kept). at_number x.heads n) user ∙ ap (at_number kept.heads) (sym both.1) ∙ found in
+      let clash : true ≡ false = sym again ∙ ap is_read_again (sym (same_Some g f heads')) ∙ plain (sym both.0) in absurd cc) in
+      subst (λ (bs : List ℕ). IsCall users' (first_id + p) (target_at bs k)) (sym stays) (sound.calls p n k g j has table there inside)
+
+  pub reread_calls : (p n k : ℕ) (g : Head) (j : Handle) → Has users' p n g j → is_table g ≡ true → IsSome (there_at (presence old.slots (Some j))) → k < entry_count g.length
+      → IsCall users' (first_id + p) (target_at (bytes_at middle j.slot) k)
+  reread_calls p n k g j has table there inside = elim (cases_eq p (id - first_id)) [
+    | inl here ↦ elim (decide (is_read_again g)) [
+      | inl again ↦ again_call p n k g j has table inside here again
+      | inr plain ↦ plain_call p n k g j has table there inside (λ e. plain)
+    ]
+    | inr other ↦ plain_call p n k g j has table there inside (λ e. absurd (other e))
+  ]
 
 -- ---- the segments that are read again
 
@@ -189,14 +242,14 @@ module _ (old : Loaded) (id : ℕ) (user : User) (sound : IsSound old.memory old
       by_place (Idle h a) e = refl
       by_place (Active h a) e = absurd cc
 
-  no_target : user.life ≡ Dormant → (file n : ℕ) → target_in old.memory.slots (handles_of items) file n ≡ None
+  no_target : user.life ≡ Dormant → (file n : ℕ) → target_with nowhere old.memory.slots (handles_of items) file n ≡ None
   no_target rests file n = go (file == 1) (none_active rests n)
     where
       go : (b : Bool) → active_at (presence_at old.memory.slots (handles_of items) n) ≡ None → cond b (active_at (presence_at old.memory.slots (handles_of items) n)) None ≡ None
       go true e = e
       go false e = refl
 
-  no_targets : user.life ≡ Dormant → (ts : List Target) → AllByRecursion (λ (t : Target). target_in old.memory.slots (handles_of items) t.file t.segment ≡ None) ts
+  no_targets : user.life ≡ Dormant → (ts : List Target) → AllByRecursion (λ (t : Target). target_with nowhere old.memory.slots (handles_of items) t.file t.segment ≡ None) ts
   no_targets rests [] = tt
   no_targets rests (t ∷ ts) = (no_target rests t.file t.segment, no_targets rests ts)
 

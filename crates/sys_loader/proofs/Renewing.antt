@@ -16,7 +16,7 @@ use Rattle.loader_machine.specs.declared.seen.Presence.TheVariants.{Idle, Active
 use Rattle.loader_machine.specs.Heads.{at_number, is_table}
 use Rattle.loader_machine.specs.Presences.{presence, lies_in, lies_at, there_at, handle_at}
 use Rattle.sys_loader.specs.Lives.{with_bytes}
-use Rattle.sys_loader.specs.Renewing.{renewed, IsRenewed, AreRoomy, AreRenewed}
+use Rattle.sys_loader.specs.Renewing.{Choice, renewed, IsRenewed, AreRoomy, AreRenewed}
 
 -- ---- one table
 
@@ -58,7 +58,7 @@ pub its_room : (memory : Memory) (o : Option Handle) (size : ℕ) (h : Handle) �
 its_room memory o size h there is room = room h is (subst (λ (x : Option Handle). IsSome (there_at (presence memory.slots x))) is there)
 
 -- its block is written
-pub renewed_here : (only address : Option ℕ) (o : Option Handle) (size : ℕ) (old new : Memory) (h : Handle) → o ≡ Some h → size ≤ length (bytes_at old h.slot)
+pub renewed_here : (only : Choice) (address : Option ℕ) (o : Option Handle) (size : ℕ) (old new : Memory) (h : Handle) → o ≡ Some h → size ≤ length (bytes_at old h.slot)
     → length (renewed only address (entry_count size) (bytes_at old h.slot)) ≡ length (bytes_at old h.slot)
     → new ≡ with_bytes old h.slot (renewed only address (entry_count size) (bytes_at old h.slot)) → IsRenewed only address o size old new
 renewed_here only address o size old new h is room same new_is = record {
@@ -96,7 +96,7 @@ renewed_here only address o size old new h is room same new_is = record {
 
 -- ---- one more
 
-module _ (heads : List Head) (handles : List (Option Handle)) (only address : Option ℕ) (old now : Memory) (k : ℕ) (head : Head) (so_far : AreRenewed heads handles only address old now k)
+module _ (heads : List Head) (handles : List (Option Handle)) (only : Choice) (address : Option ℕ) (old now : Memory) (k : ℕ) (head : Head) (so_far : AreRenewed heads handles only address old now k)
     (has : at_number heads (k + 1) ≡ Some head) where
   pub tables_skip : is_table head ≡ false → AreRenewed heads handles only address old now (k + 1)
   tables_skip plain = record {

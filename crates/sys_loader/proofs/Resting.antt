@@ -21,22 +21,26 @@ use Rattle.loader_machine.specs.declared.seen.Presence.TheVariants.{Absent, Purg
 use Rattle.loader_machine.specs.Heads.{head_of, at_number, is_static, is_table}
 use Rattle.loader_machine.specs.State.{Seen, User, Machine, first_id, user_of, with_user}
 use Rattle.loader_machine.specs.Presences.{handle_at, presence, presence_at, there_at, active_at, is_active, lies_in, lies_at}
-use Rattle.loader_machine.specs.Stands.{setting}
+use Rattle.loader_machine.specs.Stands.{setting_with}
 use Rattle.loader_machine.specs.Refusals.{of_user, of_running, shut_down_refusal}
 use Rattle.loader_machine.specs.Commands.{Okay, ShutDown}
 use Rattle.loader_machine.specs.Steps.{let_go, changed_all, kept_state}
-use Rattle.loader_agrees.specs.Agrees.{Kept, Loaded, Outline, outline, outline_of, seen_by, UserAgrees, Agrees, IsOf, Has, IsSound, Met}
+use Rattle.loader_agrees.specs.Agrees.{Kept, Loaded, Outline, outline, outline_of, seen_by, far_in, UserAgrees, AreBare, Agrees, IsCall, IsOf, Has, IsSound, Met}
 use Rattle.loader_agrees.specs.laws.Begun.{decide}
 use Rattle.loader_agrees.specs.laws.Checks.{PassesRunning, StopsRunning}
-use Rattle.loader_agrees.specs.laws.Frame.{Same, agrees_still}
+use Rattle.loader_agrees.specs.laws.Frame.{Same}
 use Rattle.loader_agrees.specs.laws.Lists.{set_map, set_at, set_apart, length_set}
 use Rattle.loader_agrees.specs.laws.Reads.{head_at}
 use Rattle.loader_agrees.specs.laws.Seeing.{made_at, IsKept, kept_is, does, has_any}
 use Rattle.loader_agrees.specs.laws.Stay.{is_there}
+use Rattle.loader_agrees.specs.laws.Bare.{bare_far, bare_attached, bare_still, bare_set, bare_entries, bare_call}
+use Rattle.loader_agrees.specs.laws.BegunRows.{user_there}
 use Rattle.sys_loader.specs.Renewing.{AreRenewed}
 use Rattle.sys_loader.specs.Lives.{AreIdled, HasKept}
-use Rattle.sys_loader.proofs.Shifting.{there_block}
-use Rattle.sys_loader.proofs.Turned.{Becomes, Stays, Turns, Turned, turned_agrees}
+use Rattle.load_meaning.specs.declared.table.Target.{Target}
+use Rattle.sys_loader.proofs.Lead.{target_stays}
+use Rattle.sys_loader.proofs.Shifting.{there_block, room_there}
+use Rattle.sys_loader.proofs.Turned.{Becomes, Stays, Turns, Turned, own_leads, turned_agrees}
 use Rattle.sys_loader.proofs.ChangedAll.{all_here, all_apart, all_in, let_go_again, let_go_at, let_go_user, let_go_want, let_go_form, let_go_active_at}
 
 -- ---- the refusal
@@ -255,6 +259,67 @@ module _ (old new : Loaded) (id : ℕ) (sound : IsSound old.memory old.users) (d
           let one' = has_any old sound p k made' n h e in
           ap (λ (o : Option Handle). is_active (presence new.memory.slots o)) e ∙ ap (λ (o : Option Block). is_active (lies_in h o)) (other_get p n one'.0 h one'.1 ne) ∙ still
 
+  pub bare_now : AreBare new.users
+  bare_now = subst AreBare (sym did.users) (bare_set old.users sound.bare id rests (sound.bare place kept its_users.0))
+
+  at_most : (heads : List Head) (n : ℕ) (g : Head) → at_number heads n ≡ Some g → n ≤ length heads
+  at_most heads zero g e = omega arith
+  at_most heads (suc m) g e = let inside = slice_get_within heads m g e in omega (arith, inside)
+
+  heads_stay : (p : ℕ) (now was : Kept) → slice_get new.users p ≡ Some (Some now) → slice_get old.users p ≡ Some (Some was) → now.heads ≡ was.heads
+  heads_stay p now was made before = elim (users_now p now made) [
+    | inl it ↦ ap (λ (x : Kept). x.heads) it.1 ∙ ap (λ (x : Kept). x.heads) (kept_one kept was (sym its_users.0 ∙ ap (slice_get old.users) (sym it.0) ∙ before))
+    | inr other ↦ ap (λ (x : Kept). x.heads) (kept_one now was (sym other.1 ∙ before))
+  ]
+    where
+      kept_one : (a b : Kept) → Some (Some a) ≡ Some (Some b) → a ≡ b
+      kept_one a b e = cc
+
+  lies_alike : (h : Handle) (at : Option ℕ) (one other : Bool) → there_at (lies_at h at one) ≡ there_at (lies_at h at other)
+  lies_alike h None one other = refl
+  lies_alike h (Some a) true true = refl
+  lies_alike h (Some a) true false = refl
+  lies_alike h (Some a) false true = refl
+  lies_alike h (Some a) false false = refl
+
+  -- where each segment is stays
+  place_same : (p n : ℕ) (g : Head) (j : Handle) → Has old.users p n g j → there_at (presence new.memory.slots (Some j)) ≡ there_at (presence old.memory.slots (Some j))
+  place_same p n g j has = elim (cases_eq p place) [
+    | inl eq ↦
+        (let of' = sound.each p n g j has in
+        let found : handle_at kept.handles n ≡ Some j = ap (λ (k : Kept). handle_at k.handles n) (sym (kept_one has.kept kept (sym has.made ∙ ap (slice_get old.users) eq ∙ its_users.0))) ∙ has.handle in
+        ap (λ (o : Option Block). there_at (lies_in j o)) (own_get n j of'.block found of'.live)
+        ∙ ap (λ (at : Option ℕ). there_at (lies_at j at (let_go of'.block).locked)) (let_go_at of'.block)
+        ∙ lies_alike j of'.block.at (let_go of'.block).locked of'.block.locked
+        ∙ sym (ap (λ (o : Option Block). there_at (lies_in j o)) of'.live))
+    | inr ne ↦ ap (λ (o : Option Block). there_at (lies_in j o)) (other_get p n g j has ne)
+  ]
+    where
+      kept_one : (a b : Kept) → Some (Some a) ≡ Some (Some b) → a ≡ b
+      kept_one a b e = cc
+
+  calls_now : (p n k : ℕ) (g : Head) (j : Handle) → Has new.users p n g j → is_table g ≡ true → IsSome (there_at (presence new.memory.slots (Some j))) → k < load.entry_count g.length
+      → IsCall new.users (first_id + p) (load.target_at (bytes_at new.memory j.slot) k)
+  calls_now p n k g j has' table there inside =
+      let has = has_before p n g j has' in
+      let was : IsSome (there_at (presence old.memory.slots (Some j))) = subst (λ (o : Option ℕ). IsSome o) (place_same p n g j has) there in
+      let call = bare_call old.users new.users sound.bare (first_id + p) has.kept has'.kept (user_there old.users p has.kept has.made) (user_there new.users p has'.kept has'.made)
+      (heads_stay p has'.kept has.kept has'.made has.made) (load.target_at (bytes_at old.memory j.slot) k) (sound.calls p n k g j has table was inside) in
+      elim (cases_eq p place) [
+        | inl eq ↦
+            let user = kept_one has.kept kept (sym has.made ∙ ap (slice_get old.users) eq ∙ its_users.0) in
+            let ghead : at_number kept.heads n ≡ Some g = ap (λ (x : Kept). at_number x.heads n) (sym user) ∙ has.head' in
+            let ghandle : handle_at kept.handles n ≡ Some j = ap (λ (x : Kept). handle_at x.handles n) (sym user) ∙ has.handle in
+            let follows = did.renewed.follow n g j (at_most kept.heads n g ghead) ghead ghandle table was in
+            let room = room_there old sound p n g j has was in
+            subst (λ (t : Target). IsCall new.users (first_id + p) t)
+            (sym (ap (λ (bs : List ℕ). load.target_at bs k) (bytes_middle j there ∙ follows) ∙ target_stays None None k (load.entry_count g.length) (bytes_at old.memory j.slot) (omega (arith, inside, room)))) call
+        | inr ne ↦ subst (λ (bs : List ℕ). IsCall new.users (first_id + p) (load.target_at bs k)) (sym (bytes_middle j there ∙ plain_bytes p n g j has (λ e. absurd (ne e)))) call
+      ]
+    where
+      kept_one : (a b : Kept) → Some (Some a) ≡ Some (Some b) → a ≡ b
+      kept_one a b e = cc
+
   pub kept_sound : IsSound new.memory new.users
   kept_sound = record {
     few = omega (arith, sound.few, ap (λ (us : List (Option Kept)). length us) did.users, length_set old.users place (Some rests));
@@ -265,6 +330,9 @@ module _ (old new : Loaded) (id : ℕ) (sound : IsSound old.memory old.users) (d
     each = λ p n head h has. each_before p n head h (has_before p n head h has);
     once = λ p q n m head second h k one two same. sound.once p q n m head second h k (has_before p n head h one) (has_before q m second k two) same;
     only = only_now;
+    bare = bare_now;
+    attached = bare_attached new.users bare_now;
+    calls = calls_now;
   }
 
   -- ---- agreement
@@ -278,13 +346,6 @@ module _ (old new : Loaded) (id : ℕ) (sound : IsSound old.memory old.users) (d
       ∙ ap (λ (at : Option ℕ). there_at (lies_at h at (let_go of'.block).locked)) (let_go_at of'.block)
       ∙ lies_alike h of'.block.at (let_go of'.block).locked of'.block.locked
       ∙ sym (ap (λ (o : Option Block). there_at (lies_in h o)) of'.live)
-    where
-      lies_alike : (h : Handle) (at : Option ℕ) (one other : Bool) → there_at (lies_at h at one) ≡ there_at (lies_at h at other)
-      lies_alike h None one other = refl
-      lies_alike h (Some a) true true = refl
-      lies_alike h (Some a) true false = refl
-      lies_alike h (Some a) false true = refl
-      lies_alike h (Some a) false false = refl
 
   there_now : (n : ℕ) → there_at (presence_at new.memory.slots kept.handles n) ≡ there_at (presence_at old.memory.slots kept.handles n)
   there_now n = there_same n (handle_at kept.handles n) refl
@@ -309,12 +370,8 @@ module _ (old new : Loaded) (id : ℕ) (sound : IsSound old.memory old.users) (d
     heads_at : (n : ℕ) (s : Segment) → segment_at is.does_agree.segments n ≡ Some s → at_number kept.heads n ≡ Some (head_of s)
     heads_at n s found = ap (λ (hs : List Head). at_number hs n) is.does_agree.heads ∙ head_at is.does_agree.segments n s found
 
-    at_most : (heads : List Head) (n : ℕ) (g : Head) → at_number heads n ≡ Some g → n ≤ length heads
-    at_most heads zero g e = omega arith
-    at_most heads (suc m) g e = let inside = slice_get_within heads m g e in omega (arith, inside)
-
     becomes : (n : ℕ) (s : Segment) (k : Handle) → segment_at is.does_agree.segments n ≡ Some s → handle_at kept.handles n ≡ Some k → IsSome (there_at (presence_at new.memory.slots kept.handles n))
-        → Becomes (setting id old.memory.slots kept.handles) (setting id new.memory.slots kept.handles) None None old.memory new.memory kept is.user user' n s k
+        → Becomes (setting_with (far_in old id) id old.memory.slots kept.handles) (setting_with (far_in new id) id new.memory.slots kept.handles) None None old.memory new.memory kept is.user user' n s k
     becomes n s k found has present =
         let present' : IsSome (there_at (presence new.memory.slots (Some k))) = subst (λ (o : Option Handle). IsSome (there_at (presence new.memory.slots o))) has present in
         let before : IsSome (there_at (presence_at old.memory.slots kept.handles n)) = rw (← there_now n) present in
@@ -326,7 +383,7 @@ module _ (old new : Loaded) (id : ℕ) (sound : IsSound old.memory old.users) (d
               ∙ plain_bytes place n (head_of s) k (record { kept = kept; made = its_users.0; head' = heads_at n s found; handle = has }) (λ e. plain))
         ]
 
-    turned : Turned old.memory new.memory id None None kept rests is.user user' is.does_agree.segments
+    turned : Turned old.memory new.memory (far_in old id) (far_in new id) id None None kept rests is.user user' is.does_agree.segments
     turned = record {
       same = ap (λ (o : Outline). let new : Outline = record o { life = Dormant } in new) is.does_agree.same;
       path = refl;
@@ -337,19 +394,22 @@ module _ (old new : Loaded) (id : ℕ) (sound : IsSound old.memory old.users) (d
       were = λ there n s found static. rw (← there_now n) (there n s found static);
       places = λ there n s found static. ap (λ (o : Option ℕ). unwrap_or o 0) (there_now n);
       chosen = λ n s found dynamic' kept' c. none_active n (handle_at kept.handles n) refl;
+      far_chosen = λ f n above c. bare_far new.users bare_now new.memory.slots id f n;
+      far_others = λ f n above c. absurd cc;
       fits = λ n s found c some. absurd cc;
       others = λ n s found dynamic' kept' c. absurd cc;
       each = λ there n s k found has present. becomes n s k found has present;
     }
 
-    user_agrees : UserAgrees held new.memory id rests user'
-    user_agrees = turned_agrees held old.memory new.memory id None None kept rests is.user user' is.does_agree (sound.short place kept its_users.0) turned
+    user_agrees : UserAgrees held new.memory (far_in new id) id rests user'
+    user_agrees = turned_agrees held old.memory new.memory (far_in old id) (far_in new id) id None None kept rests is.user user' is.does_agree
+        (λ n s found table. own_leads held kept.path is.does_agree.segments is.does_agree.holds n s found table) (sound.short place kept its_users.0) turned
 
     abbrev next : Machine
     next = kept_state state id is.user
 
-    others_agree : (p : ℕ) (k : Kept) (u : User) → slice_get old.users p ≡ Some (Some k) → p ≢ place → UserAgrees held old.memory (first_id + p) k u → UserAgrees held new.memory (first_id + p) k u
-    others_agree p k u made ne was = agrees_still held old.memory new.memory (first_id + p) k u was (λ n j found.
+    others_agree : (p : ℕ) (k : Kept) (u : User) → slice_get old.users p ≡ Some (Some k) → p ≢ place → UserAgrees held old.memory (far_in old (first_id + p)) (first_id + p) k u → UserAgrees held new.memory (far_in new (first_id + p)) (first_id + p) k u
+    others_agree p k u made ne was = bare_still held old new sound.bare bare_now (first_id + p) k u was (λ n j found.
         let one = has_any old sound p k made n j found in
         Same (other_get p n one.0 j one.1 ne) (λ there. bytes_middle j there ∙ plain_bytes p n one.0 j one.1 (λ e. absurd (ne e))))
 
@@ -362,13 +422,15 @@ module _ (old new : Loaded) (id : ℕ) (sound : IsSound old.memory old.users) (d
       slots = slots_are ∙ ap (λ (t : Slots). changed_all let_go t kept.handles) agrees.slots ∙ ap (λ (o : Outline). changed_all let_go state.slots o.handles) is.does_agree.same;
       users = ap (map (option_map outline)) did.users ∙ set_map (option_map outline) old.users place (Some rests) ∙ ap (λ us. slice_set us place (Some (outline rests))) agrees.users
           ∙ ap (λ (o : Outline). slice_set (map (option_map outline_of) state.users) place (Some o)) turned.same ∙ sym (set_map (option_map outline_of) state.users place (Some user'));
+      attached = bare_attached new.users bare_now;
+      entries = bare_entries held new.users;
       each = λ p k u made made'. elim (users_now p k made) [
         | inl it ↦
             let inside = slice_get_within state.users place (Some is.user) state_users in
             let user_same : u ≡ user' = user_one u user' (sym made' ∙ ap (slice_get (slice_set state.users place (Some user'))) it.0 ∙ set_at state.users place (Some user') inside) in
             let id_is : id ≡ first_id + p = omega (arith, its_users.1, it.0) in
-            subst (λ (n : ℕ). UserAgrees held new.memory n k u) id_is
-            (subst (λ (x : User). UserAgrees held new.memory id k x) (sym user_same) (subst (λ (x : Kept). UserAgrees held new.memory id x user') (sym it.1) user_agrees))
+            subst (λ (n : ℕ). UserAgrees held new.memory (far_in new n) n k u) id_is
+            (subst (λ (x : User). UserAgrees held new.memory (far_in new id) id k x) (sym user_same) (subst (λ (x : Kept). UserAgrees held new.memory (far_in new id) id x user') (sym it.1) user_agrees))
         | inr other ↦ others_agree p k u other.1 other.0 (agrees.each p k u other.1 (sym (set_apart state.users place p (Some user') other.0) ∙ made'))
       ];
     }

@@ -1,5 +1,5 @@
 -- A user that is restarted in place.
-use Rattle.std.proofs.Common.{◌≡◌, ◌≢◌, ◌⊎◌, inl, inr, ℕ, zero, suc, Bool, true, false, cond, ◌+◌, ◌-◌, ◌^◌, ◌<◌, List, [], ◌∷◌, length, map, Option, Some, None, IsSome, refl, sym, ap, subst, ◌∙◌, arith}
+use Rattle.std.proofs.Common.{◌≡◌, ◌≢◌, ◌⊎◌, inl, inr, ℕ, zero, suc, Bool, true, false, cond, ◌==◌, ◌+◌, ◌-◌, ◌^◌, ◌<◌, ◌≤◌, List, [], ◌∷◌, length, map, Option, Some, None, IsSome, refl, sym, ap, subst, ◌∙◌, arith}
 use Rattle.std.specs.Prelude.{slice_get, slice_set, option_map, unwrap_or, Contains}
 use Rattle.std.specs.Option.{option_map_or}
 use Rattle.std.proofs.lemmas.Bool.{cases_eq, and_parts}
@@ -17,21 +17,23 @@ use Rattle.iigs_meaning.specs.Fits.{Slots, block_in}
 use Rattle.iigs_meaning.specs.Memory.{Memory, bytes_at}
 use Rattle.loader_machine.specs.declared.seen.Head.{Head}
 use Rattle.loader_machine.specs.declared.seen.Life.TheVariants.{Running, Dormant}
-use Rattle.loader_machine.specs.Heads.{head_of, at_number, is_static}
+use Rattle.loader_machine.specs.Heads.{head_of, at_number, is_static, is_table}
 use Rattle.loader_machine.specs.State.{Held, User, Machine, fresh, absent, no_pokes, first_id, user_of, handles_of, held_at}
 use Rattle.loader_machine.specs.declared.seen.Presence.{Presence}
 use Rattle.loader_machine.specs.declared.seen.Presence.TheVariants.{Absent, Purged, Idle, Active}
 use Rattle.loader_machine.specs.Presences.{handle_at, presence, presence_at, there_at, active_at, is_active, is_there, lies_in, lies_at}
-use Rattle.loader_machine.specs.Stands.{Setting, setting, stands}
+use Rattle.loader_machine.specs.Stands.{Setting, setting_with, stands}
 use Rattle.loader_machine.specs.laws.StandsLaws.{AreAlike, stands_alike}
 use Rattle.loader_machine.specs.Steps.{active_block, changed_all, are_there, static_handles, is_read_again, read_again, with_both}
-use Rattle.loader_agrees.specs.Agrees.{Kept, Loaded, Outline, outline, outline_of, IsSegments, AreThere, UserAgrees, Agrees, IsOf, Has, IsSound}
+use Rattle.loader_agrees.specs.Agrees.{Kept, Loaded, Outline, outline, outline_of, IsSegments, AreThere, far_in, UserAgrees, AreBare, Agrees, IsCall, IsOf, Has, IsSound}
 use Rattle.loader_agrees.specs.laws.Begun.{decide}
-use Rattle.loader_agrees.specs.laws.Frame.{Same, agrees_still}
+use Rattle.loader_agrees.specs.laws.Frame.{Same}
 use Rattle.loader_agrees.specs.laws.Lists.{set_map, set_at, set_apart, length_set}
 use Rattle.loader_agrees.specs.laws.Reads.{head_at}
 use Rattle.loader_agrees.specs.laws.Seeing.{made_at, IsKept, kept_is, has_any}
 use Rattle.loader_agrees.specs.laws.Stay as stay
+use Rattle.loader_agrees.specs.laws.Bare.{bare_attached, bare_both, bare_still, bare_set, bare_stands, bare_entries, bare_call}
+use Rattle.loader_agrees.specs.laws.BegunRows.{user_there}
 use Rattle.sys_loader.specs.declared.answers.Started.{Started}
 use Rattle.sys_loader.specs.Restarting.{AreReread, HasResumed}
 use Rattle.sys_loader.proofs.Shifting.{there_block}
@@ -348,8 +350,46 @@ module _ (old new : Loaded) (id : ℕ) (kept : Kept) (started : Started) (sound 
       let it = sound.only slot was.0 was.1 (λ e. user (sym was.2 ∙ e)) in
       (it.0, it.1, it.2, it.3, has_now it.0 it.1 it.2 it.3 it.4, it.5)
 
-  pub resumed_sound : IsSound new.memory new.users
-  resumed_sound = record {
+  pub bare_now : AreBare new.users
+  bare_now = subst AreBare (sym did.users') (bare_set old.users sound.bare id runs (sound.bare place kept its_users.0))
+
+  heads_stay : (p : ℕ) (now was : Kept) → slice_get new.users p ≡ Some (Some now) → slice_get old.users p ≡ Some (Some was) → now.heads ≡ was.heads
+  heads_stay p now was made' before = elim (users_now p now made') [
+    | inl it ↦ ap (λ (x : Kept). x.heads) it.1 ∙ ap (λ (x : Kept). x.heads) (kept_one kept was (sym its_users.0 ∙ ap (slice_get old.users) (sym it.0) ∙ before))
+    | inr other ↦ ap (λ (x : Kept). x.heads) (kept_one now was (sym other.1 ∙ before))
+  ]
+
+  -- where each segment is stays
+  place_same : (p n : ℕ) (g : Head) (j : Handle) → Has old.users p n g j → there_at (presence new.memory.slots (Some j)) ≡ there_at (presence old.memory.slots (Some j))
+  place_same p n g j has =
+      let of' = sound.each p n g j has in
+      let it = after_get p n g j of'.block has of'.live in
+      ap (λ (o : Option Block). there_at (lies_in j o)) it.live ∙ ap (λ (at : Option ℕ). there_at (lies_at j at it.after.locked)) it.at
+      ∙ lies_alike j of'.block.at it.after.locked of'.block.locked ∙ sym (ap (λ (o : Option Block). there_at (lies_in j o)) of'.live)
+    where
+      lies_alike : (h : Handle) (at : Option ℕ) (one other : Bool) → there_at (lies_at h at one) ≡ there_at (lies_at h at other)
+      lies_alike h None one other = refl
+      lies_alike h (Some a) true true = refl
+      lies_alike h (Some a) true false = refl
+      lies_alike h (Some a) false true = refl
+      lies_alike h (Some a) false false = refl
+
+  -- where each entry leads to a segment before the call
+  abbrev AreCalls : Type 0
+  AreCalls = (p n k : ℕ) (g : Head) (j : Handle) → Has old.users p n g j → is_table g ≡ true → IsSome (there_at (presence old.memory.slots (Some j))) → k < load.entry_count g.length
+      → IsCall old.users (first_id + p) (load.target_at (bytes_at middle j.slot) k)
+
+  calls_now : AreCalls → (p n k : ℕ) (g : Head) (j : Handle) → Has new.users p n g j → is_table g ≡ true → IsSome (there_at (presence new.memory.slots (Some j))) → k < load.entry_count g.length
+      → IsCall new.users (first_id + p) (load.target_at (bytes_at new.memory j.slot) k)
+  calls_now calls p n k g j has' table there inside =
+      let has = has_before p n g j has' in
+      let was : IsSome (there_at (presence old.memory.slots (Some j))) = subst (λ (o : Option ℕ). IsSome o) (place_same p n g j has) there in
+      subst (λ (bs : List ℕ). IsCall new.users (first_id + p) (load.target_at bs k)) (sym (bytes_middle j there))
+      (bare_call old.users new.users sound.bare (first_id + p) has.kept has'.kept (user_there old.users p has.kept has.made) (user_there new.users p has'.kept has'.made)
+      (heads_stay p has'.kept has.kept has'.made has.made) (load.target_at (bytes_at middle j.slot) k) (calls p n k g j has table was inside))
+
+  pub resumed_sound : AreCalls → IsSound new.memory new.users
+  resumed_sound calls = record {
     few = omega (arith, sound.few, ap (λ (us : List (Option Kept)). length us) did.users', length_set old.users place (Some runs));
     lengths = λ p k made'. (lengths_now p k made').0;
     short = λ p k made'. (lengths_now p k made').1;
@@ -358,6 +398,9 @@ module _ (old new : Loaded) (id : ℕ) (kept : Kept) (started : Started) (sound 
     each = λ p n head h has. each_before p n head h (has_before p n head h has);
     once = λ p q n m head second h k one two same. sound.once p q n m head second h k (has_before p n head h one) (has_before q m second k two) same;
     only = only_now;
+    bare = bare_now;
+    attached = bare_attached new.users bare_now;
+    calls = calls_now calls;
   }
 
   -- ---- agreement
@@ -416,13 +459,16 @@ module _ (old new : Loaded) (id : ℕ) (kept : Kept) (started : Started) (sound 
     heads_at n s found = ap (λ (hs : List Head). at_number hs n) is.does_agree.heads ∙ head_at is.does_agree.segments n s found
 
     abbrev a : Setting
-    a = setting id old.memory.slots kept.handles
+    a = setting_with (far_in old id) id old.memory.slots kept.handles
 
     abbrev b : Setting
-    b = setting id new.memory.slots kept.handles
+    b = setting_with (far_in new id) id new.memory.slots kept.handles
 
     not_static : (s : Segment) → is_dynamic s.fields.kind ≡ true → is_static (head_of s) ≡ false
     not_static s dynamic = rw dynamic refl
+
+    far_same : (file m : ℕ) → 2 ≤ file → a.target file m ≡ b.target file m
+    far_same file m above = let other : (file == 1) ≡ false = grind arith in rw other (sym (bare_both old new sound.bare bare_now id file m))
 
     alike : (n : ℕ) (s : Segment) → AreAlike is.does_agree.segments n s a b
     alike n s = record {
@@ -430,10 +476,11 @@ module _ (old new : Loaded) (id : ℕ) (kept : Kept) (started : Started) (sound 
       own = ap (λ (o : Option ℕ). unwrap_or o 0) (sym (there_now n));
       static = λ m t found static. ap (λ (o : Option ℕ). unwrap_or o 0) (sym (there_now m));
       target = λ table m t found dynamic kept'. ap active_at (sym (dynamic_now m (head_of t) (heads_at m t found) (not_static t dynamic)));
+      far = λ table file m above. far_same file m above;
     }
 
     alike_stands : (n : ℕ) (s : Segment) (pokes : Rattle.loader_machine.specs.State.Pokes) → segment_at is.does_agree.segments n ≡ Some s → stands a pokes s ≡ stands b pokes s
-    alike_stands n s pokes found = stands_alike is.does_agree.segments is.does_agree.holds.taken.alone n s (loadable_has is.does_agree.holds.file is.does_agree.segments is.does_agree.holds.taken.loadable n s found) a b (alike n s) pokes
+    alike_stands n s pokes found = stands_alike is.does_agree.segments n s (loadable_has is.does_agree.holds.file is.does_agree.segments is.does_agree.holds.taken.loadable n s found) a b (alike n s) pokes
 
     pokes_now : (n : ℕ) (s : Segment) → segment_at is.does_agree.segments n ≡ Some s → held_at user' n ≡ cond (is_read_again (head_of s)) (fresh (held_at user n).handle) (held_at user n)
     pokes_now zero s found = absurd cc
@@ -447,7 +494,9 @@ module _ (old new : Loaded) (id : ℕ) (kept : Kept) (started : Started) (sound 
           | inl again ↦
               let front = reread.begins n s h (subst (λ (ss : List Segment). segment_at ss n ≡ Some s) same_segments found) again has in
               let pokes : (held_at user' n).pokes ≡ no_pokes = ap (λ (x : Held). x.pokes) (pokes_now n s found) ∙ ap (λ (t : Bool). (cond t (fresh (held_at user n).handle) (held_at user n)).pokes) again in
-              rw (pokes, ← alike_stands n s no_pokes found, bytes_middle h present') front
+              let front' = subst (λ (bs : List ℕ). IsFront bs (bytes_at middle h.slot)) (bare_stands old.users sound.bare old.memory.slots id kept.handles is.does_agree.segments n s
+              (loadable_has is.does_agree.holds.file is.does_agree.segments is.does_agree.holds.taken.loadable n s found) no_pokes) front in
+              rw (pokes, ← alike_stands n s no_pokes found, bytes_middle h present') front'
           | inr plain ↦
               let before : IsSome (there_at (presence_at old.memory.slots kept.handles n)) = rw (← there_now n) present in
               let front = is.does_agree.begins there n s h found has before in
@@ -466,9 +515,9 @@ module _ (old new : Loaded) (id : ℕ) (kept : Kept) (started : Started) (sound 
     outlines =
         let new_life : Outline → Outline = λ o. record o { life = Running } in
         ap new_life is.does_agree.same
-        ∙ ap (λ (hs : List (Option Handle)). let o : Outline = record { path = is.user.path; life = Running; handles = hs } in o) (sym (again_handles (map head_of is.does_agree.segments) is.user.segments count))
+        ∙ ap (λ (hs : List (Option Handle)). let o : Outline = record { path = is.user.path; life = Running; handles = hs; attached = is.user.attached } in o) (sym (again_handles (map head_of is.does_agree.segments) is.user.segments count))
 
-    user_agrees : UserAgrees held new.memory id runs user'
+    user_agrees : UserAgrees held new.memory (far_in new id) id runs user'
     user_agrees = record {
       same = outlines;
       segments = is.does_agree.segments;
@@ -480,8 +529,8 @@ module _ (old new : Loaded) (id : ℕ) (kept : Kept) (started : Started) (sound 
       begins = λ there n s h found has present. begins (λ m t found' static. was_there m (head_of t) (heads_at m t found') static) n s h found has present;
     }
 
-    others_agree : (p : ℕ) (k : Kept) (u : User) → slice_get old.users p ≡ Some (Some k) → p ≢ place → UserAgrees held old.memory (first_id + p) k u → UserAgrees held new.memory (first_id + p) k u
-    others_agree p k u made' ne was = agrees_still held old.memory new.memory (first_id + p) k u was (λ n j found.
+    others_agree : (p : ℕ) (k : Kept) (u : User) → slice_get old.users p ≡ Some (Some k) → p ≢ place → UserAgrees held old.memory (far_in old (first_id + p)) (first_id + p) k u → UserAgrees held new.memory (far_in new (first_id + p)) (first_id + p) k u
+    others_agree p k u made' ne was = bare_still held old new sound.bare bare_now (first_id + p) k u was (λ n j found.
         let one = has_any old sound p k made' n j found in
         Same (apart_get p n one.0 j one.1 (λ e. absurd (ne e))) (λ there. bytes_middle j there ∙ plain_bytes p n one.0 j one.1 (λ e. absurd (ne e))))
 
@@ -503,13 +552,15 @@ module _ (old new : Loaded) (id : ℕ) (kept : Kept) (started : Started) (sound 
       slots = next_slots;
       users = ap (map (option_map outline)) did.users' ∙ set_map (option_map outline) old.users place (Some runs) ∙ ap (λ us. slice_set us place (Some (outline runs))) agrees.users
           ∙ ap (λ (o : Outline). slice_set (map (option_map outline_of) state.users) place (Some o)) outlines ∙ sym (set_map (option_map outline_of) state.users place (Some user'));
+      attached = bare_attached new.users bare_now;
+      entries = bare_entries held new.users;
       each = λ p k u made' made''. elim (users_now p k made') [
         | inl it ↦
             let inside = slice_get_within state.users place (Some is.user) state_users in
             let user_same : u ≡ user' = user_one u user' (sym made'' ∙ ap (slice_get (slice_set state.users place (Some user'))) it.0 ∙ set_at state.users place (Some user') inside) in
             let id_is : id ≡ first_id + p = omega (arith, its_users.1, it.0) in
-            subst (λ (n : ℕ). UserAgrees held new.memory n k u) id_is
-            (subst (λ (x : User). UserAgrees held new.memory id k x) (sym user_same) (subst (λ (x : Kept). UserAgrees held new.memory id x user') (sym it.1) user_agrees))
+            subst (λ (n : ℕ). UserAgrees held new.memory (far_in new n) n k u) id_is
+            (subst (λ (x : User). UserAgrees held new.memory (far_in new id) id k x) (sym user_same) (subst (λ (x : Kept). UserAgrees held new.memory (far_in new id) id x user') (sym it.1) user_agrees))
         | inr other ↦ others_agree p k u other.1 other.0 (agrees.each p k u other.1 (sym (set_apart state.users place p (Some user') other.0) ∙ made''))
       ];
     }

@@ -27,7 +27,7 @@ use Rattle.loader_machine.specs.Heads.{head_of, is_static}
 use Rattle.loader_machine.specs.State.{Held, no_pokes}
 use Rattle.loader_machine.specs.Presences.{handle_at, presence, presence_at, there_at, active_at}
 use Rattle.loader_machine.specs.Stands as machine
-use Rattle.loader_machine.specs.Stands.{Setting, setting, entry_for, entries_bytes, read_bytes, stands, target_in}
+use Rattle.loader_machine.specs.Stands.{Setting, setting, entry_for, entries_bytes, read_bytes, stands, nowhere, target_with}
 use Rattle.loader_machine.specs.laws.PokeLaws.{over_none}
 use Rattle.loader_machine.specs.Steps.{spread}
 use Rattle.loader_agrees.specs.laws.Begun.{decide}
@@ -154,7 +154,7 @@ module _ (file : List ℕ) (segments : List Segment) (taken : IsTaken file segme
       let head : slice_get (map head_of segments) k ≡ Some (head_of s) = number_map head_of segments (suc k) ∙ ap (option_map head_of) is in
       ap (option_and_then (λ (o : Option Handle). o)) (spread_other (map head_of segments) hs k (head_of s) head (dynamic_other (head_of s) dynamic))
 
-  none_active : (t : Target) → IsOwnTarget segments t → target_in slots (spread_handles segments hs) t.file t.segment ≡ None
+  none_active : (t : Target) → IsOwnTarget segments t → target_with nowhere slots (spread_handles segments hs) t.file t.segment ≡ None
   none_active t is =
       let none : presence_at slots (spread_handles segments hs) t.segment ≡ presence slots None = ap (presence slots) (not_there t.segment is.segment' is.is is.dynamic) in
       go (t.file == 1) (ap active_at none)
@@ -163,7 +163,7 @@ module _ (file : List ℕ) (segments : List Segment) (taken : IsTaken file segme
       go true e = e
       go false e = refl
 
-  all_none : (ts : List Target) → AllByRecursion (IsOwnTarget segments) ts → AllByRecursion (λ t. target_in slots (spread_handles segments hs) t.file t.segment ≡ None) ts
+  all_none : (ts : List Target) → AllByRecursion (IsOwnTarget segments) ts → AllByRecursion (λ t. target_with nowhere slots (spread_handles segments hs) t.file t.segment ≡ None) ts
   all_none [] all = tt
   all_none (t ∷ ts) all = (none_active t all.0, all_none ts all.1)
 

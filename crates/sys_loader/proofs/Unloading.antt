@@ -1,5 +1,5 @@
 -- A segment that is let go.
-use Rattle.std.proofs.Common.{◌≡◌, inr, ℕ, Bool, true, false, length, Option, Some, None, IsSome, refl, sym, ap, subst, ◌∙◌}
+use Rattle.std.proofs.Common.{◌≡◌, inl, inr, ℕ, Bool, true, false, length, Option, Some, None, IsSome, refl, sym, ap, subst, ◌∙◌}
 use Rattle.std.specs.Prelude.{slice_get, Result, Ok, Err}
 use Rattle.std.proofs.lemmas.Option.{same_Some}
 use Rattle.omf_io.specs.Files.{FileMap}
@@ -24,7 +24,8 @@ use Rattle.loader_agrees.specs.laws.Seeing.{IsKept, kept_is, refuses, does, has_
 use Rattle.sys_loader.specs.Replies.{done_reply}
 use Rattle.sys_loader.specs.Renewing.{AreRoomy, AreRenewed}
 use Rattle.sys_loader.specs.Lives.{CanUnload, HasUnloaded, DidUnload}
-use Rattle.sys_loader.proofs.Shifting.{IsTurn, shifted_sound, shifted_agrees}
+use Rattle.sys_loader.proofs.Shifting.{IsTurn, own_leading, shifted_sound, shifted_agrees}
+use Rattle.sys_loader.proofs.Turned.{own_leads}
 
 -- ---- the refusal, check by check
 
@@ -80,7 +81,7 @@ none_active h block = go block.at
 
 module _ (old new : Loaded) (id number : ℕ) (sound : IsSound old.memory old.users) (did : HasUnloaded old id number new) where
   pub unloaded_sound : IsSound new.memory old.users
-  unloaded_sound = shifted_sound old new id number did.can.is.kept did.h idle_block None did.can.is.head sound did.can.is.made did.can.is.head' did.can.is.handle did.can.dynamic idles did.shifted did.can.is.runs
+  unloaded_sound = shifted_sound old new id number id 1 did.can.is.kept did.can.is.kept did.h idle_block None did.can.is.head sound (own_leading old.users sound.bare id) did.can.is.made (inl refl) did.can.is.made did.can.is.head' did.can.is.handle did.can.dynamic idles did.shifted did.can.is.runs
 
   module _ (held : FileMap) (state : Machine) (agrees : Agrees held old state) where
     is : IsKept held old state agrees id did.can.is.kept
@@ -97,8 +98,8 @@ module _ (old new : Loaded) (id number : ℕ) (sound : IsSound old.memory old.us
 
     agrees_next : Agrees held new next
     agrees_next = subst (λ (t : Slots). Agrees held new (with_slots state t)) slots_same
-        (shifted_agrees old new id number did.can.is.kept did.h idle_block None did.can.is.head sound did.can.is.made did.can.is.head' did.can.is.handle did.can.dynamic idles did.shifted
-        held state agrees (none_active did.h did.shifted.changes.block) (λ some. absurd cc))
+        (shifted_agrees old new id number id 1 did.can.is.kept did.can.is.kept did.h idle_block None did.can.is.head sound (own_leading old.users sound.bare id) did.can.is.made (inl refl) did.can.is.made did.can.is.head' did.can.is.handle did.can.dynamic idles did.shifted
+        (none_active did.h did.shifted.changes.block) held state agrees (λ some. absurd cc) (own_leads held))
 
     unload_met : Met Purges held state (UnloadSegment id number) Okay new
     unload_met = (
@@ -142,15 +143,15 @@ module _ (old : Loaded) (id number : ℕ) (h : Handle) (can : CanUnload old id n
   same_kept : kept ≡ can.is.kept
   same_kept = same_Some kept can.is.kept (sym made ∙ can.is.made)
 
-  pub has_unloaded : (middle new : Memory) (last : Loaded) (count : ℕ) → count ≡ length kept.heads → AreRenewed kept.heads kept.handles (Some number) None old.memory middle count → Changes middle h idle_block new
+  pub has_unloaded : (middle new : Memory) (last : Loaded) (count : ℕ) → count ≡ length kept.heads → AreRenewed kept.heads kept.handles (Some (1, number)) None old.memory middle count → Changes middle h idle_block new
       → last.memory ≡ new → last.users ≡ old.users → HasUnloaded old id number last
   has_unloaded middle new last count long renewed changes memory users = record {
     h = h;
     can = can;
     shifted = record {
       middle = middle;
-      renewed = subst (λ (k : Kept). AreRenewed k.heads k.handles (Some number) None old.memory middle (length k.heads)) same_kept
-          (subst (AreRenewed kept.heads kept.handles (Some number) None old.memory middle) long renewed);
+      renewed = subst (λ (k : Kept). AreRenewed k.heads k.handles (Some (1, number)) None old.memory middle (length k.heads)) same_kept
+          (subst (AreRenewed kept.heads kept.handles (Some (1, number)) None old.memory middle) long renewed);
       changes = subst (Changes middle h idle_block) (sym memory) changes;
       users = users;
     };

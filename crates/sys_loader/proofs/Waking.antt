@@ -42,11 +42,11 @@ one_presence old now handle p same is = subst (λ (l : Loaded). presence l.memor
 -- ---- a segment that wakes
 
 module _ (old : Loaded) (id number : ℕ) (h : Handle) (address : ℕ) (k : Kept) where
-  pub has_woken : (middle new : Memory) (last : Loaded) (count : ℕ) → count ≡ length k.heads → AreRenewed k.heads k.handles (Some number) (Some address) old.memory middle count → Changes middle h active_block new
-      → last.memory ≡ new → last.users ≡ old.users → HasShifted old k number h active_block (Some address) last
+  pub has_woken : (middle new : Memory) (last : Loaded) (count : ℕ) → count ≡ length k.heads → AreRenewed k.heads k.handles (Some (1, number)) (Some address) old.memory middle count → Changes middle h active_block new
+      → last.memory ≡ new → last.users ≡ old.users → HasShifted old k (1, number) h active_block (Some address) last
   has_woken middle new last count long renewed changes memory users = record {
     middle = middle;
-    renewed = subst (AreRenewed k.heads k.handles (Some number) (Some address) old.memory middle) long renewed;
+    renewed = subst (AreRenewed k.heads k.handles (Some (1, number)) (Some address) old.memory middle) long renewed;
     changes = subst (Changes middle h active_block) (sym memory) changes;
     users = users;
   }

@@ -106,7 +106,7 @@ pub record HasCome (old : Loaded) (id number : ℕ) (kept : Kept) (head : Head) 
   pub content : List ℕ
   pub same : length content ≡ length (bytes_at placed h.slot)
   pub begins : (s : Segment) → segment_at segments number ≡ Some s → IsFront (stands (setting id placed.slots (with_handle kept number h).handles) no_pokes s) content
-  pub renewed : AreRenewed kept.heads kept.handles (Some number) (Some address) (with_bytes placed h.slot content) new.memory (length kept.heads)
+  pub renewed : AreRenewed kept.heads kept.handles (Some (1, number)) (Some address) (with_bytes placed h.slot content) new.memory (length kept.heads)
   pub users : new.users ≡ with_user old.users id (Some (with_handle kept number h))
 
 -- why a segment of a file that was read doesn't come: the file isn't taken, or not the one that was loaded, or there is no handle or
@@ -144,7 +144,7 @@ segment_reads loader id number = option_map_or (λ kept. is_read (presence_at lo
 abbrev pub HasActivated : Option FileMap → Loaded → ℕ → ℕ → Kept → Head → Option Handle → Presence → Result ℕ LoaderFault → Loaded → ℕ → ℕ → Type 0
 HasActivated held old id number kept head handle (Active h at) result new before now = (result ≡ Ok at) × (new ≡ old) × (now ≡ before)
 HasActivated held old id number kept head handle (Idle h at) result new before now =
-    (result ≡ Ok at) × HasShifted old kept number h active_block (Some at) new × (now ≡ before)
+    (result ≡ Ok at) × HasShifted old kept (1, number) h active_block (Some at) new × (now ≡ before)
 HasActivated held old id number kept head handle (Purged h) result new before now = DidCome held old id number kept head handle result new before now
 HasActivated held old id number kept head handle Absent result new before now = DidCome held old id number kept head handle result new before now
 

@@ -1,5 +1,5 @@
 -- What it takes to follow a JSL, whatever files there are.
-use Rattle.std.specs.Prelude.{◌≡◌, ◌≢◌, ◌⊎◌, ℕ, ◌+◌, ◌%◌, ◌^◌, ◌<◌, true, false, List, Option, Some, None, IsSome, Result, Ok, Err}
+use Rattle.std.specs.Prelude.{◌≡◌, ◌≢◌, ◌⊎◌, ℕ, ◌+◌, ◌%◌, ◌^◌, ◌<◌, true, false, List, Option, Some, None, Result, Ok, Err}
 use Rattle.omf_io.specs.Counts.{one_more}
 use Rattle.omf_io.specs.Files.{FileMap}
 use Rattle.load_meaning.specs.declared.table.Target.{Target}
@@ -61,7 +61,7 @@ pub record EntersPlace (loader : Loaded) (id number at : ℕ) (place : Entered) 
   pub leads : LeadsTo loader id number at place
   pub plain : is_table leads.lies.is.head ≡ false
 
--- the JSL leads to an entry of a user's table, and the entry to an offset in a segment
+-- the JSL leads to an entry of a user's table, and the entry to an offset in a segment that can be made active
 pub record CallsEntry (loader : Loaded) (id number at owner segment offset : ℕ) : Type 0 where
   pub place : Entered
   pub leads : LeadsTo loader id number at place
@@ -70,27 +70,25 @@ pub record CallsEntry (loader : Loaded) (id number at owner segment offset : ℕ
   pub entry : IsEntry loader place target
   pub segment' : target.segment ≡ segment
   pub offset' : target.offset ≡ offset
+  pub passes : load_segment_refusal (seen_by loader owner) segment ≡ None
 
 -- what a call answers where a user's segment was made active at an address, or wasn't
 abbrev pub entered_at : ℕ → ℕ → ℕ → Result ℕ LoaderFault → Result Entered LoaderFault
 entered_at user segment offset (Ok address) = Ok (record { user = user; segment = segment; offset = offset; address = (address + offset) % 2 ^ 24 })
 entered_at user segment offset (Err why) = Err why
 
--- a file is read: the JSL leads to an entry for a segment that can be made active and isn't there
+-- a file is read: the JSL leads to an entry for a segment that isn't there
 pub record JslReads (loader : Loaded) (id number at : ℕ) : Type 0 where
   pub owner : ℕ
   pub segment : ℕ
   pub offset : ℕ
   pub calls : CallsEntry loader id number at owner segment offset
-  pub passes : load_segment_refusal (seen_by loader owner) segment ≡ None
   pub reads : segment_reads loader owner segment ≡ true
 
--- none is: the call is refused before; the JSL leads to a place; or to an entry for a segment that can't be made active, or is there
+-- none is: the call is refused before; the JSL leads to a place; or to an entry for a segment that is there
 pub data JslReadsNone (loader : Loaded) (id number at : ℕ) : Type 0 where
   IsRefused : (why : LoaderFault) → IsJslRefusal loader id number at why → JslReadsNone loader id number at
   IsPlace : (place : Entered) → EntersPlace loader id number at place → JslReadsNone loader id number at
-  IsStopped : (owner segment offset : ℕ) → CallsEntry loader id number at owner segment offset → IsSome (load_segment_refusal (seen_by loader owner) segment)
-      → JslReadsNone loader id number at
   IsThere : (owner segment offset : ℕ) → CallsEntry loader id number at owner segment offset → segment_reads loader owner segment ≡ false
       → JslReadsNone loader id number at
 
@@ -98,8 +96,8 @@ pub data JslReadsNone (loader : Loaded) (id number at : ℕ) : Type 0 where
 abbrev pub HasAsked : Loaded → ℕ → ℕ → ℕ → ℕ → ℕ → Type 0
 HasAsked loader id number at before now = (JslReads loader id number at × (now ≡ one_more before)) ⊎ (JslReadsNone loader id number at × (now ≡ before))
 
--- What a call that follows a JSL did: it is refused and all stays; it enters a place, and all stays; or the segment of an entry is
--- made active, and entered, if it can be.
+-- What a call that follows a JSL did: it is refused and all stays; it enters a place, and all stays; or the segment of an entry, which can
+-- be made active, is, and is entered.
 pub data DidJsl (held : Option FileMap) (old : Loaded) (id number at : ℕ) (result : Result Entered LoaderFault) (new : Loaded) (before now : ℕ) : Type 0 where
   Stops : (why : LoaderFault) → IsJslRefusal old id number at why → result ≡ Err why → new ≡ old → now ≡ before → DidJsl held old id number at result new before now
   Leads : (place : Entered) → EntersPlace old id number at place → result ≡ Ok place → new ≡ old → now ≡ before → DidJsl held old id number at result new before now

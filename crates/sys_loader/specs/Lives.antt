@@ -57,10 +57,11 @@ DidPoke old id number at byte (Err fault) new = (poke_refusal old.memory.slots (
 
 -- ---- a segment that wakes or idles
 
--- The block of a segment changes, but for its place, and the entries of the user's tables for it follow; nothing else is written.
-pub record HasShifted (old : Loaded) (kept : Kept) (number : ℕ) (h : Handle) (change : Block → Block) (address : Option ℕ) (new : Loaded) : Type 0 where
+-- The block of a segment changes, but for its place, and the entries for it in the tables of the user that leads to it follow, by file and
+-- number; nothing else is written.
+pub record HasShifted (old : Loaded) (lead : Kept) (choice : ℕ × ℕ) (h : Handle) (change : Block → Block) (address : Option ℕ) (new : Loaded) : Type 0 where
   pub middle : Memory
-  pub renewed : AreRenewed kept.heads kept.handles (Some number) address old.memory middle (length kept.heads)
+  pub renewed : AreRenewed lead.heads lead.handles (Some choice) address old.memory middle (length lead.heads)
   pub changes : Changes middle h change new.memory
   pub users : new.users ≡ old.users
 
@@ -76,7 +77,7 @@ pub record CanUnload (loader : Loaded) (id number : ℕ) (h : Handle) : Type 0 w
 pub record HasUnloaded (old : Loaded) (id number : ℕ) (new : Loaded) : Type 0 where
   pub h : Handle
   pub can : CanUnload old id number h
-  pub shifted : HasShifted old can.is.kept number h idle_block None new
+  pub shifted : HasShifted old can.is.kept (1, number) h idle_block None new
 
 -- what an unload did: the segment is let go, or the call is refused and all stays
 abbrev pub DidUnload : Loaded → ℕ → ℕ → Result (Unit {0}) LoaderFault → Loaded → Type 0

@@ -135,14 +135,14 @@ impl Loader {
     fn wake(&mut self, user: u16, number: u16, h: Handle, address: u32)
         requires can { (head : Head) × CanLoad self.old user number head (Some h) }
         requires idle { presences.presence self.old.memory.slots (Some h) ≡ Presence.Idle h address }
-        ensures { (k : Kept) → user_of self.old.users user ≡ Some k → HasShifted self.old k number h active_block (Some address) self.new }
+        ensures { (k : Kept) → user_of self.old.users user ≡ Some k → HasShifted self.old k (1, number) h active_block (Some address) self.new }
     {
         self.is_sound();
         let found = user_in(&self.users, user);
         renew_tables(
             &mut self.banks,
             &found.segments,
-            Some(number),
+            Some((1, number)),
             Some(address),
         );
         activate(&mut self.banks, h);
@@ -188,7 +188,7 @@ impl Loader {
         renew_tables(
             &mut self.banks,
             &found.segments,
-            Some(number),
+            Some((1, number)),
             Some(address),
         );
         set_handle(&mut self.users, user, number, h);

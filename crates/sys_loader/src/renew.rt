@@ -16,12 +16,12 @@ use jump_table::{entry_count, set_loaded, set_unloaded};
 use loader_machine::Presence;
 use omf_base::number;
 
-/// The entries for this segment follow.
-fn chosen(only: Option<u16>, segment: u32) -> bool
-    ensures { result ≡ is_chosen only segment }
+/// The entries for this segment, of the file with this number, follow.
+fn chosen(only: Option<(u16, u16)>, file: u32, segment: u32) -> bool
+    ensures { result ≡ is_chosen only file segment }
 {
     match only {
-        Some(number) => segment == u32::from(number),
+        Some(one) => file == u32::from(one.0) && segment == u32::from(one.1),
         None => true,
     }
 }
@@ -35,12 +35,12 @@ pub fn address_in(place: u32, offset: u32) -> u32
 
 /// The entry that begins there follows, if it is for this segment.
 #[tactic(auto, unfolding(crate::specs::Renewing::renewed_at))]
-fn renew_one(bytes: &mut [u8], at: usize, only: Option<u16>, place: Option<u32>)
+fn renew_one(bytes: &mut [u8], at: usize, only: Option<(u16, u16)>, place: Option<u32>)
     requires { at + 14 ≤ length bytes.old }
     ensures is { bytes.new ≡ renewed_at only place at bytes.old }
     ensures same { length bytes.new ≡ length bytes.old }
 {
-    if chosen(only, number(bytes, at + 4, 2)) {
+    if chosen(only, number(bytes, at + 2, 2), number(bytes, at + 4, 2)) {
         match place {
             Some(place) => {
                 let offset = number(bytes, at + 6, 4);
@@ -52,7 +52,7 @@ fn renew_one(bytes: &mut [u8], at: usize, only: Option<u16>, place: Option<u32>)
 }
 
 /// So many entries of a table follow.
-fn renew(bytes: &mut [u8], count: usize, only: Option<u16>, place: Option<u32>)
+fn renew(bytes: &mut [u8], count: usize, only: Option<(u16, u16)>, place: Option<u32>)
     requires { 14 * count ≤ length bytes.old - 12 }
     ensures is { bytes.new ≡ renewed only place count bytes.old }
     ensures same { length bytes.new ≡ length bytes.old }
@@ -63,7 +63,13 @@ fn renew(bytes: &mut [u8], count: usize, only: Option<u16>, place: Option<u32>)
 }
 
 /// The entries of a table's block follow.
-fn renew_block(banks: &mut Banks, h: Handle, count: usize, only: Option<u16>, place: Option<u32>)
+fn renew_block(
+    banks: &mut Banks,
+    h: Handle,
+    count: usize,
+    only: Option<(u16, u16)>,
+    place: Option<u32>,
+)
     requires there { IsSomeAnd (get banks.old.slots h) (λ block. IsSome block.at) }
     requires room { 14 * count ≤ length (bytes_at banks.old h.slot) - 12 }
     ensures written { banks.new ≡ with_bytes banks.old h.slot (renewed only place count (bytes_at banks.old h.slot)) }
@@ -73,7 +79,7 @@ fn renew_block(banks: &mut Banks, h: Handle, count: usize, only: Option<u16>, pl
 }
 
 /// The entries of a table follow, if it is there.
-fn renew_table(banks: &mut Banks, table: &Segment, only: Option<u16>, place: Option<u32>)
+fn renew_table(banks: &mut Banks, table: &Segment, only: Option<(u16, u16)>, place: Option<u32>)
     requires room { (h : Handle) → table.now.handle ≡ Some h → IsSome (presences.there_at (presences.presence banks.old.slots (Some h)))
         → table.now.head.length ≤ length (bytes_at banks.old h.slot) }
     ensures { IsRenewed only place table.now.handle table.now.head.length banks.old banks.new }
@@ -87,11 +93,12 @@ fn renew_table(banks: &mut Banks, table: &Segment, only: Option<u16>, place: Opt
     }
 }
 
-/// The entries of a user's tables for a segment, or for all, lead to it at a place, or call the loader where it isn't active.
+/// The entries of a user's tables for a segment, by file and number, or for all, lead to it at a place, or call the loader where it isn't
+/// active.
 pub fn renew_tables(
     banks: &mut Banks,
     segments: &Vec<Segment>,
-    only: Option<u16>,
+    only: Option<(u16, u16)>,
     place: Option<u32>,
 )
     requires ready { AreRoomy banks.old (map (λ s. s.head) segments.now.items) (map (λ s. s.handle) segments.now.items) }

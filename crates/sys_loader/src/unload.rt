@@ -52,7 +52,7 @@ impl Loader {
             Err(fault) => return Err(fault),
         };
         let found = user_in(&self.users, user);
-        renew_tables(&mut self.banks, &found.segments, Some(segment), None);
+        renew_tables(&mut self.banks, &found.segments, Some((1, segment)), None);
         idle(&mut self.banks, h);
         Ok(())
     }

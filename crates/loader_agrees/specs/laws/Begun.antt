@@ -1,10 +1,10 @@
 -- A loader after a program was loaded.
-use Rattle.std.proofs.Common.{◌≡◌, ◌⊎◌, inl, inr, ℕ, zero, suc, Bool, true, false, cond, ◌==◌, ◌+◌, ◌<◌, List, [], ◌∷◌, ◌++◌, length, map, Option, Some, None, IsSome, nat_lt, refl, sym, ap, subst, ◌∙◌, arith}
+use Rattle.std.proofs.Common.{◌≡◌, ◌⊎◌, inl, inr, ℕ, zero, suc, Bool, true, false, cond, ◌==◌, ◌+◌, ◌<◌, ◌≤◌, List, [], ◌∷◌, ◌++◌, length, map, Option, Some, None, IsSome, nat_lt, refl, sym, ap, subst, ◌∙◌, arith}
 use Rattle.std.specs.Prelude.{slice_get, slice_set, option_map, position, not, ◌&&◌}
 use Rattle.std.specs.List.{prefix_len}
 use Rattle.std.specs.Option.{option_map_or, option_and_then}
 use Rattle.std.proofs.lemmas.Option.{same_Some, slice_get_within}
-use Rattle.std.proofs.lemmas.List.{get_or-set_same, length-map, length-append, map-append}
+use Rattle.std.proofs.lemmas.List.{get_or-set_same, length-map, length-append}
 use Rattle.std.proofs.lemmas.List.Quantifiers.{position-Some}
 use Rattle.std.proofs.lemmas.Bool.Decides.{nat_tests}
 use Rattle.omf_format.specs.File.{Segment, segment_at}
@@ -22,13 +22,15 @@ use Rattle.iigs_meaning.specs.Puts.{Purges, Puts, PutsAll, placed}
 use Rattle.iigs_meaning.specs.Memory.{Memory}
 use Rattle.loader_machine.specs.declared.seen.Head.{Head}
 use Rattle.loader_machine.specs.Heads.{head_of, at_number, is_static, wants_of}
-use Rattle.loader_machine.specs.State.{Held, User, Machine, absent, no_pokes, first_id, max_users, held_at}
+use Rattle.loader_machine.specs.State.{Held, User, absent, no_pokes, first_id, max_users, held_at}
 use Rattle.loader_machine.specs.Presences.{handle_at, presence, presence_at, there_at, is_active}
-use Rattle.loader_machine.specs.Found.{HoldsLoad, Good}
-use Rattle.loader_machine.specs.Commands.{Started, Load}
+use Rattle.loader_machine.specs.Found.{HoldsLoad}
 use Rattle.loader_machine.specs.Refusals.{load_refusal}
-use Rattle.loader_machine.specs.Steps.{PutIn, Begins, Steps, spread, started_user}
-use Rattle.loader_agrees.specs.Agrees.{Kept, Loaded, Outline, outline, outline_of, UserAgrees, Agrees, IsSound, Met}
+use Rattle.loader_machine.specs.Steps.{spread, started_user}
+use Rattle.loader_machine.specs.Stands.{Far, nowhere, setting, setting_with, target_with}
+use Rattle.loader_machine.specs.laws.StandsLaws.{AreAlike, stands_alike}
+use Rattle.load_meaning.specs.laws.CellLaws.{loadable_has}
+use Rattle.loader_agrees.specs.Agrees.{Kept, Loaded, UserAgrees, IsSound}
 use Rattle.loader_agrees.specs.laws.Frame.{Keeps, Same, Gone, agrees_still}
 use Rattle.loader_agrees.specs.Acts.{HasPlaced, IsAdded, HasBegun, started_kept}
 use Rattle.loader_agrees.specs.laws.Lists.{number_map}
@@ -259,12 +261,12 @@ as_added old new path segments id entry begun = subst (IsAdded old.users (length
     its = started_kept path (map head_of segments) begun.handles
 
 module _ (held : FileMap) (old new : Loaded) (path : List ℕ) (segments : List Segment) (id : ℕ) (entry : Option ℕ) (sound : IsSound old.memory old.users)
-    (begun : HasPlaced old.memory path segments id entry new.memory) (holds : HoldsLoad held path segments) where
+    (begun : HasPlaced old.memory path segments id entry new.memory) (holds : HoldsLoad held path segments) (ids : List ℕ) where
   abbrev pub user : User
-  user = started_user path (map head_of segments) begun.handles
+  user = record (started_user path (map head_of segments) begun.handles) { attached = ids }
 
   abbrev pub kept : Kept
-  kept = started_kept path (map head_of segments) begun.handles
+  kept = record (started_kept path (map head_of segments) begun.handles) { attached = ids }
 
   heads_at : (n : ℕ) (s : Segment) → segment_at segments n ≡ Some s → at_number (map head_of segments) n ≡ Some (head_of s)
   heads_at n s found = number_map head_of segments n ∙ ap (option_map head_of) found
@@ -282,8 +284,9 @@ module _ (held : FileMap) (old new : Loaded) (path : List ℕ) (segments : List 
   no_poke zero = refl
   no_poke (suc k) = spread_pokes (map head_of segments) begun.handles k
 
-  pub user_agrees : UserAgrees held new.memory id kept user
-  user_agrees = record {
+  -- where no segment of an attached user is active
+  pub user_agrees : (far : Far) → ((file n : ℕ) → far file n ≡ None) → UserAgrees held new.memory far id kept user
+  user_agrees far none = record {
     same = refl;
     segments = segments;
     holds = holds;
@@ -291,77 +294,28 @@ module _ (held : FileMap) (old new : Loaded) (path : List ℕ) (segments : List 
     count = spread_length (map head_of segments) begun.handles ∙ length-map segments head_of;
     unpoked = λ n s found table. no_poke n;
     statics = λ running n s found static. static_active n s found static;
-    begins = λ there n s h found has present. rw (no_poke n) (begun.begins n s h found has);
+    begins = λ there n s h found has present.
+        let alike : AreAlike segments n s (setting id new.memory.slots kept.handles) (setting_with far id new.memory.slots kept.handles) = record {
+          id = refl;
+          own = refl;
+          static = λ m t is static. refl;
+          target = λ table m t is dynamic loaded. refl;
+          far = λ table file m above. far_none file m above;
+        } in
+        let same = stands_alike segments n s (loadable_has holds.file segments holds.taken.loadable n s found) (setting id new.memory.slots kept.handles) (setting_with far id new.memory.slots kept.handles) alike no_pokes in
+        rw (no_poke n, ← same) (begun.begins n s h found has);
   }
+    where
+      far_none : (file m : ℕ) → 2 ≤ file → target_with nowhere new.memory.slots kept.handles file m ≡ target_with far new.memory.slots kept.handles file m
+      far_none file m above = let other : (file == 1) ≡ false = grind arith in rw other (sym (none file m))
 
   keeps : (h : Handle) → IsSome (get old.memory.slots h) → Keeps old.memory new.memory h
   keeps h live = begun_keeps old.memory new.memory path segments id entry begun h live
 
-  pub others_agree : (place : ℕ) (kept' : Kept) (user' : User) → slice_get old.users place ≡ Some (Some kept') → UserAgrees held old.memory (first_id + place) kept' user' → UserAgrees held new.memory (first_id + place) kept' user'
-  others_agree place kept' user' made was = agrees_still held old.memory new.memory (first_id + place) kept' user' was
+  pub others_agree : (far now : Far) (place : ℕ) (kept' : Kept) (user' : User) → slice_get old.users place ≡ Some (Some kept') → ((file n : ℕ) → 2 ≤ file → now file n ≡ far file n)
+      → UserAgrees held old.memory far (first_id + place) kept' user' → UserAgrees held new.memory now (first_id + place) kept' user'
+  others_agree far now place kept' user' made same was = agrees_still held old.memory new.memory far now (first_id + place) kept' user' was
       (λ n h found. let one = has_any old sound place kept' made n h found in
       let of' = sound.each place n one.0 h one.1 in
       let live : IsSome (get old.memory.slots h) = rw of'.live refl in
-      keeps h live)
-
-module _ (held : FileMap) (old new : Loaded) (state : Machine) (path : List ℕ) (segments : List Segment) (id : ℕ) (entry : Option ℕ) (sound : IsSound old.memory old.users) (agrees : Agrees held old state)
-    (begun : HasBegun old path segments id entry new) (holds : HoldsLoad held path segments) where
-  abbrev its_user : User
-  its_user = started_user path (map head_of segments) begun.handles
-
-  abbrev its_kept : Kept
-  its_kept = started_kept path (map head_of segments) begun.handles
-
-  abbrev put : HasPlaced old.memory path segments id entry new.memory
-  put = as_placed old new path segments id entry begun
-
-  same_count : length old.users ≡ length state.users
-  same_count = sym (length-map old.users (option_map outline)) ∙ ap length agrees.users ∙ length-map state.users (option_map outline_of)
-
-  abbrev next : Machine
-  next = record { banks = state.banks; slots = new.memory.slots; users = state.users ++ Some its_user ∷ [] }
-
-  agrees_next : Agrees held new next
-  agrees_next = record {
-    banks = begun.banks ∙ agrees.banks;
-    slots = refl;
-    users = ap (map (option_map outline)) begun.users ∙ map-append (option_map outline) old.users (Some its_kept ∷ [])
-        ∙ ap (λ (os : List (Option Outline)). os ++ Some (outline its_kept) ∷ []) agrees.users ∙ sym (map-append (option_map outline_of) state.users (Some its_user ∷ []));
-    each = λ place kept' user' made made'.
-        let in_old = ap (λ (us : List (Option Kept)). slice_get us place) (sym begun.users) ∙ made in
-        elim (slice_push old.users (Some its_kept) place (Some kept') in_old) [
-          | inl was ↦ elim (slice_push state.users (Some its_user) place (Some user') made') [
-            | inl was' ↦ others_agree held old new path segments id entry sound put holds place kept' user' was (agrees.each place kept' user' was was')
-            | inr last ↦ absurd (omega (arith, last.0, same_count, slice_get_within old.users place (Some kept') was))
-          ]
-          | inr last ↦ elim (slice_push state.users (Some its_user) place (Some user') made') [
-            | inl was' ↦ absurd (omega (arith, last.0, same_count, slice_get_within state.users place (Some user') was'))
-            | inr last' ↦
-                let kept_is : its_kept ≡ kept' = same_Some its_kept kept' (sym last.1) in
-                let user_is : its_user ≡ user' = same_Some its_user user' (sym last'.1) in
-                let id_is : id ≡ first_id + place = omega (arith, begun.id_is, last.0) in
-                subst (λ (n : ℕ). UserAgrees held new.memory n kept' user') id_is
-                (subst (λ (u : User). UserAgrees held new.memory id kept' u) user_is (subst (λ (k : Kept). UserAgrees held new.memory id k its_user) kept_is (user_agrees held old new path segments id entry sound put holds)))
-          ]
-        ];
-  }
-
-  puts : PutsAll Purges state.banks id state.slots (wants_of (map head_of segments)) begun.handles new.memory.slots
-  puts = rw (← agrees.banks, ← agrees.slots) (subst (PutsAll Purges old.memory.banks id old.memory.slots (wants_of (map head_of segments)) begun.handles) (sym begun.slots) begun.placed.puts)
-
-  steps : Steps Purges held state (Load path) (Started id entry) next
-  steps =
-      let few : length state.users < max_users = omega (arith, begun.few, same_count) in
-      let id_is : id ≡ first_id + length state.users = omega (arith, begun.id_is, same_count) in
-      rw (may_load (length state.users) few) (Good segments, holds, begins id_is)
-    where
-      begins : id ≡ first_id + length state.users → Begins Purges state state.slots path (first_id + length state.users) segments (λ (u : User). state.users ++ Some u ∷ []) (Started id entry) next
-      begins id_is = subst (λ (n : ℕ). Begins Purges state state.slots path n segments (λ (u : User). state.users ++ Some u ∷ []) (Started id entry) next) id_is (record {
-        put = PutIn begun.handles new.memory.slots;
-        is_put = (rw (← agrees.slots) begun.placed.enough, puts);
-        lands = (ap (λ (e : Option ℕ). Started id e) begun.entry_is, refl);
-      })
-
-  -- a load is the machine's step
-  pub load_met : Met Purges held state (Load path) (Started id entry) new
-  load_met = (next, steps, agrees_next)
+      keeps h live) same

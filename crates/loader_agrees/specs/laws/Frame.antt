@@ -1,5 +1,5 @@
 -- A user agrees still where its blocks stay, or were purgeable and are purged.
-use Rattle.std.proofs.Common.{◌≡◌, ℕ, Bool, true, false, List, Option, Some, None, IsSome, refl, sym, ap, subst, ◌∙◌}
+use Rattle.std.proofs.Common.{◌≡◌, ℕ, ◌≤◌, Bool, true, false, List, Option, Some, None, IsSome, refl, sym, ap, subst, ◌∙◌, arith}
 use Rattle.std.specs.Prelude.{is_some, unwrap_or, not, ◌==◌, ◌&&◌}
 use Rattle.omf_io.specs.Files.{FileMap}
 use Rattle.iigs_meaning.specs.declared.handles.Handle.{Handle}
@@ -10,7 +10,7 @@ use Rattle.iigs_meaning.specs.Memory.{Memory, bytes_at}
 use Rattle.loader_machine.specs.declared.seen.Presence.{Presence}
 use Rattle.loader_machine.specs.State.{User, held_at}
 use Rattle.loader_machine.specs.Presences.{handle_at, presence, presence_at, lies_in, lies_at, there_at, active_at, is_active}
-use Rattle.loader_machine.specs.Stands.{setting}
+use Rattle.loader_machine.specs.Stands.{Far, setting_with, target_with}
 use Rattle.loader_machine.specs.laws.StandsLaws.{AreAlike, stands_alike}
 use Rattle.load_meaning.specs.laws.CellLaws.{loadable_has}
 use Rattle.loader_agrees.specs.Agrees.{Kept, AreThere, UserAgrees}
@@ -67,7 +67,7 @@ module _ (old new : Memory) (handles : List (Option Handle)) (kept : AreKept old
   ]
 
   -- the targets of a table stay
-  target_stays : (number : ℕ) (o : Option Handle) → handle_at handles number ≡ o → active_at (presence new.slots o) ≡ active_at (presence old.slots o)
+  pub target_stays : (number : ℕ) (o : Option Handle) → handle_at handles number ≡ o → active_at (presence new.slots o) ≡ active_at (presence old.slots o)
   target_stays number None is = refl
   target_stays number (Some h) is = elim (kept number h is) [
     | Same slot bytes ↦ ap (λ (b : Option Block). active_at (lies_in h b)) slot
@@ -91,12 +91,16 @@ module _ (old new : Memory) (handles : List (Option Handle)) (kept : AreKept old
   here : (number : ℕ) → IsSome (there_at (presence_at new.slots handles number)) → presence_at new.slots handles number ≡ presence_at old.slots handles number
   here number there = now_there number (handle_at handles number) refl there
 
-module _ (held : FileMap) (old new : Memory) (id : ℕ) (kept : Kept) (user : User) (agrees : UserAgrees held old id kept user) (stay : AreKept old new kept.handles) where
+module _ (held : FileMap) (old new : Memory) (far now : Far) (id : ℕ) (kept : Kept) (user : User) (agrees : UserAgrees held old far id kept user) (stay : AreKept old new kept.handles)
+    (same_far : (file n : ℕ) → 2 ≤ file → now file n ≡ far file n) where
   were_there : AreThere new.slots kept.handles agrees.segments → AreThere old.slots kept.handles agrees.segments
   were_there there number s is static = rw (← here old new kept.handles stay number (there number s is static)) (there number s is static)
 
+  far_target : (file n : ℕ) → 2 ≤ file → target_with now new.slots kept.handles file n ≡ target_with far old.slots kept.handles file n
+  far_target file n above = let other : (file == 1) ≡ false = grind arith in rw (other) (same_far file n above)
+
   -- the frame lemma
-  pub agrees_still : UserAgrees held new id kept user
+  pub agrees_still : UserAgrees held new now id kept user
   agrees_still = record {
     same = agrees.same;
     segments = agrees.segments;
@@ -110,12 +114,13 @@ module _ (held : FileMap) (old new : Memory) (id : ℕ) (kept : Kept) (user : Us
         let before : IsSome (there_at (presence_at old.slots kept.handles number)) = rw (← where') present in
         let present' : IsSome (there_at (presence new.slots (Some h))) = subst (λ (o : Option Handle). IsSome (there_at (presence new.slots o))) has present in
         let bytes = there_bytes old new kept.handles stay number h has present' in
-        let alike : AreAlike agrees.segments number s (setting id new.slots kept.handles) (setting id old.slots kept.handles) = record {
+        let alike : AreAlike agrees.segments number s (setting_with now id new.slots kept.handles) (setting_with far id old.slots kept.handles) = record {
           id = refl;
           own = ap (λ (p : Presence). unwrap_or (there_at p) 0) where';
           static = λ n t is' static. ap (λ (p : Presence). unwrap_or (there_at p) 0) (here old new kept.handles stay n (there n t is' static));
           target = λ table n t is' dynamic kept'. target_stays old new kept.handles stay n (handle_at kept.handles n) refl;
+          far = λ table file n above. far_target file n above;
         } in
-        let same = stands_alike agrees.segments agrees.holds.taken.alone number s (loadable_has agrees.holds.file agrees.segments agrees.holds.taken.loadable number s is) (setting id new.slots kept.handles) (setting id old.slots kept.handles) alike (held_at user number).pokes in
+        let same = stands_alike agrees.segments number s (loadable_has agrees.holds.file agrees.segments agrees.holds.taken.loadable number s is) (setting_with now id new.slots kept.handles) (setting_with far id old.slots kept.handles) alike (held_at user number).pokes in
         rw (same, bytes) (agrees.begins (were_there there) number s h is has before);
   }

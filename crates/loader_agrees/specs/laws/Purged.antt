@@ -1,6 +1,6 @@
 -- A loader after a user's blocks were purged.
-use Rattle.std.proofs.Common.{◌≡◌, ℕ, Bool, true, false, cond, ◌==◌, ◌+◌, List, [], map, Option, Some, None, IsSome, refl, sym, ap, ◌∙◌, arith}
-use Rattle.std.specs.Prelude.{◌&&◌, slice_get, option_map, Contains}
+use Rattle.std.proofs.Common.{◌≡◌, ℕ, Bool, true, false, cond, ◌==◌, [], map, Option, Some, None, IsSome, refl, sym, ap, subst, ◌∙◌, arith}
+use Rattle.std.specs.Prelude.{◌&&◌, Contains}
 use Rattle.omf_io.specs.Files.{FileMap}
 use Rattle.iigs_meaning.specs.declared.handles.Handle.{Handle}
 use Rattle.iigs_meaning.specs.declared.slots.Slot.{Slot}
@@ -11,13 +11,14 @@ use Rattle.iigs_meaning.specs.Blocks.{can_purge_of}
 use Rattle.iigs_meaning.specs.Memory.{Memory, IsPurged}
 use Rattle.iigs_meaning.specs.Fits.{Slots}
 use Rattle.iigs_meaning.specs.Puts.{Purges}
-use Rattle.loader_machine.specs.State.{Machine, first_id}
+use Rattle.loader_machine.specs.State.{Machine}
 use Rattle.loader_machine.specs.Refusals.{purge_refusal}
 use Rattle.loader_machine.specs.Commands.{Counted, Purge}
 use Rattle.loader_machine.specs.Steps.{with_slots}
-use Rattle.loader_agrees.specs.Agrees.{Kept, Loaded, outline, seen_by, Agrees, IsSound, Met}
-use Rattle.loader_agrees.specs.laws.Frame.{Keeps, Same, Gone, agrees_still}
-use Rattle.loader_agrees.specs.laws.Seeing.{has_any, is_seen}
+use Rattle.loader_agrees.specs.Agrees.{Loaded, seen_by, Agrees, IsSound, Met}
+use Rattle.loader_agrees.specs.laws.Frame.{Keeps, Same, Gone}
+use Rattle.loader_agrees.specs.laws.Keeping.{agrees_kept}
+use Rattle.loader_agrees.specs.laws.Seeing.{is_seen}
 use Rattle.loader_agrees.specs.laws.Stay.{in_slot, get_is, slot_map, emptied_block, is_there}
 
 none_in : (place : ℕ) → ¬ Contains {X = ℕ} [] place
@@ -49,18 +50,11 @@ module _ (held : FileMap) (old new : Loaded) (state : Machine) (id count : ℕ) 
   next = with_slots state (map (emptied_where (can_purge_of id)) state.slots)
 
   agrees_next : Agrees held new next
-  agrees_next = record {
-    banks = is.kept.banks ∙ agrees.banks;
-    slots = is.slots ∙ ap (map (emptied_where (can_purge_of id))) agrees.slots;
-    users = ap (map (option_map outline)) users ∙ agrees.users;
-    each = λ place kept user made made'.
-        let made_old : slice_get old.users place ≡ Some (Some kept) = ap (λ (us : List (Option Kept)). slice_get us place) (sym users) ∙ made in
-        agrees_still held old.memory new.memory (first_id + place) kept user (agrees.each place kept user made_old made')
-        (λ n h found. let one = has_any old sound place kept made_old n h found in
-        let of' = sound.each place n one.0 h one.1 in
-        let live : IsSome (get old.memory.slots h) = rw of'.live refl in
-        purge_keeps old.memory new.memory id count h is live);
-  }
+  agrees_next = subst (λ (t : Slots). Agrees held new (with_slots state t)) (is.slots ∙ ap (map (emptied_where (can_purge_of id))) agrees.slots)
+      (agrees_kept held old new state sound agrees is.kept.banks users
+      (λ place n head h has. let of' = sound.each place n head h has in
+      let live : IsSome (get old.memory.slots h) = rw of'.live refl in
+      purge_keeps old.memory new.memory id count h is live))
 
   pub purge_met : Met Purges held state (Purge id) (Counted count) new
   purge_met = (next, (seen_by old id, is_seen held old state agrees id, rw passes (ap (λ (n : ℕ). Counted n) (rw (← agrees.slots) is.counted), refl)), agrees_next)

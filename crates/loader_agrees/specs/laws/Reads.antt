@@ -19,14 +19,14 @@ use Rattle.loader_machine.specs.declared.faults.LoaderFault.{LoaderFault}
 use Rattle.loader_machine.specs.Heads.{head_of, at_number}
 use Rattle.loader_machine.specs.State.{User, Machine, handles_of, held_at}
 use Rattle.loader_machine.specs.Presences.{handle_at, presence, presence_at, there_at, is_active}
-use Rattle.loader_machine.specs.Stands.{setting, stands}
+use Rattle.loader_machine.specs.Stands.{setting_with, far_of, stands}
 use Rattle.loader_machine.specs.laws.StandsLaws.{stands_long}
 use Rattle.loader_machine.specs.Found.{HoldsLoad}
 use Rattle.loader_machine.specs.Commands.{Bytes, Info, Where, Shown, SegmentIs, Refused}
 use Rattle.loader_machine.specs.Refusals.{bytes_refusal, info_refusal}
 use Rattle.loader_machine.specs.Steps.{Sees, StandsIn, IsAt, Nowhere, In, place_reply}
 use Rattle.loader_machine.specs.laws.OnceLaws.{active_is, one_load}
-use Rattle.loader_agrees.specs.Agrees.{Kept, Loaded, Outline, seen_by, AreThere, UserAgrees, Agrees, IsSound, Met}
+use Rattle.loader_agrees.specs.Agrees.{Kept, Loaded, Outline, outlines, kept_outlines, far_in, seen_by, AreThere, UserAgrees, Agrees, IsSound, Met}
 use Rattle.loader_agrees.specs.Acts.{IsActive, HasLent, HasTold, LiesIn}
 use Rattle.loader_agrees.specs.laws.Lists.{number_map}
 use Rattle.loader_agrees.specs.laws.Seeing.{IsKept, kept_is, refuses, does}
@@ -55,7 +55,7 @@ active_there (Idle h a) e = absurd cc
 active_there (Active h a) e = refl
 
 -- while a user runs, its static segments are there
-pub all_there : (held : FileMap) (loader : Loaded) (id : ℕ) (kept : Kept) (user : User) → (agrees : UserAgrees held loader.memory id kept user) → kept.life ≡ Running
+pub all_there : (held : FileMap) (loader : Loaded) (id : ℕ) (kept : Kept) (user : User) → (agrees : UserAgrees held loader.memory (far_in loader id) id kept user) → kept.life ≡ Running
     → AreThere loader.memory.slots kept.handles agrees.segments
 all_there held loader id kept user agrees runs number s is static = active_there (presence_at loader.memory.slots kept.handles number) (agrees.statics runs number s is static)
 
@@ -89,21 +89,22 @@ module _ (held : FileMap) (loader : Loaded) (state : Machine) (agrees : Agrees h
     present = ap (presence loader.memory.slots) is.handle ∙ is.active
 
     -- its block begins with what stands in it
-    pub begins : IsFront (stands (setting id loader.memory.slots is.kept.handles) (held_at user number).pokes its_segment.0) (bytes_at loader.memory h.slot)
+    pub begins : IsFront (stands (setting_with (far_in loader id) id loader.memory.slots is.kept.handles) (held_at user number).pokes its_segment.0) (bytes_at loader.memory h.slot)
     begins = one.does_agree.begins (all_there held loader id is.kept user one.does_agree is.runs) number its_segment.0 h its_segment.1 is.handle
         (rw present refl)
 
-    pub stands_there : StandsIn held state id number (stands (setting id loader.memory.slots is.kept.handles) (held_at user number).pokes its_segment.0)
+    pub stands_there : StandsIn held state id number (stands (setting_with (far_in loader id) id loader.memory.slots is.kept.handles) (held_at user number).pokes its_segment.0)
     stands_there = record {
       sees = sees_of id is.kept one;
       s = its_segment.0;
       is = its_segment.1;
-      bytes_are = ap (λ (t : Slots). stands (setting id t is.kept.handles) (held_at user number).pokes its_segment.0) agrees.slots
-          ∙ ap (λ (hs : List (Option Handle)). stands (setting id state.slots hs) (held_at user number).pokes its_segment.0) handles;
+      bytes_are = ap (λ (t : Slots). stands (setting_with (far_of t (kept_outlines loader.users) id) id t is.kept.handles) (held_at user number).pokes its_segment.0) agrees.slots
+          ∙ ap (λ (os : List (Option Outline)). stands (setting_with (far_of state.slots os id) id state.slots is.kept.handles) (held_at user number).pokes its_segment.0) agrees.users
+          ∙ ap (λ (hs : List (Option Handle)). stands (setting_with (far_of state.slots (outlines state.users) id) id state.slots hs) (held_at user number).pokes its_segment.0) handles;
     }
 
-    pub stands_size : length (stands (setting id loader.memory.slots is.kept.handles) (held_at user number).pokes its_segment.0) ≡ is.head.length
-    stands_size = stands_long one.does_agree.segments number its_segment.0 (setting id loader.memory.slots is.kept.handles) (held_at user number).pokes
+    pub stands_size : length (stands (setting_with (far_in loader id) id loader.memory.slots is.kept.handles) (held_at user number).pokes its_segment.0) ≡ is.head.length
+    stands_size = stands_long one.does_agree.segments number its_segment.0 (setting_with (far_in loader id) id loader.memory.slots is.kept.handles) (held_at user number).pokes
         (loadable_has one.does_agree.holds.file one.does_agree.segments one.does_agree.holds.taken.loadable number its_segment.0 its_segment.1)
         ∙ ap (λ (head : Head). head.length) its_segment.2
 
@@ -125,7 +126,7 @@ module _ (held : FileMap) (loader : Loaded) (state : Machine) (agrees : Agrees h
     pub lent_met : (id number at count : ℕ) (bytes : List ℕ) → HasLent loader id number at count bytes → Met Makes held state (Bytes id number at count) (Shown bytes) loader
     lent_met id number at count bytes lent =
         let is = lent.can.is in
-        let whole = stands (setting id loader.memory.slots is.kept.handles) (held_at (user id number lent.h is) number).pokes (its_segment id number lent.h is).0 in
+        let whole = stands (setting_with (far_in loader id) id loader.memory.slots is.kept.handles) (held_at (user id number lent.h is) number).pokes (its_segment id number lent.h is).0 in
         let front = begins id number lent.h is in
         let shown : bytes ≡ take count (drop at whole) = lent.is ∙ ap (λ (bs : List ℕ). take count (drop at bs)) front.1
         ∙ within_front whole front.0 at count (omega (arith, lent.can.inside, stands_size id number lent.h is)) in (

@@ -22,7 +22,7 @@ use Rattle.loader_machine.specs.Refusals.{Refuse}
 use Rattle.loader_machine.specs.Steps as steps
 use Rattle.loader_machine.specs.Commands.{Reply, Refused}
 use Rattle.loader_machine.specs.Steps.{IsSeen, Does}
-use Rattle.loader_agrees.specs.Agrees.{Kept, Loaded, Outline, outline, outline_of, seen_in, seen_by, UserAgrees, Agrees, IsOf, Has, IsSound}
+use Rattle.loader_agrees.specs.Agrees.{Kept, Loaded, Outline, outline, outline_of, far_in, seen_in, seen_by, UserAgrees, Agrees, IsOf, Has, IsSound}
 use Rattle.loader_agrees.specs.Acts.{IsActive}
 
 -- ---- users by ID
@@ -61,7 +61,7 @@ module _ (held : FileMap) (loader : Loaded) (state : Machine) (agrees : Agrees h
   pub record IsKept (kept : Kept) : Type 0 where
     pub user : User
     pub made : user_of state.users id ≡ Some user
-    pub does_agree : UserAgrees held loader.memory id kept user
+    pub does_agree : UserAgrees held loader.memory (far_in loader id) id kept user
 
   pub kept_is : (kept : Kept) → user_of loader.users id ≡ Some kept → IsKept kept
   kept_is kept is = go (user_of state.users id) refl
@@ -74,7 +74,7 @@ module _ (held : FileMap) (loader : Loaded) (state : Machine) (agrees : Agrees h
       go (Some user) e =
           let one = made_at loader.users id kept is in
           let two = made_at state.users id user e in
-          record { user = user; made = e; does_agree = subst (λ (n : ℕ). UserAgrees held loader.memory n kept user) one.1 (agrees.each (id - first_id) kept user one.0 two.0) }
+          record { user = user; made = e; does_agree = subst (λ (n : ℕ). UserAgrees held loader.memory (far_in loader n) n kept user) one.1 (agrees.each (id - first_id) kept user one.0 two.0) }
 
   seen_same : (kept : Kept) (user : User) (segments : List Segment) → outline kept ≡ outline_of user → kept.heads ≡ map head_of segments → seen_in kept ≡ steps.seen_of user segments
   seen_same kept user segments same heads =

@@ -17,12 +17,12 @@ use Rattle.iigs_meaning.specs.Room.{IsRoom}
 use Rattle.loader_machine.specs.Heads.{Head, head_of, is_table, want_of, wants_of}
 use Rattle.loader_machine.specs.State.{User, Machine, Seen, fresh, held_at, first_id, user_of, with_user, handles_of}
 use Rattle.loader_machine.specs.Presences.{Presence, Absent, Purged, Idle, Active, presence, presence_at, handle_at, lies_in, lies_at}
-use Rattle.loader_machine.specs.Stands.{stands, setting}
+use Rattle.loader_machine.specs.Stands.{stands}
 use Rattle.loader_machine.specs.Taken.{IsTaken, IsFirstRefusal}
 use Rattle.loader_machine.specs.Found.{HoldsFile, HoldsLoad, HoldsFault, Found, Unread, Bad, Good, IsFound}
 use Rattle.loader_machine.specs.Commands.{Command, Banks, Load, LoadSegment, UnloadSegment, Jsl, ShutDown, Restart, Purge, Poke, Bytes, Where, Info, Alloc, Free, Lock, Unlock, Level, StateOf, Room, Reply, Entered, Shown, SegmentIs, Placed, BlockIs, RoomIs}
 use Rattle.loader_machine.specs.Refusals.{Refuse, load_refusal, purge_refusal, free_refusal, change_refusal, state_refusal}
-use Rattle.loader_machine.specs.Steps.{seen_of, Sees, IsSeen, Decides, Does, Either, with_slots, with_both, with_segment, active_block, changed, Put, NoSlots, Lacks, PutIn, Lands, Begins, LoadsFound, StepsLoad, Outcome, OutOfSlots, OutOfRoom, Made, ComesAnew, ComesFirst, Activates, Answers, MakesActive, StandsIn, IsAt, Place, Nowhere, In, IsLocated, place_reply, EntersEntry, EntersSegment, Enters, target_at_code, address_of, no_jsl, StepsJsl, StepsShutDown, are_there, RestartsInPlace, StepsRestart, StepsAlloc, StepsChange, Steps}
+use Rattle.loader_machine.specs.Steps.{seen_of, Sees, IsSeen, Decides, Does, Either, with_slots, with_both, with_segment, active_block, changed, Put, NoSlots, Lacks, PutIn, Lands, Begins, LoadsFound, StepsLoad, Outcome, OutOfSlots, OutOfRoom, Made, ComesAnew, ComesFirst, Activates, Answers, MakesActive, StandsIn, setting_in, IsAt, Place, Nowhere, In, IsLocated, place_reply, EntersEntry, EntersSegment, Enters, target_at_code, address_of, no_jsl, StepsJsl, StepsShutDown, are_there, RestartsInPlace, StepsRestart, StepsAlloc, StepsChange, Steps}
 use Rattle.loader_machine.specs.Steps.StepsAlloc.{IsPlaced, HasNoHandle, HasNoRoom}
 use Rattle.loader_machine.specs.laws.TakenLaws.{taken_same, taken_sound, first_refusal_same}
 use Rattle.loader_machine.specs.laws.PutLaws.{counts_once, puts_once, anew_once, put_once}
@@ -173,8 +173,8 @@ module _ (held : FileMap) (state : Machine) where
       let user = user_same id p.sees q.sees in
       let s = segment_same id p.sees q.sees number p.s q.s p.is q.is in
       p.bytes_are
-      ∙ ap (λ (u : User). stands (setting id state.slots (handles_of u)) (held_at u number).pokes p.s) user
-      ∙ ap (λ (t : Segment). stands (setting id state.slots (handles_of q.sees.user)) (held_at q.sees.user number).pokes t) s
+      ∙ ap (λ (u : User). stands (setting_in state id u) (held_at u number).pokes p.s) user
+      ∙ ap (λ (t : Segment). stands (setting_in state id q.sees.user) (held_at q.sees.user number).pokes t) s
       ∙ sym q.bytes_are
 
   module _ (Makes : MakesRoom) (makes : IsOnce Makes) where

@@ -1,6 +1,6 @@
 -- What the bytes of a segment depend on: the user, the segment's own place, those of the static segments, and in a table its
 -- targets. And there are LENGTH of them.
-use Rattle.std.proofs.Common.{◌≡◌, inl, inr, ℕ, zero, suc, Bool, true, false, cond, ◌+◌, ◌*◌, List, [], ◌∷◌, ◌++◌, length, map, take, drop, All, refl, ap, ◌∙◌, arith, replicate, Some, None}
+use Rattle.std.proofs.Common.{◌≡◌, inl, inr, ℕ, zero, suc, Bool, true, false, cond, ◌+◌, ◌*◌, ◌≤◌, List, [], ◌∷◌, ◌++◌, length, map, take, drop, All, refl, ap, ◌∙◌, arith, replicate, Some}
 use Rattle.std.specs.List.{AllByRecursion, flat_map}
 use Rattle.std.proofs.lemmas.List.Elements.{All-append, All-take, All-drop, All-cons, All-nil, All-head, All-tail}
 use Rattle.std.proofs.lemmas.List.Concat.{flat_map-cons}
@@ -13,13 +13,11 @@ use Rattle.load_meaning.specs.declared.table.Entry.{Entry}
 use Rattle.load_meaning.specs.Table.{entry_bytes, table_bytes, file_entry}
 use Rattle.load_meaning.specs.laws.TableLaws.{length-entry_bytes}
 use Rattle.load_meaning.specs.LoadTable.{is_table, targets_of}
-use Rattle.load_meaning.specs.Pathnames.{pathnames_of}
-use Rattle.load_meaning.specs.Loadable.{patch_list, IsPatch, IsOwnTarget, IsSoundSegment}
+use Rattle.load_meaning.specs.Loadable.{patch_list, IsPatch, IsTarget, IsSoundSegment}
 use Rattle.load_meaning.specs.laws.CellLaws.{length-cells, length-segment_bytes}
 use Rattle.loader_machine.specs.Heads.{head_of, is_static}
 use Rattle.loader_machine.specs.State.{Pokes}
 use Rattle.loader_machine.specs.Stands.{Setting, entry_for, entries_bytes, over, read_bytes, stands}
-use Rattle.loader_machine.specs.laws.TakenLaws.{own_targets}
 use Rattle.loader_machine.specs.laws.PokeLaws.{length_over}
 
 -- ---- cells
@@ -84,31 +82,33 @@ pub record AreAlike (segments : List Segment) (number : ℕ) (s : Segment) (a b 
   pub static : (n : ℕ) (t : Segment) → segment_at segments n ≡ Some t → is_static (head_of t) ≡ true → a.place n ≡ b.place n
   pub target : is_table s ≡ true → (n : ℕ) (t : Segment) → segment_at segments n ≡ Some t → is_dynamic t.fields.kind ≡ true
       → is_skipped t.fields.kind ≡ false → a.target 1 n ≡ b.target 1 n
+  pub far : is_table s ≡ true → (file n : ℕ) → 2 ≤ file → a.target file n ≡ b.target file n
 
 all_weaker : {X : Type 0} (P Q : X → Type 0) → ((x : X) → P x → Q x) → (xs : List X) → AllByRecursion P xs → AllByRecursion Q xs
 all_weaker P Q f [] all = tt
 all_weaker P Q f (x ∷ xs) all = (f x all.0, all_weaker P Q f xs all.1)
 
-module _ (segments : List Segment) (alone : pathnames_of segments ≡ None) (number : ℕ) (s : Segment) (sound : IsSoundSegment segments number s) (a b : Setting) (alike : AreAlike segments number s a b) where
+module _ (segments : List Segment) (number : ℕ) (s : Segment) (sound : IsSoundSegment segments number s) (a b : Setting) (alike : AreAlike segments number s a b) where
   patch_place : (patch : Patch) → IsPatch segments s patch → a.place patch.segment ≡ b.place patch.segment
   patch_place patch is = elim is.near [
     | inl own ↦ rw (own, sound.number') alike.own
     | inr static ↦ alike.static patch.segment is.target is.is (rw (static, is.kept) refl)
   ]
 
-  entry_target : is_table s ≡ true → (t : Target) → IsOwnTarget segments t → a.target t.file t.segment ≡ b.target t.file t.segment
-  entry_target table t is = rw is.file' (alike.target table t.segment is.segment' is.is is.dynamic is.kept)
+  entry_target : is_table s ≡ true → (t : Target) → IsTarget segments t → a.target t.file t.segment ≡ b.target t.file t.segment
+  entry_target table t (inl is) = rw is.file' (alike.target table t.segment is.segment' is.is is.dynamic is.kept)
+  entry_target table t (inr is) = alike.far table t.file t.segment is.beyond
 
   read_same : read_bytes a s ≡ read_bytes b s
   unfolding read_bytes
   read_same = go (is_table s) refl
     where
       go : (t : Bool) → is_table s ≡ t → cond t (entries_bytes a (targets_of s)) (map (byte_of a.place) (cells s)) ≡ cond t (entries_bytes b (targets_of s)) (map (byte_of b.place) (cells s))
-      go true is = table_same a b alike.id (targets_of s) (all_weaker (IsOwnTarget segments) (λ (t : Target). a.target t.file t.segment ≡ b.target t.file t.segment) (entry_target is) (targets_of s) (own_targets segments alone (targets_of s) (sound.table is).targets))
+      go true is = table_same a b alike.id (targets_of s) (all_weaker (IsTarget segments) (λ (t : Target). a.target t.file t.segment ≡ b.target t.file t.segment) (entry_target is) (targets_of s) (sound.table is).targets)
       go false is = cells_same a.place b.place s (all_weaker (IsPatch segments s) (λ (patch : Patch). a.place patch.segment ≡ b.place patch.segment) patch_place (patch_list s) sound.patches)
 
-  -- what stands in a segment of a load file without a pathname segment depends on the user, on the segment's place and those of the
-  -- static segments, and in a table on its targets
+  -- what stands in a segment of a load file depends on the user, on the segment's place and those of the static segments, and in a table
+  -- on its targets
   pub stands_alike : (pokes : Pokes) → stands a pokes s ≡ stands b pokes s
   unfolding stands
   stands_alike pokes = ap (over pokes) read_same

@@ -14,11 +14,11 @@ use Rattle.loader_machine.specs.Heads.{head_of, is_table, want_of, wants_of}
 use Rattle.loader_machine.specs.declared.seen.Head.{Head}
 use Rattle.loader_machine.specs.State.{User, Machine, Seen, Pokes, with_user, handles_of, held_at}
 use Rattle.loader_machine.specs.Presences.{presence_at}
-use Rattle.loader_machine.specs.Stands.{Setting, entries_bytes, read_bytes, over, stands, setting}
+use Rattle.loader_machine.specs.Stands.{Setting, entries_bytes, read_bytes, over, stands}
 use Rattle.loader_machine.specs.Found.{Found, Unread, Bad, Good, IsFound}
 use Rattle.loader_machine.specs.Commands.{Command, Banks, Load, LoadSegment, UnloadSegment, Jsl, ShutDown, Restart, Purge, Poke, Bytes, Where, Info, Alloc, Free, Lock, Unlock, Level, StateOf, Room, Reply, Entered, SegmentIs}
 use Rattle.loader_machine.specs.Refusals.{Refuse, load_refusal, load_segment_refusal, restart_refusal}
-use Rattle.loader_machine.specs.Steps.{Sees, IsSeen, Decides, Does, Either, Begins, IsPut, Lands, LoadsFound, StepsLoad, Activates, MakesActive, StandsIn, IsAt, Place, Nowhere, In, IsLocated, EntersEntry, EntersSegment, Enters, target_at_code, address_of, no_jsl, StepsJsl, are_there, RestartsInPlace, StepsRestart, Steps}
+use Rattle.loader_machine.specs.Steps.{Sees, IsSeen, Decides, Does, Either, Begins, IsPut, Lands, LoadsFound, StepsLoad, Activates, MakesActive, setting_in, StandsIn, IsAt, Place, Nowhere, In, IsLocated, EntersEntry, EntersSegment, Enters, target_at_code, address_of, no_jsl, StepsJsl, are_there, RestartsInPlace, StepsRestart, Steps}
 use Rattle.loader_machine.specs.Needs.{is_read, path_if, NeedsOf, Reaches, restart_reads, Needs}
 use Rattle.loader_machine.specs.Transcript.{IsAnswered, AreAnswered}
 use Rattle.omf_compact.specs.laws.Sights.{Sight, sight_of, AreAlike, Shows}
@@ -134,7 +134,7 @@ module _ (held other : FileMap) (there : Shows held other) (back : Shows other h
         sees = too is.sees;
         s = t.0;
         is = t.1;
-        bytes_are = is.bytes_are ∙ stands_alike (setting id state.slots (handles_of is.sees.user)) (held_at is.sees.user number).pokes is.s t.0 t.2;
+        bytes_are = is.bytes_are ∙ stands_alike (setting_in state id is.sees.user) (held_at is.sees.user number).pokes is.s t.0 t.2;
       }
 
   is_at : (state : Machine) (address id number offset : ℕ) → IsAt held state address id number offset → IsAt other state address id number offset

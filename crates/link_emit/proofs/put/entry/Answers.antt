@@ -1,7 +1,7 @@
 use Rattle.std.proofs.Common.{ℕ, Result, Err, sym, ap, ◌∙◌, inr, arith}
 use Rattle.jump_table.specs.declared.table.TableFault.{TableFault}
 use Rattle.load_meaning.specs.Table.{entry_place}
-use Rattle.link_emit.proofs.PutLaws.{entry_at, lacks_room, entered_room}
+use Rattle.link_emit.proofs.PutLaws.{entry_at, lacks_room, is_full, entered_room}
 use Rattle.link_emit.proofs.put.entry.Goals as goal
 
 abbrev failed : TableFault → Result ℕ TableFault
@@ -21,3 +21,8 @@ returns-clause-ok c =
       place = place.2 ∙ ap entry_place (sym (entry_at c.entry.new.self t place.0 c.count-few.ensures.distinct place.1));
       room = entered_room c.args.table.now c.entry.new.self t c.in-Ok.ensures.targets (omega (arith, c.count-few.ensures.value, c.count-few.ensures.few));
     }
+
+pub returns-in-Err-Memory-clause-full : goal.returns-in-Err-Memory-clause-full
+returns-in-Err-Memory-clause-full c lacks =
+    let full = is_full c.args.table.now c.args.target lacks (omega (arith, c.count-most.ensures.value, c.count-most.ensures.few)) in
+    absurd (cc (c.in-Err-Memory.ensures.too_many.1 full, c.in-Err-Memory.field-0-is))

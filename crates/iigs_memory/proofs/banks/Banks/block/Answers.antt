@@ -4,12 +4,12 @@ use Rattle.iigs_memory.proofs.banks.Banks.block.Goals as goal
 
 pub slice-requires : goal.slice-requires
 slice-requires c = record {
-  order = store_order c.self.inside.map c.self.inside.bytes.items c.self.inside.table (vec_capacity c.self.inside.spots) (vec_capacity c.self.inside.turns) (vec_capacity c.self.inside.made) c.self.invariant.0 c.args.self.now c.self.view_is c.args.h c.in_ok-part.part c.in_ok-part.ensures.part;
-  within = rw c.deref.ensures.value (store_within c.self.inside.map c.self.inside.bytes.items c.self.inside.table (vec_capacity c.self.inside.spots) (vec_capacity c.self.inside.turns) (vec_capacity c.self.inside.made) c.self.invariant.0 c.args.self.now c.self.view_is c.args.h c.in_ok-part.part c.in_ok-part.ensures.part);
+  order = store_order c.self.inside.places.banks c.self.inside.bytes.items c.self.inside.places.slots c.know_arranged.ensures (vec_capacity c.self.inside.made) c.self.invariant.0 c.args.self.now c.self.view_is c.args.h c.in_ok-part.part c.in_ok-part.ensures.part;
+  within = rw c.deref.ensures.value (store_within c.self.inside.places.banks c.self.inside.bytes.items c.self.inside.places.slots c.know_arranged.ensures (vec_capacity c.self.inside.made) c.self.invariant.0 c.args.self.now c.self.view_is c.args.h c.in_ok-part.part c.in_ok-part.ensures.part);
 }
 
 pub returns-clause-lent : goal.returns-clause-lent
 returns-clause-lent c = record {
   live = c.in_ok-part.ensures.part.live;
-  is = c.slice.ensures ∙ rw c.deref.ensures.value (store_bytes c.self.inside.map c.self.inside.bytes.items c.self.inside.table (vec_capacity c.self.inside.spots) (vec_capacity c.self.inside.turns) (vec_capacity c.self.inside.made) c.self.invariant.0 c.args.self.now c.self.view_is c.args.h c.in_ok-part.part c.in_ok-part.ensures.part);
+  is = c.slice.ensures ∙ rw c.deref.ensures.value (store_bytes c.self.inside.places.banks c.self.inside.bytes.items c.self.inside.places.slots c.know_arranged.ensures (vec_capacity c.self.inside.made) c.self.invariant.0 c.args.self.now c.self.view_is c.args.h c.in_ok-part.part c.in_ok-part.ensures.part);
 }

@@ -46,7 +46,7 @@ invariant_of-self-2 c =
     c.in-Ok.ensures.placed (c.as_slice.ensures.value ∙ plan.wants') (same_handles c.self.inside.banks.banks c.args.user (without_user c.self.inside.banks.slots c.args.user) c.place_all_anew.new.banks.slots c.as_slice.result.now c.args.plan.wants.items c.as_slice-2.result.now c.place_all_anew.new.handles
     c.args.plan.handles.items c.args.plan.handles.len c.in-Ok.ensures.placed.puts c.as_slice.ensures.value plan.handles' c.args.plan.handles.ok.0 c.as_slice-2.ensures.value) c.settle.ensures.settled c.settle.ensures.heads c.settle.ensures.handles plan.path' refl c.entry_of-entry.ensures
     last.users c.set_user.ensures.set in
-    (begun_anew_sound old last c.args.user found.0 c.args.load.now started c.self.invariant.0 found.1 did, omega (arith, c.self.invariant.1, c.set_user.ensures.room))
+    (begun_anew_sound old last c.args.user found.0 c.args.load.now started c.self.invariant.0 found.1 did c.requires.taken.0 c.requires.taken.1, omega (arith, c.self.invariant.1, c.set_user.ensures.room))
 
 pub returns-clause-begun : goal.returns-clause-begun
 returns-clause-begun c k made =

@@ -1,7 +1,8 @@
-use Rattle.std.proofs.Common.{◌≡◌, ℕ, ◌-◌, length, Some, refl, sym, ap, subst, ◌∙◌, arith}
+use Rattle.std.proofs.Common.{◌≡◌, ℕ, ◌-◌, List, length, Some, refl, sym, ap, subst, ◌∙◌, arith}
 use Rattle.std.proofs.lemmas.List.{length-map}
 use Rattle.std.proofs.lemmas.Option.{same_Some}
-use Rattle.loader_machine.specs.Heads.{head_of}
+use Rattle.loader_machine.specs.Heads.{head_of, at_number}
+use Rattle.loader_machine.specs.declared.seen.Head.{Head}
 use Rattle.loader_machine.specs.State.{first_id, user_of}
 use Rattle.loader_machine.specs.Presences.{presence, there_at}
 use Rattle.loader_machine.specs.Needs.{is_read}
@@ -12,7 +13,7 @@ use Rattle.sys_loader.specs.Filling.{HasHead, IsWritten}
 use Rattle.sys_loader.specs.Activating.{HasCome}
 use Rattle.sys_loader.proofs.Settling.{are_sound}
 use Rattle.sys_loader.proofs.Waking.{can_load, one_kept, gone_empty}
-use Rattle.sys_loader.proofs.Came.{came_sound}
+use Rattle.sys_loader.proofs.Came.{dynamic_plain, came_sound}
 use Rattle.sys_loader.proofs.Brought.{block_there, block_fits, number_inside, has_head, roomy_filled, has_come}
 use Rattle.sys_loader.proofs.loader.Loader.bring.Goals as goal
 
@@ -127,6 +128,8 @@ invariant_of-self-2 c =
     c.requires.taken.1 (c.requires.same k made) c.set_places.ensures c.from.ensures c.set.ensures c.from-2.ensures c.fill_block.ensures c.renew_tables.ensures refl (c.set_handle.ensures.set k c.user_in-found.ensures) in (
       came_sound old last c.args.user c.args.number s.head s.handle c.args.load.now c.place_of-address.result c.self.invariant.0 can
           (ap (λ (l : Loaded). is_read (presence l.memory.slots s.handle)) c.self.view_is ∙ c.requires.gone)
+          (dynamic_plain c.requires.taken.0 c.args.load.now c.requires.taken.1 c.args.number s.head
+          (ap (λ (hs : List Head). at_number hs c.args.number) (c.requires.same k made ∙ ap (λ (x : Kept). x.heads) same) ∙ can.head') can.dynamic)
           (subst (λ (x : Kept). HasCome old c.args.user c.args.number x s.head s.handle c.args.load.now c.place_of-address.result last) same did),
       omega (arith, c.self.invariant.1, c.set_handle.ensures.room),
     )

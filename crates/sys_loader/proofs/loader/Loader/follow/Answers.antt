@@ -28,7 +28,7 @@ returns-in-Entry-clause-asked g c =
     let there = subst (λ (l : Loaded). HasReached l c.args.user c.args.segment c.args.at (Entry c.in-Entry.owner c.in-Entry.number c.in-Entry.offset)) (sym c.reach.ensures.same) reached in
     subst (λ (l : Loaded). HasAsked l c.args.user c.args.segment c.args.at asked asked') c.reach.ensures.same
     (has_asked c.reach.new.self c.args.user c.args.segment c.args.at c.in-Entry.owner c.in-Entry.number c.in-Entry.offset there
-    asked asked' c.enter.ensures.asked c.enter.ensures.unasked c.enter.ensures.refused_unasked)
+    asked asked' c.enter.ensures.asked c.enter.ensures.unasked)
 
 pub returns-in-Entry-clause-did : goal.returns-in-Entry-clause-did
 returns-in-Entry-clause-did g c =

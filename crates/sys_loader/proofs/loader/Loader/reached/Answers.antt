@@ -34,7 +34,7 @@ pub returns-clause-reached : goal.returns-clause-reached
 returns-clause-reached c user segment at leads =
     let p = c.args.place in
     let made : user_of c.args.self.now.users p.user ≡ Some (kept c.user_in.result.now) = ap (λ (l : Loaded). user_of l.users p.user) (sym c.self.view_is) ∙ c.user_in.ensures in
-    calls_entry c.args.self.now user segment at p leads (kept c.user_in.result.now) made c.segment_in-found.result.head c.segment_in-found.ensures.head
+    calls_entry c.args.self.now user segment at p leads (kept c.user_in.result.now) made c.segment_in-found.result.head c.segment_in-found.ensures.head c.is_sound.ensures
     c.segment_in-found.result.handle c.segment_in-found.ensures.handle (sym c.is_table.ensures ∙ c.if-not-is_table.false) c.in-Some.k c.in-Some.ensures.0 c.in-Some.ensures.1
     c.block_of.result.now (subst (λ (l : Loaded). IsSomeAnd c.segment_in-found.result.handle (λ h. c.block_of.result.now ≡ bytes_at l.memory h.slot)) c.self.view_is c.block_of.ensures)
     c.target_at-target.result c.target_at-target.ensures

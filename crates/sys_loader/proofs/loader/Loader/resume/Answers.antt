@@ -23,7 +23,7 @@ invariant_of-self c =
     let whole = ap (λ (l : Loaded). is_whole l k) c.self.view_is ∙ c.requires.whole k (ap (λ (l : Loaded). user_of l.users c.args.user) (sym c.self.view_is) ∙ c.user_in-found.ensures) in
     let did = has_resumed old.memory old.users c.args.user k c.user_in-found.result.now.segments.items started last refl refl refl c.activate_all.ensures
     (c.set_life.ensures.set k c.user_in-found.ensures) c.entry_of-entry.ensures in
-    (resumed_sound old last c.args.user k started c.self.invariant.0 c.user_in-found.ensures whole old.memory (quiet_same old.memory) did, omega (arith, c.self.invariant.1, c.set_life.ensures.room))
+    (resumed_sound old last c.args.user k started c.self.invariant.0 c.user_in-found.ensures whole old.memory (quiet_same old.memory) did c.self.invariant.0.calls, omega (arith, c.self.invariant.1, c.set_life.ensures.room))
 
 pub returns : goal.returns
 returns c = λ k made.

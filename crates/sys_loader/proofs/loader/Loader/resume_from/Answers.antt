@@ -8,7 +8,7 @@ use Rattle.sys_loader.specs.Filling.{AreFilled}
 use Rattle.sys_loader.specs.Restarting.{is_whole, AreReread, again_handle, HasReloaded}
 use Rattle.sys_loader.proofs.Settling.{are_sound}
 use Rattle.sys_loader.proofs.Resuming.{quiet_reread}
-use Rattle.sys_loader.proofs.Reloading.{its_short, again_ready, has_reread, quiet_sound}
+use Rattle.sys_loader.proofs.Reloading.{its_short, again_ready, has_reread, quiet_sound, reread_calls}
 use Rattle.sys_loader.proofs.loader.Loader.resume_from.Goals as goal
 
 pub set_places-requires-clause-short : goal.set_places-requires-clause-short
@@ -38,8 +38,11 @@ invariant_of-self c =
     ap (λ (x : Kept). x.life) (same_Some (kept user) c.requires.can.0 (sym made' ∙ c.requires.can.1.made)) ∙ c.requires.can.1.rests in
     let reread : AreReread c.args.load.now c.args.user (kept user) old.memory c.fill_again.new.banks =
     has_reread old c.args.user user c.self.invariant.0 c.user_in-found.ensures rests c.args.load.now (c.requires.same (kept user) made') c.fill_again.new.banks
-    (subst (λ (places : List (Option ℕ)). AreFilled c.args.load.now (map again_handle user.segments.items) c.args.user places old.memory c.fill_again.new.banks (length user.segments.items)) c.set_places.ensures c.fill_again.ensures) in
-    (quiet_sound old.memory c.fill_again.new.banks old.users c.self.invariant.0 (quiet_reread c.args.load.now c.args.user (kept user) old.memory c.fill_again.new.banks reread), c.self.invariant.1)
+    (subst (λ (places : List (Option ℕ)). AreFilled c.args.load.now (map again_handle user.segments.items) c.args.user places old.memory c.fill_again.new.banks (length user.segments.items)) c.set_places.ensures c.fill_again.ensures) in (
+      quiet_sound old.memory c.fill_again.new.banks old.users c.self.invariant.0 (quiet_reread c.args.load.now c.args.user (kept user) old.memory c.fill_again.new.banks reread)
+          (reread_calls old.memory c.fill_again.new.banks old.users c.args.user (kept user) c.self.invariant.0 c.user_in-found.ensures c.requires.taken.0 c.args.load.now c.requires.taken.1 (c.requires.same (kept user) made') reread),
+      c.self.invariant.1,
+    )
 
 pub returns : goal.returns
 returns c file k taken made =

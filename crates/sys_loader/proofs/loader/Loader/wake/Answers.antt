@@ -1,4 +1,4 @@
-use Rattle.std.proofs.Common.{◌≡◌, ◌-◌, length, Some, refl, sym, ap, subst, ◌∙◌}
+use Rattle.std.proofs.Common.{◌≡◌, inl, ◌-◌, length, Some, refl, sym, ap, subst, ◌∙◌}
 use Rattle.std.proofs.lemmas.List.{length-map}
 use Rattle.std.proofs.lemmas.Option.{same_Some}
 use Rattle.loader_machine.specs.State.{first_id}
@@ -9,7 +9,7 @@ use Rattle.loader_agrees.specs.laws.Seeing.{made_at}
 use Rattle.sys_loader.specs.View.{kept, loaded}
 use Rattle.sys_loader.specs.Lives.{HasShifted}
 use Rattle.sys_loader.proofs.Unloading.{roomy}
-use Rattle.sys_loader.proofs.Shifting.{shifted_sound}
+use Rattle.sys_loader.proofs.Shifting.{own_leading, shifted_sound}
 use Rattle.sys_loader.proofs.Activated.{wakes}
 use Rattle.sys_loader.proofs.Waking.{can_load, one_kept, has_woken, idle_there}
 use Rattle.sys_loader.proofs.loader.Loader.wake.Goals as goal
@@ -40,8 +40,9 @@ invariant_of-self c =
     let shifted = has_woken old c.args.user c.args.number c.args.h c.args.address k c.renew_tables.new.banks c.activate.new.banks last (length items)
     (sym (length-map items (λ s. s.head))) c.renew_tables.ensures c.activate.ensures refl refl in
     let same : k ≡ can.kept = same_Some k can.kept (sym c.user_in-found.ensures ∙ can.made) in (
-      shifted_sound old last c.args.user c.args.number can.kept c.args.h active_block (Some c.args.address) c.requires.can.0 c.self.invariant.0 can.made can.head' can.handle' can.dynamic wakes
-          (subst (λ (x : Kept). HasShifted old x c.args.number c.args.h active_block (Some c.args.address) last) same shifted) can.runs,
+      shifted_sound old last c.args.user c.args.number c.args.user 1 can.kept can.kept c.args.h active_block (Some c.args.address) c.requires.can.0 c.self.invariant.0
+          (own_leading old.users c.self.invariant.0.bare c.args.user) can.made (inl refl) can.made can.head' can.handle' can.dynamic wakes
+          (subst (λ (x : Kept). HasShifted old x (1, c.args.number) c.args.h active_block (Some c.args.address) last) same shifted) can.runs,
       c.self.invariant.1,
     )
 
@@ -54,5 +55,5 @@ returns c = λ k made.
     let shifted = has_woken old c.args.user c.args.number c.args.h c.args.address found c.renew_tables.new.banks c.activate.new.banks last (length items)
     (sym (length-map items (λ s. s.head))) c.renew_tables.ensures c.activate.ensures refl refl in
     let same = one_kept old c.args.self.now c.args.user found k c.self.view_is c.user_in-found.ensures made in
-    subst (λ (l : Loaded). HasShifted l k c.args.number c.args.h active_block (Some c.args.address) last) c.self.view_is
-    (subst (λ (x : Kept). HasShifted old x c.args.number c.args.h active_block (Some c.args.address) last) same shifted)
+    subst (λ (l : Loaded). HasShifted l k (1, c.args.number) c.args.h active_block (Some c.args.address) last) c.self.view_is
+    (subst (λ (x : Kept). HasShifted old x (1, c.args.number) c.args.h active_block (Some c.args.address) last) same shifted)

@@ -1,11 +1,12 @@
-use Rattle.std.proofs.Common.{◌≡◌, length, map, ap, arith}
+use Rattle.std.proofs.Common.{◌≡◌, length, map, sym, ap, subst, arith}
 use Rattle.std.specs.Prelude.{slice_set, option_map}
 use Rattle.std.proofs.lemmas.List.{length-set}
 use Rattle.iigs_meaning.specs.Memory.{Memory, bytes_at}
 use Rattle.loader_agrees.specs.Agrees.{Loaded, IsSound}
 use Rattle.loader_agrees.specs.laws.Seeing.{block_room}
-use Rattle.sys_loader.specs.View.{kept}
-use Rattle.sys_loader.proofs.Poking.{sound_written}
+use Rattle.sys_loader.specs.View.{kept, loaded}
+use Rattle.sys_loader.specs.Lives.{CanPoke}
+use Rattle.sys_loader.proofs.Poking.{sound_written, poked_tables}
 use Rattle.sys_loader.proofs.loader.Loader.write_byte.Goals as goal
 
 pub put-requires-clause-within : goal.put-requires-clause-within
@@ -18,8 +19,10 @@ put-requires-clause-within c =
 
 pub invariant_of-self : goal.invariant_of-self
 invariant_of-self c =
-    let old = c.self.inside.banks in (
+    let old = c.self.inside.banks in
+    let before = loaded old c.self.inside.users.items in
+    let can = subst (λ (l : Loaded). CanPoke l c.args.user c.args.segment c.args.at c.in-Ok.h) (sym c.self.view_is) c.in-Ok.ensures.can in (
       rw c.put.ensures (sound_written old (map (option_map kept) c.self.inside.users.items) c.in-Ok.h.slot (slice_set (bytes_at old c.in-Ok.h.slot) c.args.at c.args.byte) c.self.invariant.0
-          (length-set (bytes_at old c.in-Ok.h.slot) c.args.at c.args.byte)),
+          (length-set (bytes_at old c.in-Ok.h.slot) c.args.at c.args.byte) (poked_tables before c.args.user c.args.segment c.args.at c.in-Ok.h c.self.invariant.0 can)),
       c.self.invariant.1,
     )

@@ -1,6 +1,0 @@
-use Rattle.std.proofs.Common.{arith, sym}
-use Rattle.iigs_memory.proofs.Counts.{free_below-zero}
-use Rattle.iigs_memory.proofs.bank_map.BankMap.free_bytes.Goals as goal
-
-pub loop-bank-init : goal.loop-bank-init
-loop-bank-init c = (sym (free_below-zero c.self.inside.numbers.items), omega arith)

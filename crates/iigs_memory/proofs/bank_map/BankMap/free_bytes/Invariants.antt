@@ -1,7 +1,0 @@
-use Rattle.std.proofs.Common.{◌≡◌, ◌≤◌, ◌*◌}
-use Rattle.iigs_memory.specs.Sizes.{free_below}
-use Rattle.iigs_memory.proofs.bank_map.BankMap.free_bytes.Given as goal
-
--- the free bytes of the banks so far
-abbrev pub invariant-loop-bank : goal.invariant-loop-bank
-invariant-loop-bank l = (l.total ≡ free_below l.self-inside.numbers.items l.bank) × (l.total ≤ 0x10000 * l.bank)

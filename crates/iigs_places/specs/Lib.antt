@@ -1,0 +1,11 @@
+pub mod Offsets
+pub mod Sizes
+pub mod Extent
+pub mod Open
+pub mod Spots
+pub mod Arranged
+pub mod Table
+pub mod Alls
+pub mod Marks
+pub mod Runs
+pub mod Holder

@@ -1,0 +1,18 @@
+//! Where blocks lie among banks of memory, under handles, without their bytes: where a want goes, and which blocks are
+//! purged for it.
+//!
+//! `Places` takes all of its memory when it is made. No other call takes any, so none refuses for want of memory.
+#![tactic(auto)]
+
+mod bank_map;
+mod layout;
+mod marks;
+mod open;
+mod places;
+mod runs;
+mod search;
+mod spots;
+mod table;
+
+pub use places::Places;
+pub use table::Put;

@@ -1,0 +1,305 @@
+//! Places of blocks among banks.
+
+ghost use Rattle.std.specs.Prelude.{◌≡◌, ◌≢◌, ◌+◌, ◌-◌, ◌<◌, ◌≤◌, ◌^◌, ℕ, [], false, All, MatchOption, IsSome, IsSomeAnd, IfOk, IfErr, OnErr, OnOk, length, count_by, map, vec_capacity};
+ghost use Rattle.std.specs.Option.{option_map_or};
+ghost use Rattle.std.specs.Result.{result_ok};
+ghost use Rattle.iigs_meaning.specs.declared.handles.Handle as declared;
+ghost use Rattle.iigs_meaning.specs.Slots.{get, slot_at, with_value, after_release, is_free};
+ghost use Rattle.iigs_meaning.specs.Fits.{IsWant, HoldsByte, block_in};
+ghost use Rattle.iigs_meaning.specs.Placement.{emptied_where};
+ghost use Rattle.iigs_meaning.specs.Puts.{Purges, IsPlaceRefusal, IsReplaceRefusal, IsPlaceAllRefusal, slots_for};
+ghost use Rattle.iigs_meaning.specs.Blocks.{new_slots, can_purge_of};
+ghost use Rattle.iigs_meaning.specs.Banks.{AreDistinctTo, IsBanksRefusal};
+ghost use Rattle.iigs_meaning.specs.Room.{CountsBelow, IsRoom};
+ghost use Rattle.iigs_places.specs.Offsets.{bytes_below, offset_of};
+ghost use Rattle.iigs_places.specs.Arranged.{IsArranged};
+ghost use Rattle.iigs_places.specs.Table.{IsPut, IsReput};
+ghost use Rattle.iigs_places.specs.Alls.{AllPut};
+
+use crate::bank_map::BankMap;
+use crate::layout::{Layout, lay_all, lay_less, new_layout};
+use crate::marks::last_mark;
+use crate::spots::Spot;
+use crate::table::{
+    Put, purge_user, put_all, put_block, replace_block, set, start_plan, used_bytes,
+};
+use iigs_handles::{Handles, HandlesFault, SLOTS};
+use iigs_meaning::{BanksFault, Block, Content, Handle, PlaceFault, Stale, Want};
+use std::alloc::{AllocError, Global};
+use std::marker::Model;
+
+/// Where blocks lie among banks, under handles.
+#[derive(Drop)]
+pub struct Places {
+    map: BankMap,
+    table: Handles<Block>,
+    layout: Layout,
+    // Scratch space for a search.
+    spots: Vec<Spot>,
+    turns: Vec<u32>,
+}
+
+impl Model for Places {
+    ghost use Rattle.iigs_places.specs.Arranged.{Arrangement};
+
+    ghost Value = { Arrangement };
+
+    ghost use Rattle.std.specs.Prelude.{◌≤◌, vec_capacity};
+    ghost use Rattle.iigs_places.specs.Arranged.{IsArranged};
+    ghost use Rattle.iigs_places.specs.Runs.{IsLayout};
+
+    ghost view = { λ s. record { banks = s.map; slots = s.table } };
+
+    ghost invariant = { λ s. IsArranged s.map s.table × IsLayout s.table s.layout
+        × (4096 ≤ vec_capacity s.spots) × (4096 ≤ vec_capacity s.turns) };
+}
+
+fn scratch<T>(alloc: Global, count: usize) -> Result<Vec<T>, AllocError>
+    ensures { IfOk result (λ items. count ≤ vec_capacity items) }
+{
+    Vec::with_capacity(alloc, count)
+}
+
+#[tactic(auto, unfolding(iigs_meaning::specs::Blocks::new_slots))]
+fn table(alloc: Global) -> Result<Handles<Block>, AllocError>
+    ensures { IfOk result (λ table. table ≡ new_slots) }
+{
+    match Handles::new(alloc) {
+        Ok(table) => Ok(table),
+        Err(HandlesFault::Memory) => Err(AllocError),
+    }
+}
+
+// What `new` makes beside the map of the banks.
+fn parts(alloc: Global, map: BankMap) -> Result<Places, AllocError>
+    requires { All (λ bank. bank < 256) map }
+    ensures { IfOk result (λ places. (places.banks ≡ map) × (places.slots ≡ new_slots)) }
+{
+    Ok(Places {
+        map,
+        table: table(alloc)?,
+        layout: new_layout(alloc)?,
+        spots: scratch(alloc, SLOTS)?,
+        turns: scratch(alloc, SLOTS)?,
+    })
+}
+
+impl Places {
+    ghost use Rattle.iigs_places.specs.Holder.{Has, IsHolder};
+
+    /// The places of these banks, without blocks. It takes all the memory that it ever takes.
+    pub fn new(alloc: Global, banks: &[u8]) -> Result<Places, BanksFault>
+        ensures made { IfOk result (λ places. (places.banks ≡ banks.now) × (places.slots ≡ new_slots)) }
+        ensures some { OnOk result (banks.now ≢ []) }
+        ensures distinct { OnOk result (AreDistinctTo (length banks.now) banks.now) }
+        ensures refused { IfErr result (IsBanksRefusal banks.now) }
+    {
+        let map = match BankMap::new(alloc, banks) {
+            Ok(map) => map,
+            Err(fault) => return Err(fault),
+        };
+        match parts(alloc, map) {
+            Ok(places) => Ok(places),
+            Err(_) => Err(BanksFault::Memory),
+        }
+    }
+
+    /// Blocks lie apart in free memory of the banks.
+    pub fn know_arranged(&self)
+        ensures { IsArranged self.now.banks self.now.slots }
+    {
+        let _map = &self.map;
+    }
+
+    /// How many bytes the configured banks have.
+    pub fn size(&self) -> usize
+        ensures { result ≡ bytes_below self.now.banks 256 }
+    {
+        self.map.size()
+    }
+
+    /// How many bytes the configured banks have before an address.
+    pub fn offset(&self, address: u32) -> usize
+        requires { address < 2 ^ 24 }
+        ensures value { result ≡ offset_of self.now.banks address }
+        ensures small { result < 2 ^ 25 }
+    {
+        self.map.offset(address)
+    }
+
+    /// The block of a live handle, whether it is there or was purged.
+    pub fn look(&self, h: Handle) -> Result<Block, Stale>
+        ensures { result_ok result ≡ get self.now.slots h }
+    {
+        match self.table.look(h) {
+            Ok(block) => Ok(*block),
+            Err(Stale) => Err(Stale),
+        }
+    }
+
+    // The handle of a slot whose block has the byte at an address.
+    fn held_at(&self, place: u16, address: u32) -> Option<Handle>
+        requires { place < 4096 }
+        ensures { MatchOption result (¬ HoldsByte address (slot_at self.now.slots place)) (λ h. (h.slot ≡ place) × Has self.now.slots address h) }
+    {
+        let slot = &self.table.slots()[usize::from(place)];
+        let Content::Used(block) = &slot.content else {
+            return None;
+        };
+        let Some(at) = block.at else {
+            return None;
+        };
+        if at <= address && address - at < block.want.size {
+            return Some(Handle {
+                slot: place,
+                generation: slot.generation,
+            });
+        }
+        None
+    }
+
+    /// The handle of the block that has the byte at an address.
+    pub fn holder(&self, address: u32) -> Option<Handle>
+        ensures { MatchOption result ((h : declared.Handle) → ¬ Has self.now.slots address h) (IsHolder self.now.slots address) }
+    {
+        match last_mark(&self.layout.marks, address) {
+            Some(mark) => self.held_at(mark.slot, address),
+            None => None,
+        }
+    }
+
+    /// Puts a block in the place of a live handle's, with its place and size.
+    pub fn set(&mut self, h: Handle, block: Block)
+        requires same { IsSomeAnd (get self.old.slots h) (λ old. (block.at ≡ old.at) × (block.want ≡ old.want)) }
+        requires level { block.level < 256 }
+        ensures { self.new ≡ record self.old { slots = with_value self.old.slots h block } }
+    {
+        set(&mut self.table, h, block);
+    }
+
+    /// Releases a handle, and with it its block.
+    pub fn release(&mut self, h: Handle) -> Result<(), Stale>
+        ensures live { OnOk result (IsSome (get self.old.slots h)) }
+        ensures released { OnOk result (self.new ≡ record self.old { slots = after_release self.old.slots h }) }
+        ensures stale { OnErr result (get self.old.slots h ≡ None) }
+        ensures err { OnErr result (self.new ≡ self.old) }
+    {
+        let Ok(block) = self.table.release(h) else {
+            return Err(Stale);
+        };
+        lay_less(&mut self.layout, h.slot, block.at.unwrap_or(0));
+        Ok(())
+    }
+
+    /// Purges the purgeable blocks of a user, and counts them.
+    pub fn purge_user(&mut self, user: u16) -> u32
+        ensures after { self.new ≡ record self.old { slots = map (emptied_where (can_purge_of user)) self.old.slots } }
+        ensures count { result ≡ count_by (λ slot. option_map_or (can_purge_of user) (block_in slot) false) self.old.slots }
+    {
+        let count = purge_user(&mut self.table, user);
+        lay_all(&mut self.layout, &self.table);
+        count
+    }
+
+    /// Places a block under a new handle. Blocks are purged for it as needed.
+    pub fn place(
+        &mut self,
+        want: &Want,
+        user: u16,
+        locked: bool,
+        level: u8,
+    ) -> Result<Put, PlaceFault>
+        requires want { IsWant want.now }
+        ensures put { IfOk result (λ put. IsPut self.old.banks self.old.slots want.now user locked level put self.new.slots) }
+        ensures banks { self.new.banks ≡ self.old.banks }
+        ensures refused { IfErr result (IsPlaceRefusal Purges self.old.banks self.old.slots want.now) }
+        ensures err { OnErr result (self.new ≡ self.old) }
+    {
+        put_block(
+            &self.map,
+            &mut self.table,
+            &mut self.layout,
+            &mut self.spots,
+            &mut self.turns,
+            want,
+            user,
+            locked,
+            level,
+        )
+    }
+
+    /// Places an empty block anew under its handle, and gives the address. It keeps its user, level and lock.
+    pub fn replace(&mut self, h: Handle, want: &Want) -> Result<u32, PlaceFault>
+        requires want { IsWant want.now }
+        ensures put { IfOk result (λ address. IsReput self.old.banks self.old.slots h want.now address self.new.slots) }
+        ensures banks { self.new.banks ≡ self.old.banks }
+        ensures refused { IfErr result (IsReplaceRefusal Purges self.old.banks self.old.slots h want.now) }
+        ensures err { OnErr result (self.new ≡ self.old) }
+    {
+        replace_block(
+            &self.map,
+            &mut self.table,
+            &mut self.layout,
+            &mut self.spots,
+            &mut self.turns,
+            h,
+            want,
+        )
+    }
+
+    /// Takes over the blocks of others among the same banks; with `fresh` without those of a user, whose handles are
+    /// released.
+    pub fn start_from(&mut self, other: &Places, user: u16, fresh: bool)
+        requires { self.old.banks ≡ other.now.banks }
+        ensures { self.new ≡ record self.old { slots = slots_for other.now.slots user fresh } }
+    {
+        start_plan(&mut self.table, &other.table, user, fresh);
+        lay_all(&mut self.layout, &self.table);
+    }
+
+    /// How many slots are free.
+    pub fn left(&self) -> u32
+        ensures { result ≡ count_by is_free self.now.slots }
+    {
+        self.table.left()
+    }
+
+    /// Places blocks for these wants in order, locked with level 0, and tells in `made` where they are. Where one has no
+    /// room those before it are placed.
+    pub fn place_all(
+        &mut self,
+        user: u16,
+        wants: &[Want],
+        made: &mut Vec<Put>,
+    ) -> Result<(), PlaceFault>
+        requires wants { All IsWant wants.now }
+        requires free { length wants.now ≤ count_by is_free self.old.slots }
+        requires room { 4096 ≤ vec_capacity made.old }
+        ensures put { OnOk result (AllPut self.old.banks user self.old.slots wants.now made.new.items self.new.slots) }
+        ensures banks { self.new.banks ≡ self.old.banks }
+        ensures refused { IfErr result (IsPlaceAllRefusal Purges self.old.banks user self.old.slots wants.now) }
+        ensures capacity { vec_capacity made.old ≤ vec_capacity made.new }
+    {
+        put_all(
+            &self.map,
+            &mut self.table,
+            &mut self.layout,
+            &mut self.spots,
+            &mut self.turns,
+            made,
+            user,
+            wants,
+        )
+    }
+
+    /// How many bytes of free memory lie in no block.
+    pub fn room(&self) -> u32
+        ensures counts { CountsBelow (IsRoom self.now.banks self.now.slots) (2 ^ 24) result }
+        ensures only { (other : ℕ) → CountsBelow (IsRoom self.now.banks self.now.slots) (2 ^ 24) other → other ≡ result }
+        ensures all { (address : ℕ) → IsRoom self.now.banks self.now.slots address → address < 2 ^ 24 }
+    {
+        let free = self.map.free_bytes();
+        let used = used_bytes(&self.table);
+        free - used as u32
+    }
+}
