@@ -1,5 +1,5 @@
 -- How first faults are told to C.
-use Rattle.std.specs.Prelude.{◌≡◌, ◌≢◌, ℕ, ◌-◌, List, [], ◌++◌, length, replicate, Option, Some, None}
+use Rattle.std.specs.Prelude.{◌≡◌, ℕ, ◌-◌, List, [], ◌++◌, length, replicate, Some}
 use Rattle.std.specs.Option.{option_map_or}
 use Rattle.omf_format.specs.declared.fault.FileFault.{FileFault}
 use Rattle.load_meaning.specs.declared.load.LoadFault.{LoadFault}

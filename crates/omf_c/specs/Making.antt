@@ -1,18 +1,14 @@
 -- What the calls that make a file come to.
-use Rattle.std.specs.Prelude.{◌≡◌, ◌≢◌, ℕ, ◌<◌, ◌≤◌, ◌^◌, List, [], length, map, All}
-use Rattle.omf_format.specs.declared.fault.FileFault.{FileFault}
+use Rattle.std.specs.Prelude.{◌≢◌, ℕ, ◌<◌, ◌≤◌, ◌^◌, List, length, map, All}
 use Rattle.omf_format.specs.File as file
 use Rattle.omf_listing.specs.Listing.{IsListing}
-use Rattle.lib_dict.specs.declared.fault.LibFault.{LibFault}
 use Rattle.lib_dict.specs.declared.fault.LibCause.TheVariants as lib_causes
 use Rattle.lib_dict.specs.Library as library
 use Rattle.lib_dict.specs.Made.{IsLibRefused}
-use Rattle.link_meaning.specs.declared.fault.LinkFault.{LinkFault}
 use Rattle.link_meaning.specs.declared.form.LinkForm.{LinkForm}
 use Rattle.link_meaning.specs.LinkFaults as link
 use Rattle.link_meaning.specs.EmitFaults.{IsFirstLinkFault, IsLinkedTo}
 use Rattle.link_resolve.specs.Resolved.{FewGiven, HavePaths}
-use Rattle.asm_meaning.specs.declared.faults.AsmFault.{AsmFault}
 use Rattle.asm_meaning.specs.Object as asm
 use Rattle.omf_c.specs.declared.fault.OmfFault.{OmfFault}
 use Rattle.omf_c.specs.declared.file.OmfBytes.{OmfBytes}

@@ -2,12 +2,22 @@
 //! into the caller's room. `omf.h` declares the same. No call keeps anything: what it takes of memory it gives back at its end.
 #![tactic(auto)]
 
-pub mod answer;
-pub mod causes;
-pub mod fault;
-pub mod file;
-pub mod header;
-pub mod loading;
-pub mod making;
-pub mod naming;
-pub mod target;
+mod answer;
+mod causes;
+mod fault;
+mod file;
+mod header;
+mod loading;
+mod making;
+mod naming;
+mod target;
+
+pub use fault::OmfFault;
+pub use file::{OmfBytes, OmfFile};
+pub use header::OmfHeader;
+pub use loading::{omf_entries, omf_header, omf_place, omf_segments};
+pub use making::{
+    omf_assemble, omf_dump, omf_library, omf_link, omf_link_runtime, omf_link_with,
+};
+pub use naming::omf_cause_name;
+pub use target::OmfTarget;
