@@ -1,0 +1,2 @@
+-- Lemmas of the library for C.
+pub mod Unread
