@@ -2,7 +2,7 @@
 use Rattle.std.specs.Prelude.{ℕ, zero, suc, List, [], ◌∷◌, Option, None, slice_get, codes}
 
 -- the names of all causes, as the program prints them: a cause's number is its place, from 1
-pub cause_names : List (List ℕ)
+abbrev pub cause_names : List (List ℕ)
 cause_names =
   codes "Truncated" ∷ codes "BadHeader" ∷ codes "Unsupported" ∷ codes "BadRecord" ∷ codes "NotLoadFile" ∷ codes "Sequence"
   ∷ codes "DataTooLong" ∷ codes "PatchOutside" ∷ codes "NoSuchTarget" ∷ codes "DynamicTarget" ∷ codes "BadTable" ∷ codes "TooLong"

@@ -61,10 +61,10 @@ Places file number addresses =
     Reads file (λ segments bytes. (length segments ≡ length addresses) × Stands segments number (map Some addresses) bytes)
       (λ segments. (length segments ≢ length addresses) ⊎ IsOutside segments number)
 
--- where an entry leads
-abbrev pub target_of : OmfTarget → Target
-target_of target = record { file = target.file; segment = target.segment; offset = target.offset }
+-- a target, as C sees it
+abbrev pub told_target : Target → OmfTarget
+told_target target = record { file = target.file; segment = target.segment; offset = target.offset }
 
 -- where the entries of the file's jump table lead, in order; none where there is no table
 abbrev pub TellsEntries : List ℕ → Outcome (List OmfTarget) → Type 0
-TellsEntries file = Reads file (λ segments targets. map target_of targets ≡ table_targets segments) (λ segments. ⊥)
+TellsEntries file = Reads file (λ segments targets. targets ≡ map told_target (table_targets segments)) (λ segments. ⊥)

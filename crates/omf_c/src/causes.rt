@@ -1,6 +1,6 @@
 //! The numbers of causes.
 
-ghost use Rattle.std.specs.Prelude.{◌≡◌, Some, MatchOption};
+ghost use Rattle.std.specs.Prelude.{◌≡◌, ◌≢◌, Some, MatchOption};
 ghost use Rattle.omf_cli.specs.FileCauses.{cause_name};
 ghost use Rattle.loader_machine.specs.Replies.{cause_text};
 ghost use Rattle.omf_cli.specs.LibCauses.{lib_cause_name};
@@ -21,7 +21,7 @@ use orca_asm::AsmCause;
 
 /// The number of the cause of a listed file's fault; None where memory ran out.
 pub fn file_number(cause: FileCause) -> Option<u32>
-    ensures { MatchOption result (cause ≡ file_causes.Memory) (λ number. name_of number ≡ Some (cause_name cause)) }
+    ensures { MatchOption result (cause ≡ file_causes.Memory) (λ number. (cause ≢ file_causes.Memory) × (name_of number ≡ Some (cause_name cause))) }
 {
     match cause {
         FileCause::Truncated => Some(1),
@@ -33,8 +33,9 @@ pub fn file_number(cause: FileCause) -> Option<u32>
 }
 
 /// The number of the cause of a load file's fault; None where memory ran out.
+#[tactic(auto, unfolding(loader_machine::specs::Replies::cause_text))]
 pub fn load_number(cause: LoadCause) -> Option<u32>
-    ensures { MatchOption result (cause ≡ load_causes.Memory) (λ number. name_of number ≡ Some (cause_text cause)) }
+    ensures { MatchOption result (cause ≡ load_causes.Memory) (λ number. (cause ≢ load_causes.Memory) × (name_of number ≡ Some (cause_text cause))) }
 {
     match cause {
         LoadCause::NotLoadFile => Some(5),
@@ -54,7 +55,7 @@ pub fn load_number(cause: LoadCause) -> Option<u32>
 
 /// The number of the cause of a fault of a library's files; None where memory ran out.
 pub fn lib_number(cause: LibCause) -> Option<u32>
-    ensures { MatchOption result (cause ≡ lib_causes.Memory) (λ number. name_of number ≡ Some (lib_cause_name cause)) }
+    ensures { MatchOption result (cause ≡ lib_causes.Memory) (λ number. (cause ≢ lib_causes.Memory) × (name_of number ≡ Some (lib_cause_name cause))) }
 {
     match cause {
         LibCause::Truncated => Some(1),
@@ -68,7 +69,7 @@ pub fn lib_number(cause: LibCause) -> Option<u32>
 
 /// The number of the cause of a fault of linked files; None where memory ran out.
 pub fn link_number(cause: LinkCause) -> Option<u32>
-    ensures { MatchOption result (cause ≡ link_causes.Memory) (λ number. name_of number ≡ Some (link_cause_name cause)) }
+    ensures { MatchOption result (cause ≡ link_causes.Memory) (λ number. (cause ≢ link_causes.Memory) × (name_of number ≡ Some (link_cause_name cause))) }
 {
     match cause {
         LinkCause::Truncated => Some(1),
@@ -100,7 +101,7 @@ pub fn link_number(cause: LinkCause) -> Option<u32>
 
 /// The number of the cause of a fault of a source; None where memory ran out.
 pub fn asm_number(cause: AsmCause) -> Option<u32>
-    ensures { MatchOption result (cause ≡ asm_causes.Memory) (λ number. name_of number ≡ Some (asm_cause_name cause)) }
+    ensures { MatchOption result (cause ≡ asm_causes.Memory) (λ number. (cause ≢ asm_causes.Memory) × (name_of number ≡ Some (asm_cause_name cause))) }
 {
     match cause {
         AsmCause::LineTooLong => Some(32),

@@ -1,6 +1,6 @@
 //! First faults, as C sees them.
 
-ghost use Rattle.std.specs.Prelude.{◌≡◌, ◌≤◌, [], length, IfSome, MatchOption, None, Some, slice_get};
+ghost use Rattle.std.specs.Prelude.{◌≡◌, ◌≢◌, ◌≤◌, ℕ, List, [], length, MatchOption, Some};
 ghost use Rattle.std.specs.Option.{option_map_or};
 ghost use Rattle.omf_format.specs.declared.fault.FileCause.TheVariants as file_causes;
 ghost use Rattle.load_meaning.specs.declared.load.LoadCause.TheVariants as load_causes;
@@ -66,7 +66,7 @@ fn told(cause: u32, spot: Spot, line: u32, name: &[u8]) -> OmfFault
 
 /// A fault of a listed file, unless memory ran out.
 pub fn file_fault(fault: FileFault) -> Option<OmfFault>
-    ensures { MatchOption result (fault.cause ≡ file_causes.Memory) (λ told. TellsFile told fault) }
+    ensures { MatchOption result (fault.cause ≡ file_causes.Memory) (λ told. (fault.cause ≢ file_causes.Memory) × TellsFile told fault) }
 {
     let spot = Spot {
         file: 1,
@@ -78,7 +78,7 @@ pub fn file_fault(fault: FileFault) -> Option<OmfFault>
 
 /// A fault of a load file, unless memory ran out.
 pub fn load_fault(fault: LoadFault) -> Option<OmfFault>
-    ensures { MatchOption result (fault.cause ≡ load_causes.Memory) (λ told. TellsLoad told fault) }
+    ensures { MatchOption result (fault.cause ≡ load_causes.Memory) (λ told. (fault.cause ≢ load_causes.Memory) × TellsLoad told fault) }
 {
     let spot = Spot {
         file: 1,
@@ -90,7 +90,7 @@ pub fn load_fault(fault: LoadFault) -> Option<OmfFault>
 
 /// A fault of a library's files, unless memory ran out.
 pub fn lib_fault(fault: LibFault) -> Option<OmfFault>
-    ensures { MatchOption result (fault.cause ≡ lib_causes.Memory) (λ told. TellsLib told fault) }
+    ensures { MatchOption result (fault.cause ≡ lib_causes.Memory) (λ told. (fault.cause ≢ lib_causes.Memory) × TellsLib told fault) }
 {
     Some(told(lib_number(fault.cause)?, fault.spot, 0, &[]))
 }
@@ -108,7 +108,7 @@ fn bytes_of(name: &Option<Name>) -> &[u8]
 
 /// A fault of linked files, unless memory ran out.
 pub fn link_fault(fault: &LinkFault) -> Option<OmfFault>
-    ensures { MatchOption result (fault.now.cause ≡ link_causes.Memory) (λ told. TellsLink told fault.now) }
+    ensures { MatchOption result (fault.now.cause ≡ link_causes.Memory) (λ told. (fault.now.cause ≢ link_causes.Memory) × TellsLink told fault.now) }
 {
     let number = link_number(fault.cause)?;
     Some(told(number, fault.spot, 0, bytes_of(&fault.name)))
@@ -116,7 +116,7 @@ pub fn link_fault(fault: &LinkFault) -> Option<OmfFault>
 
 /// A fault of a source, unless memory ran out.
 pub fn asm_fault(fault: AsmFault) -> Option<OmfFault>
-    ensures { MatchOption result (fault.cause ≡ asm_causes.Memory) (λ told. TellsAsm told fault) }
+    ensures { MatchOption result (fault.cause ≡ asm_causes.Memory) (λ told. (fault.cause ≢ asm_causes.Memory) × TellsAsm told fault) }
 {
     let spot = Spot {
         file: fault.file,

@@ -1,6 +1,7 @@
 //! Files, as C hands them over.
 
-ghost use Rattle.std.specs.Prelude.{◌≡◌, ◌↔◌, ◌<◌, ◌≤◌, ◌^◌, length, map, All, IfOk, IsTrue};
+ghost use Rattle.std.specs.Prelude.{◌≡◌, ◌↔◌, length, map, nat_le, All, IfOk, IsTrue};
+ghost use Rattle.std.specs.List.{list_all};
 ghost use Rattle.lib_dict.specs.Made.{given_file};
 ghost use Rattle.link_resolve.specs.Resolved.{all_bytes};
 ghost use Rattle.link_resolve.specs.Runtimes.{files_of};
@@ -34,18 +35,32 @@ pub fn copies(alloc: Global, files: &[OmfBytes<'_>]) -> Result<Vec<Vec<u8>>, All
     Ok(copies)
 }
 
+/// Whether each file has a name of at most 255 bytes, by a test of each.
+fn all_named(files: &[OmfFile<'_>]) -> bool
+    ensures { result ≡ list_all (λ f. nat_le (length f.name.now) 255) files.now }
+{
+    files.iter().all(|file| file.name.len() <= Name::MAX)
+}
+
 /// Whether each file has a name of at most 255 bytes.
 pub fn have_names(files: &[OmfFile<'_>]) -> bool
     ensures { IsTrue result ↔ All HasName (library_given files.now) }
 {
-    files.iter().all(|file| file.name.len() <= Name::MAX)
+    all_named(files)
+}
+
+/// Whether each file has fewer than 2^32 bytes, by a test of each.
+fn all_short(files: &[OmfFile<'_>]) -> bool
+    ensures { result ≡ list_all (λ f. nat_le (length f.bytes.now) 0xFFFF_FFFF) files.now }
+{
+    files.iter().all(|file| file.bytes.len() <= 0xFFFF_FFFF)
 }
 
 /// Whether each file has fewer than 2^32 bytes.
 pub fn are_short(files: &[OmfFile<'_>]) -> bool
     ensures { IsTrue result ↔ All IsShort (library_given files.now) }
 {
-    files.iter().all(|file| file.bytes.len() <= 0xFFFF_FFFF)
+    all_short(files)
 }
 
 /// Copies of files under their names.

@@ -5,7 +5,7 @@ ghost use Rattle.load_meaning.specs.declared.load.LoadCause.TheVariants as cause
 ghost use Rattle.load_meaning.specs.Loadable.{IsLoadable};
 ghost use Rattle.omf_cells.specs.Load.{IsOutside, IsRefused, HasLength, table_targets};
 ghost use Rattle.omf_cells.specs.Places.{Stands};
-ghost use Rattle.omf_c.specs.Loaded.{CountsSegments, TellsHeader, Places, TellsEntries, IsUnread, target_of};
+ghost use Rattle.omf_c.specs.Loaded.{CountsSegments, TellsHeader, Places, TellsEntries, IsUnread, told_target};
 ghost use Rattle.omf_c.specs.Handed.{Outcome, IsTold, IsHanded, IsPut};
 
 use crate::answer::{DONE, MEMORY, MISUSED, REFUSED, SMALL};
@@ -161,8 +161,7 @@ pub extern "C" fn omf_place(
 
 /// Writes where the entries of a load file's jump table lead into the caller's room, if they fit.
 fn put_targets(load: &LoadFile<'_>, room: &mut [OmfTarget], size: &mut usize) -> u32
-    ensures { (targets : List OmfTarget) × (map target_of targets ≡ table_targets load.now)
-        × IsPut targets result (record { items = room.old; size = size.old }) (record { items = room.new; size = size.new }) }
+    ensures { IsPut (map told_target (table_targets load.now)) result (record { items = room.old; size = size.old }) (record { items = room.new; size = size.new }) }
 {
     let count = load.target_count();
     *size = count as usize;

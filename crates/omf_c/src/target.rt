@@ -1,7 +1,7 @@
 //! Where entries of a jump table lead, as C sees it.
 
 ghost use Rattle.std.specs.Prelude.{◌≡◌};
-ghost use Rattle.omf_c.specs.Loaded.{target_of};
+ghost use Rattle.omf_c.specs.Loaded.{told_target};
 
 use load_meaning::Target;
 
@@ -19,7 +19,7 @@ pub struct OmfTarget {
 
 /// A target, as C sees it.
 pub fn told(target: Target) -> OmfTarget
-    ensures { target_of result ≡ target }
+    ensures { result ≡ told_target target }
 {
     OmfTarget {
         file: target.file,

@@ -1,0 +1,6 @@
+use Rattle.std.proofs.Common.{◌≡◌, true, subst, sym}
+use Rattle.omf_c.proofs.Files.{names_all}
+use Rattle.omf_c.proofs.file.have_names.Goals as goal
+
+pub returns : goal.returns
+returns c = let both = names_all c.args.files.now in rw (c.all_named.ensures) both
