@@ -1,6 +1,6 @@
 -- Files as C hands them over, and what they are to the libraries below.
-use Rattle.std.proofs.Common.{◌≡◌, ◌↔◌, ℕ, zero, suc, ◌<◌, ◌≤◌, ◌^◌, get_or, Bool, true, false, leb, List, [], ◌∷◌, length, map, refl, sym, ap, ◌∙◌, subst, arith}
-use Rattle.std.specs.Prelude.{nat_le, ◌&&◌, All, Vec, Option, None, Some, MatchOption}
+use Rattle.std.proofs.Common.{◌≡◌, ◌↔◌, ℕ, zero, suc, ◌<◌, ◌≤◌, ◌^◌, get_or, Bool, true, List, [], ◌∷◌, length, map, refl, sym, ap, ◌∙◌, subst, arith}
+use Rattle.std.specs.Prelude.{nat_le, All, Vec, Option, None, Some, MatchOption}
 use Rattle.std.proofs.lemmas.Bool.{and_parts, leb-true, le-leb}
 use Rattle.std.specs.List.{list_all, AllByRecursion}
 use Rattle.std.specs.declared.alloc.Global.{Global}
@@ -41,9 +41,10 @@ pub names_all : (files : List OmfFile) → (list_all (λ (f : OmfFile). nat_le (
 names_all files = (from_test (λ (g : Given). length g.name) 255 files, to_test (λ (g : Given). length g.name) 255 files)
 
 pub short_all : (files : List OmfFile) → (list_all (λ (f : OmfFile). nat_le (length f.bytes.now) 0xFFFF_FFFF) files ≡ true) ↔ All IsShort (library_given files)
-short_all files =
-    (λ is k d less. let most = from_test (λ (g : Given). length g.bytes) 0xFFFF_FFFF files is k d less in omega (arith, most),
-     λ all. to_test (λ (g : Given). length g.bytes) 0xFFFF_FFFF files (λ k d less. let most = all k d less in omega (arith, most)))
+short_all files = (
+  λ is k d less. let most = from_test (λ (g : Given). length g.bytes) 0xFFFF_FFFF files is k d less in omega (arith, most),
+  λ all. to_test (λ (g : Given). length g.bytes) 0xFFFF_FFFF files (λ k d less. let most = all k d less in omega (arith, most)),
+)
 
 short_at : (files : List OmfFile) (k : ℕ) (d : OmfFile) → All HasName (library_given files) → k < length files → length (get_or files k d).name.now ≤ 255
 short_at [] k d all less = absurd (omega (arith, less))

@@ -67,6 +67,8 @@ small_placed file segments number addresses room size size' fault is count f lon
 pub all_placed : (file : List ℕ) (segments : List Segment) (number : ℕ) (addresses room bytes : List ℕ) (size size' : ℕ) (fault : OmfFault) → IsLoadable file segments → length segments ≡ length addresses
     → Stands segments number (map Some addresses) bytes → length bytes ≡ size' → size' ≤ length room
     → (outcome : Outcome (List ℕ)) × Places file number addresses outcome × IsHanded outcome done (record { items = room; size = size }) (record { items = bytes ++ drop size' room; size = size' }) fault fault
-all_placed file segments number addresses room bytes size size' fault is count stood long fits =
-    (Made bytes, (segments, is, (count, stood)),
-     (inl (refl, subst (λ (n : ℕ). n ≤ length room) (sym long) fits, ap (λ (n : ℕ). let r : Room ℕ = record { items = bytes ++ drop n room; size = n } in r) (sym long)), refl))
+all_placed file segments number addresses room bytes size size' fault is count stood long fits = (
+  Made bytes,
+  (segments, is, (count, stood)),
+  (inl (refl, subst (λ (n : ℕ). n ≤ length room) (sym long) fits, ap (λ (n : ℕ). let r : Room ℕ = record { items = bytes ++ drop n room; size = n } in r) (sym long)), refl),
+)

@@ -59,7 +59,7 @@ TellsHeader file number =
 abbrev pub Places : List ℕ → ℕ → List ℕ → Outcome (List ℕ) → Type 0
 Places file number addresses =
     Reads file (λ segments bytes. (length segments ≡ length addresses) × Stands segments number (map Some addresses) bytes)
-      (λ segments. (length segments ≢ length addresses) ⊎ IsOutside segments number)
+    (λ segments. (length segments ≢ length addresses) ⊎ IsOutside segments number)
 
 -- a target, as C sees it
 abbrev pub told_target : Target → OmfTarget

@@ -16,8 +16,6 @@ pub use fault::OmfFault;
 pub use file::{OmfBytes, OmfFile};
 pub use header::OmfHeader;
 pub use loading::{omf_entries, omf_header, omf_place, omf_segments};
-pub use making::{
-    omf_assemble, omf_dump, omf_library, omf_link, omf_link_runtime, omf_link_with,
-};
+pub use making::{omf_assemble, omf_dump, omf_library, omf_link, omf_link_runtime, omf_link_with};
 pub use naming::omf_cause_name;
 pub use target::OmfTarget;

@@ -10,10 +10,9 @@ ghost use Rattle.omf_c.specs.Handed.{Outcome, IsTold, IsHanded, IsPut};
 
 use crate::answer::{DONE, MEMORY, MISUSED, REFUSED, SMALL};
 use crate::fault::{OmfFault, load_fault};
-use crate::header;
 use crate::header::OmfHeader;
-use crate::target;
 use crate::target::OmfTarget;
+use crate::{header, target};
 use load_meaning::LoadFault;
 use omf_cells::{LoadFile, PlacesFault, patch_into, read_load};
 use std::alloc::Global;

@@ -1,4 +1,3 @@
-use Rattle.std.proofs.Common.{◌≡◌, true, subst, sym}
 use Rattle.omf_c.proofs.Files.{short_all}
 use Rattle.omf_c.proofs.file.are_short.Goals as goal
 

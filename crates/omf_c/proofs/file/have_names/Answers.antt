@@ -1,4 +1,3 @@
-use Rattle.std.proofs.Common.{◌≡◌, true, subst, sym}
 use Rattle.omf_c.proofs.Files.{names_all}
 use Rattle.omf_c.proofs.file.have_names.Goals as goal
 

@@ -1,5 +1,4 @@
-use Rattle.std.proofs.Common.{◌≡◌, List, sym, subst, refl, length, map, arith}
-use Rattle.lib_dict.specs.Library.{Given}
+use Rattle.std.proofs.Common.{sym, subst, arith}
 use Rattle.lib_dict.specs.Made.{IsLibRefused}
 use Rattle.omf_c.specs.Making.{MakesLibrary, library_given, CanStand}
 use Rattle.omf_c.proofs.Files.{told_makes, short_members, count_given}

@@ -1,4 +1,4 @@
-use Rattle.std.proofs.Common.{◌≡◌, sym, subst, ◌∙◌}
+use Rattle.std.proofs.Common.{sym, subst, ◌∙◌}
 use Rattle.std.proofs.lemmas.Bool.{false≢true}
 use Rattle.link_meaning.specs.LinkFaults.{Given}
 use Rattle.link_meaning.specs.EmitFaults.{IsLinkedTo}
@@ -21,9 +21,10 @@ returns-then-not-may_resolve c = λ can.
 
 pub returns-in-Ok-link_with : goal.returns-in-Ok-link_with
 returns-in-Ok-link_with c =
-    let same = given_same c.args.form c.in-Ok.inputs.items c.in-Ok-members.runtimes.items (contents c.args.inputs.now) c.args.runtimes.now c.in-Ok.ensures c.in-Ok-members.ensures in
-    ((subst FewGiven same c.if-not-may_resolve.ensures.few, subst HavePaths same c.if-not-may_resolve.ensures.paths),
-     subst (λ (g : Given). IsLinkedTo g c.in-Ok-link_with.output.items) same c.in-Ok-link_with.ensures.linked)
+    let same = given_same c.args.form c.in-Ok.inputs.items c.in-Ok-members.runtimes.items (contents c.args.inputs.now) c.args.runtimes.now c.in-Ok.ensures c.in-Ok-members.ensures in (
+      (subst FewGiven same c.if-not-may_resolve.ensures.few, subst HavePaths same c.if-not-may_resolve.ensures.paths),
+      subst (λ (g : Given). IsLinkedTo g c.in-Ok-link_with.output.items) same c.in-Ok-link_with.ensures.linked,
+    )
 
 pub returns : goal.returns
 returns c =
@@ -32,4 +33,4 @@ returns c =
     let refused : IsLinkRefused given c.in-Err.fault = subst (λ (g : Given). IsLinkRefused g c.in-Err.fault) same c.in-Err.ensures.refused in
     subst (Links given) (sym c.refused.ensures)
     (told_makes _ _ _ _ c.in-Err.fault c.link_fault.result _ _ (subst FewGiven same c.if-not-may_resolve.ensures.few, subst HavePaths same c.if-not-may_resolve.ensures.paths)
-     (λ other. link_first given c.in-Err.fault other refused) c.link_fault.ensures)
+    (λ other. link_first given c.in-Err.fault other refused) c.link_fault.ensures)
