@@ -1,6 +1,6 @@
 //! What holds of assembling. These functions do nothing: each is there for its contract.
 
-ghost use Rattle.asm_meaning.specs.LabelLaws.{LengthsAdd, LocalStandsBefore, LinkerSeesPlace};
+ghost use Rattle.asm_meaning.specs.LabelLaws.{LengthsAdd, LocalStandsBefore, LinkerSeesPlace, PlaceIsSum};
 ghost use Rattle.asm_meaning.specs.ObjectFile.{ObjectIsFile};
 ghost use Rattle.asm_meaning.specs.ObjectLaws.{OneObject, NoFaultBeside, OneFirstFault};
 
@@ -18,9 +18,11 @@ pub fn objects_are_files()
 {}
 
 /// A label's LOCAL stands before the records of its statement, where the cells of the statements before it end, and each
-/// statement moves that place by its length. The linker finds a label at the place where the records before it end.
+/// statement moves that place by its length; ENTRY, EQU and GEQU have none. So a label's place is the sum of the lengths of the
+/// statements before it in its segment. The linker finds a label at the place where the records before it end.
 pub fn labels_stand_at_their_places()
     ensures lengths { LengthsAdd }
     ensures local { LocalStandsBefore }
     ensures linker { LinkerSeesPlace }
+    ensures place { PlaceIsSum }
 {}
