@@ -10,3 +10,4 @@ pub mod LabelProofs
 pub mod PlaceSums
 pub mod ObjectFileLaws
 pub mod ObjectProofs
+pub mod Unanswered

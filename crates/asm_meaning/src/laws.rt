@@ -2,13 +2,15 @@
 
 ghost use Rattle.asm_meaning.specs.LabelLaws.{LengthsAdd, LocalStandsBefore, LinkerSeesPlace, PlaceIsSum};
 ghost use Rattle.asm_meaning.specs.ObjectFile.{ObjectIsFile};
-ghost use Rattle.asm_meaning.specs.ObjectLaws.{OneObject, NoFaultBeside, OneFirstFault};
+ghost use Rattle.asm_meaning.specs.ObjectLaws.{OneObject, NoFaultBeside, OneFirstFault, NoneUnanswered};
 
-/// A source with macro files is assembled to one object, or has one first fault: its lines leave one thing each.
+/// A source with macro files is assembled to one object, or has one first fault, and none has neither: its lines leave one thing
+/// each.
 pub fn sources_have_one_object()
     ensures object { OneObject }
     ensures beside { NoFaultBeside }
     ensures fault { OneFirstFault }
+    ensures some { NoneUnanswered }
 {}
 
 /// What is written for a source is a file: its segments are read again with the headers and the records that the lines leave,
