@@ -2,6 +2,7 @@
 use Rattle.std.proofs.Common.{◌≡◌, ◌≢◌, ℕ, ◌+◌, Bool, true, false, List, [], ◌∷◌, ◌++◌, Option, Some, None, Ok, Err, refl, sym, ap, subst, ◌∙◌, arith}
 use Rattle.std.specs.Prelude.{sum}
 use Rattle.std.specs.Option.{option_map}
+use Rattle.std.proofs.lemmas.List.Sums.{sum_by-cons}
 use Rattle.omf_format.specs.Field.{◌>>=◌}
 use Rattle.omf_format.specs.laws.FieldLaws.{bind_ok}
 use Rattle.omf_format.specs.Expression.{Tree, Leaf, Constant}
@@ -226,7 +227,7 @@ lines_within state last s (line ∷ lines) there steps go =
       t = rest.t;
       within = (steps.0, one.1, one.2, rest.within);
       open' = rest.open';
-      cells = omega (arith, rest.cells, one.3);
+      cells = omega (arith, rest.cells, one.3, sum_by-cons {X = ℕ} (λ n. n) one.0 rest.sizes);
     }
 
 -- ---- what waits for the next segment gives no cells

@@ -108,13 +108,13 @@ record StopsAt (state : State) (lines : List Line) : Type 0 where
 -- the lines leave something, or one of them has a fault
 all_steps : (state : State) (lines : List Line) → ((last : State) → AreSteps state lines last → ⊥) → (StopsAt state lines → ⊥) → ⊥
 all_steps state [] go stop = go state refl
-all_steps state (line ∷ lines) go stop = a_step state line by_answer
+all_steps state (line ∷ lines) go stop = a_step state line (by_answer (λ next on off. all_steps next lines on off))
   where
-    by_answer : (answer : Answer State) → IsStep state line answer → ⊥
-    by_answer (Ok next) is =
-        all_steps next lines (λ last steps. go last (next, is, steps))
+    by_answer : ((next : State) → ((last : State) → AreSteps next lines last → ⊥) → (StopsAt next lines → ⊥) → ⊥) → (answer : Answer State) → IsStep state line answer → ⊥
+    by_answer behind (Ok next) is =
+        behind next (λ last steps. go last (next, is, steps))
         (λ s. stop (record { before = line ∷ s.before; behind = s.behind; line = s.line; cause = s.cause; last = s.last; parts = ap (λ (l : List Line). line ∷ l) s.parts; steps = (next, is, s.steps); wrong = s.wrong }))
-    by_answer (Err cause) is = stop (record { before = []; behind = lines; line = line; cause = cause; last = state; parts = refl; steps = refl; wrong = is })
+    by_answer behind (Err cause) is = stop (record { before = []; behind = lines; line = line; cause = cause; last = state; parts = refl; steps = refl; wrong = is })
 
 -- ---- sources
 

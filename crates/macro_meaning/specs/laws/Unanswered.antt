@@ -142,17 +142,17 @@ visits_end zero program before v most go = last_visit program before v (none_mor
   where
     none_more : (k m : ℕ) → k + 0 ≡ m → k ≡ m
     none_more k m e = omega (arith, e)
-visits_end (suc n) program before v most go = a_visit program before v by_move
+visits_end (suc n) program before v most go =
+    a_visit program before v (by_move (λ w next. visits_end n program (before ++ v ∷ []) w (one_more (length before) most_visits most (length-append before (v ∷ []))) next))
   where
     one_more : (k m : ℕ) → k + suc n ≡ m → length (before ++ v ∷ []) ≡ k + 1 → length (before ++ v ∷ []) + n ≡ m
     one_more k m e size = omega (arith, e, size)
 
-    by_move : (given : List Line) (move : Move) → IsVisit program before v given move → ⊥
-    by_move given (On w) is =
-        visits_end n program (before ++ v ∷ []) w (one_more (length before) most_visits most (length-append before (v ∷ [])))
-        (λ visits rest end follow ends. go (w ∷ visits) (given ++ rest) end (given, rest, is, refl, follow) ends)
-    by_move given Ends is = go [] given Ends is tt
-    by_move given (Stops line cause) is = go [] given (Stops line cause) is tt
+    by_move : ((w : Visit) → ((visits : List Visit) (given : List Line) (end : Move) → Follow program (before ++ v ∷ []) w visits given end → IsEnd end → ⊥) → ⊥)
+        → (given : List Line) (move : Move) → IsVisit program before v given move → ⊥
+    by_move behind given (On w) is = behind w (λ visits rest end follow ends. go (w ∷ visits) (given ++ rest) end (given, rest, is, refl, follow) ends)
+    by_move behind given Ends is = go [] given Ends is tt
+    by_move behind given (Stops line cause) is = go [] given (Stops line cause) is tt
 
 -- ---- sources
 
@@ -160,8 +160,11 @@ pub none_unanswered : NoneUnanswered
 none_unanswered source macros no_lines no_fault = by_texts (first_of_files file_text_fault source macros) refl
   where
     all_visits : AreGoodFiles source macros → (n : ℕ) → n ≡ most_visits → ⊥
-    all_visits good n most = visits_end n (program_of source macros) [] first_visit most by_end
+    all_visits good n most = visits_end n (program_of source macros) [] first_visit (none_before n most_visits most) by_end
       where
+        none_before : (n m : ℕ) → n ≡ m → length {A = Visit} [] + n ≡ m
+        none_before n m e = omega (arith, e)
+
         by_end : (visits : List Visit) (given : List Line) (end : Move) → Follow (program_of source macros) [] first_visit visits given end → IsEnd end → ⊥
         by_end visits given (On w) follow ends = ends
         by_end visits given Ends follow ends = no_lines given (record { good = good; visited = record { visits = visits; follow = follow } })
