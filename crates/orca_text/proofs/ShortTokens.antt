@@ -17,6 +17,16 @@ use Rattle.orca_text.proofs.Shorts.{not_open}
 abbrev there : {A : Type 0} → A → List ℕ → Found A
 there x rest = Some (x, rest)
 
+-- what was found is one thing with one rest
+found_same : {A : Type 0} → (x y : A) (r s : List ℕ) → there x r ≡ there y s → (x ≡ y) × (r ≡ s)
+found_same {A} x y r s e = (ap (λ (p : A × List ℕ). p.0) both, ap (λ (p : A × List ℕ). p.1) both)
+  where
+    inside : (p q : A × List ℕ) → Some p ≡ Some q → p ≡ q
+    inside p q e = cc
+
+    both : ◌≡◌ {A = A × List ℕ} (x, r) (y, s)
+    both = inside (x, r) (y, s) e
+
 -- ---- where no number stands
 
 -- a parenthesis
@@ -25,7 +35,7 @@ unfolding operand_token_at byte_at
 opens_no_number text behind is n rest token small = clash (sym (ap (operand_token_at Symbols) is) ∙ token)
   where
     clash : there Opens behind ≡ there (Value (Number n)) rest → ⊥
-    clash e = cc
+    clash e = let same = (found_same Opens (Value (Number n)) behind rest e).0 in cc
 
 -- an operator before an operand
 pub sign_no_number : (text : List ℕ) (sign : Sign) (behind : List ℕ) → ((behind : List ℕ) → text ≢ 0x28 ∷ behind) → sign_at text ≡ Some (sign, behind)
@@ -34,7 +44,7 @@ unfolding operand_token_at
 sign_no_number text sign behind other found n rest token small = clash (sym (rw (not_open text other, found) refl) ∙ token)
   where
     clash : there (Before sign) behind ≡ there (Value (Number n)) rest → ⊥
-    clash e = cc
+    clash e = let same = (found_same (Before sign) (Value (Number n)) behind rest e).0 in cc
 
 -- the operand at the front, where neither of these stands there
 operand_there : (text : List ℕ) → ((behind : List ℕ) → text ≢ 0x28 ∷ behind) → sign_at text ≡ None → operand_token_at Symbols text ≡ seen_as Value (operand_at Symbols text)
@@ -50,11 +60,11 @@ asked_no_number letter name n rest e = by_letter _ _ e
   where
     length_no : (name : Found (List ℕ)) → seen_as LengthOf name ≡ there (Number n) rest → ⊥
     length_no None e = cc
-    length_no (Some found) e = cc
+    length_no (Some found) e = let same = (found_same (LengthOf found.0) (Number n) found.1 rest e).0 in cc
 
     count_no : (name : Found (List ℕ)) → seen_as CountOf name ≡ there (Number n) rest → ⊥
     count_no None e = cc
-    count_no (Some found) e = cc
+    count_no (Some found) e = let same = (found_same (CountOf found.0) (Number n) found.1 rest e).0 in cc
 
     nothing_no : None ≡ there (Number n) rest → ⊥
     nothing_no e = cc
@@ -102,10 +112,10 @@ large_no_number text behind other no_sign large n rest token small =
     by_number (number_at text) large (value_number (operand_at Symbols text) n rest (sym (operand_there text other no_sign) ∙ token))
   where
     same : (m : ℕ) (r : List ℕ) → there (Number m) r ≡ there (Number n) rest → m ≡ n
-    same m r e = cc
+    same m r e = let operand = (found_same (Number m) (Number n) r rest e).0 in cc
 
     by_size : (b : Bool) (m : ℕ) (r : List ℕ) → b ≡ true → there (cond b (Some m) None) r ≡ there None behind → ⊥
-    by_size true m r e is = cc
+    by_size true m r e is = let none : Some m ≡ None = (found_same (Some m) None r behind is).0 in cc
     by_size false m r e is = cc
 
     by_number : (found : Found ℕ) → seen_as fitting found ≡ Some (None, behind) → option_or (seen_as Number found) (other_operand_at Symbols text) ≡ Some (Number n, rest) → ⊥
@@ -115,10 +125,10 @@ large_no_number text behind other no_sign large n rest token small =
 -- ---- token by token
 
 number_same : (a b : ℕ) (r s : List ℕ) → there (Value (Number a)) r ≡ there (Value (Number b)) s → r ≡ s
-number_same a b r s e = cc
+number_same a b r s e = (found_same (Value (Number a)) (Value (Number b)) r s e).1
 
 operator_same : (a b : Operator) (r s : List ℕ) → there (Between a) r ≡ there (Between b) s → (a ≡ b) × (r ≡ s)
-operator_same a b r s e = (cc, cc)
+operator_same a b r s e = let same = found_same (Between a) (Between b) r s e in let tokens = same.0 in (cc, same.1)
 
 -- behind a number that stands at the front
 behind_number : (text : List ℕ) (a b : ℕ) (rest : List ℕ) (tokens : List Token) → operand_token_at Symbols text ≡ Some (Value (Number a), rest)
@@ -206,14 +216,3 @@ no_third text n m between next rest behind last end first some then number more 
     let three = only_three text n m between rest behind last (record { first = first; some = some; then = then; number = number; more = more }) f s in
     let u = (behind_operator last next three.1 end (Value (Number three.4) ∷ []) closer three.7).1 in
     none three.4 u.0 u.1 three.8
-
-pub not_closer : (text : List ℕ) (n m k : ℕ) (between next : Operator) (rest behind last more end : List ℕ) → operand_token_at Symbols text ≡ Some (Value (Number n), rest) → eqb (length rest) 0 ≡ false
-    → operator_token_at rest ≡ Some (Between between, behind) → operand_token_at Symbols behind ≡ Some (Value (Number m), last) → eqb (length last) 0 ≡ false
-    → operator_token_at last ≡ Some (Between next, more) → operand_token_at Symbols more ≡ Some (Value (Number k), end)
-    → (eqb (length end) 0 ≡ true → operator_level next < operator_level between → ⊥) → (f : ShortFormula) → IsShort text f → ⊥
-not_closer text n m k between next rest behind last more end first some then number others operator third fails f s =
-    let three = only_three text n m between rest behind last (record { first = first; some = some; then = then; number = number; more = others }) f s in
-    let u = behind_operator last next three.1 more (Value (Number three.4) ∷ []) operator three.7 in
-    let e = behind_number more k three.4 end [] third u.1 in
-    let closer : operator_level next < operator_level between = subst (λ (o : Operator). operator_level next < operator_level o) three.6 (subst (λ (o : Operator). operator_level o < operator_level three.0) u.0 three.9) in
-    fails (ap (λ (l : List ℕ). eqb (length l) 0) (sym e)) closer

@@ -24,7 +24,7 @@ pub enum ShortFormula {
 
 /// The number at the front where an operand is expected, and what stands behind it. None where another token stands there,
 /// and of a number above 4,294,967,295.
-#[tactic(auto, using(crate::proofs::Shorts::number_token, crate::proofs::ShortTokens::opens_no_number, crate::proofs::ShortTokens::sign_no_number, crate::proofs::ShortTokens::none_no_number, crate::proofs::ShortTokens::large_no_number))]
+#[tactic(auto, using(crate::proofs::Shorts::number_token, crate::proofs::ShortTokens::sign_no_number, crate::proofs::ShortTokens::none_no_number, crate::proofs::ShortTokens::large_no_number))]
 fn number_token(text: &[u8]) -> Option<(u32, &[u8])>
     ensures { MatchOption result ((n : ℕ) (rest : List ℕ) → operand_token_at Operands.Symbols text.now ≡ Some (Value (Number n), rest) → n < 2 ^ 32 → ⊥)
         (λ x. operand_token_at Operands.Symbols text.now ≡ Some (Value (Number x.0), x.1.now)) }
@@ -57,7 +57,7 @@ fn operator_behind(text: &[u8]) -> Option<(Operator, &[u8])>
 /// The formula that the whole text is, where it is one number, two with an operator between them, or three of which the last
 /// two are bound closer, without parentheses and with numbers of at most 4,294,967,295. None comes of every other text, and it
 /// may still be a formula.
-#[tactic(auto, using(crate::proofs::Shorts::one_means, crate::proofs::Shorts::two_mean, crate::proofs::Shorts::three_mean))]
+#[tactic(auto, using(crate::proofs::Shorts::one_means, crate::proofs::Shorts::two_mean, crate::proofs::Shorts::three_mean, crate::proofs::ShortTokens::no_first, crate::proofs::ShortTokens::no_operator, crate::proofs::ShortTokens::no_second, crate::proofs::ShortTokens::no_second_operator, crate::proofs::ShortTokens::no_third))]
 pub fn short_formula(text: &[u8]) -> Option<ShortFormula>
     ensures tokens { MatchOption result ((f : ShortFormula) → IsShort text.now f → ⊥) (IsShort text.now) }
     ensures means { IfSome result (λ f. MeansAt Operands.Symbols text.now (tree_of f) []) }
