@@ -1,31 +1,27 @@
 -- What is known of the linked list of resolved files.
-use Rattle.std.proofs.Common.{◌≡◌, ◌⊎◌, inl, inr, ℕ, zero, suc, ◌+◌, ◌^◌, ◌<◌, ◌≤◌, Bool, true, false, eqb, List, [], ◌∷◌, ◌++◌, length, map, Option, Some, None, refl, sym, ap, subst, ◌∙◌, arith}
+use Rattle.std.proofs.Common.{◌≡◌, ◌⊎◌, inl, inr, ℕ, zero, suc, ◌+◌, ◌^◌, ◌<◌, ◌≤◌, Bool, true, false, eqb, List, [], ◌∷◌, ◌++◌, length, Some, None, refl, sym, ap, subst, ◌∙◌, arith}
 use Rattle.std.specs.Prelude.{slice_get, cond, nat_le}
 use Rattle.std.specs.List.{flat_map, AllByRecursion}
-use Rattle.std.specs.Option.{option_or}
 use Rattle.std.proofs.lemmas.Bool.{ne_eqb, leb-true}
 use Rattle.std.proofs.lemmas.List.Concat.{flat_map-cons}
 use Rattle.omf_format.specs.Field.{layout_of}
 use Rattle.omf_format.specs.Expression.{Term, Operator, Location, Constant, Named, Offset, IsExpression, terms_in}
 use Rattle.omf_format.specs.Record.{Record, IsRecord, End, Const, LongConst, Align, Org, Space, Reloc, InterSeg, ShortReloc, ShortInterSeg, Super, Using, Strong, Label, Equate, Formula, Entry}
 use Rattle.omf_format.specs.File.{Segment}
-use Rattle.link_meaning.specs.declared.fault.LinkCause.{LinkCause}
-use Rattle.link_meaning.specs.declared.fault.LinkFault.{LinkFault}
 use Rattle.link_meaning.specs.declared.search.Want.{Want}
 use Rattle.link_meaning.specs.declared.search.Want.TheVariants.{One, Any}
-use Rattle.link_meaning.specs.First.{IsIn, IsFirst, first_some}
-use Rattle.link_meaning.specs.laws.FirstLaws.{first_some-first}
+use Rattle.link_meaning.specs.First.{IsIn}
 use Rattle.link_meaning.specs.Sizes.{Located, size_at, located_from, body_size}
 use Rattle.link_meaning.specs.Member.{Member}
 use Rattle.link_meaning.specs.Defines.{Definition, defined_by}
 use Rattle.link_meaning.specs.Terms.{asks_value}
 use Rattle.link_meaning.specs.Uses.{Use, used_by_term, used_by, uses_of}
 use Rattle.link_meaning.specs.Search.{Found, entries, finds}
-use Rattle.link_meaning.specs.LinkedList.{Asked, asked_from, asked, found_for}
+use Rattle.link_meaning.specs.LinkedList.{asked_from, asked, found_for}
 use Rattle.link_meaning.specs.Layout.{load_names, offset_of}
 use Rattle.link_meaning.specs.Rings.{has_expr}
 use Rattle.link_meaning.specs.LinkValues.{place_value}
-use Rattle.link_meaning.specs.LinkFaults.{use_cause, HasUseFault, spot_in, Names, Reading, Objects, Layout}
+use Rattle.link_meaning.specs.LinkFaults.{use_cause}
 use Rattle.link_meaning.specs.laws.PlaceFits.{IsPlaceIn, place_fits, entry_there, offset-le, short_load, name_there, in_parts, in-append}
 use Rattle.link_meaning.specs.laws.LinkWrittenLaws.{few_loads}
 use Rattle.link_meaning.specs.laws.ReadMembers.{IsRead, members_read, read_size, read_records}
@@ -34,6 +30,7 @@ use Rattle.link_meaning.specs.laws.EquateOrder.{one_number}
 use Rattle.link_resolve.specs.Linked.{member_at}
 use Rattle.link_resolve.specs.OfFiles.{IsOfFiles}
 use Rattle.link_resolve.specs.Outside.{all_found}
+use Rattle.link_resolve.specs.UsesResolve.{use_resolves, in_left, in_right, asked_of, asked_there, found_any}
 use Rattle.link_emit.specs.Slots.{AreOnce}
 use Rattle.link_emit.specs.Equates.{FindOne}
 use Rattle.link_emit.proofs.AllFound.{entry_in, inside_equate}

@@ -1,5 +1,5 @@
 -- What the uses of a member find, and where its segment stands among the inputs.
-use Rattle.std.proofs.Common.{◌≡◌, ◌⊎◌, inl, inr, ℕ, zero, suc, ◌+◌, ◌≤◌, Bool, true, false, List, [], ◌∷◌, ◌++◌, length, map, Option, Some, None, Result, Ok, refl, sym, ap, subst, ◌∙◌, arith}
+use Rattle.std.proofs.Common.{◌≡◌, ◌⊎◌, inl, inr, ℕ, zero, suc, ◌+◌, ◌≤◌, Bool, true, false, List, [], ◌∷◌, length, map, Option, Some, None, Result, Ok, refl, sym, ap, subst, ◌∙◌, arith}
 use Rattle.std.specs.Prelude.{slice_get, option_map, option_and_then, if◌then◌else◌, IfSome}
 use Rattle.omf_format.specs.File.{Segment, IsFile, segment_at}
 use Rattle.lib_dict.specs.DictionaryLayout.{RowsAreLaidOut}
@@ -19,7 +19,7 @@ use Rattle.link_resolve.specs.OfFiles.{IsOfFiles}
 use Rattle.link_resolve.specs.UsesResolve.{use_resolves, asked_of, asked_there}
 use Rattle.link_resolve.specs.Gathered.{segment_in, IsAmong, IsSoundInput}
 use Rattle.link_resolve.specs.Libraries.{AllStand}
-use Rattle.link_resolve.specs.Programs.{FindsOnly, input_at, StandsInInput}
+use Rattle.link_resolve.specs.Programs.{FindsOnly, StandsInInput}
 use Rattle.link_resolve.proofs.OpeningLaws.{in_either}
 use Rattle.link_resolve.proofs.AmongLaws.{objects_among, offers_among}
 use Rattle.link_resolve.proofs.GatherLaws.{rows_stand}

@@ -1,8 +1,7 @@
 -- Which texts are short formulas, by their tokens.
-use Rattle.std.proofs.Common.{◌≡◌, ◌≢◌, ℕ, ◌<◌, ◌≤◌, ◌^◌, Bool, true, false, cond, ltb, eqb, List, [], ◌∷◌, length, Option, Some, None, refl, sym, ap, subst, ◌∙◌, arith}
-use Rattle.std.specs.Prelude.{◌&&◌}
+use Rattle.std.proofs.Common.{◌≡◌, ◌≢◌, ℕ, ◌<◌, ◌^◌, Bool, true, false, cond, ltb, eqb, List, [], ◌∷◌, length, Some, None, refl, sym, ap, subst, ◌∙◌}
 use Rattle.std.specs.Option.{option_or}
-use Rattle.std.proofs.lemmas.Bool.{eqb-true, lt-ltb, ltb-true, ltb-false, and_parts}
+use Rattle.std.proofs.lemmas.Bool.{lt-ltb}
 use Rattle.orca_meaning.specs.declared.operators.Operands.TheVariants.{Symbols}
 use Rattle.orca_meaning.specs.declared.operators.Operator.{Operator}
 use Rattle.orca_meaning.specs.declared.operators.Sign.{Sign}
@@ -11,7 +10,7 @@ use Rattle.orca_meaning.specs.Token.{Found, Operand, Number, LengthOf, CountOf, 
 use Rattle.orca_text.specs.Kept.{fitting}
 use Rattle.orca_text.specs.declared.short.ShortFormula.{ShortFormula}
 use Rattle.orca_text.specs.declared.short.ShortFormula.TheVariants.{One, Two, Three}
-use Rattle.orca_text.specs.Short.{tokens_of, HasSmall, BindsCloser, IsShort}
+use Rattle.orca_text.specs.Short.{IsShort}
 use Rattle.orca_text.proofs.Shorts.{not_open}
 
 abbrev there : {A : Type 0} → A → List ℕ → Found A
@@ -50,9 +49,6 @@ sign_no_number text sign behind other found n rest token small = clash (sym (rw 
 operand_there : (text : List ℕ) → ((behind : List ℕ) → text ≢ 0x28 ∷ behind) → sign_at text ≡ None → operand_token_at Symbols text ≡ seen_as Value (operand_at Symbols text)
 unfolding operand_token_at
 operand_there text other no_sign = rw (not_open text other, no_sign) refl
-
-abbrev IsNumber : Operand → ℕ → Type 0
-IsNumber operand n = operand ≡ Number n
 
 -- what is asked of a symbol is no number
 asked_no_number : (letter : ℕ) (name : Found (List ℕ)) (n : ℕ) (rest : List ℕ) → asked_by letter name ≡ Some (Number n, rest) → ⊥

@@ -16,12 +16,12 @@ use Rattle.asm_meaning.specs.declared.directives.Operation.{Operation}
 use Rattle.asm_meaning.specs.declared.directives.Operation.TheVariants.{Instruct, Direct}
 use Rattle.asm_meaning.specs.declared.faults.AsmCause.TheVariants.{SegmentTooLong}
 use Rattle.asm_meaning.specs.Answer.{Answer, both}
-use Rattle.asm_meaning.specs.Constant.{Amount, amount, tree_of_amount}
+use Rattle.asm_meaning.specs.Constant.{amount, tree_of_amount}
 use Rattle.asm_meaning.specs.Formulas.{formula_of}
 use Rattle.asm_meaning.specs.Operations.{operation_of}
 use Rattle.asm_meaning.specs.Pieces.{place_behind, length_at}
 use Rattle.asm_meaning.specs.State.{Segment, State, start, cells_of, begun, closed, local_of, grown, marked, in_segment, is_too_long, within_length, turned}
-use Rattle.asm_meaning.specs.Statement.{is_misplaced, begins_segment, label_of, load_name_of, switch_of, constants_of, number_in, alignment_in, distance_in, listed_kind, aligned, moved, with_kind, equate, equated, equating, equating_outside, equating_global, marking, IsDone, IsPlaced, IsKnown, IsStep}
+use Rattle.asm_meaning.specs.Statement.{is_misplaced, begins_segment, label_of, load_name_of, switch_of, constants_of, number_in, alignment_in, distance_in, listed_kind, aligned, moved, with_kind, equate, equated, equating, equating_global, marking, IsDone, IsPlaced, IsKnown, IsStep}
 use Rattle.asm_meaning.specs.Object.{AreSteps}
 use Rattle.asm_meaning.specs.LabelLaws.{HasPut, IsWithin, AreWithin, HaveNoEnd, PlaceIsSum}
 use Rattle.asm_meaning.specs.laws.InstructionLaws.{both_ok}

@@ -1,13 +1,12 @@
 -- Why no source with macro files is without an answer. What a text means is a matter of its parse, of which there is one or none; so each
 -- lemma here says that something isn't without an answer.
-use Rattle.std.proofs.Common.{◌≡◌, ℕ, zero, suc, ◌+◌, Bool, true, false, eqb, List, [], ◌∷◌, ◌++◌, length, Option, Some, None, Err, refl, sym, ap, subst, ◌∙◌, arith}
-use Rattle.std.specs.Prelude.{Ok, nat_lt, ◌==◌, slice_get}
+use Rattle.std.proofs.Common.{◌≡◌, ℕ, zero, suc, ◌+◌, Bool, true, false, List, [], ◌∷◌, ◌++◌, length, Option, Some, None, Err, refl, sym, subst, arith}
+use Rattle.std.specs.Prelude.{Ok, nat_lt, ◌==◌}
 use Rattle.std.proofs.lemmas.Bool.{eq-eqb}
 use Rattle.std.proofs.lemmas.List.{length-append}
 use Rattle.omf_format.specs.Ascii as ascii
 use Rattle.omf_format.specs.Value.{truth}
 use Rattle.orca_meaning.specs.Line.{Line, Fields, part, is_comment, three_fields}
-use Rattle.macro_meaning.specs.declared.faults.MacroCause.{MacroCause}
 use Rattle.macro_meaning.specs.declared.faults.MacroCause.TheVariants.{LineTooLong, TooManyLines, NoSuchSymbol, BadSetting}
 use Rattle.macro_meaning.specs.declared.faults.MacroFault.{MacroFault}
 use Rattle.macro_meaning.specs.declared.statements.Kind.{Kind}
@@ -15,8 +14,7 @@ use Rattle.macro_meaning.specs.declared.statements.Kind.TheVariants.{Number, Fla
 use Rattle.macro_meaning.specs.declared.statements.Statement.{Statement}
 use Rattle.macro_meaning.specs.declared.statements.Statement.TheVariants.{Declare, Set, Middle, BranchIf, Branch, Count, Nothing, Leave, Note, Define}
 use Rattle.macro_meaning.specs.Condition.{Answer, IsNumber, Formula, NoFormula, answer_of, comparison, IsConditionBy, IsCondition}
-use Rattle.macro_meaning.specs.Deed.{Deed, Rests, Gives, Fails, Leaves, both, or_bad, declaring, setting, printed_answer, middle_of, going, going_to, counting, noting, resting, IsBranchIf, IsMiddle, IsNote, IsSetting, IsDone, calling_at, Setting, IsDoneBy, operation_or_anop, cut, IsAfterCut, IsAfterText, begins_definition, IsShort, IsWithTexts, shown, IsWritten, IsDeed}
-use Rattle.macro_meaning.specs.Definition.{first_named}
+use Rattle.macro_meaning.specs.Deed.{Deed, Rests, Gives, Fails, Leaves, both, or_bad, declaring, setting, printed_answer, middle_of, going, going_to, counting, noting, resting, IsBranchIf, IsMiddle, IsNote, IsSetting, IsDone, Setting, IsDoneBy, operation_or_anop, cut, IsAfterCut, IsAfterText, begins_definition, IsShort, IsWithTexts, shown, IsWritten, IsDeed}
 use Rattle.macro_meaning.specs.Pieces.{pieces, quoted, joined}
 use Rattle.macro_meaning.specs.Statements.{symbol_name, target_name}
 use Rattle.macro_meaning.specs.Symbol.{Values}
