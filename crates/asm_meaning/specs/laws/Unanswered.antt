@@ -57,7 +57,7 @@ a_statement : (state : State) (line : Line) (operation : Operation) (label : Ans
 unfolding IsDone
 a_statement state line (Instruct m) label text go =
     an_operand m text (λ operand is.
-        go (marking state 0x4D label (operand >>= instruction (constants_of state) state.widths m >>= λ pieces. Ok (records_of pieces))) (operand, is, refl))
+    go (marking state 0x4D label (operand >>= instruction (constants_of state) state.widths m >>= λ pieces. Ok (records_of pieces))) (operand, is, refl))
 a_statement state line (Direct (directives.Begin class)) label text go = go (beginning state line class label text) refl
 a_statement state line (Direct directives.End) label text go = go (marking state 0x4E label (Ok (End ∷ [])) >>= λ left. Ok (closed left)) refl
 a_statement state line (Direct directives.Entry) label text go = go (entering state label) refl
