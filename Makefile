@@ -1,5 +1,6 @@
 # make         proves the program and builds it to build/omf; it says how far it is
 # make demo    the same, and then runs the main job on real files
+# make lib     proves the library for C, and puts libomf.a and omf.h into build/
 # make try     runs the demo's commands on an unproved build, in a minute or two; tools/try WORDS.. runs any command so
 # make check   runs every test, stored run and example on unproved builds, in some minutes; it proves nothing
 # make test    the gate: proves everything, tries each must-fail edit, and runs every test and example
@@ -7,13 +8,16 @@
 # make bench   measures the program's speed, and writes the figures to bench/FIGURES.md
 # make refuse  runs the examples, and the loader's calls, with each allocation refused in turn
 
-.PHONY: build demo try check test times bench refuse
+.PHONY: build demo lib try check test times bench refuse
 
 build:
 	tools/build
 
 demo: build
 	examples/demo
+
+lib:
+	tools/lib
 
 try:
 	tools/try

@@ -1,11 +1,21 @@
 -- Where labels stand: a label's place is the sum of the lengths of the statements before it, and the linker takes it from there.
-use Rattle.std.proofs.Common.{◌≡◌, ℕ, ◌+◌, List, ◌∷◌, ◌++◌, length, map, Some}
-use Rattle.std.specs.Prelude.{slice_get}
+use Rattle.std.proofs.Common.{◌≡◌, ◌≢◌, ℕ, ◌+◌, true, false, List, [], ◌∷◌, ◌++◌, length, map, Some, Ok}
+use Rattle.std.specs.Prelude.{slice_get, sum}
+use Rattle.std.specs.List.{AllByRecursion}
+use Rattle.omf_format.specs.Expression.{Tree}
 use Rattle.omf_format.specs.File as format
-use Rattle.omf_format.specs.Record.{Record}
+use Rattle.omf_format.specs.Record.{Record, Label}
+use Rattle.orca_meaning.specs.Line.{Line, part}
 use Rattle.link_meaning.specs.Sizes.{Located, located}
+use Rattle.asm_meaning.specs.declared.directives.Class.{Class}
+use Rattle.asm_meaning.specs.declared.directives.Directive.TheVariants as directives
+use Rattle.asm_meaning.specs.declared.directives.Operation.{Operation}
+use Rattle.asm_meaning.specs.declared.directives.Operation.TheVariants.{Direct}
+use Rattle.asm_meaning.specs.Operations.{operation_of}
 use Rattle.asm_meaning.specs.Pieces.{place_behind, length_at}
-use Rattle.asm_meaning.specs.State.{Segment, cells_of, local_of, marked}
+use Rattle.asm_meaning.specs.State.{Segment, State, start, cells_of, local_of, marked}
+use Rattle.asm_meaning.specs.Statement.{equate, label_of, IsStep}
+use Rattle.asm_meaning.specs.Object.{AreSteps}
 
 -- each statement moves the place by its length, whether it has a label or not
 abbrev pub LengthsAdd : Type 0
@@ -20,3 +30,43 @@ LocalStandsBefore = (byte : ℕ) (label : List ℕ) (form : ℕ) (contents : Lis
 abbrev pub LinkerSeesPlace : Type 0
 LinkerSeesPlace = (s : format.Segment) (before behind : List Record) (r : Record) → map (λ found. found.1) s.records ≡ before ++ r ∷ behind
     → (l : Located) × (slice_get (located s) (length before) ≡ Some l) × (l.content ≡ r) × (l.location ≡ place_behind 0 before)
+
+-- ---- the statements of a segment
+
+-- What a statement that leaves its segment open puts at the segment's end, and its length: ENTRY a GLOBAL of length 0, EQU and GEQU
+-- their record, which gives no cells, and any other LOCAL with its length, where it has a label, and then its records, whose cells
+-- are that length.
+abbrev pub HasPut : Operation → List ℕ → Segment → Segment → ℕ → Type 0
+HasPut (Direct directives.Entry) label s t size = (t.body ≡ s.body ++ Label true label 0 0x4E 0 ∷ []) × (size ≡ 0)
+HasPut (Direct directives.Equ) label s t size = (tree : Tree) × (t.body ≡ s.body ++ equate false label tree ∷ []) × (size ≡ 0)
+HasPut (Direct directives.Gequ) label s t size = (tree : Tree) × (t.body ≡ s.body ++ equate true label tree ∷ []) × (size ≡ 0)
+HasPut operation label s t size =
+    (form : ℕ) × (contents : List Record) × (t.body ≡ s.body ++ (local_of label form size ++ contents)) × (size ≡ length_at (cells_of s) contents)
+
+-- the line is a statement of the open segment and leaves it open, with this length
+pub record IsWithin (state : State) (s : Segment) (line : Line) (size : ℕ) (next : State) (t : Segment) : Type 0 where
+  pub step : IsStep state line (Ok next)
+  pub operation : Operation
+  pub is_operation : operation_of (part line.text line.fields.operation) ≡ Some operation
+  pub label : List ℕ
+  pub is_label : label_of state operation (part line.text line.fields.label) ≡ Ok label
+  pub open' : next.segment ≡ Some t
+  pub puts : HasPut operation label s t size
+
+-- these lines are such statements one behind another, with these lengths
+abbrev pub AreWithin : State → Segment → List Line → List ℕ → State → Segment → Type 0
+AreWithin state s [] [] last t = (state ≡ last) × (s ≡ t)
+AreWithin state s (line ∷ lines) (size ∷ sizes) last t = (next : State) × (u : Segment) × IsWithin state s line size next u × AreWithin next u lines sizes last t
+AreWithin state s _ _ last t = ⊥
+
+-- END isn't among the lines
+abbrev pub HaveNoEnd : List Line → Type 0
+HaveNoEnd lines = AllByRecursion (λ line. operation_of (part line.text line.fields.operation) ≢ Some (Direct directives.End)) lines
+
+-- Of a source's lines without a fault, behind the line that begins a segment and up to its END: the place at which a statement
+-- begins, where its label stands, is the sum of the lengths of the statements before it in the segment.
+abbrev pub PlaceIsSum : Type 0
+PlaceIsSum = (before lines : List Line) (opening : Line) (class : Class) (last : State) → AreSteps start (before ++ opening ∷ lines) last
+    → operation_of (part opening.text opening.fields.operation) ≡ Some (Direct (directives.Begin class)) → HaveNoEnd lines
+    → (first : State) × (s : Segment) × (sizes : List ℕ) × (t : Segment) × (first.segment ≡ Some s) × AreWithin first s lines sizes last t × (last.segment ≡ Some t)
+    × (cells_of t ≡ sum sizes)

@@ -14,3 +14,7 @@ NoFaultBeside = (source : List ℕ) (macros : List (List ℕ)) (a : List ℕ) (f
 -- and another has one first fault at most
 abbrev pub OneFirstFault : Type 0
 OneFirstFault = (source : List ℕ) (macros : List (List ℕ)) (a b : AsmFault) → IsFirstFault source macros a → IsFirstFault source macros b → a ≡ b
+
+-- none has neither an object nor a fault
+abbrev pub NoneUnanswered : Type 0
+NoneUnanswered = (source : List ℕ) (macros : List (List ℕ)) → ((object : List ℕ) → IsObject source macros object → ⊥) → ((fault : AsmFault) → IsFirstFault source macros fault → ⊥) → ⊥

@@ -7,5 +7,7 @@ pub mod Sound
 pub mod StepSound
 pub mod LinesShort
 pub mod LabelProofs
+pub mod PlaceSums
 pub mod ObjectFileLaws
 pub mod ObjectProofs
+pub mod Unanswered

@@ -169,7 +169,9 @@ fn put_segment<'a>(
 
 /// The first fault of a member's records, as a fault of the linker.
 fn value_fault(program: &Program, place: u32, cause: LinkCause, at: u32) -> LinkFault
-    ensures { (m : Member) → member_at program.now place ≡ Some m → IsToldAt m cause at result }
+    requires { (m : Member) × (member_at program.now place ≡ Some m) }
+    ensures told { (m : Member) → member_at program.now place ≡ Some m → IsToldAt m cause at result }
+    ensures memory { result.cause ≡ causes.Memory → cause ≡ causes.Memory }
 {
     match cause {
         LinkCause::Memory => memory_fault(),
@@ -201,6 +203,7 @@ fn value_fault(program: &Program, place: u32, cause: LinkCause, at: u32) -> Link
 
 /// A fault of a record of the member at a place.
 fn fault_in(program: &Program, place: u32, cause: LinkCause, at: u32) -> LinkFault
+    requires { (m : Member) × (member_at program.now place ≡ Some m) }
     ensures { (m : Member) → member_at program.now place ≡ Some m → result ≡ record { cause = cause; name = None; spot = spot_in m at } }
 {
     match program.member(place) {
@@ -213,7 +216,7 @@ fn fault_in(program: &Program, place: u32, cause: LinkCause, at: u32) -> LinkFau
                 at,
             },
         },
-        None => memory_fault(),
+        None => unreachable!(),
     }
 }
 

@@ -38,4 +38,5 @@ pub mod PhaseLaws
 pub mod AmongLaws
 pub mod LayoutFaults
 pub mod ProgramLaws
+pub mod MemberLaws
 pub mod ResolveLaws

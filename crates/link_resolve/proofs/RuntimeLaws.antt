@@ -13,6 +13,7 @@ use Rattle.load_meaning.specs.Runtime.{IsRuntime, IsFirstRuntimeFault}
 use Rattle.omf_cells.specs.Load.{UnlessMemory, IsRuntimeRefused}
 use Rattle.lib_dict.specs.declared.member.Member.{Member}
 use Rattle.link_meaning.specs.declared.fault.LinkCause.{LinkCause}
+use Rattle.link_meaning.specs.declared.fault.LinkCause.TheVariants as causes
 use Rattle.link_meaning.specs.declared.fault.LinkFault.{LinkFault}
 use Rattle.link_meaning.specs.Member.{RuntimeFile}
 use Rattle.link_meaning.specs.Search.{Found, outside_of, outside_from}
@@ -22,6 +23,35 @@ use Rattle.link_resolve.specs.Outside.{AreOutside}
 use Rattle.link_resolve.specs.Runtimes.{files_of, runtimes_of, told_cause, IsFileRefused, IsFirstRefused}
 use Rattle.link_resolve.proofs.Lists.{drop_at}
 use Rattle.link_resolve.proofs.LibraryLaws.{take_more}
+
+-- want of memory has no cause that is told, and no other cause is told as that
+pub not_memory : (cause : LoadCause) (told : LinkCause) → told_cause cause ≡ Some told → told ≡ causes.Memory → ⊥
+not_memory Truncated told e memory = cc
+not_memory BadHeader told e memory = cc
+not_memory Unsupported told e memory = cc
+not_memory BadRecord told e memory = cc
+not_memory NotLoadFile told e memory = cc
+not_memory Sequence told e memory = cc
+not_memory DataTooLong told e memory = cc
+not_memory PatchOutside told e memory = cc
+not_memory NoSuchTarget told e memory = cc
+not_memory DynamicTarget told e memory = cc
+not_memory BadTable told e memory = cc
+not_memory Memory told e memory = cc
+
+pub untold : (cause : LoadCause) → told_cause cause ≡ None → cause ≡ Memory
+untold Truncated e = absurd cc
+untold BadHeader e = absurd cc
+untold Unsupported e = absurd cc
+untold BadRecord e = absurd cc
+untold NotLoadFile e = absurd cc
+untold Sequence e = absurd cc
+untold DataTooLong e = absurd cc
+untold PatchOutside e = absurd cc
+untold NoSuchTarget e = absurd cc
+untold DynamicTarget e = absurd cc
+untold BadTable e = absurd cc
+untold Memory e = refl
 
 abbrev file_of : Member → List Segment → RuntimeFile
 file_of m segments = record { path = m.name; segments = segments }

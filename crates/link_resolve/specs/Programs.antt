@@ -1,10 +1,12 @@
 -- A program is seen as its linked list.
-use Rattle.std.specs.Prelude.{◌≡◌, ◌<◌, ◌^◌, ◌+◌, ℕ, zero, suc, List, length, Option, Some, None, map, option_map, slice_get, ◌==◌, if◌then◌else◌}
+use Rattle.std.specs.Prelude.{◌≡◌, ◌<◌, ◌≤◌, ◌^◌, ◌+◌, ℕ, zero, suc, List, length, Option, Some, None, map, option_map, slice_get, ◌==◌, if◌then◌else◌}
 use Rattle.std.specs.List.{filter_map}
-use Rattle.omf_format.specs.File.{Segment}
+use Rattle.omf_format.specs.File.{Segment, IsFile, segment_at}
 use Rattle.omf_format.specs.Header.{Fields}
 use Rattle.omf_header.specs.View.{fields}
 use Rattle.link_resolve.specs.Runtimes.{runtimes_of}
+use Rattle.link_meaning.specs.declared.search.Want.{Want}
+use Rattle.link_meaning.specs.declared.search.Want.TheVariants.{Data, One, Any}
 use Rattle.link_meaning.specs.Member.{Setting, Member, setting_in}
 use Rattle.link_meaning.specs.Search.{Found}
 use Rattle.link_meaning.specs.Layout.{load_of, offset_of, load_headers}
@@ -85,3 +87,22 @@ linked_at list place =
 abbrev pub header_at : List Fields → ℕ → Option Fields
 header_at headers zero = None
 header_at headers (suc k) = slice_get headers k
+
+-- how many definitions a use finds: STRONG and a name in an expression one, a weak name one at most; USING looks for data segments
+abbrev pub FindsOnly : Want → List Found → Type 0
+FindsOnly Data found = Unit {0}
+FindsOnly One found = length found ≡ 1
+FindsOnly Any found = length found ≤ 1
+
+-- the input with a number, from 1
+abbrev pub input_at : List (List ℕ) → ℕ → Option (List ℕ)
+input_at inputs zero = None
+input_at inputs (suc k) = slice_get inputs k
+
+-- the segment is the one with this number of the input with this number, both from 1
+pub record StandsInInput (inputs : List (List ℕ)) (file number : ℕ) (s : Segment) : Type 0 where
+  pub bytes : List ℕ
+  pub input : input_at inputs file ≡ Some bytes
+  pub segments : List Segment
+  pub is_file : IsFile segments bytes
+  pub there : segment_at segments number ≡ Some s

@@ -10,14 +10,17 @@ ghost use Rattle.link_meaning.specs.Layout.{load_headers};
 ghost use Rattle.link_resolve.specs.Outside.{all_found};
 ghost use Rattle.link_resolve.specs.Linked.{member_at};
 ghost use Rattle.link_resolve.specs.Resolving.{first_found};
-ghost use Rattle.link_resolve.specs.Programs.{IsKept, linked_at, header_at, symbol_of, told_symbol};
+ghost use Rattle.link_meaning.specs.First.{IsIn};
+ghost use Rattle.link_meaning.specs.Uses.{Use, uses_of};
+ghost use Rattle.link_meaning.specs.LinkFaults.{Given, IsResolved};
+ghost use Rattle.link_resolve.specs.Programs.{IsKept, linked_at, header_at, symbol_of, told_symbol, FindsOnly, StandsInInput};
 
 use crate::definitions::Defined;
 use crate::gather::segment_in;
 use crate::layout::Place;
 use crate::linked::Linked;
 use crate::outside::{Far, Outside};
-use lib_dict::Member;
+use lib_dict::{Member, rows_are_laid_out};
 use link_meaning::LinkForm;
 use omf_base::Name;
 use omf_cells::LoadFile;
@@ -168,7 +171,11 @@ impl<'a> Program<'a> {
     pub fn view(&self, place: u32) -> Option<&SegmentView<'a>>
         ensures value { option_map (λ view. shown view.now) result ≡ option_map (λ m. m.segment) (member_at self.now place) }
         ensures sound { IfSome result (λ view. IsSound view.now) }
+        // Whatever files this is the list of, it is the segment with the member's number of the input with the member's file number.
+        ensures input { IfSome result (λ view. (given : Given) (m : meaning.Member) → IsResolved given self.now → member_at self.now place ≡ Some m
+            → StandsInInput given.inputs m.file m.number (shown view.now)) }
     {
+        rows_are_laid_out();
         match self.kept.linked.origin(place) {
             Some(origin) => segment_in(self.kept.files.as_slice(), origin.file, origin.segment),
             None => None,
@@ -217,6 +224,9 @@ impl<'a> Program<'a> {
         ensures found { (m : meaning.Member) → member_at self.now place ≡ Some m
             → option_map symbol_of result ≡ option_map (told_symbol self.now) (first_found (finds self.now place m name.now)) }
         ensures outside { member_at self.now place ≡ None → IsNone result }
+        // A name that an expression or STRONG of the member uses finds nothing else.
+        ensures only { (m : meaning.Member) (u : Use) → member_at self.now place ≡ Some m → IsIn (uses_of m.segment) u → u.name ≡ name.now
+            → FindsOnly u.want (finds self.now place m name.now) }
     {
         match self.kept.linked.first(&self.kept.outside, place, name) {
             Some(number) => self.definition(number),

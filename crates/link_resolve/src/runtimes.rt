@@ -42,7 +42,8 @@ fn told_cause(cause: LoadCause) -> Option<LinkCause>
 
 /// A run-time library file's fault, where the file has this number.
 fn file_fault(fault: LoadFault, file: u32) -> LinkFault
-    ensures { (bytes : List ℕ) → IsRuntimeRefused fault bytes → IsFileRefused file bytes result }
+    ensures told { (bytes : List ℕ) → IsRuntimeRefused fault bytes → IsFileRefused file bytes result }
+    ensures memory { result.cause ≡ LinkCause.Memory → fault.cause ≡ LoadCause.Memory }
 {
     match told_cause(fault.cause) {
         Some(cause) => fault_in(file, fault.segment, fault.at, cause),

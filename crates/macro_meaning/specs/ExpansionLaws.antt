@@ -15,3 +15,7 @@ NoFaultBeside = (source : List ℕ) (macros : List (List ℕ)) (a : List Line) (
 -- and another has one first fault at most
 abbrev pub OneFirstFault : Type 0
 OneFirstFault = (source : List ℕ) (macros : List (List ℕ)) (a b : MacroFault) → IsFirstFault source macros a → IsFirstFault source macros b → a ≡ b
+
+-- none has neither lines nor a fault
+abbrev pub NoneUnanswered : Type 0
+NoneUnanswered = (source : List ℕ) (macros : List (List ℕ)) → ((lines : List Line) → IsExpanded source macros lines → ⊥) → ((fault : MacroFault) → IsFirstFault source macros fault → ⊥) → ⊥

@@ -1,2 +1,3 @@
 pub mod VisitLaws
 pub mod ExpansionProofs
+pub mod Unanswered

@@ -24,6 +24,7 @@ pub mod LoadViews
 pub mod TableSearch
 pub mod LoadShows
 pub mod ReadSegments
+pub mod Fronts
 pub mod PageTexts
 pub mod KeptLaws
 pub mod DataLaws

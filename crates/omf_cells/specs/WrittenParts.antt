@@ -43,3 +43,7 @@ abbrev pub put_in : List (List ℕ) → ℕ → ℕ → List (List ℕ)
 put_in [] k at = []
 put_in (l ∷ lists) zero at = (l ++ at ∷ []) ∷ lists
 put_in (l ∷ lists) (suc k) at = l ∷ put_in lists k at
+
+-- the list is the front of another
+abbrev pub IsFront : List ℕ → List ℕ → Type 0
+IsFront front whole = (rest : List ℕ) × (whole ≡ front ++ rest)

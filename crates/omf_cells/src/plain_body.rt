@@ -1,13 +1,13 @@
 //! The body of a load segment without patches, whose content stands in pieces (GS/OS Reference, appendix F, "Segment body").
 
-ghost use Rattle.std.specs.Prelude.{◌≡◌, ◌+◌, ◌≤◌, ◌++◌, ◌∷◌, [], ℕ, List, length, take, drop, IfOk, OnOk};
+ghost use Rattle.std.specs.Prelude.{◌≡◌, ◌+◌, ◌≤◌, ◌++◌, ◌∷◌, [], ℕ, List, length, take, drop, IfOk, OnOk, OnErr};
 ghost use Rattle.std.specs.List.{flat_map};
 ghost use Rattle.byteorder.specs.Endian.{little_bytes};
 ghost use Rattle.omf_format.specs.Field.{written_layout};
 ghost use Rattle.omf_format.specs.Record.{spelling};
 ghost use Rattle.load_meaning.specs.WrittenBody.{data_records, written_cells, zeros_behind, body_text};
 ghost use Rattle.omf_cells.specs.Joined.{joined};
-ghost use Rattle.omf_cells.specs.WrittenParts.{IsKept};
+ghost use Rattle.omf_cells.specs.WrittenParts.{IsKept, IsFront};
 
 use crate::written::BodyFault;
 use crate::written_data::{kept, put_over};
@@ -16,8 +16,10 @@ use crate::written_data::{kept, put_over};
 const FRONT: usize = 5;
 
 /// Appends pieces, one behind another.
+#[tactic(auto, using(crate::proofs::Fronts::front_whole))]
 fn put_pieces(out: &mut Vec<u8>, pieces: &[&[u8]]) -> Result<(), BodyFault>
-    ensures { OnOk result (out.new.items ≡ out.old.items ++ joined pieces.now) }
+    ensures ok { OnOk result (out.new.items ≡ out.old.items ++ joined pieces.now) }
+    ensures err { OnErr result (IsFront out.old.items out.new.items) }
 {
     for piece in pieces {
         out.extend_from_slice(*piece)?;
@@ -26,8 +28,10 @@ fn put_pieces(out: &mut Vec<u8>, pieces: &[&[u8]]) -> Result<(), BodyFault>
 }
 
 /// Appends an LCONST of pieces, whose count isn't written yet.
+#[tactic(auto, using(crate::proofs::Fronts::front_whole, crate::proofs::Fronts::front_behind))]
 fn put_open(out: &mut Vec<u8>, pieces: &[&[u8]]) -> Result<(), BodyFault>
-    ensures { OnOk result (out.new.items ≡ out.old.items ++ (0xF2 ∷ little_bytes 4 0) ++ joined pieces.now) }
+    ensures ok { OnOk result (out.new.items ≡ out.old.items ++ (0xF2 ∷ little_bytes 4 0) ++ joined pieces.now) }
+    ensures err { OnErr result (IsFront out.old.items out.new.items) }
 {
     out.extend_from_slice(&[0xF2, 0, 0, 0, 0])?;
     put_pieces(out, pieces)
@@ -69,16 +73,24 @@ fn close(out: &mut Vec<u8>, start: usize) -> usize
 }
 
 /// Appends the body, without END, of a load segment without patches whose content are these pieces, one behind another, and
-/// tells how many zero bytes stand behind its data in memory: RESSPC. Where memory runs out, part of it may be appended.
+/// tells how many zero bytes stand behind its data in memory: RESSPC. Where memory runs out, nothing is appended.
 ///
 /// The pieces have at most $FFFFFF bytes.
+#[tactic(auto, using(crate::proofs::Fronts::front_left))]
 pub fn put_plain_body(out: &mut Vec<u8>, pieces: &[&[u8]]) -> Result<u32, BodyFault>
     requires small { length (joined pieces.now) ≤ 0xFFFFFF }
     ensures bytes { OnOk result ((own : ℕ) → out.new.items ≡ out.old.items ++ body_text own (joined pieces.now) []) }
     ensures zeros { IfOk result (λ zeros. zeros ≡ zeros_behind (written_cells (joined pieces.now) [])) }
+    ensures err { OnErr result (out.new.items ≡ out.old.items) }
 {
     let start = out.len();
-    put_open(out, pieces)?;
+    match put_open(out, pieces) {
+        Ok(()) => {}
+        Err(fault) => {
+            out.truncate(start);
+            return Err(fault);
+        }
+    }
     let whole = out.len() - start - FRONT;
     let size = close(out, start);
     Ok((whole - size) as u32)

@@ -1,6 +1,6 @@
 //! The data of a body.
 
-ghost use Rattle.std.specs.Prelude.{◌≡◌, ◌+◌, ◌-◌, ◌≤◌, ◌++◌, length, map, take, drop, IfOk, OnOk, IsTrue};
+ghost use Rattle.std.specs.Prelude.{◌≡◌, ◌+◌, ◌-◌, ◌≤◌, ◌++◌, length, map, take, drop, IfOk, OnOk, OnErr, IsTrue};
 ghost use Rattle.std.specs.List.{flat_map};
 ghost use Rattle.omf_format.specs.Field.{is_count, written_layout};
 ghost use Rattle.omf_format.specs.Record.{LongConst, spelling};
@@ -101,7 +101,8 @@ fn put_patches_from(out: &mut [u8], start: usize, own: u16, patches: &[Patch])
 fn put_stored(out: &mut Vec<u8>, own: u16, bytes: &[u8], patches: &[Patch]) -> Result<(), BodyFault>
     requires small { length bytes.now ≤ 0xFFFFFF }
     requires patches { AreWritten (length bytes.now) 0 (map seen patches.now) }
-    ensures { OnOk result (out.new.items ≡ out.old.items ++ spelling written_layout (LongConst (with_stored own bytes.now (map seen patches.now)))) }
+    ensures ok { OnOk result (out.new.items ≡ out.old.items ++ spelling written_layout (LongConst (with_stored own bytes.now (map seen patches.now)))) }
+    ensures err { OnErr result (out.new.items ≡ out.old.items) }
 {
     put_record(out, &Rec::LongConst { bytes })?;
     let start = out.len() - bytes.len();
@@ -121,6 +122,7 @@ pub fn put_data(
     requires patches { AreWritten (length content.now) 0 (map seen patches.now) }
     ensures text { OnOk result (out.new.items ≡ out.old.items ++ flat_map (spelling written_layout) (data_records (written_data own content.now (map seen patches.now)))) }
     ensures size { IfOk result (λ size. size ≡ length (written_data own content.now (map seen patches.now))) }
+    ensures err { OnErr result (out.new.items ≡ out.old.items) }
 {
     let size = data_size(content, patches);
     if size == 0 {

@@ -1,14 +1,13 @@
 //! `asm`: the object of a source with macro files.
 
-ghost use Rattle.std.specs.Prelude.{◌≡◌, ◌∷◌, IfOk};
+ghost use Rattle.std.specs.Prelude.{◌≡◌, ◌≢◌, ◌∷◌, IfOk, MatchOption};
 ghost use Rattle.omf_cli.specs.AsmCauses.{asm_cause_name};
-ghost use Rattle.omf_cli.specs.Assemble.{asm_fault_line, behind_first, AsmMakes, TellsAsmFault};
+ghost use Rattle.omf_cli.specs.Assemble.{behind_first, AsmMakes, TellsAsmFault};
 ghost use Rattle.omf_cli.specs.Made.{all_bytes, made_of, first_of};
 ghost use Rattle.omf_cli.specs.Words.{words_of};
 
 use crate::making::{Maker, Making};
 use crate::printing::line_fault_line;
-use omf_base::{Line, LineFault};
 use orca_asm::{AsmCause, AsmFault, assemble};
 use std::alloc::{AllocError, Global};
 
@@ -26,75 +25,47 @@ pub fn inputs_of(alloc: Global, source: &str, macros: &[String]) -> Result<Vec<S
     Ok(inputs)
 }
 
-/// The name of a cause, as it is printed.
-fn cause_name(cause: AsmCause) -> &'static str
-    ensures { result.now ≡ asm_cause_name cause }
+/// The name of a cause, as it is printed. Want of memory has none, and no other cause is without one.
+fn cause_name(cause: AsmCause) -> Option<&'static str>
+    ensures { MatchOption result (cause ≡ AsmCause.Memory) (λ name. (cause ≢ AsmCause.Memory) × (name.now ≡ asm_cause_name cause)) }
 {
     match cause {
-        AsmCause::LineTooLong => "LineTooLong",
-        AsmCause::TooManyLines => "TooManyLines",
-        AsmCause::NoSuchSymbol => "NoSuchSymbol",
-        AsmCause::BadSetting => "BadSetting",
-        AsmCause::BadArguments => "BadArguments",
-        AsmCause::NoSequenceSymbol => "NoSequenceSymbol",
-        AsmCause::Unclosed => "Unclosed",
-        AsmCause::Counter => "Counter",
-        AsmCause::TooNested => "TooNested",
-        AsmCause::Noted(_) => "Noted",
-        AsmCause::UnknownOperation => "UnknownOperation",
-        AsmCause::OutsideSegment => "OutsideSegment",
-        AsmCause::BadLabel => "BadLabel",
-        AsmCause::BadOperand => "BadOperand",
-        AsmCause::BadNumber => "BadNumber",
-        AsmCause::BadMode => "BadMode",
-        AsmCause::Duplicate => "Duplicate",
-        AsmCause::UnknownConstant => "UnknownConstant",
-        AsmCause::DivideByZero => "DivideByZero",
-        AsmCause::DoesNotFit => "DoesNotFit",
-        AsmCause::SegmentTooLong => "SegmentTooLong",
-        AsmCause::TooLong => "TooLong",
-        AsmCause::Memory => "Memory",
+        AsmCause::LineTooLong => Some("LineTooLong"),
+        AsmCause::TooManyLines => Some("TooManyLines"),
+        AsmCause::NoSuchSymbol => Some("NoSuchSymbol"),
+        AsmCause::BadSetting => Some("BadSetting"),
+        AsmCause::BadArguments => Some("BadArguments"),
+        AsmCause::NoSequenceSymbol => Some("NoSequenceSymbol"),
+        AsmCause::Unclosed => Some("Unclosed"),
+        AsmCause::Counter => Some("Counter"),
+        AsmCause::TooNested => Some("TooNested"),
+        AsmCause::Noted(_) => Some("Noted"),
+        AsmCause::UnknownOperation => Some("UnknownOperation"),
+        AsmCause::OutsideSegment => Some("OutsideSegment"),
+        AsmCause::BadLabel => Some("BadLabel"),
+        AsmCause::BadOperand => Some("BadOperand"),
+        AsmCause::BadNumber => Some("BadNumber"),
+        AsmCause::BadMode => Some("BadMode"),
+        AsmCause::Duplicate => Some("Duplicate"),
+        AsmCause::UnknownConstant => Some("UnknownConstant"),
+        AsmCause::DivideByZero => Some("DivideByZero"),
+        AsmCause::DoesNotFit => Some("DoesNotFit"),
+        AsmCause::SegmentTooLong => Some("SegmentTooLong"),
+        AsmCause::TooLong => Some("TooLong"),
+        AsmCause::Memory => None,
     }
-}
-
-/// The line of a fault.
-fn fault_line(alloc: Global, fault: AsmFault) -> Result<Line, LineFault>
-    ensures { IfOk result (λ text. text ≡ asm_fault_line fault) }
-{
-    line_fault_line(alloc, cause_name(fault.cause), fault.file, fault.line)
 }
 
 /// The line that says why nothing is assembled, unless memory ran out.
 fn refusal(alloc: Global, fault: AsmFault) -> Result<Making, AllocError>
     ensures { IfOk result (λ made. TellsAsmFault fault (made_of made)) }
 {
-    match fault.cause {
-        AsmCause::Memory => Err(AllocError),
-        AsmCause::LineTooLong
-        | AsmCause::TooManyLines
-        | AsmCause::NoSuchSymbol
-        | AsmCause::BadSetting
-        | AsmCause::BadArguments
-        | AsmCause::NoSequenceSymbol
-        | AsmCause::Unclosed
-        | AsmCause::Counter
-        | AsmCause::TooNested
-        | AsmCause::Noted(_)
-        | AsmCause::UnknownOperation
-        | AsmCause::OutsideSegment
-        | AsmCause::BadLabel
-        | AsmCause::BadOperand
-        | AsmCause::BadNumber
-        | AsmCause::BadMode
-        | AsmCause::Duplicate
-        | AsmCause::UnknownConstant
-        | AsmCause::DivideByZero
-        | AsmCause::DoesNotFit
-        | AsmCause::SegmentTooLong
-        | AsmCause::TooLong => {
-            let line = fault_line(alloc, fault);
+    match cause_name(fault.cause) {
+        Some(name) => {
+            let line = line_fault_line(alloc, name, fault.file, fault.line);
             Ok(Making::Refusal(line.map_err(|_| AllocError)?))
         }
+        None => Err(AllocError),
     }
 }
 

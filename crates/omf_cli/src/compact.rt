@@ -1,6 +1,6 @@
 //! `compact`: the canonical form of a load file.
 
-ghost use Rattle.std.specs.Prelude.{◌≡◌, IfOk};
+ghost use Rattle.std.specs.Prelude.{◌≡◌, ◌≢◌, IfOk, MatchOption};
 ghost use Rattle.omf_cli.specs.CompactCauses.{compact_cause_name};
 ghost use Rattle.omf_cli.specs.Compact.{TellsFault};
 ghost use Rattle.omf_cli.specs.Made.{made_of};
@@ -13,39 +13,44 @@ use std::alloc::{AllocError, Global};
 
 pub struct Compact;
 
-/// The name of a cause, as it is printed.
-fn cause_name(cause: CompactCause) -> &'static str
-    ensures { result.now ≡ compact_cause_name cause }
+/// The name of a cause, as it is printed. Want of memory has none, and no other cause is without one.
+fn cause_name(cause: CompactCause) -> Option<&'static str>
+    ensures { MatchOption result (cause ≡ CompactCause.Memory) (λ name. (cause ≢ CompactCause.Memory) × (name.now ≡ compact_cause_name cause)) }
 {
     match cause {
-        CompactCause::NotLoadFile => "NotLoadFile",
-        CompactCause::Truncated => "Truncated",
-        CompactCause::BadHeader => "BadHeader",
-        CompactCause::Unsupported => "Unsupported",
-        CompactCause::BadRecord => "BadRecord",
-        CompactCause::Sequence => "Sequence",
-        CompactCause::DataTooLong => "DataTooLong",
-        CompactCause::PatchOutside => "PatchOutside",
-        CompactCause::NoSuchTarget => "NoSuchTarget",
-        CompactCause::DynamicTarget => "DynamicTarget",
-        CompactCause::BadTable => "BadTable",
-        CompactCause::BrokenPart => "BrokenPart",
-        CompactCause::TooLong => "TooLong",
-        CompactCause::Memory => "Memory",
+        CompactCause::NotLoadFile => Some("NotLoadFile"),
+        CompactCause::Truncated => Some("Truncated"),
+        CompactCause::BadHeader => Some("BadHeader"),
+        CompactCause::Unsupported => Some("Unsupported"),
+        CompactCause::BadRecord => Some("BadRecord"),
+        CompactCause::Sequence => Some("Sequence"),
+        CompactCause::DataTooLong => Some("DataTooLong"),
+        CompactCause::PatchOutside => Some("PatchOutside"),
+        CompactCause::NoSuchTarget => Some("NoSuchTarget"),
+        CompactCause::DynamicTarget => Some("DynamicTarget"),
+        CompactCause::BadTable => Some("BadTable"),
+        CompactCause::BrokenPart => Some("BrokenPart"),
+        CompactCause::TooLong => Some("TooLong"),
+        CompactCause::Memory => None,
     }
 }
 
-/// The line that says why no file is made.
-fn told(alloc: Global, fault: CompactFault) -> Result<Making, AllocError>
+/// The line that says why no file is made, unless memory ran out.
+fn refusal(alloc: Global, fault: CompactFault) -> Result<Making, AllocError>
     ensures { IfOk result (λ made. TellsFault fault (made_of made)) }
 {
-    let spot = Spot {
-        file: 1,
-        segment: fault.segment,
-        at: fault.at,
-    };
-    let line = refused_line(alloc, cause_name(fault.cause), None, spot);
-    Ok(Making::Refusal(line.map_err(|_| AllocError)?))
+    match cause_name(fault.cause) {
+        Some(name) => {
+            let spot = Spot {
+                file: 1,
+                segment: fault.segment,
+                at: fault.at,
+            };
+            let line = refused_line(alloc, name, None, spot);
+            Ok(Making::Refusal(line.map_err(|_| AllocError)?))
+        }
+        None => Err(AllocError),
+    }
 }
 
 impl Maker for Compact {
@@ -54,25 +59,9 @@ impl Maker for Compact {
     ghost makes = { λ _ files made. CompactMakes files made };
 
     fn make(&self, alloc: Global, files: Vec<Vec<u8>>) -> Result<Making, AllocError> {
-        let fault = match canonical(alloc, first_of(&files)) {
-            Ok(bytes) => return Ok(Making::Bytes(bytes)),
-            Err(fault) => fault,
-        };
-        match fault.cause {
-            CompactCause::Memory => Err(AllocError),
-            CompactCause::NotLoadFile
-            | CompactCause::Truncated
-            | CompactCause::BadHeader
-            | CompactCause::Unsupported
-            | CompactCause::BadRecord
-            | CompactCause::Sequence
-            | CompactCause::DataTooLong
-            | CompactCause::PatchOutside
-            | CompactCause::NoSuchTarget
-            | CompactCause::DynamicTarget
-            | CompactCause::BadTable
-            | CompactCause::BrokenPart
-            | CompactCause::TooLong => told(alloc, fault),
+        match canonical(alloc, first_of(&files)) {
+            Ok(bytes) => Ok(Making::Bytes(bytes)),
+            Err(fault) => refusal(alloc, fault),
         }
     }
 }

@@ -1,6 +1,6 @@
 //! `lib`: the library of object files.
 
-ghost use Rattle.std.specs.Prelude.{◌≡◌, ◌<◌, ◌≤◌, ◌^◌, length, map, All, IfOk, IsTrue};
+ghost use Rattle.std.specs.Prelude.{◌≡◌, ◌≢◌, ◌<◌, ◌≤◌, ◌^◌, length, map, All, IfOk, IsTrue, MatchOption};
 ghost use Rattle.lib_dict.specs.Made.{given_file};
 ghost use Rattle.omf_cli.specs.Words.{are_paths, words_of};
 ghost use Rattle.omf_cli.specs.LibCauses.{lib_cause_name};
@@ -52,17 +52,17 @@ fn members_of(alloc: Global, paths: &[String], files: &[Vec<u8>]) -> Result<Vec<
     Ok(members)
 }
 
-/// The name of a cause, as it is printed.
-fn cause_name(cause: LibCause) -> &'static str
-    ensures { result.now ≡ lib_cause_name cause }
+/// The name of a cause, as it is printed. Want of memory has none, and no other cause is without one.
+fn cause_name(cause: LibCause) -> Option<&'static str>
+    ensures { MatchOption result (cause ≡ LibCause.Memory) (λ name. (cause ≢ LibCause.Memory) × (name.now ≡ lib_cause_name cause)) }
 {
     match cause {
-        LibCause::Truncated => "Truncated",
-        LibCause::BadHeader => "BadHeader",
-        LibCause::Unsupported => "Unsupported",
-        LibCause::BadRecord => "BadRecord",
-        LibCause::TooLong => "TooLong",
-        LibCause::Memory => "Memory",
+        LibCause::Truncated => Some("Truncated"),
+        LibCause::BadHeader => Some("BadHeader"),
+        LibCause::Unsupported => Some("Unsupported"),
+        LibCause::BadRecord => Some("BadRecord"),
+        LibCause::TooLong => Some("TooLong"),
+        LibCause::Memory => None,
     }
 }
 
@@ -70,16 +70,12 @@ fn cause_name(cause: LibCause) -> &'static str
 fn refusal(alloc: Global, fault: LibFault) -> Result<Making, AllocError>
     ensures { IfOk result (λ made. TellsFault fault (made_of made)) }
 {
-    match fault.cause {
-        LibCause::Memory => Err(AllocError),
-        LibCause::Truncated
-        | LibCause::BadHeader
-        | LibCause::Unsupported
-        | LibCause::BadRecord
-        | LibCause::TooLong => {
-            let line = refused_line(alloc, cause_name(fault.cause), None, fault.spot);
+    match cause_name(fault.cause) {
+        Some(name) => {
+            let line = refused_line(alloc, name, None, fault.spot);
             Ok(Making::Refusal(line.map_err(|_| AllocError)?))
         }
+        None => Err(AllocError),
     }
 }
 

@@ -1,6 +1,6 @@
 //! `link`, `rtl` and `linkrt`: the load file of objects and libraries, and of run-time library files behind them.
 
-ghost use Rattle.std.specs.Prelude.{◌≡◌, ◌≤◌, ◌-◌, length, take, drop, IfOk, IsTrue};
+ghost use Rattle.std.specs.Prelude.{◌≡◌, ◌≢◌, ◌≤◌, ◌-◌, length, take, drop, IfOk, IsTrue, MatchOption};
 ghost use Rattle.omf_cli.specs.LinkCauses.{link_cause_name};
 ghost use Rattle.link_resolve.specs.Resolved.{given_of, FewGiven, HavePaths};
 ghost use Rattle.link_resolve.specs.Runtimes.{files_of};
@@ -30,50 +30,46 @@ pub struct LinkRt<'a> {
     ghost printing: { IsTrue (are_printing (words_of runtimes.now)) },
 }
 
-/// The name of a cause, as it is printed.
-fn cause_name(cause: LinkCause) -> &'static str
-    ensures { result.now ≡ link_cause_name cause }
+/// The name of a cause, as it is printed. Want of memory has none, and no other cause is without one.
+fn cause_name(cause: LinkCause) -> Option<&'static str>
+    ensures { MatchOption result (cause ≡ LinkCause.Memory) (λ name. (cause ≢ LinkCause.Memory) × (name.now ≡ link_cause_name cause)) }
 {
     match cause {
-        LinkCause::Truncated => "Truncated",
-        LinkCause::BadHeader => "BadHeader",
-        LinkCause::Unsupported => "Unsupported",
-        LinkCause::BadRecord => "BadRecord",
-        LinkCause::AlignFault => "AlignFault",
-        LinkCause::BadLength => "BadLength",
-        LinkCause::BadLibrary => "BadLibrary",
-        LinkCause::BadRuntime => "BadRuntime",
-        LinkCause::Empty => "Empty",
-        LinkCause::Unresolved => "Unresolved",
-        LinkCause::Duplicate => "Duplicate",
-        LinkCause::OrgConflict => "OrgConflict",
-        LinkCause::TooManySegments => "TooManySegments",
-        LinkCause::SegmentTooLong => "SegmentTooLong",
-        LinkCause::NotDynamic => "NotDynamic",
-        LinkCause::Circular => "Circular",
-        LinkCause::DivideByZero => "DivideByZero",
-        LinkCause::NotRelocatable => "NotRelocatable",
-        LinkCause::DynamicReference => "DynamicReference",
-        LinkCause::OutOfSegment => "OutOfSegment",
-        LinkCause::TooManyEntries => "TooManyEntries",
-        LinkCause::DoesNotFit => "DoesNotFit",
-        LinkCause::FileTooLong => "FileTooLong",
-        LinkCause::Memory => "Memory",
+        LinkCause::Truncated => Some("Truncated"),
+        LinkCause::BadHeader => Some("BadHeader"),
+        LinkCause::Unsupported => Some("Unsupported"),
+        LinkCause::BadRecord => Some("BadRecord"),
+        LinkCause::AlignFault => Some("AlignFault"),
+        LinkCause::BadLength => Some("BadLength"),
+        LinkCause::BadLibrary => Some("BadLibrary"),
+        LinkCause::BadRuntime => Some("BadRuntime"),
+        LinkCause::Empty => Some("Empty"),
+        LinkCause::Unresolved => Some("Unresolved"),
+        LinkCause::Duplicate => Some("Duplicate"),
+        LinkCause::OrgConflict => Some("OrgConflict"),
+        LinkCause::TooManySegments => Some("TooManySegments"),
+        LinkCause::SegmentTooLong => Some("SegmentTooLong"),
+        LinkCause::NotDynamic => Some("NotDynamic"),
+        LinkCause::Circular => Some("Circular"),
+        LinkCause::DivideByZero => Some("DivideByZero"),
+        LinkCause::NotRelocatable => Some("NotRelocatable"),
+        LinkCause::DynamicReference => Some("DynamicReference"),
+        LinkCause::OutOfSegment => Some("OutOfSegment"),
+        LinkCause::TooManyEntries => Some("TooManyEntries"),
+        LinkCause::DoesNotFit => Some("DoesNotFit"),
+        LinkCause::FileTooLong => Some("FileTooLong"),
+        LinkCause::Memory => None,
     }
 }
 
-/// The line of a fault.
-fn fault_line(alloc: Global, fault: &LinkFault) -> Result<Line, LineFault>
+/// The line of a fault, whose cause has this name.
+fn fault_line(alloc: Global, cause: &str, fault: &LinkFault) -> Result<Line, LineFault>
+    requires { cause.now ≡ link_cause_name fault.now.cause }
     ensures { IfOk result (λ text. text ≡ link_fault_line fault.now) }
 {
     match &fault.name {
-        Some(name) => refused_line(
-            alloc,
-            cause_name(fault.cause),
-            Some(name.bytes()),
-            fault.spot,
-        ),
-        None => refused_line(alloc, cause_name(fault.cause), None, fault.spot),
+        Some(name) => refused_line(alloc, cause, Some(name.bytes()), fault.spot),
+        None => refused_line(alloc, cause, None, fault.spot),
     }
 }
 
@@ -81,34 +77,12 @@ fn fault_line(alloc: Global, fault: &LinkFault) -> Result<Line, LineFault>
 fn refusal(alloc: Global, fault: LinkFault) -> Result<Making, AllocError>
     ensures { IfOk result (λ made. TellsLinkFault fault (made_of made)) }
 {
-    match fault.cause {
-        LinkCause::Memory => Err(AllocError),
-        LinkCause::Truncated
-        | LinkCause::BadHeader
-        | LinkCause::Unsupported
-        | LinkCause::BadRecord
-        | LinkCause::AlignFault
-        | LinkCause::BadLength
-        | LinkCause::BadLibrary
-        | LinkCause::BadRuntime
-        | LinkCause::Empty
-        | LinkCause::Unresolved
-        | LinkCause::Duplicate
-        | LinkCause::OrgConflict
-        | LinkCause::TooManySegments
-        | LinkCause::SegmentTooLong
-        | LinkCause::NotDynamic
-        | LinkCause::Circular
-        | LinkCause::DivideByZero
-        | LinkCause::NotRelocatable
-        | LinkCause::DynamicReference
-        | LinkCause::OutOfSegment
-        | LinkCause::TooManyEntries
-        | LinkCause::DoesNotFit
-        | LinkCause::FileTooLong => {
-            let line = fault_line(alloc, &fault);
+    match cause_name(fault.cause) {
+        Some(cause) => {
+            let line = fault_line(alloc, cause, &fault);
             Ok(Making::Refusal(line.map_err(|_| AllocError)?))
         }
+        None => Err(AllocError),
     }
 }
 

@@ -1,6 +1,6 @@
 //! `list`: the source of an object.
 
-ghost use Rattle.std.specs.Prelude.{◌≡◌, IfOk};
+ghost use Rattle.std.specs.Prelude.{◌≡◌, ◌≢◌, IfOk, MatchOption};
 ghost use Rattle.omf_cli.specs.ListCauses.{list_cause_name};
 ghost use Rattle.omf_cli.specs.Listings.{TellsListFault};
 ghost use Rattle.omf_cli.specs.Made.{made_of};
@@ -13,18 +13,18 @@ use w65_list::{ListCause, ListFault, list_source};
 
 pub struct Listing;
 
-/// The name of a cause, as it is printed.
-fn cause_name(cause: ListCause) -> &'static str
-    ensures { result.now ≡ list_cause_name cause }
+/// The name of a cause, as it is printed. Want of memory has none, and no other cause is without one.
+fn cause_name(cause: ListCause) -> Option<&'static str>
+    ensures { MatchOption result (cause ≡ ListCause.Memory) (λ name. (cause ≢ ListCause.Memory) × (name.now ≡ list_cause_name cause)) }
 {
     match cause {
-        ListCause::Truncated => "Truncated",
-        ListCause::BadHeader => "BadHeader",
-        ListCause::Unsupported => "Unsupported",
-        ListCause::BadRecord => "BadRecord",
-        ListCause::NotListable => "NotListable",
-        ListCause::TooLong => "TooLong",
-        ListCause::Memory => "Memory",
+        ListCause::Truncated => Some("Truncated"),
+        ListCause::BadHeader => Some("BadHeader"),
+        ListCause::Unsupported => Some("Unsupported"),
+        ListCause::BadRecord => Some("BadRecord"),
+        ListCause::NotListable => Some("NotListable"),
+        ListCause::TooLong => Some("TooLong"),
+        ListCause::Memory => None,
     }
 }
 
@@ -32,22 +32,17 @@ fn cause_name(cause: ListCause) -> &'static str
 fn refusal(alloc: Global, fault: ListFault) -> Result<Making, AllocError>
     ensures { IfOk result (λ made. TellsListFault fault (made_of made)) }
 {
-    match fault.cause {
-        ListCause::Memory => Err(AllocError),
-        ListCause::Truncated
-        | ListCause::BadHeader
-        | ListCause::Unsupported
-        | ListCause::BadRecord
-        | ListCause::NotListable
-        | ListCause::TooLong => {
+    match cause_name(fault.cause) {
+        Some(name) => {
             let spot = Spot {
                 file: 1,
                 segment: fault.segment,
                 at: fault.at,
             };
-            let line = refused_line(alloc, cause_name(fault.cause), None, spot);
+            let line = refused_line(alloc, name, None, spot);
             Ok(Making::Refusal(line.map_err(|_| AllocError)?))
         }
+        None => Err(AllocError),
     }
 }
 

@@ -1,7 +1,8 @@
 //! Sources with macro files to objects (ORCA/M reference manual; GS/OS Reference, appendix F).
 
-ghost use Rattle.std.specs.Prelude.{◌≡◌, ◌≤◌, [], List, ℕ, IfOk, IfErr, OnOk, MatchOption};
+ghost use Rattle.std.specs.Prelude.{◌≡◌, ◌≤◌, [], List, ℕ, Err, IfOk, IfErr, OnOk, MatchOption};
 ghost use Rattle.orca_macro.specs.Files.{texts_of_files};
+ghost use Rattle.orca_meaning.specs.Line.{Line};
 ghost use Rattle.macro_meaning.specs.Expansion.{IsMacroFault};
 ghost use Rattle.asm_meaning.specs.State.{State};
 ghost use Rattle.asm_meaning.specs.Object.{IsObject, IsAsmFault, cause_of};
@@ -101,7 +102,8 @@ fn cause_of(cause: MacroCause) -> AsmCause
 
 /// A fault of the expansion.
 fn macro_fault(fault: MacroFault) -> AsmFault
-    ensures { (source : List ℕ) (macros : List (List ℕ)) → IsMacroFault source macros fault → IsAsmFault source macros result }
+    ensures same { result ≡ record { cause = cause_of fault.cause; file = fault.file; line = fault.line } }
+    ensures told { (source : List ℕ) (macros : List (List ℕ)) → IsMacroFault source macros fault → IsAsmFault source macros result }
 {
     AsmFault {
         cause: cause_of(fault.cause),
@@ -110,14 +112,23 @@ fn macro_fault(fault: MacroFault) -> AsmFault
     }
 }
 
+/// The object that lines have left, or the fault of the first that has one.
+fn answered(stepped: Result<Kept, AsmFault>) -> Result<Vec<u8>, AsmFault>
+    ensures assembled { (lines : List Line) → HasStepped lines stepped → IsAssembled lines result }
+    ensures fault { (fault : AsmFault) → stepped ≡ Err fault → result ≡ Err fault }
+{
+    match stepped {
+        Ok(kept) => object_of(kept),
+        Err(fault) => Err(fault),
+    }
+}
+
 /// The object of expanded lines, or the first fault of theirs.
 fn assembled(alloc: Global, lines: &Lines) -> Result<Result<Vec<u8>, AsmFault>, AllocError>
     ensures { IfOk result (IsAssembled lines.now) }
 {
-    match step_all(alloc, lines)? {
-        Ok(kept) => Ok(object_of(kept)),
-        Err(fault) => Ok(Err(fault)),
-    }
+    let stepped = step_all(alloc, lines)?;
+    Ok(answered(stepped))
 }
 
 /// The object of a source with macro files: its segments one behind another, as ORCA/M's directives and the 65816's

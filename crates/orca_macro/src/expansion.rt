@@ -48,7 +48,8 @@ fn no_memory() -> MacroFault
 /// A fault of reading.
 fn text_fault(fault: TextFault) -> MacroFault
     requires { CanRead fault.cause }
-    ensures { (file : ℕ) (source : List ℕ) → IsRefused file source fault → IsTextFault (file_text_fault file source) result }
+    ensures told { (file : ℕ) (source : List ℕ) → IsRefused file source fault → IsTextFault (file_text_fault file source) result }
+    ensures memory { result.cause ≡ MacroCause.Memory → fault.cause ≡ TextCause.Memory }
 {
     match fault.cause {
         TextCause::LineTooLong => MacroFault {

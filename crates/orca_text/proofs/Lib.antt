@@ -8,3 +8,4 @@ pub mod Reading
 pub mod OperandIs
 pub mod Steps
 pub mod Shorts
+pub mod ShortTokens

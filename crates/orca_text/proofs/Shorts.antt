@@ -9,7 +9,7 @@ use Rattle.orca_meaning.specs.Formula.{Single, Joined, MeansAt, operator_code, o
 use Rattle.orca_meaning.specs.Token.{Found, Token, Value, Number, Between, Opens, byte_at, sign_at, operator_at, spelled_at, number_at, operand_at, operand_token_at, operator_token_at, seen_as}
 use Rattle.orca_text.specs.Kept.{fitting}
 
-not_open : (text : List ℕ) → ((behind : List ℕ) → text ≢ 0x28 ∷ behind) → byte_at 0x28 Opens text ≡ None
+pub not_open : (text : List ℕ) → ((behind : List ℕ) → text ≢ 0x28 ∷ behind) → byte_at 0x28 Opens text ≡ None
 unfolding byte_at
 not_open [] other = refl
 not_open (byte ∷ behind) other = by_test (eqb byte 0x28) refl

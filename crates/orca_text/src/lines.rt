@@ -127,6 +127,22 @@ fn line_fault(number: u32, text: &[u8]) -> Option<TextCause>
     None
 }
 
+/// The fault of a line of this number, where it has one.
+fn checked(file: u32, number: u32, text: &[u8]) -> Result<(), TextFault>
+    ensures good { OnOk result (line_fault number text.now ≡ None) }
+    ensures bad { IfErr result (λ fault. line_fault number text.now ≡ Some fault.cause) }
+    ensures place { IfErr result (λ fault. fault ≡ record { cause = fault.cause; file = file; line = number }) }
+{
+    match line_fault(number, text) {
+        None => Ok(()),
+        Some(cause) => Err(TextFault {
+            cause,
+            file,
+            line: number,
+        }),
+    }
+}
+
 /// The lines of a source, or its first line that is too long or one too many.
 pub fn read_lines(alloc: Global, file: u32, source: &[u8]) -> Result<Lines, TextFault>
     ensures lines { IfOk result (λ lines. lines ≡ numbered file 1 (lines_of source.now)) }
@@ -138,12 +154,9 @@ pub fn read_lines(alloc: Global, file: u32, source: &[u8]) -> Result<Lines, Text
     let mut number = 1;
     'lines: while !rest.is_empty() {
         let (text, behind) = split_line(rest);
-        if let Some(cause) = line_fault(number, text) {
-            return Err(TextFault {
-                cause,
-                file,
-                line: number,
-            });
+        match checked(file, number, text) {
+            Ok(()) => {}
+            Err(fault) => return Err(fault),
         }
         match lines.push(alloc, file, number, text) {
             Ok(()) => {}

@@ -1,9 +1,9 @@
 //! Formulas of one to three numbers, as most conditions and settings have them once the texts are in place.
 
-ghost use Rattle.std.specs.Prelude.{◌≡◌, ◌<◌, ◌^◌, [], Some, IfSome};
+ghost use Rattle.std.specs.Prelude.{◌≡◌, ◌<◌, ◌^◌, [], ℕ, List, Some, IfSome, MatchOption};
 ghost use Rattle.orca_meaning.specs.Formula.{MeansAt};
 ghost use Rattle.orca_meaning.specs.Token.{Value, Number, Between, operand_token_at, operator_token_at};
-ghost use Rattle.orca_text.specs.Short.{tree_of};
+ghost use Rattle.orca_text.specs.Short.{tree_of, IsShort};
 
 use crate::formula::level;
 use crate::operand_tokens::{OperatorToken, behind_byte, operator_token};
@@ -24,9 +24,10 @@ pub enum ShortFormula {
 
 /// The number at the front where an operand is expected, and what stands behind it. None where another token stands there,
 /// and of a number above 4,294,967,295.
-#[tactic(auto, using(crate::proofs::Shorts::number_token))]
+#[tactic(auto, using(crate::proofs::Shorts::number_token, crate::proofs::ShortTokens::sign_no_number, crate::proofs::ShortTokens::none_no_number, crate::proofs::ShortTokens::large_no_number))]
 fn number_token(text: &[u8]) -> Option<(u32, &[u8])>
-    ensures { IfSome result (λ x. operand_token_at Operands.Symbols text.now ≡ Some (Value (Number x.0), x.1.now)) }
+    ensures { MatchOption result ((n : ℕ) (rest : List ℕ) → operand_token_at Operands.Symbols text.now ≡ Some (Value (Number n), rest) → n < 2 ^ 32 → ⊥)
+        (λ x. operand_token_at Operands.Symbols text.now ≡ Some (Value (Number x.0), x.1.now)) }
 {
     if let Some(_) = behind_byte(text, b'(') {
         return None;
@@ -43,7 +44,8 @@ fn number_token(text: &[u8]) -> Option<(u32, &[u8])>
 
 /// The operator at the front behind an operand, and what stands behind it.
 fn operator_behind(text: &[u8]) -> Option<(Operator, &[u8])>
-    ensures { IfSome result (λ x. operator_token_at text.now ≡ Some (Between x.0, x.1.now)) }
+    ensures { MatchOption result ((operator : Operator) (behind : List ℕ) → operator_token_at text.now ≡ Some (Between operator, behind) → ⊥)
+        (λ x. operator_token_at text.now ≡ Some (Between x.0, x.1.now)) }
 {
     match operator_token(text) {
         Some((OperatorToken::Between(operator), behind)) => Some((operator, behind)),
@@ -53,10 +55,12 @@ fn operator_behind(text: &[u8]) -> Option<(Operator, &[u8])>
 }
 
 /// The formula that the whole text is, where it is one number, two with an operator between them, or three of which the last
-/// two are bound closer. None says nothing: the text may still be a formula.
-#[tactic(auto, using(crate::proofs::Shorts::one_means, crate::proofs::Shorts::two_mean, crate::proofs::Shorts::three_mean))]
+/// two are bound closer, without parentheses and with numbers of at most 4,294,967,295. None comes of every other text, and it
+/// may still be a formula.
+#[tactic(auto, using(crate::proofs::Shorts::one_means, crate::proofs::Shorts::two_mean, crate::proofs::Shorts::three_mean, crate::proofs::ShortTokens::no_first, crate::proofs::ShortTokens::no_operator, crate::proofs::ShortTokens::no_second, crate::proofs::ShortTokens::no_second_operator, crate::proofs::ShortTokens::no_third))]
 pub fn short_formula(text: &[u8]) -> Option<ShortFormula>
-    ensures { IfSome result (λ f. MeansAt Operands.Symbols text.now (tree_of f) []) }
+    ensures tokens { MatchOption result ((f : ShortFormula) → IsShort text.now f → ⊥) (IsShort text.now) }
+    ensures means { IfSome result (λ f. MeansAt Operands.Symbols text.now (tree_of f) []) }
 {
     let Some((a, rest)) = number_token(text) else {
         return None;

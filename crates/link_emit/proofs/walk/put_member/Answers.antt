@@ -95,6 +95,15 @@ returns-in-Ok-clause-ok c =
     subst (λ (k : ℕ). IsWalkedTo list told k c.put_segment.new.table (slice_set c.args.contents.now.items (c.from-number.result - 1) c.put_segment.new.content)) again
     (subst (λ (k : ℕ). IsWalkedTo list told (place - 1 + 1) c.put_segment.new.table (slice_set c.args.contents.now.items k c.put_segment.new.content)) (sym number) more)
 
+pub value_fault-requires : goal.value_fault-requires
+value_fault-requires c =
+    let list = c.args.whole.now.program.now in
+    let told = rows_of (all_found list) c.args.whole.now.slots.now in
+    let place = c.args.place in
+    let again = counted place c.requires.first in
+    let n = next_walked list told (place - 1) c.args.table.now c.args.contents.now.items c.requires.walked (omega (arith, c.requires.first, c.requires.inside)) in
+    (n.0, ap (member_at list) (sym again) ∙ n.3)
+
 pub returns-in-Err : goal.returns-in-Err
 returns-in-Err c =
     let list = c.args.whole.now.program.now in
@@ -114,7 +123,7 @@ returns-in-Err c =
     let stands = stands_behind list told (place - 1) c.args.table.now c.args.contents.now.items w n.0 n.1 seat (shown c.in-Some-view.segment.now) n.2 (s.0 ∙ sym again) s.1 segment c.index_mut.result.now at in
     record {
       ok = tt;
-      err = elim (c.value_fault.ensures n.0 there) [
+      err = elim (c.value_fault.ensures.told n.0 there) [
         | inl memory ↦ inl memory
         | inr fault ↦ elim (c.in-Err.ensures.err w.front n.0 n.1 (linked_behind list told n.0.segment.fields.load_name w.front) stands) [
           | inl memory ↦ absurd (fault.0 memory)

@@ -2,7 +2,7 @@ use Rattle.std.proofs.Common.{◌≡◌, ◌++◌, ℕ, length, map}
 use Rattle.std.specs.List.{flat_map}
 use Rattle.omf_format.specs.Field.{written_layout}
 use Rattle.omf_format.specs.Record.{spelling}
-use Rattle.omf_cells.specs.WrittenParts.{seen}
+use Rattle.omf_cells.specs.WrittenParts.{seen, IsFront}
 use Rattle.load_meaning.specs.WrittenBody.{AreWritten, lone, lone_record}
 use Rattle.omf_cells.proofs.written.put_lone.Given as goal
 
@@ -12,6 +12,7 @@ invariant-patches l = record {
   whole : l.out.items ++ flat_map (spelling written_layout) (map (lone_record l.own) (lone l.own (map seen l.left)))
       ≡ l.initial.out.items ++ flat_map (spelling written_layout) (map (lone_record l.own) (lone l.own (map seen l.patches)));
   left : (low : ℕ) × AreWritten l.size low (map seen l.left);
+  front : IsFront l.initial.out.items l.out.items;
 }
 
 abbrev pub decreases-patches : goal.decreases-patches

@@ -24,7 +24,7 @@ put_stored-requires-clause-patches c =
 pub returns-clause-text : goal.returns-clause-text
 returns-clause-text c =
     some_data c.args.own c.data_size-size.result c.args.content.now c.front.result.now c.args.out.now.items c.put_stored.new.out.items (map seen c.args.patches.now) c.requires.patches c.data_size-size.ensures
-    c.if-size-eq0.false c.front.ensures c.in_ok-put_stored.ensures
+    c.if-size-eq0.false c.front.ensures c.in_ok-put_stored.ensures.ok
 
 pub returns-clause-size : goal.returns-clause-size
 returns-clause-size c = size_is c.args.own c.data_size-size.result c.args.content.now (map seen c.args.patches.now) c.requires.patches c.data_size-size.ensures

@@ -16,8 +16,8 @@ put_patches_from-requires-clause-patches c =
     let same : length c.args.bytes.now ≡ length c.deref_mut.result.now - (c.len.result - length c.args.bytes.now) = omega (arith, ap length c.deref_mut.ensures.value, size, fits) in
     subst (λ (k : ℕ). AreWritten k 0 (map seen c.args.patches.now)) same c.requires.patches
 
-pub returns : goal.returns
-returns c =
+pub returns-clause-ok : goal.returns-clause-ok
+returns-clause-ok c =
     let mid = c.put_record.new.out in
     let size : mid.len ≡ length mid.items = omega (arith, mid.ok) in
     let start : c.len.result - length c.args.bytes.now ≡ mid.len - length c.args.bytes.now = omega (arith, c.len.ensures, mid.ok) in

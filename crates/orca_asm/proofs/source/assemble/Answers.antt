@@ -3,7 +3,7 @@ use Rattle.orca_asm.proofs.Assembling.{answered}
 use Rattle.orca_asm.proofs.source.assemble.Goals as goal
 
 pub returns-in-Err-clause-refused : goal.returns-in-Err-clause-refused
-returns-in-Err-clause-refused c = c.macro_fault.ensures c.args.source.now (texts_of_files c.args.macros.now.items) c.in-Err.ensures.refused
+returns-in-Err-clause-refused c = c.macro_fault.ensures.told c.args.source.now (texts_of_files c.args.macros.now.items) c.in-Err.ensures.refused
 
 pub returns-in-Ok-assembled-clause-refused : goal.returns-in-Ok-assembled-clause-refused
 returns-in-Ok-assembled-clause-refused c =

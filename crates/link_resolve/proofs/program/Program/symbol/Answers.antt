@@ -5,7 +5,9 @@ use Rattle.link_meaning.specs.Search.{outside}
 use Rattle.link_resolve.specs.Linked.{Holds}
 use Rattle.link_resolve.specs.Finding.{IsFirstOf, found_in}
 use Rattle.link_resolve.specs.Outside.{all_found, IsOutsideOf}
+use Rattle.link_resolve.specs.OfFiles.{IsOfFiles}
 use Rattle.link_resolve.specs.Programs.{list_of, symbol_of}
+use Rattle.link_resolve.proofs.MemberLaws.{uses_find_only}
 use Rattle.link_resolve.proofs.ProgramNumbers.{first_symbol, no_symbol, first_nowhere}
 use Rattle.link_resolve.proofs.program.Program.symbol.Goals as goal
 
@@ -38,3 +40,9 @@ returns-in-None-clause-found c = λ m there.
     let table = subst (λ (l : List Member). IsOutsideOf l kept.outside) c.self.view_is c.self.invariant.table in
     let first = subst (IsFirstOf (all_found list) (found_in list c.args.place c.args.name.now)) c.in-None.is (c.first.ensures list holds table) in
     no_symbol list c.args.place c.args.name.now first m there
+
+pub returns-in-Some-clause-only : goal.returns-in-Some-clause-only
+returns-in-Some-clause-only c = λ m u there is same. uses_find_only c.args.self.now c.args.place m u c.args.name.now (subst IsOfFiles c.self.view_is c.self.invariant.of_files) there is same
+
+pub returns-in-None-clause-only : goal.returns-in-None-clause-only
+returns-in-None-clause-only c = λ m u there is same. uses_find_only c.args.self.now c.args.place m u c.args.name.now (subst IsOfFiles c.self.view_is c.self.invariant.of_files) there is same

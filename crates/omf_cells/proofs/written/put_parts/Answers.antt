@@ -2,7 +2,7 @@ use Rattle.std.proofs.Common.{◌-◌, ℕ, length, map, ap, ◌∙◌, arith}
 use Rattle.omf_cells.specs.WrittenParts.{seen}
 use Rattle.load_meaning.specs.laws.WrittenBodyLaws.{length-written}
 use Rattle.load_meaning.specs.laws.StoredLaws.{zeros_left}
-use Rattle.omf_cells.proofs.written.put_body.Goals as goal
+use Rattle.omf_cells.proofs.written.put_parts.Goals as goal
 
 pub overflow_sub-result : goal.overflow_sub-result
 overflow_sub-result c = omega (arith, c.in_ok-size.ensures.size, length-written c.args.own c.args.content.now (map seen c.args.patches.now))

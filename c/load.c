@@ -1,0 +1,186 @@
+/* From source to an array of banks, in C: assembles a program and a routine, makes a library of the routine, links both, and puts the load
+ * file's segments into banks of 65,536 bytes. It prints what it finds, and ends with 0 where all is as it has to be.
+ */
+#include <stdio.h>
+#include <stdlib.h>
+#include <string.h>
+
+#include "omf.h"
+
+static const char macros[] =
+    "         MACRO\n"
+    "&LAB     PUTW  &V,&ADR\n"
+    "&LAB     LDA   #&V\n"
+    "         STA   &ADR\n"
+    "         MEND\n";
+
+static const char program[] =
+    "MAIN     START\n"
+    "         USING MYDATA\n"
+    "         PUTW  7,COUNT\n"
+    "         JSL   SUB\n"
+    "         JSL   DYN\n"
+    "         RTL\n"
+    "         END\n"
+    "MYDATA   DATA\n"
+    "COUNT    DS    2\n"
+    "         END\n"
+    "DYN      START DYNSEG\n"
+    "         KIND  $8000\n"
+    "         RTL\n"
+    "         END\n";
+
+static const char routine[] =
+    "SUB      START\n"
+    "         INC   A\n"
+    "         RTL\n"
+    "         END\n";
+
+static const char wrong[] =
+    "MAIN     START\n"
+    "         JSL   NOWHERE\n"
+    "         END\n";
+
+static const char bad[] =
+    "MAIN     START\n"
+    "         LDA   ($10),X\n"
+    "         END\n";
+
+/* Bytes on the heap. */
+struct made {
+    uint8_t *bytes;
+    size_t size;
+};
+
+static const uint8_t *text(const char *s) {
+    return (const uint8_t *)s;
+}
+
+/* Ends the program where something isn't as it has to be. */
+static void want(int holds, const char *what) {
+    if (!holds) {
+        printf("not so: %s\n", what);
+        exit(1);
+    }
+}
+
+/* Room of so many bytes. */
+static struct made room_of(size_t size) {
+    struct made room = {malloc(size ? size : 1), size};
+    want(room.bytes != NULL, "there is memory");
+    return room;
+}
+
+/* Assembles: the first call has no room and tells the size, the second has all of it. */
+static struct made assembled(const char *source, const struct omf_bytes *files, size_t count) {
+    struct omf_fault fault;
+    size_t size = 0;
+    uint8_t none[1];
+    want(omf_assemble(text(source), strlen(source), files, count, none, 0, &size, &fault) == OMF_SMALL, "an object is larger than no room");
+    struct made object = room_of(size);
+    want(omf_assemble(text(source), strlen(source), files, count, object.bytes, size, &size, &fault) == OMF_DONE, "the source is assembled");
+    want(size == object.size, "the size is the same again");
+    return object;
+}
+
+static void print_cause(uint32_t cause) {
+    uint8_t name[32];
+    size_t size;
+    want(omf_cause_name(cause, name, sizeof name, &size) == OMF_DONE, "the cause has a name");
+    printf("%.*s", (int)size, (const char *)name);
+}
+
+static void print_fault(const struct omf_fault *fault) {
+    print_cause(fault->cause);
+    if (fault->name_size > 0)
+        printf(" %s", (const char *)fault->name);
+    if (fault->line > 0)
+        printf(" file %u line %u\n", fault->file, fault->line);
+    else
+        printf(" file %u segment %u at %08X\n", fault->file, fault->segment, fault->at);
+}
+
+/* The banks, and the first byte in them that is free. */
+static uint8_t banks[4][65536];
+static uint32_t next = 0x020000;
+
+static uint8_t *byte_at(uint32_t address) {
+    return &banks[address >> 16][address & 0xFFFF];
+}
+
+/* Puts all segments of a load file behind one another into the banks. */
+static void load(const struct made *file) {
+    struct omf_fault fault;
+    uint32_t count = 0;
+    want(omf_segments(file->bytes, file->size, &count, &fault) == OMF_DONE, "it is a load file");
+    uint32_t *addresses = calloc(count, sizeof *addresses);
+    want(addresses != NULL, "there is memory");
+    static struct omf_header header;
+    for (uint32_t number = 1; number <= count; number++) {
+        want(omf_header(file->bytes, file->size, number, &header, &fault) == OMF_DONE, "each segment has a header");
+        want(next % 65536 + header.length <= 65536, "the segment fits the bank");
+        addresses[number - 1] = next;
+        next += header.length;
+        printf("segment %u at %06X length %08X kind %04X name \"%s\"\n", number, addresses[number - 1], header.length, header.kind,
+               (const char *)header.name);
+    }
+    for (uint32_t number = 1; number <= count; number++) {
+        uint32_t at = addresses[number - 1];
+        size_t size;
+        want(omf_place(file->bytes, file->size, number, addresses, count, byte_at(at), 65536 - at % 65536, &size, &fault) == OMF_DONE,
+             "each segment is placed");
+        printf("%u:", number);
+        for (size_t k = 0; k < size; k++)
+            printf(" %02X", byte_at(at)[k]);
+        printf("\n");
+    }
+    want(omf_place(file->bytes, file->size, 1, addresses, count - 1, byte_at(0), 65536, &(size_t){0}, &fault) == OMF_MISUSED,
+         "an address is missing");
+    want(omf_place(file->bytes, file->size, count + 1, addresses, count, byte_at(0), 65536, &(size_t){0}, &fault) == OMF_MISUSED,
+         "there is no such segment");
+    free(addresses);
+}
+
+int main(void) {
+    struct omf_fault fault;
+    memset(&fault, 0, sizeof fault);
+    struct omf_bytes macro_files[] = {{text(macros), sizeof macros - 1}};
+    struct made object = assembled(program, macro_files, 1);
+    struct made other = assembled(routine, macro_files, 0);
+
+    struct omf_file member = {text("sub.o"), 5, other.bytes, other.size};
+    struct made library = room_of(1024);
+    want(omf_library(&member, 1, library.bytes, 1024, &library.size, &fault) == OMF_DONE, "the library is made");
+
+    struct omf_bytes inputs[] = {{object.bytes, object.size}, {library.bytes, library.size}};
+    struct made linked = room_of(4096);
+    want(omf_link(inputs, 2, linked.bytes, 4096, &linked.size, &fault) == OMF_DONE, "the program is linked");
+    load(&linked);
+
+    struct omf_target targets[4];
+    size_t entries = 0;
+    want(omf_entries(linked.bytes, linked.size, targets, 4, &entries, &fault) == OMF_DONE, "the entries are told");
+    for (size_t k = 0; k < entries; k++)
+        printf("entry %zu: file %u segment %u offset %08X\n", k + 1, targets[k].file, targets[k].segment, targets[k].offset);
+
+    uint8_t spare[256];
+    size_t size = 0;
+    want(omf_assemble(text(bad), sizeof bad - 1, macro_files, 0, spare, sizeof spare, &size, &fault) == OMF_REFUSED, "an operand is bad");
+    print_fault(&fault);
+    struct made unresolved = assembled(wrong, macro_files, 0);
+    struct omf_bytes alone = {unresolved.bytes, unresolved.size};
+    want(omf_link(&alone, 1, spare, sizeof spare, &size, &fault) == OMF_REFUSED, "a name has no definition");
+    print_fault(&fault);
+    uint32_t count;
+    want(omf_segments(object.bytes, object.size, &count, &fault) == OMF_REFUSED, "an object is no load file");
+    print_fault(&fault);
+    want(omf_link(inputs, 2, spare, 10, &size, &fault) == OMF_SMALL && size == linked.size, "ten bytes are too few");
+    want(omf_cause_name(0, spare, sizeof spare, &size) == OMF_MISUSED, "no cause has number 0");
+
+    free(object.bytes);
+    free(other.bytes);
+    free(library.bytes);
+    free(linked.bytes);
+    free(unresolved.bytes);
+    return 0;
+}

@@ -1,0 +1,191 @@
+/* Apple IIGS: load files told and placed, and sources assembled, files linked, libraries made and files listed (Object Module Format 2.1).
+ *
+ * Each call writes into the caller's room, and keeps nothing: what it takes of memory it gives back at its end. It takes memory by malloc,
+ * realloc and free. What it is promised to do stands in docs/C.md, and is proved of the library; that this header says the same as the
+ * library is tested.
+ *
+ * For each pointer with a number behind it: so many items lie there. No pointer is null, not even where the number is 0. What a call reads
+ * and what it writes don't overlap.
+ */
+#ifndef OMF_H
+#define OMF_H
+
+#include <stddef.h>
+#include <stdint.h>
+
+#ifdef __cplusplus
+extern "C" {
+#endif
+
+/* How a call ended. Only OMF_DONE and OMF_SMALL write what was asked for or its size, and only OMF_REFUSED the fault. */
+enum omf_status {
+    /* What was asked for is there. */
+    OMF_DONE = 0,
+    /* What is given has a first fault, which is told. */
+    OMF_REFUSED = 1,
+    /* Memory ran out. */
+    OMF_MEMORY = 2,
+    /* The call was given what it can't take, as said of each. */
+    OMF_MISUSED = 3,
+    /* The room is too small: `size` says what is needed, and the room stays as it was. */
+    OMF_SMALL = 4
+};
+
+/* The causes of refusals. Their names are those that the program prints; docs/ANSWERS.md says what each means. */
+enum omf_cause {
+    OMF_TRUNCATED = 1,
+    OMF_BAD_HEADER = 2,
+    OMF_UNSUPPORTED = 3,
+    OMF_BAD_RECORD = 4,
+    OMF_NOT_LOAD_FILE = 5,
+    OMF_SEQUENCE = 6,
+    OMF_DATA_TOO_LONG = 7,
+    OMF_PATCH_OUTSIDE = 8,
+    OMF_NO_SUCH_TARGET = 9,
+    OMF_DYNAMIC_TARGET = 10,
+    OMF_BAD_TABLE = 11,
+    OMF_TOO_LONG = 12,
+    OMF_ALIGN_FAULT = 13,
+    OMF_BAD_LENGTH = 14,
+    OMF_BAD_LIBRARY = 15,
+    OMF_BAD_RUNTIME = 16,
+    OMF_EMPTY = 17,
+    OMF_UNRESOLVED = 18,
+    OMF_DUPLICATE = 19,
+    OMF_ORG_CONFLICT = 20,
+    OMF_TOO_MANY_SEGMENTS = 21,
+    OMF_SEGMENT_TOO_LONG = 22,
+    OMF_NOT_DYNAMIC = 23,
+    OMF_CIRCULAR = 24,
+    OMF_DIVIDE_BY_ZERO = 25,
+    OMF_NOT_RELOCATABLE = 26,
+    OMF_DYNAMIC_REFERENCE = 27,
+    OMF_OUT_OF_SEGMENT = 28,
+    OMF_TOO_MANY_ENTRIES = 29,
+    OMF_DOES_NOT_FIT = 30,
+    OMF_FILE_TOO_LONG = 31,
+    OMF_LINE_TOO_LONG = 32,
+    OMF_TOO_MANY_LINES = 33,
+    OMF_NO_SUCH_SYMBOL = 34,
+    OMF_BAD_SETTING = 35,
+    OMF_BAD_ARGUMENTS = 36,
+    OMF_NO_SEQUENCE_SYMBOL = 37,
+    OMF_UNCLOSED = 38,
+    OMF_COUNTER = 39,
+    OMF_TOO_NESTED = 40,
+    OMF_NOTED = 41,
+    OMF_UNKNOWN_OPERATION = 42,
+    OMF_OUTSIDE_SEGMENT = 43,
+    OMF_BAD_LABEL = 44,
+    OMF_BAD_OPERAND = 45,
+    OMF_BAD_NUMBER = 46,
+    OMF_BAD_MODE = 47,
+    OMF_UNKNOWN_CONSTANT = 48
+};
+
+/* A first fault. What it doesn't have is 0. */
+struct omf_fault {
+    uint32_t cause;     /* one of enum omf_cause */
+    uint32_t file;      /* from 1, in the order given; of a source the source is 0, and its macro files count from 1 */
+    uint32_t segment;   /* from 1 */
+    uint32_t at;        /* the displacement in the file, in bytes */
+    uint32_t line;      /* from 1, of a source or macro file */
+    uint32_t name_size; /* the bytes of the name of OMF_UNRESOLVED, OMF_DUPLICATE and OMF_CIRCULAR */
+    uint8_t name[256];  /* that name, with zeros behind it */
+};
+
+/* The bytes of a file. */
+struct omf_bytes {
+    const uint8_t *bytes;
+    size_t size;
+};
+
+/* A file with its name in a library, or with the path by which a run-time library file is known. */
+struct omf_file {
+    const uint8_t *name;
+    size_t name_size;
+    const uint8_t *bytes;
+    size_t size;
+};
+
+/* The fields of a segment's header. Displacements are in the segment, from its start. */
+struct omf_header {
+    uint32_t byte_count; /* BYTECNT, in version 1 512 times the number of blocks */
+    uint32_t res_spc;    /* RESSPC */
+    uint32_t length;     /* LENGTH: the bytes in memory */
+    uint32_t bank_size;  /* BANKSIZE */
+    uint32_t org;        /* ORG */
+    uint32_t align;      /* ALIGN */
+    uint32_t entry;      /* ENTRY, an offset */
+    uint16_t kind;       /* KIND, as in version 2 */
+    uint16_t seg_num;    /* SEGNUM */
+    uint16_t disp_name;  /* DISPNAME */
+    uint16_t disp_data;  /* DISPDATA */
+    uint8_t lab_len;     /* LABLEN */
+    uint8_t version;     /* VERSION: 1 or 2 */
+    uint8_t load_name[10]; /* LOADNAME, padded with spaces */
+    uint32_t name_size;  /* the bytes of SEGNAME */
+    uint8_t name[256];   /* SEGNAME, with zeros behind it */
+};
+
+/* Where an entry of a jump table leads: the file and the segment from 1, and the offset in it. */
+struct omf_target {
+    uint16_t file;
+    uint16_t segment;
+    uint32_t offset;
+};
+
+/* ---- load files. Each is misused where the file has more than 4,294,967,295 bytes. */
+
+/* How many segments the load file has. */
+uint32_t omf_segments(const uint8_t *file, size_t file_size, uint32_t *count, struct omf_fault *fault);
+
+/* The header of the segment with a number, from 1. Misused: no segment has it. */
+uint32_t omf_header(const uint8_t *file, size_t file_size, uint32_t number, struct omf_header *header, struct omf_fault *fault);
+
+/* What stands in memory for the segment with a number, from 1, where the segments lie at these addresses, one for each segment of the file:
+ * LENGTH bytes, all patches done. A segment to which no place leads may have any address. Misused: another number of addresses than of
+ * segments, or no segment has the number. */
+uint32_t omf_place(const uint8_t *file, size_t file_size, uint32_t number, const uint32_t *addresses, size_t count, uint8_t *room,
+                   size_t room_size, size_t *size, struct omf_fault *fault);
+
+/* Where the entries of the file's jump table lead, in order; none where it has no table. Sizes are in entries. */
+uint32_t omf_entries(const uint8_t *file, size_t file_size, struct omf_target *room, size_t room_size, size_t *size,
+                     struct omf_fault *fault);
+
+/* ---- what is made of files. A size of what is made is in bytes. */
+
+/* The listing of the segments and records of a file, as `omf dump` prints it. Misused: the file has more than 4,294,967,295 bytes. */
+uint32_t omf_dump(const uint8_t *file, size_t file_size, uint8_t *room, size_t room_size, size_t *size, struct omf_fault *fault);
+
+/* The object of a source with macro files, as `omf asm` writes it. Never misused. */
+uint32_t omf_assemble(const uint8_t *source, size_t source_size, const struct omf_bytes *macros, size_t count, uint8_t *room,
+                      size_t room_size, size_t *size, struct omf_fault *fault);
+
+/* The program of objects and libraries in any order, as `omf link` writes it. Misused: more than 4,294,967,295 files, or more bytes together.
+ */
+uint32_t omf_link(const struct omf_bytes *inputs, size_t count, uint8_t *room, size_t room_size, size_t *size, struct omf_fault *fault);
+
+/* The run-time library file of objects and libraries, as `omf rtl` writes it. Misused as omf_link. */
+uint32_t omf_link_runtime(const struct omf_bytes *inputs, size_t count, uint8_t *room, size_t room_size, size_t *size,
+                          struct omf_fault *fault);
+
+/* The program of objects and libraries that calls run-time library files, each with its path, as `omf linkrt` writes it. Misused: more than
+ * 16 run-time library files, a path that isn't 1 to 255 bytes from $21 to $7E, or as omf_link with all files together. */
+uint32_t omf_link_with(const struct omf_bytes *inputs, size_t count, const struct omf_file *runtimes, size_t runtime_count, uint8_t *room,
+                       size_t room_size, size_t *size, struct omf_fault *fault);
+
+/* The library of object files under their names, as `omf lib` writes it. Misused: more than 65,535 files, a name of more than 255 bytes, or a
+ * file of more than 4,294,967,295. */
+uint32_t omf_library(const struct omf_file *files, size_t count, uint8_t *room, size_t room_size, size_t *size, struct omf_fault *fault);
+
+/* ---- words */
+
+/* The name of a cause by its number, without a zero behind it. Misused: no cause has the number. */
+uint32_t omf_cause_name(uint32_t cause, uint8_t *room, size_t room_size, size_t *size);
+
+#ifdef __cplusplus
+}
+#endif
+
+#endif

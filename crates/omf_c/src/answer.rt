@@ -1,0 +1,57 @@
+//! What a call comes to, and how it is handed to the caller.
+
+ghost use Rattle.std.specs.Prelude.{◌≡◌};
+ghost use Rattle.omf_c.specs.Handed.{IsPut, IsHanded, outcome_of};
+
+use crate::fault::OmfFault;
+
+/// What was asked for is there.
+pub const DONE: u32 = 0;
+
+/// What is given has a first fault, which is told.
+pub const REFUSED: u32 = 1;
+
+/// Memory ran out.
+pub const MEMORY: u32 = 2;
+
+/// The call was given what it can't take.
+pub const MISUSED: u32 = 3;
+
+/// The caller's room is too small.
+pub const SMALL: u32 = 4;
+
+/// What a call made, or why it made nothing.
+#[derive(Drop)]
+pub enum Answer {
+    Made(Vec<u8>),
+    Refused(OmfFault),
+    Memory,
+    Misused,
+}
+
+/// Puts bytes into the caller's room, if they fit, and tells their number.
+pub fn put(bytes: &[u8], room: &mut [u8], size: &mut usize) -> u32
+    ensures { IsPut bytes.now result (record { items = room.old; size = size.old }) (record { items = room.new; size = size.new }) }
+{
+    *size = bytes.len();
+    if room.len() < bytes.len() {
+        return SMALL;
+    }
+    room[..bytes.len()].copy_from_slice(bytes);
+    DONE
+}
+
+/// Hands an answer to the caller.
+pub fn hand(answer: Answer, room: &mut [u8], size: &mut usize, fault: &mut OmfFault) -> u32
+    ensures { IsHanded (outcome_of answer) result (record { items = room.old; size = size.old }) (record { items = room.new; size = size.new }) fault.old fault.new }
+{
+    match answer {
+        Answer::Made(bytes) => put(&bytes, room, size),
+        Answer::Refused(told) => {
+            *fault = told;
+            REFUSED
+        }
+        Answer::Memory => MEMORY,
+        Answer::Misused => MISUSED,
+    }
+}

@@ -1,0 +1,29 @@
+//! Where entries of a jump table lead, as C sees it.
+
+ghost use Rattle.std.specs.Prelude.{◌≡◌};
+ghost use Rattle.omf_c.specs.Loaded.{told_target};
+
+use load_meaning::Target;
+
+/// A place in a dynamic segment, to which an entry of a jump table leads.
+#[repr(C)]
+#[derive(Clone, Copy, Drop)]
+pub struct OmfTarget {
+    /// The number of the file, from 1.
+    pub file: u16,
+    /// The number of the segment in that file, from 1.
+    pub segment: u16,
+    /// The offset in the segment.
+    pub offset: u32,
+}
+
+/// A target, as C sees it.
+pub fn told(target: Target) -> OmfTarget
+    ensures { result ≡ told_target target }
+{
+    OmfTarget {
+        file: target.file,
+        segment: target.segment,
+        offset: target.offset,
+    }
+}
