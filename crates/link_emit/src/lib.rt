@@ -22,6 +22,10 @@ mod slots;
 mod value;
 mod walk;
 
-pub use emitting::emit;
+pub use emitting::{calls_of, emit};
+pub use equates::values_of;
 pub use link_resolve::LinkForm;
 pub use linking::{link, link_with};
+pub use seat::{Seat, seat_of};
+pub use slots::Slot;
+pub use value::{place_at, value_in};

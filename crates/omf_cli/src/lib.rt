@@ -18,5 +18,9 @@ mod stress;
 mod tool;
 
 pub use laws::{headline, inputs_are_asked_for_once, linked_files_begin};
+pub use form::are_paths;
+pub use link::refusal;
+pub use making::{Maker, Making, run_maker};
+pub use printing::print;
 pub use status::Status;
 pub use tool::run_tool;
