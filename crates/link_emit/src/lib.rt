@@ -20,12 +20,10 @@ mod record;
 mod seat;
 mod slots;
 mod value;
+mod values;
 mod walk;
 
-pub use emitting::{calls_of, emit};
-pub use equates::values_of;
+pub use emitting::emit;
 pub use link_resolve::LinkForm;
 pub use linking::{link, link_with};
-pub use seat::{Seat, seat_of};
-pub use slots::Slot;
-pub use value::{place_at, value_in};
+pub use values::Values;

@@ -1,112 +1,74 @@
--- The text of a map, as far as it has come.
-use Rattle.std.proofs.Common.{◌≡◌, ℕ, zero, suc, ◌+◌, List, [], ◌∷◌, ◌++◌, length, map, take, Some, refl, sym, ap, ◌∙◌, append_assoc, append-nil, arith}
-use Rattle.std.specs.Prelude.{slice_get, option_map}
-use Rattle.std.specs.List.{flat_map}
-use Rattle.std.proofs.lemmas.Grind.{flat_map-append}
+-- The jump table's lines, and the map as a whole.
+use Rattle.std.proofs.Common.{◌≡◌, ℕ, ◌+◌, ◌*◌, List, [], ◌∷◌, ◌++◌, length, map, Ok, Some, refl, ap, subst, ◌∙◌, arith}
+use Rattle.std.specs.Prelude.{codes, slice_get, option_map}
+use Rattle.std.proofs.lemmas.List.{length-map}
 use Rattle.std.proofs.lemmas.Option.{slice_get-map}
-use Rattle.omf_format.specs.Record.{Record}
-use Rattle.omf_format.specs.Header.{Fields}
-use Rattle.omf_format.specs.File.{Segment}
+use Rattle.omf_format.specs.Number.{number_at}
 use Rattle.load_meaning.specs.declared.table.Target.{Target}
-use Rattle.load_meaning.specs.Table.{file_entry, IsTableOf}
+use Rattle.load_meaning.specs.Table.{entry_start, file_entry, table_bytes, IsTableOf}
 use Rattle.load_meaning.specs.LoadTable.{target_at}
-use Rattle.link_meaning.specs.Sizes.{place_behind}
+use Rattle.load_meaning.specs.WrittenFile.{table_fields}
 use Rattle.link_meaning.specs.Member.{Member}
-use Rattle.link_meaning.specs.Defines.{Definition, defined_by, defined_in}
-use Rattle.link_meaning.specs.LinkValues.{Told}
-use Rattle.link_emit.specs.Circulars.{defined_so_far}
-use Rattle.link_emit.proofs.CircularLaws.{so_far-more, so_far-all}
-use Rattle.link_map.specs.MapText.{text_in, members_from, load_line, loads_from, entry_line, entries_from}
+use Rattle.link_meaning.specs.Layout.{load_headers}
+use Rattle.link_meaning.specs.LinkValues.{Told, IsTable}
+use Rattle.link_meaning.specs.LinkedCells.{table_number, targets}
+use Rattle.link_meaning.specs.LinkFaults.{Given, IsResolved}
+use Rattle.link_meaning.specs.EmitFaults.{IsEmitted, IsEmitAnswer}
+use Rattle.link_meaning.specs.laws.TableLaws.{one_table}
+use Rattle.link_emit.specs.Valued.{Valued}
+use Rattle.link_map.specs.MapText.{numbered, load_text, load_line, entry_line, table_text, map_text, IsMapOf}
+use Rattle.link_map.specs.Standing.{IsDrawn}
 
--- ---- what a member defines
+-- ---- the jump table
 
--- the lines of the definitions so far, and those of one more record
-pub symbols_more : (line_of : Definition → List ℕ) (s : Segment) (done : List (ℕ × Record)) (found : ℕ × Record) (before so_far after : List ℕ)
-    → so_far ≡ before ++ flat_map line_of (defined_so_far s done)
-    → after ≡ so_far ++ flat_map line_of (defined_by found.0 (place_behind 0 done) found.1)
-    → after ≡ before ++ flat_map line_of (defined_so_far s (done ++ found ∷ []))
-symbols_more line_of s done found before so_far after is more =
-    let first = defined_so_far s done in
-    let own = defined_by found.0 (place_behind 0 done) found.1 in
-    more
-    ∙ ap (λ (l : List ℕ). l ++ flat_map line_of own) is
-    ∙ append_assoc before (flat_map line_of first) (flat_map line_of own)
-    ∙ ap (λ (l : List ℕ). before ++ l) (sym (flat_map-append line_of first own))
-    ∙ ap (λ (ds : List Definition). before ++ flat_map line_of ds) (sym (so_far-more s done found))
-
--- behind the last record they are those of the segment
-pub symbols_all : (line_of : Definition → List ℕ) (s : Segment) (done back : List (ℕ × Record)) (before text : List ℕ) → s.records ≡ done ++ back → back ≡ []
-    → text ≡ before ++ flat_map line_of (defined_so_far s done) → text ≡ before ++ flat_map line_of (defined_in s)
-symbols_all line_of s done back before text parts none is =
-    let all = so_far-all s done [] (parts ∙ ap (λ (l : List (ℕ × Record)). done ++ l) none) in
-    is ∙ ap (λ (ds : List Definition). before ++ flat_map line_of ds) (sym (all ∙ append-nil (defined_so_far s done)))
-
--- ---- members
-
-pub members_more : (list : List Member) (table : List Told) (number place : ℕ) (front : List Member) (m : Member)
-    → members_from list table number place (front ++ m ∷ []) ≡ members_from list table number place front ++ text_in list table number (place + length front) m
-members_more list table number place [] m =
-    let same : place + 0 ≡ place = omega arith in
-    append-nil (text_in list table number place m) ∙ ap (λ (n : ℕ). text_in list table number n m) (sym same)
-members_more list table number place (o ∷ front) m =
-    let own = text_in list table number place o in
-    let next : place + 1 + length front ≡ place + suc (length front) = omega arith in
-    ap (λ (l : List ℕ). own ++ l) (members_more list table number (place + 1) front m)
-    ∙ sym (append_assoc own (members_from list table number (place + 1) front) (text_in list table number (place + 1 + length front) m))
-    ∙ ap (λ (n : ℕ). (own ++ members_from list table number (place + 1) front) ++ text_in list table number n m) next
-
--- the text of the first members of the list, so many
-pub record AreToldTo (list : List Member) (table : List Told) (number count : ℕ) (before text : List ℕ) : Type 0 where
-  pub front : List Member
-  pub back : List Member
-  pub parts : list ≡ front ++ back
-  pub count' : count ≡ length front
-  pub is : text ≡ before ++ members_from list table number 1 front
-
-pub told_none : (list : List Member) (table : List Told) (number : ℕ) (before : List ℕ) → AreToldTo list table number 0 before before
-told_none list table number before = record { front = []; back = list; parts = refl; count' = refl; is = sym (append-nil before) }
-
--- ---- load segments
-
-pub loads_more : (list : List Member) (table : List Told) (number k : ℕ) (headers : List Fields) (f : Fields) → slice_get headers k ≡ Some f
-    → loads_from list table number (take k headers) ++ (load_line (number + k) f ++ members_from list table (number + k) 1 list) ≡ loads_from list table number (take (k + 1) headers)
-loads_more list table number k [] f found = absurd cc
-loads_more list table number zero (g ∷ headers) f found =
-    let same : f ≡ g = cc in
-    let at : number + 0 ≡ number = omega arith in
-    ap (λ (n : ℕ). load_line n f ++ members_from list table n 1 list) at
-    ∙ ap (λ (h : Fields). load_line number h ++ members_from list table number 1 list) same
-    ∙ sym (append-nil (load_line number g ++ members_from list table number 1 list))
-loads_more list table number (suc k) (g ∷ headers) f found =
-    let own = load_line number g ++ members_from list table number 1 list in
-    let next : number + suc k ≡ number + 1 + k = omega arith in
-    let more : suc k + 1 ≡ suc (k + 1) = omega arith in
-    append_assoc own (loads_from list table (number + 1) (take k headers)) (load_line (number + suc k) f ++ members_from list table (number + suc k) 1 list)
-    ∙ ap (λ (n : ℕ). own ++ (loads_from list table (number + 1) (take k headers) ++ (load_line n f ++ members_from list table n 1 list))) next
-    ∙ ap (λ (l : List ℕ). own ++ l) (loads_more list table (number + 1) k headers f found)
-    ∙ ap (λ (n : ℕ). loads_from list table number (take n (g ∷ headers))) (sym more)
-
--- ---- entries
-
-pub entries_more : (table k n : ℕ) (targets : List Target) (t : Target) → slice_get targets n ≡ Some t
-    → entries_from table k (take n targets) ++ entry_line table (k + n) t ≡ entries_from table k (take (n + 1) targets)
-entries_more table k n [] t found = absurd cc
-entries_more table k zero (u ∷ targets) t found =
-    let same : t ≡ u = cc in
-    let at : k + 0 ≡ k = omega arith in
-    ap (λ (m : ℕ). entry_line table m t) at ∙ ap (entry_line table k) same ∙ sym (append-nil (entry_line table k u))
-entries_more table k (suc n) (u ∷ targets) t found =
-    let own = entry_line table k u in
-    let next : k + suc n ≡ k + 1 + n = omega arith in
-    let more : suc n + 1 ≡ suc (n + 1) = omega arith in
-    append_assoc own (entries_from table (k + 1) (take n targets)) (entry_line table (k + suc n) t)
-    ∙ ap (λ (m : ℕ). own ++ (entries_from table (k + 1) (take n targets) ++ entry_line table m t)) next
-    ∙ ap (λ (l : List ℕ). own ++ l) (entries_more table (k + 1) n targets t found)
-    ∙ ap (λ (m : ℕ). entries_from table k (take m (u ∷ targets))) (sym more)
+abbrev target : ℕ → ℕ → ℕ → Target
+target file segment offset = record { file = file; segment = segment; offset = offset }
 
 -- where an entry of the table's bytes leads
-pub target_is : (targets : List Target) (bytes : List ℕ) (k : ℕ) (t : Target) → IsTableOf (map file_entry targets) bytes → slice_get targets k ≡ Some t → target_at bytes k ≡ t
+pub target_is : (ts : List Target) (bytes : List ℕ) (k : ℕ) (t : Target) → IsTableOf (map file_entry ts) bytes → slice_get ts k ≡ Some t → target_at bytes k ≡ t
 unfolding target_at
-target_is targets bytes k t is at =
-    let entry = is.each k (file_entry t) (slice_get-map file_entry targets k ∙ ap (option_map file_entry) at) in
-    rw entry.file at rw entry.segment at rw entry.offset at refl
+target_is ts bytes k t is at =
+    let entry = is.each k (file_entry t) (slice_get-map file_entry ts k ∙ ap (option_map file_entry) at) in
+    ap (λ (n : ℕ). target n (number_at 2 (entry_start k + 4) bytes) (number_at 4 (entry_start k + 6) bytes)) entry.file
+    ∙ ap (λ (n : ℕ). target t.file n (number_at 4 (entry_start k + 6) bytes)) entry.segment
+    ∙ ap (λ (n : ℕ). target t.file t.segment n) entry.offset
+
+-- how many bytes a table has
+pub table_size : (ts : List Target) (bytes : List ℕ) → IsTableOf (map file_entry ts) bytes → length bytes ≡ 12 + 14 * length ts
+table_size ts bytes is = omega (arith, is.size, length-map ts file_entry)
+
+-- a table without entries has no lines
+pub table_none : (number : ℕ) (ts : List Target) → length ts ≡ 0 → table_text number ts ≡ []
+table_none number [] none = refl
+table_none number (t ∷ ts) none = absurd (omega (arith, none))
+
+-- the lines of one with entries
+pub table_some : (number : ℕ) (ts : List Target) (size : ℕ) (name : List ℕ) → (length ts ≡ 0 → ⊥) → size ≡ length (table_bytes (map file_entry ts)) → name ≡ codes "~JumpTable"
+    → load_line number size 0x0002 0 name ++ numbered (entry_line number) 0 ts ≡ table_text number ts
+unfolding table_fields
+table_some number [] size name some is named = absurd (some refl)
+table_some number (t ∷ ts) size name some is named =
+    ap (λ (n : ℕ). load_line number n 0x0002 0 name ++ numbered (entry_line number) 0 (t ∷ ts)) is
+    ∙ ap (λ (l : List ℕ). load_line number (length (table_bytes (map file_entry (t ∷ ts)))) 0x0002 0 l ++ numbered (entry_line number) 0 (t ∷ ts)) named
+
+-- ---- the map
+
+-- the load segments, and the table behind them
+pub map_is : (list : List Member) (table : List Told) (loads text : List ℕ) (number : ℕ) (ts : List Target) → loads ≡ numbered (load_text list table) 1 (load_headers list)
+    → text ≡ loads ++ table_text number ts → number ≡ table_number list → ts ≡ targets list table → text ≡ map_text list table
+unfolding map_text
+map_is list table loads text number ts drawn more counted called =
+    more
+    ∙ ap (λ (l : List ℕ). l ++ table_text number ts) drawn
+    ∙ ap (λ (n : ℕ). numbered (load_text list table) 1 (load_headers list) ++ table_text n ts) counted
+    ∙ ap (λ (l : List Target). numbered (load_text list table) 1 (load_headers list) ++ table_text (table_number list) l) called
+
+-- the map of a program that is written
+pub drawn_is : (list : List Member) (output : List ℕ) (v : Valued) (text : List ℕ) → IsEmitAnswer list (Ok output) → v.list ≡ list → IsTable v.list v.table → text ≡ map_text v.list v.table → IsDrawn list text
+drawn_is list output v text answer same is drawn =
+    let one : answer.0 ≡ v.table = one_table list answer.0 v.table answer.1.valued (subst (λ (l : List Member). IsTable l v.table) same is) in
+    record { table = v.table; emitted = subst (IsEmitted list) one answer.1; is = drawn ∙ ap (λ (l : List Member). map_text l v.table) same }
+
+-- that of files that are linked
+pub mapped_is : (given : Given) (list : List Member) (text : List ℕ) → IsResolved given list → IsDrawn list text → IsMapOf given text
+mapped_is given list text resolved drawn = record { list = list; table = drawn.table; linkable = record { resolved = resolved; emitted = drawn.emitted }; is = drawn.is }

@@ -1,7 +1,6 @@
 -- The map of a link: its load segments, their members with what these define, and the entries of the jump table (this project's own
 -- form).
-use Rattle.std.specs.Prelude.{◌≡◌, ℕ, ◌+◌, ℤ, List, [], ◌∷◌, ◌++◌, codes, Some, None, Result, Ok, Err, ◌==◌, if◌then◌else◌}
-use Rattle.std.specs.List.{flat_map}
+use Rattle.std.specs.Prelude.{◌≡◌, ℕ, ◌+◌, ℤ, List, [], ◌∷◌, ◌++◌, codes, length, map, flat_map, Some, None, Result, Ok, Err, ◌==◌, if◌then◌else◌}
 use Rattle.omf_base.specs.Digits.{decimal, hexadecimal}
 use Rattle.omf_base.specs.Lines.{line}
 use Rattle.omf_format.specs.declared.value.Value.{Value}
@@ -12,7 +11,8 @@ use Rattle.omf_format.specs.Header.{Fields}
 use Rattle.omf_format.specs.Value.{is_unshifted}
 use Rattle.omf_listing.specs.Listing.{field, labelled, name_text, quoted}
 use Rattle.load_meaning.specs.declared.table.Target.{Target}
-use Rattle.load_meaning.specs.Table.{entry_place}
+use Rattle.load_meaning.specs.Table.{entry_place, file_entry, table_bytes}
+use Rattle.load_meaning.specs.WrittenFile.{table_fields}
 use Rattle.link_meaning.specs.Member.{Member}
 use Rattle.link_meaning.specs.Defines.{Scope, ForSegment, ForUnit, ForAll, Definition, defined_in}
 use Rattle.link_meaning.specs.Layout.{load_headers, load_of, offset_of}
@@ -20,6 +20,11 @@ use Rattle.link_meaning.specs.LinkValues.{Told, place_value, value_in}
 use Rattle.link_meaning.specs.LinkedCells.{table_number, targets}
 use Rattle.link_meaning.specs.LinkFaults.{Given}
 use Rattle.link_meaning.specs.EmitFaults.{IsLinkable}
+
+-- texts one behind another, each that of a thing and its number, of which the first has this one
+abbrev pub numbered : {A : Type 0} → (ℕ → A → List ℕ) → ℕ → List A → List ℕ
+numbered text_of number [] = []
+numbered text_of number (x ∷ xs) = text_of number x ++ numbered text_of (number + 1) xs
 
 -- ---- what a member defines
 
@@ -33,7 +38,8 @@ scope_text ForAll = codes "public"
 abbrev pub shift_text : ℤ → List ℕ
 shift_text shift = if is_unshifted shift then [] else codes " shift" ++ field 2 (shift_byte shift)
 
--- a number in eight digits; or a place: the number of its load segment, the offset there, and its shift
+-- a number in eight digits; or a place: the number of its load segment, the offset there, and its shift. In files that are linked each
+-- definition has a value.
 abbrev pub value_text : Result Value ValueFault → List ℕ
 value_text (Ok (Fixed n)) = labelled (codes " is ") n
 value_text (Ok (At file segment offset shift)) = codes " at" ++ field 4 segment ++ field 8 offset ++ shift_text shift
@@ -55,55 +61,53 @@ symbol_line list table place m d = symbol_text (scope_text d.scope) d.name (mean
 
 -- ---- members and load segments
 
--- a member: its file and its segment there, its offset in the load segment, its LENGTH and its SEGNAME
+-- a member: its file among the inputs and its number there, its offset in the load segment, its LENGTH and its SEGNAME
 unfoldable pub member_line : ℕ → ℕ → ℕ → Fields → List ℕ
 member_line file number offset f =
     line (codes "member " ++ decimal file ++ codes " " ++ decimal number ++ labelled (codes " at ") offset ++ labelled (codes " length ") f.length
     ++ codes " name " ++ quoted f.name)
 
--- the member at a place of the list, from 1, and what it defines, its SEGNAME first, in record order
+-- the member at a place of the list, and what it defines, its SEGNAME first, in record order, which is that of places
 abbrev pub member_text : List Member → List Told → ℕ → Member → List ℕ
 member_text list table place m =
     member_line m.file m.number (offset_of list place m) m.segment.fields ++ flat_map (symbol_line list table place m) (defined_in m.segment)
 
--- the same, where it is one of the load segment with this number
+-- the same where it is one of the load segment with this number, and nothing where it isn't
 abbrev pub text_in : List Member → List Told → ℕ → ℕ → Member → List ℕ
 text_in list table number place m = if load_of list m == number then member_text list table place m else []
 
--- those of members one behind another, of which the first has this place
-abbrev pub members_from : List Member → List Told → ℕ → ℕ → List Member → List ℕ
-members_from list table number place [] = []
-members_from list table number place (m ∷ members) = text_in list table number place m ++ members_from list table number (place + 1) members
-
 -- a load segment: its number, LENGTH, KIND, ALIGN and SEGNAME
-unfoldable pub load_line : ℕ → Fields → List ℕ
-load_line number f =
-    line (codes "load " ++ decimal number ++ labelled (codes " length ") f.length ++ codes " kind " ++ hexadecimal 4 f.kind ++ labelled (codes " align ") f.align
-    ++ codes " name " ++ quoted f.name)
+unfoldable pub load_line : ℕ → ℕ → ℕ → ℕ → List ℕ → List ℕ
+load_line number size kind align name =
+    line (codes "load " ++ decimal number ++ labelled (codes " length ") size ++ codes " kind " ++ hexadecimal 4 kind ++ labelled (codes " align ") align
+    ++ codes " name " ++ quoted name)
 
--- load segments with their members, the first of which has this number
-abbrev pub loads_from : List Member → List Told → ℕ → List Fields → List ℕ
-loads_from list table number [] = []
-loads_from list table number (f ∷ headers) =
-    (load_line number f ++ members_from list table number 1 list) ++ loads_from list table (number + 1) headers
+-- that of a header
+abbrev pub header_line : ℕ → Fields → List ℕ
+header_line number f = load_line number f.length f.kind f.align f.name
+
+-- a load segment and its members, in list order
+abbrev pub load_text : List Member → List Told → ℕ → Fields → List ℕ
+load_text list table number f = header_line number f ++ numbered (text_in list table number) 1 list
 
 -- ---- the jump table
 
 -- an entry: the table's number and the offset of the entry's code there, and the segment and the offset to which it leads
 unfoldable pub entry_line : ℕ → ℕ → Target → List ℕ
-entry_line table k t =
-    line (codes "entry at" ++ field 4 table ++ field 8 (entry_place k) ++ codes " calls" ++ field 4 t.segment ++ field 8 t.offset)
+entry_line number k t =
+    line (codes "entry at" ++ field 4 number ++ field 8 (entry_place k) ++ codes " calls" ++ field 4 t.segment ++ field 8 t.offset)
 
--- the entries of these targets, the first at this place in the table
-abbrev pub entries_from : ℕ → ℕ → List Target → List ℕ
-entries_from table k [] = []
-entries_from table k (t ∷ targets) = entry_line table k t ++ entries_from table (k + 1) targets
+-- the load segment that is the table, and its entries; nothing where there is no entry
+abbrev pub table_text : ℕ → List Target → List ℕ
+table_text number [] = []
+table_text number (t ∷ targets) =
+    header_line number (table_fields number (length (table_bytes (map file_entry (t ∷ targets))))) ++ numbered (entry_line number) 0 (t ∷ targets)
 
 -- ---- the map
 
--- the load segments in order of number, and then the entries
+-- the load segments in order of number, the table behind the others
 unfoldable pub map_text : List Member → List Told → List ℕ
-map_text list table = loads_from list table 1 (load_headers list) ++ entries_from (table_number list) 0 (targets list table)
+map_text list table = numbered (load_text list table) 1 (load_headers list) ++ table_text (table_number list) (targets list table)
 
 -- the files are linked, and this is the map of their linked list
 pub record IsMapOf (given : Given) (text : List ℕ) : Type 0 where

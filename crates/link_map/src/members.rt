@@ -1,121 +1,127 @@
 //! The lines of load segments and of their members.
 
-ghost use Rattle.std.specs.Prelude.{◌≡◌, ◌++◌, ◌≤◌, ℕ, List, Some, length, map, OnOk};
+ghost use Rattle.std.specs.Prelude.{◌≡◌, ◌++◌, Some, OnOk};
+ghost use Rattle.omf_format.specs.Header.{Fields};
 ghost use Rattle.omf_header.specs.View.{fields};
 ghost use Rattle.link_meaning.specs.Member.{Member};
 ghost use Rattle.link_meaning.specs.Layout.{load_headers};
 ghost use Rattle.link_resolve.specs.Linked.{member_at};
-ghost use Rattle.link_resolve.specs.Outside.{all_found};
-ghost use Rattle.link_emit.specs.Slots.{rows_of};
-ghost use Rattle.link_emit.specs.Seats.{AreKnown};
-ghost use Rattle.link_map.specs.MapText.{member_line, text_in, members_from, load_line, loads_from};
+ghost use Rattle.link_resolve.specs.Programs.{header_at};
+ghost use Rattle.link_map.specs.MapText.{numbered, member_line, text_in, load_line, load_text};
+ghost use Rattle.link_map.specs.Standing.{HasMember, HasLoad};
 
 use crate::symbols::put_symbols;
-use link_emit::{Slot, seat_of};
-use link_resolve::Program;
+use link_emit::Values;
+use link_resolve::LinkMember;
 use omf_base::{Line, LineFault};
 use omf_header::Header;
-use omf_listing::put_quoted;
+use omf_listing::{put_labelled, put_quoted};
 
 /// Appends the line of a member: its file and its segment there, its offset in its load segment, its LENGTH and its SEGNAME.
 #[tactic(auto, unfolding(crate::specs::MapText::member_line))]
-fn put_member_line(
-    line: &mut Line,
-    file: u32,
-    number: u32,
-    offset: u32,
-    header: &Header,
-) -> Result<(), LineFault>
-    ensures { OnOk result (line.new ≡ line.old ++ member_line file number offset (fields header.now)) }
+fn put_member_line(line: &mut Line, member: LinkMember, header: &Header) -> Result<(), LineFault>
+    ensures { OnOk result (line.new ≡ line.old ++ member_line member.file member.segment member.offset (fields header.now)) }
 {
     line.text("member ")?;
-    line.dec(file)?;
+    line.dec(member.file)?;
     line.text(" ")?;
-    line.dec(number)?;
-    line.text(" at ")?;
-    line.hex(offset, 8)?;
-    line.text(" length ")?;
-    line.hex(header.length, 8)?;
+    line.dec(member.segment)?;
+    put_labelled(line, " at ", member.offset)?;
+    put_labelled(line, " length ", header.length)?;
     line.text(" name ")?;
     put_quoted(line, header.name.bytes())?;
     line.text("\n")
 }
 
-/// Appends the lines of the member at a place, from 1, and of what it defines, where it is one of a load segment.
-fn put_member(
-    line: &mut Line,
-    program: &Program,
-    slots: &[Slot],
-    number: u32,
-    place: u32,
-) -> Result<(), LineFault>
-    requires known { AreKnown program.now slots.now }
-    requires first { 1 ≤ place }
-    requires inside { place ≤ length program.now }
-    ensures { OnOk result ((m : Member) → member_at program.now place ≡ Some m
-        → line.new ≡ line.old ++ text_in program.now (rows_of (all_found program.now) slots.now) number place m) }
+/// Appends the lines of the member at a place, from 1, and of what it defines, where it is one of this load segment.
+fn put_member(line: &mut Line, values: &Values, number: u32, place: u32) -> Result<(), LineFault>
+    requires { HasMember values.now.list place }
+    ensures { OnOk result ((m : Member) → member_at values.now.list place ≡ Some m
+        → line.new ≡ line.old ++ text_in values.now.list values.now.table number place m) }
 {
-    let seat = match seat_of(program, place) {
-        Some(seat) => seat,
+    let program = values.program();
+    let member = match program.member(place) {
+        Some(member) => member,
         None => unreachable!(),
     };
-    if u32::from(seat.load_segment) != number {
+    if u32::from(member.load_segment) != number {
         return Ok(());
     }
     let segment = match program.view(place) {
         Some(segment) => segment,
         None => unreachable!(),
     };
-    let member = match program.member(place) {
-        Some(member) => member,
-        None => unreachable!(),
-    };
-    put_member_line(line, member.file, member.segment, seat.offset, &segment.header)?;
-    put_symbols(line, program, slots, seat, segment)
+    put_member_line(line, member, &segment.header)?;
+    put_symbols(line, values, place, segment)
 }
 
 /// Appends the lines of all members of a load segment.
-fn put_members(line: &mut Line, program: &Program, slots: &[Slot], number: u32) -> Result<(), LineFault>
-    requires known { AreKnown program.now slots.now }
-    ensures { OnOk result (line.new ≡ line.old ++ members_from program.now (rows_of (all_found program.now) slots.now) number 1 program.now) }
+fn put_members(line: &mut Line, values: &Values, number: u32) -> Result<(), LineFault>
+    ensures { OnOk result (line.new ≡ line.old ++ numbered (text_in values.now.list values.now.table number) 1 values.now.list) }
 {
+    let program = values.program();
     let mut place = 0;
     'members: while place < program.members() {
         place += 1;
-        put_member(line, program, slots, number, place)?;
+        put_member(line, values, number, place)?;
     }
     Ok(())
 }
 
 /// Appends the line of a load segment: its number, LENGTH, KIND, ALIGN and SEGNAME.
 #[tactic(auto, unfolding(crate::specs::MapText::load_line))]
-fn put_load_line(line: &mut Line, number: u32, header: &Header) -> Result<(), LineFault>
-    ensures { OnOk result (line.new ≡ line.old ++ load_line number (fields header.now)) }
+pub fn put_load_line(
+    line: &mut Line,
+    number: u32,
+    size: u32,
+    kind: u16,
+    align: u32,
+    name: &[u8],
+) -> Result<(), LineFault>
+    ensures { OnOk result (line.new ≡ line.old ++ load_line number size kind align name.now) }
 {
     line.text("load ")?;
     line.dec(number)?;
-    line.text(" length ")?;
-    line.hex(header.length, 8)?;
+    put_labelled(line, " length ", size)?;
     line.text(" kind ")?;
-    line.hex(u32::from(header.kind.bits), 4)?;
-    line.text(" align ")?;
-    line.hex(header.align, 8)?;
+    line.hex(u32::from(kind), 4)?;
+    put_labelled(line, " align ", align)?;
     line.text(" name ")?;
-    put_quoted(line, header.name.bytes())?;
+    put_quoted(line, name)?;
     line.text("\n")
 }
 
-/// Appends the lines of all load segments, each with its members.
-pub fn put_loads(line: &mut Line, program: &Program, slots: &[Slot]) -> Result<(), LineFault>
-    requires known { AreKnown program.now slots.now }
-    ensures { OnOk result (line.new ≡ line.old ++ loads_from program.now (rows_of (all_found program.now) slots.now) 1 (load_headers program.now)) }
+/// Appends the lines of the load segment with a number and of its members.
+fn put_load(line: &mut Line, values: &Values, number: u32) -> Result<(), LineFault>
+    requires { HasLoad values.now.list number }
+    ensures { OnOk result ((f : Fields) → header_at (load_headers values.now.list) number ≡ Some f
+        → line.new ≡ line.old ++ load_text values.now.list values.now.table number f) }
 {
-    let headers = program.load_headers();
+    let program = values.program();
+    let header = match program.load_header(number) {
+        Some(header) => header,
+        None => unreachable!(),
+    };
+    put_load_line(
+        line,
+        number,
+        header.length,
+        header.kind.bits,
+        header.align,
+        header.name.bytes(),
+    )?;
+    put_members(line, values, number)
+}
+
+/// Appends the lines of all load segments, each with its members.
+pub fn put_loads(line: &mut Line, values: &Values) -> Result<(), LineFault>
+    ensures { OnOk result (line.new ≡ line.old ++ numbered (load_text values.now.list values.now.table) 1 (load_headers values.now.list)) }
+{
+    let program = values.program();
     let mut number = 0;
-    'headers: for header in headers {
+    'loads: while number < program.load_count() {
         number += 1;
-        put_load_line(line, number, header)?;
-        put_members(line, program, slots, number)?;
+        put_load(line, values, number)?;
     }
     Ok(())
 }

@@ -1,23 +1,20 @@
 //! The lines of what a member defines.
 
-ghost use Rattle.std.specs.Prelude.{◌≡◌, ◌++◌, ◌+◌, ◌<◌, ◌^◌, ℕ, List, Ok, OnOk};
-ghost use Rattle.std.specs.List.{flat_map};
+ghost use Rattle.std.specs.Prelude.{◌≡◌, ◌++◌, ℕ, Some, Ok, OnOk, flat_map};
 ghost use Rattle.omf_records.specs.Segments.{IsSound, shown};
 ghost use Rattle.omf_records.specs.View.{view};
 ghost use Rattle.link_meaning.specs.Member.{Member};
 ghost use Rattle.link_meaning.specs.Defines.{scope_of, outer_scope, title_of, defined_by, defined_in};
-ghost use Rattle.link_meaning.specs.LinkValues.{Told};
-ghost use Rattle.link_resolve.specs.Outside.{all_found};
-ghost use Rattle.link_resolve.specs.Uses.{HasSpelling};
-ghost use Rattle.link_emit.specs.Slots.{rows_of};
-ghost use Rattle.link_emit.specs.Seats.{IsSeat, AreKnown};
+ghost use Rattle.link_resolve.specs.Linked.{member_at};
+ghost use Rattle.link_emit.specs.Valued.{HasPlace};
 ghost use Rattle.link_map.specs.MapText.{scope_text, shift_text, value_text, symbol_text, symbol_line};
+ghost use Rattle.link_map.specs.Standing.{HasSegment, HasRecord};
 
-use link_emit::{Seat, Slot, place_at, value_in};
-use link_resolve::{Program, next_record, size_at};
+use link_emit::Values;
+use link_resolve::{next_record, size_at};
 use omf_base::{Line, LineFault};
 use omf_format::{Value, ValueFault};
-use omf_listing::{put_field, put_name};
+use omf_listing::{put_field, put_labelled, put_name};
 use omf_records::{Rec, SegmentView};
 
 /// Who sees a label or an equate.
@@ -53,10 +50,7 @@ fn put_value(line: &mut Line, value: Value) -> Result<(), LineFault>
     ensures { OnOk result (line.new ≡ line.old ++ value_text (Ok value)) }
 {
     match value {
-        Value::Fixed(n) => {
-            line.text(" is ")?;
-            line.hex(n, 8)
-        }
+        Value::Fixed(n) => put_labelled(line, " is ", n),
         Value::At {
             file: _,
             segment,
@@ -97,33 +91,36 @@ fn put_symbol(
     line.text("\n")
 }
 
-/// Appends the line of a segment's name, where it has one.
-fn put_title(line: &mut Line, seat: Seat, segment: &SegmentView) -> Result<(), LineFault>
-    ensures { OnOk result ((list : List Member) (told : List Told) (m : Member) → IsSeat list m seat
-        → line.new ≡ line.old ++ flat_map (symbol_line list told seat.place m) (title_of (shown segment.now))) }
+/// Appends the line of the name of a member's segment, where it has one.
+fn put_title(
+    line: &mut Line,
+    values: &Values,
+    place: u32,
+    segment: &SegmentView,
+) -> Result<(), LineFault>
+    requires { HasPlace values.now.list place 0 }
+    ensures { OnOk result ((m : Member) → member_at values.now.list place ≡ Some m
+        → line.new ≡ line.old ++ flat_map (symbol_line values.now.list values.now.table place m) (title_of (shown segment.now))) }
 {
     let name = segment.header.name.bytes();
     if name.is_empty() {
         return Ok(());
     }
     let scope = title_scope(segment.header.kind.is_private());
-    put_symbol(line, scope, name, Ok(place_at(seat, 0)))
+    put_symbol(line, scope, name, Ok(values.place_in(place, 0)))
 }
 
-/// Appends the line of what a record defines, if it defines something. So many cells of its member are before it.
+/// Appends the line of what a record of a member defines, if it defines something. So many of the member's cells are before it.
 fn put_defined(
     line: &mut Line,
-    program: &Program,
-    slots: &[Slot],
-    seat: Seat,
+    values: &Values,
+    place: u32,
     location: u32,
     rec: &Rec,
 ) -> Result<(), LineFault>
-    requires known { AreKnown program.now slots.now }
-    requires spelled { HasSpelling seat.lab_len (view rec.now) }
-    requires near { seat.offset + location < 2 ^ 32 }
-    ensures { OnOk result ((m : Member) (at : ℕ) → IsSeat program.now m seat
-        → line.new ≡ line.old ++ flat_map (symbol_line program.now (rows_of (all_found program.now) slots.now) seat.place m) (defined_by at location (view rec.now))) }
+    requires { HasRecord values.now.list place location (view rec.now) }
+    ensures { OnOk result ((m : Member) (at : ℕ) → member_at values.now.list place ≡ Some m
+        → line.new ≡ line.old ++ flat_map (symbol_line values.now.list values.now.table place m) (defined_by at location (view rec.now))) }
 {
     match rec {
         Rec::Label {
@@ -133,7 +130,7 @@ fn put_defined(
             ..
         } => {
             let scope = scope_name(*global, *private);
-            put_symbol(line, scope, name, Ok(place_at(seat, location)))
+            put_symbol(line, scope, name, Ok(values.place_in(place, location)))
         }
         Rec::Equate {
             global,
@@ -143,8 +140,7 @@ fn put_defined(
             ..
         } => {
             let scope = scope_name(*global, *private);
-            let answer = value_in(program, slots, seat, location, expr);
-            put_symbol(line, scope, name, answer)
+            put_symbol(line, scope, name, values.value_in(place, location, expr))
         }
         Rec::End
         | Rec::Const { .. }
@@ -164,30 +160,29 @@ fn put_defined(
     }
 }
 
-/// Appends the lines of all that the member of a seat defines, its SEGNAME first.
+/// Appends the lines of all that the member at a place, from 1, defines, its SEGNAME first.
 pub fn put_symbols(
     line: &mut Line,
-    program: &Program,
-    slots: &[Slot],
-    seat: Seat,
+    values: &Values,
+    place: u32,
     segment: &SegmentView,
 ) -> Result<(), LineFault>
-    requires known { AreKnown program.now slots.now }
     requires sound { IsSound segment.now }
-    requires there { (m : Member) × IsSeat program.now m seat × (m.segment ≡ shown segment.now) }
-    ensures { OnOk result ((m : Member) → IsSeat program.now m seat → m.segment ≡ shown segment.now
-        → line.new ≡ line.old ++ flat_map (symbol_line program.now (rows_of (all_found program.now) slots.now) seat.place m) (defined_in m.segment)) }
+    requires there { HasSegment values.now.list place (shown segment.now) }
+    ensures { OnOk result ((m : Member) → member_at values.now.list place ≡ Some m
+        → line.new ≡ line.old ++ flat_map (symbol_line values.now.list values.now.table place m) (defined_in (shown segment.now))) }
 {
+    let program = values.program();
     program.know_files();
-    put_title(line, seat, segment)?;
+    put_title(line, values, place, segment)?;
     let mut records = segment.records();
     let mut location = 0;
     'walk: loop {
         match next_record(&mut records) {
             None => return Ok(()),
-            Some((_, rec)) => {
-                put_defined(line, program, slots, seat, location, &rec)?;
-                location = (u64::from(location) + size_at(&rec, location)) as u32;
+            Some(found) => {
+                put_defined(line, values, place, location, &found.1)?;
+                location = (u64::from(location) + size_at(&found.1, location)) as u32;
             }
         }
     }

@@ -68,8 +68,8 @@ fn put_first(line: &mut Line, bytes: &[u8]) -> Result<(), LineFault>
     Ok(())
 }
 
-/// Appends a label and a number.
-fn put_labelled(line: &mut Line, label: &str, n: u32) -> Result<(), LineFault>
+/// Appends a label and a number in eight digits.
+pub fn put_labelled(line: &mut Line, label: &str, n: u32) -> Result<(), LineFault>
     ensures { OnOk result (line.new ≡ line.old ++ labelled label.now n) }
 {
     line.text(label)?;
