@@ -1,5 +1,5 @@
 -- What the program `omf_map` does.
-use Rattle.std.specs.Prelude.{◌≡◌, ℕ, Bool, true, false, List, None, codes}
+use Rattle.std.specs.Prelude.{◌≡◌, ℕ, Bool, true, false, IsTrue, List, None, codes}
 use Rattle.omf_base.specs.Lines.{line}
 use Rattle.omf_io.specs.Outside.{Outside}
 use Rattle.link_meaning.specs.declared.fault.LinkFault.{LinkFault}
@@ -10,7 +10,7 @@ use Rattle.omf_cli.specs.declared.status.Status.{Status}
 use Rattle.omf_cli.specs.declared.status.Status.TheVariants as status
 use Rattle.omf_cli.specs.Link.{link_fault_line}
 use Rattle.omf_cli.specs.Made.{Made, Bytes, Refusal}
-use Rattle.omf_cli.specs.Making.{MakesRun}
+use Rattle.omf_cli.specs.Making.{MakesRun, CanMake}
 use Rattle.omf_cli.specs.Printing.{Ends}
 use Rattle.omf_cli.specs.Words.{are_paths}
 
@@ -33,3 +33,7 @@ HasMappedBy false words result o = MapUsageRun result o
 
 abbrev pub HasMapped : List (List ℕ) → Status → Outside → Type 0
 HasMapped words result o = HasMappedBy (are_paths 1 255 words) words result o
+
+-- the map can be printed: the store tells the inputs, they have no fault, and no count rises
+abbrev pub CanMap : List (List ℕ) → Outside → Type 0
+CanMap words o = IsTrue (are_paths 1 255 words) × CanMake MapMakes words o

@@ -3,7 +3,8 @@
 
 mod map;
 
-use crate::map::run_map;
+pub use map::run_map;
+
 use omf_cli::Status;
 use omf_io::{HostFiles, HostSink};
 use std::alloc::AllocError;

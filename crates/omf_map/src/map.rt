@@ -1,10 +1,10 @@
 //! All that the program does.
 
-ghost use Rattle.std.specs.Prelude.{◌≡◌, ◌≤◌, IfOk, length};
+ghost use Rattle.std.specs.Prelude.{◌≡◌, ◌⊎◌, ◌≤◌, IfOk, length};
 ghost use Rattle.omf_io.specs.Outside.{outside};
 ghost use Rattle.omf_cli.specs.Words.{words_of};
 ghost use Rattle.omf_cli.specs.Made.{all_bytes, made_of, AreShort};
-ghost use Rattle.omf_map.specs.Mapped.{MapMakes, map_usage_line, HasMapped};
+ghost use Rattle.omf_map.specs.Mapped.{MapMakes, map_usage_line, HasMapped, CanMap};
 
 use link_map::map_files;
 use omf_base::{Line, LineFault};
@@ -12,6 +12,7 @@ use omf_cli::{Maker, Making, Status, are_paths, print, refusal, run_maker};
 use omf_io::{Files, Sink};
 use std::alloc::{AllocError, Global};
 
+/// The command that prints the map of its inputs.
 struct Map;
 
 /// The map of the files, or the line that says why there is none.
@@ -53,7 +54,9 @@ pub fn run_map<F: Files, S: Sink>(
     files: &mut F,
     out: &mut S,
 ) -> Status
-    ensures { HasMapped (words_of words.now) result (outside (F.seen files.old) (F.seen files.new) (S.seen out.old) (S.seen out.new)) }
+    ensures run { HasMapped (words_of words.now) result (outside (F.seen files.old) (F.seen files.new) (S.seen out.old) (S.seen out.new)) }
+    ensures completes { CanMap (words_of words.now) (outside (F.seen files.old) (F.seen files.new) (S.seen out.old) (S.seen out.new))
+        → (result ≡ Status.Done) ⊎ (result ≡ Status.Memory) }
 {
     if !are_paths(1, 255, words) {
         return print(usage_line(alloc), Status::Usage, out);
