@@ -43,7 +43,7 @@ load_item list k f there =
 
 -- ---- what a program tells of a member
 
-abbrev link_of : List Member → ℕ → Member → LinkMember
+abbrev pub link_of : List Member → ℕ → Member → LinkMember
 link_of list place m = record { file = m.file; segment = m.number; load_segment = load_of list m; offset = offset_of list place m }
 
 pub told_member : (list : List Member) (place : ℕ) (m : Member) (told : LinkMember) → member_at list place ≡ Some m → Some told ≡ linked_at list place → told ≡ link_of list place m

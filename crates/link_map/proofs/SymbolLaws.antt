@@ -1,5 +1,5 @@
 -- The lines of what a member defines.
-use Rattle.std.proofs.Common.{◌≡◌, ℕ, ◌+◌, Bool, List, [], ◌∷◌, ◌++◌, Result, Ok, None, Some, refl, sym, ap, subst, ◌∙◌, append_assoc, append-nil}
+use Rattle.std.proofs.Common.{◌≡◌, ℕ, ◌+◌, Bool, List, [], ◌∷◌, ◌++◌, Option, Result, Ok, None, Some, refl, sym, ap, subst, ◌∙◌, append_assoc, append-nil}
 use Rattle.std.specs.List.{flat_map}
 use Rattle.std.proofs.lemmas.Grind.{flat_map-append}
 use Rattle.std.proofs.lemmas.List.Concat.{flat_map-cons}
@@ -32,15 +32,18 @@ lines_one v place m d = flat_map-cons (symbol_line v.list v.table place m) d [] 
 
 -- ---- the segment's name
 
-title_full : (s : Segment) → (s.fields.name ≡ [] → ⊥)
-    → title_of s ≡ record { name = s.fields.name; scope = outer_scope (is_private s.fields.kind); place = 0; at = s.start; expr = None; size = 0; form = 0x4E } ∷ []
+-- the definition of a segment's name
+abbrev named : Segment → List ℕ → Definition
+named s name = record { name = name; scope = outer_scope (is_private s.fields.kind); place = 0; at = s.start; expr = None; size = 0; form = 0x4E }
+
+title_full : (s : Segment) → (s.fields.name ≡ [] → ⊥) → title_of s ≡ named s s.fields.name ∷ []
 unfolding title_of
 title_full s some = by_name s.fields.name some
   where
     by_name : (name : List ℕ) → (name ≡ [] → ⊥) → (elim name as (λ n. List Definition) [
       | [] ↦ []
       | b ∷ bs ↦ record { name = b ∷ bs; scope = outer_scope (is_private s.fields.kind); place = 0; at = s.start; expr = None; size = 0; form = 0x4E } ∷ []
-    ]) ≡ record { name = name; scope = outer_scope (is_private s.fields.kind); place = 0; at = s.start; expr = None; size = 0; form = 0x4E } ∷ []
+    ]) ≡ named s name ∷ []
     by_name [] some = absurd (some refl)
     by_name (b ∷ bs) some = refl
 
@@ -52,27 +55,33 @@ its value = Ok value
 
 pub title_line : (v : Valued) (place : ℕ) (m : Member) (s : Segment) (scope name : List ℕ) (value : Value) → scope ≡ scope_text (outer_scope (is_private s.fields.kind)) → name ≡ s.fields.name → (name ≡ [] → ⊥)
     → value ≡ place_value v.list place m 0 → symbol_text scope name (Ok value) ≡ lines_of v place m (title_of s)
-title_line v place m s scope name value scoped named some valued =
+title_line v place m s scope name value scoped told some valued =
     ap (λ (l : List ℕ). symbol_text l name (its value)) scoped
-    ∙ ap (λ (l : List ℕ). symbol_text (scope_text (outer_scope (is_private s.fields.kind))) l (its value)) named
+    ∙ ap (λ (l : List ℕ). symbol_text (scope_text (outer_scope (is_private s.fields.kind))) l (its value)) told
     ∙ ap (λ (x : Value). symbol_text (scope_text (outer_scope (is_private s.fields.kind))) s.fields.name (its x)) valued
-    ∙ sym (ap (lines_of v place m) (title_full s (λ none. some (named ∙ none))) ∙ lines_one v place m _)
+    ∙ sym (ap (lines_of v place m) (title_full s (λ none. some (told ∙ none))) ∙ lines_one v place m (named s s.fields.name))
 
 -- ---- records
 
-pub label_line : (v : Valued) (place : ℕ) (m : Member) (at location : ℕ) (global : Bool) (name : List ℕ) (size form private : ℕ) (scope : List ℕ) (value : Value) → scope ≡ scope_text (scope_of global private)
-    → value ≡ place_value v.list place m location → symbol_text scope name (Ok value) ≡ lines_of v place m (defined_by at location (Label global name size form private))
-label_line v place m at location global name size form private scope value scoped valued =
+-- the definition of a label, and of an equate
+abbrev defined : ℕ → ℕ → Bool → List ℕ → ℕ → ℕ → ℕ → Option (List ℕ) → Definition
+defined at location global name size form private expr = record { name = name; scope = scope_of global private; place = location; at = at; expr = expr; size = size; form = form }
+
+pub label_line : (v : Valued) (place : ℕ) (m : Member) (at location : ℕ) (r : Record) (global : Bool) (name : List ℕ) (size form private : ℕ) (scope : List ℕ) (value : Value) → r ≡ Label global name size form private
+    → scope ≡ scope_text (scope_of global private) → value ≡ place_value v.list place m location → symbol_text scope name (Ok value) ≡ lines_of v place m (defined_by at location r)
+label_line v place m at location r global name size form private scope value is scoped valued =
     ap (λ (l : List ℕ). symbol_text l name (its value)) scoped
     ∙ ap (λ (x : Value). symbol_text (scope_text (scope_of global private)) name (its x)) valued
-    ∙ sym (lines_one v place m _)
+    ∙ sym (lines_one v place m (defined at location global name size form private None))
+    ∙ ap (λ (x : Record). lines_of v place m (defined_by at location x)) (sym is)
 
-pub equate_line : (v : Valued) (place : ℕ) (m : Member) (at location : ℕ) (global : Bool) (name : List ℕ) (size form private : ℕ) (expr scope : List ℕ) (answer : Result Value ValueFault) → scope ≡ scope_text (scope_of global private)
-    → answer ≡ value_in v.list v.table place m location expr → symbol_text scope name answer ≡ lines_of v place m (defined_by at location (Equate global name size form private expr))
-equate_line v place m at location global name size form private expr scope answer scoped valued =
+pub equate_line : (v : Valued) (place : ℕ) (m : Member) (at location : ℕ) (r : Record) (global : Bool) (name : List ℕ) (size form private : ℕ) (expr scope : List ℕ) (answer : Result Value ValueFault) → r ≡ Equate global name size form private expr
+    → scope ≡ scope_text (scope_of global private) → answer ≡ value_in v.list v.table place m location expr → symbol_text scope name answer ≡ lines_of v place m (defined_by at location r)
+equate_line v place m at location r global name size form private expr scope answer is scoped valued =
     ap (λ (l : List ℕ). symbol_text l name answer) scoped
     ∙ ap (λ (x : Result Value ValueFault). symbol_text (scope_text (scope_of global private)) name x) valued
-    ∙ sym (lines_one v place m _)
+    ∙ sym (lines_one v place m (defined at location global name size form private (Some expr)))
+    ∙ ap (λ (x : Record). lines_of v place m (defined_by at location x)) (sym is)
 
 -- the expression of an equate is one
 pub equate_spelled : (list : List Member) (place location : ℕ) (m : Member) (global : Bool) (name : List ℕ) (size form private : ℕ) (expr : List ℕ) → HasRecord list place location (Equate global name size form private expr)

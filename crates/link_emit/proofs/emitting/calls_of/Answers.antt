@@ -23,7 +23,7 @@ fill-requires-clause-whole c =
       table' = ap (λ (n : ℕ). n + 1) (headers_size list c.load_headers-headers.result.now c.load_headers-headers.ensures);
     }
 
-pub returns-in-Err-clause-refused : goal.returns-in-Err-clause-refused
-returns-in-Err-clause-refused c =
+pub returns-clause-refused : goal.returns-clause-refused
+returns-clause-refused c =
     let list = c.args.program.now in
-    refused_value list (rows_of (all_found list) c.args.slots.now) c.requires.table c.in-Err.fault c.in-Err.ensures.err
+    refused_value list (rows_of (all_found list) c.args.slots.now) c.requires.table c.in-Err-fill.fault c.in-Err-fill.ensures.err

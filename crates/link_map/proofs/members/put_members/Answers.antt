@@ -1,4 +1,4 @@
-use Rattle.std.proofs.Common.{◌≡◌, ◌<◌, ◌≤◌, List, length, ap, ◌∙◌, arith}
+use Rattle.std.proofs.Common.{◌+◌, ◌<◌, ◌≤◌, List, length, ap, arith}
 use Rattle.link_meaning.specs.Member.{Member}
 use Rattle.link_map.specs.MapText.{text_in}
 use Rattle.link_map.proofs.TextLaws.{told_none, told_more, told_all}
