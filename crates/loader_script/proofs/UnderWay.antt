@@ -24,6 +24,16 @@ no_loader = record { memory = record { banks = []; slots = new_slots; bytes = []
 
 -- ---- the first command
 
+agrees_yet : (files : FileMap) → Agrees files no_loader (empty_of [])
+agrees_yet files = record {
+  banks = refl;
+  slots = refl;
+  users = refl;
+  attached = record { each = λ place i n kept made is. absurd cc; once = λ place other i j n one two made made' is is'. absurd cc };
+  entries = λ place number k kept segments s t made holds is table found above. absurd cc;
+  each = λ place kept user is made. absurd cc;
+}
+
 pub nothing_yet : (store : StoreSeen) (sink : SinkSeen) → IsUnderWay [] no_loader (outside store store sink sink)
 nothing_yet store sink = record {
   replies = [];
@@ -33,7 +43,7 @@ nothing_yet store sink = record {
   where
     go : (h : Option FileMap) → AllTold (λ files last. Agrees files no_loader last) [] [] store store h
     go None = (0, refl, refl, refl)
-    go (Some files) = (0, 0, empty_of [], (refl, refl, refl), record { banks = refl; slots = refl; users = refl; each = λ place kept user is made. absurd (cc) }, refl, refl)
+    go (Some files) = (0, 0, empty_of [], (refl, refl, refl), agrees_yet files, refl, refl)
 
 -- the banks of the first command
 first_answer : (store : StoreSeen) (command : Command) (loader : Loaded) → IsFirstLoader command loader → IsAnswer command no_loader step.Okay loader store store
