@@ -1,5 +1,5 @@
 -- What a linked list has at a place.
-use Rattle.std.proofs.Common.{◌≡◌, ℕ, zero, suc, ◌+◌, ◌<◌, ◌≤◌, ◌^◌, List, [], ◌∷◌, ◌++◌, length, Option, Some, None, refl, sym, ap, ◌∙◌, arith}
+use Rattle.std.proofs.Common.{◌≡◌, ℕ, zero, suc, ◌+◌, ◌<◌, ◌≤◌, ◌^◌, List, [], ◌∷◌, ◌++◌, length, Some, None, refl, sym, ap, ◌∙◌, arith}
 use Rattle.std.specs.Prelude.{slice_get, option_map}
 use Rattle.omf_format.specs.Header.{Fields}
 use Rattle.omf_format.specs.Record.{Record}
@@ -43,11 +43,8 @@ load_item list k f there =
 
 -- ---- what a program tells of a member
 
-abbrev pub link_of : List Member → ℕ → Member → LinkMember
+abbrev link_of : List Member → ℕ → Member → LinkMember
 link_of list place m = record { file = m.file; segment = m.number; load_segment = load_of list m; offset = offset_of list place m }
-
-pub told_member : (list : List Member) (place : ℕ) (m : Member) (told : LinkMember) → member_at list place ≡ Some m → Some told ≡ linked_at list place → told ≡ link_of list place m
-told_member list place m told there is = same_some told (link_of list place m) (is ∙ ap (option_map (link_of list place)) there)
 
 pub untold_member : (list : List Member) (place : ℕ) (m : Member) → member_at list place ≡ Some m → None ≡ linked_at list place → ⊥
 untold_member list place m there is = some_none (link_of list place m) (sym (is ∙ ap (option_map (link_of list place)) there))

@@ -4,7 +4,6 @@
 mod expand;
 
 pub use expand::run_expand;
-
 use omf_cli::Status;
 use omf_io::{HostFiles, HostSink};
 use std::alloc::AllocError;

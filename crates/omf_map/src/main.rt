@@ -4,7 +4,6 @@
 mod map;
 
 pub use map::run_map;
-
 use omf_cli::Status;
 use omf_io::{HostFiles, HostSink};
 use std::alloc::AllocError;

@@ -3,7 +3,6 @@ use Rattle.omf_format.specs.File.{Segment}
 use Rattle.omf_format.specs.Record.{Record}
 use Rattle.omf_records.specs.Segments.{shown}
 use Rattle.omf_records.specs.View.{view}
-use Rattle.link_meaning.specs.Member.{Member}
 use Rattle.link_meaning.specs.Sizes.{size_at, place_behind, body_size}
 use Rattle.link_resolve.specs.OfFiles.{IsOfFiles}
 use Rattle.link_emit.proofs.Coming.{coming_view, body_lab_len, found_next, found_end}
