@@ -1,4 +1,4 @@
-# make         proves the programs and builds them to build/omf and build/omf_map; it says how far it is
+# make         proves the programs and builds them to build/; it says how far it is
 # make demo    the same, and then runs the main job on real files
 # make try     runs the demo's commands on an unproved build, in a minute or two; tools/try WORDS.. runs any command so
 # make check   runs every test, stored run and example on unproved builds, in some minutes; it proves nothing

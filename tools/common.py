@@ -6,7 +6,7 @@ CRATES = TOP / "crates"
 BUILD = TOP / "build"
 PROGRAM = "omf"
 # All programs that users get.
-PROGRAMS = (PROGRAM, "omf_map")
+PROGRAMS = (PROGRAM, "omf_map", "omf_expand")
 
 
 def say(text):
