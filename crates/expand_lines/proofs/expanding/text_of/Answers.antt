@@ -8,7 +8,7 @@ use Rattle.expand_lines.proofs.TextLaws.{text_more}
 use Rattle.expand_lines.proofs.expanding.text_of.Goals as goal
 
 pub unreachable-requires : goal.unreachable-requires
-unreachable-requires c = omega (arith, c.in-None.ensures.line, c.lines-test.true, c.count-in-lines.ensures)
+unreachable-requires c = omega (arith, c.in-None.ensures.line, c.lines-test.true, c.count.ensures)
 
 pub lines-preserved : goal.lines-preserved
 lines-preserved c =
@@ -18,5 +18,5 @@ lines-preserved c =
 
 pub returns : goal.returns
 returns c =
-    let most : length c.args.lines.now ≤ c.lines.place = omega (arith, c.lines-test.false, c.count-in-lines.ensures) in
+    let most : length c.args.lines.now ≤ c.lines.place = omega (arith, c.lines-test.false, c.count.ensures) in
     c.lines.invariant ∙ ap (λ (ls : List Line). flat_map line_text ls) (take_all c.lines.place c.args.lines.now most)
