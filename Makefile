@@ -1,4 +1,4 @@
-# make         proves the program and builds it to build/omf; it says how far it is
+# make         proves the programs and builds them to build/; it says how far it is
 # make demo    the same, and then runs the main job on real files
 # make lib     proves the library for C, and puts libomf.a and omf.h into build/
 # make try     runs the demo's commands on an unproved build, in a minute or two; tools/try WORDS.. runs any command so

@@ -5,6 +5,8 @@ TOP = pathlib.Path(__file__).resolve().parent.parent
 CRATES = TOP / "crates"
 BUILD = TOP / "build"
 PROGRAM = "omf"
+# All programs that users get.
+PROGRAMS = (PROGRAM, "omf_map", "omf_expand")
 
 
 def say(text):
@@ -44,10 +46,10 @@ def all_uses():
     return {name: [it for it in line.partition(":")[2].split() if it in lines] for name, line in lines.items()}
 
 
-def crates_of(name):
-    """A crate and all below it, in the order of crates.txt."""
+def crates_of(*names):
+    """These crates and all below them, in the order of crates.txt."""
     uses = all_uses()
-    found, left = set(), [name]
+    found, left = set(), list(names)
     while left:
         name = left.pop()
         if name not in found:

@@ -1,6 +1,6 @@
-"""The program built unproved, and kept in build/unproved/ until a source changes.
+"""The programs built unproved, and kept in build/unproved/ until a source changes.
 
-`rt try` builds the program, runs it and keeps nothing. So the program is run on a pipe that nobody writes: while it waits
+`rt try` builds a program, runs it and keeps nothing. So the program is run on a pipe that nobody writes: while it waits
 there, its executable is copied, with the words that started it. That takes Linux, as `rt try` does.
 """
 import os, pathlib, shlex, shutil, subprocess, sys, tempfile, time
@@ -8,6 +8,8 @@ import os, pathlib, shlex, shutil, subprocess, sys, tempfile, time
 from common import BUILD, CRATES, PROGRAM, Clock, crates_of, need_prover, say, sources, sum_of
 
 KEPT = BUILD / "unproved"
+# The words before the pipe from which a program reads.
+READING = {PROGRAM: ["dump"]}
 
 
 def words_of(process):
@@ -38,39 +40,39 @@ def opened(pipe, ran):
     return None
 
 
-def keep(start, at, mark):
+def keep(name, start, at, mark):
     """Keeps the executable, and a script that starts it as `rt try` did."""
     with tempfile.TemporaryDirectory(dir=BUILD) as new:
         new = pathlib.Path(new)
-        shutil.copy(start[at], new / "program")
+        shutil.copy(start[at], new / f"{name}.program")
         before, behind = (" ".join(map(shlex.quote, words)) for words in (start[:at], start[at + 1 :]))
-        script = new / PROGRAM
+        script = new / name
         script.write_text(
             "#!/bin/sh\n# The program as built without any proof.\n"
-            f'exec {before} "$(dirname "$(realpath "$0")")"/program {behind} "$@"\n'
+            f'exec {before} "$(dirname "$(realpath "$0")")"/{name}.program {behind} "$@"\n'
         )
         script.chmod(0o755)
-        (new / "sources").write_text(mark)
+        (new / f"{name}.sources").write_text(mark)
         KEPT.mkdir(exist_ok=True)
-        for path in [new / "program", script, new / "sources"]:
+        for path in new.iterdir():
             os.replace(path, KEPT / path.name)
 
 
-def build(mark):
+def build(name, mark):
     with tempfile.TemporaryDirectory(prefix="omf-unproved-") as room:
         pipe, told = os.path.join(room, "pipe"), os.path.join(room, "told")
         os.mkfifo(pipe)
         os.mkdir(os.path.join(room, "made"))
-        words = ["dump", pipe]
+        words = [*READING.get(name, []), pipe]
         with open(told, "wb") as file:
-            how = {"cwd": CRATES / PROGRAM, "stdin": subprocess.DEVNULL, "stdout": file, "stderr": file}
+            how = {"cwd": CRATES / name, "stdin": subprocess.DEVNULL, "stdout": file, "stderr": file}
             ran = subprocess.Popen(["rt", "try", "--", *words], env={**os.environ, "TMPDIR": f"{room}/made"}, **how)
             writing = found = None
             try:
                 writing = opened(pipe, ran)
                 found = started(f"{room}/made", words)
                 if found:
-                    keep(*found, mark)
+                    keep(name, *found, mark)
             finally:
                 ran.terminate()
                 ran.wait()
@@ -78,19 +80,19 @@ def build(mark):
                     os.close(writing)
         if not found:
             sys.stderr.write(pathlib.Path(told).read_text(errors="replace"))
-            sys.exit(f"rt try did not build {PROGRAM}, or not as a process that is found: see above")
+            sys.exit(f"rt try did not build {name}, or not as a process that is found: see above")
 
 
-def program():
-    """The path of the unproved program, built anew where its sources aren't those of the last build."""
+def program(name=PROGRAM):
+    """The path of an unproved program, built anew where its sources aren't those of the last build."""
     need_prover()
-    made = KEPT / PROGRAM
-    mark = sum_of(path for crate in crates_of(PROGRAM) for path in sources(crate, "src"))
-    last = KEPT / "sources"
+    made = KEPT / name
+    mark = sum_of(path for crate in crates_of(name) for path in sources(crate, "src"))
+    last = KEPT / f"{name}.sources"
     if not (made.exists() and last.exists() and last.read_text() == mark):
         BUILD.mkdir(exist_ok=True)
         clock = Clock()
-        say(f"Building {PROGRAM} unproved, which takes a minute or two of a processor..")
-        build(mark)
+        say(f"Building {name} unproved, which takes a minute or two of a processor..")
+        build(name, mark)
         say(f"{clock}  built to {os.path.relpath(made)}")
     return made

@@ -14,3 +14,4 @@ pub mod Circulars
 pub mod Walks
 pub mod Paths
 pub mod Exported
+pub mod Valued

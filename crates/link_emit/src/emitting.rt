@@ -4,15 +4,20 @@ ghost use Rattle.std.specs.Prelude.{◌≡◌, ◌<◌, ◌^◌, Ok, IfOk, IfErr
 ghost use Rattle.omf_header.specs.View.{fields};
 ghost use Rattle.link_meaning.specs.Layout.{load_headers};
 ghost use Rattle.link_meaning.specs.EmitFaults.{IsEmitAnswer};
+ghost use Rattle.link_meaning.specs.LinkedCells.{targets};
+ghost use Rattle.link_resolve.specs.Outside.{all_found};
 ghost use Rattle.link_resolve.specs.Reading.{memory_fault};
 ghost use Rattle.link_emit.specs.Answers.{IsEmitRefused};
+ghost use Rattle.link_emit.specs.Equates.{AreValues};
 ghost use Rattle.link_emit.specs.Fits.{told_load};
+ghost use Rattle.link_emit.specs.Slots.{rows_of};
 
 use crate::equates::values_of;
 use crate::exports::exports_text;
 use crate::file::write_linked;
 use crate::fit::Load;
 use crate::image::ImageFault;
+use crate::slots::Slot;
 use crate::walk::{Whole, fill};
 use jump_table::Table;
 use link_meaning::{LinkCause, LinkFault};
@@ -111,5 +116,37 @@ pub fn emit(alloc: Global, program: &Program) -> Result<Vec<u8>, LinkFault>
         Ok(output) => Ok(output),
         Err(ImageFault::TooLong) => Err(too_long()),
         Err(ImageFault::Memory) => Err(memory_fault()),
+    }
+}
+
+/// The places that the records of a program call through the jump table, in order of first call, where its names have these values.
+/// Otherwise the first fault of a record.
+pub fn calls_of(alloc: Global, program: &Program, slots: &[Slot]) -> Result<Table, LinkFault>
+    requires { AreValues program.now slots.now }
+    ensures made { IfOk result (λ table. table ≡ targets program.now (rows_of (all_found program.now) slots.now)) }
+    ensures refused { IfErr result (λ fault. IsEmitRefused program.now fault) }
+{
+    program.know_files();
+    let headers = program.load_headers();
+    let loads = match loads_of(alloc, headers) {
+        Ok(loads) => loads,
+        Err(_) => return Err(memory_fault()),
+    };
+    let whole = Whole {
+        program,
+        slots,
+        loads: loads.as_slice(),
+        table: headers.len() as u16 + 1,
+    };
+    let mut table = Table::new(alloc);
+    match fill(alloc, &whole, &mut table) {
+        Ok(contents) => {
+            drop(contents);
+            Ok(table)
+        }
+        Err(fault) => {
+            drop(table);
+            Err(fault)
+        }
     }
 }

@@ -20,8 +20,10 @@ mod record;
 mod seat;
 mod slots;
 mod value;
+mod values;
 mod walk;
 
 pub use emitting::emit;
 pub use link_resolve::LinkForm;
 pub use linking::{link, link_with};
+pub use values::Values;

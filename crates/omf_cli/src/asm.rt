@@ -70,7 +70,7 @@ fn refusal(alloc: Global, fault: AsmFault) -> Result<Making, AllocError>
 }
 
 /// Takes the first file out.
-fn take_first(alloc: Global, files: &mut Vec<Vec<u8>>) -> Vec<u8>
+pub fn take_first(alloc: Global, files: &mut Vec<Vec<u8>>) -> Vec<u8>
     ensures first { result.items ≡ first_of (all_bytes files.old.items) }
     ensures behind { all_bytes files.new.items ≡ behind_first (all_bytes files.old.items) }
 {

@@ -59,7 +59,7 @@ fn is_path(word: &str) -> bool
 }
 
 /// Whether all words are paths, and so many of them.
-fn are_paths(least: usize, most: usize, words: &[String]) -> bool
+pub fn are_paths(least: usize, most: usize, words: &[String]) -> bool
     ensures { result ≡ are_paths least most (words_of words.now) }
 {
     least <= words.len() && words.len() <= most && words.iter().all(|word| is_path(word.as_str()))

@@ -74,7 +74,7 @@ fn fault_line(alloc: Global, cause: &str, fault: &LinkFault) -> Result<Line, Lin
 }
 
 /// The line that says why nothing is linked, unless memory ran out.
-fn refusal(alloc: Global, fault: LinkFault) -> Result<Making, AllocError>
+pub fn refusal(alloc: Global, fault: LinkFault) -> Result<Making, AllocError>
     ensures { IfOk result (λ made. TellsLinkFault fault (made_of made)) }
 {
     match cause_name(fault.cause) {

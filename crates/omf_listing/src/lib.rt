@@ -3,4 +3,4 @@
 
 mod listing;
 
-pub use listing::{list_file, put_name};
+pub use listing::{list_file, put_field, put_labelled, put_name, put_quoted};

@@ -26,9 +26,9 @@ fn shown(byte: u8) -> u8
     }
 }
 
-/// Appends a name in quotes.
+/// Appends a name in quotes. A byte of it outside $20 to $7E, and a quote, is shown as `?`.
 #[tactic(auto, unfolding(crate::specs::Listing::quoted))]
-fn put_quoted(line: &mut Line, name: &[u8]) -> Result<(), LineFault>
+pub fn put_quoted(line: &mut Line, name: &[u8]) -> Result<(), LineFault>
     ensures { OnOk result (line.new ≡ line.old ++ quoted name.now) }
 {
     line.text("\"")?;
@@ -68,8 +68,8 @@ fn put_first(line: &mut Line, bytes: &[u8]) -> Result<(), LineFault>
     Ok(())
 }
 
-/// Appends a label and a number.
-fn put_labelled(line: &mut Line, label: &str, n: u32) -> Result<(), LineFault>
+/// Appends a label and a number in eight digits.
+pub fn put_labelled(line: &mut Line, label: &str, n: u32) -> Result<(), LineFault>
     ensures { OnOk result (line.new ≡ line.old ++ labelled label.now n) }
 {
     line.text(label)?;
@@ -121,7 +121,7 @@ fn put_segment_line(
 }
 
 /// Appends a space and a number in so many digits, 1 to 8.
-fn put_field(line: &mut Line, digits: u32, n: u32) -> Result<(), LineFault>
+pub fn put_field(line: &mut Line, digits: u32, n: u32) -> Result<(), LineFault>
     requires some { 1 ≤ digits }
     requires most { digits ≤ 8 }
     ensures { OnOk result (line.new ≡ line.old ++ field digits n) }

@@ -1,0 +1,4 @@
+pub mod TextLaws
+pub mod ListLaws
+pub mod SymbolLaws
+pub mod MapLaws

@@ -1,0 +1,143 @@
+-- The lines of what a member defines.
+use Rattle.std.proofs.Common.{◌≡◌, ℕ, ◌+◌, Bool, List, [], ◌∷◌, ◌++◌, Option, Result, Ok, None, Some, refl, sym, ap, subst, ◌∙◌, append_assoc, append-nil}
+use Rattle.std.specs.List.{flat_map}
+use Rattle.std.proofs.lemmas.Grind.{flat_map-append}
+use Rattle.std.proofs.lemmas.List.Concat.{flat_map-cons}
+use Rattle.omf_format.specs.declared.value.Value.{Value}
+use Rattle.omf_format.specs.declared.value.ValueFault.{ValueFault}
+use Rattle.omf_format.specs.Expression.{IsExpression}
+use Rattle.omf_format.specs.Header.{is_private}
+use Rattle.omf_format.specs.Record.{Record, Label, Equate}
+use Rattle.omf_format.specs.Reading.{Reader}
+use Rattle.omf_format.specs.File.{Segment}
+use Rattle.link_meaning.specs.Sizes.{size_at, place_behind}
+use Rattle.link_meaning.specs.Member.{Member}
+use Rattle.link_meaning.specs.Defines.{Definition, scope_of, outer_scope, title_of, defined_by, defined_in}
+use Rattle.link_meaning.specs.LinkValues.{place_value, value_in}
+use Rattle.link_resolve.specs.Coming.{Coming}
+use Rattle.link_resolve.specs.Linked.{member_at}
+use Rattle.link_emit.specs.Circulars.{defined_so_far}
+use Rattle.link_emit.specs.Valued.{Valued}
+use Rattle.link_emit.proofs.CircularLaws.{so_far-more, so_far-all, title_empty}
+use Rattle.link_emit.proofs.LocatedLaws.{behind-append}
+use Rattle.link_map.specs.MapText.{scope_text, symbol_text, symbol_line}
+use Rattle.link_map.specs.Standing.{HasRecord}
+use Rattle.link_map.proofs.TextLaws.{same_some}
+
+abbrev pub lines_of : Valued → ℕ → Member → List Definition → List ℕ
+lines_of v place m ds = flat_map (symbol_line v.list v.table place m) ds
+
+lines_one : (v : Valued) (place : ℕ) (m : Member) (d : Definition) → lines_of v place m (d ∷ []) ≡ symbol_line v.list v.table place m d
+lines_one v place m d = flat_map-cons (symbol_line v.list v.table place m) d [] ∙ append-nil (symbol_line v.list v.table place m d)
+
+-- ---- the segment's name
+
+-- the definition of a segment's name
+abbrev named : Segment → List ℕ → Definition
+named s name = record { name = name; scope = outer_scope (is_private s.fields.kind); place = 0; at = s.start; expr = None; size = 0; form = 0x4E }
+
+title_full : (s : Segment) → (s.fields.name ≡ [] → ⊥) → title_of s ≡ named s s.fields.name ∷ []
+unfolding title_of
+title_full s some = by_name s.fields.name some
+  where
+    by_name : (name : List ℕ) → (name ≡ [] → ⊥) → (elim name as (λ n. List Definition) [
+      | [] ↦ []
+      | b ∷ bs ↦ record { name = b ∷ bs; scope = outer_scope (is_private s.fields.kind); place = 0; at = s.start; expr = None; size = 0; form = 0x4E } ∷ []
+    ]) ≡ named s name ∷ []
+    by_name [] some = absurd (some refl)
+    by_name (b ∷ bs) some = refl
+
+pub title_none : (v : Valued) (place : ℕ) (m : Member) (s : Segment) → s.fields.name ≡ [] → lines_of v place m (title_of s) ≡ []
+title_none v place m s none = ap (lines_of v place m) (title_empty s none)
+
+abbrev its : Value → Result Value ValueFault
+its value = Ok value
+
+pub title_line : (v : Valued) (place : ℕ) (m : Member) (s : Segment) (scope name : List ℕ) (value : Value) → scope ≡ scope_text (outer_scope (is_private s.fields.kind)) → name ≡ s.fields.name → (name ≡ [] → ⊥)
+    → value ≡ place_value v.list place m 0 → symbol_text scope name (Ok value) ≡ lines_of v place m (title_of s)
+title_line v place m s scope name value scoped told some valued =
+    ap (λ (l : List ℕ). symbol_text l name (its value)) scoped
+    ∙ ap (λ (l : List ℕ). symbol_text (scope_text (outer_scope (is_private s.fields.kind))) l (its value)) told
+    ∙ ap (λ (x : Value). symbol_text (scope_text (outer_scope (is_private s.fields.kind))) s.fields.name (its x)) valued
+    ∙ sym (ap (lines_of v place m) (title_full s (λ none. some (told ∙ none))) ∙ lines_one v place m (named s s.fields.name))
+
+-- ---- records
+
+-- the definition of a label, and of an equate
+abbrev defined : ℕ → ℕ → Bool → List ℕ → ℕ → ℕ → ℕ → Option (List ℕ) → Definition
+defined at location global name size form private expr = record { name = name; scope = scope_of global private; place = location; at = at; expr = expr; size = size; form = form }
+
+pub label_line : (v : Valued) (place : ℕ) (m : Member) (at location : ℕ) (r : Record) (global : Bool) (name : List ℕ) (size form private : ℕ) (scope : List ℕ) (value : Value) → r ≡ Label global name size form private
+    → scope ≡ scope_text (scope_of global private) → value ≡ place_value v.list place m location → symbol_text scope name (Ok value) ≡ lines_of v place m (defined_by at location r)
+label_line v place m at location r global name size form private scope value is scoped valued =
+    ap (λ (l : List ℕ). symbol_text l name (its value)) scoped
+    ∙ ap (λ (x : Value). symbol_text (scope_text (scope_of global private)) name (its x)) valued
+    ∙ sym (lines_one v place m (defined at location global name size form private None))
+    ∙ ap (λ (x : Record). lines_of v place m (defined_by at location x)) (sym is)
+
+pub equate_line : (v : Valued) (place : ℕ) (m : Member) (at location : ℕ) (r : Record) (global : Bool) (name : List ℕ) (size form private : ℕ) (expr scope : List ℕ) (answer : Result Value ValueFault) → r ≡ Equate global name size form private expr
+    → scope ≡ scope_text (scope_of global private) → answer ≡ value_in v.list v.table place m location expr → symbol_text scope name answer ≡ lines_of v place m (defined_by at location r)
+equate_line v place m at location r global name size form private expr scope answer is scoped valued =
+    ap (λ (l : List ℕ). symbol_text l name answer) scoped
+    ∙ ap (λ (x : Result Value ValueFault). symbol_text (scope_text (scope_of global private)) name x) valued
+    ∙ sym (lines_one v place m (defined at location global name size form private (Some expr)))
+    ∙ ap (λ (x : Record). lines_of v place m (defined_by at location x)) (sym is)
+
+-- the expression of an equate is one
+pub equate_spelled : (list : List Member) (place location : ℕ) (m : Member) (global : Bool) (name : List ℕ) (size form private : ℕ) (expr : List ℕ) → HasRecord list place location (Equate global name size form private expr)
+    → member_at list place ≡ Some m → IsExpression m.segment.fields.lab_len expr
+equate_spelled list place location m global name size form private expr has there =
+    let same = same_some has.here.member m (sym has.here.there ∙ there) in
+    subst (λ (n : ℕ). IsExpression n expr) (has.spelled.1 ∙ ap (λ (o : Member). o.segment.fields.lab_len) same) has.spelled.2.2
+
+-- ---- the walk over the records
+
+-- the lines of what the name and the first records define stand behind a text, and the other records are still to come
+pub record IsTelling (v : Valued) (place : ℕ) (s : Segment) (at : Reader) (location : ℕ) (before text : List ℕ) : Type 0 where
+  pub done : List (ℕ × Record)
+  pub back : List (ℕ × Record)
+  pub parts : s.records ≡ done ++ back
+  pub coming : Coming at back
+  pub location' : location ≡ place_behind 0 done
+  pub is : (m : Member) → member_at v.list place ≡ Some m → text ≡ before ++ lines_of v place m (defined_so_far s done)
+
+-- at first
+pub telling_none : (v : Valued) (place : ℕ) (s : Segment) (at : Reader) (before text : List ℕ) → Coming at s.records
+    → ((m : Member) → member_at v.list place ≡ Some m → text ≡ before ++ lines_of v place m (title_of s)) → IsTelling v place s at 0 before text
+telling_none v place s at before text coming titled = record {
+  done = [];
+  back = s.records;
+  parts = refl;
+  coming = coming;
+  location' = refl;
+  is = λ m there. titled m there ∙ ap (λ (ds : List Definition). before ++ lines_of v place m ds) (sym (append-nil (title_of s)));
+}
+
+-- behind one record more
+pub telling_more : (v : Valued) (place : ℕ) (s : Segment) (at next : Reader) (location behind : ℕ) (before text after : List ℕ) (found : ℕ × Record) (more : List (ℕ × Record)) (t : IsTelling v place s at location before text)
+    → t.back ≡ found ∷ more → Coming next more → behind ≡ location + size_at location found.1
+    → ((m : Member) (at : ℕ) → member_at v.list place ≡ Some m → after ≡ text ++ lines_of v place m (defined_by at location found.1)) → IsTelling v place s next behind before after
+telling_more v place s at next location behind before text after found more t back coming size lines = record {
+  done = t.done ++ found ∷ [];
+  back = more;
+  parts = t.parts ∙ ap (λ (l : List (ℕ × Record)). t.done ++ l) back ∙ sym (append_assoc t.done (found ∷ []) more);
+  coming = coming;
+  location' = size ∙ ap (λ (n : ℕ). n + size_at n found.1) t.location' ∙ sym (behind-append 0 t.done (found ∷ []));
+  is = λ m there.
+      let f = symbol_line v.list v.table place m in
+      let first = defined_so_far s t.done in
+      let own = defined_by found.0 (place_behind 0 t.done) found.1 in
+      lines m found.0 there
+      ∙ ap (λ (n : ℕ). text ++ flat_map f (defined_by found.0 n found.1)) t.location'
+      ∙ ap (λ (l : List ℕ). l ++ flat_map f own) (t.is m there)
+      ∙ append_assoc before (flat_map f first) (flat_map f own)
+      ∙ ap (λ (l : List ℕ). before ++ l) (sym (flat_map-append f first own))
+      ∙ ap (λ (ds : List Definition). before ++ flat_map f ds) (sym (so_far-more s t.done found));
+}
+
+-- behind the last
+pub telling_all : (v : Valued) (place : ℕ) (s : Segment) (at : Reader) (location : ℕ) (before text : List ℕ) (t : IsTelling v place s at location before text) → t.back ≡ []
+    → (m : Member) → member_at v.list place ≡ Some m → text ≡ before ++ lines_of v place m (defined_in s)
+telling_all v place s at location before text t none m there =
+    let all = so_far-all s t.done [] (t.parts ∙ ap (λ (l : List (ℕ × Record)). t.done ++ l) none) in
+    t.is m there ∙ ap (λ (ds : List Definition). before ++ lines_of v place m ds) (sym (all ∙ append-nil (defined_so_far s t.done)))

@@ -1,0 +1,24 @@
+use Rattle.std.proofs.Common.{List, ap, ◌∙◌}
+use Rattle.std.specs.Prelude.{option_map}
+use Rattle.omf_records.specs.Segments.{shown}
+use Rattle.link_meaning.specs.Member.{Member}
+use Rattle.link_resolve.specs.Linked.{member_at}
+use Rattle.link_resolve.specs.Programs.{linked_at}
+use Rattle.link_map.proofs.ListLaws.{untold_member, told_segment, untold_segment}
+use Rattle.link_map.proofs.members.put_member.Goals as goal
+
+pub unreachable-requires : goal.unreachable-requires
+unreachable-requires c = untold_member c.args.values.now.list c.args.place c.requires.0 c.requires.1 (c.in-None.ensures ∙ ap (λ (l : List Member). linked_at l c.args.place) c.program-program.ensures)
+
+pub unreachable-requires-in-None-view : goal.unreachable-requires-in-None-view
+unreachable-requires-in-None-view c =
+    untold_segment c.args.values.now.list c.args.place c.requires.0 c.requires.1
+    (c.in-None-view.ensures.value ∙ ap (λ (l : List Member). option_map (λ (o : Member). o.segment) (member_at l c.args.place)) c.program-program.ensures)
+
+pub put_symbols-requires-clause-there : goal.put_symbols-requires-clause-there
+put_symbols-requires-clause-there c = record {
+  member = c.requires.0;
+  there = c.requires.1;
+  segment = told_segment c.args.values.now.list c.args.place c.requires.0 (shown c.in-Some-view.segment.now) c.requires.1
+      (c.in-Some-view.ensures.value ∙ ap (λ (l : List Member). option_map (λ (o : Member). o.segment) (member_at l c.args.place)) c.program-program.ensures);
+}

@@ -1,0 +1,127 @@
+//! The lines of load segments and of their members.
+
+ghost use Rattle.std.specs.Prelude.{◌≡◌, ◌++◌, Some, OnOk};
+ghost use Rattle.omf_format.specs.Header.{Fields};
+ghost use Rattle.omf_header.specs.View.{fields};
+ghost use Rattle.link_meaning.specs.Member.{Member};
+ghost use Rattle.link_meaning.specs.Layout.{load_headers};
+ghost use Rattle.link_resolve.specs.Linked.{member_at};
+ghost use Rattle.link_resolve.specs.Programs.{header_at};
+ghost use Rattle.link_map.specs.MapText.{numbered, member_line, text_in, load_line, load_text};
+ghost use Rattle.link_map.specs.Standing.{HasMember, HasLoad};
+
+use crate::symbols::put_symbols;
+use link_emit::Values;
+use link_resolve::LinkMember;
+use omf_base::{Line, LineFault};
+use omf_header::Header;
+use omf_listing::{put_labelled, put_quoted};
+
+/// Appends the line of a member: its file and its segment there, its offset in its load segment, its LENGTH and its SEGNAME.
+#[tactic(auto, unfolding(crate::specs::MapText::member_line))]
+fn put_member_line(line: &mut Line, member: LinkMember, header: &Header) -> Result<(), LineFault>
+    ensures { OnOk result (line.new ≡ line.old ++ member_line member.file member.segment member.offset (fields header.now)) }
+{
+    line.text("member ")?;
+    line.dec(member.file)?;
+    line.text(" ")?;
+    line.dec(member.segment)?;
+    put_labelled(line, " at ", member.offset)?;
+    put_labelled(line, " length ", header.length)?;
+    line.text(" name ")?;
+    put_quoted(line, header.name.bytes())?;
+    line.text("\n")
+}
+
+/// Appends the lines of the member at a place, from 1, and of what it defines, where it is one of this load segment.
+fn put_member(line: &mut Line, values: &Values, number: u32, place: u32) -> Result<(), LineFault>
+    requires { HasMember values.now.list place }
+    ensures { OnOk result ((m : Member) → member_at values.now.list place ≡ Some m
+        → line.new ≡ line.old ++ text_in values.now.list values.now.table number place m) }
+{
+    let program = values.program();
+    let member = match program.member(place) {
+        Some(member) => member,
+        None => unreachable!(),
+    };
+    if u32::from(member.load_segment) != number {
+        return Ok(());
+    }
+    let segment = match program.view(place) {
+        Some(segment) => segment,
+        None => unreachable!(),
+    };
+    put_member_line(line, member, &segment.header)?;
+    put_symbols(line, values, place, segment)
+}
+
+/// Appends the lines of all members of a load segment.
+fn put_members(line: &mut Line, values: &Values, number: u32) -> Result<(), LineFault>
+    ensures { OnOk result (line.new ≡ line.old ++ numbered (text_in values.now.list values.now.table number) 1 values.now.list) }
+{
+    let program = values.program();
+    let mut place = 0;
+    'members: while place < program.members() {
+        place += 1;
+        put_member(line, values, number, place)?;
+    }
+    Ok(())
+}
+
+/// Appends the line of a load segment: its number, LENGTH, KIND, ALIGN and SEGNAME.
+#[tactic(auto, unfolding(crate::specs::MapText::load_line))]
+pub fn put_load_line(
+    line: &mut Line,
+    number: u32,
+    size: u32,
+    kind: u16,
+    align: u32,
+    name: &[u8],
+) -> Result<(), LineFault>
+    ensures { OnOk result (line.new ≡ line.old ++ load_line number size kind align name.now) }
+{
+    line.text("load ")?;
+    line.dec(number)?;
+    put_labelled(line, " length ", size)?;
+    line.text(" kind ")?;
+    line.hex(u32::from(kind), 4)?;
+    put_labelled(line, " align ", align)?;
+    line.text(" name ")?;
+    put_quoted(line, name)?;
+    line.text("\n")
+}
+
+/// Appends the lines of the load segment with a number and of its members.
+fn put_load(line: &mut Line, values: &Values, number: u32) -> Result<(), LineFault>
+    requires { HasLoad values.now.list number }
+    ensures { OnOk result ((f : Fields) → header_at (load_headers values.now.list) number ≡ Some f
+        → line.new ≡ line.old ++ load_text values.now.list values.now.table number f) }
+{
+    let program = values.program();
+    let header = match program.load_header(number) {
+        Some(header) => header,
+        None => unreachable!(),
+    };
+    put_load_line(
+        line,
+        number,
+        header.length,
+        header.kind.bits,
+        header.align,
+        header.name.bytes(),
+    )?;
+    put_members(line, values, number)
+}
+
+/// Appends the lines of all load segments, each with its members.
+pub fn put_loads(line: &mut Line, values: &Values) -> Result<(), LineFault>
+    ensures { OnOk result (line.new ≡ line.old ++ numbered (load_text values.now.list values.now.table) 1 (load_headers values.now.list)) }
+{
+    let program = values.program();
+    let mut number = 0;
+    'loads: while number < program.load_count() {
+        number += 1;
+        put_load(line, values, number)?;
+    }
+    Ok(())
+}

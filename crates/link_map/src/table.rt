@@ -1,0 +1,59 @@
+//! The lines of the jump table.
+
+ghost use Rattle.std.specs.Prelude.{◌≡◌, ◌++◌, ◌<◌, map, OnOk};
+ghost use Rattle.load_meaning.specs.Table.{most_entries, file_entry, IsTableOf};
+ghost use Rattle.link_map.specs.MapText.{numbered, entry_line, table_text};
+
+use crate::members::put_load_line;
+use jump_table::{Table, Target, target_at};
+use omf_base::{Line, LineFault};
+use omf_listing::put_field;
+use std::alloc::Global;
+
+/// Appends the line of an entry: the table's number and the offset of the entry's code there, and where it leads.
+#[tactic(auto, unfolding(crate::specs::MapText::entry_line))]
+fn put_entry(line: &mut Line, number: u32, place: u32, target: Target) -> Result<(), LineFault>
+    requires { place < most_entries }
+    ensures { OnOk result (line.new ≡ line.old ++ entry_line number place target) }
+{
+    line.text("entry at")?;
+    put_field(line, 4, number)?;
+    put_field(line, 8, 8 + 14 * place + 10)?;
+    line.text(" calls")?;
+    put_field(line, 4, u32::from(target.segment))?;
+    put_field(line, 8, target.offset)?;
+    line.text("\n")
+}
+
+/// Appends the lines of all entries of a table, whose bytes these are.
+fn put_entries(line: &mut Line, number: u32, table: &Table, bytes: &[u8]) -> Result<(), LineFault>
+    requires { IsTableOf (map file_entry table.now) bytes.now }
+    ensures { OnOk result (line.new ≡ line.old ++ numbered (entry_line number) 0 table.now) }
+{
+    let mut place = 0;
+    'entries: while place < table.count() {
+        put_entry(line, number, place, target_at(bytes, place as usize))?;
+        place += 1;
+    }
+    Ok(())
+}
+
+/// Appends the lines of a table, which is the load segment with this number, and of its entries, where it has one.
+pub fn put_table(
+    alloc: Global,
+    line: &mut Line,
+    number: u32,
+    table: &Table,
+) -> Result<(), LineFault>
+    ensures { OnOk result (line.new ≡ line.old ++ table_text number table.now) }
+{
+    if table.count() == 0 {
+        return Ok(());
+    }
+    let bytes = match table.segment_bytes(alloc) {
+        Ok(bytes) => bytes,
+        Err(_) => return Err(LineFault::Memory),
+    };
+    put_load_line(line, number, bytes.len() as u32, 0x0002, 0, b"~JumpTable")?;
+    put_entries(line, number, table, bytes.as_slice())
+}
