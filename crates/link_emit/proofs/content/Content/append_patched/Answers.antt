@@ -1,0 +1,23 @@
+use Rattle.std.proofs.Common.{◌≡◌, ◌++◌, [], List, ℕ, Ok, Err, length, replicate, ap, arith}
+use Rattle.omf_cells.specs.Joined.{joined}
+use Rattle.link_emit.specs.Holding.{Holding, or_lent}
+use Rattle.link_emit.proofs.ZerosBehind.{settled_bytes, settled_patches, settled_some, on_ok}
+use Rattle.link_emit.proofs.content.Content.append_patched.Goals as goal
+
+pub invariant_of-self-2 : goal.invariant_of-self-2
+invariant_of-self-2 c =
+    let inside = c.self.inside in
+    let lent = joined inside.lent.items in
+    let bytes = ap (λ (h : Holding). h.bytes) c.self.view_is in
+    (c.self.invariant.0,
+     (λ none. absurd (settled_some inside.own.items c.settle.new.own.items lent inside.behind c.args.count c.in_ok-settle.ensures.ok c.requires.some none)),
+     settled_patches inside.own.items c.settle.new.own.items lent inside.behind c.args.count c.args.self.now.bytes c.append_patch.result inside.patches.items c.append_patch.new.patches.items c.args.patch
+     c.in_ok-settle.ensures.ok bytes c.requires.inside c.self.invariant.2 c.append_patch.ensures.ok c.append_patch.ensures.err,
+     c.self.invariant.3,
+     omega arith)
+
+pub returns-clause-bytes : goal.returns-clause-bytes
+returns-clause-bytes c =
+    let inside = c.self.inside in
+    on_ok c.append_patch.result
+    (settled_bytes inside.own.items c.settle.new.own.items (joined inside.lent.items) inside.behind c.args.count c.args.self.now.bytes c.in_ok-settle.ensures.ok c.requires.some (ap (λ (h : Holding). h.bytes) c.self.view_is))
