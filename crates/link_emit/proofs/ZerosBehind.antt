@@ -24,8 +24,7 @@ module _ {A : Type 0} (at count : ℕ) (middle : List A) where
       let rest = drop-append-le (at + count) xs behind inside in
       ap (λ (l : List A). l ++ middle ++ drop (at + count) (xs ++ behind)) front
       ∙ ap (λ (l : List A). take at xs ++ middle ++ l) rest
-      ∙ ap (λ (l : List A). take at xs ++ l) (sym (append_assoc middle (drop (at + count) xs) behind))
-      ∙ sym (append_assoc (take at xs) (middle ++ drop (at + count) xs) behind)
+      ∙ sym (append_assoc (take at xs ++ middle) (drop (at + count) xs) behind)
 
   over_size : (xs : List A) → length middle ≡ count → at + count ≤ length xs → length (take at xs ++ middle ++ drop (at + count) xs) ≡ length xs
   over_size xs same inside =
@@ -33,8 +32,8 @@ module _ {A : Type 0} (at count : ℕ) (middle : List A) where
         arith,
         same,
         inside,
-        length-append (take at xs) (middle ++ drop (at + count) xs),
-        length-append middle (drop (at + count) xs),
+        length-append (take at xs ++ middle) (drop (at + count) xs),
+        length-append (take at xs) middle,
         length-take at xs,
         length-drop (at + count) xs,
       )
@@ -80,7 +79,7 @@ zeros_rest : (c : Cell) (cells : List Cell) → list_all is_zero (c ∷ cells) �
 zeros_rest c cells not_all = rw not_all refl
 
 zeros_more : (cells : List Cell) (n : ℕ) → zeros_behind (cells ++ replicate n (Byte 0)) ≡ zeros_behind cells + n
-zeros_more [] n = zeros_alone n
+zeros_more [] n = let one = zeros_alone n in omega (arith, one)
 zeros_more (c ∷ cells) n = go (list_all is_zero (c ∷ cells)) refl (zeros_more cells n)
   where
     whole : list_all is_zero (c ∷ cells ++ replicate n (Byte 0)) ≡ (list_all is_zero (c ∷ cells) && true)
@@ -125,13 +124,13 @@ module _ (own n : ℕ) (front : List ℕ) (patches : List Patch) (are : AreWritt
   data_same =
       let size : ℕ = length front - zeros_behind (written_cells front patches) in
       let count : length (front ++ replicate n 0) - zeros_behind (written_cells (front ++ replicate n 0) patches) ≡ size =
-      omega (arith, behind_more, behind_within, length-append front (replicate n 0), length-replicate n 0) in
+      omega (arith, behind_more, behind_within, length-append front (replicate n 0), length-replicate {A = ℕ} n 0) in
       ap (λ (k : ℕ). take k (with_stored own (front ++ replicate n 0) patches)) count
       ∙ ap (take size) (stored_more own 0 (length front) front (replicate n 0) patches refl are)
       ∙ take-append-le size (with_stored own front patches) (replicate n 0) (omega (arith, length-data own patches front are))
 
   pub body_same : body_text own (front ++ replicate n 0) patches ≡ body_text own front patches
-  unfolding body_text, body_records
+  unfolding body_text body_records
   body_same = ap (λ (bytes : List ℕ). flat_map (spelling written_layout) (data_records bytes ++ (map (lone_record own) (lone own patches) ++ supers_from own patches 0 38))) data_same
 
 -- ---- a content and the zeros behind it
@@ -143,20 +142,17 @@ pub record IsBehind (own n : ℕ) (bytes : List ℕ) (content : Holding) (patche
   pub zeros : zeros_behind (written_cells content.bytes patches) ≡ zeros_behind (written_cells bytes patches) + n
   pub within : zeros_behind (written_cells bytes patches) + n ≤ length content.bytes
 
-behind_by : (own n : ℕ) (bytes : List ℕ) (content : Holding) (patches : List Patch) → content.bytes ≡ bytes ++ replicate n 0 → AreWritten (length bytes) 0 patches → IsBehind own n bytes content patches
+pub behind_by : (own n : ℕ) (bytes : List ℕ) (content : Holding) (patches : List Patch) → content.bytes ≡ bytes ++ replicate n 0 → AreWritten (length bytes) 0 patches → IsBehind own n bytes content patches
 behind_by own n bytes content patches same are = record {
   are = are;
   body = ap (λ (b : List ℕ). body_text own b patches) same ∙ body_same own n bytes patches are;
   zeros = ap (λ (b : List ℕ). zeros_behind (written_cells b patches)) same ∙ behind_more own n bytes patches are;
-  within = omega (arith, ap length same, behind_within own n bytes patches are, length-append bytes (replicate n 0), length-replicate n 0);
+  within = omega (arith, ap length same, behind_within own n bytes patches are, length-append bytes (replicate n 0), length-replicate {A = ℕ} n 0);
 }
 
 pub behind_own : (own n : ℕ) (bytes : List ℕ) (content : Holding) → content.bytes ≡ bytes ++ replicate n 0 → AreInside (length bytes) content.patches → AreWritten (length content.bytes) 0 (map seen content.patches)
     → IsBehind own n bytes content (map seen content.patches)
 behind_own own n bytes content same inside are = behind_by own n bytes content (map seen content.patches) same (without_zeros (length content.bytes) (length bytes) 0 content.patches are inside)
-
-pub behind_lent : (own n : ℕ) (bytes : List ℕ) (content : Holding) → content.bytes ≡ bytes ++ replicate n 0 → content.patches ≡ [] → IsBehind own n bytes content (map seen content.patches)
-behind_lent own n bytes content same none = subst (λ (ps : List kept.Patch). IsBehind own n bytes content (map seen ps)) (sym none) (behind_by own n bytes content [] same tt)
 
 -- ---- how a content is kept
 
@@ -185,12 +181,12 @@ zeros_longer front n count bytes same =
 pub settled_bytes : (own new lent : List ℕ) (n count : ℕ) (bytes : List ℕ) → new ≡ or_lent own lent ++ replicate (n + count) 0 → 1 ≤ count → or_lent own lent ++ replicate n 0 ≡ bytes
     → or_lent new lent ++ [] ≡ bytes ++ replicate count 0
 settled_bytes own new lent n count bytes is some same =
-    let long : 1 ≤ length new = omega (arith, some, ap length is, length-append (or_lent own lent) (replicate (n + count) 0), length-replicate (n + count) 0) in
+    let long : 1 ≤ length new = omega (arith, some, ap length is, length-append (or_lent own lent) (replicate (n + count) 0), length-replicate {A = ℕ} (n + count) 0) in
     append-nil (or_lent new lent) ∙ or_lent_some new lent long ∙ is ∙ zeros_longer (or_lent own lent) n count bytes same
 
 pub settled_some : (own new lent : List ℕ) (n count : ℕ) → new ≡ or_lent own lent ++ replicate (n + count) 0 → 1 ≤ count → new ≡ [] → ⊥
 settled_some own new lent n count is some none =
-    omega (arith, some, ap length is, ap length none, length-append (or_lent own lent) (replicate (n + count) 0), length-replicate (n + count) 0)
+    omega (arith, some, ap length is, ap length none, length-append (or_lent own lent) (replicate (n + count) 0), length-replicate {A = ℕ} (n + count) 0)
 
 pub on_ok : {A E P : Type 0} (r : Result A E) → P → OnOk r P
 on_ok (Ok x) is = is
@@ -200,10 +196,10 @@ on_ok (Err e) is = tt
 pub settled_patches : {A E : Type 0} (own new lent : List ℕ) (n count : ℕ) (bytes : List ℕ) (r : Result A E) (old after : List kept.Patch) (p : kept.Patch) → new ≡ or_lent own lent ++ replicate (n + count) 0
     → or_lent own lent ++ replicate n 0 ≡ bytes → p.at + p.count ≤ length bytes + count → AreInside (length own) old
     → OnOk r (after ≡ old ++ p ∷ []) → OnErr r (after ≡ old) → AreInside (length new) after
-settled_patches own new lent n count bytes r old after p is same inside olds = go r
+settled_patches {A = A} {E = E} own new lent n count bytes r old after p is same inside olds = go r
   where
     size : length new ≡ length bytes + count
-    size = ap length is ∙ ap length (zeros_longer (or_lent own lent) n count bytes same) ∙ length-append bytes (replicate count 0) ∙ ap (λ (k : ℕ). length bytes + k) (length-replicate count 0)
+    size = ap length is ∙ ap length (zeros_longer (or_lent own lent) n count bytes same) ∙ length-append bytes (replicate count 0) ∙ ap (λ (k : ℕ). length bytes + k) (length-replicate {A = ℕ} count 0)
 
     longer : length own ≤ length new
     longer = omega (arith, or_lent_size own lent, ap length is, length-append (or_lent own lent) (replicate (n + count) 0))
