@@ -7,7 +7,7 @@ use Rattle.std.proofs.lemmas.List.Folds.{list_all-append}
 use Rattle.omf_format.specs.Field.{written_layout}
 use Rattle.omf_format.specs.Record.{spelling}
 use Rattle.load_meaning.specs.Cells.{Cell, Byte, Patch, parts_from, patched}
-use Rattle.load_meaning.specs.WrittenBody.{IsWrittenPatch, AreWritten, stored, with_stored, is_zero, data_records, lone_record, lone, supers_from, zeros_behind, written_cells, written_data, body_records, body_text}
+use Rattle.load_meaning.specs.WrittenBody.{AreWritten, stored, with_stored, is_zero, data_records, lone_record, lone, supers_from, zeros_behind, written_cells, written_data, body_records, body_text}
 use Rattle.load_meaning.specs.laws.FormLaws.{length-stored}
 use Rattle.load_meaning.specs.laws.StoredLaws.{length-data, cells_size, zeros-le}
 use Rattle.omf_cells.specs.declared.written.Patch as kept

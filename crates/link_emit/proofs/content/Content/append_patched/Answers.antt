@@ -12,13 +12,14 @@ invariant_of-self-2 c =
     let new = c.settle.new.own.items in
     let lent = joined inside.lent.items in
     let bytes = ap (λ (h : Holding). h.bytes) c.self.view_is in
-    let settled = subst (λ (l : List (Bor (List ℕ))). new ≡ or_lent own (joined l) ++ replicate (inside.behind + c.args.count) 0) c.as_slice.ensures.value c.in_ok-settle.ensures.ok in
-    (c.self.invariant.0,
-     (λ none. absurd (settled_some own new lent inside.behind c.args.count settled c.requires.some none)),
-     settled_patches own new lent inside.behind c.args.count c.args.self.now.bytes c.append_patch.result inside.patches.items c.append_patch.new.patches.items c.args.patch
-     settled bytes c.requires.inside c.self.invariant.2 c.append_patch.ensures.ok c.append_patch.ensures.err,
-     c.self.invariant.3,
-     omega arith)
+    let settled = subst (λ (l : List (Bor (List ℕ))). new ≡ or_lent own (joined l) ++ replicate (inside.behind + c.args.count) 0) c.as_slice.ensures.value c.in_ok-settle.ensures.ok in (
+      c.self.invariant.0,
+      (λ none. absurd (settled_some own new lent inside.behind c.args.count settled c.requires.some none)),
+      settled_patches own new lent inside.behind c.args.count c.args.self.now.bytes c.append_patch.result inside.patches.items c.append_patch.new.patches.items c.args.patch
+          settled bytes c.requires.inside c.self.invariant.2 c.append_patch.ensures.ok c.append_patch.ensures.err,
+      c.self.invariant.3,
+      omega arith,
+    )
 
 pub returns-clause-bytes : goal.returns-clause-bytes
 returns-clause-bytes c =
