@@ -156,13 +156,11 @@ grow_bytes (Ok x) old new bytes more same = λ cells holds. record {
 }
 grow_bytes (Err e) old new bytes more same = tt
 
-pub grow_zeros : {A E : Type 0} → (r : Result A E) (old new : Holding) (n : ℕ) → OnOk r (new.bytes ≡ old.bytes ++ replicate n 0) → new.patches ≡ old.patches
-    → OnOk r ((cells : List Cell) → HoldsCells cells old → HoldsCells (cells ++ zeros n) new)
-grow_zeros (Ok x) old new n more same = λ cells holds. record {
+pub grow_zeros : (old new : Holding) (n : ℕ) → new.bytes ≡ old.bytes ++ replicate n 0 → new.patches ≡ old.patches → (cells : List Cell) → HoldsCells cells old → HoldsCells (cells ++ zeros n) new
+grow_zeros old new n more same = λ cells holds. record {
   bytes' = more ∙ ap (λ (l : List ℕ). l ++ replicate n 0) holds.bytes' ∙ sym (zeros_under cells n);
   patches' = ap (map seen) same ∙ holds.patches' ∙ sym (zeros_patches cells n);
 }
-grow_zeros (Err e) old new n more same = tt
 
 pub grow_place : {A E : Type 0} → (r : Result A E) (old new : Holding) (at count segment offset : ℕ) (shift : ℤ) → is_count count ≡ true → at ≡ length old.bytes
     → OnOk r (new.bytes ≡ old.bytes ++ replicate count 0) → OnOk r (new.patches ≡ old.patches ++ record { at = at; count = count; shift = shift; segment = segment; offset = offset } ∷ [])

@@ -22,3 +22,4 @@ pub mod WalkedLaws
 pub mod CircularLaws
 pub mod ExportLaws
 pub mod EmitLaws
+pub mod ZerosBehind

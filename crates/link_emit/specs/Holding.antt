@@ -1,10 +1,15 @@
 -- What a content is to contracts: its bytes, and the patches over them.
-use Rattle.std.specs.Prelude.{ℕ, List, [], ◌∷◌, Option, Some, None}
+use Rattle.std.specs.Prelude.{ℕ, ◌+◌, ◌≤◌, List, [], ◌∷◌, Option, Some, None}
+use Rattle.std.specs.List.{AllByRecursion}
 use Rattle.omf_cells.specs.declared.written.Patch.{Patch}
 
 pub record Holding : Type 0 where
   pub bytes : List ℕ
   pub patches : List Patch
+
+-- the patches lie inside so many bytes
+abbrev pub AreInside : ℕ → List Patch → Type 0
+AreInside size patches = AllByRecursion (λ p. p.at + p.count ≤ size) patches
 
 -- bytes of one's own, or what is lent where there are none
 abbrev pub or_lent : List ℕ → List ℕ → List ℕ

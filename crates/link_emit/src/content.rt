@@ -1,6 +1,6 @@
 //! The content of a load segment, as it grows.
 
-ghost use Rattle.std.specs.Prelude.{◌≡◌, ◌+◌, ◌<◌, ◌≤◌, ◌^◌, ◌++◌, ◌∷◌, [], List, IsTrue, OnOk, OnErr, length, map, replicate};
+ghost use Rattle.std.specs.Prelude.{◌≡◌, ◌≢◌, ◌+◌, ◌<◌, ◌≤◌, ◌^◌, ◌++◌, ◌∷◌, [], List, IsTrue, OnOk, OnErr, length, map, replicate};
 ghost use Rattle.omf_format.specs.Field.{is_count};
 ghost use Rattle.load_meaning.specs.Cells.{Cell, Byte};
 ghost use Rattle.link_meaning.specs.Fitting.{parts};
@@ -14,7 +14,7 @@ use std::alloc::{AllocError, Global};
 use std::marker::Model;
 
 /// The bytes of a load segment so far, and the patches over them. As long as they are constants of inputs, one behind another,
-/// none is copied. Contracts see the bytes and the patches.
+/// none is copied, and zeros at the end are only counted. Contracts see the bytes and the patches.
 #[derive(Drop)]
 pub struct Content<'a> {
     /// Constants of inputs, which are all bytes as long as there are none in `own`.
@@ -23,19 +23,22 @@ pub struct Content<'a> {
     lent_size: usize,
     /// All bytes, if there are any here.
     own: Vec<u8>,
+    /// How many zeros stand behind these, and aren't held.
+    behind: usize,
     patches: Vec<Patch>,
 }
 
 impl<'a> Model for Content<'a> {
-    ghost use Rattle.std.specs.Prelude.{◌≡◌, [], length};
+    ghost use Rattle.std.specs.Prelude.{◌≡◌, ◌++◌, ◌<◌, ◌^◌, [], length, replicate};
     ghost use Rattle.omf_cells.specs.Joined.{joined};
-    ghost use Rattle.link_emit.specs.Holding.{Holding, or_lent};
+    ghost use Rattle.link_emit.specs.Holding.{Holding, AreInside, or_lent};
 
     ghost Value = { Holding };
 
-    ghost view = { λ content. record { bytes = or_lent content.own.items (joined content.lent.items); patches = content.patches.items } };
+    ghost view = { λ content. record { bytes = or_lent content.own.items (joined content.lent.items) ++ replicate content.behind 0; patches = content.patches.items } };
 
-    ghost invariant = { λ content. (content.lent_size ≡ length (joined content.lent.items)) × (content.own.items ≡ [] → content.patches.items ≡ []) };
+    ghost invariant = { λ content. (content.lent_size ≡ length (joined content.lent.items)) × (content.own.items ≡ [] → content.patches.items ≡ [])
+        × AreInside (length content.own.items) content.patches.items × (content.lent_size < 2 ^ 33) × (content.behind < 2 ^ 33) };
 }
 
 /// Where the bytes of a content stand.
@@ -66,7 +69,7 @@ fn append_all(out: &mut Vec<u8>, pieces: &[&[u8]]) -> Result<(), AllocError>
 
 /// Appends so many zeros.
 fn append_zeros(out: &mut Vec<u8>, count: usize) -> Result<(), AllocError>
-    requires { length out.old.items + count < 2 ^ 33 }
+    requires { count < 2 ^ 34 }
     ensures ok { OnOk result (out.new.items ≡ out.old.items ++ replicate count 0) }
     ensures err { OnErr result (out.new.items ≡ out.old.items) }
 {
@@ -85,6 +88,16 @@ fn take_in(own: &mut Vec<u8>, lent: &[&[u8]]) -> Result<(), AllocError>
     Ok(())
 }
 
+/// Copies what is lent, unless there are bytes of one's own, and appends so many zeros.
+fn settle(own: &mut Vec<u8>, lent: &[&[u8]], zeros: usize) -> Result<(), AllocError>
+    requires { zeros < 2 ^ 34 }
+    ensures ok { OnOk result (own.new.items ≡ or_lent own.old.items (joined lent.now) ++ replicate zeros 0) }
+    ensures longer { own.old.items ≢ [] → length own.old.items ≤ length own.new.items }
+{
+    take_in(own, lent)?;
+    append_zeros(own, zeros)
+}
+
 /// Appends a piece.
 fn append_piece<'a>(pieces: &mut Vec<&'a [u8]>, piece: &'a [u8]) -> Result<(), AllocError>
     ensures ok { OnOk result (joined pieces.new.items ≡ joined pieces.old.items ++ piece.now) }
@@ -96,7 +109,8 @@ fn append_piece<'a>(pieces: &mut Vec<&'a [u8]>, piece: &'a [u8]) -> Result<(), A
 
 /// Appends a patch.
 fn append_patch(patches: &mut Vec<Patch>, patch: Patch) -> Result<(), AllocError>
-    ensures { OnOk result (patches.new.items ≡ patches.old.items ++ patch ∷ []) }
+    ensures ok { OnOk result (patches.new.items ≡ patches.old.items ++ patch ∷ []) }
+    ensures err { OnErr result (patches.new.items ≡ patches.old.items) }
 {
     patches.push(patch)?;
     Ok(())
@@ -149,6 +163,7 @@ impl<'a> Content<'a> {
             lent: Vec::new(alloc),
             lent_size: 0,
             own: room_for(alloc, count),
+            behind: 0,
             patches: Vec::new(alloc),
         }
     }
@@ -160,6 +175,7 @@ impl<'a> Content<'a> {
             lent: Vec::new(alloc),
             lent_size: 0,
             own: Vec::new(alloc),
+            behind: 0,
             patches: Vec::new(alloc),
         }
     }
@@ -169,9 +185,9 @@ impl<'a> Content<'a> {
         ensures { result ≡ length (self.now).bytes }
     {
         if self.own.is_empty() {
-            return self.lent_size;
+            return self.lent_size + self.behind;
         }
-        self.own.as_slice().len()
+        self.own.as_slice().len() + self.behind
     }
 
     /// How many cells there are.
@@ -181,20 +197,24 @@ impl<'a> Content<'a> {
         self.size()
     }
 
-    /// The bytes; under a patch they don't count. Where they stand in inputs, there is no patch.
-    pub fn place(&self) -> Place<'_, 'a>
-        ensures { IsPlaced result self.now }
+    /// The bytes but for zeros at their end, and how many zeros these are; under a patch they don't count. Where the bytes stand in
+    /// inputs, there is no patch.
+    pub fn place(&self) -> (Place<'_, 'a>, usize)
+        ensures { IsPlaced result.0 result.1 self.now }
     {
         if self.own.is_empty() {
-            return Place::Lent(self.lent.as_slice());
+            return (Place::Lent(self.lent.as_slice()), self.behind);
         }
-        Place::Own(self.own.as_slice())
+        (Place::Own(self.own.as_slice()), self.behind)
     }
 
     /// The last byte, if there is one.
     pub fn last(&self) -> Option<u8>
         ensures { result ≡ last_of (self.now).bytes }
     {
+        if self.behind > 0 {
+            return Some(0);
+        }
         if self.own.is_empty() {
             return last_in(self.lent.as_slice());
         }
@@ -212,21 +232,9 @@ impl<'a> Content<'a> {
         ensures bytes { OnOk result ((self.new).bytes ≡ (self.old).bytes ++ bytes.now) }
         ensures patches { (self.new).patches ≡ (self.old).patches }
     {
-        take_in(&mut self.own, self.lent.as_slice())?;
+        settle(&mut self.own, self.lent.as_slice(), self.behind)?;
+        self.behind = 0;
         append(&mut self.own, bytes)
-    }
-
-    /// Appends zeros.
-    fn append_zeros(&mut self, count: usize) -> Result<(), AllocError>
-        requires { length (self.old).bytes + count < 2 ^ 33 }
-        ensures bytes { OnOk result ((self.new).bytes ≡ (self.old).bytes ++ replicate count 0) }
-        ensures patches { (self.new).patches ≡ (self.old).patches }
-    {
-        if count == 0 {
-            return Ok(());
-        }
-        take_in(&mut self.own, self.lent.as_slice())?;
-        append_zeros(&mut self.own, count)
     }
 
     /// Appends bytes of an input, which aren't copied as long as there are no others.
@@ -235,23 +243,24 @@ impl<'a> Content<'a> {
         ensures bytes { OnOk result ((self.new).bytes ≡ (self.old).bytes ++ bytes.now) }
         ensures patches { (self.new).patches ≡ (self.old).patches }
     {
-        if self.own.is_empty() {
+        if self.own.is_empty() && self.behind == 0 {
             append_piece(&mut self.lent, bytes)?;
             self.lent_size += bytes.len();
             return Ok(());
         }
-        append(&mut self.own, bytes)
+        self.append(bytes)
     }
 
     /// Appends so many zeros with a patch over them.
     fn append_patched(&mut self, patch: Patch, count: usize) -> Result<(), AllocError>
         requires some { 1 ≤ count }
         requires small { length (self.old).bytes + count < 2 ^ 33 }
+        requires inside { patch.at + patch.count ≤ length (self.old).bytes + count }
         ensures bytes { OnOk result ((self.new).bytes ≡ (self.old).bytes ++ replicate count 0) }
         ensures patches { OnOk result ((self.new).patches ≡ (self.old).patches ++ patch ∷ []) }
     {
-        take_in(&mut self.own, self.lent.as_slice())?;
-        append_zeros(&mut self.own, count)?;
+        settle(&mut self.own, self.lent.as_slice(), self.behind + count)?;
+        self.behind = 0;
         append_patch(&mut self.patches, patch)
     }
 
@@ -270,12 +279,12 @@ impl<'a> Content<'a> {
         self.append_lent(bytes)
     }
 
-    /// So many zeros more.
-    pub fn put_zeros(&mut self, count: usize) -> Result<(), AllocError>
+    /// So many zeros more, which take no memory.
+    pub fn put_zeros(&mut self, count: usize)
         requires { length (self.old).bytes + count < 2 ^ 32 }
-        ensures { OnOk result ((cells : List Cell) → HoldsCells cells self.old → HoldsCells (cells ++ zeros count) self.new) }
+        ensures { (cells : List Cell) → HoldsCells cells self.old → HoldsCells (cells ++ zeros count) self.new }
     {
-        self.append_zeros(count)
+        self.behind += count;
     }
 
     /// So many bytes of a place more.

@@ -142,9 +142,16 @@ fn put_content(
     ensures bytes { OnOk result (out.new.items ≡ out.old.items ++ body_text own (content.now).bytes (map seen (content.now).patches)) }
     ensures zeros { IfOk result (λ zeros. zeros ≡ zeros_behind (written_cells (content.now).bytes (map seen (content.now).patches))) }
 {
-    match content.place() {
-        Place::Lent(pieces) => put_plain_body(out, pieces),
-        Place::Own(bytes) => put_body(alloc, out, own, bytes, content.patches()),
+    let (place, behind) = content.place();
+    match place {
+        Place::Lent(pieces) => {
+            let zeros = put_plain_body(out, pieces)?;
+            Ok(zeros + behind as u32)
+        }
+        Place::Own(bytes) => {
+            let zeros = put_body(alloc, out, own, bytes, content.patches())?;
+            Ok(zeros + behind as u32)
+        }
     }
 }
 

@@ -24,9 +24,18 @@ pub fn put_plain<'a>(
     match rec {
         Rec::Const { bytes } => content.lend_bytes(bytes),
         Rec::LongConst { bytes } => content.lend_bytes(bytes),
-        Rec::Align { n } => content.put_zeros(padding(*n, location) as usize),
-        Rec::Org { n } => content.put_zeros(*n as usize),
-        Rec::Space { n } => content.put_zeros(*n as usize),
+        Rec::Align { n } => {
+            content.put_zeros(padding(*n, location) as usize);
+            Ok(())
+        }
+        Rec::Org { n } => {
+            content.put_zeros(*n as usize);
+            Ok(())
+        }
+        Rec::Space { n } => {
+            content.put_zeros(*n as usize);
+            Ok(())
+        }
         Rec::End
         | Rec::Reloc { .. }
         | Rec::InterSeg { .. }

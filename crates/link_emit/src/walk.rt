@@ -153,18 +153,13 @@ fn put_segment<'a>(
         → (fault.0 ≡ causes.Memory) ⊎ Unmade whole.now.program.now (rows_of (all_found whole.now.program.now) whole.now.slots.now) front m fault.0 fault.1) }
 {
     let gap = seat.offset as usize - content.len();
-    match content.put_zeros(gap) {
-        Ok(()) => {}
-        Err(_) => return Err((LinkCause::Memory, 0)),
-    }
+    content.put_zeros(gap);
     match put_records(whole, seat, segment, content, table) {
         Ok(()) => {}
         Err(fault) => return Err(fault),
     }
-    match content.put_zeros(segment.header.res_spc as usize) {
-        Ok(()) => Ok(()),
-        Err(_) => Err((LinkCause::Memory, 0)),
-    }
+    content.put_zeros(segment.header.res_spc as usize);
+    Ok(())
 }
 
 /// The first fault of a member's records, as a fault of the linker.

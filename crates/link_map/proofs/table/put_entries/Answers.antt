@@ -1,4 +1,4 @@
-use Rattle.std.proofs.Common.{◌≡◌, ◌+◌, ◌<◌, ◌≤◌, ◌++◌, length, ap, ◌∙◌, arith}
+use Rattle.std.proofs.Common.{◌≡◌, ◌<◌, ◌≤◌, ◌++◌, length, ap, ◌∙◌, arith}
 use Rattle.load_meaning.specs.declared.table.Target.{Target}
 use Rattle.link_map.specs.MapText.{entry_line}
 use Rattle.link_map.proofs.TextLaws.{item_there, told_none, told_more, told_all}

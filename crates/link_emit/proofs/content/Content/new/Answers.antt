@@ -1,4 +1,4 @@
-use Rattle.std.proofs.Common.{ℕ, List, map, ap, ◌∙◌, sym}
+use Rattle.std.proofs.Common.{ℕ, List, map, ap, ◌∙◌, sym, append-nil}
 use Rattle.omf_cells.specs.Joined.{joined}
 use Rattle.omf_cells.specs.WrittenParts.{seen}
 use Rattle.link_emit.specs.Holding.{or_lent}
@@ -7,6 +7,6 @@ use Rattle.link_emit.proofs.content.Content.new.Goals as goal
 
 pub returns : goal.returns
 returns c = record {
-  bytes' = ap (λ (own : List ℕ). or_lent own (joined c.new.result.items)) c.new-2.ensures.items ∙ ap joined c.new.ensures.items;
+  bytes' = append-nil (or_lent c.new-2.result.items (joined c.new.result.items)) ∙ ap (λ (own : List ℕ). or_lent own (joined c.new.result.items)) c.new-2.ensures.items ∙ ap joined c.new.ensures.items;
   patches' = ap (map seen) c.new-3.ensures.items ∙ sym no_cells;
 }
