@@ -1,11 +1,11 @@
 //! Marks of blocks in order of address, by which the block that has a byte is found.
 
-ghost use Rattle.std.specs.Prelude.{◌≡◌, ◌≢◌, ℕ, ◌<◌, ◌≤◌, ◌==◌, ◌∷◌, not, slice_index_or, filter, length, Contains, MatchOption, All, vec_len, vec_capacity};
+ghost use Rattle.std.specs.Prelude.{◌≡◌, ◌≢◌, ℕ, ◌+◌, ◌^◌, ◌<◌, ◌≤◌, ◌==◌, ◌∷◌, not, false, IsTrue, slice_index_or, filter, length, Contains, MatchOption, All, vec_len, vec_capacity};
 ghost use Rattle.std.specs.List.Sorted.{IsNonDecreasingBy, IsPermutation};
 ghost use Rattle.iigs_meaning.specs.Slots.{slot_at};
 ghost use Rattle.iigs_places.specs.declared.marks.Mark as declared;
 ghost use Rattle.iigs_places.specs.Spots.{IsBoundedSlot};
-ghost use Rattle.iigs_places.specs.Marks.{mark_in, AreGathered, HaveMarks, CountsUpTo, CountsBefore, IsLast};
+ghost use Rattle.iigs_places.specs.Marks.{mark_in, AreGathered, HaveMarks, AreOnce, AreMarksApart, IsSized, CountsUpTo, CountsBefore, IsLast, IsFirstFrom, IsLastOther, LiesBeside, SharesByte};
 
 use crate::spots::{insert_reserved, push_some};
 use iigs_handles::Handles;
@@ -109,6 +109,53 @@ fn count_before(marks: &[Mark], address: u32) -> usize
     ensures { CountsBefore marks.now address result }
 {
     marks.partition_point(|mark| mark.at < address)
+}
+
+/// The first mark at an address or behind it.
+pub fn first_from(marks: &[Mark], address: u32) -> Option<Mark>
+    requires { IsNonDecreasingBy (λ mark. mark.at) marks.now }
+    ensures { MatchOption result ((mark : declared.Mark) → Contains marks.now mark → mark.at < address) (IsFirstFrom marks.now address) }
+{
+    let count = count_before(marks, address);
+    if count == marks.len() {
+        return None;
+    }
+    Some(marks[count])
+}
+
+// Of the marks of other slots the last one before an address.
+fn last_other(marks: &[Mark], address: u32, slot: u16) -> Option<Mark>
+    requires order { IsNonDecreasingBy (λ mark. mark.at) marks.now }
+    requires once { AreOnce marks.now }
+    ensures { MatchOption result ((mark : declared.Mark) → Contains marks.now mark → mark.slot ≢ slot → address ≤ mark.at) (IsLastOther marks.now address slot) }
+{
+    let count = count_before(marks, address);
+    if count == 0 {
+        return None;
+    }
+    if marks[count - 1].slot != slot {
+        return Some(marks[count - 1]);
+    }
+    if count == 1 {
+        return None;
+    }
+    Some(marks[count - 2])
+}
+
+/// Whether so many bytes from an address on lie in none of the blocks of other slots.
+pub fn lies_beside(marks: &[Mark], slot: u16, address: u32, size: u32) -> bool
+    requires order { IsNonDecreasingBy (λ mark. mark.at) marks.now }
+    requires once { AreOnce marks.now }
+    requires sized { All IsSized marks.now }
+    requires apart { AreMarksApart marks.now }
+    requires small { address + size < 2 ^ 32 }
+    ensures yes { IsTrue result → LiesBeside marks.now slot address size }
+    ensures no { result ≡ false → SharesByte marks.now slot address size }
+{
+    match last_other(marks, address + size, slot) {
+        Some(last) => last.end <= address,
+        None => true,
+    }
 }
 
 // The place of a mark of a slot, whose marks are all at one address.

@@ -1,0 +1,255 @@
+// Movable blocks that are slid down, at a command and for a placement.
+ghost use Rattle.std.specs.Prelude.{IsTrue};
+ghost use Rattle.iigs_meaning.specs.Fits.{IsWant};
+ghost use Rattle.iigs_meaning.specs.Slide.{AsksNoPlace};
+
+use crate::asserting::same;
+use iigs_compact_memory::{BlockFault, CompactBanks, Handle, PlaceFault, Want};
+use std::alloc::Global;
+use std::process::Abort;
+use std::test::Fail;
+
+/// A call, and what is answered.
+enum Step {
+    /// A block is placed, at a level, movable or not.
+    Put(Want, u8, bool, Result<Handle, PlaceFault>),
+    Free(Handle),
+    Lock(Handle),
+    Unlock(Handle),
+    Replace(Handle, u32, Result<(), PlaceFault>),
+    /// So many blocks are moved.
+    Compact(u32),
+    At(Handle, Result<Option<u32>, BlockFault>),
+    /// The first byte and the last are written.
+    Write(Handle, u8, u8),
+    /// They are these.
+    Ends(Handle, Option<(u8, u8)>),
+}
+
+const fn slot(slot: u16) -> Handle {
+    Handle {
+        slot,
+        generation: 0,
+    }
+}
+
+const fn of(size: u32) -> Want {
+    Want {
+        size,
+        align: 1,
+        no_cross: false,
+        no_special: false,
+        at: None,
+        bank: None,
+        low: None,
+    }
+}
+
+fn is_want(want: &Want) -> bool
+    ensures { IsTrue result → IsWant want.now }
+{
+    want.size > 0 && (want.align == 1 || want.align == 0x100 || want.align == 0x10000)
+}
+
+fn asks_no_place(want: &Want) -> bool
+    ensures { IsTrue result → AsksNoPlace want.now }
+{
+    want.at.is_none() && want.bank.is_none() && want.low.is_none()
+}
+
+// The calls as the steps make them. They promise nothing.
+fn put(
+    banks: &mut CompactBanks,
+    want: &Want,
+    level: u8,
+    movable: bool,
+) -> Option<Result<Handle, PlaceFault>> {
+    if !is_want(want) {
+        return None;
+    }
+    if !movable {
+        return Some(banks.place(want, 0, false, level, false));
+    }
+    if !asks_no_place(want) {
+        return None;
+    }
+    Some(banks.place(want, 0, false, level, true))
+}
+
+fn replace(banks: &mut CompactBanks, h: Handle, size: u32) -> Option<Result<(), PlaceFault>> {
+    let want = of(size);
+    if !is_want(&want) {
+        return None;
+    }
+    Some(banks.replace(h, &want))
+}
+
+fn at(banks: &CompactBanks, h: Handle) -> Result<Option<u32>, BlockFault> {
+    Ok(banks.state(h)?.at)
+}
+
+fn write(banks: &mut CompactBanks, h: Handle, first: u8, last: u8) {
+    if let Ok(bytes) = banks.block_mut(h) {
+        if let Some(byte) = bytes.first_mut() {
+            *byte = first;
+        }
+        if let Some(byte) = bytes.last_mut() {
+            *byte = last;
+        }
+    }
+}
+
+fn ends(banks: &CompactBanks, h: Handle) -> Option<(u8, u8)> {
+    match banks.block(h) {
+        Ok(bytes) => Some((*bytes.first()?, *bytes.last()?)),
+        Err(_) => None,
+    }
+}
+
+fn change(rt: &impl Abort, banks: &mut CompactBanks, n: usize, step: &Step) {
+    match step {
+        Step::Put(want, level, movable, is) => {
+            same(rt, n, put(banks, want, *level, *movable), Some(*is))
+        }
+        Step::Free(h) => same(rt, n, banks.free(*h), Ok(())),
+        Step::Lock(h) => same(rt, n, banks.lock(*h), Ok(())),
+        Step::Unlock(h) => same(rt, n, banks.unlock(*h), Ok(())),
+        Step::Replace(h, size, is) => same(rt, n, replace(banks, *h, *size), Some(*is)),
+        Step::Compact(is) => same(rt, n, banks.compact(), *is),
+        Step::At(h, is) => same(rt, n, at(banks, *h), *is),
+        Step::Write(h, first, last) => write(banks, *h, *first, *last),
+        Step::Ends(h, is) => same(rt, n, ends(banks, *h), *is),
+    }
+}
+
+fn run(rt: &(impl Alloc<A = Global> + Abort), numbers: &[u8], steps: &[Step]) -> Result<(), Fail> {
+    let mut banks = CompactBanks::new(rt.alloc(), numbers)?;
+    for (n, step) in steps.iter().enumerate() {
+        change(rt, &mut banks, n, step);
+    }
+    Ok(())
+}
+
+static SLID: [Step; 8] = [
+    Step::Put(of(0x10), 0, true, Ok(slot(0))),
+    Step::Put(of(0x20), 0, true, Ok(slot(1))),
+    Step::Write(slot(1), 0x12, 0x34),
+    Step::Free(slot(0)),
+    Step::Put(
+        of(0xFFE0),
+        0,
+        true,
+        Ok(Handle {
+            slot: 0,
+            generation: 1,
+        }),
+    ),
+    Step::At(slot(1), Ok(Some(0x02_0000))),
+    Step::Ends(slot(1), Some((0x12, 0x34))),
+    Step::Compact(0),
+];
+
+// A placement slides a block down where it finds no room otherwise.
+#[test]
+fn a_placement_slides(rt: HostRuntime) -> Result<(), Fail> {
+    run(&rt, &[2], &SLID)
+}
+
+static FIXED: [Step; 7] = [
+    Step::Put(of(0x10), 0, true, Ok(slot(0))),
+    Step::Put(of(0x20), 0, false, Ok(slot(1))),
+    Step::Free(slot(0)),
+    Step::Put(of(0xFFE0), 0, true, Err(PlaceFault::NoRoom(0))),
+    Step::Compact(0),
+    Step::At(slot(1), Ok(Some(0x02_0010))),
+    Step::Put(
+        of(0x10),
+        0,
+        true,
+        Ok(Handle {
+            slot: 0,
+            generation: 1,
+        }),
+    ),
+];
+
+// A block that isn't movable stays, and a refused placement changes nothing.
+#[test]
+fn a_fixed_block_stays(rt: HostRuntime) -> Result<(), Fail> {
+    run(&rt, &[2], &FIXED)
+}
+
+static LOCKED: [Step; 12] = [
+    Step::Put(of(1), 0, true, Ok(slot(0))),
+    Step::Put(of(0xFFFF), 1, true, Ok(slot(1))),
+    Step::Write(slot(1), 0x12, 0x34),
+    Step::Free(slot(0)),
+    Step::Lock(slot(1)),
+    Step::Compact(0),
+    Step::Unlock(slot(1)),
+    Step::Compact(1),
+    Step::At(slot(1), Ok(Some(0x02_0000))),
+    Step::Ends(slot(1), Some((0x12, 0x34))),
+    Step::Compact(0),
+    Step::Replace(slot(1), 1, Err(PlaceFault::NotEmpty)),
+];
+
+// A locked block moves once it is unlocked, over itself and with all its bytes.
+#[test]
+fn a_locked_block_waits(rt: HostRuntime) -> Result<(), Fail> {
+    run(&rt, &[2], &LOCKED)
+}
+
+const PAGE: Want = Want {
+    align: 0x100,
+    ..of(0x10)
+};
+
+const IN_A_BANK: Want = Want {
+    no_cross: true,
+    ..of(0x9000)
+};
+
+static OVER_BANKS: [Step; 13] = [
+    Step::Put(of(0x20), 0, false, Ok(slot(0))),
+    Step::Put(of(0x10), 0, true, Ok(slot(1))),
+    Step::Put(PAGE, 0, true, Ok(slot(2))),
+    Step::Put(IN_A_BANK, 0, true, Ok(slot(3))),
+    Step::Put(IN_A_BANK, 0, true, Ok(slot(4))),
+    Step::Write(slot(4), 0x12, 0x34),
+    Step::At(slot(4), Ok(Some(0x02_0000))),
+    Step::Free(slot(0)),
+    Step::Free(slot(3)),
+    Step::Compact(2),
+    Step::At(slot(1), Ok(Some(0x00_0800))),
+    Step::At(slot(4), Ok(Some(0x00_0910))),
+    Step::Ends(slot(4), Some((0x12, 0x34))),
+];
+
+// A block slides from one bank to another and into special memory, and keeps what its want asks for.
+#[test]
+fn wants_are_kept(rt: HostRuntime) -> Result<(), Fail> {
+    run(&rt, &[0, 2], &OVER_BANKS)
+}
+
+const AT_20008: Want = Want {
+    at: Some(0x02_0008),
+    ..of(8)
+};
+
+static ONE_PURGE: [Step; 8] = [
+    Step::Put(of(8), 3, false, Ok(slot(0))),
+    Step::Put(of(8), 0, true, Ok(slot(1))),
+    Step::Put(of(8), 2, false, Ok(slot(2))),
+    Step::Put(of(0x10), 0, true, Ok(slot(3))),
+    Step::Put(AT_20008, 0, false, Ok(slot(4))),
+    Step::At(slot(0), Ok(None)),
+    Step::At(slot(1), Ok(Some(0x02_0000))),
+    Step::At(slot(2), Ok(Some(0x02_0010))),
+];
+
+// One purge and a slide make room, and one purge more would close it.
+#[test]
+fn the_fewest_purges_are_found(rt: HostRuntime) -> Result<(), Fail> {
+    run(&rt, &[2], &ONE_PURGE)
+}
