@@ -4,6 +4,8 @@ pub mod Carrying
 pub mod Making
 pub mod Compacted
 pub mod Placing
+pub mod Still
 pub mod Searching
 pub mod Several
 pub mod AllPlaced
+pub mod Planning

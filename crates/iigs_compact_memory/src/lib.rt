@@ -5,6 +5,7 @@
 
 mod alls;
 mod banks;
+mod bound;
 mod carry;
 mod law;
 mod needs;

@@ -5,6 +5,7 @@ ghost use Rattle.iigs_meaning.specs.Fits.{IsWant};
 ghost use Rattle.iigs_meaning.specs.Slide.{AreSettled};
 ghost use Rattle.iigs_compact_memory.specs.Needs.{NoneAfter, NeedsPurges};
 
+use crate::bound::bound;
 use iigs_meaning::Want;
 use iigs_places::Places;
 
@@ -18,8 +19,11 @@ pub fn needed(places: &Places, trial: &mut Places, want: &Want) -> Option<u32>
         (λ count. NeedsPurges places.now.banks places.now.slots want.now count trial.new.slots) }
     ensures banks { trial.new.banks ≡ trial.old.banks }
 {
+    let Some(least) = bound(places, trial, want) else {
+        return None;
+    };
     let most = places.purgeable();
-    for count in 0..most + 1 {
+    for count in least..most + 1 {
         trial.start_from(places, 0, false);
         trial.purge_first(count);
         trial.slide();
