@@ -1,5 +1,5 @@
 -- The search for the least number of purges.
-use Rattle.std.proofs.Common.{◌≡◌, inl, inr, ℕ, false, ◌+◌, ◌<◌, List, sym, ap, subst, ◌∙◌, arith}
+use Rattle.std.proofs.Common.{◌≡◌, inl, inr, ℕ, false, ◌+◌, ◌<◌, ◌≤◌, List, sym, ap, subst, ◌∙◌, arith}
 use Rattle.std.proofs.lemmas.Bool.{cases_lt}
 use Rattle.iigs_meaning.specs.declared.wants.Want.{Want}
 use Rattle.iigs_meaning.specs.Fits.{Slots, Fits}
@@ -8,8 +8,10 @@ use Rattle.iigs_meaning.specs.Puts.{slots_for}
 use Rattle.iigs_meaning.specs.Slide.{Slides, AreSettled}
 use Rattle.iigs_places.specs.Arranged.{Arrangement}
 use Rattle.iigs_compact_memory.specs.Needs.{NoneAfter, NeedsPurges}
+use Rattle.iigs_compact_memory.specs.Still.{LeavesStill}
 use Rattle.iigs_compact_memory.proofs.Settled.{settled_emptied}
 use Rattle.iigs_compact_memory.proofs.Making.{none_once}
+use Rattle.iigs_compact_memory.proofs.Still.{none_still}
 
 -- one trial: so many are purged on a copy, which is slid down then
 module _ (places start began purged slid : Arrangement) (banks : start.banks ≡ places.banks) (count : ℕ)
@@ -23,6 +25,15 @@ module _ (places start began purged slid : Arrangement) (banks : start.banks ≡
   pub trial_settled : AreSettled places.banks places.slots → AreSettled purged.banks purged.slots
   trial_settled settled = subst (λ (bs : List ℕ). AreSettled bs purged.slots) (sym purged_banks)
       (subst (AreSettled places.banks) (sym purged_slots) (settled_emptied places.banks places.slots count settled))
+
+  -- where a want doesn't fit beside the blocks that stay
+  module _ (leaves : LeavesStill purged.slots slid.slots) (same : slid.banks ≡ purged.banks) where
+    pub still_banks : slid.banks ≡ places.banks
+    still_banks = same ∙ purged_banks
+
+    pub still_after : (want : Want) → ((address : ℕ) → ¬ Fits slid.banks slid.slots want address) → (fewer : ℕ) → fewer ≤ count → NoneAfter places.banks places.slots want fewer
+    still_after want none = none_still places.banks places.slots slid.slots want count (subst (λ (s : Slots). LeavesStill s slid.slots) purged_slots leaves)
+        (subst (λ (bs : List ℕ). (address : ℕ) → ¬ Fits bs slid.slots want address) still_banks none)
 
   module _ (slides : Slides purged.banks purged.slots slid.slots) (same : slid.banks ≡ purged.banks) where
     pub trial_banks : slid.banks ≡ places.banks

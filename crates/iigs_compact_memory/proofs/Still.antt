@@ -6,6 +6,7 @@ use Rattle.std.proofs.lemmas.Option.{same_Some}
 use Rattle.std.proofs.lemmas.Bool.{cases_eq, cases_lt}
 use Rattle.std.proofs.lemmas.Bool.Decides.{nat_tests}
 use Rattle.std.proofs.lemmas.List.{get_or-set_same, get_or-set_other, get_or_past}
+use Rattle.iigs_meaning.specs.declared.handles.Handle.{Handle}
 use Rattle.iigs_meaning.specs.declared.slots.Slot.{Slot}
 use Rattle.iigs_meaning.specs.declared.slots.Content.{Content}
 use Rattle.iigs_meaning.specs.declared.slots.Content.TheVariants.{Free, Used, Retired}
@@ -19,7 +20,7 @@ use Rattle.iigs_meaning.specs.Moves.{lies_below}
 use Rattle.iigs_meaning.specs.Slide.{can_move, mover, holding, Slides}
 use Rattle.iigs_meaning.specs.laws.SlideLaws.{all_at}
 use Rattle.iigs_places.specs.declared.table.Put.{Put}
-use Rattle.iigs_places.specs.Arranged.{IsArranged}
+use Rattle.iigs_places.specs.Arranged.{Arrangement, IsArranged}
 use Rattle.iigs_places.specs.Extent.{extent}
 use Rattle.iigs_places.specs.Lowest.{IsFirstPut}
 use Rattle.iigs_places.proofs.Changed.{live_block, live_in}
@@ -91,6 +92,12 @@ begins slot at = go slot.content
     go Free is = absurd cc
     go Retired is = absurd cc
     go (Used block) is = ((at, block.want.size), rw is refl, refl)
+
+lower : (n m : ℕ) → m ≤ n → n ≢ m → m < n
+lower n m le ne = elim (cases_lt m n) [
+  | inl less ↦ less
+  | inr ge ↦ absurd (ne (omega (arith, le, ge)))
+]
 
 -- ---- the blocks below an address are sorted
 
@@ -183,15 +190,19 @@ module _ (banks : List ℕ) (old now : Slots) (arranged : IsArranged banks now) 
         | inr late ↦
             let le : put.at ≤ at = first.least place at (at_old place at is') late in
             let differ : at ≢ put.at = λ e. ne (one_place place (at_old place at is' ∙ ap (λ (n : ℕ). Some n) e)) in
-            let above : put.at < at = apart_lt le differ in
+            let above : put.at < at = lower at put.at le differ in
             rw (not_below limit (slot_at old place) at is' late, not_below (suc put.at) (slot_at old place) at is' (omega (arith, above))) refl
       ]
-        where
-          apart_lt : {n m : ℕ} → m ≤ n → n ≢ m → m < n
-          apart_lt le ne' = elim (cases_lt m n) [
-            | inl less ↦ less
-            | inr ge ↦ absurd (ne' (omega (arith, le, ge)))
-          ]
+
+-- what a block that is sorted leaves of places
+pub sorted_step : (now next : Arrangement) (h : Handle) → IsSomeAnd (get now.slots h) (λ block. next ≡ record now { slots = with_value now.slots h (sorted block) })
+    → IsSomeAnd (get now.slots h) (λ block. next.slots ≡ with_value now.slots h (sorted block)) × (next.banks ≡ now.banks)
+sorted_step now next h = go (get now.slots h)
+  where
+    go : (o : Option Block) → IsSomeAnd o (λ block. next ≡ record now { slots = with_value now.slots h (sorted block) })
+        → IsSomeAnd o (λ block. next.slots ≡ with_value now.slots h (sorted block)) × (next.banks ≡ now.banks)
+    go None is = absurd is
+    go (Some block) is = (ap (λ (a : Arrangement). a.slots) is, ap (λ (a : Arrangement). a.banks) is)
 
 -- once all are sorted, and the purgeable ones purged, those are left that stay
 pub left_still : (old now : Slots) (limit : ℕ) → AreSorted old now limit → ((place at : ℕ) → address_in (slot_at now place) ≡ Some at → at < limit) → LeavesStill old (map (emptied_where (can_purge_of 0)) now)
