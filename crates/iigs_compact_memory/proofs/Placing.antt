@@ -1,5 +1,5 @@
 -- Placements in room that purges alone make, and in room that purges and a slide make.
-use Rattle.std.proofs.Common.{◌≡◌, ℕ, Bool, List, [], ◌∷◌, Contains, Some, None, IsSome, IsSomeAnd, sym, ap, subst, ◌∙◌}
+use Rattle.std.proofs.Common.{◌≡◌, ℕ, Bool, List, [], ◌∷◌, Option, Some, None, IsSome, IsSomeAnd, sym, subst, ◌∙◌}
 use Rattle.iigs_meaning.specs.declared.handles.Handle.{Handle}
 use Rattle.iigs_meaning.specs.declared.wants.Want.{Want}
 use Rattle.iigs_meaning.specs.declared.wants.Block.{Block}
@@ -11,7 +11,7 @@ use Rattle.iigs_meaning.specs.Memory.{Memory, KeepsBut, IsPlaced, IsReplaced}
 use Rattle.iigs_meaning.specs.Slide.{Slides, AreSettled, PurgesOrSlides}
 use Rattle.iigs_compact_memory.specs.Needs.{NeedsPurges}
 use Rattle.iigs_compact_memory.proofs.Settled.{settled_emptied, settled_slides, settled_puts, settled_anew}
-use Rattle.iigs_compact_memory.proofs.Making.{has_room, slide_then_place, slide_then_replace, place_at_once, replace_at_once, there_slid, there_puts, there_anew, kept_twice, not_first}
+use Rattle.iigs_compact_memory.proofs.Making.{needs_left, left_empty, has_room, slide_then_place, slide_then_replace, place_at_once, replace_at_once, there_slid, there_puts, there_anew, kept_twice, not_first}
 
 -- ---- so many are purged, and a slide that was planned is carried out
 
@@ -41,6 +41,17 @@ module _ (old purged : Memory) (plan : Slots) (want : Want) (count : ℕ) (needs
 module _ (old room : Memory) (want : Want) (count : ℕ) (none : HasNoRoom old.banks old.slots want) (needs : NeedsPurges old.banks old.slots want count room.slots) (kept : KeepsBut old room []) where
   pub room_found : LacksRoom Purges room.banks room.slots want → ⊥
   room_found lacks = has_room old.banks old.slots room.slots want count none needs (subst (λ (bs : List ℕ). LacksRoom Purges bs room.slots want) kept.banks lacks)
+
+  pub room_live : (h : Handle) (block : Block) → get old.slots h ≡ Some block → block.at ≡ None → get room.slots h ≡ None → ⊥
+  room_live h block was empty out =
+      let clash : Some block ≡ None = sym (left_empty old.slots room.slots (needs_left old.banks old.slots room.slots want count none needs) h block was empty) ∙ out in
+      absurd cc
+
+  pub room_empty : (h : Handle) (block : Block) → get old.slots h ≡ Some block → block.at ≡ None → IsSomeAnd (get room.slots h) (λ b. IsSome b.at) → ⊥
+  room_empty h block was empty there =
+      let some : IsSome block.at = subst (λ (o : Option Block). IsSomeAnd o (λ b. IsSome b.at)) (left_empty old.slots room.slots (needs_left old.banks old.slots room.slots want count none needs) h block was empty) there in
+      let clash : IsSome {T = ℕ} None = subst (λ (o : Option ℕ). IsSome o) empty some in
+      absurd cc
 
   pub placed_after : (new : Memory) (user : ℕ) (locked : Bool) (level : ℕ) (movable : Bool) (h : Handle) → IsPlaced Purges room want user locked level movable h new
       → IsPlaced PurgesOrSlides old want user locked level movable h new

@@ -38,18 +38,19 @@ module _ (banks : List ℕ) (slots room : Slots) (want : Want) (count : ℕ) (ne
 
 -- ---- one more of all
 
+pub plan_handle : (now : Slots) (wants : List Want) (k : ℕ) → k < length wants → length wants ≤ k + count_by is_free now → IsSome (new_handle now)
+plan_handle now wants k less free = some_handle now (λ zero. omega (arith, free, zero, less))
+
+-- the first so many wants are placed
+abbrev Planned : List ℕ → ℕ → Slots → List Want → ℕ → Slots → Type 0
+Planned banks user start wants count last = (hs : List Handle) × PutsAll PurgesOrSlides banks user start (take count wants) hs last
+
 module _ (banks : List ℕ) (user : ℕ) (start now : Slots) (wants : List Want) (k : ℕ) (d : Want) (less : k < length wants) where
-  abbrev pub Planned : ℕ → Slots → Type 0
-  Planned count last = (hs : List Handle) × PutsAll PurgesOrSlides banks user start (take count wants) hs last
-
-  pub plan_handle : length wants ≤ k + count_by is_free now → IsSome (new_handle now)
-  plan_handle free = some_handle now (λ zero. omega (arith, free, zero, less))
-
-  pub plan_more : Planned k now → (next : Slots) → (h : Handle) × Puts PurgesOrSlides banks now (get_or wants k d) user true 0 false h next → Planned (k + 1) next
+  pub plan_more : Planned banks user start wants k now → (next : Slots) → (h : Handle) × Puts PurgesOrSlides banks now (get_or wants k d) user true 0 false h next → Planned banks user start wants (k + 1) next
   plan_more done next one = (done.0 ++ one.0 ∷ [], rw (take_more wants k d less) (puts_more banks user start (take k wants) done.0 now next (get_or wants k d) one.0 done.1 one.1))
 
   pub plan_free : length wants ≤ k + count_by is_free now → (next : Slots) → (h : Handle) × Puts PurgesOrSlides banks now (get_or wants k d) user true 0 false h next → length wants ≤ k + 1 + count_by is_free next
   plan_free free next one = omega (arith, free, free_puts banks now next (get_or wants k d) user one.0 one.1)
 
-  pub plan_lacks : Planned k now → LacksRoom PurgesOrSlides banks now (get_or wants k d) → LacksRoomAt PurgesOrSlides banks user start wants k
+  pub plan_lacks : Planned banks user start wants k now → LacksRoom PurgesOrSlides banks now (get_or wants k d) → LacksRoomAt PurgesOrSlides banks user start wants k
   plan_lacks done none = record { want = get_or wants k d; is = slice_get-get_or wants k d less; handles = done.0; last = now; before = done.1; none = none }

@@ -220,8 +220,16 @@ can_next banks user slots wants k d less can = go can.0 (subst (λ (ws : List Wa
     go [] all = absurd all
     go (h ∷ hs) all = (h, all.0, all.1, (hs, can.1, all.2))
 
-pub can_room : (banks : List ℕ) (user : ℕ) (slots : Slots) (want : Want) (h : Handle) (middle : Slots) → Puts PurgesOrSlides banks slots want user true 0 false h middle → LacksRoom PurgesOrSlides banks slots want → ⊥
-can_room banks user slots want h middle puts lacks = lacks puts.address puts.room puts.makes
+-- so there is room for the next, and a handle
+pub each_room : (banks : List ℕ) (user : ℕ) (slots : Slots) (wants : List Want) (k : ℕ) (d : Want) → k < length wants → CanPutAll banks user slots (drop k wants) → LacksRoom PurgesOrSlides banks slots (get_or wants k d) → ⊥
+each_room banks user slots wants k d less can lacks = let rest = can_next banks user slots wants k d less can in lacks rest.2.address rest.2.room rest.2.makes
+
+pub each_handle : (banks : List ℕ) (user : ℕ) (slots : Slots) (wants : List Want) (k : ℕ) → k < length wants → CanPutAll banks user slots (drop k wants) → new_handle slots ≡ None → ⊥
+each_handle banks user slots [] k less can none = absurd (omega (arith, less))
+each_handle banks user slots (want ∷ wants) k less can none =
+    let rest = can_next banks user slots (want ∷ wants) k want less can in
+    let clash : Some rest.0 ≡ None = sym rest.2.handle ∙ none in
+    absurd cc
 
 pub not_among : (places : List ℕ) (slot place : ℕ) → ¬ Contains (places ++ slot ∷ []) place → (¬ Contains places place) × (place ≢ slot)
 not_among places slot place out = (

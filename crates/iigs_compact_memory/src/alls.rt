@@ -65,6 +65,7 @@ pub fn plan_all(
     ensures refused { IfErr result (IsPlaceAllRefusal PurgesOrSlides plan.old.banks user plan.old.slots wants.now) }
     ensures banks { (plan.new.banks ≡ plan.old.banks) × (trial.new.banks ≡ plan.old.banks) }
 {
+    plan.know_arranged();
     for place in 0..wants.len() {
         if !plan_one(plan, trial, &wants[place], user) {
             return Err(PlaceFault::NoRoom(place as u32));

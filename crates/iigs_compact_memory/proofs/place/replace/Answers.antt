@@ -14,13 +14,13 @@ pub returns-in-Ok-clause-banks : goal.returns-in-Ok-clause-banks
 returns-in-Ok-clause-banks c = c.requires.banks ∙ sym c.in-Ok.ensures.replaced.kept.banks
 
 pub slide_and_replace-requires-clause-banks : goal.slide_and_replace-requires-clause-banks
-slide_and_replace-requires-clause-banks c = c.requires.banks ∙ ap (λ (m : Memory). m.banks) (sym c.in-NoRoom.ensures.err)
+slide_and_replace-requires-clause-banks c = c.requires.banks ∙ ap (λ (m : Memory). m.banks) (sym c.in-Err-NoRoom.ensures.err)
 
 pub slide_and_replace-requires-clause-settled : goal.slide_and_replace-requires-clause-settled
-slide_and_replace-requires-clause-settled c = same_settled c.args.banks.now c.replace.new.self c.in-NoRoom.ensures.err c.requires.settled
+slide_and_replace-requires-clause-settled c = same_settled c.args.banks.now c.replace.new.self c.in-Err-NoRoom.ensures.err c.requires.settled
 
 pub slide_and_replace-requires-clause-none : goal.slide_and_replace-requires-clause-none
-slide_and_replace-requires-clause-none c = rw c.in-NoRoom.ensures.err (none_at_all c.args.banks.now.banks c.args.banks.now.slots c.args.want.now c.in-NoRoom.ensures.refused.2)
+slide_and_replace-requires-clause-none c = rw c.in-Err-NoRoom.ensures.err (none_at_all c.args.banks.now.banks c.args.banks.now.slots c.args.want.now (rw c.in-Err-NoRoom.field-0-is at c.in-Err-NoRoom.ensures.refused).2)
 
 pub slide_and_replace-requires-clause-empty : goal.slide_and_replace-requires-clause-empty
-slide_and_replace-requires-clause-empty c = rw c.in-NoRoom.ensures.err c.in-NoRoom.ensures.refused.1
+slide_and_replace-requires-clause-empty c = rw c.in-Err-NoRoom.ensures.err (rw c.in-Err-NoRoom.field-0-is at c.in-Err-NoRoom.ensures.refused).1
