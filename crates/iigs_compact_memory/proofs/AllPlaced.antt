@@ -1,5 +1,5 @@
 -- Several blocks placed, all or none.
-use Rattle.std.proofs.Common.{◌≡◌, ℕ, true, false, Bool, ◌≤◌, List, [], ◌∷◌, map, All, length, Contains, count_by, refl, sym, ap, subst, ◌∙◌}
+use Rattle.std.proofs.Common.{◌≡◌, ℕ, suc, true, false, Bool, ◌≤◌, List, [], ◌∷◌, map, All, length, Contains, count_by, refl, sym, ap, subst, ◌∙◌}
 use Rattle.std.proofs.lemmas.List.Elements.{All-head, All-tail}
 use Rattle.iigs_meaning.specs.declared.handles.Handle.{Handle}
 use Rattle.iigs_meaning.specs.declared.wants.Want.{Want}
@@ -8,7 +8,8 @@ use Rattle.iigs_meaning.specs.Fits.{Slots, IsWant}
 use Rattle.iigs_meaning.specs.Puts.{MakesRoom, Purges, PutsAll, slots_for}
 use Rattle.iigs_meaning.specs.Memory.{Memory, KeepsBut, IsThere, AreAllPlaced}
 use Rattle.iigs_meaning.specs.Slide.{AreSettled, PurgesOrSlides}
-use Rattle.iigs_compact_memory.specs.Alls.{AreZeros, CanPutAll}
+use Rattle.iigs_places.specs.Arranged.{Arrangement}
+use Rattle.iigs_compact_memory.specs.Alls.{AreZeros}
 use Rattle.iigs_compact_memory.proofs.Settled.{settled_for, settled_puts}
 use Rattle.iigs_compact_memory.proofs.Making.{kept_twice}
 use Rattle.iigs_compact_memory.proofs.Several.{puts_all_at_once, zeros_get}
@@ -18,7 +19,7 @@ pub as_many : (Makes : MakesRoom) (banks : List ℕ) (user : ℕ) (slots last : 
 as_many Makes banks user slots last [] [] all = refl
 as_many Makes banks user slots last [] (h ∷ hs) all = absurd all
 as_many Makes banks user slots last (want ∷ wants) [] all = absurd all
-as_many Makes banks user slots last (want ∷ wants) (h ∷ hs) all = ap (λ (n : ℕ). 1 + n) (as_many Makes banks user all.0 last wants hs all.2)
+as_many Makes banks user slots last (want ∷ wants) (h ∷ hs) all = ap suc (as_many Makes banks user all.0 last wants hs all.2)
 
 -- the wants of blocks fit where they lie still
 settled_all : (banks : List ℕ) (user : ℕ) (slots last : Slots) (wants : List Want) (hs : List Handle) → All IsWant wants → AreSettled banks slots → PutsAll Purges banks user slots wants hs last → AreSettled banks last
@@ -45,13 +46,16 @@ module _ (old new : Memory) (user : ℕ) (fresh : Bool) (wants : List Want) (hs 
 
 -- ---- where a slide is needed
 
+-- a plan begins with the blocks as they lie
+module _ (old : Memory) (plan began : Arrangement) (user : ℕ) (fresh : Bool) (same : plan.banks ≡ old.banks) (starts : began ≡ record plan { slots = slots_for old.slots user fresh }) where
+  pub start_settled : AreSettled old.banks old.slots → AreSettled began.banks began.slots
+  start_settled settled = subst (λ (bs : List ℕ). AreSettled bs began.slots) (sym (ap (λ (a : Arrangement). a.banks) starts ∙ same))
+      (subst (AreSettled old.banks) (sym (ap (λ (a : Arrangement). a.slots) starts)) (settled_for old.banks old.slots user fresh settled))
+
 module _ (old began : Memory) (user : ℕ) (fresh : Bool) (wants : List Want) (slots : began.slots ≡ slots_for old.slots user fresh) (kept : KeepsBut old began []) where
   pub began_settled : AreSettled old.banks old.slots → AreSettled began.banks began.slots
   began_settled settled = subst (λ (bs : List ℕ). AreSettled bs began.slots) (sym kept.banks)
       (subst (AreSettled old.banks) (sym slots) (settled_for old.banks old.slots user fresh settled))
-
-  pub began_can : CanPutAll old.banks user (slots_for old.slots user fresh) wants → CanPutAll began.banks user began.slots wants
-  began_can can = subst (λ (bs : List ℕ). CanPutAll bs user began.slots wants) (sym kept.banks) (subst (λ (s : Slots). CanPutAll old.banks user s wants) (sym slots) can)
 
   pub all_after : (new : Memory) (hs : List Handle) → length wants ≤ count_by is_free (slots_for old.slots user fresh) → PutsAll PurgesOrSlides began.banks user began.slots wants hs new.slots
       → AreZeros new wants hs → KeepsBut began new (map (λ h. h.slot) hs)

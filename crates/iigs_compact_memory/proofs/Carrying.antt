@@ -11,7 +11,7 @@ use Rattle.iigs_meaning.specs.declared.wants.Block.{Block}
 use Rattle.iigs_meaning.specs.Slots.{slot_at, new_slot, used_value, get, with_value}
 use Rattle.iigs_meaning.specs.Fits.{Slots, Fits, block_in}
 use Rattle.iigs_meaning.specs.Blocks.{AreApart, address_in}
-use Rattle.iigs_meaning.specs.Moves.{without_block, Shifts}
+use Rattle.iigs_meaning.specs.Moves.{Shifts}
 use Rattle.iigs_meaning.specs.Slide.{can_move, is_moved, count_moved, mover, place_of, holding, moved_to, Slides, AreSettled}
 use Rattle.iigs_meaning.specs.laws.SlideLaws.{mover_in, lies, are_low, slides_moved, AreSlidTo, IsNext, fits_there, from_slide}
 use Rattle.iigs_places.specs.declared.table.Put.{Put}
@@ -79,26 +79,6 @@ module _ (banks : List ℕ) (slots plan : Slots) (h : Handle) (at : ℕ) (can : 
   looked_up block is to told =
       let same : block ≡ moved_to can.to can.block = same_Some block (moved_to can.to can.block) (is ∙ planned_block) in
       told ∙ ap (λ (b : Block). unwrap_or b.at at) same
-
-  -- why it isn't refused
-  pub no_stale : get slots h ≡ None → ⊥
-  no_stale none = let clash : Some can.block ≡ None = sym can.was ∙ none in cc
-
-  pub no_gone : None ≡ get plan h → ⊥
-  no_gone none = let clash : None ≡ Some (moved_to can.to can.block) = none ∙ planned_block in cc
-
-  pub no_empty : IsSomeAnd (get slots h) (λ block. block.at ≡ None) → ⊥
-  no_empty none = let no : can.block.at ≡ None = rw can.was at none in let clash : Some at ≡ None = sym can.there ∙ no in cc
-
-  module _ (ne : can.to ≢ at) where
-    pub no_locked : IsSomeAnd (get slots h) (λ block. IsSome block.at × (block.locked ≡ true)) → ⊥
-    no_locked locked = let both = rw can.was at locked in let clash : true ≡ false = sym both.1 ∙ (can.goes ne).0 in cc
-
-    pub no_higher : IsSomeAnd (get slots h) (λ block. (block.locked ≡ false) × IsSomeAnd block.at (λ a. a < can.to)) → ⊥
-    no_higher higher = let both = rw can.was at higher in let less = rw can.there at both.1 in omega (arith, less, (can.goes ne).1)
-
-    pub no_nofit : IsSomeAnd (get slots h) (λ block. (block.locked ≡ false) × IsSomeAnd block.at (λ a. can.to ≤ a) × ¬ Fits banks (without_block slots h block) block.want can.to) → ⊥
-    no_nofit nofit = let both = subst (λ (o : Option Block). IsSomeAnd o (λ block. (block.locked ≡ false) × IsSomeAnd block.at (λ a. can.to ≤ a) × ¬ Fits banks (without_block slots h block) block.want can.to)) can.was nofit in both.2 (can.goes ne).2
 
 isnt_locked : (block : Block) → can_move block ≡ true → block.locked ≡ false
 unfolding can_move

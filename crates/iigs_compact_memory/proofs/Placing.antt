@@ -1,5 +1,5 @@
 -- Placements in room that purges alone make, and in room that purges and a slide make.
-use Rattle.std.proofs.Common.{◌≡◌, ℕ, Bool, List, [], ◌∷◌, Option, Some, None, IsSome, IsSomeAnd, sym, subst, ◌∙◌}
+use Rattle.std.proofs.Common.{◌≡◌, ℕ, Bool, List, [], ◌∷◌, Option, Some, None, IsSome, IsSomeAnd, Result, Ok, Err, IfOk, OnErr, sym, ap, subst, ◌∙◌}
 use Rattle.iigs_meaning.specs.declared.handles.Handle.{Handle}
 use Rattle.iigs_meaning.specs.declared.wants.Want.{Want}
 use Rattle.iigs_meaning.specs.declared.wants.Block.{Block}
@@ -92,6 +92,17 @@ module _ (old new : Memory) (want : Want) where
   pub replaced_settled : (h : Handle) → IsWant want → AreSettled old.banks old.slots → IsReplaced Purges old h want new → AreSettled new.banks new.slots
   replaced_settled h is_want settled did = subst (λ (bs : List ℕ). AreSettled bs new.slots) (sym did.kept.banks)
       (settled_anew old.banks old.slots new.slots want h is_want settled did.puts)
+
+-- the banks stay, whether a block is placed or not
+pub placed_banks : {E : Type 0} (old new : Memory) (want : Want) (user : ℕ) (locked : Bool) (level : ℕ) (movable : Bool) (banks : List ℕ) → banks ≡ old.banks
+    → (r : Result Handle E) → IfOk r (λ h. IsPlaced PurgesOrSlides old want user locked level movable h new) → OnErr r (new ≡ old) → banks ≡ new.banks
+placed_banks old new want user locked level movable banks same (Ok h) did err = same ∙ sym did.kept.banks
+placed_banks old new want user locked level movable banks same (Err e) did err = same ∙ ap (λ (m : Memory). m.banks) (sym err)
+
+pub replaced_banks : {E : Type 0} (old new : Memory) (want : Want) (h : Handle) (banks : List ℕ) → banks ≡ old.banks → {A : Type 0} (r : Result A E) → IfOk r (λ _. IsReplaced PurgesOrSlides old h want new) → OnErr r (new ≡ old)
+    → banks ≡ new.banks
+replaced_banks old new want h banks same (Ok a) did err = same ∙ sym did.kept.banks
+replaced_banks old new want h banks same (Err e) did err = same ∙ ap (λ (m : Memory). m.banks) (sym err)
 
 -- where nothing is changed neither are they
 pub same_settled : (old new : Memory) → new ≡ old → AreSettled old.banks old.slots → AreSettled new.banks new.slots

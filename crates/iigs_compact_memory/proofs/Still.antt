@@ -2,7 +2,6 @@
 use Rattle.std.proofs.Common.{◌≡◌, ◌≢◌, inl, inr, ℕ, suc, Bool, true, false, cond, not, ◌&&◌, ◌<◌, ◌≤◌, nat_lt, List, map, length, All, Option, Some, None, IsSome, IsSomeAnd, is_some, refl, sym, ap, subst, ◌∙◌, arith}
 use Rattle.std.specs.Prelude.{slice_set, if◌then◌else◌}
 use Rattle.std.specs.Option.{option_map_or}
-use Rattle.std.proofs.lemmas.Option.{same_Some}
 use Rattle.std.proofs.lemmas.Bool.{cases_eq, cases_lt}
 use Rattle.std.proofs.lemmas.Bool.Decides.{nat_tests}
 use Rattle.std.proofs.lemmas.List.{get_or-set_same, get_or-set_other, get_or_past}
@@ -17,7 +16,7 @@ use Rattle.iigs_meaning.specs.Fits.{Slots, Fits, HoldsByte, IsApart, block_in}
 use Rattle.iigs_meaning.specs.Placement.{can_purge, emptied_where, emptied, is_gone, rank}
 use Rattle.iigs_meaning.specs.Blocks.{address_in, can_purge_of}
 use Rattle.iigs_meaning.specs.Moves.{lies_below}
-use Rattle.iigs_meaning.specs.Slide.{can_move, mover, holding, Slides}
+use Rattle.iigs_meaning.specs.Slide.{can_move, mover, holding}
 use Rattle.iigs_meaning.specs.laws.SlideLaws.{all_at}
 use Rattle.iigs_places.specs.declared.table.Put.{Put}
 use Rattle.iigs_places.specs.Arranged.{Arrangement, IsArranged}
@@ -227,7 +226,7 @@ same_fewer : (slots : Slots) (count fewer place address : ℕ) → fewer ≤ cou
 unfolding emptied is_gone
 same_fewer slots count fewer place address le holds =
     slot_at-map (emptied_where (is_gone slots fewer)) slots place refl ∙ go (slot_at slots place).generation (slot_at slots place).content
-        (subst (HoldsByte address) (slot_at-map (emptied_where (is_gone slots count)) slots place refl) holds) ∙ sym (slot_at-map (emptied_where (is_gone slots count)) slots place refl)
+    (subst (HoldsByte address) (slot_at-map (emptied_where (is_gone slots count)) slots place refl) holds) ∙ sym (slot_at-map (emptied_where (is_gone slots count)) slots place refl)
   where
     less : (a : Bool) (n : ℕ) → (a && nat_lt n count) ≡ false → (a && nat_lt n fewer) ≡ false
     less false n e = refl

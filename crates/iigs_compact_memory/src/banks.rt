@@ -220,7 +220,7 @@ impl CompactBanks {
         ensures refused { IfErr result (IsPlaceRefusal PurgesOrSlides self.old.banks self.old.slots want.now) }
         ensures err { OnErr result (self.new ≡ self.old) }
     {
-        match place(
+        place(
             &mut self.banks,
             &mut self.trial,
             want,
@@ -228,10 +228,7 @@ impl CompactBanks {
             locked,
             level,
             movable,
-        ) {
-            Ok(h) => Ok(h),
-            Err(fault) => Err(fault),
-        }
+        )
     }
 
     /// Places an empty block anew under its handle, with room made as for `place`. It is all zeros, keeps its user, level and
@@ -242,10 +239,7 @@ impl CompactBanks {
         ensures refused { IfErr result (IsReplaceRefusal PurgesOrSlides self.old.banks self.old.slots h want.now) }
         ensures err { OnErr result (self.new ≡ self.old) }
     {
-        match replace(&mut self.banks, &mut self.trial, h, want) {
-            Ok(()) => Ok(()),
-            Err(fault) => Err(fault),
-        }
+        replace(&mut self.banks, &mut self.trial, h, want)
     }
 
     // Places blocks for wants in order, all or none, of which one needs a slide.

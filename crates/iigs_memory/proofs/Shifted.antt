@@ -1,9 +1,8 @@
 -- A block that is moved with its bytes, and blocks that are emptied.
-use Rattle.std.proofs.Common.{◌≡◌, ◌≢◌, ◌⊎◌, inl, inr, ℕ, zero, suc, ◌+◌, ◌-◌, ◌<◌, ◌≤◌, List, [], ◌∷◌, ◌++◌, take, drop, Contains, length, get_or, slice_index, length-append, length-drop, Some, None, arith, refl, sym, ap, subst, ◌∙◌}
+use Rattle.std.proofs.Common.{◌≡◌, ◌≢◌, ◌⊎◌, inl, inr, ℕ, zero, suc, ◌+◌, ◌<◌, ◌≤◌, List, [], ◌∷◌, ◌++◌, take, drop, Contains, length, get_or, Some, None, arith, refl, sym, ap, subst, ◌∙◌}
 use Rattle.std.proofs.lemmas.Option.{same_Some}
-use Rattle.std.proofs.lemmas.Bool.{cases_lt, cases_eq}
-use Rattle.std.proofs.lemmas.List.{drop-drop, same_lists, length-take}
-use Rattle.std.proofs.lemmas.Grind.{get_or_default_zero}
+use Rattle.std.proofs.lemmas.Bool.{cases_eq}
+use Rattle.std.proofs.lemmas.List.{drop-drop}
 use Rattle.iigs_meaning.specs.declared.handles.Handle.{Handle}
 use Rattle.iigs_meaning.specs.declared.slots.Slot.{Slot}
 use Rattle.iigs_meaning.specs.declared.wants.Block.{Block}
@@ -17,7 +16,7 @@ use Rattle.iigs_places.specs.Arranged.{IsArranged}
 use Rattle.iigs_places.proofs.Changed.{live_block}
 use Rattle.iigs_places.proofs.Moved.{moved_others, moved_extent, arranged_moved}
 use Rattle.iigs_memory.specs.Store.{memory_of, IsStore}
-use Rattle.iigs_memory.proofs.Parts.{part, overlay, length-part, length-overlay, get-part, get-before, get-within, get-after}
+use Rattle.iigs_memory.proofs.Parts.{part, overlay, length-part, length-overlay}
 use Rattle.iigs_memory.proofs.Buffer.{in_buffer}
 use Rattle.iigs_memory.proofs.Keeps.{part_bytes}
 use Rattle.iigs_memory.proofs.Stores.{bytes_placed, keeps_placed}
@@ -28,38 +27,6 @@ pub copied_overlay : (from size start : ℕ) (xs : List ℕ) → from + size ≤
 copied_overlay from size start xs within =
     let n : length (part from size xs) ≡ size = length-part from size xs within in
     rw n (ap (λ (l : List ℕ). take start xs ++ (part from size xs ++ l)) (sym (drop-drop size start xs)))
-
--- zeros copied over zeros are zeros
-zero_at : (xs : List ℕ) → ((i : ℕ) → slice_index xs i ≡ 0) → (k d : ℕ) → k < length xs → get_or xs k d ≡ 0
-zero_at xs zeros k d less = get_or_default_zero xs k d less ∙ zeros k
-
-pub copied_zeros : (from size start : ℕ) (xs : List ℕ) → from + size ≤ length xs → start + size ≤ length xs → ((i : ℕ) → slice_index xs i ≡ 0) → xs ≡ overlay start (part from size xs) xs
-copied_zeros from size start xs within within' zeros = same_lists xs (overlay start (part from size xs) xs) same_length each
-  where
-    n : length (part from size xs) ≡ size
-    n = length-part from size xs within
-
-    same_length : length xs ≡ length (overlay start (part from size xs) xs)
-    same_length = omega (
-      arith,
-      n,
-      within',
-      length-append (take start xs) (part from size xs ++ drop (length (part from size xs)) (drop start xs)),
-      length-append (part from size xs) (drop (length (part from size xs)) (drop start xs)),
-      length-take start xs,
-      length-drop (length (part from size xs)) (drop start xs),
-      length-drop start xs,
-    )
-
-    each : (k d : ℕ) → k < length xs → get_or xs k d ≡ get_or (overlay start (part from size xs) xs) k d
-    each k d less = zero_at xs zeros k d less ∙ sym (elim (cases_lt k start) [
-      | inl before ↦ get-before start (part from size xs) xs k d (omega (arith, within')) before ∙ zero_at xs zeros k d less
-      | inr behind ↦ elim (cases_lt k (start + size)) [
-        | inl inside ↦ get-within start (part from size xs) xs k d (omega (arith, within')) behind (omega (arith, inside, n)) ∙ get-part from size xs (k - start) d (omega (arith, inside, behind))
-            ∙ zero_at xs zeros (from + (k - start)) d (omega (arith, inside, behind, within))
-        | inr after ↦ get-after start (part from size xs) xs k d (omega (arith, within')) (omega (arith, after, n)) ∙ zero_at xs zeros k d less
-      ]
-    ])
 
 -- what a shift makes of the slots, said of the block that is known
 pub shift_facts : (banks : List ℕ) (old next : List (Slot Block)) (h : Handle) (to : ℕ) → Shifts banks old h to next → (block : Block) → get old h ≡ Some block

@@ -48,9 +48,6 @@ block_extent slot block at is lies' = ap (option_and_then extent_of) is ∙ ther
 mover_extent : (slot : Slot Block) (block : Block) → mover slot ≡ Some block → extent slot ≡ Some (place_of block, block.want.size)
 mover_extent slot block m = block_extent slot block (place_of block) (mover_in slot block m).0 (lies slot block m)
 
-moved_extent : (slot : Slot Block) (block : Block) (to : ℕ) → extent (holding slot (moved_to to block)) ≡ Some (to, block.want.size)
-moved_extent slot block to = refl
-
 same_extent : (e f : ℕ × ℕ) → Some e ≡ Some f → e ≡ f
 same_extent e f is = cc
 

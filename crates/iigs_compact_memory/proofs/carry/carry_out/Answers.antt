@@ -14,8 +14,10 @@ loop-first-init c = record {
 }
 
 pub carry-moved-requires : goal.carry-moved-requires
-carry-moved-requires c = record { can = rw c.loop-first.invariant.kept.banks (can_carry c.args.banks.now.banks c.args.banks.now.slots c.args.plan.now.slots c.loop-first.banks.slots c.requires.apart c.requires.settled c.requires.planned
-    c.loop-first.limit c.loop-first.invariant.carried c.in-Some.first (rw c.places.ensures at c.in-Some.ensures.found)) }
+carry-moved-requires c = record {
+  can = rw c.loop-first.invariant.kept.banks (can_carry c.args.banks.now.banks c.args.banks.now.slots c.args.plan.now.slots c.loop-first.banks.slots c.requires.apart c.requires.settled c.requires.planned
+      c.loop-first.limit c.loop-first.invariant.carried c.in-Some.first (rw c.places.ensures at c.in-Some.ensures.found));
+}
 
 pub loop-first-preserved : goal.loop-first-preserved
 loop-first-preserved c =

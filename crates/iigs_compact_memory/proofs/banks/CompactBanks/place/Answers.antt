@@ -1,25 +1,10 @@
-use Rattle.std.proofs.Common.{◌∙◌, ap, sym}
-use Rattle.iigs_meaning.specs.Memory.{Memory}
+use Rattle.iigs_compact_memory.proofs.Placing.{placed_banks}
 use Rattle.iigs_compact_memory.proofs.banks.CompactBanks.place.Goals as goal
 
 pub invariant_of-self : goal.invariant_of-self
 invariant_of-self c = (
-  c.in-Ok.ensures.settled,
-  c.self.invariant.1 ∙ sym c.in-Ok.ensures.placed.kept.banks,
-  c.in-Ok.ensures.banks,
+  c.place.ensures.settled,
+  placed_banks c.self.inside.banks c.place.new.banks c.args.want.now c.args.user c.args.locked c.args.level c.args.movable c.self.inside.plan.banks c.self.invariant.1 c.place.result c.place.ensures.placed c.place.ensures.err,
+  c.place.ensures.banks,
   c.self.invariant.3,
 )
-
-pub invariant_of-self-2 : goal.invariant_of-self-2
-invariant_of-self-2 c = (
-  c.in-Err.ensures.settled,
-  c.self.invariant.1 ∙ ap (λ (m : Memory). m.banks) (sym c.in-Err.ensures.err),
-  c.in-Err.ensures.banks,
-  c.self.invariant.3,
-)
-
-pub returns-in-Ok-clause-placed : goal.returns-in-Ok-clause-placed
-returns-in-Ok-clause-placed c = rw (← c.self.view_is) c.in-Ok.ensures.placed
-
-pub returns-in-Err-clause-refused : goal.returns-in-Err-clause-refused
-returns-in-Err-clause-refused c = rw (← c.self.view_is) c.in-Err.ensures.refused
