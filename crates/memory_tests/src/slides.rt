@@ -1,5 +1,5 @@
 // Movable blocks that are slid down, at a command and for a placement.
-ghost use Rattle.std.specs.Prelude.{IsTrue};
+ghost use Rattle.std.specs.Prelude.{◌<◌, IsTrue};
 ghost use Rattle.iigs_meaning.specs.Fits.{IsWant};
 ghost use Rattle.iigs_meaning.specs.Slide.{AsksNoPlace};
 
@@ -17,6 +17,8 @@ enum Step {
     Lock(Handle),
     Unlock(Handle),
     Replace(Handle, u32, Result<(), PlaceFault>),
+    /// Two blocks of so many bytes are placed, or none.
+    Both(u32, u32, Result<(Handle, Handle), PlaceFault>),
     /// So many blocks are moved.
     Compact(u32),
     At(Handle, Result<Option<u32>, BlockFault>),
@@ -33,7 +35,15 @@ const fn slot(slot: u16) -> Handle {
     }
 }
 
-const fn of(size: u32) -> Want {
+/// The first slot's second handle.
+const AGAIN: Handle = Handle {
+    slot: 0,
+    generation: 1,
+};
+
+const fn of(size: u32) -> Want
+    ensures { 0 < size → IsWant result }
+{
     Want {
         size,
         align: 1,
@@ -84,6 +94,32 @@ fn replace(banks: &mut CompactBanks, h: Handle, size: u32) -> Option<Result<(), 
     Some(banks.replace(h, &want))
 }
 
+fn place_all(
+    banks: &mut CompactBanks,
+    first: u32,
+    second: u32,
+    handles: &mut [Handle; 2],
+) -> Option<Result<(), PlaceFault>> {
+    if first == 0 || second == 0 {
+        return None;
+    }
+    let wants = [of(first), of(second)];
+    Some(banks.place_all(7, false, &wants, handles))
+}
+
+fn both(
+    banks: &mut CompactBanks,
+    first: u32,
+    second: u32,
+) -> Option<Result<(Handle, Handle), PlaceFault>> {
+    let mut handles = [AGAIN; 2];
+    match place_all(banks, first, second, &mut handles) {
+        Some(Ok(())) => Some(Ok((handles[0], handles[1]))),
+        Some(Err(fault)) => Some(Err(fault)),
+        None => None,
+    }
+}
+
 fn at(banks: &CompactBanks, h: Handle) -> Result<Option<u32>, BlockFault> {
     Ok(banks.state(h)?.at)
 }
@@ -115,6 +151,7 @@ fn change(rt: &impl Abort, banks: &mut CompactBanks, n: usize, step: &Step) {
         Step::Lock(h) => same(rt, n, banks.lock(*h), Ok(())),
         Step::Unlock(h) => same(rt, n, banks.unlock(*h), Ok(())),
         Step::Replace(h, size, is) => same(rt, n, replace(banks, *h, *size), Some(*is)),
+        Step::Both(first, second, is) => same(rt, n, both(banks, *first, *second), Some(*is)),
         Step::Compact(is) => same(rt, n, banks.compact(), *is),
         Step::At(h, is) => same(rt, n, at(banks, *h), *is),
         Step::Write(h, first, last) => write(banks, *h, *first, *last),
@@ -130,26 +167,21 @@ fn run(rt: &(impl Alloc<A = Global> + Abort), numbers: &[u8], steps: &[Step]) ->
     Ok(())
 }
 
-static SLID: [Step; 8] = [
+static SLID: [Step; 11] = [
     Step::Put(of(0x10), 0, true, Ok(slot(0))),
     Step::Put(of(0x20), 0, true, Ok(slot(1))),
     Step::Write(slot(1), 0x12, 0x34),
     Step::Free(slot(0)),
-    Step::Put(
-        of(0xFFE0),
-        0,
-        true,
-        Ok(Handle {
-            slot: 0,
-            generation: 1,
-        }),
-    ),
+    Step::Put(of(0xFFE0), 0, true, Ok(AGAIN)),
     Step::At(slot(1), Ok(Some(0x02_0000))),
     Step::Ends(slot(1), Some((0x12, 0x34))),
     Step::Compact(0),
+    Step::Free(slot(1)),
+    Step::Compact(1),
+    Step::At(AGAIN, Ok(Some(0x02_0000))),
 ];
 
-// A placement slides a block down where it finds no room otherwise.
+// A placement slides a block down where it finds no room otherwise, and what is placed then is movable where that was asked for.
 #[test]
 fn a_placement_slides(rt: HostRuntime) -> Result<(), Fail> {
     run(&rt, &[2], &SLID)
@@ -162,15 +194,7 @@ static FIXED: [Step; 7] = [
     Step::Put(of(0xFFE0), 0, true, Err(PlaceFault::NoRoom(0))),
     Step::Compact(0),
     Step::At(slot(1), Ok(Some(0x02_0010))),
-    Step::Put(
-        of(0x10),
-        0,
-        true,
-        Ok(Handle {
-            slot: 0,
-            generation: 1,
-        }),
-    ),
+    Step::Put(of(0x10), 0, true, Ok(AGAIN)),
 ];
 
 // A block that isn't movable stays, and a refused placement changes nothing.
@@ -252,4 +276,72 @@ static ONE_PURGE: [Step; 8] = [
 #[test]
 fn the_fewest_purges_are_found(rt: HostRuntime) -> Result<(), Fail> {
     run(&rt, &[2], &ONE_PURGE)
+}
+
+static PURGED_AND_SLID: [Step; 7] = [
+    Step::Put(of(0x8000), 1, false, Ok(slot(0))),
+    Step::Put(of(0x10), 0, true, Ok(slot(1))),
+    Step::Write(slot(1), 0x12, 0x34),
+    Step::Put(of(0xFFF0), 0, false, Ok(slot(2))),
+    Step::At(slot(0), Ok(None)),
+    Step::At(slot(2), Ok(Some(0x02_0010))),
+    Step::Ends(slot(1), Some((0x12, 0x34))),
+];
+
+// Where the want doesn't fit beside a block that stays, that is purged, and another slides to its place.
+#[test]
+fn a_purge_and_a_slide_make_room(rt: HostRuntime) -> Result<(), Fail> {
+    run(&rt, &[2], &PURGED_AND_SLID)
+}
+
+static REFUSED: [Step; 5] = [
+    Step::Put(of(0x8000), 1, false, Ok(slot(0))),
+    Step::Put(of(0x10), 0, false, Ok(slot(1))),
+    Step::Put(of(0xFFF8), 0, true, Err(PlaceFault::NoRoom(0))),
+    Step::At(slot(0), Ok(Some(0x02_0000))),
+    Step::At(slot(1), Ok(Some(0x02_8000))),
+];
+
+// Where the want fits nowhere, whatever is purged and slid down, nothing is.
+#[test]
+fn a_refused_placement_purges_nothing(rt: HostRuntime) -> Result<(), Fail> {
+    run(&rt, &[2], &REFUSED)
+}
+
+static REPLACED: [Step; 9] = [
+    Step::Put(of(0x10), 0, true, Ok(slot(0))),
+    Step::Put(of(0x10), 1, true, Ok(slot(1))),
+    Step::Put(of(0xFFE8), 0, false, Ok(slot(2))),
+    Step::At(slot(1), Ok(None)),
+    Step::Free(slot(2)),
+    Step::Replace(slot(1), 0x10, Ok(())),
+    Step::Free(slot(0)),
+    Step::Compact(0),
+    Step::At(slot(1), Ok(Some(0x02_0010))),
+];
+
+// A block that was purged and is placed anew isn't movable any more.
+#[test]
+fn a_block_placed_anew_stays(rt: HostRuntime) -> Result<(), Fail> {
+    run(&rt, &[2], &REPLACED)
+}
+
+static SEVERAL: [Step; 11] = [
+    Step::Put(of(0x10), 0, true, Ok(slot(0))),
+    Step::Put(of(0x20), 0, true, Ok(slot(1))),
+    Step::Write(slot(1), 0x12, 0x34),
+    Step::Free(slot(0)),
+    Step::Both(8, 0xFFE0, Err(PlaceFault::NoRoom(1))),
+    Step::At(slot(1), Ok(Some(0x02_0010))),
+    Step::Both(0xFFD8, 8, Ok((AGAIN, slot(2)))),
+    Step::At(slot(1), Ok(Some(0x02_0000))),
+    Step::Ends(slot(1), Some((0x12, 0x34))),
+    Step::At(AGAIN, Ok(Some(0x02_0020))),
+    Step::At(slot(2), Ok(Some(0x02_FFF8))),
+];
+
+// Several blocks are placed with a slide, or none, and nothing is slid then.
+#[test]
+fn several_are_placed_with_a_slide(rt: HostRuntime) -> Result<(), Fail> {
+    run(&rt, &[2], &SEVERAL)
 }
