@@ -6,6 +6,8 @@ mod asserting;
 #[cfg(test)]
 mod blocks;
 #[cfg(test)]
+mod handles;
+#[cfg(test)]
 mod moves;
 #[cfg(test)]
 mod slides;

@@ -3,6 +3,7 @@ ghost use Rattle.std.specs.Prelude.{◌<◌};
 ghost use Rattle.iigs_meaning.specs.Fits.{IsWant};
 
 use crate::asserting::same;
+use crate::handles::{SLOT_0, SLOT_0_1, SLOT_1, SLOT_2};
 use iigs_memory::{Banks, BlockFault, EmptyFault, Handle, PlaceFault, ShiftFault, Want};
 use std::alloc::Global;
 use std::process::Abort;
@@ -24,13 +25,6 @@ enum Step {
     Write(Handle, u8, u8),
     /// They are these.
     Ends(Handle, Option<(u8, u8)>),
-}
-
-const fn slot(slot: u16) -> Handle {
-    Handle {
-        slot,
-        generation: 0,
-    }
 }
 
 fn any(size: u32) -> Want
@@ -122,17 +116,17 @@ fn run(rt: &(impl Alloc<A = Global> + Abort), numbers: &[u8], steps: &[Step]) ->
 static IN_ORDER: [Step; 14] = [
     Step::Count(0),
     Step::Nth(0, None),
-    Step::Put(0x10, 1, false, Ok(slot(0))),
-    Step::Put(0x20, 0, false, Ok(slot(1))),
-    Step::Put(0x30, 2, false, Ok(slot(2))),
+    Step::Put(0x10, 1, false, Ok(SLOT_0)),
+    Step::Put(0x20, 0, false, Ok(SLOT_1)),
+    Step::Put(0x30, 2, false, Ok(SLOT_2)),
     Step::Count(3),
-    Step::Empty(slot(1), Err(EmptyFault::NotPurgeable)),
-    Step::Empty(slot(0), Ok(())),
-    Step::Empty(slot(0), Err(EmptyFault::Empty)),
-    Step::Kept(slot(0), Ok(0x10)),
+    Step::Empty(SLOT_1, Err(EmptyFault::NotPurgeable)),
+    Step::Empty(SLOT_0, Ok(())),
+    Step::Empty(SLOT_0, Err(EmptyFault::Empty)),
+    Step::Kept(SLOT_0, Ok(0x10)),
     Step::Count(2),
-    Step::Nth(0, Some(slot(1))),
-    Step::Nth(1, Some(slot(2))),
+    Step::Nth(0, Some(SLOT_1)),
+    Step::Nth(1, Some(SLOT_2)),
     Step::Nth(2, None),
 ];
 
@@ -143,49 +137,28 @@ fn blocks_in_order(rt: HostRuntime) -> Result<(), Fail> {
 }
 
 static SHIFTED: [Step; 22] = [
-    Step::Put(1, 0, false, Ok(slot(0))),
-    Step::Put(0xFFFE, 0, false, Ok(slot(1))),
-    Step::Put(1, 0, true, Ok(slot(2))),
-    Step::Write(slot(1), 0x12, 0x34),
-    Step::Write(slot(2), 0x56, 0x56),
-    Step::Shift(slot(1), 0x02_0000, Err(ShiftFault::NoFit)),
-    Step::Shift(slot(1), 0x02_0002, Err(ShiftFault::Higher)),
-    Step::Shift(slot(2), 0x02_0000, Err(ShiftFault::Locked)),
-    Step::Free(slot(0), Ok(())),
-    Step::Shift(slot(0), 0x02_0000, Err(ShiftFault::Stale)),
-    Step::Kept(slot(0), Err(BlockFault::Stale)),
-    Step::Empty(slot(0), Err(EmptyFault::Stale)),
-    Step::Shift(slot(1), 0x02_0000, Ok(())),
-    Step::At(slot(1), Ok(Some(0x02_0000))),
-    Step::Ends(slot(1), Some((0x12, 0x34))),
-    Step::Ends(slot(2), Some((0x56, 0x56))),
-    Step::Shift(slot(1), 0x02_0000, Ok(())),
-    Step::Shift(slot(1), 0x01_FFFF, Err(ShiftFault::NoFit)),
-    Step::Nth(0, Some(slot(1))),
-    Step::Put(
-        1,
-        1,
-        false,
-        Ok(Handle {
-            slot: 0,
-            generation: 1,
-        }),
-    ),
-    Step::Empty(
-        Handle {
-            slot: 0,
-            generation: 1,
-        },
-        Ok(()),
-    ),
-    Step::Shift(
-        Handle {
-            slot: 0,
-            generation: 1,
-        },
-        0x02_0000,
-        Err(ShiftFault::Empty),
-    ),
+    Step::Put(1, 0, false, Ok(SLOT_0)),
+    Step::Put(0xFFFE, 0, false, Ok(SLOT_1)),
+    Step::Put(1, 0, true, Ok(SLOT_2)),
+    Step::Write(SLOT_1, 0x12, 0x34),
+    Step::Write(SLOT_2, 0x56, 0x56),
+    Step::Shift(SLOT_1, 0x02_0000, Err(ShiftFault::NoFit)),
+    Step::Shift(SLOT_1, 0x02_0002, Err(ShiftFault::Higher)),
+    Step::Shift(SLOT_2, 0x02_0000, Err(ShiftFault::Locked)),
+    Step::Free(SLOT_0, Ok(())),
+    Step::Shift(SLOT_0, 0x02_0000, Err(ShiftFault::Stale)),
+    Step::Kept(SLOT_0, Err(BlockFault::Stale)),
+    Step::Empty(SLOT_0, Err(EmptyFault::Stale)),
+    Step::Shift(SLOT_1, 0x02_0000, Ok(())),
+    Step::At(SLOT_1, Ok(Some(0x02_0000))),
+    Step::Ends(SLOT_1, Some((0x12, 0x34))),
+    Step::Ends(SLOT_2, Some((0x56, 0x56))),
+    Step::Shift(SLOT_1, 0x02_0000, Ok(())),
+    Step::Shift(SLOT_1, 0x01_FFFF, Err(ShiftFault::NoFit)),
+    Step::Nth(0, Some(SLOT_1)),
+    Step::Put(1, 1, false, Ok(SLOT_0_1)),
+    Step::Empty(SLOT_0_1, Ok(())),
+    Step::Shift(SLOT_0_1, 0x02_0000, Err(ShiftFault::Empty)),
 ];
 
 // A block of nearly a bank is moved by one byte, and none of its bytes is lost.

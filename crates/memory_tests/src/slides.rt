@@ -4,6 +4,7 @@ ghost use Rattle.iigs_meaning.specs.Fits.{IsWant};
 ghost use Rattle.iigs_meaning.specs.Slide.{AsksNoPlace};
 
 use crate::asserting::same;
+use crate::handles::{SLOT_0, SLOT_0_1, SLOT_1, SLOT_2, SLOT_3, SLOT_4};
 use iigs_compact_memory::{BlockFault, CompactBanks, Handle, PlaceFault, Want};
 use std::alloc::Global;
 use std::process::Abort;
@@ -11,8 +12,10 @@ use std::test::Fail;
 
 /// A call, and what is answered.
 enum Step {
-    /// A block is placed, at a level, movable or not.
-    Put(Want, u8, bool, Result<Handle, PlaceFault>),
+    /// A block of so many bytes is placed, at a level, movable or not.
+    Put(u32, u8, bool, Result<Handle, PlaceFault>),
+    /// So is one for a want.
+    Ask(Want, u8, bool, Result<Handle, PlaceFault>),
     Free(Handle),
     Lock(Handle),
     Unlock(Handle),
@@ -28,20 +31,7 @@ enum Step {
     Ends(Handle, Option<(u8, u8)>),
 }
 
-const fn slot(slot: u16) -> Handle {
-    Handle {
-        slot,
-        generation: 0,
-    }
-}
-
-/// The first slot's second handle.
-const AGAIN: Handle = Handle {
-    slot: 0,
-    generation: 1,
-};
-
-const fn of(size: u32) -> Want
+fn of(size: u32) -> Want
     ensures { 0 < size → IsWant result }
 {
     Want {
@@ -112,7 +102,7 @@ fn both(
     first: u32,
     second: u32,
 ) -> Option<Result<(Handle, Handle), PlaceFault>> {
-    let mut handles = [AGAIN; 2];
+    let mut handles = [SLOT_0_1; 2];
     match place_all(banks, first, second, &mut handles) {
         Some(Ok(())) => Some(Ok((handles[0], handles[1]))),
         Some(Err(fault)) => Some(Err(fault)),
@@ -144,7 +134,10 @@ fn ends(banks: &CompactBanks, h: Handle) -> Option<(u8, u8)> {
 
 fn change(rt: &impl Abort, banks: &mut CompactBanks, n: usize, step: &Step) {
     match step {
-        Step::Put(want, level, movable, is) => {
+        Step::Put(size, level, movable, is) => {
+            same(rt, n, put(banks, &of(*size), *level, *movable), Some(*is))
+        }
+        Step::Ask(want, level, movable, is) => {
             same(rt, n, put(banks, want, *level, *movable), Some(*is))
         }
         Step::Free(h) => same(rt, n, banks.free(*h), Ok(())),
@@ -168,17 +161,17 @@ fn run(rt: &(impl Alloc<A = Global> + Abort), numbers: &[u8], steps: &[Step]) ->
 }
 
 static SLID: [Step; 11] = [
-    Step::Put(of(0x10), 0, true, Ok(slot(0))),
-    Step::Put(of(0x20), 0, true, Ok(slot(1))),
-    Step::Write(slot(1), 0x12, 0x34),
-    Step::Free(slot(0)),
-    Step::Put(of(0xFFE0), 0, true, Ok(AGAIN)),
-    Step::At(slot(1), Ok(Some(0x02_0000))),
-    Step::Ends(slot(1), Some((0x12, 0x34))),
+    Step::Put(0x10, 0, true, Ok(SLOT_0)),
+    Step::Put(0x20, 0, true, Ok(SLOT_1)),
+    Step::Write(SLOT_1, 0x12, 0x34),
+    Step::Free(SLOT_0),
+    Step::Put(0xFFE0, 0, true, Ok(SLOT_0_1)),
+    Step::At(SLOT_1, Ok(Some(0x02_0000))),
+    Step::Ends(SLOT_1, Some((0x12, 0x34))),
     Step::Compact(0),
-    Step::Free(slot(1)),
+    Step::Free(SLOT_1),
     Step::Compact(1),
-    Step::At(AGAIN, Ok(Some(0x02_0000))),
+    Step::At(SLOT_0_1, Ok(Some(0x02_0000))),
 ];
 
 // A placement slides a block down where it finds no room otherwise, and what is placed then is movable where that was asked for.
@@ -188,13 +181,13 @@ fn a_placement_slides(rt: HostRuntime) -> Result<(), Fail> {
 }
 
 static FIXED: [Step; 7] = [
-    Step::Put(of(0x10), 0, true, Ok(slot(0))),
-    Step::Put(of(0x20), 0, false, Ok(slot(1))),
-    Step::Free(slot(0)),
-    Step::Put(of(0xFFE0), 0, true, Err(PlaceFault::NoRoom(0))),
+    Step::Put(0x10, 0, true, Ok(SLOT_0)),
+    Step::Put(0x20, 0, false, Ok(SLOT_1)),
+    Step::Free(SLOT_0),
+    Step::Put(0xFFE0, 0, true, Err(PlaceFault::NoRoom(0))),
     Step::Compact(0),
-    Step::At(slot(1), Ok(Some(0x02_0010))),
-    Step::Put(of(0x10), 0, true, Ok(AGAIN)),
+    Step::At(SLOT_1, Ok(Some(0x02_0010))),
+    Step::Put(0x10, 0, true, Ok(SLOT_0_1)),
 ];
 
 // A block that isn't movable stays, and a refused placement changes nothing.
@@ -204,18 +197,18 @@ fn a_fixed_block_stays(rt: HostRuntime) -> Result<(), Fail> {
 }
 
 static LOCKED: [Step; 12] = [
-    Step::Put(of(1), 0, true, Ok(slot(0))),
-    Step::Put(of(0xFFFF), 1, true, Ok(slot(1))),
-    Step::Write(slot(1), 0x12, 0x34),
-    Step::Free(slot(0)),
-    Step::Lock(slot(1)),
+    Step::Put(1, 0, true, Ok(SLOT_0)),
+    Step::Put(0xFFFF, 1, true, Ok(SLOT_1)),
+    Step::Write(SLOT_1, 0x12, 0x34),
+    Step::Free(SLOT_0),
+    Step::Lock(SLOT_1),
     Step::Compact(0),
-    Step::Unlock(slot(1)),
+    Step::Unlock(SLOT_1),
     Step::Compact(1),
-    Step::At(slot(1), Ok(Some(0x02_0000))),
-    Step::Ends(slot(1), Some((0x12, 0x34))),
+    Step::At(SLOT_1, Ok(Some(0x02_0000))),
+    Step::Ends(SLOT_1, Some((0x12, 0x34))),
     Step::Compact(0),
-    Step::Replace(slot(1), 1, Err(PlaceFault::NotEmpty)),
+    Step::Replace(SLOT_1, 1, Err(PlaceFault::NotEmpty)),
 ];
 
 // A locked block moves once it is unlocked, over itself and with all its bytes.
@@ -225,29 +218,39 @@ fn a_locked_block_waits(rt: HostRuntime) -> Result<(), Fail> {
 }
 
 const PAGE: Want = Want {
+    size: 0x10,
     align: 0x100,
-    ..of(0x10)
+    no_cross: false,
+    no_special: false,
+    at: None,
+    bank: None,
+    low: None,
 };
 
 const IN_A_BANK: Want = Want {
+    size: 0x9000,
+    align: 1,
     no_cross: true,
-    ..of(0x9000)
+    no_special: false,
+    at: None,
+    bank: None,
+    low: None,
 };
 
 static OVER_BANKS: [Step; 13] = [
-    Step::Put(of(0x20), 0, false, Ok(slot(0))),
-    Step::Put(of(0x10), 0, true, Ok(slot(1))),
-    Step::Put(PAGE, 0, true, Ok(slot(2))),
-    Step::Put(IN_A_BANK, 0, true, Ok(slot(3))),
-    Step::Put(IN_A_BANK, 0, true, Ok(slot(4))),
-    Step::Write(slot(4), 0x12, 0x34),
-    Step::At(slot(4), Ok(Some(0x02_0000))),
-    Step::Free(slot(0)),
-    Step::Free(slot(3)),
+    Step::Put(0x20, 0, false, Ok(SLOT_0)),
+    Step::Put(0x10, 0, true, Ok(SLOT_1)),
+    Step::Ask(PAGE, 0, true, Ok(SLOT_2)),
+    Step::Ask(IN_A_BANK, 0, true, Ok(SLOT_3)),
+    Step::Ask(IN_A_BANK, 0, true, Ok(SLOT_4)),
+    Step::Write(SLOT_4, 0x12, 0x34),
+    Step::At(SLOT_4, Ok(Some(0x02_0000))),
+    Step::Free(SLOT_0),
+    Step::Free(SLOT_3),
     Step::Compact(2),
-    Step::At(slot(1), Ok(Some(0x00_0800))),
-    Step::At(slot(4), Ok(Some(0x00_0910))),
-    Step::Ends(slot(4), Some((0x12, 0x34))),
+    Step::At(SLOT_1, Ok(Some(0x00_0800))),
+    Step::At(SLOT_4, Ok(Some(0x00_0910))),
+    Step::Ends(SLOT_4, Some((0x12, 0x34))),
 ];
 
 // A block slides from one bank to another and into special memory, and keeps what its want asks for.
@@ -257,19 +260,24 @@ fn wants_are_kept(rt: HostRuntime) -> Result<(), Fail> {
 }
 
 const AT_20008: Want = Want {
+    size: 8,
+    align: 1,
+    no_cross: false,
+    no_special: false,
     at: Some(0x02_0008),
-    ..of(8)
+    bank: None,
+    low: None,
 };
 
 static ONE_PURGE: [Step; 8] = [
-    Step::Put(of(8), 3, false, Ok(slot(0))),
-    Step::Put(of(8), 0, true, Ok(slot(1))),
-    Step::Put(of(8), 2, false, Ok(slot(2))),
-    Step::Put(of(0x10), 0, true, Ok(slot(3))),
-    Step::Put(AT_20008, 0, false, Ok(slot(4))),
-    Step::At(slot(0), Ok(None)),
-    Step::At(slot(1), Ok(Some(0x02_0000))),
-    Step::At(slot(2), Ok(Some(0x02_0010))),
+    Step::Put(8, 3, false, Ok(SLOT_0)),
+    Step::Put(8, 0, true, Ok(SLOT_1)),
+    Step::Put(8, 2, false, Ok(SLOT_2)),
+    Step::Put(0x10, 0, true, Ok(SLOT_3)),
+    Step::Ask(AT_20008, 0, false, Ok(SLOT_4)),
+    Step::At(SLOT_0, Ok(None)),
+    Step::At(SLOT_1, Ok(Some(0x02_0000))),
+    Step::At(SLOT_2, Ok(Some(0x02_0010))),
 ];
 
 // One purge and a slide make room, and one purge more would close it.
@@ -279,13 +287,13 @@ fn the_fewest_purges_are_found(rt: HostRuntime) -> Result<(), Fail> {
 }
 
 static PURGED_AND_SLID: [Step; 7] = [
-    Step::Put(of(0x8000), 1, false, Ok(slot(0))),
-    Step::Put(of(0x10), 0, true, Ok(slot(1))),
-    Step::Write(slot(1), 0x12, 0x34),
-    Step::Put(of(0xFFF0), 0, false, Ok(slot(2))),
-    Step::At(slot(0), Ok(None)),
-    Step::At(slot(2), Ok(Some(0x02_0010))),
-    Step::Ends(slot(1), Some((0x12, 0x34))),
+    Step::Put(0x8000, 1, false, Ok(SLOT_0)),
+    Step::Put(0x10, 0, true, Ok(SLOT_1)),
+    Step::Write(SLOT_1, 0x12, 0x34),
+    Step::Put(0xFFF0, 0, false, Ok(SLOT_2)),
+    Step::At(SLOT_0, Ok(None)),
+    Step::At(SLOT_2, Ok(Some(0x02_0010))),
+    Step::Ends(SLOT_1, Some((0x12, 0x34))),
 ];
 
 // Where the want doesn't fit beside a block that stays, that is purged, and another slides to its place.
@@ -295,11 +303,11 @@ fn a_purge_and_a_slide_make_room(rt: HostRuntime) -> Result<(), Fail> {
 }
 
 static REFUSED: [Step; 5] = [
-    Step::Put(of(0x8000), 1, false, Ok(slot(0))),
-    Step::Put(of(0x10), 0, false, Ok(slot(1))),
-    Step::Put(of(0xFFF8), 0, true, Err(PlaceFault::NoRoom(0))),
-    Step::At(slot(0), Ok(Some(0x02_0000))),
-    Step::At(slot(1), Ok(Some(0x02_8000))),
+    Step::Put(0x8000, 1, false, Ok(SLOT_0)),
+    Step::Put(0x10, 0, false, Ok(SLOT_1)),
+    Step::Put(0xFFF8, 0, true, Err(PlaceFault::NoRoom(0))),
+    Step::At(SLOT_0, Ok(Some(0x02_0000))),
+    Step::At(SLOT_1, Ok(Some(0x02_8000))),
 ];
 
 // Where the want fits nowhere, whatever is purged and slid down, nothing is.
@@ -309,15 +317,15 @@ fn a_refused_placement_purges_nothing(rt: HostRuntime) -> Result<(), Fail> {
 }
 
 static REPLACED: [Step; 9] = [
-    Step::Put(of(0x10), 0, true, Ok(slot(0))),
-    Step::Put(of(0x10), 1, true, Ok(slot(1))),
-    Step::Put(of(0xFFE8), 0, false, Ok(slot(2))),
-    Step::At(slot(1), Ok(None)),
-    Step::Free(slot(2)),
-    Step::Replace(slot(1), 0x10, Ok(())),
-    Step::Free(slot(0)),
+    Step::Put(0x10, 0, true, Ok(SLOT_0)),
+    Step::Put(0x10, 1, true, Ok(SLOT_1)),
+    Step::Put(0xFFE8, 0, false, Ok(SLOT_2)),
+    Step::At(SLOT_1, Ok(None)),
+    Step::Free(SLOT_2),
+    Step::Replace(SLOT_1, 0x10, Ok(())),
+    Step::Free(SLOT_0),
     Step::Compact(0),
-    Step::At(slot(1), Ok(Some(0x02_0010))),
+    Step::At(SLOT_1, Ok(Some(0x02_0010))),
 ];
 
 // A block that was purged and is placed anew isn't movable any more.
@@ -327,17 +335,17 @@ fn a_block_placed_anew_stays(rt: HostRuntime) -> Result<(), Fail> {
 }
 
 static SEVERAL: [Step; 11] = [
-    Step::Put(of(0x10), 0, true, Ok(slot(0))),
-    Step::Put(of(0x20), 0, true, Ok(slot(1))),
-    Step::Write(slot(1), 0x12, 0x34),
-    Step::Free(slot(0)),
+    Step::Put(0x10, 0, true, Ok(SLOT_0)),
+    Step::Put(0x20, 0, true, Ok(SLOT_1)),
+    Step::Write(SLOT_1, 0x12, 0x34),
+    Step::Free(SLOT_0),
     Step::Both(8, 0xFFE0, Err(PlaceFault::NoRoom(1))),
-    Step::At(slot(1), Ok(Some(0x02_0010))),
-    Step::Both(0xFFD8, 8, Ok((AGAIN, slot(2)))),
-    Step::At(slot(1), Ok(Some(0x02_0000))),
-    Step::Ends(slot(1), Some((0x12, 0x34))),
-    Step::At(AGAIN, Ok(Some(0x02_0020))),
-    Step::At(slot(2), Ok(Some(0x02_FFF8))),
+    Step::At(SLOT_1, Ok(Some(0x02_0010))),
+    Step::Both(0xFFD8, 8, Ok((SLOT_0_1, SLOT_2))),
+    Step::At(SLOT_1, Ok(Some(0x02_0000))),
+    Step::Ends(SLOT_1, Some((0x12, 0x34))),
+    Step::At(SLOT_0_1, Ok(Some(0x02_0020))),
+    Step::At(SLOT_2, Ok(Some(0x02_FFF8))),
 ];
 
 // Several blocks are placed with a slide, or none, and nothing is slid then.
