@@ -8,7 +8,7 @@ ghost use Rattle.iigs_meaning.specs.declared.handles.Handle as declared;
 ghost use Rattle.iigs_meaning.specs.Slots.{get, slot_at, is_free};
 ghost use Rattle.iigs_meaning.specs.Fits.{IsWant, HoldsByte};
 ghost use Rattle.iigs_meaning.specs.Puts.{IsPlaceRefusal, IsReplaceRefusal, IsPlaceAllRefusal, slots_for};
-ghost use Rattle.iigs_meaning.specs.Slide.{AsksNoPlace, PurgesOrSlides, NoAddressRises, count_moved};
+ghost use Rattle.iigs_meaning.specs.Slide.{AreSettled, AsksNoPlace, PurgesOrSlides, NoAddressRises, count_moved};
 ghost use Rattle.iigs_meaning.specs.Moves.{IsSlid};
 ghost use Rattle.iigs_meaning.specs.Blocks.{IsBlockRefusal, IsStale, AreApart, state_of};
 ghost use Rattle.iigs_meaning.specs.Banks.{IsBanksRefusal};
@@ -92,6 +92,13 @@ impl CompactBanks {
         ensures { (place address : ℕ) → HoldsByte address (slot_at self.now.slots place) → address < 2 ^ 24 }
     {
         self.banks.blocks_have_addresses();
+    }
+
+    /// Each block was placed by a want, which fits where it lies but for other blocks; so no slide moves one up.
+    pub fn blocks_lie_where_they_fit(&self)
+        ensures { AreSettled self.now.banks self.now.slots }
+    {
+        let _banks = &self.banks;
     }
 
     /// The handle of the block that has the byte at an address.

@@ -18,6 +18,7 @@ pub mod Holds
 pub mod Once
 pub mod Marked
 pub mod Neighbours
+pub mod Replaced
 pub mod Counting
 pub mod Covered
 pub mod Quick

@@ -4,10 +4,10 @@ ghost use Rattle.std.specs.Prelude.{◌≡◌, ◌≢◌, ◌==◌, ◌<◌, ◌
 ghost use Rattle.std.specs.List.Sorted.{IsPermutation};
 ghost use Rattle.iigs_places.specs.Spots.{IsBoundedSlot};
 ghost use Rattle.iigs_places.specs.declared.marks.Mark as declared;
-ghost use Rattle.iigs_places.specs.Marks.{HaveMarks, IsSized};
+ghost use Rattle.iigs_places.specs.Marks.{AreOnce, HaveMarks, IsSized};
 ghost use Rattle.iigs_places.specs.Runs.{HasRoom, IsLaid, IsLayout};
 
-use crate::marks::{Mark, add_mark, drop_mark, mark_all};
+use crate::marks::{Mark, add_mark, drop_mark, mark_all, move_mark};
 use crate::runs::{add_run, join_marks};
 use crate::spots::Spot;
 use iigs_handles::{Handles, SLOTS};
@@ -131,11 +131,11 @@ pub fn lay_gone(layout: &mut Layout, slot: u16, at: u32)
 pub fn lay_moved(layout: &mut Layout, at: u32, mark: Mark)
     requires laid { IsLaid layout.old }
     requires same { All (λ other. other.slot ≡ mark.slot → other.at ≡ at) layout.old.marks.items }
+    requires once { AreOnce layout.old.marks.items }
     requires marked { (other : declared.Mark) × Contains layout.old.marks.items other × (other.slot ≡ mark.slot) }
     ensures laid { IsLaid layout.new }
     ensures marks { IsPermutation (mark ∷ filter (λ other. not (other.slot == mark.slot)) layout.old.marks.items) layout.new.marks.items }
 {
-    drop_mark(&mut layout.marks, mark.slot, at);
-    add_mark(&mut layout.marks, mark);
+    move_mark(&mut layout.marks, at, mark);
     layout.joined = false;
 }

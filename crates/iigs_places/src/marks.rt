@@ -1,6 +1,6 @@
 //! Marks of blocks in order of address, by which the block that has a byte is found.
 
-ghost use Rattle.std.specs.Prelude.{◌≡◌, ◌≢◌, ℕ, ◌+◌, ◌^◌, ◌<◌, ◌≤◌, ◌==◌, ◌∷◌, not, false, IsTrue, slice_index_or, filter, length, Contains, MatchOption, All, vec_len, vec_capacity};
+ghost use Rattle.std.specs.Prelude.{◌≡◌, ◌≢◌, ℕ, ◌-◌, ◌+◌, ◌^◌, ◌<◌, ◌≤◌, ◌==◌, ◌∷◌, not, false, IsTrue, slice_index_or, filter, length, Contains, MatchOption, All, vec_len, vec_capacity};
 ghost use Rattle.std.specs.List.Sorted.{IsNonDecreasingBy, IsPermutation};
 ghost use Rattle.iigs_meaning.specs.Slots.{slot_at};
 ghost use Rattle.iigs_places.specs.declared.marks.Mark as declared;
@@ -188,4 +188,34 @@ pub fn drop_mark(marks: &mut Vec<Mark>, slot: u16, at: u32)
     while let Some(place) = place_of(marks, slot, at) {
         marks.remove(place);
     }
+}
+
+// Whether a mark that is put at a place keeps the order, where it is at an address.
+fn keeps_order(marks: &[Mark], place: usize, address: u32) -> bool
+    requires { place < length marks.now }
+    ensures below { IsTrue result → (d : declared.Mark) → 0 < place → (slice_index_or marks.now (place - 1) d).at ≤ address }
+    ensures above { IsTrue result → (d : declared.Mark) → place + 1 < length marks.now → address ≤ (slice_index_or marks.now (place + 1) d).at }
+{
+    (place == 0 || marks[place - 1].at <= address)
+        && (place + 1 == marks.len() || address <= marks[place + 1].at)
+}
+
+/// Moves the one mark of a slot, which is at an address. Where the order stays, no other mark is touched.
+pub fn move_mark(marks: &mut Vec<Mark>, at: u32, mark: Mark)
+    requires order { IsNonDecreasingBy (λ mark. mark.at) marks.old.items }
+    requires same { All (λ other. other.slot ≡ mark.slot → other.at ≡ at) marks.old.items }
+    requires once { AreOnce marks.old.items }
+    requires marked { (other : declared.Mark) × Contains marks.old.items other × (other.slot ≡ mark.slot) }
+    ensures order { IsNonDecreasingBy (λ mark. mark.at) marks.new.items }
+    ensures moved { IsPermutation (mark ∷ filter (λ other. not (other.slot == mark.slot)) marks.old.items) marks.new.items }
+    ensures capacity { vec_capacity marks.old ≤ vec_capacity marks.new }
+{
+    if let Some(place) = place_of(marks, mark.slot, at) {
+        if keeps_order(marks, place, mark.at) {
+            marks[place] = mark;
+            return;
+        }
+    }
+    drop_mark(marks, mark.slot, at);
+    add_mark(marks, mark);
 }

@@ -42,7 +42,7 @@ enum Step {
     Stale(Handle),
 }
 
-// The first slots, and what they are under later generations.
+// The third slot under its next generation, and slots further on.
 const SLOT_2_1: Handle = Handle {
     slot: 2,
     generation: 1,
