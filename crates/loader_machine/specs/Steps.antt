@@ -194,7 +194,7 @@ abbrev pub ComesFirst : MakesRoom → Machine → ℕ → User → ℕ → Want 
 ComesFirst Makes state id user number want OutOfSlots = new_handle state.slots ≡ None
 ComesFirst Makes state id user number want OutOfRoom = IsSome (new_handle state.slots) × LacksRoom Makes state.banks state.slots want
 ComesFirst Makes state id user number want (Made address next) = (h : Handle) × (slots : Slots)
-    × (puts : Puts Makes state.banks state.slots want id true 0 h slots)
+    × (puts : Puts Makes state.banks state.slots want id true 0 false h slots)
     × (puts.address ≡ address) × (next ≡ with_both state id slots (Some (with_segment user number (fresh (Some h)))))
 
 -- a segment of a user is made active
@@ -350,7 +350,7 @@ pub record StepsRestart (Makes : MakesRoom) (held : FileMap) (state : Machine) (
 
 -- a block is placed for the script under a new handle, unlocked or locked
 pub data StepsAlloc (Makes : MakesRoom) (state : Machine) (want : Want) (locked : Bool) (level : ℕ) (reply : Reply) (next : Machine) : Type 0 where
-  IsPlaced : (h : Handle) (slots : Slots) (puts : Puts Makes state.banks state.slots want 0 locked level h slots)
+  IsPlaced : (h : Handle) (slots : Slots) (puts : Puts Makes state.banks state.slots want 0 locked level false h slots)
       → reply ≡ Placed h puts.address → next ≡ with_slots state slots → StepsAlloc Makes state want locked level reply next
   HasNoHandle : new_handle state.slots ≡ None → reply ≡ Refused NoHandle → next ≡ state → StepsAlloc Makes state want locked level reply next
   HasNoRoom : IsSome (new_handle state.slots) → LacksRoom Makes state.banks state.slots want → reply ≡ Refused (NoRoom 0) → next ≡ state

@@ -197,7 +197,7 @@ okay_text (Ok text) is = ((λ same. absurd cc), is)
 okay_text (Err short) is = tt
 
 -- a block that was just placed is there
-pub alloc_there : (old new : Memory) (want : Want) (locked : Bool) (level : ℕ) (h : Handle) → IsPlaced Purges old want 0 locked level h new → IsSomeAnd (get new.slots h) (λ block. IsSome block.at)
+pub alloc_there : (old new : Memory) (want : Want) (locked : Bool) (level : ℕ) (h : Handle) → IsPlaced Purges old want 0 locked level false h new → IsSomeAnd (get new.slots h) (λ block. IsSome block.at)
 alloc_there old new want locked level h is = rw (puts_here old.banks old.slots new.slots want 0 locked level h is.puts) refl
 
 -- and its address is that of the reply

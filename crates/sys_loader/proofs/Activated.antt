@@ -201,11 +201,11 @@ module _ (held : FileMap) (old : Loaded) (state : Machine) (id number : ℕ) (so
         refl,
       )
     where
-      moved : {h : Handle} {last : Slots} (puts : Puts Purges old.memory.banks old.memory.slots (want_of head) id true 0 h last) → puts.address ≡ address → (t : Slots) → old.memory.slots ≡ t → (b : List ℕ) → old.memory.banks ≡ b
-          → (puts' : Puts Purges b t (want_of head) id true 0 h last) × (puts'.address ≡ address)
+      moved : {h : Handle} {last : Slots} (puts : Puts Purges old.memory.banks old.memory.slots (want_of head) id true 0 false h last) → puts.address ≡ address → (t : Slots) → old.memory.slots ≡ t → (b : List ℕ) → old.memory.banks ≡ b
+          → (puts' : Puts Purges b t (want_of head) id true 0 false h last) × (puts'.address ≡ address)
       moved {h} {last} puts at t es b eb =
-          subst (λ (x : Slots). (puts' : Puts Purges b x (want_of head) id true 0 h last) × (puts'.address ≡ address)) es
-          (subst (λ (x : List ℕ). (puts' : Puts Purges x old.memory.slots (want_of head) id true 0 h last) × (puts'.address ≡ address)) eb (puts, at))
+          subst (λ (x : Slots). (puts' : Puts Purges b x (want_of head) id true 0 false h last) × (puts'.address ≡ address)) es
+          (subst (λ (x : List ℕ). (puts' : Puts Purges x old.memory.slots (want_of head) id true 0 false h last) × (puts'.address ≡ address)) eb (puts, at))
 
   came_anew : (new : Loaded) (k : Handle) (address now : ℕ) (of : ℕ → Reply) (segments : List Segment) → handle ≡ Some k → presence old.memory.slots handle ≡ Purged k → is.does_agree.segments ≡ segments
       → HasCome old id number can.kept head handle segments address new → IsMet held state id number of true (of address) new now now

@@ -83,7 +83,7 @@ pub record CanLoad (loader : Loaded) (id number : ℕ) (head : Head) (handle : O
 
 -- its block is placed, locked with level 0: under a new handle, or anew under the one that it has
 abbrev pub IsBrought : Memory → ℕ → Head → Option Handle → Handle → ℕ → Memory → Type 0
-IsBrought old id head None h address new = (is : IsPlaced Purges old (want_of head) id true 0 h new) × (is.puts.address ≡ address)
+IsBrought old id head None h address new = (is : IsPlaced Purges old (want_of head) id true 0 false h new) × (is.puts.address ≡ address)
 IsBrought old id head (Some k) h address new =
     (k ≡ h) × (middle : Memory) × (is : IsReplaced Purges old h (want_of head) middle) × (is.puts.address ≡ address) × Changes middle h active_block new
 

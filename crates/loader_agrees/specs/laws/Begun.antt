@@ -114,22 +114,22 @@ locked_stays old new h block stays is locked = elim (stays block is) [
 ]
 
 -- a new handle's block
-pub puts_here : (banks : List ℕ) (slots next : Slots) (want : Want) (user : ℕ) (locked : Bool) (level : ℕ) (h : Handle) → (puts : Puts Purges banks slots want user locked level h next)
-    → get next h ≡ Some (placed want puts.address user locked level)
+pub puts_here : (banks : List ℕ) (slots next : Slots) (want : Want) (user : ℕ) (locked : Bool) (level : ℕ) (h : Handle) → (puts : Puts Purges banks slots want user locked level false h next)
+    → get next h ≡ Some (placed want puts.address user locked level false)
 puts_here banks slots next want user locked level h puts =
-    ap (λ (t : Slots). get t h) (puts.next_is ∙ ap (λ (room : Slots). after_take room (placed want puts.address user locked level)) puts.makes.room_is)
-    ∙ put_here slots puts.makes.count (placed want puts.address user locked level) h puts.handle
+    ap (λ (t : Slots). get t h) (puts.next_is ∙ ap (λ (room : Slots). after_take room (placed want puts.address user locked level false)) puts.makes.room_is)
+    ∙ put_here slots puts.makes.count (placed want puts.address user locked level false) h puts.handle
 
 -- each new handle is of a block of its want, locked with level 0
 pub all_placed : (banks : List ℕ) (user : ℕ) (slots last : Slots) (wants : List Want) (hs : List Handle) → PutsAll Purges banks user slots wants hs last → (i : ℕ) (h : Handle) → slice_get hs i ≡ Some h
-    → (want : Want) × (address : ℕ) × (slice_get wants i ≡ Some want) × (get last h ≡ Some (placed want address user true 0))
+    → (want : Want) × (address : ℕ) × (slice_get wants i ≡ Some want) × (get last h ≡ Some (placed want address user true 0 false))
 all_placed banks user slots last [] [] all i h is = absurd cc
 all_placed banks user slots last [] (k ∷ hs) all i h is = absurd all
 all_placed banks user slots last (want ∷ wants) [] all i h is = absurd all
 all_placed banks user slots last (want ∷ wants) (k ∷ hs) all zero h is =
     let handle : k ≡ h = same_Some k h is in
     let puts = all.1 in
-    let value = placed want puts.address user true 0 in
+    let value = placed want puts.address user true 0 false in
     let here = puts_here banks slots all.0 want user true 0 k puts in
     let there = locked_stays all.0 last k value (all_stay banks user all.0 last wants hs k all.2) here refl in
     (want, puts.address, refl, ap (get last) (sym handle) ∙ there)

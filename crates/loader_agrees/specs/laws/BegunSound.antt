@@ -48,7 +48,7 @@ rest_apart banks user slots last (want ∷ wants) (x ∷ hs) all h live (suc j) 
 abbrev pub AreDistinct : List Handle → Type 0
 AreDistinct hs = (i j : ℕ) (h k : Handle) → slice_get hs i ≡ Some h → slice_get hs j ≡ Some k → h.slot ≡ k.slot → i ≡ j
 
-new_live : (banks : List ℕ) (user : ℕ) (slots next : Slots) (want : Want) (h : Handle) → Puts Purges banks slots want user true 0 h next → IsSome (get next h)
+new_live : (banks : List ℕ) (user : ℕ) (slots next : Slots) (want : Want) (h : Handle) → Puts Purges banks slots want user true 0 false h next → IsSome (get next h)
 new_live banks user slots next want h puts = rw (puts_here banks slots next want user true 0 h puts) refl
 
 pub all_distinct : (banks : List ℕ) (user : ℕ) (slots last : Slots) (wants : List Want) (hs : List Handle) → PutsAll Purges banks user slots wants hs last → AreDistinct hs
@@ -247,8 +247,8 @@ module _ (old new : Loaded) (path : List ℕ) (segments : List Segment) (id : �
       let want : there.0 ≡ want_of head = same_Some there.0 (want_of head) (sym there.2 ∙ one.2) in
       let zeros : bytes_at begun.middle h.slot ≡ replicate (want_of head).size 0 = begun.placed.zeros one.0 (want_of head) h one.2 one.1 in
       record {
-        block = placed (want_of head) there.1 id true 0;
-        live = ap (λ (t : Slots). get t h) begun.slots ∙ there.3 ∙ ap (λ (w : Want). Some (placed w there.1 id true 0)) want;
+        block = placed (want_of head) there.1 id true 0 false;
+        live = ap (λ (t : Slots). get t h) begun.slots ∙ there.3 ∙ ap (λ (w : Want). Some (placed w there.1 id true 0 false)) want;
         user = refl;
         form = inl (refl, refl);
         want = want_size head;
