@@ -4,6 +4,7 @@ use Rattle.omf_format.specs.File.{Segment, segment_at}
 use Rattle.omf_io.specs.Counts.{risen, one_more, IsFront}
 use Rattle.omf_io.specs.Files.{FileMap}
 use Rattle.load_meaning.specs.declared.table.Target.{Target}
+use Rattle.load_meaning.specs.Pathnames.{most_paths}
 use Rattle.load_meaning.specs.LoadTable.{is_table, targets_of, target_at, entry_count}
 use Rattle.omf_format.specs.Header.{is_dynamic, is_skipped}
 use Rattle.iigs_meaning.specs.declared.handles.Handle.{Handle}
@@ -79,14 +80,16 @@ pub record UserAgrees (held : FileMap) (memory : Memory) (far : Far) (id : ℕ) 
       → handle_at kept.handles number ≡ Some h → IsSome (there_at (presence_at memory.slots kept.handles number))
       → IsFront (stands (setting_with far id memory.slots kept.handles) (held_at user number).pokes s) (bytes_at memory h.slot)
 
--- an attached user: it runs where its user does, nothing is attached to it, and its segments are dynamic and not skipped
+-- an attached user: it runs where its user does, nothing is attached to it, and its segments are dynamic, not skipped, and no tables
 pub record IsJoined (life : Life) (other : Kept) : Type 0 where
   pub same : other.life ≡ life
   pub alone : other.attached ≡ []
   pub dynamic : (number : ℕ) (head : Head) → at_number other.heads number ≡ Some head → (is_dynamic head.kind ≡ true) × (is_skipped head.kind ≡ false)
+  pub plain : (number : ℕ) (head : Head) → at_number other.heads number ≡ Some head → is_table_head head ≡ false
 
--- each ID in a list of attached users is that of such a user, and stands in one list, at one place
+-- each ID in a list of attached users, at most 16 in all, is that of such a user, and stands in one list, at one place
 pub record AreAttached (users : List (Option Kept)) : Type 0 where
+  pub few : (place : ℕ) (kept : Kept) → slice_get users place ≡ Some (Some kept) → length kept.attached ≤ most_paths
   pub each : (place i n : ℕ) (kept : Kept) → slice_get users place ≡ Some (Some kept) → slice_get kept.attached i ≡ Some n
       → (other : Kept) × (user_of users n ≡ Some other) × IsJoined kept.life other
   pub once : (place other i j n : ℕ) (one two : Kept) → slice_get users place ≡ Some (Some one) → slice_get users other ≡ Some (Some two)

@@ -18,5 +18,7 @@ pub mod Empty
 pub mod BegunSound
 pub mod BegunRows
 pub mod BegunMet
+pub mod Leading
+pub mod Likes
 pub mod Bare
 pub mod Filled

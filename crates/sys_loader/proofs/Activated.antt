@@ -32,12 +32,12 @@ use Rattle.loader_machine.specs.Needs.{Needs, is_read, path_if}
 use Rattle.loader_agrees.specs.Agrees.{Loaded, Outline, seen_in, Agrees, Has, IsSound, Meets}
 use Rattle.loader_agrees.specs.laws.Reads.{headed}
 use Rattle.loader_agrees.specs.laws.Seeing.{made_at, IsKept, kept_is, refuses, does}
+use Rattle.loader_agrees.specs.laws.Leading.{own_leading}
 use Rattle.sys_loader.specs.Replies.{activation_reply}
 use Rattle.sys_loader.specs.Lives.{HasShifted}
 use Rattle.sys_loader.specs.Activating.{IsChanged, CanLoad, IsBringRefusal, HasCome, IsComeRefusal, IsReadRefusal, CantRead, LacksMemory, CantCome, DidCome, HasActivated, DidActivate}
 use Rattle.sys_loader.proofs.Came.{dynamic_plain, came_agrees}
-use Rattle.sys_loader.proofs.Shifting.{IsTurn, own_leading, shifted_agrees}
-use Rattle.sys_loader.proofs.Turned.{own_leads}
+use Rattle.sys_loader.proofs.Shifting.{IsTurn, shifted_agrees}
 
 -- ---- a segment that wakes
 
@@ -154,7 +154,7 @@ module _ (held : FileMap) (old : Loaded) (state : Machine) (id number : ℕ) (so
         next,
         makes (Idle h at) here (Made at next) refl of (of at) next (refl, refl),
         shifted_agrees old new id number id 1 can.kept can.kept h active_block (Some at) head sound (own_leading old.users sound.bare id) can.made (inl refl) can.made can.head' (can.handle' ∙ its) can.dynamic wakes shifted
-            (ap (λ (o : Option ℕ). active_at (lies_at h o true)) its_at) held state agrees (λ some. can.fits) (own_leads held),
+            (ap (λ (o : Option ℕ). active_at (lies_at h o true)) its_at) held state agrees (λ some. can.fits),
         refl,
       )
 

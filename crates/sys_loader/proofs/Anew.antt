@@ -1,5 +1,5 @@
 -- A user that begins again in new blocks, as it is done.
-use Rattle.std.proofs.Common.{◌≡◌, inl, inr, ℕ, true, false, ◌^◌, ◌<◌, List, length, map, Option, Some, Result, Ok, Err, refl, sym, ap, subst, ◌∙◌}
+use Rattle.std.proofs.Common.{◌≡◌, inl, inr, ℕ, true, false, ◌^◌, ◌<◌, List, [], length, map, Option, Some, Result, Ok, Err, refl, sym, ap, subst, ◌∙◌}
 use Rattle.std.specs.Prelude.{IfOk, IfErr, string_bytes}
 use Rattle.omf_format.specs.File.{Segment}
 use Rattle.omf_io.specs.Counts.{IsFront}
@@ -37,7 +37,7 @@ placed_freed memory middle id wants hs placed = record {
 
 module _ (old : Loaded) (middle new : Memory) (user : User) (load : List Segment) (k : Kept) (wants : List Want) (hs given : List Handle) (id : ℕ) (entry : Option ℕ) (short : length load < 2 ^ 16)
     (placed : AreAllPlaced Purges old.memory id true wants given middle) (wants_are : wants ≡ wants_of (map head_of load)) (hs_are : hs ≡ given) (is_settled : IsSettled load id hs middle new)
-    (same : heads_of user.segments.items ≡ map head_of load) (handles : handles_of user.segments.items ≡ spread_handles load hs) (path_is : string_bytes user.path ≡ k.path) (runs : user.life ≡ Running)
+    (same : heads_of user.segments.items ≡ map head_of load) (handles : handles_of user.segments.items ≡ spread_handles load hs) (path_is : string_bytes user.path ≡ k.path) (runs : user.life ≡ Running) (none : user.attached.items ≡ [])
     (entry_is : entry ≡ entry_in (heads_of user.segments.items) (place_in new.slots (handles_of user.segments.items)) 1) where
   freed : AreAllPlaced Purges (released_memory old.memory id) id false (wants_of (map head_of load)) hs middle
   freed = placed_freed old.memory middle id (wants_of (map head_of load)) hs
@@ -59,7 +59,7 @@ module _ (old : Loaded) (middle new : Memory) (user : User) (load : List Segment
       begins = λ n s h there has. subst (λ (slots : Slots). IsFront (stands (setting id slots (spread_handles load hs)) no_pokes s) (bytes_at new h.slot)) (sym is_settled.slots) (is_settled.begins n s h there has);
       sizes = is_settled.sizes;
     };
-    users' = users_are ∙ ap (λ (x : Kept). with_user old.users id (Some x)) (kept_started user load k.path hs same handles path_is runs);
+    users' = users_are ∙ ap (λ (x : Kept). with_user old.users id (Some x)) (kept_started user load k.path hs same handles path_is runs none);
   }
 
 -- ---- a file that was read

@@ -104,22 +104,23 @@ settled file load hs user kept old new taken same handles filled = record {
 -- ---- a user whose static segments have these handles
 
 pub kept_started : (user : User) (load : List Segment) (path : List ℕ) (hs : List Handle) → heads_of user.segments.items ≡ map head_of load → handles_of user.segments.items ≡ spread_handles load hs
-    → string_bytes user.path ≡ path → user.life ≡ Running → kept user ≡ started_kept path (map head_of load) hs
-kept_started user load path hs same handles path_is runs =
-    let made : List ℕ → Life → List (Option Handle) → List Head → Kept = λ p l os gs. record { path = p; life = l; handles = os; heads = gs; attached = [] } in
-    ap (λ (p : List ℕ). made p user.life (handles_of user.segments.items) (heads_of user.segments.items)) path_is
-    ∙ ap (λ (l : Life). made path l (handles_of user.segments.items) (heads_of user.segments.items)) runs
-    ∙ ap (λ (os : List (Option Handle)). made path Running os (heads_of user.segments.items)) handles
-    ∙ ap (λ (gs : List Head). made path Running (spread_handles load hs) gs) same
+    → string_bytes user.path ≡ path → user.life ≡ Running → user.attached.items ≡ [] → kept user ≡ started_kept path (map head_of load) hs
+kept_started user load path hs same handles path_is runs alone =
+    let made : List ℕ → Life → List (Option Handle) → List Head → List ℕ → Kept = λ p l os gs ids. record { path = p; life = l; handles = os; heads = gs; attached = ids } in
+    ap (λ (p : List ℕ). made p user.life (handles_of user.segments.items) (heads_of user.segments.items) user.attached.items) path_is
+    ∙ ap (λ (l : Life). made path l (handles_of user.segments.items) (heads_of user.segments.items) user.attached.items) runs
+    ∙ ap (λ (os : List (Option Handle)). made path Running os (heads_of user.segments.items) user.attached.items) handles
+    ∙ ap (λ (gs : List Head). made path Running (spread_handles load hs) gs user.attached.items) same
+    ∙ ap (made path Running (spread_handles load hs) (map head_of load)) alone
 
 -- ---- one user more
 
 module _ (memory middle new : Memory) (users' : List (Option User)) (user : User) (load : List Segment) (path : List ℕ) (hs : List Handle) (id : ℕ) (entry : Option ℕ)
     (few : length users' < max_users) (short : length load < 2 ^ 16) (id_is : id ≡ first_id + length users') (placed : AreAllPlaced Purges memory id false (wants_of (map head_of load)) hs middle)
     (is_settled : IsSettled load id hs middle new) (same : heads_of user.segments.items ≡ map head_of load) (handles : handles_of user.segments.items ≡ spread_handles load hs)
-    (path_is : string_bytes user.path ≡ path) (runs : user.life ≡ Running) (entry_is : entry ≡ entry_in (heads_of user.segments.items) (place_in new.slots (handles_of user.segments.items)) 1) where
+    (path_is : string_bytes user.path ≡ path) (runs : user.life ≡ Running) (none : user.attached.items ≡ []) (entry_is : entry ≡ entry_in (heads_of user.segments.items) (place_in new.slots (handles_of user.segments.items)) 1) where
   kept_is : kept user ≡ started_kept path (map head_of load) hs
-  kept_is = kept_started user load path hs same handles path_is runs
+  kept_is = kept_started user load path hs same handles path_is runs none
 
   count : length (map (option_map kept) users') ≡ length users'
   count = length-map users' (option_map kept)
@@ -148,13 +149,13 @@ module _ (memory middle new : Memory) (users' : List (Option User)) (user : User
 module _ (old : Loaded) (memory middle new : Memory) (users' users'' : List (Option User)) (user : User) (load : List Segment) (path : List ℕ) (wants : List Want) (hs given : List Handle) (id count : ℕ) (entry : Option ℕ)
     (view : old ≡ loaded memory users') (pushed : users'' ≡ users' ++ Some user ∷ []) (few : length old.users < max_users) (short : length load < 2 ^ 16) (id_is : id ≡ first_id + count) (count_is : count ≡ length users')
     (placed : AreAllPlaced Purges memory id false wants given middle) (wants_are : wants ≡ wants_of (map head_of load)) (hs_are : hs ≡ given) (is_settled : IsSettled load id hs middle new)
-    (same : heads_of user.segments.items ≡ map head_of load) (handles : handles_of user.segments.items ≡ spread_handles load hs) (path_is : string_bytes user.path ≡ path) (runs : user.life ≡ Running)
+    (same : heads_of user.segments.items ≡ map head_of load) (handles : handles_of user.segments.items ≡ spread_handles load hs) (path_is : string_bytes user.path ≡ path) (runs : user.life ≡ Running) (none : user.attached.items ≡ [])
     (entry_is : entry ≡ entry_in (heads_of user.segments.items) (place_in new.slots (handles_of user.segments.items)) 1) where
   as_begun : HasBegun (loaded memory users') path load id entry (loaded new (users' ++ Some user ∷ []))
   as_begun =
       begun memory middle new users' user load path hs id entry (omega (arith, few, ap (λ (l : Loaded). length l.users) view, length-map users' (option_map kept))) short (omega (arith, id_is, count_is))
       (subst (λ (ws : List Want). AreAllPlaced Purges memory id false ws hs middle) wants_are (subst (λ (given' : List Handle). AreAllPlaced Purges memory id false wants given' middle) (sym hs_are) placed))
-      is_settled same handles path_is runs entry_is
+      is_settled same handles path_is runs none entry_is
 
   pub started : HasBegun old path load id entry (loaded new users'')
   started = subst (λ (l : Loaded). HasBegun l path load id entry (loaded new users'')) (sym view) (subst (λ (us : List (Option User)). HasBegun (loaded memory users') path load id entry (loaded new us)) (sym pushed) as_begun)

@@ -43,7 +43,8 @@ use Rattle.load_meaning.specs.declared.table.Target.{Target}
 use Rattle.sys_loader.specs.Renewing.{is_chosen}
 use Rattle.sys_loader.proofs.Lead.{target_stays}
 use Rattle.sys_loader.proofs.Shifting.{room_there}
-use Rattle.sys_loader.proofs.Turned.{Becomes, Stays, Turns, Anew, Turned, own_leads, turned_agrees}
+use Rattle.sys_loader.proofs.Turned.{Becomes, Stays, Turns, Anew, Turned, turned_agrees}
+use Rattle.sys_loader.proofs.Leads.{entries_lead}
 
 -- ---- a handle that is kept
 
@@ -579,7 +580,7 @@ module _ (old new : Loaded) (id number : ℕ) (kept : Kept) (head : Head) (handl
 
     pub come_agrees_own : UserAgrees held new.memory (far_in new id) id come user'
     come_agrees_own = turned_agrees held old.memory new.memory (far_in old id) (far_in new id) id (Some (1, number)) (Some address) kept come is.user user' is.does_agree
-        (λ n s found table. own_leads held kept.path is.does_agree.segments is.does_agree.holds n s found table) (sound.short place kept its_users.0) turned
+        (entries_lead held old state agrees sound id kept made (Some (1, number)) (Some address) (λ t above far c some. let file : t.file ≡ 1 = grind (arith, c) in absurd (omega (arith, above, file))) is.does_agree.segments is.does_agree.holds) (sound.short place kept its_users.0) turned
 
     others_agree : (p : ℕ) (k : Kept) (u : User) → slice_get old.users p ≡ Some (Some k) → p ≢ place → UserAgrees held old.memory (far_in old (first_id + p)) (first_id + p) k u → UserAgrees held new.memory (far_in new (first_id + p)) (first_id + p) k u
     others_agree p k u found ne was = bare_still held old new sound.bare bare_now (first_id + p) k u was (λ n j has.

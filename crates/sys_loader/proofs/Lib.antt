@@ -12,6 +12,7 @@ pub mod Heading
 pub mod Purging
 pub mod Poking
 pub mod Renewed
+pub mod Leads
 pub mod Turned
 pub mod Lead
 pub mod Shifting

@@ -40,7 +40,8 @@ use Rattle.sys_loader.specs.Lives.{AreIdled, HasKept}
 use Rattle.load_meaning.specs.declared.table.Target.{Target}
 use Rattle.sys_loader.proofs.Lead.{target_stays}
 use Rattle.sys_loader.proofs.Shifting.{there_block, room_there}
-use Rattle.sys_loader.proofs.Turned.{Becomes, Stays, Turns, Turned, own_leads, turned_agrees}
+use Rattle.sys_loader.proofs.Turned.{Becomes, Stays, Turns, Turned, turned_agrees}
+use Rattle.sys_loader.proofs.Leads.{entries_lead}
 use Rattle.sys_loader.proofs.ChangedAll.{all_here, all_apart, all_in, let_go_again, let_go_at, let_go_user, let_go_want, let_go_form, let_go_active_at}
 
 -- ---- the refusal
@@ -403,7 +404,7 @@ module _ (old new : Loaded) (id : ℕ) (sound : IsSound old.memory old.users) (d
 
     user_agrees : UserAgrees held new.memory (far_in new id) id rests user'
     user_agrees = turned_agrees held old.memory new.memory (far_in old id) (far_in new id) id None None kept rests is.user user' is.does_agree
-        (λ n s found table. own_leads held kept.path is.does_agree.segments is.does_agree.holds n s found table) (sound.short place kept its_users.0) turned
+        (entries_lead held old state agrees sound id kept did.made None None (λ t above far c some. absurd cc) is.does_agree.segments is.does_agree.holds) (sound.short place kept its_users.0) turned
 
     abbrev next : Machine
     next = kept_state state id is.user

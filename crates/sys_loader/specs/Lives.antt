@@ -10,9 +10,9 @@ use Rattle.loader_machine.specs.Heads.{is_table}
 use Rattle.loader_machine.specs.Refusals.{purge_refusal, poke_refusal, unload_refusal, shut_down_refusal}
 use Rattle.loader_machine.specs.Commands.{Reply, Counted, Refused}
 use Rattle.loader_machine.specs.declared.seen.Life.TheVariants.{Running, Dormant}
-use Rattle.loader_machine.specs.State.{user_of, with_user}
+use Rattle.loader_machine.specs.State.{user_of, with_user, led_by}
 use Rattle.loader_machine.specs.Steps.{idle_block, let_go, changed_all}
-use Rattle.loader_agrees.specs.Agrees.{Kept, Loaded, seen_by}
+use Rattle.loader_agrees.specs.Agrees.{Kept, Loaded, kept_outlines, seen_by}
 use Rattle.loader_agrees.specs.Acts.{IsActive}
 use Rattle.sys_loader.specs.Renewing.{AreRenewed}
 
@@ -65,6 +65,12 @@ pub record HasShifted (old : Loaded) (lead : Kept) (choice : ℕ × ℕ) (h : Ha
   pub changes : Changes middle h change new.memory
   pub users : new.users ≡ old.users
 
+-- the user's segment wakes or idles, and the entries for it follow in the tables of the user that leads to it
+pub record HasTurned (old : Loaded) (id number : ℕ) (h : Handle) (change : Block → Block) (address : Option ℕ) (new : Loaded) : Type 0 where
+  pub lead : Kept
+  pub leads : user_of old.users (led_by (kept_outlines old.users) id).0 ≡ Some lead
+  pub shifted : HasShifted old lead ((led_by (kept_outlines old.users) id).1, number) h change address new
+
 -- ---- unload
 
 -- an active dynamic segment can be let go
@@ -77,7 +83,7 @@ pub record CanUnload (loader : Loaded) (id number : ℕ) (h : Handle) : Type 0 w
 pub record HasUnloaded (old : Loaded) (id number : ℕ) (new : Loaded) : Type 0 where
   pub h : Handle
   pub can : CanUnload old id number h
-  pub shifted : HasShifted old can.is.kept (1, number) h idle_block None new
+  pub turned : HasTurned old id number h idle_block None new
 
 -- what an unload did: the segment is let go, or the call is refused and all stays
 abbrev pub DidUnload : Loaded → ℕ → ℕ → Result (Unit {0}) LoaderFault → Loaded → Type 0

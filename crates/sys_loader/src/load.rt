@@ -160,10 +160,12 @@ impl Loader {
             user,
         );
         let entry = entry_of(&self.banks, &segments);
+        let attached = Vec::new(self.alloc);
         self.users.push_reserved(Some(User {
             path,
             life: Life::Running,
             segments,
+            attached,
         }));
         Ok(Started { user, entry })
     }

@@ -290,6 +290,7 @@ impl Loader {
             user,
         );
         let entry = entry_of(&self.banks, &segments);
+        let attached = Vec::new(self.alloc);
         set_user(
             &mut self.users,
             user,
@@ -297,6 +298,7 @@ impl Loader {
                 path,
                 life: Life::Running,
                 segments,
+                attached,
             },
         );
         Ok(Started { user, entry })

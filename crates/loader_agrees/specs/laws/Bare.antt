@@ -1,10 +1,11 @@
 -- Users of whom none has attached users.
-use Rattle.std.proofs.Common.{◌≡◌, inl, inr, ℕ, true, false, ◌==◌, ◌-◌, ◌≤◌, List, [], Option, Some, None, refl, sym, ap, subst, ◌∙◌, arith}
+use Rattle.std.proofs.Common.{◌≡◌, inl, inr, ℕ, true, false, ◌==◌, ◌-◌, ◌≤◌, List, [], length, Option, Some, None, refl, sym, ap, subst, ◌∙◌, arith}
 use Rattle.std.specs.Prelude.{slice_get, option_map}
 use Rattle.std.specs.Option.{option_and_then}
 use Rattle.std.proofs.lemmas.Bool.{cases_eq}
 use Rattle.std.proofs.lemmas.Option.{same_Some, slice_get_within}
 use Rattle.omf_format.specs.File.{Segment}
+use Rattle.load_meaning.specs.Pathnames.{most_paths}
 use Rattle.load_meaning.specs.Loadable.{IsSoundSegment}
 use Rattle.iigs_meaning.specs.declared.handles.Handle.{Handle}
 use Rattle.iigs_meaning.specs.Fits.{Slots}
@@ -38,6 +39,7 @@ module _ (users : List (Option Kept)) (bare : AreBare users) where
 
   pub bare_attached : AreAttached users
   bare_attached = record {
+    few = λ place kept made. subst (λ (ids : List ℕ). length ids ≤ most_paths) (sym (bare place kept made)) (omega arith);
     each = λ place i n kept made is. absurd (nothing kept.attached i n (bare place kept made) is);
     once = λ place other i j n one two made made' is is'. absurd (nothing one.attached i n (bare place one made) is);
   }

@@ -7,12 +7,14 @@ use Rattle.std.proofs.lemmas.List.{length-map, map-append}
 use Rattle.omf_format.specs.Header.{is_dynamic, is_skipped}
 use Rattle.omf_format.specs.File.{Segment, segment_at}
 use Rattle.omf_io.specs.Files.{FileMap}
+use Rattle.load_meaning.specs.Pathnames.{most_paths}
 use Rattle.load_meaning.specs.declared.table.Target.{Target}
 use Rattle.load_meaning.specs.LoadTable.{is_table, targets_of}
 use Rattle.iigs_meaning.specs.declared.handles.Handle.{Handle}
 use Rattle.loader_machine.specs.declared.seen.Head.{Head}
 use Rattle.loader_machine.specs.declared.seen.Life.TheVariants.{Running}
 use Rattle.loader_machine.specs.Heads.{head_of, at_number}
+use Rattle.loader_machine.specs.Heads.{is_table as is_table_head}
 use Rattle.loader_machine.specs.State.{Held, User, Machine, Outline, absent, first_id, user_of, attached_at, handles_in, ids_from, outline_of, outlines}
 use Rattle.loader_machine.specs.Presences.{handle_at, presence, presence_at, active_at}
 use Rattle.loader_machine.specs.Stands.{Far, far_of}
@@ -131,11 +133,19 @@ user_there users p k is =
     let at : first_id + p - first_id ≡ p = omega arith in
     rw (above, at, is) refl
 
+not_true : (b : Bool) → (b ≡ true → ⊥) → b ≡ false
+not_true true no = absurd (no refl)
+not_true false no = refl
+
+length-ids : (first n : ℕ) → length (ids_from first n) ≡ n
+length-ids first zero = refl
+length-ids first (suc n) = ap (λ (m : ℕ). suc m) (length-ids (first + 1) n)
+
 -- ---- the load
 
 module _ (held : FileMap) (old new : Loaded) (state : Machine) (path : List ℕ) (segments : List Segment) (paths : List (List ℕ)) (all : List (List Segment)) (id : ℕ) (entry : Option ℕ)
     (sound : IsSound old.memory old.users) (agrees : Agrees held old state) (begun : HasPlaced old.memory path segments id entry new.memory) (id_is : id ≡ first_id + length old.users)
-    (holds : HoldsLoad held path segments) (long : length all ≡ length paths)
+    (holds : HoldsLoad held path segments) (few : length paths ≤ most_paths) (long : length all ≡ length paths)
     (rows : (j : ℕ) (p : List ℕ) (ss : List Segment) → IsRow paths all j p ss → HoldsLoad held p ss × ((n : ℕ) (s : Segment) → segment_at ss n ≡ Some s → (is_dynamic s.fields.kind ≡ true) × (is_skipped s.fields.kind ≡ false)))
     (plain : (j : ℕ) (p : List ℕ) (ss : List Segment) → IsRow paths all j p ss → (n : ℕ) (s : Segment) → segment_at ss n ≡ Some s → is_table s ≡ true → ⊥)
     (reached : (n k : ℕ) (s : Segment) (t : Target) → segment_at segments n ≡ Some s → is_table s ≡ true → slice_get (targets_of s) k ≡ Some t → 2 ≤ t.file
@@ -180,7 +190,7 @@ module _ (held : FileMap) (old new : Loaded) (state : Machine) (path : List ℕ)
       omega (arith, within, there.1, id_is)
 
   attached_made : AreAttached made
-  attached_made = record { each = each; once = once }
+  attached_made = record { few = few_made; each = each; once = once }
     where
       Which : ℕ → Kept → Type 0
       Which p k = Lies old.users (Some its) (joined_kepts paths all) p (Some k)
@@ -200,7 +210,19 @@ module _ (held : FileMap) (old new : Loaded) (state : Machine) (path : List ℕ)
         alone = refl;
         dynamic = λ n head is. let one = head_there ss n head is in let both = (rows j p ss row).1 n one.0 one.1 in
             (ap (λ (h : Head). is_dynamic h.kind) (sym one.2) ∙ both.0, ap (λ (h : Head). is_skipped h.kind) (sym one.2) ∙ both.1);
+        plain = λ n head is. let one = head_there ss n head is in subst (λ (h : Head). is_table_head h ≡ false) one.2 (not_true (is_table one.0) (plain j p ss row n one.0 one.1));
       }
+
+      few_by : (p : ℕ) (k : Kept) → Which p k → length k.attached ≤ most_paths
+      few_by p k (Front less is) = agrees.attached.few p k is
+      few_by p k (Midst at is) = let same : its ≡ k = sym (same_Some k its is) in subst (λ (x : Kept). length x.attached ≤ most_paths) same (omega (arith, few, length-ids (id + 1) (length paths)))
+      few_by p k (Behind j at is) =
+          let one = row_kept paths all j (Some k) is in
+          let same : joined_kept one.0 (map head_of one.1) ≡ k = sym (same_Some k (joined_kept one.0 (map head_of one.1)) one.3) in
+          subst (λ (x : Kept). length x.attached ≤ most_paths) same (omega arith)
+
+      few_made : (p : ℕ) (k : Kept) → slice_get made p ≡ Some (Some k) → length k.attached ≤ most_paths
+      few_made p k is = few_by p k (lies old.users (Some its) (joined_kepts paths all) p (Some k) is)
 
       each_by : (p i n : ℕ) (k : Kept) → Which p k → slice_get k.attached i ≡ Some n → (other : Kept) × (user_of made n ≡ Some other) × IsJoined k.life other
       each_by p i n k (Front less is) found = let one = agrees.attached.each p i n k is found in (one.0, user_stays old.users made stay n one.0 one.1, one.2)

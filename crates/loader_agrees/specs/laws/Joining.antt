@@ -1,7 +1,8 @@
 -- Users that are made before they have anything in memory: a place for a user, and those that are to be attached to it behind it.
-use Rattle.std.proofs.Common.{◌≡◌, ◌⊎◌, inl, inr, ℕ, Bool, true, false, cond, ◌==◌, ◌-◌, List, [], Option, Some, None, nat_lt, refl, sym, ap, subst, ◌∙◌}
+use Rattle.std.proofs.Common.{◌≡◌, ◌⊎◌, inl, inr, ℕ, Bool, true, false, cond, ◌==◌, ◌-◌, ◌≤◌, List, [], length, Option, Some, None, nat_lt, refl, sym, ap, subst, ◌∙◌, arith}
 use Rattle.std.specs.Prelude.{slice_get, option_map}
 use Rattle.std.specs.Option.{option_and_then}
+use Rattle.load_meaning.specs.Pathnames.{most_paths}
 use Rattle.load_meaning.specs.declared.table.Target.{Target}
 use Rattle.loader_machine.specs.State.{first_id, user_of, named_by, attached_at}
 use Rattle.loader_agrees.specs.Agrees.{Kept, Outline, outline, kept_outlines, AreAttached, IsCall}
@@ -49,6 +50,10 @@ module _ (old new : List (Option Kept)) (stay : (place : ℕ) (kept : Kept) → 
   -- users to which nothing is attached may come
   pub attached_more : ((place : ℕ) (kept : Kept) → slice_get new place ≡ Some (Some kept) → (slice_get old place ≡ Some (Some kept)) ⊎ (kept.attached ≡ [])) → AreAttached old → AreAttached new
   attached_more which attached = record {
+    few = λ place kept made. elim (which place kept made) [
+      | inl was ↦ attached.few place kept was
+      | inr alone ↦ subst (λ (ids : List ℕ). length ids ≤ most_paths) (sym alone) (omega arith)
+    ];
     each = λ place i n kept made is. elim (which place kept made) [
       | inl was ↦ let one = attached.each place i n kept was is in (one.0, user_stays n one.0 one.1, one.2)
       | inr alone ↦ absurd (nothing kept i n alone is)

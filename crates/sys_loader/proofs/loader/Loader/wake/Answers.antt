@@ -6,10 +6,11 @@ use Rattle.loader_machine.specs.Presences.{presence}
 use Rattle.loader_machine.specs.Steps.{active_block}
 use Rattle.loader_agrees.specs.Agrees.{Kept, Loaded}
 use Rattle.loader_agrees.specs.laws.Seeing.{made_at}
+use Rattle.loader_agrees.specs.laws.Leading.{own_leading}
 use Rattle.sys_loader.specs.View.{kept, loaded}
 use Rattle.sys_loader.specs.Lives.{HasShifted}
 use Rattle.sys_loader.proofs.Unloading.{roomy}
-use Rattle.sys_loader.proofs.Shifting.{own_leading, shifted_sound}
+use Rattle.sys_loader.proofs.Shifting.{shifted_sound}
 use Rattle.sys_loader.proofs.Activated.{wakes}
 use Rattle.sys_loader.proofs.Waking.{can_load, one_kept, has_woken, idle_there}
 use Rattle.sys_loader.proofs.loader.Loader.wake.Goals as goal

@@ -1,0 +1,455 @@
+-- What each command does to the machine, and what it answers. A refused command leaves the state. These are this project's own
+-- rules (GS/OS Reference, "System Loader", is the model for users, dynamic segments, shutdown and restart).
+use Rattle.std.specs.Prelude.{◌≡◌, ℕ, ◌+◌, ◌-◌, ◌^◌, ◌==◌, ◌<◌, ◌≤◌, ◌&&◌, ◌||◌, nat_le, nat_lt, Bool, true, false, List, [], ◌∷◌, ◌++◌, length, map, take, drop, count_by, Option, Some, None, IsSome, is_some, slice_get, slice_set, slice_index, if◌then◌else◌}
+use Rattle.std.specs.Option.{option_map, option_map_or, option_and_then}
+use Rattle.std.specs.FinMap.{insert}
+use Rattle.omf_format.specs.Header.{is_reload}
+use Rattle.omf_format.specs.Number.{number_at}
+use Rattle.omf_format.specs.File.{Segment, segment_at}
+use Rattle.omf_io.specs.Files.{FileMap}
+use Rattle.load_meaning.specs.declared.table.Target.{Target}
+use Rattle.load_meaning.specs.Table.{entry_place, entry_start}
+use Rattle.load_meaning.specs.Pathnames.{paths_of}
+use Rattle.load_meaning.specs.LoadTable.{targets_of, table_of}
+use Rattle.iigs_meaning.specs.declared.handles.Handle.{Handle}
+use Rattle.iigs_meaning.specs.declared.wants.Want.{Want}
+use Rattle.iigs_meaning.specs.declared.wants.Block.{Block}
+use Rattle.iigs_meaning.specs.declared.faults.PlaceFault.TheVariants as place
+use Rattle.iigs_meaning.specs.Slots.{get, is_free, new_handle, after_release, with_value}
+use Rattle.iigs_meaning.specs.Fits.{Slots, block_in}
+use Rattle.iigs_meaning.specs.Placement.{emptied_where}
+use Rattle.iigs_meaning.specs.Puts.{MakesRoom, LacksRoom, Puts, PutsAnew, PutsAll, IsPlaceAllRefusal, without_user}
+use Rattle.iigs_meaning.specs.Blocks.{state_of, can_purge_of}
+use Rattle.iigs_meaning.specs.Room.{CountsBelow, IsRoom}
+use Rattle.load_meaning.specs.declared.load.LoadFault.{LoadFault}
+use Rattle.load_meaning.specs.declared.load.LoadCause.TheVariants as cause
+use Rattle.loader_machine.specs.declared.faults.LoaderFault.TheVariants.{NotJsl, NoTarget, NotEntry, CannotRead, BadFile, NoHandle, NoRoom}
+use Rattle.loader_machine.specs.Heads.{Head, head_of, at_number, is_static, is_table, want_of, wants_of, number_of, entry_in}
+use Rattle.loader_machine.specs.State.{Running, Dormant, Held, User, Machine, Outline, absent, fresh, Seen, empty_of, first_id, user_of, with_user, handles_of, held_at, outlines, named_by, is_attached, family, handles_of_all, with_all, without_all, runs_again, rests, ids_from}
+use Rattle.loader_machine.specs.Presences.{Presence, Absent, Purged, Idle, Active, presence_at, handle_at, is_there}
+use Rattle.loader_machine.specs.Stands.{Setting, stands, setting, setting_with, far_of}
+use Rattle.loader_machine.specs.Found.{HoldsLoad, Found, Unread, Bad, Good, IsFound, Joined, Stops, Joins, AreJoined}
+use Rattle.loader_machine.specs.Commands.{Command, Banks, Load, LoadSegment, UnloadSegment, Jsl, ShutDown, Restart, Purge, Poke, Bytes, Where, Info, Alloc, Free, Lock, Unlock, Level, StateOf, Room, Reply, Okay, Started, MadeActive, Entered, Counted, Shown, Lies, Nothing, SegmentIs, Placed, BlockIs, RoomIs, Refused}
+use Rattle.loader_machine.specs.Refusals.{Refuse, load_refusal, rows_refusal, bytes_refusal, info_refusal, load_segment_refusal, unload_refusal, poke_refusal, shut_down_refusal, restart_refusal, purge_refusal, state_refusal, free_refusal, change_refusal}
+
+-- ---- what is seen of users
+
+abbrev pub seen_of : User → List Segment → Seen
+seen_of user segments = record { life = user.life; handles = handles_of user; heads = map head_of segments }
+
+-- a user that was made and isn't gone, and the segments of its file
+pub record Sees (held : FileMap) (state : Machine) (id : ℕ) : Type 0 where
+  pub user : User
+  pub made : user_of state.users id ≡ Some user
+  pub segments : List Segment
+  pub holds : HoldsLoad held user.path segments
+
+-- what is seen of an ID: nothing where it has no user
+abbrev pub IsSeen : FileMap → Machine → ℕ → Option Seen → Type 0
+IsSeen held state id None = user_of state.users id ≡ None
+IsSeen held state id (Some seen) = (sees : Sees held state id) × (seen ≡ seen_of sees.user sees.segments)
+
+-- where there is a refusal it is the reply and the state stays, and else the last holds
+abbrev pub Decides : Refuse → Machine → Reply → Machine → Type 0 → Type 0
+Decides None state reply next done = done
+Decides (Some fault) state reply next done = (reply ≡ Refused fault) × (next ≡ state)
+
+-- a command on a user: it is refused by what is seen of the user, and else does this with it
+pub record Does (held : FileMap) (state : Machine) (id : ℕ) (refusal : Option Seen → Refuse) (reply : Reply) (next : Machine) (Done : User → Type 0) : Type 0 where
+  pub seen : Option Seen
+  pub is_seen : IsSeen held state id seen
+  pub is : Decides (refusal seen) state reply next ((user : User) × (user_of state.users id ≡ Some user) × Done user)
+
+-- a type by a truth value
+abbrev pub Either : Bool → Type 0 → Type 0 → Type 0
+Either true P Q = P
+Either false P Q = Q
+
+-- ---- changes of a state
+
+abbrev pub with_slots : Machine → Slots → Machine
+with_slots state slots = record state { slots = slots }
+
+-- the user with this held of the segment with a number
+abbrev pub with_segment : User → ℕ → Held → User
+with_segment user number held = record user { segments = slice_set user.segments (number - 1) held }
+
+-- the state with these slots and this user under an ID
+abbrev pub with_both : Machine → ℕ → Slots → Option User → Machine
+with_both state id slots user = record { banks = state.banks; slots = slots; users = with_user state.users id user }
+
+-- a block of an active segment, and of an idle one
+abbrev pub active_block : Block → Block
+active_block block = record block { locked = true; level = 0 }
+
+abbrev pub idle_block : Block → Block
+idle_block block = record block { locked = false; level = 3 }
+
+-- a block of a segment that is let go where it is active
+abbrev pub let_go : Block → Block
+let_go block = if is_some block.at && block.locked then idle_block block else block
+
+-- the slots with a handle's block changed, where it is live
+abbrev pub changed : (Block → Block) → Slots → Handle → Slots
+changed change slots h = option_map_or (λ block. with_value slots h (change block)) (get slots h) slots
+
+-- the same of all that have a handle
+abbrev pub changed_all : (Block → Block) → Slots → List (Option Handle) → Slots
+changed_all change slots [] = slots
+changed_all change slots (None ∷ handles) = changed_all change slots handles
+changed_all change slots (Some h ∷ handles) = changed_all change (changed change slots h) handles
+
+-- the segment with a number becomes idle, if it has a handle
+abbrev pub idled : Slots → Option Handle → Slots
+idled slots None = slots
+idled slots (Some h) = changed idle_block slots h
+
+-- ---- placement of all static segments
+
+-- what comes of placing blocks for all wants: too few free slots; the first want, from 0, that has no room; or handles and slots
+pub data Put : Type 0 where
+  NoSlots : Put
+  Lacks : (place : ℕ) → Put
+  PutIn : (handles : List Handle) (slots : Slots) → Put
+
+abbrev pub IsPut : MakesRoom → List ℕ → ℕ → Slots → List Want → Put → Type 0
+IsPut Makes banks user slots wants NoSlots = IsPlaceAllRefusal Makes banks user slots wants place.NoHandle
+IsPut Makes banks user slots wants (Lacks i) = IsPlaceAllRefusal Makes banks user slots wants (place.NoRoom i)
+IsPut Makes banks user slots wants (PutIn handles last) = (length wants ≤ count_by is_free slots) × PutsAll Makes banks user slots wants handles last
+
+-- what is held of segments whose static ones have these handles, in order
+abbrev pub spread : List Head → List Handle → List Held
+spread [] hs = []
+spread (head ∷ heads) [] = absent ∷ spread heads []
+spread (head ∷ heads) (h ∷ hs) = if is_static head then fresh (Some h) ∷ spread heads hs else absent ∷ spread heads (h ∷ hs)
+
+-- where a user begins
+abbrev pub entry_of : ℕ → Slots → List Head → List (Option Handle) → Option ℕ
+entry_of id slots heads handles = entry_in heads ((setting id slots handles).place) 1
+
+-- a running user whose static segments have these handles
+abbrev pub started_user : List ℕ → List Head → List Handle → User
+started_user path heads handles = record { path = path; life = Running; segments = spread heads handles; attached = [] }
+
+-- the static segments of a program are placed, and the users are these then
+abbrev pub Lands : Machine → List ℕ → ℕ → List Head → (User → List (Option User)) → Put → Reply → Machine → Type 0
+Lands state path id heads users NoSlots reply next = (reply ≡ Refused NoHandle) × (next ≡ state)
+Lands state path id heads users (Lacks i) reply next = (reply ≡ Refused (NoRoom (number_of 1 heads i))) × (next ≡ state)
+Lands state path id heads users (PutIn handles slots) reply next =
+    let user = started_user path heads handles in
+    (reply ≡ Started id (entry_of id slots heads (handles_of user)))
+    × (next ≡ record { banks = state.banks; slots = slots; users = users user })
+
+-- a program begins: its static segments are placed among these slots, in order of number
+pub record Begins (Makes : MakesRoom) (state : Machine) (slots : Slots) (path : List ℕ) (id : ℕ) (segments : List Segment) (users : User → List (Option User)) (reply : Reply) (next : Machine) : Type 0 where
+  pub put : Put
+  pub is_put : IsPut Makes state.banks id slots (wants_of (map head_of segments)) put
+  pub lands : Lands state path id (map head_of segments) users put reply next
+
+-- ---- load
+
+-- a running user that is attached to another: none of its segments is there
+abbrev pub joined_user : List ℕ → List Head → User
+joined_user path heads = record { path = path; life = Running; segments = map (λ head. absent) heads; attached = [] }
+
+-- the same for each row
+abbrev pub joined_users : List (List ℕ) → List (List Segment) → List (Option User)
+joined_users [] all = []
+joined_users (path ∷ paths) [] = []
+joined_users (path ∷ paths) (segments ∷ all) = Some (joined_user path (map head_of segments)) ∷ joined_users paths all
+
+-- an entry for file 1 leads into the user's own file; one for another leads to a segment of that attached user, of which these are
+-- the headers, and to an offset below its LENGTH
+abbrev pub is_reached : List (List Head) → Target → Bool
+is_reached attached t = nat_le t.file 1 || option_map_or (λ heads. option_map_or (λ head. nat_lt t.offset head.length) (at_number heads t.segment) false)
+    (slice_get attached (t.file - 2)) false
+
+-- the first entry that leads nowhere, where the first has this place
+abbrev pub lost_from : List (List Head) → ℕ → List Target → Option ℕ
+lost_from attached k [] = None
+lost_from attached k (t ∷ targets) = if is_reached attached t then lost_from attached (k + 1) targets else Some k
+
+-- and the fault that it is: in the table, at the entry
+abbrev pub lost_in : List (List Head) → List Segment → ℕ → Option LoadFault
+lost_in attached segments number = option_and_then (λ s. option_map (λ k. record { cause = cause.NoSuchTarget; segment = number; at = entry_start k })
+    (lost_from attached 0 (targets_of s))) (segment_at segments number)
+
+unfoldable pub lost_refusal : List (List Head) → List Segment → Refuse
+lost_refusal attached segments = option_map BadFile (option_and_then (lost_in attached segments) (table_of segments))
+
+-- the users where one more begins, and one for each row behind it, attached to it
+abbrev pub begun_users : Machine → List (List ℕ) → List (List Segment) → User → List (Option User)
+begun_users state paths all user = state.users
+    ++ Some (record user { attached = ids_from (first_id + length state.users + 1) (length paths) }) ∷ joined_users paths all
+
+-- by what comes of the rows: the program begins, with a user more for each row, attached to it
+abbrev pub LoadsJoined : MakesRoom → Machine → List ℕ → List Segment → Joined → Reply → Machine → Type 0
+LoadsJoined Makes state path segments (Stops reads why) reply next = (reply ≡ Refused why) × (next ≡ state)
+LoadsJoined Makes state path segments (Joins all) reply next = Decides (lost_refusal (map (map head_of) all) segments) state reply next
+    (Begins Makes state state.slots path (first_id + length state.users) segments (begun_users state (paths_of segments) all) reply next)
+
+-- by what the read of the path finds
+abbrev pub LoadsFound : MakesRoom → FileMap → Machine → List ℕ → Found → Reply → Machine → Type 0
+LoadsFound Makes held state path Unread reply next = (reply ≡ Refused CannotRead) × (next ≡ state)
+LoadsFound Makes held state path (Bad fault) reply next = (reply ≡ Refused (BadFile fault)) × (next ≡ state)
+LoadsFound Makes held state path (Good segments) reply next =
+    Decides (rows_refusal (length state.users) (length (paths_of segments))) state reply next
+        ((joined : Joined) × AreJoined held (paths_of segments) joined × LoadsJoined Makes state path segments joined reply next)
+
+abbrev pub StepsLoad : MakesRoom → FileMap → Machine → List ℕ → Reply → Machine → Type 0
+StepsLoad Makes held state path reply next = Decides (load_refusal (length state.users)) state reply next
+    ((found : Found) × IsFound held path found × LoadsFound Makes held state path found reply next)
+
+-- ---- activation
+
+-- what comes of making a dynamic segment active: no slot, no room, or its address and the next state
+pub data Outcome : Type 0 where
+  OutOfSlots : Outcome
+  OutOfRoom : Outcome
+  Made : (address : ℕ) (next : Machine) → Outcome
+
+-- an active segment stays
+abbrev pub StaysActive : Machine → ℕ → Outcome → Type 0
+StaysActive state address outcome = outcome ≡ Made address state
+
+-- an idle one is locked with level 0, and keeps its pokes
+abbrev pub Wakes : Machine → Handle → ℕ → Outcome → Type 0
+Wakes state h address outcome = outcome ≡ Made address (with_slots state (changed active_block state.slots h))
+
+-- a purged one is read again and placed under its old handle
+abbrev pub ComesAnew : MakesRoom → Machine → ℕ → User → ℕ → Want → Handle → Outcome → Type 0
+ComesAnew Makes state id user number want h OutOfSlots = ⊥
+ComesAnew Makes state id user number want h OutOfRoom = LacksRoom Makes state.banks state.slots want
+ComesAnew Makes state id user number want h (Made address next) = (slots : Slots) × (puts : PutsAnew Makes state.banks state.slots h want slots)
+    × (puts.address ≡ address) × (next ≡ with_both state id (changed active_block slots h) (Some (with_segment user number (fresh (Some h)))))
+
+-- an absent one is read and placed under a new handle
+abbrev pub ComesFirst : MakesRoom → Machine → ℕ → User → ℕ → Want → Outcome → Type 0
+ComesFirst Makes state id user number want OutOfSlots = new_handle state.slots ≡ None
+ComesFirst Makes state id user number want OutOfRoom = IsSome (new_handle state.slots) × LacksRoom Makes state.banks state.slots want
+ComesFirst Makes state id user number want (Made address next) = (h : Handle) × (slots : Slots)
+    × (puts : Puts Makes state.banks state.slots want id true 0 h slots)
+    × (puts.address ≡ address) × (next ≡ with_both state id slots (Some (with_segment user number (fresh (Some h)))))
+
+-- a segment of a user is made active
+abbrev pub Activates : MakesRoom → Machine → ℕ → User → ℕ → Want → Presence → Outcome → Type 0
+Activates Makes state id user number want (Active h address) outcome = StaysActive state address outcome
+Activates Makes state id user number want (Idle h address) outcome = Wakes state h address outcome
+Activates Makes state id user number want (Purged h) outcome = ComesAnew Makes state id user number want h outcome
+Activates Makes state id user number want Absent outcome = ComesFirst Makes state id user number want outcome
+
+-- the reply of an outcome, where that of a segment at an address is this
+abbrev pub Answers : Machine → ℕ → Outcome → (ℕ → Reply) → Reply → Machine → Type 0
+Answers state number OutOfSlots of reply next = (reply ≡ Refused NoHandle) × (next ≡ state)
+Answers state number OutOfRoom of reply next = (reply ≡ Refused (NoRoom number)) × (next ≡ state)
+Answers state number (Made address last) of reply next = (reply ≡ of address) × (next ≡ last)
+
+-- the segment with a number is made active
+pub record MakesActive (Makes : MakesRoom) (held : FileMap) (state : Machine) (id number : ℕ) (of : ℕ → Reply) (reply : Reply) (next : Machine) : Type 0 where
+  pub sees : Sees held state id
+  pub s : Segment
+  pub is : segment_at sees.segments number ≡ Some s
+  pub outcome : Outcome
+  pub activates : Activates Makes state id sees.user number (want_of (head_of s)) (presence_at state.slots (handles_of sees.user) number) outcome
+  pub answers : Answers state number outcome of reply next
+
+-- ---- what stands in a user's segment
+
+-- where the segments of the user of an ID are, and where those that its table names
+abbrev pub setting_in : Machine → ℕ → User → Setting
+setting_in state id user = setting_with (far_of state.slots (outlines state.users) id) id state.slots (handles_of user)
+
+pub record StandsIn (held : FileMap) (state : Machine) (id number : ℕ) (bytes : List ℕ) : Type 0 where
+  pub sees : Sees held state id
+  pub s : Segment
+  pub is : segment_at sees.segments number ≡ Some s
+  pub bytes_are : bytes ≡ stands (setting_in state id sees.user) (held_at sees.user number).pokes s
+
+-- ---- where an address lies
+
+-- the address lies in the active segment with a number of a user that runs, among its LENGTH bytes, at this offset
+pub record IsAt (held : FileMap) (state : Machine) (address id number offset : ℕ) : Type 0 where
+  pub sees : Sees held state id
+  pub runs : sees.user.life ≡ Running
+  pub s : Segment
+  pub is : segment_at sees.segments number ≡ Some s
+  pub h : Handle
+  pub first : ℕ
+  pub active : presence_at state.slots (handles_of sees.user) number ≡ Active h first
+  pub sum : first + offset ≡ address
+  pub inside : offset < s.fields.length
+
+pub data Place : Type 0 where
+  Nowhere : Place
+  In : (id number offset : ℕ) → Place
+
+abbrev pub IsLocated : FileMap → Machine → ℕ → Place → Type 0
+IsLocated held state address Nowhere = (id number offset : ℕ) → ¬ IsAt held state address id number offset
+IsLocated held state address (In id number offset) = IsAt held state address id number offset
+
+abbrev pub place_reply : Place → Reply
+place_reply Nowhere = Nothing
+place_reply (In id number offset) = Lies id number offset
+
+-- ---- jsl
+
+-- the target of the table's entry whose code is at an offset, where the first target is that of the entry at this place
+abbrev pub target_at_code : List Target → ℕ → ℕ → Option Target
+target_at_code [] k offset = None
+target_at_code (t ∷ targets) k offset = if entry_place k == offset then Some t else target_at_code targets (k + 1) offset
+
+-- in a table: the entry's segment, of the user that the entry names, is made active, and entered at the entry's offset
+abbrev pub EntersEntry : MakesRoom → FileMap → Machine → ℕ → Option Target → Reply → Machine → Type 0
+EntersEntry Makes held state id None reply next = (reply ≡ Refused NotEntry) × (next ≡ state)
+EntersEntry Makes held state id (Some t) reply next = (other : ℕ) × (named_by (outlines state.users) id t.file ≡ Some other)
+    × MakesActive Makes held state other t.segment (λ address. Entered other t.segment t.offset (address + t.offset)) reply next
+
+-- the segment in which the address lies: outside a table it is entered there
+abbrev pub EntersSegment : MakesRoom → FileMap → Machine → ℕ → ℕ → ℕ → ℕ → Segment → Reply → Machine → Type 0
+EntersSegment Makes held state address id number offset s reply next = Either (is_table (head_of s))
+    (EntersEntry Makes held state id (target_at_code (targets_of s) 0 offset) reply next)
+    ((reply ≡ Entered id number offset address) × (next ≡ state))
+
+abbrev pub Enters : MakesRoom → FileMap → Machine → ℕ → Place → Reply → Machine → Type 0
+Enters Makes held state address Nowhere reply next = (reply ≡ Refused NoTarget) × (next ≡ state)
+Enters Makes held state address (In id number offset) reply next = (sees : Sees held state id) × (s : Segment)
+    × (segment_at sees.segments number ≡ Some s) × EntersSegment Makes held state address id number offset s reply next
+
+-- the first of the four bytes is that of a JSL ($22)
+abbrev pub no_jsl : List ℕ → Refuse
+no_jsl bytes = if slice_index bytes 0 == 0x22 then None else Some NotJsl
+
+-- the address in a JSL's four bytes, lowest byte first
+abbrev pub address_of : List ℕ → ℕ
+address_of bytes = number_at 3 1 bytes
+
+-- four bytes of what stands in the segment are followed
+pub record StepsJsl (Makes : MakesRoom) (held : FileMap) (state : Machine) (id number at : ℕ) (reply : Reply) (next : Machine) : Type 0 where
+  pub bytes : List ℕ
+  pub stands : StandsIn held state id number bytes
+  pub is : let four = take 4 (drop at bytes) in Decides (no_jsl four) state reply next
+      ((place : Place) × IsLocated held state (address_of four) place × Enters Makes held state (address_of four) place reply next)
+
+-- ---- shutdown and restart
+
+-- kept: every active segment of the user and of those attached to it becomes idle, and they are dormant
+abbrev pub kept_state : Machine → ℕ → User → Machine
+kept_state state id user = record {
+  banks = state.banks;
+  slots = changed_all let_go state.slots (handles_of_all (outlines state.users) (family id user.attached));
+  users = with_all rests state.users (family id user.attached);
+}
+
+-- the slots once all handles of these users were released
+abbrev pub without_users : Slots → List ℕ → Slots
+without_users slots [] = slots
+without_users slots (id ∷ ids) = without_users (without_user slots id) ids
+
+-- dropped: their handles are released, and they are gone
+abbrev pub dropped_state : Machine → ℕ → User → Machine
+dropped_state state id user = record {
+  banks = state.banks;
+  slots = without_users state.slots (family id user.attached);
+  users = without_all state.users (family id user.attached);
+}
+
+abbrev pub StepsShutDown : Machine → ℕ → Bool → User → Machine → Type 0
+StepsShutDown state id true user next = next ≡ kept_state state id user
+StepsShutDown state id false user next = next ≡ dropped_state state id user
+
+-- every static segment is there
+abbrev pub are_there : Slots → List Head → List (Option Handle) → ℕ → Bool
+are_there slots [] handles number = true
+are_there slots (head ∷ heads) handles number =
+    (if is_static head then is_there (presence_at slots handles number) else true) && are_there slots heads handles (number + 1)
+
+-- the handles of the static segments, where the first segment has this number
+abbrev pub static_handles : List Head → List (Option Handle) → ℕ → List (Option Handle)
+static_handles [] handles number = []
+static_handles (head ∷ heads) handles number =
+    if is_static head then handle_at handles number ∷ static_handles heads handles (number + 1) else static_handles heads handles (number + 1)
+
+-- a static segment that is read again at each restart
+abbrev pub is_read_again : Head → Bool
+is_read_again head = is_static head && is_reload head.kind
+
+-- what is held of segments once those that are read again have no pokes
+abbrev pub read_again : List Head → List Held → List Held
+read_again [] held = held
+read_again (head ∷ heads) [] = []
+read_again (head ∷ heads) (one ∷ held) = (if is_read_again head then fresh one.handle else one) ∷ read_again heads held
+
+-- in place: the static segments become active, and those with the reload attribute lose their pokes
+abbrev pub RestartsInPlace : Machine → ℕ → User → List Head → Reply → Machine → Type 0
+RestartsInPlace state id user heads reply next =
+    let slots = changed_all active_block state.slots (static_handles heads (handles_of user) 1) in
+    (reply ≡ Started id (entry_of id slots heads (handles_of user)))
+    × (next ≡ record {
+      banks = state.banks;
+      slots = slots;
+      users = with_all runs_again (with_user state.users id (Some (record user { life = Running; segments = read_again heads user.segments }))) user.attached;
+    })
+
+-- the users where that of an ID begins again as this one: it keeps those attached to it, and they run
+abbrev pub again_users : Machine → ℕ → User → User → List (Option User)
+again_users state id was user = with_all runs_again (with_user state.users id (Some (record user { attached = was.attached }))) was.attached
+
+-- where every static segment is there it restarts in place; else its handles are released, and it begins as at a load
+pub record StepsRestart (Makes : MakesRoom) (held : FileMap) (state : Machine) (id : ℕ) (reply : Reply) (next : Machine) : Type 0 where
+  pub sees : Sees held state id
+  pub is : Either (are_there state.slots (map head_of sees.segments) (handles_of sees.user) 1)
+      (RestartsInPlace state id sees.user (map head_of sees.segments) reply next)
+      (Begins Makes state (without_user state.slots id) sees.user.path id sees.segments (again_users state id sees.user) reply next)
+
+-- ---- the script's own blocks
+
+-- a block is placed for the script under a new handle, unlocked or locked
+pub data StepsAlloc (Makes : MakesRoom) (state : Machine) (want : Want) (locked : Bool) (level : ℕ) (reply : Reply) (next : Machine) : Type 0 where
+  IsPlaced : (h : Handle) (slots : Slots) (puts : Puts Makes state.banks state.slots want 0 locked level h slots)
+      → reply ≡ Placed h puts.address → next ≡ with_slots state slots → StepsAlloc Makes state want locked level reply next
+  HasNoHandle : new_handle state.slots ≡ None → reply ≡ Refused NoHandle → next ≡ state → StepsAlloc Makes state want locked level reply next
+  HasNoRoom : IsSome (new_handle state.slots) → LacksRoom Makes state.banks state.slots want → reply ≡ Refused (NoRoom 0) → next ≡ state
+      → StepsAlloc Makes state want locked level reply next
+
+-- the handle's block is changed
+abbrev pub StepsChange : Machine → Handle → (Block → Block) → Reply → Machine → Type 0
+StepsChange state h change reply next = Decides (change_refusal state.slots h) state reply next
+    ((reply ≡ Okay) × (next ≡ with_slots state (changed change state.slots h)))
+
+-- ---- all commands
+
+-- In a state, over the held files, a command has this reply and leads to the next state.
+abbrev pub Steps : MakesRoom → FileMap → Machine → Command → Reply → Machine → Type 0
+Steps Makes held state (Banks banks) reply next = (reply ≡ Okay) × (next ≡ empty_of banks)
+Steps Makes held state (Load path) reply next = StepsLoad Makes held state path reply next
+Steps Makes held state (LoadSegment id number) reply next = Does held state id (λ seen. load_segment_refusal seen number) reply next
+    (λ user. MakesActive Makes held state id number (MadeActive number) reply next)
+Steps Makes held state (UnloadSegment id number) reply next = Does held state id (λ seen. unload_refusal state.slots seen number) reply next
+    (λ user. (reply ≡ Okay) × (next ≡ with_slots state (idled state.slots (handle_at (handles_of user) number))))
+Steps Makes held state (Jsl id number at) reply next = Does held state id (λ seen. bytes_refusal state.slots seen number at 4) reply next
+    (λ user. StepsJsl Makes held state id number at reply next)
+Steps Makes held state (ShutDown id keep) reply next = Does held state id (λ seen. shut_down_refusal (is_attached (outlines state.users) id) seen keep) reply next
+    (λ user. (reply ≡ Okay) × StepsShutDown state id keep user next)
+Steps Makes held state (Restart id) reply next = Does held state id (λ seen. restart_refusal (is_attached (outlines state.users) id) seen) reply next
+    (λ user. StepsRestart Makes held state id reply next)
+Steps Makes held state (Purge id) reply next = (seen : Option Seen) × IsSeen held state id seen × Decides (purge_refusal seen id) state reply next
+    ((reply ≡ Counted (count_by (λ slot. option_map_or (can_purge_of id) (block_in slot) false) state.slots))
+    × (next ≡ with_slots state (map (emptied_where (can_purge_of id)) state.slots)))
+Steps Makes held state (Poke id number at byte) reply next = Does held state id (λ seen. poke_refusal state.slots seen number at) reply next
+    (λ user. let was = held_at user number in
+    (reply ≡ Okay) × (next ≡ with_both state id state.slots (Some (with_segment user number (record was { pokes = insert was.pokes at byte })))))
+Steps Makes held state (Bytes id number at count) reply next = Does held state id (λ seen. bytes_refusal state.slots seen number at count) reply next
+    (λ user. (bytes : List ℕ) × StandsIn held state id number bytes × (reply ≡ Shown (take count (drop at bytes))) × (next ≡ state))
+Steps Makes held state (Where address) reply next = (place : Place) × IsLocated held state address place × (reply ≡ place_reply place) × (next ≡ state)
+Steps Makes held state (Info id number) reply next = Does held state id (λ seen. info_refusal seen number) reply next
+    (λ user. (sees : Sees held state id) × (s : Segment) × (segment_at sees.segments number ≡ Some s)
+    × (reply ≡ SegmentIs (presence_at state.slots (handles_of user) number) s.fields.length s.fields.kind) × (next ≡ state))
+Steps Makes held state (Alloc want locked level) reply next = StepsAlloc Makes state want locked level reply next
+Steps Makes held state (Free h) reply next = Decides (free_refusal state.slots h) state reply next
+    ((reply ≡ Okay) × (next ≡ with_slots state (after_release state.slots h)))
+Steps Makes held state (Lock h) reply next = StepsChange state h (λ block. record block { locked = true }) reply next
+Steps Makes held state (Unlock h) reply next = StepsChange state h (λ block. record block { locked = false }) reply next
+Steps Makes held state (Level h level) reply next = StepsChange state h (λ block. record block { level = level }) reply next
+Steps Makes held state (StateOf h) reply next = Decides (state_refusal state.slots h) state reply next
+    ((block : Block) × (get state.slots h ≡ Some block) × (reply ≡ BlockIs (state_of block)) × (next ≡ state))
+Steps Makes held state Room reply next = (count : ℕ) × CountsBelow (IsRoom state.banks state.slots) (2 ^ 24) count × (reply ≡ RoomIs count) × (next ≡ state)

@@ -1,0 +1,116 @@
+-- What the calls of a loader do, whatever files there are.
+use Rattle.std.specs.Prelude.{◌≡◌, ◌≢◌, ◌⊎◌, slice_get, ◌^◌, take, drop, None, ℕ, ◌+◌, ◌<◌, ◌≤◌, [], ◌∷◌, ◌++◌, map, false, IsSome, List, length, Option, Some}
+use Rattle.omf_format.specs.File.{Segment, segment_at}
+use Rattle.omf_io.specs.Counts.{IsFront}
+use Rattle.iigs_meaning.specs.declared.handles.Handle.{Handle}
+use Rattle.iigs_meaning.specs.Slots.{get}
+use Rattle.iigs_meaning.specs.Puts.{Purges}
+use Rattle.iigs_meaning.specs.Memory.{Memory, AreAllPlaced, bytes_at}
+use Rattle.loader_machine.specs.declared.seen.Head.{Head}
+use Rattle.loader_machine.specs.declared.seen.Life.TheVariants.{Running}
+use Rattle.loader_machine.specs.Heads.{head_of, at_number, wants_of}
+use Rattle.loader_machine.specs.State.{no_pokes, max_users, first_id, user_of, handles_of}
+use Rattle.loader_machine.specs.declared.seen.Presence.TheVariants.{Active}
+use Rattle.loader_machine.specs.declared.seen.Presence.{Presence}
+use Rattle.loader_machine.specs.Presences.{handle_at, presence, presence_at}
+use Rattle.loader_machine.specs.Refusals.{bytes_refusal, info_refusal}
+use Rattle.loader_machine.specs.Stands.{setting, stands}
+use Rattle.loader_machine.specs.Steps.{started_user, entry_of}
+use Rattle.loader_agrees.specs.Agrees.{Kept, Loaded, seen_by}
+
+-- ---- active segments
+
+-- the block of an active segment of a user that runs
+pub record IsActive (loader : Loaded) (id number : ℕ) (h : Handle) : Type 0 where
+  pub kept : Kept
+  pub made : user_of loader.users id ≡ Some kept
+  pub runs : kept.life ≡ Running
+  pub head : Head
+  pub head' : at_number kept.heads number ≡ Some head
+  pub handle : handle_at kept.handles number ≡ Some h
+  pub address : ℕ
+  pub active : presence loader.memory.slots (Some h) ≡ Active h address
+
+-- the block of an active segment in which so many bytes from an offset on may be read
+pub record CanRead (loader : Loaded) (id number at count : ℕ) (h : Handle) : Type 0 where
+  pub passes : bytes_refusal loader.memory.slots (seen_by loader id) number at count ≡ None
+  pub is : IsActive loader id number h
+  pub inside : at + count ≤ is.head.length
+
+-- these bytes are lent
+pub record HasLent (loader : Loaded) (id number at count : ℕ) (bytes : List ℕ) : Type 0 where
+  pub h : Handle
+  pub can : CanRead loader id number at count h
+  pub is : bytes ≡ take count (drop at (bytes_at loader.memory h.slot))
+
+-- what is told of a segment
+pub record HasTold (loader : Loaded) (id number : ℕ) (presence : Presence) (length' kind : ℕ) : Type 0 where
+  pub passes : info_refusal (seen_by loader id) number ≡ None
+  pub kept : Kept
+  pub made : user_of loader.users id ≡ Some kept
+  pub head : Head
+  pub head' : at_number kept.heads number ≡ Some head
+  pub presence_is : presence ≡ presence_at loader.memory.slots kept.handles number
+  pub length_is : length' ≡ head.length
+  pub kind_is : kind ≡ head.kind
+
+-- an address lies among the LENGTH bytes of an active segment of a user that runs, at an offset
+pub record LiesIn (loader : Loaded) (address id number offset : ℕ) : Type 0 where
+  pub h : Handle
+  pub is : IsActive loader id number h
+  pub sum : is.address + offset ≡ address
+  pub inside : offset < is.head.length
+
+-- ---- load
+
+-- a user as it is kept where its static segments have these handles
+abbrev pub started_kept : List ℕ → List Head → List Handle → Kept
+started_kept path heads handles = record {
+  path = path;
+  life = Running;
+  handles = handles_of (started_user path heads handles);
+  heads = heads;
+  attached = [];
+}
+
+-- The same of memory alone: the static segments of a file are in new blocks, each of which begins with what stands in its segment,
+-- and nothing else is written.
+pub record HasPlaced (old : Memory) (path : List ℕ) (segments : List Segment) (id : ℕ) (entry : Option ℕ) (new : Memory) : Type 0 where
+  pub short : length segments < 2 ^ 16
+  pub handles : List Handle
+  pub middle : Memory
+  pub placed : AreAllPlaced Purges old id false (wants_of (map head_of segments)) handles middle
+  pub banks : new.banks ≡ old.banks
+  pub slots : new.slots ≡ middle.slots
+  pub entry_is : entry ≡ entry_of id new.slots (map head_of segments) (started_kept path (map head_of segments) handles).handles
+  pub stay : (k : Handle) → IsSome (get old.slots k) → bytes_at new k.slot ≡ bytes_at middle k.slot
+  pub begins : (n : ℕ) (s : Segment) (h : Handle) → segment_at segments n ≡ Some s
+      → handle_at (started_kept path (map head_of segments) handles).handles n ≡ Some h
+      → IsFront (stands (setting id new.slots (started_kept path (map head_of segments) handles).handles) no_pokes s) (bytes_at new h.slot)
+  pub sizes : (slot : ℕ) → length (bytes_at new slot) ≡ length (bytes_at middle slot)
+
+-- a user is added at a place that has none, and all others stay
+pub record IsAdded (old : List (Option Kept)) (place : ℕ) (kept : Kept) (new : List (Option Kept)) : Type 0 where
+  pub few : length new ≤ max_users
+  pub here : slice_get new place ≡ Some (Some kept)
+  pub which : (p : ℕ) (k : Kept) → slice_get new p ≡ Some (Some k) → ((p ≢ place) × (slice_get old p ≡ Some (Some k))) ⊎ ((p ≡ place) × (k ≡ kept))
+  pub stay : (p : ℕ) (k : Kept) → slice_get old p ≡ Some (Some k) → slice_get new p ≡ Some (Some k)
+
+-- The static segments of a file are in new blocks, each of which begins with what stands in its segment; nothing else is written;
+-- and there is one user more.
+pub record HasBegun (old : Loaded) (path : List ℕ) (segments : List Segment) (id : ℕ) (entry : Option ℕ) (new : Loaded) : Type 0 where
+  pub few : length old.users < max_users
+  pub short : length segments < 2 ^ 16
+  pub id_is : id ≡ first_id + length old.users
+  pub handles : List Handle
+  pub middle : Memory
+  pub placed : AreAllPlaced Purges old.memory id false (wants_of (map head_of segments)) handles middle
+  pub banks : new.memory.banks ≡ old.memory.banks
+  pub slots : new.memory.slots ≡ middle.slots
+  pub users : new.users ≡ old.users ++ Some (started_kept path (map head_of segments) handles) ∷ []
+  pub entry_is : entry ≡ entry_of id new.memory.slots (map head_of segments) (started_kept path (map head_of segments) handles).handles
+  pub stay : (k : Handle) → IsSome (get old.memory.slots k) → bytes_at new.memory k.slot ≡ bytes_at middle k.slot
+  pub begins : (n : ℕ) (s : Segment) (h : Handle) → segment_at segments n ≡ Some s
+      → handle_at (started_kept path (map head_of segments) handles).handles n ≡ Some h
+      → IsFront (stands (setting id new.memory.slots (started_kept path (map head_of segments) handles).handles) no_pokes s) (bytes_at new.memory h.slot)
+  pub sizes : (slot : ℕ) → length (bytes_at new.memory slot) ≡ length (bytes_at middle slot)

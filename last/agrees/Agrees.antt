@@ -1,0 +1,194 @@
+-- What a loader holds, and when it agrees with a state of the machine.
+use Rattle.std.specs.Prelude.{◌≡◌, ◌≢◌, ◌⊎◌, ℕ, ◌+◌, ◌≤◌, ◌<◌, ◌^◌, true, false, List, [], length, map, Option, Some, option_map, IsSome, slice_get}
+use Rattle.omf_format.specs.File.{Segment, segment_at}
+use Rattle.omf_io.specs.Counts.{risen, one_more, IsFront}
+use Rattle.omf_io.specs.Files.{FileMap}
+use Rattle.load_meaning.specs.declared.table.Target.{Target}
+use Rattle.load_meaning.specs.LoadTable.{is_table, targets_of, target_at, entry_count}
+use Rattle.omf_format.specs.Header.{is_dynamic, is_skipped}
+use Rattle.iigs_meaning.specs.declared.handles.Handle.{Handle}
+use Rattle.iigs_meaning.specs.declared.wants.Block.{Block}
+use Rattle.iigs_meaning.specs.Slots.{get, slot_at}
+use Rattle.iigs_meaning.specs.Fits.{Slots, block_in}
+use Rattle.iigs_meaning.specs.Puts.{MakesRoom}
+use Rattle.iigs_meaning.specs.Memory.{Memory, bytes_at}
+use Rattle.loader_machine.specs.declared.seen.Head.{Head}
+use Rattle.loader_machine.specs.declared.seen.Life.{Life}
+use Rattle.loader_machine.specs.declared.seen.Life.TheVariants.{Running, Dormant}
+use Rattle.loader_machine.specs.declared.faults.LoaderFault.TheVariants as refusal
+use Rattle.loader_machine.specs.Heads.{head_of, at_number, is_static}
+use Rattle.loader_machine.specs.Heads.{is_table as is_table_head}
+pub use Rattle.loader_machine.specs.State.{Outline, outline_of, outlines}
+use Rattle.loader_machine.specs.State.{User, Machine, Seen, attached_at, named_by, no_pokes, first_id, max_users, user_of, handles_of, held_at}
+use Rattle.loader_machine.specs.Presences.{handle_at, presence, presence_at, there_at, is_active}
+use Rattle.loader_machine.specs.Stands.{Far, setting_with, far_of, stands}
+use Rattle.loader_machine.specs.Found.{HoldsLoad}
+use Rattle.loader_machine.specs.Commands.{Command, Reply, Refused}
+use Rattle.loader_machine.specs.Steps.{Steps}
+use Rattle.loader_machine.specs.Needs.{Needs, IsReadFor}
+
+-- a user as a loader keeps it: the path of its file, whether it runs, for each segment of the file its handle and what was read of
+-- its header, and the IDs of the users that are attached to it
+pub record Kept : Type 0 where
+  pub path : List ℕ
+  pub life : Life
+  pub handles : List (Option Handle)
+  pub heads : List Head
+  pub attached : List ℕ
+
+-- memory of banks, with the bytes of the blocks, and the users in the order in which they were made; None is gone
+pub record Loaded : Type 0 where
+  pub memory : Memory
+  pub users : List (Option Kept)
+
+-- what is seen of a kept user, and of the user of an ID
+abbrev pub seen_in : Kept → Seen
+seen_in kept = record { life = kept.life; handles = kept.handles; heads = kept.heads }
+
+abbrev pub seen_by : Loaded → ℕ → Option Seen
+seen_by loader id = option_map seen_in (user_of loader.users id)
+
+abbrev pub outline : Kept → Outline
+outline kept = record { path = kept.path; life = kept.life; handles = kept.handles; attached = kept.attached }
+
+abbrev pub kept_outlines : List (Option Kept) → List (Option Outline)
+kept_outlines users = map (option_map outline) users
+
+-- where the segments of the attached users of the user of an ID are active
+abbrev pub far_in : Loaded → ℕ → Far
+far_in loader id = far_of loader.memory.slots (kept_outlines loader.users) id
+
+-- every static segment is there
+abbrev pub AreThere : Slots → List (Option Handle) → List Segment → Type 0
+AreThere slots handles segments = (number : ℕ) (s : Segment) → segment_at segments number ≡ Some s → is_static (head_of s) ≡ true
+    → IsSome (there_at (presence_at slots handles number))
+
+-- A user agrees: the path holds a load file that is taken, whose headers are kept; a table has no pokes; the static segments of a
+-- running user are active; and while all static segments are there, the block of each segment that is there begins with what stands in it,
+-- where the segments of attached users are active so.
+pub record UserAgrees (held : FileMap) (memory : Memory) (far : Far) (id : ℕ) (kept : Kept) (user : User) : Type 0 where
+  pub same : outline kept ≡ outline_of user
+  pub segments : List Segment
+  pub holds : HoldsLoad held kept.path segments
+  pub heads : kept.heads ≡ map head_of segments
+  pub count : length user.segments ≡ length segments
+  pub unpoked : (number : ℕ) (s : Segment) → segment_at segments number ≡ Some s → is_table s ≡ true → (held_at user number).pokes ≡ no_pokes
+  pub statics : kept.life ≡ Running → (number : ℕ) (s : Segment) → segment_at segments number ≡ Some s → is_static (head_of s) ≡ true
+      → is_active (presence_at memory.slots kept.handles number) ≡ true
+  pub begins : AreThere memory.slots kept.handles segments → (number : ℕ) (s : Segment) (h : Handle) → segment_at segments number ≡ Some s
+      → handle_at kept.handles number ≡ Some h → IsSome (there_at (presence_at memory.slots kept.handles number))
+      → IsFront (stands (setting_with far id memory.slots kept.handles) (held_at user number).pokes s) (bytes_at memory h.slot)
+
+-- an attached user: it runs where its user does, nothing is attached to it, and its segments are dynamic and not skipped
+pub record IsJoined (life : Life) (other : Kept) : Type 0 where
+  pub same : other.life ≡ life
+  pub alone : other.attached ≡ []
+  pub dynamic : (number : ℕ) (head : Head) → at_number other.heads number ≡ Some head → (is_dynamic head.kind ≡ true) × (is_skipped head.kind ≡ false)
+
+-- each ID in a list of attached users is that of such a user, and stands in one list, at one place
+pub record AreAttached (users : List (Option Kept)) : Type 0 where
+  pub each : (place i n : ℕ) (kept : Kept) → slice_get users place ≡ Some (Some kept) → slice_get kept.attached i ≡ Some n
+      → (other : Kept) × (user_of users n ≡ Some other) × IsJoined kept.life other
+  pub once : (place other i j n : ℕ) (one two : Kept) → slice_get users place ≡ Some (Some one) → slice_get users other ≡ Some (Some two)
+      → slice_get one.attached i ≡ Some n → slice_get two.attached j ≡ Some n → (place ≡ other) × (i ≡ j)
+
+-- a target of a file above 1 leads to a segment of the attached user of that file, and to an offset below its LENGTH
+pub record LeadsFar (users : List (Option Kept)) (id : ℕ) (t : Target) : Type 0 where
+  pub other : ℕ
+  pub named : attached_at (kept_outlines users) id t.file ≡ Some other
+  pub kept : Kept
+  pub made : user_of users other ≡ Some kept
+  pub head : Head
+  pub head' : at_number kept.heads t.segment ≡ Some head
+  pub inside : t.offset < head.length
+
+-- and so does each entry for an attached user in the table of a user's file
+abbrev pub EntriesLead : FileMap → List (Option Kept) → Type 0
+EntriesLead held users = (place number k : ℕ) (kept : Kept) (segments : List Segment) (s : Segment) (t : Target) → slice_get users place ≡ Some (Some kept)
+    → HoldsLoad held kept.path segments → segment_at segments number ≡ Some s → is_table s ≡ true → slice_get (targets_of s) k ≡ Some t → 2 ≤ t.file
+    → LeadsFar users (first_id + place) t
+
+-- over these files the loader agrees with the state: all of it but bytes and headers is the state's, and each user agrees; attached
+-- users live as their users do, and each entry for one leads to a place in one
+pub record Agrees (held : FileMap) (loader : Loaded) (state : Machine) : Type 0 where
+  pub banks : loader.memory.banks ≡ state.banks
+  pub slots : loader.memory.slots ≡ state.slots
+  pub users : kept_outlines loader.users ≡ outlines state.users
+  pub attached : AreAttached loader.users
+  pub entries : EntriesLead held loader.users
+  pub each : (place : ℕ) (kept : Kept) (user : User) → slice_get loader.users place ≡ Some (Some kept) → slice_get state.users place ≡ Some (Some user)
+      → UserAgrees held loader.memory (far_in loader (first_id + place)) (first_id + place) kept user
+
+-- ---- what is true of every loader
+
+-- a block of an active segment is locked with level 0, and one of an idle segment unlocked with level 3
+abbrev pub IsSegments : Block → Type 0
+IsSegments block = ((block.locked ≡ true) × (block.level ≡ 0)) ⊎ ((block.locked ≡ false) × (block.level ≡ 3))
+
+-- the handle of a user's segment is live, its block the user's, with room for LENGTH bytes
+pub record IsOf (memory : Memory) (id : ℕ) (head : Head) (h : Handle) : Type 0 where
+  pub block : Block
+  pub live : get memory.slots h ≡ Some block
+  pub user : block.user ≡ id
+  pub form : IsSegments block
+  pub want : head.length ≤ block.want.size
+  pub room : IsSome block.at → head.length ≤ length (bytes_at memory h.slot)
+
+-- the segment with a number of the user at a place has the handle
+pub record Has (users : List (Option Kept)) (place number : ℕ) (head : Head) (h : Handle) : Type 0 where
+  pub kept : Kept
+  pub made : slice_get users place ≡ Some (Some kept)
+  pub head' : at_number kept.heads number ≡ Some head
+  pub handle : handle_at kept.handles number ≡ Some h
+
+-- each entry of a table in memory leads to a dynamic segment that isn't skipped, of the user or of an attached one, and to an offset
+-- below its LENGTH
+pub record IsCall (users : List (Option Kept)) (id : ℕ) (t : Target) : Type 0 where
+  pub other : ℕ
+  pub named : named_by (kept_outlines users) id t.file ≡ Some other
+  pub kept : Kept
+  pub made : user_of users other ≡ Some kept
+  pub head : Head
+  pub head' : at_number kept.heads t.segment ≡ Some head
+  pub dynamic : is_dynamic head.kind ≡ true
+  pub loaded : is_skipped head.kind ≡ false
+  pub inside : t.offset < head.length
+
+-- At most 255 users were made. Each has fewer than 65,536 segments, and a place for a handle for each header. The static segments of a
+-- running user are active, and no segment of a dormant one is. Each handle of a user is its own, no two segments have one slot, and
+-- each block of a user is a segment's.
+pub record IsSound (memory : Memory) (users : List (Option Kept)) : Type 0 where
+  pub few : length users ≤ max_users
+  pub lengths : (place : ℕ) (kept : Kept) → slice_get users place ≡ Some (Some kept) → length kept.handles ≡ length kept.heads
+  pub short : (place : ℕ) (kept : Kept) → slice_get users place ≡ Some (Some kept) → length kept.heads < 2 ^ 16
+  pub statics : (place : ℕ) (kept : Kept) (number : ℕ) (head : Head) → slice_get users place ≡ Some (Some kept) → kept.life ≡ Running
+      → at_number kept.heads number ≡ Some head → is_static head ≡ true → is_active (presence_at memory.slots kept.handles number) ≡ true
+  pub rests : (place : ℕ) (kept : Kept) (number : ℕ) → slice_get users place ≡ Some (Some kept) → kept.life ≡ Dormant
+      → is_active (presence_at memory.slots kept.handles number) ≡ false
+  pub each : (place number : ℕ) (head : Head) (h : Handle) → Has users place number head h → IsOf memory (first_id + place) head h
+  pub once : (place other number n : ℕ) (head second : Head) (h k : Handle) → Has users place number head h → Has users other n second k
+      → h.slot ≡ k.slot → (place ≡ other) × (number ≡ n)
+  pub only : (slot : ℕ) (block : Block) → block_in (slot_at memory.slots slot) ≡ Some block → block.user ≢ 0
+      → (place : ℕ) × (number : ℕ) × (head : Head) × (h : Handle) × Has users place number head h × (h.slot ≡ slot)
+  pub attached : AreAttached users
+  pub calls : (place number k : ℕ) (head : Head) (h : Handle) → Has users place number head h → is_table_head head ≡ true → IsSome (there_at (presence memory.slots (Some h)))
+      → k < entry_count head.length → IsCall users (first_id + place) (target_at (bytes_at memory h.slot) k)
+
+-- ---- a call, over files that are told
+
+-- the command is answered as by the machine, and the loader agrees with the next state
+abbrev pub Met : MakesRoom → FileMap → Machine → Command → Reply → Loaded → Type 0
+Met Makes held state command reply new = (next : Machine) × Steps Makes held state command reply next × Agrees held new next
+
+-- The same of a call that may read and may lack memory: the count of the store's faults stays. Or a path is needed, and the call
+-- answers that it couldn't be read, where the count is one more; or memory ran out. Then the loader agrees with the old state.
+abbrev pub Meets : MakesRoom → FileMap → Machine → Command → Reply → Loaded → ℕ → ℕ → Type 0
+Meets Makes held state command reply new before now =
+    (Met Makes held state command reply new × (now ≡ before))
+    ⊎ (((reply ≡ Refused refusal.CannotRead) × (paths : List (List ℕ)) × Needs held state command paths × (paths ≢ []) × Agrees held new state × (now ≡ one_more before))
+    ⊎ ((reply ≡ Refused refusal.Memory) × Agrees held new state × (now ≡ before)))
+
+-- The files that the command needs were read, once each, and no other was: the count of reads is one more for each. Where a read failed,
+-- as this number of failures says, or memory ran out, those behind may not have been read.
+abbrev pub ReadsNeeded : FileMap → Machine → Command → ℕ → ℕ → ℕ → Type 0
+ReadsNeeded held state command others before now = (reads : ℕ) × IsReadFor held state command others reads × (now ≡ risen reads before)

@@ -1,0 +1,4 @@
+pub mod Agrees
+pub mod StepsOnce
+pub mod Acts
+pub mod laws

@@ -1,0 +1,323 @@
+-- A loader after a program was loaded.
+use Rattle.std.proofs.Common.{◌≡◌, ◌⊎◌, inl, inr, ℕ, zero, suc, Bool, true, false, cond, ◌==◌, ◌+◌, ◌<◌, ◌≤◌, List, [], ◌∷◌, ◌++◌, length, map, Option, Some, None, IsSome, nat_lt, refl, sym, ap, subst, ◌∙◌, arith}
+use Rattle.std.specs.Prelude.{slice_get, slice_set, option_map, position, not, ◌&&◌}
+use Rattle.std.specs.List.{prefix_len}
+use Rattle.std.specs.Option.{option_map_or, option_and_then}
+use Rattle.std.proofs.lemmas.Option.{same_Some, slice_get_within}
+use Rattle.std.proofs.lemmas.List.{get_or-set_same, length-map, length-append, map-append}
+use Rattle.std.proofs.lemmas.List.Quantifiers.{position-Some}
+use Rattle.std.proofs.lemmas.Bool.Decides.{nat_tests}
+use Rattle.omf_format.specs.File.{Segment, segment_at}
+use Rattle.omf_io.specs.Files.{FileMap}
+use Rattle.iigs_meaning.specs.declared.handles.Handle.{Handle}
+use Rattle.iigs_meaning.specs.declared.slots.Slot.{Slot}
+use Rattle.iigs_meaning.specs.declared.slots.Content.{Content}
+use Rattle.iigs_meaning.specs.declared.slots.Content.TheVariants.{Free, Used, Retired}
+use Rattle.iigs_meaning.specs.declared.wants.Want.{Want}
+use Rattle.iigs_meaning.specs.declared.wants.Block.{Block}
+use Rattle.iigs_meaning.specs.Slots.{slot_at, new_slot, get, is_free, lowest_free, new_handle, after_take}
+use Rattle.iigs_meaning.specs.Placement.{can_purge, emptied_where, is_gone, emptied}
+use Rattle.iigs_meaning.specs.Fits.{Slots}
+use Rattle.iigs_meaning.specs.Puts.{Purges, Puts, PutsAll, placed}
+use Rattle.iigs_meaning.specs.Memory.{Memory}
+use Rattle.loader_machine.specs.declared.seen.Head.{Head}
+use Rattle.loader_machine.specs.Heads.{head_of, at_number, is_static, wants_of}
+use Rattle.loader_machine.specs.State.{Held, User, Machine, absent, no_pokes, first_id, max_users, held_at}
+use Rattle.loader_machine.specs.Presences.{handle_at, presence, presence_at, there_at, is_active}
+use Rattle.loader_machine.specs.Found.{HoldsLoad, Good}
+use Rattle.loader_machine.specs.Commands.{Started, Load}
+use Rattle.loader_machine.specs.Refusals.{load_refusal}
+use Rattle.loader_machine.specs.Steps.{PutIn, Begins, Steps, spread, started_user}
+use Rattle.loader_machine.specs.Stands.{Far, nowhere, setting, setting_with, target_with}
+use Rattle.loader_machine.specs.laws.StandsLaws.{AreAlike, stands_alike}
+use Rattle.load_meaning.specs.laws.CellLaws.{loadable_has}
+use Rattle.loader_agrees.specs.Agrees.{Kept, Loaded, Outline, outline, outline_of, UserAgrees, Agrees, IsSound, Met}
+use Rattle.loader_agrees.specs.laws.Frame.{Keeps, Same, Gone, agrees_still}
+use Rattle.loader_agrees.specs.Acts.{HasPlaced, IsAdded, HasBegun, started_kept}
+use Rattle.loader_agrees.specs.laws.Lists.{number_map}
+use Rattle.loader_agrees.specs.laws.Seeing.{has_any}
+use Rattle.loader_agrees.specs.laws.Stay.{Stays, placement_keeps, all_stay, slot_map}
+
+-- ---- a block that was just placed
+
+emptied_free : (test : Block → Bool) (slot : Slot Block) → (is_free (emptied_where test slot) ≡ is_free slot) × ((emptied_where test slot).generation ≡ slot.generation)
+emptied_free test slot = go slot.generation slot.content
+  where
+    by_test : (t : Bool) (generation : ℕ) (b : Block)
+        → let new : Slot Block = cond t (record { generation = generation; content = Used (record b { at = None }) }) (record { generation = generation; content = Used b }) in (is_free new ≡ false) × (new.generation ≡ generation)
+    by_test true generation b = (refl, refl)
+    by_test false generation b = (refl, refl)
+
+    go : (generation : ℕ) (content : Content Block) → let slot : Slot Block = record { generation = generation; content = content } in (is_free (emptied_where test slot) ≡ is_free slot) × ((emptied_where test slot).generation ≡ slot.generation)
+    go generation Free = (refl, refl)
+    go generation Retired = (refl, refl)
+    go generation (Used b) = by_test (test b) generation b
+
+prefix_map : (p : Slot Block → Bool) (f : Slot Block → Slot Block) (slots : Slots) → ((slot : Slot Block) → p (f slot) ≡ p slot) → prefix_len (λ slot. not (p slot)) (map f slots) ≡ prefix_len (λ slot. not (p slot)) slots
+prefix_map p f [] same = refl
+prefix_map p f (slot ∷ slots) same =
+    ap (λ (t : Bool). cond (not t) (1 + prefix_len (λ x. not (p x)) (map f slots)) 0) (same slot)
+    ∙ ap (λ (n : ℕ). cond (not (p slot)) (1 + n) 0) (prefix_map p f slots same)
+
+position_map : (p : Slot Block → Bool) (f : Slot Block → Slot Block) (slots : Slots) → ((slot : Slot Block) → p (f slot) ≡ p slot) → position p (map f slots) ≡ position p slots
+position_map p f slots same =
+    ap (λ (n : ℕ). cond (nat_lt n (length (map f slots))) (Some n) None) (prefix_map p f slots same)
+    ∙ ap (λ (m : ℕ). cond (nat_lt (prefix_len (λ x. not (p x)) slots) m) (Some (prefix_len (λ x. not (p x)) slots)) None) (length-map slots f)
+
+pub emptied_lowest : (slots : Slots) (count : ℕ) → lowest_free (emptied slots count) ≡ lowest_free slots
+unfolding emptied
+emptied_lowest slots count = position_map is_free (emptied_where (is_gone slots count)) slots (λ slot. (emptied_free (is_gone slots count) slot).0)
+
+emptied_generation : (slots : Slots) (count place : ℕ) → (slot_at (emptied slots count) place).generation ≡ (slot_at slots place).generation
+unfolding emptied
+emptied_generation slots count place =
+    ap (λ (s : Slot Block). s.generation) (slot_map (emptied_where (is_gone slots count)) slots place refl) ∙ (emptied_free (is_gone slots count) (slot_at slots place)).1
+
+take_here : (room : Slots) (value : Block) (h : Handle) (place : ℕ) → lowest_free room ≡ Some place → place ≡ h.slot → (slot_at room place).generation ≡ h.generation → get (after_take room value) h ≡ Some value
+take_here room value h place lowest slot generation =
+    let found = position-Some is_free room place new_slot lowest in
+    let taken : after_take room value ≡ slice_set room place (record { generation = (slot_at room place).generation; content = Used value }) = rw lowest refl in
+    let here : slot_at (slice_set room place (record { generation = (slot_at room place).generation; content = Used value })) place ≡ record { generation = (slot_at room place).generation; content = Used value } =
+    get_or-set_same room place (record { generation = (slot_at room place).generation; content = Used value }) new_slot found.0 in
+    ap (λ (t : Slots). get t h) taken ∙ at_slot place slot here
+  where
+    same : (n m : ℕ) → n ≡ m → cond (n == m) (Some value) None ≡ Some value
+    same n m e = let t : (n == m) ≡ true = grind (arith, nat_tests) in rw t refl
+
+    at_slot : (p : ℕ) → p ≡ h.slot → slot_at (slice_set room place (record { generation = (slot_at room place).generation; content = Used value })) p ≡ record { generation = (slot_at room place).generation; content = Used value }
+        → get (slice_set room place (record { generation = (slot_at room place).generation; content = Used value })) h ≡ Some value
+    at_slot p e here = rw (← e, here) (same (slot_at room place).generation h.generation generation)
+
+put_here : (slots : Slots) (count : ℕ) (value : Block) (h : Handle) → new_handle slots ≡ Some h → get (after_take (emptied slots count) value) h ≡ Some value
+put_here slots count value h is = go (lowest_free slots) refl is
+  where
+    go : (o : Option ℕ) → lowest_free slots ≡ o → option_map (λ place. let new : Handle = record { slot = place; generation = (slot_at slots place).generation } in new) o ≡ Some h → get (after_take (emptied slots count) value) h ≡ Some value
+    go None e is = absurd cc
+    go (Some place) e is =
+        let slot : place ≡ h.slot = cc in
+        let generation : (slot_at slots place).generation ≡ h.generation = cc in
+        take_here (emptied slots count) value h place (emptied_lowest slots count ∙ e) slot (emptied_generation slots count place ∙ generation)
+
+locked_cant : (block : Block) → block.locked ≡ true → can_purge block ≡ true → ⊥
+unfolding can_purge
+locked_cant block locked can = go (Rattle.std.specs.Prelude.is_some block.at) block.locked (not (block.level == 0)) locked can
+  where
+    go : (a b c : Bool) → b ≡ true → (a && not b && c) ≡ true → ⊥
+    go true true c e e' = cc
+    go false true c e e' = cc
+    go a false c e e' = cc
+
+-- a locked block stays through all placements
+locked_stays : (old new : Slots) (h : Handle) (block : Block) → Stays old new h → get old h ≡ Some block → block.locked ≡ true → get new h ≡ Some block
+locked_stays old new h block stays is locked = elim (stays block is) [
+  | inl same ↦ same
+  | inr gone ↦ absurd (locked_cant block locked gone.0)
+]
+
+-- a new handle's block
+pub puts_here : (banks : List ℕ) (slots next : Slots) (want : Want) (user : ℕ) (locked : Bool) (level : ℕ) (h : Handle) → (puts : Puts Purges banks slots want user locked level h next)
+    → get next h ≡ Some (placed want puts.address user locked level)
+puts_here banks slots next want user locked level h puts =
+    ap (λ (t : Slots). get t h) (puts.next_is ∙ ap (λ (room : Slots). after_take room (placed want puts.address user locked level)) puts.makes.room_is)
+    ∙ put_here slots puts.makes.count (placed want puts.address user locked level) h puts.handle
+
+-- each new handle is of a block of its want, locked with level 0
+pub all_placed : (banks : List ℕ) (user : ℕ) (slots last : Slots) (wants : List Want) (hs : List Handle) → PutsAll Purges banks user slots wants hs last → (i : ℕ) (h : Handle) → slice_get hs i ≡ Some h
+    → (want : Want) × (address : ℕ) × (slice_get wants i ≡ Some want) × (get last h ≡ Some (placed want address user true 0))
+all_placed banks user slots last [] [] all i h is = absurd cc
+all_placed banks user slots last [] (k ∷ hs) all i h is = absurd all
+all_placed banks user slots last (want ∷ wants) [] all i h is = absurd all
+all_placed banks user slots last (want ∷ wants) (k ∷ hs) all zero h is =
+    let handle : k ≡ h = same_Some k h is in
+    let puts = all.1 in
+    let value = placed want puts.address user true 0 in
+    let here = puts_here banks slots all.0 want user true 0 k puts in
+    let there = locked_stays all.0 last k value (all_stay banks user all.0 last wants hs k all.2) here refl in
+    (want, puts.address, refl, ap (get last) (sym handle) ∙ there)
+all_placed banks user slots last (want ∷ wants) (k ∷ hs) all (suc i) h is = all_placed banks user all.0 last wants hs all.2 i h is
+
+pub all_active : (banks : List ℕ) (user : ℕ) (slots last : Slots) (wants : List Want) (hs : List Handle) → PutsAll Purges banks user slots wants hs last → (i : ℕ) (h : Handle) → slice_get hs i ≡ Some h
+    → is_active (presence last (Some h)) ≡ true
+all_active banks user slots last wants hs all i h is = let there = all_placed banks user slots last wants hs all i h is in rw (there.3) refl
+
+pub all_length : (banks : List ℕ) (user : ℕ) (slots last : Slots) (wants : List Want) (hs : List Handle) → PutsAll Purges banks user slots wants hs last → length hs ≡ length wants
+all_length banks user slots last [] [] all = refl
+all_length banks user slots last [] (k ∷ hs) all = absurd all
+all_length banks user slots last (want ∷ wants) [] all = absurd all
+all_length banks user slots last (want ∷ wants) (k ∷ hs) all = ap (λ (n : ℕ). suc n) (all_length banks user all.0 last wants hs all.2)
+
+-- ---- the places of the segments
+
+pub decide : (t : Bool) → (t ≡ true) ⊎ (t ≡ false)
+decide true = inl refl
+decide false = inr refl
+
+pub spread_length : (heads : List Head) (hs : List Handle) → length (spread heads hs) ≡ length heads
+spread_length [] hs = refl
+spread_length (f ∷ heads) [] = ap (λ (n : ℕ). suc n) (spread_length heads [])
+spread_length (f ∷ heads) (h ∷ hs) = elim (decide (is_static f)) [
+  | inl static ↦ rw static (ap (λ (n : ℕ). suc n) (spread_length heads hs))
+  | inr other ↦ rw other (ap (λ (n : ℕ). suc n) (spread_length heads (h ∷ hs)))
+]
+
+-- none has pokes
+spread_pokes : (heads : List Head) (hs : List Handle) (k : ℕ) → (option_map_or (λ held. held) (slice_get (spread heads hs) k) absent).pokes ≡ no_pokes
+spread_pokes [] hs k = refl
+spread_pokes (f ∷ heads) [] zero = refl
+spread_pokes (f ∷ heads) [] (suc k) = spread_pokes heads [] k
+spread_pokes (f ∷ heads) (h ∷ hs) zero = elim (decide (is_static f)) [ inl static ↦ rw static refl | inr other ↦ rw other refl ]
+spread_pokes (f ∷ heads) (h ∷ hs) (suc k) = elim (decide (is_static f)) [ inl static ↦ rw static (spread_pokes heads hs k) | inr other ↦ rw other (spread_pokes heads (h ∷ hs) k) ]
+
+-- each static one has one of the handles
+abbrev HasOne : List Head → List Handle → ℕ → Type 0
+HasOne heads hs k = (i : ℕ) × (h : Handle) × (slice_get hs i ≡ Some h) × (slice_get (map (λ (held : Held). held.handle) (spread heads hs)) k ≡ Some (Some h))
+
+one_later : (g : Head) (heads : List Head) (h : Handle) (hs : List Handle) (k : ℕ) → is_static g ≡ true → HasOne heads hs k → HasOne (g ∷ heads) (h ∷ hs) (suc k)
+one_later g heads h hs k e one = (suc one.0, one.1, one.2, rw e one.3)
+
+one_passed : (g : Head) (heads : List Head) (h : Handle) (hs : List Handle) (k : ℕ) → is_static g ≡ false → HasOne heads (h ∷ hs) k → HasOne (g ∷ heads) (h ∷ hs) (suc k)
+one_passed g heads h hs k e one = (one.0, one.1, one.2, rw e one.3)
+
+one_here : (g : Head) (heads : List Head) (h : Handle) (hs : List Handle) → is_static g ≡ true → HasOne (g ∷ heads) (h ∷ hs) zero
+one_here g heads h hs e = (zero, h, refl, rw e refl)
+
+wants_cons : (g : Head) (heads : List Head) → is_static g ≡ true → length (wants_of (g ∷ heads)) ≡ suc (length (wants_of heads))
+wants_cons g heads e = rw e refl
+
+wants_pass : (g : Head) (heads : List Head) → is_static g ≡ false → length (wants_of (g ∷ heads)) ≡ length (wants_of heads)
+wants_pass g heads e = rw e refl
+
+pub spread_static : (heads : List Head) (hs : List Handle) → length hs ≡ length (wants_of heads) → (k : ℕ) (f : Head) → slice_get heads k ≡ Some f → is_static f ≡ true → HasOne heads hs k
+spread_static [] hs long k f is static = absurd cc
+spread_static (g ∷ heads) [] long zero f is static = absurd (omega (arith, long, wants_cons g heads (ap is_static (same_Some g f is) ∙ static)))
+spread_static (g ∷ heads) [] long (suc k) f is static = elim (decide (is_static g)) [
+  | inl static' ↦ absurd (omega (arith, long, wants_cons g heads static'))
+  | inr other ↦ spread_static heads [] (long ∙ wants_pass g heads other) k f is static
+]
+spread_static (g ∷ heads) (h ∷ hs) long zero f is static = one_here g heads h hs (ap is_static (same_Some g f is) ∙ static)
+spread_static (g ∷ heads) (h ∷ hs) long (suc k) f is static = elim (decide (is_static g)) [
+  | inl static' ↦ one_later g heads h hs k static' (spread_static heads hs (omega (arith, long, wants_cons g heads static')) k f is static)
+  | inr other ↦ one_passed g heads h hs k other (spread_static heads (h ∷ hs) (long ∙ wants_pass g heads other) k f is static)
+]
+
+pub slice_push : {X : Type 0} (xs : List X) (x : X) (k : ℕ) (y : X) → slice_get (xs ++ x ∷ []) k ≡ Some y → (slice_get xs k ≡ Some y) ⊎ ((k ≡ length xs) × (y ≡ x))
+slice_push [] x zero y is = inr (refl, cc)
+slice_push [] x (suc k) y is = absurd cc
+slice_push (z ∷ xs) x zero y is = inl is
+slice_push (z ∷ xs) x (suc k) y is = elim (slice_push xs x k y is) [ inl was ↦ inl was | inr last ↦ inr (ap (λ (n : ℕ). suc n) last.0, last.1) ]
+
+-- ---- agreement
+
+-- a user more may be made
+pub may_load : (made : ℕ) → made < max_users → load_refusal made ≡ None
+unfolding load_refusal
+may_load made few = let t : nat_lt made max_users ≡ true = grind arith in rw t refl
+
+-- a block that was there is kept while a program is placed
+pub begun_keeps : (old new : Memory) (path : List ℕ) (segments : List Segment) (id : ℕ) (entry : Option ℕ) → HasPlaced old path segments id entry new
+    → (h : Handle) → IsSome (get old.slots h) → Keeps old new h
+begun_keeps old new path segments id entry begun h live = elim (placement_keeps old begun.middle id (wants_of (map head_of segments)) begun.handles h begun.placed live) [
+  | Same slot bytes ↦ Same (ap (λ (t : Slots). get t h) begun.slots ∙ slot)
+      (λ there. begun.stay h live ∙ bytes (subst (λ (t : Slots). IsSome (there_at (presence t (Some h)))) begun.slots there))
+  | Gone block was can gone ↦ Gone block was can (ap (λ (t : Slots). get t h) begun.slots ∙ gone)
+]
+
+-- what a load placed, and the user that it added
+abbrev pub as_placed : (old new : Loaded) (path : List ℕ) (segments : List Segment) (id : ℕ) (entry : Option ℕ) → HasBegun old path segments id entry new → HasPlaced old.memory path segments id entry new.memory
+as_placed old new path segments id entry begun = record {
+  short = begun.short;
+  handles = begun.handles;
+  middle = begun.middle;
+  placed = begun.placed;
+  banks = begun.banks;
+  slots = begun.slots;
+  entry_is = begun.entry_is;
+  stay = begun.stay;
+  begins = begun.begins;
+  sizes = begun.sizes;
+}
+
+push_old : {X : Type 0} (xs : List X) (x y : X) (k : ℕ) → slice_get xs k ≡ Some y → slice_get (xs ++ x ∷ []) k ≡ Some y
+push_old [] x y k is = absurd cc
+push_old (z ∷ xs) x y zero is = is
+push_old (z ∷ xs) x y (suc k) is = push_old xs x y k is
+
+push_new : {X : Type 0} (xs : List X) (x : X) → slice_get (xs ++ x ∷ []) (length xs) ≡ Some x
+push_new [] x = refl
+push_new (z ∷ xs) x = push_new xs x
+
+pub as_added : (old new : Loaded) (path : List ℕ) (segments : List Segment) (id : ℕ) (entry : Option ℕ) → (begun : HasBegun old path segments id entry new)
+    → IsAdded old.users (length old.users) (started_kept path (map head_of segments) begun.handles) new.users
+as_added old new path segments id entry begun = subst (IsAdded old.users (length old.users) its) (sym begun.users) (record {
+  few = omega (arith, begun.few, length-append old.users (Some its ∷ []));
+  here = push_new old.users (Some its);
+  which = λ p k made. elim (slice_push old.users (Some its) p (Some k) made) [
+    | inl was ↦ let within = slice_get_within old.users p (Some k) was in inl ((λ e. omega (arith, e, within)), was)
+    | inr last ↦ inr (last.0, same_Some k its last.1)
+  ];
+  stay = λ p k was. push_old old.users (Some its) (Some k) p was;
+})
+  where
+    its : Kept
+    its = started_kept path (map head_of segments) begun.handles
+
+module _ (held : FileMap) (old new : Loaded) (path : List ℕ) (segments : List Segment) (id : ℕ) (entry : Option ℕ) (sound : IsSound old.memory old.users)
+    (begun : HasPlaced old.memory path segments id entry new.memory) (holds : HoldsLoad held path segments) (ids : List ℕ) where
+  abbrev pub user : User
+  user = record (started_user path (map head_of segments) begun.handles) { attached = ids }
+
+  abbrev pub kept : Kept
+  kept = record (started_kept path (map head_of segments) begun.handles) { attached = ids }
+
+  heads_at : (n : ℕ) (s : Segment) → segment_at segments n ≡ Some s → at_number (map head_of segments) n ≡ Some (head_of s)
+  heads_at n s found = number_map head_of segments n ∙ ap (option_map head_of) found
+
+  static_active : (n : ℕ) (s : Segment) → segment_at segments n ≡ Some s → is_static (head_of s) ≡ true → is_active (presence_at new.memory.slots kept.handles n) ≡ true
+  static_active zero s found static = absurd cc
+  static_active (suc k) s found static =
+      let spreads = spread_static (map head_of segments) begun.handles (all_length old.memory.banks id old.memory.slots begun.middle.slots (wants_of (map head_of segments)) begun.handles begun.placed.puts)
+      k (head_of s) (heads_at (suc k) s found) static in
+      let active = all_active old.memory.banks id old.memory.slots begun.middle.slots (wants_of (map head_of segments)) begun.handles begun.placed.puts spreads.0 spreads.1 spreads.2 in
+      let handle : handle_at kept.handles (suc k) ≡ Some spreads.1 = ap (option_and_then (λ (o : Option Handle). o)) spreads.3 in
+      ap (λ (o : Option Handle). is_active (presence new.memory.slots o)) handle ∙ subst (λ (t : Slots). is_active (presence t (Some spreads.1)) ≡ true) (sym begun.slots) active
+
+  no_poke : (n : ℕ) → (held_at user n).pokes ≡ no_pokes
+  no_poke zero = refl
+  no_poke (suc k) = spread_pokes (map head_of segments) begun.handles k
+
+  -- where no segment of an attached user is active
+  pub user_agrees : (far : Far) → ((file n : ℕ) → far file n ≡ None) → UserAgrees held new.memory far id kept user
+  user_agrees far none = record {
+    same = refl;
+    segments = segments;
+    holds = holds;
+    heads = refl;
+    count = spread_length (map head_of segments) begun.handles ∙ length-map segments head_of;
+    unpoked = λ n s found table. no_poke n;
+    statics = λ running n s found static. static_active n s found static;
+    begins = λ there n s h found has present.
+        let alike : AreAlike segments n s (setting id new.memory.slots kept.handles) (setting_with far id new.memory.slots kept.handles) = record {
+          id = refl;
+          own = refl;
+          static = λ m t is static. refl;
+          target = λ table m t is dynamic loaded. refl;
+          far = λ table file m above. far_none file m above;
+        } in
+        let same = stands_alike segments n s (loadable_has holds.file segments holds.taken.loadable n s found) (setting id new.memory.slots kept.handles) (setting_with far id new.memory.slots kept.handles) alike no_pokes in
+        rw (no_poke n, ← same) (begun.begins n s h found has);
+  }
+    where
+      far_none : (file m : ℕ) → 2 ≤ file → target_with nowhere new.memory.slots kept.handles file m ≡ target_with far new.memory.slots kept.handles file m
+      far_none file m above = let other : (file == 1) ≡ false = grind arith in rw other (sym (none file m))
+
+  keeps : (h : Handle) → IsSome (get old.memory.slots h) → Keeps old.memory new.memory h
+  keeps h live = begun_keeps old.memory new.memory path segments id entry begun h live
+
+  pub others_agree : (far now : Far) (place : ℕ) (kept' : Kept) (user' : User) → slice_get old.users place ≡ Some (Some kept') → ((file n : ℕ) → 2 ≤ file → now file n ≡ far file n)
+      → UserAgrees held old.memory far (first_id + place) kept' user' → UserAgrees held new.memory now (first_id + place) kept' user'
+  others_agree far now place kept' user' made same was = agrees_still held old.memory new.memory far now (first_id + place) kept' user' was
+      (λ n h found. let one = has_any old sound place kept' made n h found in
+      let of' = sound.each place n one.0 h one.1 in
+      let live : IsSome (get old.memory.slots h) = rw of'.live refl in
+      keeps h live) same
+
