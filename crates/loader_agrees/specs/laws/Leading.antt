@@ -10,7 +10,7 @@ use Rattle.loader_machine.specs.Heads.{is_table as is_table_head}
 use Rattle.loader_machine.specs.State.{Outline, first_id, user_of, attached_at, file_in, holder_from, holder_of, led_by}
 use Rattle.loader_agrees.specs.Agrees.{Kept, outline, kept_outlines, IsJoined, AreAttached, AreBare}
 use Rattle.loader_agrees.specs.laws.Bare.{bare_row}
-use Rattle.loader_agrees.specs.laws.BegunRows.{user_there}
+use Rattle.loader_agrees.specs.laws.RowUsers.{user_there}
 use Rattle.loader_agrees.specs.laws.Seeing.{user_is, made_at}
 
 -- ---- the search for an ID

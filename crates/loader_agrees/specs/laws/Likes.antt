@@ -11,7 +11,7 @@ use Rattle.loader_machine.specs.Heads.{at_number}
 use Rattle.loader_machine.specs.State.{Outline, first_id, user_of, attached_at, named_by}
 use Rattle.loader_machine.specs.Found.{HoldsLoad}
 use Rattle.loader_agrees.specs.Agrees.{Kept, outline, kept_outlines, IsJoined, AreAttached, LeadsFar, EntriesLead, IsCall}
-use Rattle.loader_agrees.specs.laws.BegunRows.{user_there}
+use Rattle.loader_agrees.specs.laws.RowUsers.{user_there}
 use Rattle.loader_agrees.specs.laws.Seeing.{user_is, made_at}
 
 -- all but the handles of a user is as before
