@@ -8,7 +8,7 @@ use Rattle.omf_format.specs.File.{Segment, segment_at}
 use Rattle.omf_io.specs.Counts.{one_more}
 use Rattle.omf_io.specs.Files.{FileMap, IsRead, IsUnread, max_file}
 use Rattle.load_meaning.specs.declared.load.LoadFault.{LoadFault}
-use Rattle.loader_machine.specs.Taken.{IsTaken, IsFirstRefusal}
+use Rattle.loader_machine.specs.Taken.{IsLoadable, IsFirstRefusal}
 use Rattle.iigs_meaning.specs.declared.handles.Handle.{Handle}
 use Rattle.iigs_meaning.specs.declared.wants.Block.{Block}
 use Rattle.iigs_meaning.specs.Slots.{get, new_handle}
@@ -163,7 +163,7 @@ module _ (held : FileMap) (old : Loaded) (state : Machine) (id number : ℕ) (so
   plain : is_table head ≡ false
   plain = dynamic_plain is.does_agree.holds.file is.does_agree.segments is.does_agree.holds.taken number head (ap (λ (hs : List Head). at_number hs number) (sym is.does_agree.heads) ∙ can.head') can.dynamic
 
-  same_load : (file : List ℕ) (segments : List Segment) → IsRead (Some held) can.kept.path file → IsTaken file segments → is.does_agree.segments ≡ segments
+  same_load : (file : List ℕ) (segments : List Segment) → IsRead (Some held) can.kept.path file → IsLoadable file segments → is.does_agree.segments ≡ segments
   same_load file segments is_read taken =
       one_load held can.kept.path is.does_agree.segments segments is.does_agree.holds (record { file = file; is_held = (is_read.1, is_read.0); taken = taken })
 

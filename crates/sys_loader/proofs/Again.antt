@@ -15,7 +15,7 @@ use Rattle.loader_machine.specs.Heads.{head_of, at_number, is_table, wants_of}
 use Rattle.loader_machine.specs.State.{User, Machine, first_id, user_of, with_user}
 use Rattle.loader_machine.specs.Presences.{handle_at}
 use Rattle.loader_machine.specs.Stands.{setting}
-use Rattle.loader_machine.specs.Taken.{IsTaken}
+use Rattle.load_meaning.specs.Loadable.{IsLoadable}
 use Rattle.loader_machine.specs.Found.{HoldsLoad}
 use Rattle.loader_machine.specs.Commands.{Started}
 use Rattle.loader_machine.specs.Steps.{PutIn, Begins, started_user, dropped_state}
@@ -90,14 +90,14 @@ module _ (old new : Loaded) (id : ℕ) (kept : Kept) (segments : List Segment) (
   its_made : user_of new.users id ≡ Some its
   its_made = subst (λ (n : ℕ). user_of new.users n ≡ Some its) its_users.1 (user_there new.users place its at_place)
 
-  calls_anew : (file : List ℕ) → IsTaken file segments → (number k : ℕ) (head : Head) (h : Handle) → at_number (map head_of segments) number ≡ Some head → handle_at its.handles number ≡ Some h → is_table head ≡ true
+  calls_anew : (file : List ℕ) → IsLoadable file segments → (number k : ℕ) (head : Head) (h : Handle) → at_number (map head_of segments) number ≡ Some head → handle_at its.handles number ≡ Some h → is_table head ≡ true
       → k < entry_count head.length → IsCall new.users id (target_at (bytes_at new.memory h.slot) k)
   calls_anew file taken number k head h head' handle table inside' =
       let s = headed segments number head head' in
       own_call file segments taken did.placed.short new.users id its its_made refl (setting id new.memory.slots its.handles) number k s.0 (bytes_at new.memory h.slot) s.1
       (ap is_table s.2 ∙ table) (did.placed.begins number s.0 h s.1 handle) (omega (arith, inside', ap (λ (x : Head). entry_count x.length) s.2))
 
-  pub begun_anew_sound : (file : List ℕ) → IsTaken file segments → IsSound new.memory new.users
+  pub begun_anew_sound : (file : List ℕ) → IsLoadable file segments → IsSound new.memory new.users
   begun_anew_sound file taken =
       sound_placed dropped new kept.path segments id started.entry without_sound did.placed [] place (sym its_users.1) added bare_now (bare_attached new.users bare_now) (calls_anew file taken)
 

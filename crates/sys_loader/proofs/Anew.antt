@@ -3,7 +3,7 @@ use Rattle.std.proofs.Common.{◌≡◌, inl, inr, ℕ, true, false, ◌^◌, �
 use Rattle.std.specs.Prelude.{IfOk, IfErr, string_bytes}
 use Rattle.omf_format.specs.File.{Segment}
 use Rattle.omf_io.specs.Counts.{IsFront}
-use Rattle.loader_machine.specs.Taken.{IsTaken}
+use Rattle.load_meaning.specs.Loadable.{IsLoadable}
 use Rattle.iigs_meaning.specs.declared.handles.Handle.{Handle}
 use Rattle.iigs_meaning.specs.declared.wants.Want.{Want}
 use Rattle.iigs_meaning.specs.Fits.{Slots}
@@ -64,7 +64,7 @@ module _ (old : Loaded) (middle new : Memory) (user : User) (load : List Segment
 
 -- ---- a file that was read
 
-module _ (file : List ℕ) (old : Loaded) (id : ℕ) (k : Kept) (segments : List Segment) (taken : IsTaken file segments) where
+module _ (file : List ℕ) (old : Loaded) (id : ℕ) (k : Kept) (segments : List Segment) (taken : IsLoadable file segments) where
   pub begun_from : (new : Loaded) (r : Result Started LoaderFault) → map head_of segments ≡ k.heads → IfOk r (λ started. HasBegunAnew old id k segments started new) → IfOk r (λ started. HasBegunFrom file old id k started new)
   begun_from new (Ok started) same did = (segments, taken, same, did)
   begun_from new (Err why) same did = tt

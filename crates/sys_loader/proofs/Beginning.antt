@@ -6,7 +6,7 @@ use Rattle.std.proofs.lemmas.Option.{slice_get_within}
 use Rattle.std.proofs.lemmas.List.{length-map, length-replicate, map-append, take_at}
 use Rattle.omf_format.specs.File.{Segment, segment_at}
 use Rattle.omf_io.specs.Counts.{IsFront}
-use Rattle.loader_machine.specs.Taken.{IsTaken}
+use Rattle.load_meaning.specs.Loadable.{IsLoadable}
 use Rattle.iigs_meaning.specs.declared.handles.Handle.{Handle}
 use Rattle.iigs_meaning.specs.declared.wants.Want.{Want}
 use Rattle.iigs_meaning.specs.Fits.{Slots}
@@ -83,7 +83,7 @@ number_within load (suc k) s is = omega (arith, slice_get_within load k s is)
 pub same_count : (load : List Segment) (kept : List users.Segment) → heads_of kept ≡ map head_of load → length kept ≡ length load
 same_count load kept same = sym (length-map kept (λ (s : users.Segment). s.head)) ∙ ap length same ∙ length-map load head_of
 
-pub settled : (file : List ℕ) (load : List Segment) (hs : List Handle) (user : ℕ) (kept : List users.Segment) (old new : Memory) → IsTaken file load → heads_of kept ≡ map head_of load
+pub settled : (file : List ℕ) (load : List Segment) (hs : List Handle) (user : ℕ) (kept : List users.Segment) (old new : Memory) → IsLoadable file load → heads_of kept ≡ map head_of load
     → handles_of kept ≡ spread_handles load hs → AreFilled load (handles_of kept) user (addresses old.slots kept) old new (length kept) → IsSettled load user hs old new
 settled file load hs user kept old new taken same handles filled = record {
   banks = filled.banks;
@@ -160,7 +160,7 @@ module _ (old : Loaded) (memory middle new : Memory) (users' users'' : List (Opt
   pub started : HasBegun old path load id entry (loaded new users'')
   started = subst (λ (l : Loaded). HasBegun l path load id entry (loaded new users'')) (sym view) (subst (λ (us : List (Option User)). HasBegun (loaded memory users') path load id entry (loaded new us)) (sym pushed) as_begun)
 
-  pub started_sound : IsSound memory (map (option_map kept) users') → (file : List ℕ) → IsTaken file load → IsSound new (map (option_map kept) users'')
+  pub started_sound : IsSound memory (map (option_map kept) users') → (file : List ℕ) → IsLoadable file load → IsSound new (map (option_map kept) users'')
   started_sound sound file taken = subst (λ (us : List (Option User)). IsSound new (map (option_map kept) us)) (sym pushed) (sound_begun (loaded memory users') (loaded new (users' ++ Some user ∷ [])) path load id entry sound as_begun file taken)
 
 -- the handles that were given, as the list of them holds them

@@ -11,7 +11,7 @@ use Rattle.omf_format.specs.File.{Segment, segment_at}
 use Rattle.omf_io.specs.Counts.{IsFront}
 use Rattle.load_meaning.specs.declared.table.Target.{Target}
 use Rattle.load_meaning.specs.laws.CellLaws.{loadable_has}
-use Rattle.loader_machine.specs.Taken.{IsTaken}
+use Rattle.load_meaning.specs.Loadable.{IsLoadable}
 use Rattle.load_meaning.specs.LoadTable.{targets_of}
 use Rattle.omf_cells.specs.Places.{address_in}
 use Rattle.iigs_meaning.specs.declared.handles.Handle.{Handle}
@@ -110,7 +110,7 @@ module _ (old : Loaded) (id number : ℕ) (sound : IsSound old.memory old.users)
     abbrev bare : Setting
     bare = record { id = id; place = machine.place_in placed.slots (with_handle can.kept number h).handles; target = λ file segment. None }
 
-    module _ (file : List ℕ) (load : List Segment) (taken : IsTaken file load) (heads : map head_of load ≡ can.kept.heads) where
+    module _ (file : List ℕ) (load : List Segment) (taken : IsLoadable file load) (heads : map head_of load ≡ can.kept.heads) where
       bare_setting : IsSetting load id (slice_set (addresses placed.slots items) (number - 1) (Some address)) bare
       bare_setting = record { id = refl; place = place_is; targets = λ n s is table. none_active (targets_of s) }
 
@@ -120,7 +120,7 @@ module _ (old : Loaded) (id number : ℕ) (sound : IsSound old.memory old.users)
       pub begins : (content : List ℕ) → IsFilled load number id (slice_set (addresses placed.slots items) (number - 1) (Some address)) content → (s : Segment) → segment_at load number ≡ Some s
           → IsFront (stands (setting id placed.slots (with_handle can.kept number h).handles) no_pokes s) content
       begins content filled s is =
-          let its = loadable_has file load taken.loadable number s is in
+          let its = loadable_has file load taken number s is in
           let alike : AreAlike load number s bare (setting id placed.slots (with_handle can.kept number h).handles) = record {
             id = refl;
             own = refl;
@@ -189,7 +189,7 @@ module _ (old : Loaded) (id number : ℕ) (sound : IsSound old.memory old.users)
         subst (λ (m : Memory). AreRoomy m k.heads k.handles) (sym written.new_is)
         (subst (λ (x : Kept). AreRoomy (with_bytes placed h.slot written.content) x.heads x.handles) same_kept (roomy_now written.content written.same))
 
-    come_at : (last : Loaded) (items : List users.Segment) (file : List ℕ) (load : List Segment) (places : List (Option ℕ)) (filled new : Memory) (count : ℕ) → handles_of items ≡ k.handles → IsTaken file load
+    come_at : (last : Loaded) (items : List users.Segment) (file : List ℕ) (load : List Segment) (places : List (Option ℕ)) (filled new : Memory) (count : ℕ) → handles_of items ≡ k.handles → IsLoadable file load
         → map head_of load ≡ k.heads → count ≡ length k.heads → places ≡ slice_set (addresses placed.slots items) (number - 1) (Some address) → IsWritten load number id places placed h filled
         → AreRenewed k.heads k.handles (Some (1, number)) (Some address) filled new count → last.memory ≡ new → last.users ≡ with_user old.users id (Some (with_handle k number h))
         → HasCome old id number k head handle load address last
@@ -217,7 +217,7 @@ module _ (old : Loaded) (id number : ℕ) (sound : IsSound old.memory old.users)
   brought_there = subst (λ (a : ℕ). IsBrought old.memory id head handle h a placed) (address_of old id number sound head handle can h brought.0 placed brought.1 address looked) brought.1
 
   pub has_come : (k : Kept) → user_of old.users id ≡ Some k → (last : Loaded) (items : List users.Segment) (file : List ℕ) (load : List Segment) (others places : List (Option ℕ)) (m n : ℕ) (filled new : Memory)
-      → heads_of items ≡ k.heads → handles_of items ≡ k.handles → IsTaken file load → map head_of load ≡ k.heads → others ≡ addresses placed.slots items → m ≡ number → places ≡ slice_set others (m - 1) (Some address)
+      → heads_of items ≡ k.heads → handles_of items ≡ k.handles → IsLoadable file load → map head_of load ≡ k.heads → others ≡ addresses placed.slots items → m ≡ number → places ≡ slice_set others (m - 1) (Some address)
       → n ≡ number → IsWritten load n id places placed h filled → AreRenewed k.heads k.handles (Some (1, number)) (Some address) filled new (length items) → last.memory ≡ new
       → last.users ≡ with_user old.users id (Some (with_handle k number h)) → HasCome old id number k head handle load address last
   has_come k made last items file load others places m n filled new heads handles taken same others_so m_so placed_so n_so written renewed memory users' =

@@ -15,7 +15,7 @@ use Rattle.loader_machine.specs.declared.seen.Presence.TheVariants.{Absent, Purg
 use Rattle.loader_machine.specs.Heads.{head_of, at_number, is_table}
 use Rattle.loader_machine.specs.State.{Machine, fresh, first_id}
 use Rattle.loader_machine.specs.Presences.{handle_at, presence, there_at}
-use Rattle.loader_machine.specs.Taken.{IsTaken}
+use Rattle.load_meaning.specs.Loadable.{IsLoadable}
 use Rattle.loader_machine.specs.Steps.{with_both, with_segment}
 use Rattle.loader_machine.specs.Needs.{is_read}
 use Rattle.loader_agrees.specs.Agrees.{Kept, Loaded, Agrees, Has, IsSound}
@@ -62,13 +62,13 @@ module _ (old : Loaded) (id number : ℕ) (sound : IsSound old.memory old.users)
       }
 
 -- a dynamic segment of a load file is no table
-pub dynamic_plain : (file : List ℕ) (segments : List Segment) → IsTaken file segments → (number : ℕ) (head : Head) → at_number (map head_of segments) number ≡ Some head → is_dynamic head.kind ≡ true → is_table head ≡ false
+pub dynamic_plain : (file : List ℕ) (segments : List Segment) → IsLoadable file segments → (number : ℕ) (head : Head) → at_number (map head_of segments) number ≡ Some head → is_dynamic head.kind ≡ true → is_table head ≡ false
 dynamic_plain file segments taken number head is dynamic =
     let s = headed segments number head is in
     elim (decide (is_table head)) [
       | inr other ↦ other
       | inl table ↦
-          (let t = (loadable_has file segments taken.loadable number s.0 s.1).table (ap is_table s.2 ∙ table) in
+          (let t = (loadable_has file segments taken number s.0 s.1).table (ap is_table s.2 ∙ table) in
           let clash : false ≡ true = sym t.static ∙ ap (λ (h : Head). is_dynamic h.kind) s.2 ∙ dynamic in absurd cc)
     ]
 

@@ -441,7 +441,7 @@ module _ (old new : Loaded) (id number : ℕ) (kept : Kept) (head : Head) (handl
 
     sound_one : (n : ℕ) (s : Segment) → segment_at is.does_agree.segments n ≡ Some s → load.is_table s ≡ true → is_static (head_of s) ≡ true
     sound_one n s found table =
-        let t = (loadable_has is.does_agree.holds.file is.does_agree.segments is.does_agree.holds.taken.loadable n s found).table table in
+        let t = (loadable_has is.does_agree.holds.file is.does_agree.segments is.does_agree.holds.loadable n s found).table table in
         rw (t.static, t.kept) refl
 
     segments_in : number - 1 < length is.user.segments
@@ -542,7 +542,7 @@ module _ (old new : Loaded) (id number : ℕ) (kept : Kept) (head : Head) (handl
     stands_now : (s : Segment) → segment_at is.does_agree.segments number ≡ Some s → IsFront (stands (setting_with (far_in new id) id new.memory.slots come.handles) no_pokes s) content
     stands_now s found =
         let one = bare_stands new.users bare_now new.memory.slots id come.handles is.does_agree.segments number s
-        (loadable_has is.does_agree.holds.file is.does_agree.segments is.does_agree.holds.taken.loadable number s found) no_pokes in
+        (loadable_has is.does_agree.holds.file is.does_agree.segments is.does_agree.holds.loadable number s found) no_pokes in
         subst (λ (bs : List ℕ). IsFront bs content) one (subst (λ (t : Slots). IsFront (stands (setting id t come.handles) no_pokes s) content) (sym slots_are) (begins s found))
 
     turned : Turned old.memory new.memory (far_in old id) (far_in new id) id (Some (1, number)) (Some address) kept come is.user user' is.does_agree.segments

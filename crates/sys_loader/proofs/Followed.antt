@@ -187,7 +187,7 @@ module _ (held : FileMap) (old : Loaded) (state : Machine) (sound : IsSound old.
         is_target : IsOwnTarget its.does_agree.segments entry.0
         is_target = target_of (targets_of s) k entry.0 entry.1
             (own_targets its.does_agree.segments its.does_agree.holds.taken.alone (targets_of s)
-            ((loadable_has its.does_agree.holds.file its.does_agree.segments its.does_agree.holds.taken.loadable number s found).table its_table).targets)
+            ((loadable_has its.does_agree.holds.file its.does_agree.segments its.does_agree.holds.loadable number s found).table its_table).targets)
           where
             target_of : (ts : List Target) (n : ℕ) (t : Target) → slice_get ts n ≡ Some t → AllByRecursion (IsOwnTarget its.does_agree.segments) ts → IsOwnTarget its.does_agree.segments t
             target_of [] n t is all = absurd cc

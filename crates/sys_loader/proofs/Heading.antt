@@ -6,7 +6,7 @@ use Rattle.std.proofs.lemmas.List.{map-append}
 use Rattle.omf_format.specs.Header.{Fields}
 use Rattle.omf_format.specs.File.{Segment, segment_at}
 use Rattle.load_meaning.specs.laws.CellLaws.{loadable_has}
-use Rattle.loader_machine.specs.Taken.{IsTaken}
+use Rattle.load_meaning.specs.Loadable.{IsLoadable}
 use Rattle.omf_cells.specs.Load.{HasFields}
 use Rattle.loader_machine.specs.declared.seen.Head.{Head}
 use Rattle.loader_machine.specs.Heads.{head_of}
@@ -40,9 +40,9 @@ head_more load kept place f so_far has = go (slice_get load place) refl (subst (
 
 -- ---- the number of the last segment
 
-pub count_is : (file : List ℕ) (load : List Segment) → IsTaken file load → (n : ℕ) (f : Fields) → n ≡ length load → HasFields load n f → f.seg_num ≡ length load
+pub count_is : (file : List ℕ) (load : List Segment) → IsLoadable file load → (n : ℕ) (f : Fields) → n ≡ length load → HasFields load n f → f.seg_num ≡ length load
 count_is file load taken n f is has = go (segment_at load n) refl has
   where
     go : (o : Option Segment) → segment_at load n ≡ o → IsSomeAnd o (λ s. s.fields ≡ f) → f.seg_num ≡ length load
     go None e h = absurd h
-    go (Some s) e h = ap (λ (g : Fields). g.seg_num) (sym h) ∙ (loadable_has file load taken.loadable n s e).number' ∙ is
+    go (Some s) e h = ap (λ (g : Fields). g.seg_num) (sym h) ∙ (loadable_has file load taken n s e).number' ∙ is

@@ -55,7 +55,7 @@ module _ (held : FileMap) (loader : Loaded) (state : Machine) (agrees : Agrees h
   pub entries_lead : (segments : List Segment) → HoldsLoad held kept.path segments → (number : ℕ) (s : Segment) → segment_at segments number ≡ Some s → is_table s ≡ true → AllByRecursion (Leads only address segments) (targets_of s)
   entries_lead segments holds number s is table =
       let there = made_at loader.users id kept made in
-      all_lead segments (targets_of s) (λ k t found above. its t (agrees.entries (id - first_id) number k kept segments s t there.0 holds is table found above)) ((loadable_has holds.file segments holds.taken.loadable number s is).table table).targets
+      all_lead segments (targets_of s) (λ k t found above. its t (agrees.entries (id - first_id) number k kept segments s t there.0 holds is table found above)) ((loadable_has holds.file segments holds.loadable number s is).table table).targets
     where
       its : (t : Target) → LeadsFar loader.users (first_id + (id - first_id)) t → LeadsFar loader.users id t
       its t leads = subst (λ (n : ℕ). LeadsFar loader.users n t) (made_at loader.users id kept made).1 leads

@@ -7,7 +7,7 @@ use Rattle.std.proofs.lemmas.List.{length-map}
 use Rattle.std.proofs.lemmas.Bool.Decides.{nat_tests}
 use Rattle.omf_format.specs.File.{Segment}
 use Rattle.omf_io.specs.Files.{FileMap, IsRead, IsUnread, max_file}
-use Rattle.loader_machine.specs.Taken.{IsTaken}
+use Rattle.load_meaning.specs.Loadable.{IsLoadable}
 use Rattle.iigs_meaning.specs.declared.faults.PlaceFault.{PlaceFault}
 use Rattle.iigs_meaning.specs.declared.faults.PlaceFault.TheVariants as place
 use Rattle.iigs_meaning.specs.Fits.{Slots}
@@ -112,7 +112,7 @@ loads store held old new state path result before now told sound loaded agrees =
 
 -- ---- a program of a file
 
-pub started_from : (file : List ℕ) (old new : Loaded) (path : List ℕ) (segments : List Segment) (r : Result Started LoaderFault) → IsTaken file segments
+pub started_from : (file : List ℕ) (old new : Loaded) (path : List ℕ) (segments : List Segment) (r : Result Started LoaderFault) → IsLoadable file segments
     → IfOk r (λ started. HasBegun old path segments started.user started.entry new) → IfOk r (λ started. HasStartedFrom file old path started new)
 started_from file old new path segments (Ok started) taken begun = (segments, taken, begun)
 started_from file old new path segments (Err why) taken begun = tt

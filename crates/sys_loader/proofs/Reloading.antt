@@ -22,7 +22,7 @@ use Rattle.loader_machine.specs.declared.seen.Presence.TheVariants.{Absent, Purg
 use Rattle.loader_machine.specs.Heads.{head_of, at_number, is_static, is_table, entry_in}
 use Rattle.loader_machine.specs.State.{Seen, first_id, user_of, with_user}
 use Rattle.loader_machine.specs.Presences.{handle_at, presence, presence_at, there_at, is_there, is_active, active_at}
-use Rattle.loader_machine.specs.Taken.{IsTaken}
+use Rattle.load_meaning.specs.Loadable.{IsLoadable}
 use Rattle.loader_machine.specs.Refusals.{restart_refusal}
 use Rattle.loader_machine.specs.Stands.{nowhere, place_in, setting, target_with}
 use Rattle.loader_machine.specs.Steps.{active_block, changed_all, static_handles, is_read_again}
@@ -106,7 +106,7 @@ quiet_sound old new users' sound quiet calls = record {
 
 -- so they do where a user's segments are read again from the file that was loaded
 module _ (old middle : Memory) (users' : List (Option Kept)) (id : ℕ) (kept : Kept) (sound : IsSound old users') (made : user_of users' id ≡ Some kept) (file : List ℕ) (segments : List Segment)
-    (taken : IsTaken file segments) (heads : map head_of segments ≡ kept.heads) (reread : AreReread segments id kept old middle) where
+    (taken : IsLoadable file segments) (heads : map head_of segments ≡ kept.heads) (reread : AreReread segments id kept old middle) where
   its_place : (slice_get users' (id - first_id) ≡ Some (Some kept)) × (first_id + (id - first_id) ≡ id)
   its_place = made_at users' id kept made
 

@@ -8,7 +8,7 @@ use Rattle.std.proofs.lemmas.Option.{same_Some}
 use Rattle.omf_format.specs.File.{Segment}
 use Rattle.omf_io.specs.Files.{FileMap, IsRead, IsUnread, max_file}
 use Rattle.load_meaning.specs.declared.load.LoadFault.{LoadFault}
-use Rattle.loader_machine.specs.Taken.{IsTaken, IsFirstRefusal}
+use Rattle.loader_machine.specs.Taken.{IsLoadable, IsFirstRefusal}
 use Rattle.iigs_meaning.specs.declared.faults.PlaceFault.{PlaceFault}
 use Rattle.iigs_meaning.specs.declared.faults.PlaceFault.TheVariants as place
 use Rattle.iigs_meaning.specs.Fits.{Slots}
@@ -94,7 +94,7 @@ module _ (held : FileMap) (old : Loaded) (state : Machine) (id : ℕ) (sound : I
           let heads : kept.heads ≡ map head_of is.does_agree.segments = is.does_agree.heads in
           cc
 
-  same_load : (file : List ℕ) (segments : List Segment) → IsRead (Some held) kept.path file → IsTaken file segments → is.does_agree.segments ≡ segments
+  same_load : (file : List ℕ) (segments : List Segment) → IsRead (Some held) kept.path file → IsLoadable file segments → is.does_agree.segments ≡ segments
   same_load file segments is_read taken =
       one_load held kept.path is.does_agree.segments segments is.does_agree.holds (record { file = file; is_held = (is_read.1, is_read.0); taken = taken })
 

@@ -480,7 +480,7 @@ module _ (old new : Loaded) (id : ℕ) (kept : Kept) (started : Started) (sound 
     }
 
     alike_stands : (n : ℕ) (s : Segment) (pokes : Rattle.loader_machine.specs.State.Pokes) → segment_at is.does_agree.segments n ≡ Some s → stands a pokes s ≡ stands b pokes s
-    alike_stands n s pokes found = stands_alike is.does_agree.segments n s (loadable_has is.does_agree.holds.file is.does_agree.segments is.does_agree.holds.taken.loadable n s found) a b (alike n s) pokes
+    alike_stands n s pokes found = stands_alike is.does_agree.segments n s (loadable_has is.does_agree.holds.file is.does_agree.segments is.does_agree.holds.loadable n s found) a b (alike n s) pokes
 
     pokes_now : (n : ℕ) (s : Segment) → segment_at is.does_agree.segments n ≡ Some s → held_at user' n ≡ cond (is_read_again (head_of s)) (fresh (held_at user n).handle) (held_at user n)
     pokes_now zero s found = absurd cc
@@ -495,7 +495,7 @@ module _ (old new : Loaded) (id : ℕ) (kept : Kept) (started : Started) (sound 
               let front = reread.begins n s h (subst (λ (ss : List Segment). segment_at ss n ≡ Some s) same_segments found) again has in
               let pokes : (held_at user' n).pokes ≡ no_pokes = ap (λ (x : Held). x.pokes) (pokes_now n s found) ∙ ap (λ (t : Bool). (cond t (fresh (held_at user n).handle) (held_at user n)).pokes) again in
               let front' = subst (λ (bs : List ℕ). IsFront bs (bytes_at middle h.slot)) (bare_stands old.users sound.bare old.memory.slots id kept.handles is.does_agree.segments n s
-              (loadable_has is.does_agree.holds.file is.does_agree.segments is.does_agree.holds.taken.loadable n s found) no_pokes) front in
+              (loadable_has is.does_agree.holds.file is.does_agree.segments is.does_agree.holds.loadable n s found) no_pokes) front in
               rw (pokes, ← alike_stands n s no_pokes found, bytes_middle h present') front'
           | inr plain ↦
               let before : IsSome (there_at (presence_at old.memory.slots kept.handles n)) = rw (← there_now n) present in

@@ -76,7 +76,7 @@ module _ (held : FileMap) (old new : Memory) (far now : Far) (id : ℕ) (only : 
   few = omega (arith, short, ap length agrees.heads, length-map agrees.segments head_of)
 
   sound : (number : ℕ) (s : Segment) → segment_at agrees.segments number ≡ Some s → IsSoundSegment agrees.segments number s
-  sound = loadable_has agrees.holds.file agrees.segments agrees.holds.taken.loadable
+  sound = loadable_has agrees.holds.file agrees.segments agrees.holds.loadable
 
   follows : (t : Target) → Leads only address agrees.segments t → Follows only address a b t
   follows t (Own is) = record {

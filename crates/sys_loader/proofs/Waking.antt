@@ -4,7 +4,7 @@ use Rattle.std.specs.Prelude.{IsSomeAnd, IfOk, IfErr, OnErr}
 use Rattle.std.proofs.lemmas.Option.{same_Some}
 use Rattle.omf_format.specs.File.{Segment}
 use Rattle.omf_io.specs.Files.{FileMap, IsRead}
-use Rattle.loader_machine.specs.Taken.{IsTaken}
+use Rattle.load_meaning.specs.Loadable.{IsLoadable}
 use Rattle.iigs_meaning.specs.declared.handles.Handle.{Handle}
 use Rattle.iigs_meaning.specs.declared.wants.Block.{Block}
 use Rattle.iigs_meaning.specs.Slots.{get}
@@ -80,7 +80,7 @@ gone_empty old id number head handle sound can gone k is =
 
 -- ---- a segment of a file
 
-module _ (file : List ℕ) (old : Loaded) (id number : ℕ) (k : Kept) (head : Head) (handle : Option Handle) (segments : List Segment) (taken : IsTaken file segments) where
+module _ (file : List ℕ) (old : Loaded) (id number : ℕ) (k : Kept) (head : Head) (handle : Option Handle) (segments : List Segment) (taken : IsLoadable file segments) where
   pub come_from : (new : Loaded) (r : Result ℕ LoaderFault) → map head_of segments ≡ k.heads → IfOk r (λ address. HasCome old id number k head handle segments address new)
       → IfOk r (λ address. HasComeFrom file old id number k head handle address new)
   come_from new (Ok address) same did = (segments, taken, same, did)

@@ -4,7 +4,7 @@ use Rattle.std.specs.Option.{option_map_or}
 use Rattle.omf_format.specs.File.{Segment, segment_at}
 use Rattle.omf_io.specs.Counts.{IsFront}
 use Rattle.omf_io.specs.Files.{FileMap, IsRead, IsUnread}
-use Rattle.loader_machine.specs.Taken.{IsTaken}
+use Rattle.load_meaning.specs.Loadable.{IsLoadable}
 use Rattle.iigs_meaning.specs.declared.handles.Handle.{Handle}
 use Rattle.iigs_meaning.specs.Puts.{without_user}
 use Rattle.iigs_meaning.specs.Memory.{Memory, KeepsBut, bytes_at}
@@ -77,17 +77,17 @@ pub record HasBegunAnew (old : Loaded) (id : ℕ) (kept : Kept) (segments : List
 -- The user runs again: all its static segments are there, and none is read again; or some are; or not all are there.
 pub data HasRestarted (held : Option FileMap) (old : Loaded) (id : ℕ) (kept : Kept) (started : Started) (new : Loaded) : Type 0 where
   InPlace : is_whole old kept ≡ true → some_read_again kept.heads ≡ false → HasResumed old.memory old.users id kept started new → HasRestarted held old id kept started new
-  Reread : is_whole old kept ≡ true → some_read_again kept.heads ≡ true → (file : List ℕ) → IsRead held kept.path file → (segments : List Segment) → IsTaken file segments
+  Reread : is_whole old kept ≡ true → some_read_again kept.heads ≡ true → (file : List ℕ) → IsRead held kept.path file → (segments : List Segment) → IsLoadable file segments
       → map head_of segments ≡ kept.heads → (middle : Memory) → AreReread segments id kept old.memory middle → HasResumed middle old.users id kept started new
       → HasRestarted held old id kept started new
-  Anew : is_whole old kept ≡ false → (file : List ℕ) → IsRead held kept.path file → (segments : List Segment) → IsTaken file segments
+  Anew : is_whole old kept ≡ false → (file : List ℕ) → IsRead held kept.path file → (segments : List Segment) → IsLoadable file segments
       → map head_of segments ≡ kept.heads → HasBegunAnew old id kept segments started new → HasRestarted held old id kept started new
 
 -- why a file that was read restarts no program: it isn't taken, or not the one that was loaded; or its static segments lack
 -- slots or room once all handles of the user are released; or memory ran out
 abbrev pub IsAgainRefusal : List ℕ → Loaded → ℕ → Kept → LoaderFault → Type 0
 IsAgainRefusal file old id kept why = IsBadFile file why
-    ⊎ ((segments : List Segment) × IsTaken file segments × (IsChanged kept.heads (map head_of segments) why
+    ⊎ ((segments : List Segment) × IsLoadable file segments × (IsChanged kept.heads (map head_of segments) why
     ⊎ ((map head_of segments ≡ kept.heads) × (is_whole old kept ≡ false) × IsBeginRefusal (released_memory old.memory id) id kept.heads why)))
 
 -- why a program doesn't restart
@@ -119,10 +119,10 @@ pub record AreActivated (handles : List (Option Handle)) (old new : Memory) : Ty
 
 -- a user was restarted in place from a file that was read
 abbrev pub HasReloaded : List ℕ → Loaded → ℕ → Kept → Started → Loaded → Type 0
-HasReloaded file old id kept started new = (segments : List Segment) × IsTaken file segments × (map head_of segments ≡ kept.heads)
+HasReloaded file old id kept started new = (segments : List Segment) × IsLoadable file segments × (map head_of segments ≡ kept.heads)
     × (middle : Memory) × AreReread segments id kept old.memory middle × HasResumed middle old.users id kept started new
 
 -- a user began anew from a file that was read
 abbrev pub HasBegunFrom : List ℕ → Loaded → ℕ → Kept → Started → Loaded → Type 0
-HasBegunFrom file old id kept started new = (segments : List Segment) × IsTaken file segments × (map head_of segments ≡ kept.heads)
+HasBegunFrom file old id kept started new = (segments : List Segment) × IsLoadable file segments × (map head_of segments ≡ kept.heads)
     × HasBegunAnew old id kept segments started new

@@ -3,7 +3,7 @@
 ghost use Rattle.std.specs.Prelude.{◌≡◌, ◌⊎◌, ◌+◌, ◌<◌, ◌≤◌, ◌^◌, ℕ, List, map, length, All, Some, false, IfOk, IfErr, OnOk, OnErr};
 ghost use Rattle.omf_io.specs.Counts.{one_more};
 ghost use Rattle.omf_io.specs.Files.{FileMap};
-ghost use Rattle.loader_machine.specs.Taken.{IsTaken};
+ghost use Rattle.load_meaning.specs.Loadable.{IsLoadable};
 ghost use Rattle.iigs_meaning.specs.Fits.{IsWant};
 ghost use Rattle.iigs_meaning.specs.Puts.{Purges};
 ghost use Rattle.iigs_meaning.specs.Memory.{Memory, AreAllPlaced};
@@ -65,7 +65,7 @@ pub fn settle(
     places: &mut Places,
     user: u16,
 )
-    requires taken { (file : List ℕ) × IsTaken file load.now }
+    requires taken { (file : List ℕ) × IsLoadable file load.now }
     requires short { length load.now < 2 ^ 16 }
     requires heads { map (λ s. s.head) segments.old.items ≡ map head_of load.now }
     requires room { length places.old ≡ length segments.old.items }
@@ -94,7 +94,7 @@ fn bad_file(fault: LoadFault) -> LoaderFault
 /// The load file, if the loader takes it. One with a pathname segment is refused: run-time library files aren't loaded yet.
 pub fn take_load<'a>(alloc: Global, file: &'a [u8]) -> Result<LoadFile<'a>, LoaderFault>
     requires { length file.now < 2 ^ 32 }
-    ensures taken { IfOk result (λ load. IsTaken file.now load) }
+    ensures taken { IfOk result (λ load. IsLoadable file.now load) }
     ensures refused { IfErr result (IsBadFile file.now) }
 {
     let load = match read_load(alloc, file) {
@@ -113,7 +113,7 @@ pub fn take_load<'a>(alloc: Global, file: &'a [u8]) -> Result<LoadFile<'a>, Load
 
 /// How many segments a load file has: the number of the last one.
 pub fn count_of(load: &LoadFile<'_>) -> u16
-    requires taken { (file : List ℕ) × IsTaken file load.now }
+    requires taken { (file : List ℕ) × IsLoadable file load.now }
     ensures { result ≡ length load.now }
 {
     match load.header(load.count()) {
@@ -126,7 +126,7 @@ impl Loader {
     // A program of a load file begins.
     fn start(&mut self, load: &LoadFile<'_>, plan: Plan) -> Result<Started, LoaderFault>
         requires few { length self.old.users < max_users }
-        requires taken { (file : List ℕ) × IsTaken file load.now }
+        requires taken { (file : List ℕ) × IsLoadable file load.now }
         requires short { length load.now < 2 ^ 16 }
         requires plan { (path : List ℕ) × IsPlan path load.now plan }
         ensures begun { (path : List ℕ) → IsPlan path load.now plan → IfOk result (λ started. HasBegun self.old path load.now started.user started.entry self.new) }

@@ -3,7 +3,7 @@
 ghost use Rattle.std.specs.Prelude.{◌≡◌, ◌<◌, ◌≤◌, ◌^◌, ℕ, List, Option, Some, None, IsSome, length, map, true, false, not, ◌&&◌, ◌||◌, All, IfOk, IfErr, OnOk, OnErr};
 ghost use Rattle.omf_io.specs.Counts.{one_more};
 ghost use Rattle.omf_io.specs.Files.{FileMap};
-ghost use Rattle.loader_machine.specs.Taken.{IsTaken};
+ghost use Rattle.load_meaning.specs.Loadable.{IsLoadable};
 ghost use Rattle.iigs_meaning.specs.Fits.{IsWant};
 ghost use Rattle.iigs_meaning.specs.Puts.{Purges};
 ghost use Rattle.iigs_meaning.specs.Memory.{AreAllPlaced};
@@ -208,12 +208,12 @@ impl Loader {
 
     // The same of a dormant user once its segments that are read again are as this load file has them.
     fn resume_from(&mut self, load: &LoadFile<'_>, mut places: Places, user: u16) -> Started
-        requires taken { (file : List ℕ) × IsTaken file load.now }
+        requires taken { (file : List ℕ) × IsLoadable file load.now }
         requires room { length places ≡ length load.now }
         requires can { (k : Kept) × CanRestart self.old user k }
         requires whole { (k : Kept) → user_of self.old.users user ≡ Some k → is_whole self.old k ≡ true }
         requires same { (k : Kept) → user_of self.old.users user ≡ Some k → map head_of load.now ≡ k.heads }
-        ensures { (file : List ℕ) (k : Kept) → IsTaken file load.now → user_of self.old.users user ≡ Some k → HasReloaded file self.old user k result self.new }
+        ensures { (file : List ℕ) (k : Kept) → IsLoadable file load.now → user_of self.old.users user ≡ Some k → HasReloaded file self.old user k result self.new }
     {
         self.is_sound();
         let found = user_in(&self.users, user);
@@ -257,7 +257,7 @@ impl Loader {
         user: u16,
     ) -> Result<Started, LoaderFault>
         requires made { IsSome (user_of self.old.users user) }
-        requires taken { (file : List ℕ) × IsTaken file load.now }
+        requires taken { (file : List ℕ) × IsLoadable file load.now }
         requires short { length load.now < 2 ^ 16 }
         requires plan { (k : Kept) → user_of self.old.users user ≡ Some k → IsPlan k.path load.now plan }
         ensures begun { (k : Kept) → user_of self.old.users user ≡ Some k → IfOk result (λ started. HasBegunAnew self.old user k load.now started self.new) }
@@ -400,7 +400,7 @@ impl Loader {
         ensures meets { (held : FileMap) (state : Machine) → (F.seen files.old).held ≡ Some held → Agrees held self.old state
             → Meets Purges held state (Restart user) (load_reply result) self.new (F.seen files.old).faults (F.seen files.new).faults }
         ensures needed { (held : FileMap) (state : Machine) → (F.seen files.old).held ≡ Some held → Agrees held self.old state
-            → ReadsNeeded held state (Restart user) (F.seen files.old).asked (F.seen files.new).asked }
+            → ReadsNeeded held state (Restart user) 0 (F.seen files.old).asked (F.seen files.new).asked }
 
         // And so much is true of it over any files.
         ensures did { DidRestart (F.seen files.old).held self.old user result self.new (F.seen files.old).faults (F.seen files.new).faults }

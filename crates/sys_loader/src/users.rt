@@ -1,8 +1,11 @@
 //! Users by their IDs.
 
 ghost use Rattle.std.specs.Prelude.{◌≡◌, ◌≤◌, length, IsSome, Some, None, map, option_map, vec_capacity};
-ghost use Rattle.loader_machine.specs.State.{user_of, with_user};
-ghost use Rattle.loader_agrees.specs.Agrees.{Kept};
+ghost use Rattle.std.specs.Option.{option_and_then};
+ghost use Rattle.loader_machine.specs.State as state;
+ghost use Rattle.loader_machine.specs.State.{user_of, with_user, max_users};
+ghost use Rattle.loader_agrees.specs.Agrees.{Kept, kept_outlines, AreAttached};
+ghost use Rattle.load_meaning.specs.Pathnames.{most_paths};
 ghost use Rattle.sys_loader.specs.View.{kept};
 ghost use Rattle.sys_loader.specs.Activating.{with_handle};
 
@@ -24,6 +27,45 @@ pub fn user_in(users: &Vec<Option<User>>, id: u16) -> &User
         Some(None) => unreachable!(),
         None => unreachable!(),
     }
+}
+
+/// The file number under which an ID stands in a list of attached users, of which the first has the number 2.
+fn file_in(attached: &Vec<u16>, id: u16) -> Option<u16>
+    requires { length attached.now.items ≤ most_paths }
+    ensures { result ≡ state.file_in 2 attached.now.items id }
+{
+    'files: for place in 0..attached.len() {
+        if attached[place] == id {
+            return Some(place as u16 + 2);
+        }
+    }
+    None
+}
+
+/// The same in the list of a user, if it isn't gone.
+fn file_of(user: &Option<User>, id: u16) -> Option<u16>
+    requires { (k : Kept) → option_map kept user.now ≡ Some k → length k.attached ≤ most_paths }
+    ensures { result ≡ option_and_then (λ k. state.file_in 2 k.attached id) (option_map kept user.now) }
+{
+    match user {
+        Some(user) => file_in(&user.attached, id),
+        None => None,
+    }
+}
+
+/// The user to which the user of an ID is attached, and the file number under which it is.
+pub fn holder_of(users: &Vec<Option<User>>, id: u16) -> Option<(u16, u16)>
+    requires few { length users.now.items ≤ max_users }
+    requires attached { AreAttached (map (option_map kept) users.now.items) }
+    ensures { result ≡ state.holder_of (kept_outlines (map (option_map kept) users.now.items)) id }
+{
+    'users: for place in 0..users.len() {
+        match file_of(&users[place], id) {
+            Some(file) => return Some((FIRST_ID + place as u16, file)),
+            None => {}
+        }
+    }
+    None
 }
 
 /// The user of an ID, which has one, is gone.
