@@ -1,5 +1,5 @@
 -- The canonical file in the place of a load file.
-use Rattle.std.specs.Prelude.{◌≡◌, ◌≢◌, ◌≤◌, ℕ, List, [], ◌∷◌, length, Some, Unit}
+use Rattle.std.specs.Prelude.{◌≡◌, ◌≢◌, ◌≤◌, ℕ, List, [], ◌∷◌, length, Some}
 use Rattle.std.specs.FinMap.{get}
 use Rattle.omf_io.specs.Files.{FileMap, max_file}
 use Rattle.omf_format.specs.Number.{IsBytes}

@@ -8,8 +8,7 @@ use Rattle.loader_machine.specs.declared.seen.Head.{Head}
 use Rattle.loader_machine.specs.Heads.{at_number}
 use Rattle.loader_machine.specs.Heads.{is_table as is_table_head}
 use Rattle.loader_machine.specs.State.{Outline, first_id, user_of, attached_at, file_in, holder_from, holder_of, led_by}
-use Rattle.loader_agrees.specs.Agrees.{Kept, outline, kept_outlines, IsJoined, AreAttached, AreBare}
-use Rattle.loader_agrees.specs.laws.Bare.{bare_row}
+use Rattle.loader_agrees.specs.Agrees.{Kept, outline, kept_outlines, IsJoined, AreAttached}
 use Rattle.loader_agrees.specs.laws.RowUsers.{user_there}
 use Rattle.loader_agrees.specs.laws.Seeing.{user_is, made_at}
 
@@ -139,10 +138,6 @@ pub data Leading (users : List (Option Kept)) (id owner file : ℕ) : Type 0 whe
   Its : owner ≡ id → file ≡ 1 → ((q f : ℕ) → attached_at (kept_outlines users) q f ≡ Some id → ⊥) → Leading users id owner file
   Holder : 2 ≤ file → owner ≢ id → attached_at (kept_outlines users) owner file ≡ Some id → ((f : ℕ) → attached_at (kept_outlines users) id f ≡ None)
       → ((q f : ℕ) → 2 ≤ f → attached_at (kept_outlines users) q f ≡ Some id → (q ≡ owner) × (f ≡ file)) → Leading users id owner file
-
--- where none has attached users, the tables of a user lead to its own segments
-pub own_leading : (users : List (Option Kept)) → AreBare users → (id : ℕ) → Leading users id id 1
-own_leading users bare id = Its refl refl (λ q f found. let clash : None ≡ Some id = sym (bare_row users bare q f) ∙ found in cc)
 
 -- the user whose tables lead to a user's segments; one with a row has no table itself
 pub record IsLed (users : List (Option Kept)) (id : ℕ) (kept : Kept) (owner file : ℕ) : Type 0 where

@@ -1,5 +1,5 @@
 -- The files of rows: their segments, and the entries that lead to these.
-use Rattle.std.proofs.Common.{◌≡◌, ℕ, zero, suc, Bool, true, false, cond, ◌==◌, ◌+◌, ◌-◌, ◌<◌, ◌≤◌, List, [], ◌∷◌, length, map, nat_lt, Option, Some, None, refl, sym, ap, subst, ◌∙◌, arith}
+use Rattle.std.proofs.Common.{◌≡◌, inl, inr, ℕ, zero, suc, Bool, true, false, cond, ◌==◌, ◌+◌, ◌-◌, ◌<◌, ◌≤◌, List, [], ◌∷◌, length, map, nat_lt, Option, Some, None, refl, sym, ap, subst, ◌∙◌, arith}
 use Rattle.std.specs.Prelude.{slice_get, option_map, nat_le, not, ◌&&◌, ◌||◌}
 use Rattle.std.specs.Option.{option_or, option_map_or, option_and_then}
 use Rattle.std.proofs.lemmas.Option.{same_Some, slice_get-map}
@@ -62,7 +62,7 @@ kind_none number (t ∷ segments) e zero s is =
     let here = (fault_none (kind_fault number t) (first_in kind_fault (number + 1) segments) number e).0 in
     subst (λ (u : Segment). (is_dynamic u.fields.kind && not (is_skipped u.fields.kind)) ≡ true) (same_Some t s is) (go (is_dynamic t.fields.kind && not (is_skipped t.fields.kind)) t.start here)
   where
-    go : (b : Bool) (start : ℕ) → cond b None (Some (cause.NotLoadFile, start)) ≡ None → b ≡ true
+    go : (b : Bool) (start : ℕ) → cond {A = Option Fault} b None (Some (cause.NotLoadFile, start)) ≡ None → b ≡ true
     go true start e = refl
     go false start e = absurd cc
 
@@ -166,8 +166,8 @@ held_found held path paths all (Good segments) is joins rest = go joins.0 joins.
   where
     go : (joined : Joined) → AreJoined held paths joined → Joins all ≡ joined_behind segments joined → AreHeld held (path ∷ paths) all
     go (Stops reads why) are e = absurd cc
-    go (Joins others) are e = held_behind held path paths segments all others is cc (rest others are)
+    go (Joins others) are e = let same : all ≡ segments ∷ others = cc in held_behind held path paths segments all others is same (rest others are)
 
 pub rows_held : (held : FileMap) (paths : List (List ℕ)) (all : List (List Segment)) → AreJoined held paths (Joins all) → AreHeld held paths all
 rows_held held [] all joined j path segments row = let none = row.path' in absurd cc
-rows_held held (path ∷ paths) all joined = held_found held path paths all joined.0 joined.1 joined.2 (rows_held held paths)
+rows_held held (path ∷ paths) all joined j p ss row = held_found held path paths all joined.0 joined.1 joined.2 (rows_held held paths) j p ss row
