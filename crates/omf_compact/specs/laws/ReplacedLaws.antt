@@ -144,13 +144,16 @@ module _ (path file other : List ℕ) (held now : FileMap) (same : HoldSame file
   segments_are : (q : List ℕ) (f : List ℕ) (segments : List Segment) → q ≡ path → HoldsFile held q f → IsLoadable f segments → segments ≡ same.segments
   segments_are q f segments e has loads = loadable_same file segments same.segments (subst (λ (g : List ℕ). IsLoadable g segments) (file_is q f e has) loads) same.loadable
 
+  alike_there : (q f : List ℕ) (segments : List Segment) → q ≡ path → HoldsFile held q f → IsLoadable f segments → AreAlike segments same.others
+  alike_there q f segments e has loads =
+      subst (λ (ss : List Segment). AreAlike ss same.others) (sym (segments_are q f segments e has loads)) (alike file other same.segments same.others same.loadable same.loadable' same.same)
+
   good_there : (q : List ℕ) (segments : List Segment) → q ≡ path → HoldsLoad held q segments → (others : List Segment) × HoldsLoad now q others × AreAlike segments others
-  good_there q segments e has =
-      let is = segments_are q has.file segments e has.is_held has.loadable in (
-        same.others,
-        record { file = other; is_held = other_there q e; loadable = same.loadable' },
-        subst (λ (ss : List Segment). AreAlike ss same.others) (sym is) (alike file other same.segments same.others same.loadable same.loadable' same.same),
-      )
+  good_there q segments e has = (
+    same.others,
+    record { file = other; is_held = other_there q e; loadable = same.loadable' },
+    alike_there q has.file segments e has.is_held has.loadable,
+  )
 
   -- the file is loaded, so it has no first fault
   no_fault : (q f : List ℕ) (fault : LoadFault) → q ≡ path → HoldsFile held q f → IsFirstLoadFault f fault → ⊥
@@ -158,10 +161,9 @@ module _ (path file other : List ℕ) (held now : FileMap) (same : HoldSame file
 
   runtime_there : (q : List ℕ) (segments : List Segment) → q ≡ path → HoldsRuntime held q segments → (others : List Segment) × HoldsRuntime now q others × AreAlike segments others
   runtime_there q segments e has =
-      let good = good_there q segments e (record { file = has.file; is_held = has.is_held; loadable = has.runtime.loadable }) in
       let is = segments_are q has.file segments e has.is_held has.runtime.loadable in
       let none : runtime_fault same.segments ≡ None = ap runtime_fault (sym is) ∙ has.runtime.dynamic in
-      (same.others, record { file = other; is_held = other_there q e; runtime = record { loadable = same.loadable'; dynamic = go (runtime_faults_alike same.segments same.others same.same) none } }, good.2)
+      (same.others, record { file = other; is_held = other_there q e; runtime = record { loadable = same.loadable'; dynamic = go (runtime_faults_alike same.segments same.others same.same) none } }, alike_there q has.file segments e has.is_held has.runtime.loadable)
     where
       go : AlikeFaults (runtime_fault same.segments) (runtime_fault same.others) → runtime_fault same.segments ≡ None → runtime_fault same.others ≡ None
       go (NoFault one two) none = two

@@ -264,9 +264,9 @@ module _ (held other : FileMap) (there : Shows held other) (back : Shows other h
   module _ (Makes : MakesRoom) (state : Machine) (path : List ℕ) (segments others : List Segment) (alike : AreAlike segments others) where
     users_alike : (all all' : List (List Segment)) → map (map head_of) all ≡ map (map head_of) all' → begun_users state (paths_of segments) all ≡ begun_users state (paths_of others) all'
     users_alike all all' heads =
-        ap (λ (us : List (Option User)) (user : User). state.users ++ Some (record user { attached = ids_from (first_id + length state.users + 1) (length (paths_of segments)) }) ∷ us)
+        ap {B = User → List (Option User)} (λ (us : List (Option User)) (user : User). state.users ++ Some (record user { attached = ids_from (first_id + length state.users + 1) (length (paths_of segments)) }) ∷ us)
         (joined_users_same (paths_of segments) all all' heads)
-        ∙ ap (λ (paths : List (List ℕ)). begun_users state paths all') alike.paths
+        ∙ ap {B = User → List (Option User)} (λ (paths : List (List ℕ)). begun_users state paths all') alike.paths
 
     loads_alike : (joined joined' : Joined) → IsLikeJoined joined joined' → (reply : Reply) (next : Machine) → LoadsJoined Makes state path segments joined reply next
         → Alike (λ reply'. LoadsJoined Makes state path others joined' reply' next) reply
