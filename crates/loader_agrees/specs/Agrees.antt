@@ -2,7 +2,7 @@
 use Rattle.std.specs.Prelude.{◌≡◌, ◌≢◌, ◌⊎◌, ℕ, ◌+◌, ◌≤◌, ◌<◌, ◌^◌, true, false, List, [], length, map, Option, Some, option_map, IsSome, slice_get}
 use Rattle.omf_format.specs.File.{Segment, segment_at}
 use Rattle.omf_io.specs.Counts.{risen, one_more, IsFront}
-use Rattle.omf_io.specs.Files.{FileMap}
+use Rattle.omf_io.specs.Files.{FileMap, StoreSeen}
 use Rattle.load_meaning.specs.declared.table.Target.{Target}
 use Rattle.load_meaning.specs.Pathnames.{most_paths}
 use Rattle.load_meaning.specs.LoadTable.{is_table, targets_of, target_at, entry_count}
@@ -193,3 +193,11 @@ Meets Makes held state command reply new before now =
 -- as this number of failures says, or memory ran out, those behind may not have been read.
 abbrev pub ReadsNeeded : FileMap → Machine → Command → ℕ → ℕ → ℕ → Type 0
 ReadsNeeded held state command others before now = (reads : ℕ) × IsReadFor held state command others reads × (now ≡ risen reads before)
+
+-- a call that may read several files, with how many it read, by what is seen of the store before it and after it
+abbrev pub MeetsReads : MakesRoom → FileMap → Machine → Command → Reply → Loaded → StoreSeen → StoreSeen → Type 0
+MeetsReads Makes held state command reply new before now =
+    (Met Makes held state command reply new × (now.faults ≡ before.faults) × ReadsNeeded held state command 0 before.asked now.asked)
+    ⊎ (((reply ≡ Refused refusal.CannotRead) × (paths : List (List ℕ)) × Needs held state command paths × (paths ≢ []) × Agrees held new state
+    × (now.faults ≡ one_more before.faults) × ReadsNeeded held state command 1 before.asked now.asked)
+    ⊎ ((reply ≡ Refused refusal.Memory) × Agrees held new state × (now.faults ≡ before.faults) × ReadsNeeded held state command 1 before.asked now.asked))

@@ -1,13 +1,14 @@
 //! Users by their IDs.
 
-ghost use Rattle.std.specs.Prelude.{◌≡◌, ◌≤◌, length, IsSome, Some, None, map, option_map, vec_capacity};
+ghost use Rattle.std.specs.Prelude.{◌≡◌, ◌<◌, ◌≤◌, slice_get, length, IsSome, Some, None, map, option_map, vec_capacity};
 ghost use Rattle.std.specs.Option.{option_and_then};
 ghost use Rattle.loader_machine.specs.State as state;
-ghost use Rattle.loader_machine.specs.State.{user_of, with_user, max_users};
+ghost use Rattle.loader_machine.specs.State.{user_of, with_user, with_all, max_users};
 ghost use Rattle.loader_agrees.specs.Agrees.{Kept, kept_outlines, AreAttached};
 ghost use Rattle.load_meaning.specs.Pathnames.{most_paths};
 ghost use Rattle.sys_loader.specs.View.{kept};
 ghost use Rattle.sys_loader.specs.Activating.{with_handle};
+ghost use Rattle.sys_loader.specs.Lives.{with_life};
 
 use crate::loader::FIRST_ID;
 use crate::user::User;
@@ -96,6 +97,37 @@ pub fn set_life(users: &mut Vec<Option<User>>, id: u16, life: Life)
     match &mut users[usize::from(id - FIRST_ID)] {
         Some(user) => user.life = life,
         None => unreachable!(),
+    }
+}
+
+/// How many users are attached to the user of an ID, which has one.
+pub fn attached_count(users: &Vec<Option<User>>, id: u16) -> usize
+    requires { IsSome (user_of (map (option_map kept) users.now.items) id) }
+    ensures { (k : Kept) → user_of (map (option_map kept) users.now.items) id ≡ Some k → result ≡ length k.attached }
+{
+    user_in(users, id).attached.len()
+}
+
+/// The ID of one of them.
+pub fn attached_in(users: &Vec<Option<User>>, id: u16, place: usize) -> u16
+    requires made { IsSome (user_of (map (option_map kept) users.now.items) id) }
+    requires inside { (k : Kept) → user_of (map (option_map kept) users.now.items) id ≡ Some k → place < length k.attached }
+    ensures { (k : Kept) → user_of (map (option_map kept) users.now.items) id ≡ Some k → slice_get k.attached place ≡ Some result }
+{
+    user_in(users, id).attached[place]
+}
+
+/// Sets whether the users that are attached to the user of an ID, which has one, run.
+pub fn set_lives(users: &mut Vec<Option<User>>, id: u16, life: Life)
+    requires made { IsSome (user_of (map (option_map kept) users.old.items) id) }
+    requires attached { AreAttached (map (option_map kept) users.old.items) }
+    ensures set { (k : Kept) → user_of (map (option_map kept) users.old.items) id ≡ Some k
+        → map (option_map kept) users.new.items ≡ with_all (with_life life) (map (option_map kept) users.old.items) k.attached }
+    ensures room { vec_capacity users.new ≡ vec_capacity users.old }
+{
+    'places: for place in 0..attached_count(users, id) {
+        let other = attached_in(users, id, place);
+        set_life(users, other, life);
     }
 }
 
