@@ -12,6 +12,7 @@ pub mod Heading
 pub mod Purging
 pub mod Poking
 pub mod Renewed
+pub mod Families
 pub mod Leads
 pub mod Turned
 pub mod Lead
@@ -27,7 +28,9 @@ pub mod Stopping
 pub mod UserItems
 pub mod Comparing
 pub mod Bringing
+pub mod KeptHandles
 pub mod Coming
+pub mod ReadAs
 pub mod Came
 pub mod Activated
 pub mod Brought

@@ -17,7 +17,6 @@ use Rattle.load_meaning.specs.Table.{table_bytes, file_entry}
 use Rattle.load_meaning.specs.LoadTable.{is_table, targets_of}
 use Rattle.load_meaning.specs.Loadable.{IsSoundSegment, IsOwnTarget}
 use Rattle.load_meaning.specs.Loadable.{IsLoadable}
-use Rattle.loader_machine.specs.laws.TakenLaws.{own_targets}
 use Rattle.omf_cells.specs.Load.{table_targets}
 use Rattle.omf_cells.specs.Places.{address_in}
 use Rattle.iigs_meaning.specs.declared.handles.Handle.{Handle}
@@ -154,16 +153,17 @@ module _ (file : List ℕ) (segments : List Segment) (taken : IsLoadable file se
       let head : slice_get (map head_of segments) k ≡ Some (head_of s) = number_map head_of segments (suc k) ∙ ap (option_map head_of) is in
       ap (option_and_then (λ (o : Option Handle). o)) (spread_other (map head_of segments) hs k (head_of s) head (dynamic_other (head_of s) dynamic))
 
-  none_active : (t : Target) → IsOwnTarget segments t → target_with nowhere slots (spread_handles segments hs) t.file t.segment ≡ None
-  none_active t is =
+  none_active : (t : Target) → IsTarget segments t → target_with nowhere slots (spread_handles segments hs) t.file t.segment ≡ None
+  none_active t (inl is) =
       let none : presence_at slots (spread_handles segments hs) t.segment ≡ presence slots None = ap (presence slots) (not_there t.segment is.segment' is.is is.dynamic) in
       go (t.file == 1) (ap active_at none)
     where
       go : (b : Bool) → active_at (presence_at slots (spread_handles segments hs) t.segment) ≡ None → cond b (active_at (presence_at slots (spread_handles segments hs) t.segment)) None ≡ None
       go true e = e
       go false e = refl
+  none_active t (inr is) = let above : 2 ≤ t.file = is.beyond in let other : (t.file == 1) ≡ false = grind arith in rw other refl
 
-  all_none : (ts : List Target) → AllByRecursion (IsOwnTarget segments) ts → AllByRecursion (λ t. target_with nowhere slots (spread_handles segments hs) t.file t.segment ≡ None) ts
+  all_none : (ts : List Target) → AllByRecursion (IsTarget segments) ts → AllByRecursion (λ t. target_with nowhere slots (spread_handles segments hs) t.file t.segment ≡ None) ts
   all_none [] all = tt
   all_none (t ∷ ts) all = (none_active t all.0, all_none ts all.1)
 
@@ -172,5 +172,5 @@ module _ (file : List ℕ) (segments : List Segment) (taken : IsLoadable file se
   is_setting kept same = record {
     id = refl;
     place = λ n. address_is slots kept n ∙ ap (λ (handles : List (Option Handle)). machine.place_in slots handles n) same;
-    targets = λ number s is table. all_none (targets_of s) (own_targets segments taken.alone (targets_of s) ((loadable_has file segments taken number s is).table table).targets);
+    targets = λ number s is table. all_none (targets_of s) ((loadable_has file segments taken number s is).table table).targets;
   }

@@ -1,14 +1,14 @@
 -- What calls on the segments of users do, whatever files there are.
-use Rattle.std.specs.Prelude.{◌≡◌, ℕ, ◌+◌, ◌≤◌, Bool, true, false, List, [], length, Option, Some, None, slice_set, Result, Ok, Err}
+use Rattle.std.specs.Prelude.{◌≡◌, ℕ, ◌+◌, ◌≤◌, Bool, true, false, List, [], length, Option, Some, None, IsSome, slice_get, slice_set, Result, Ok, Err}
 use Rattle.omf_format.specs.Header.{is_dynamic}
 use Rattle.iigs_meaning.specs.declared.handles.Handle.{Handle}
 use Rattle.iigs_meaning.specs.declared.wants.Block.{Block}
-use Rattle.iigs_meaning.specs.Puts.{without_user}
 use Rattle.iigs_meaning.specs.Memory.{Memory, KeepsBut, IsPurged, Changes, bytes_at}
 use Rattle.loader_machine.specs.declared.faults.LoaderFault.{LoaderFault}
 use Rattle.loader_machine.specs.Heads.{is_table}
 use Rattle.loader_machine.specs.Refusals.{purge_refusal, poke_refusal, unload_refusal, shut_down_refusal}
 use Rattle.loader_machine.specs.Commands.{Reply, Counted, Refused}
+use Rattle.loader_machine.specs.declared.seen.Life.{Life}
 use Rattle.loader_machine.specs.declared.seen.Life.TheVariants.{Running, Dormant}
 use Rattle.loader_machine.specs.State.{user_of, led_by, is_attached, family, handles_of_all, with_all, without_all}
 use Rattle.loader_machine.specs.Steps.{idle_block, let_go, changed_all, without_users}
@@ -95,6 +95,10 @@ DidUnload old id number (Err fault) new = (unload_refusal old.memory.slots (seen
 -- the user with this life
 abbrev pub with_life : Life → Kept → Kept
 with_life life kept = record kept { life = life }
+
+-- the users that are attached to the user of an ID are there
+abbrev pub HasItsUsers : List (Option Kept) → ℕ → Type 0
+HasItsUsers users id = (kept : Kept) (place n : ℕ) → user_of users id ≡ Some kept → slice_get kept.attached place ≡ Some n → IsSome (user_of users n)
 
 -- all handles of these users were released, and nothing is written
 pub record AreReleased (ids : List ℕ) (old new : Memory) : Type 0 where

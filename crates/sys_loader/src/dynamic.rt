@@ -21,10 +21,10 @@ ghost use Rattle.sys_loader.specs.Activating.{segment_reads, CanLoad, IsBrought,
 use crate::compare::compare;
 use crate::fill::fill_block;
 use crate::head::{is_dynamic, want_of};
-use crate::load::take_load;
 use crate::loader::Loader;
 use crate::memory::presence;
 use crate::place::{place_of, set_places};
+use crate::reading::load_of;
 use crate::renew::renew_tables;
 use crate::turn::activate;
 use crate::user::Segment;
@@ -212,11 +212,11 @@ impl Loader {
         ensures come { (k : Kept) → user_of self.old.users user ≡ Some k
             → IfOk result (λ address. HasComeFrom file.now self.old user number k segment.now.head segment.now.handle address self.new) }
         ensures refused { (k : Kept) → user_of self.old.users user ≡ Some k
-            → IfErr result (IsComeRefusal file.now self.old number k segment.now.head segment.now.handle) }
+            → IfErr result (IsComeRefusal file.now self.old user number k segment.now.head segment.now.handle) }
         ensures err { OnErr result (self.new ≡ self.old) }
     {
         self.is_sound();
-        let load = match take_load(self.alloc, file) {
+        let load = match load_of(self.alloc, file, self.is_attached(user)) {
             Ok(load) => load,
             Err(fault) => return Err(fault),
         };

@@ -171,7 +171,7 @@ fn join_all<F: Files>(
         };
         match users.push(user) {
             Ok(()) => {}
-            Err(AllocError) => return Err(LoaderFault::Memory),
+            Err(_) => return Err(LoaderFault::Memory),
         }
     }
     Ok(users)

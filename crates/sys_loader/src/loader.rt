@@ -8,7 +8,7 @@ ghost use Rattle.iigs_meaning.specs.Puts.{Purges};
 ghost use Rattle.iigs_meaning.specs.Slots.{slot_at};
 ghost use Rattle.iigs_meaning.specs.Fits.{HoldsByte};
 ghost use Rattle.iigs_meaning.specs.Blocks.{AreApart};
-ghost use Rattle.loader_machine.specs.State.{user_of, led_by, Machine, empty_of};
+ghost use Rattle.loader_machine.specs.State.{user_of, is_attached, led_by, Machine, empty_of};
 ghost use Rattle.loader_machine.specs.Refusals.{bytes_refusal, info_refusal};
 ghost use Rattle.loader_machine.specs.Commands as commands;
 ghost use Rattle.loader_machine.specs.Commands.{Bytes, Shown, Refused};
@@ -126,6 +126,17 @@ impl Loader {
         match holder_of(&self.users, id) {
             Some(lead) => lead,
             None => (id, 1),
+        }
+    }
+
+    // The user of an ID is attached to another.
+    pub(crate) fn is_attached(&self, id: u16) -> bool
+        ensures { result ≡ is_attached (kept_outlines self.now.users) id }
+    {
+        self.is_sound();
+        match holder_of(&self.users, id) {
+            Some(_) => true,
+            None => false,
         }
     }
 

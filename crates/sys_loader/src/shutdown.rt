@@ -19,7 +19,7 @@ use crate::renew::renew_tables;
 use crate::turn::idle;
 use crate::user::{Segment, User};
 use crate::users::{
-    attached_count, attached_in, holder_of, remove, set_life, set_lives, user_in,
+    attached_count, attached_in, remove, set_life, set_lives, user_in,
 };
 use iigs_meaning::PlaceFault;
 use iigs_memory::Banks;
@@ -85,14 +85,14 @@ fn drop_attached(banks: &mut Banks, users: &mut Vec<Option<User>>, id: u16)
 
 impl Loader {
     // A user that is attached to none.
-    fn unattached(&self, user: u16) -> Result<(), LoaderFault>
+    pub(crate) fn unattached(&self, user: u16) -> Result<(), LoaderFault>
         ensures ok { IfOk result (λ _. is_attached (kept_outlines self.now.users) user ≡ false) }
         ensures err { IfErr result (λ fault. (fault ≡ LoaderFault.NoUser) × (is_attached (kept_outlines self.now.users) user ≡ true)) }
     {
-        self.is_sound();
-        match holder_of(&self.users, user) {
-            Some(_) => Err(LoaderFault::NoUser),
-            None => Ok(()),
+        if self.is_attached(user) {
+            Err(LoaderFault::NoUser)
+        } else {
+            Ok(())
         }
     }
 

@@ -8,10 +8,10 @@ ghost use Rattle.loader_agrees.specs.Agrees.{Kept, kept_outlines, AreAttached};
 ghost use Rattle.load_meaning.specs.Pathnames.{most_paths};
 ghost use Rattle.sys_loader.specs.View.{kept};
 ghost use Rattle.sys_loader.specs.Activating.{with_handle};
-ghost use Rattle.sys_loader.specs.Lives.{with_life};
+ghost use Rattle.sys_loader.specs.Lives.{HasItsUsers, with_life};
 
 use crate::loader::FIRST_ID;
-use crate::user::User;
+use crate::user::{Segment, User};
 use iigs_meaning::Handle;
 use loader_machine::Life;
 
@@ -78,13 +78,21 @@ pub fn remove(users: &mut Vec<Option<User>>, id: u16)
     users[usize::from(id - FIRST_ID)] = None;
 }
 
-/// A user takes the place of that of an ID, which has one.
-pub fn set_user(users: &mut Vec<Option<User>>, id: u16, user: User)
+/// The user of an ID, which has one, runs, and its segments are these.
+pub fn set_segments(users: &mut Vec<Option<User>>, id: u16, segments: Vec<Segment>)
     requires { IsSome (user_of (map (option_map kept) users.old.items) id) }
-    ensures set { map (option_map kept) users.new.items ≡ with_user (map (option_map kept) users.old.items) id (Some (kept user)) }
+    ensures set { (k : Kept) → user_of (map (option_map kept) users.old.items) id ≡ Some k
+        → map (option_map kept) users.new.items ≡ with_user (map (option_map kept) users.old.items) id (Some (record k {
+        life = Life.Running; handles = map (λ s. s.handle) segments.items; heads = map (λ s. s.head) segments.items })) }
     ensures room { vec_capacity users.new ≡ vec_capacity users.old }
 {
-    users[usize::from(id - FIRST_ID)] = Some(user);
+    match &mut users[usize::from(id - FIRST_ID)] {
+        Some(user) => {
+            user.life = Life::Running;
+            user.segments = segments;
+        }
+        None => unreachable!(),
+    }
 }
 
 /// Sets whether the user of an ID, which has one, runs.
@@ -120,7 +128,7 @@ pub fn attached_in(users: &Vec<Option<User>>, id: u16, place: usize) -> u16
 /// Sets whether the users that are attached to the user of an ID, which has one, run.
 pub fn set_lives(users: &mut Vec<Option<User>>, id: u16, life: Life)
     requires made { IsSome (user_of (map (option_map kept) users.old.items) id) }
-    requires attached { AreAttached (map (option_map kept) users.old.items) }
+    requires there { HasItsUsers (map (option_map kept) users.old.items) id }
     ensures set { (k : Kept) → user_of (map (option_map kept) users.old.items) id ≡ Some k
         → map (option_map kept) users.new.items ≡ with_all (with_life life) (map (option_map kept) users.old.items) k.attached }
     ensures room { vec_capacity users.new ≡ vec_capacity users.old }

@@ -1,13 +1,14 @@
 -- The user whose tables lead to the segments of a user.
 use Rattle.std.proofs.Common.{◌≡◌, ◌≢◌, ◌⊎◌, inl, inr, ℕ, zero, suc, true, false, ◌==◌, ◌+◌, ◌-◌, ◌≤◌, List, [], ◌∷◌, Option, Some, None, refl, sym, ap, subst, ◌∙◌, arith}
-use Rattle.std.specs.Prelude.{slice_get, option_map}
+use Rattle.std.specs.Prelude.{slice_get, option_map, is_some}
 use Rattle.std.specs.Option.{option_and_then}
 use Rattle.std.proofs.lemmas.Option.{same_Some, slice_get-map}
 use Rattle.std.proofs.lemmas.Bool.{cases_eq}
 use Rattle.loader_machine.specs.declared.seen.Head.{Head}
+use Rattle.loader_machine.specs.declared.seen.Life.{Life}
 use Rattle.loader_machine.specs.Heads.{at_number}
 use Rattle.loader_machine.specs.Heads.{is_table as is_table_head}
-use Rattle.loader_machine.specs.State.{Outline, first_id, user_of, attached_at, file_in, holder_from, holder_of, led_by}
+use Rattle.loader_machine.specs.State.{Outline, first_id, user_of, attached_at, file_in, holder_from, holder_of, is_attached, led_by}
 use Rattle.loader_agrees.specs.Agrees.{Kept, outline, kept_outlines, IsJoined, AreAttached}
 use Rattle.loader_agrees.specs.laws.RowUsers.{user_there}
 use Rattle.loader_agrees.specs.laws.Seeing.{user_is, made_at}
@@ -199,3 +200,15 @@ module _ (users : List (Option Kept)) (id : ℕ) (kept : Kept) (attached : AreAt
         let found : slice_get back.0.attached some.1 ≡ Some id = ap (λ (o : Outline). slice_get o.attached some.1) back.2 ∙ some.4 in
         subst (λ (one : ℕ × ℕ). IsLed users id kept one.0 one.1) (sym (led_there users some.0 some.1 id back.0 attached back.1 found)) (held_led some.0 some.1 back.0 back.1 found)
   ]
+
+-- a user that is attached to another has dynamic segments alone
+pub joined_of : (users : List (Option Kept)) (id : ℕ) (kept : Kept) → AreAttached users → user_of users id ≡ Some kept → is_attached (kept_outlines users) id ≡ true → (life : Life) × IsJoined life kept
+unfolding holder_of
+joined_of users id kept attached made is = elim (holder_cases id first_id (kept_outlines users)) [
+  | inl none ↦ (let clash : false ≡ true = ap is_some (sym none.0) ∙ is in absurd cc)
+  | inr some ↦
+      let back = kept_back users some.0 some.2 some.3 in
+      let found : slice_get back.0.attached some.1 ≡ Some id = ap (λ (o : Outline). slice_get o.attached some.1) back.2 ∙ some.4 in
+      let one = attached.each some.0 some.1 id back.0 back.1 found in
+      (back.0.life, subst (λ (k : Kept). IsJoined back.0.life k) (same_Some one.0 kept (sym one.1 ∙ made)) one.2)
+]
