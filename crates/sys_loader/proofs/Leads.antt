@@ -27,25 +27,27 @@ pub at_most : (heads : List Head) (n : ℕ) (g : Head) → at_number heads n ≡
 at_most heads zero g e = omega arith
 at_most heads (suc m) g e = let inside = slice_get_within heads m g e in omega (arith, inside)
 
-module _ (held : FileMap) (loader : Loaded) (state : Machine) (agrees : Agrees held loader state) (sound : IsSound loader.memory loader.users) (id : ℕ) (kept : Kept) (made : user_of loader.users id ≡ Some kept)
-    (only : Choice) (address : Option ℕ) (fits : (t : Target) → 2 ≤ t.file → LeadsFar loader.users id t → is_chosen only t.file t.segment ≡ true → IsSome address → t.offset < 2 ^ 32) where
-  far_file : (t : Target) → 2 ≤ t.file → LeadsFar loader.users id t → t.file < 2 ^ 16
+-- the numbers of an entry that leads to an attached user are small
+module _ (held : FileMap) (loader : Loaded) (state : Machine) (agrees : Agrees held loader state) (sound : IsSound loader.memory loader.users) (id : ℕ) where
+  pub far_file : (t : Target) → 2 ≤ t.file → LeadsFar loader.users id t → t.file < 2 ^ 16
   far_file t above leads =
       let row = row_of loader.users id t.file leads.other leads.named in
       let there = made_at loader.users id row.0 row.1 in
       let within = slice_get_within row.0.attached (t.file - 2) leads.other row.2 in
       omega (arith, above, within, agrees.attached.few (id - first_id) row.0 there.0)
 
-  far_segment : (t : Target) → LeadsFar loader.users id t → t.segment < 2 ^ 16
+  pub far_segment : (t : Target) → LeadsFar loader.users id t → t.segment < 2 ^ 16
   far_segment t leads =
       let there = made_at loader.users leads.other leads.kept leads.made in
       omega (arith, at_most leads.kept.heads t.segment leads.head leads.head', sound.short (leads.other - first_id) leads.kept there.0)
 
+module _ (held : FileMap) (loader : Loaded) (state : Machine) (agrees : Agrees held loader state) (sound : IsSound loader.memory loader.users) (id : ℕ) (kept : Kept) (made : user_of loader.users id ≡ Some kept)
+    (only : Choice) (address : Option ℕ) (fits : (t : Target) → 2 ≤ t.file → LeadsFar loader.users id t → is_chosen only t.file t.segment ≡ true → IsSome address → t.offset < 2 ^ 32) where
   one_leads : (segments : List Segment) (t : Target) → (2 ≤ t.file → LeadsFar loader.users id t) → IsTarget segments t → Leads only address segments t
   one_leads segments t far (inl own) = Own own
   one_leads segments t far (inr other) =
       let leads = far other.beyond in
-      Other other.beyond (far_file t other.beyond leads) (far_segment t leads) (fits t other.beyond leads)
+      Other other.beyond (far_file held loader state agrees sound id t other.beyond leads) (far_segment held loader state agrees sound id t leads) (fits t other.beyond leads)
 
   all_lead : (segments : List Segment) (ts : List Target) → ((k : ℕ) (t : Target) → slice_get ts k ≡ Some t → 2 ≤ t.file → LeadsFar loader.users id t) → AllByRecursion (IsTarget segments) ts → AllByRecursion (Leads only address segments) ts
   all_lead segments [] far all = tt

@@ -13,6 +13,7 @@ pub mod Purging
 pub mod Poking
 pub mod Renewed
 pub mod Families
+pub mod Leading
 pub mod Leads
 pub mod Turned
 pub mod Lead

@@ -4,7 +4,6 @@ use Rattle.std.specs.Prelude.{IsSomeAnd, IfOk, IfErr, OnErr}
 use Rattle.std.proofs.lemmas.Option.{same_Some}
 use Rattle.omf_format.specs.File.{Segment}
 use Rattle.omf_io.specs.Files.{FileMap, IsRead}
-use Rattle.load_meaning.specs.Loadable.{IsLoadable}
 use Rattle.iigs_meaning.specs.declared.handles.Handle.{Handle}
 use Rattle.iigs_meaning.specs.declared.wants.Block.{Block}
 use Rattle.iigs_meaning.specs.Slots.{get}
@@ -15,14 +14,15 @@ use Rattle.loader_machine.specs.declared.seen.Head.{Head}
 use Rattle.loader_machine.specs.declared.seen.Presence.{Presence}
 use Rattle.loader_machine.specs.declared.seen.Presence.TheVariants.{Idle}
 use Rattle.loader_machine.specs.Heads.{head_of}
-use Rattle.loader_machine.specs.State.{first_id, user_of}
+use Rattle.loader_machine.specs.State.{first_id, user_of, is_attached, led_by}
 use Rattle.loader_machine.specs.Presences.{presence, lies_in, lies_at}
 use Rattle.loader_machine.specs.Steps.{active_block}
 use Rattle.loader_machine.specs.Needs.{is_read}
-use Rattle.loader_agrees.specs.Agrees.{Kept, Loaded, Has, IsSound}
+use Rattle.loader_agrees.specs.Agrees.{Kept, Loaded, kept_outlines, Has, IsSound}
 use Rattle.loader_agrees.specs.laws.Seeing.{made_at}
 use Rattle.sys_loader.specs.Renewing.{AreRenewed}
-use Rattle.sys_loader.specs.Lives.{HasShifted}
+use Rattle.sys_loader.specs.Calls.{IsReadAs}
+use Rattle.sys_loader.specs.Lives.{HasTurned}
 use Rattle.sys_loader.specs.Activating.{IsChanged, CanLoad, IsBringRefusal, HasCome, HasComeFrom, IsComeRefusal, CantCome, DidCome}
 
 -- ---- a loader, and its fields

@@ -169,12 +169,12 @@ impl Loader {
         ensures err { OnErr result (self.new ≡ self.old) }
     {
         self.is_sound();
+        let (owner, file) = self.led_by(user);
         let h = match place_segment(&mut self.banks, user, number, segment) {
             Ok(h) => h,
             Err(fault) => return Err(fault),
         };
         let address = place_of(&self.banks, Some(h));
-        let (owner, file) = self.led_by(user);
         let found = user_in(&self.users, user);
         set_places(&self.banks, &found.segments, &mut places);
         places.set(u32::from(number), Some(address));

@@ -80,7 +80,7 @@ number_within segments (suc k) s is = let within = slice_get_within segments k s
 
 -- ---- the segment to which an entry of a new user's table leads
 
-get_all : {X : Type 0} (P : X → Type 0) (xs : List X) (n : ℕ) (x : X) → slice_get xs n ≡ Some x → AllByRecursion P xs → P x
+pub get_all : {X : Type 0} (P : X → Type 0) (xs : List X) (n : ℕ) (x : X) → slice_get xs n ≡ Some x → AllByRecursion P xs → P x
 get_all P [] n x found all = absurd cc
 get_all P (y ∷ xs) zero x found all = subst P (same_Some y x found) all.0
 get_all P (y ∷ xs) (suc n) x found all = get_all P xs n x found all.1
