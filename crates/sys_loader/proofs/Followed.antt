@@ -383,7 +383,7 @@ module _ (held : FileMap) (old new : Loaded) (state : Machine) (sound : IsSound 
     abbrev pub t : (t : Target) × (slice_get (targets_of (s held old state sound agrees place.address place.user place.segment place.offset is.lies)) is.k ≡ Some t)
     t = entry held old state sound agrees place.address place.user place.segment place.offset is.lies is.table is.k is.inside is.code
 
-    lead : LeadsInto old.users place.user t.0
+    pub lead : LeadsInto old.users place.user t.0
     lead = leads_to held old state sound agrees place.address place.user place.segment place.offset is.lies is.table is.k is.inside is.code
 
     -- the user that the entry names

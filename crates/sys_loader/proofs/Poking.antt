@@ -128,7 +128,6 @@ sound_written memory users slot w sound same tables = record {
       } in is';
   once = sound.once;
   only = sound.only;
-  bare = sound.bare;
   attached = sound.attached;
   calls = λ p n k g j has table there inside. subst (λ (bs : List ℕ). IsCall users (first_id + p) (target_at bs k)) (sym (others_bytes memory slot w j.slot (tables p n g j has table)))
       (sound.calls p n k g j has table there inside);

@@ -99,7 +99,6 @@ quiet_sound old new users' sound quiet calls = record {
       };
   once = sound.once;
   only = λ slot b found user. sound.only slot b (sym (ap (λ (t : Slots). block_in (slot_at t slot)) quiet.slots) ∙ found) user;
-  bare = sound.bare;
   attached = sound.attached;
   calls = λ p n k g j has table there inside. calls p n k g j has table (subst (λ (t : Slots). IsSome (there_at (presence t (Some j)))) quiet.slots there) inside;
 }

@@ -15,8 +15,7 @@ use Rattle.load_meaning.specs.Cells.{segment_bytes}
 use Rattle.load_meaning.specs.laws.CellLaws.{loadable_has, length-segment_bytes}
 use Rattle.load_meaning.specs.Table.{table_bytes, file_entry}
 use Rattle.load_meaning.specs.LoadTable.{is_table, targets_of}
-use Rattle.load_meaning.specs.Loadable.{IsSoundSegment, IsOwnTarget}
-use Rattle.load_meaning.specs.Loadable.{IsLoadable}
+use Rattle.load_meaning.specs.Loadable.{IsSoundSegment, IsTarget, IsLoadable}
 use Rattle.omf_cells.specs.Load.{table_targets}
 use Rattle.omf_cells.specs.Places.{address_in}
 use Rattle.iigs_meaning.specs.declared.handles.Handle.{Handle}

@@ -30,7 +30,7 @@ use Rattle.loader_machine.specs.Steps.{changed, with_slots}
 use Rattle.loader_agrees.specs.Agrees.{Kept, Loaded, outline, kept_outlines, UserAgrees, LeadsFar, EntriesLead, AreAttached, IsCall, Agrees, IsSegments, IsOf, Has, IsSound}
 use Rattle.loader_agrees.specs.laws.Begun.{decide}
 use Rattle.loader_agrees.specs.laws.Frame.{Same, agrees_still}
-use Rattle.loader_agrees.specs.laws.Leading.{Leading}
+use Rattle.loader_agrees.specs.laws.Leading.{Leading, Its, Holder}
 use Rattle.loader_agrees.specs.laws.Reads.{head_at}
 use Rattle.loader_agrees.specs.laws.Seeing.{made_at, user_is, IsKept, kept_is, has_any}
 use Rattle.loader_agrees.specs.laws.Slotted.{slot_apart, slot_set}
@@ -337,7 +337,7 @@ module _ (old new : Loaded) (id number owner file : ℕ) (kept lead : Kept) (h :
 
   -- it is sound still
   pub shifted_sound : kept.life ≡ Running → IsSound new.memory old.users
-  shifted_sound runs = record { few = sound.few; lengths = sound.lengths; short = sound.short; statics = statics_now; rests = rests_now runs; each = each_now; once = sound.once; only = only_now; bare = sound.bare; attached = sound.attached; calls = calls_now }
+  shifted_sound runs = record { few = sound.few; lengths = sound.lengths; short = sound.short; statics = statics_now; rests = rests_now runs; each = each_now; once = sound.once; only = only_now; attached = sound.attached; calls = calls_now }
 
   -- ---- agreement
 

@@ -17,13 +17,13 @@ pub user_in-lead-requires : goal.user_in-lead-requires
 user_in-lead-requires c =
     let old = loaded c.self.inside.banks c.self.inside.users.items in
     let can = can_unload old c.args.self.now c.args.user c.args.segment c.in-Ok.h c.self.view_is c.in-Ok.ensures.can in
-    lead_some old c.args.user c.led_by.result (led_pair old c.args.self.now c.args.user c.led_by.result c.self.view_is c.led_by.ensures) can.is.kept c.self.invariant.0 can.is.made
+    lead_some old c.args.user c.led_by-owner.result (led_pair old c.args.self.now c.args.user c.led_by-owner.result c.self.view_is c.led_by-owner.ensures) can.is.kept c.self.invariant.0 can.is.made
 
 pub renew_tables-requires : goal.renew_tables-requires
 renew_tables-requires c =
     let old = loaded c.self.inside.banks c.self.inside.users.items in
     let k = kept c.user_in-lead.result.now in
-    record { ready = roomy old (c.led_by.result.0 - first_id) k c.self.invariant.0 (made_at old.users c.led_by.result.0 k c.user_in-lead.ensures).0 }
+    record { ready = roomy old (c.led_by-owner.result.0 - first_id) k c.self.invariant.0 (made_at old.users c.led_by-owner.result.0 k c.user_in-lead.ensures).0 }
 
 pub invariant_of-self : goal.invariant_of-self
 invariant_of-self c =
@@ -32,9 +32,9 @@ invariant_of-self c =
     let items = c.user_in-lead.result.now.segments.items in
     let last = loaded c.idle.new.banks c.self.inside.users.items in
     let can = can_unload old c.args.self.now c.args.user c.args.segment c.in-Ok.h c.self.view_is c.in-Ok.ensures.can in
-    let pair = led_pair old c.args.self.now c.args.user c.led_by.result c.self.view_is c.led_by.ensures in
-    let did = has_unloaded old c.args.user c.args.segment c.in-Ok.h can k (lead_is old c.args.user c.led_by.result pair k c.user_in-lead.ensures) c.renew_tables.new.banks c.idle.new.banks last (length items)
-    (sym (length-map items (λ s. s.head))) (renewed_by old c.args.user c.led_by.result pair k.heads k.handles c.args.segment (length items) None c.self.inside.banks c.renew_tables.new.banks c.renew_tables.ensures) c.idle.ensures refl refl in
+    let pair = led_pair old c.args.self.now c.args.user c.led_by-owner.result c.self.view_is c.led_by-owner.ensures in
+    let did = has_unloaded old c.args.user c.args.segment c.in-Ok.h can k (lead_is old c.args.user c.led_by-owner.result pair k c.user_in-lead.ensures) c.renew_tables.new.banks c.idle.new.banks last (length items)
+    (sym (length-map items (λ s. s.head))) (renewed_by old c.args.user c.led_by-owner.result pair k.heads k.handles c.args.segment (length items) None c.self.inside.banks c.renew_tables.new.banks c.renew_tables.ensures) c.idle.ensures refl refl in
     (unloaded_sound old last c.args.user c.args.segment c.self.invariant.0 did, c.self.invariant.1)
 
 pub returns : goal.returns
@@ -44,7 +44,7 @@ returns c =
     let items = c.user_in-lead.result.now.segments.items in
     let last = loaded c.idle.new.banks c.self.inside.users.items in
     let can = can_unload old c.args.self.now c.args.user c.args.segment c.in-Ok.h c.self.view_is c.in-Ok.ensures.can in
-    let pair = led_pair old c.args.self.now c.args.user c.led_by.result c.self.view_is c.led_by.ensures in
-    let did = has_unloaded old c.args.user c.args.segment c.in-Ok.h can k (lead_is old c.args.user c.led_by.result pair k c.user_in-lead.ensures) c.renew_tables.new.banks c.idle.new.banks last (length items)
-    (sym (length-map items (λ s. s.head))) (renewed_by old c.args.user c.led_by.result pair k.heads k.handles c.args.segment (length items) None c.self.inside.banks c.renew_tables.new.banks c.renew_tables.ensures) c.idle.ensures refl refl in
+    let pair = led_pair old c.args.self.now c.args.user c.led_by-owner.result c.self.view_is c.led_by-owner.ensures in
+    let did = has_unloaded old c.args.user c.args.segment c.in-Ok.h can k (lead_is old c.args.user c.led_by-owner.result pair k c.user_in-lead.ensures) c.renew_tables.new.banks c.idle.new.banks last (length items)
+    (sym (length-map items (λ s. s.head))) (renewed_by old c.args.user c.led_by-owner.result pair k.heads k.handles c.args.segment (length items) None c.self.inside.banks c.renew_tables.new.banks c.renew_tables.ensures) c.idle.ensures refl refl in
     record { did = subst (λ (l : Loaded). HasUnloaded l c.args.user c.args.segment last) c.self.view_is did }

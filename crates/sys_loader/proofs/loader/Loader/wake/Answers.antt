@@ -19,13 +19,13 @@ pub user_in-lead-requires : goal.user_in-lead-requires
 user_in-lead-requires c =
     let old = loaded c.self.inside.banks c.self.inside.users.items in
     let can = can_load old c.args.self.now c.args.user c.args.number c.requires.can.0 (Some c.args.h) c.self.view_is c.requires.can.1 in
-    lead_some old c.args.user c.led_by.result (led_pair old c.args.self.now c.args.user c.led_by.result c.self.view_is c.led_by.ensures) can.kept c.self.invariant.0 can.made
+    lead_some old c.args.user c.led_by-owner.result (led_pair old c.args.self.now c.args.user c.led_by-owner.result c.self.view_is c.led_by-owner.ensures) can.kept c.self.invariant.0 can.made
 
 pub renew_tables-requires : goal.renew_tables-requires
 renew_tables-requires c =
     let old = loaded c.self.inside.banks c.self.inside.users.items in
     let k = kept c.user_in-lead.result.now in
-    record { ready = roomy old (c.led_by.result.0 - first_id) k c.self.invariant.0 (made_at old.users c.led_by.result.0 k c.user_in-lead.ensures).0 }
+    record { ready = roomy old (c.led_by-owner.result.0 - first_id) k c.self.invariant.0 (made_at old.users c.led_by-owner.result.0 k c.user_in-lead.ensures).0 }
 
 pub activate-requires : goal.activate-requires
 activate-requires c =
@@ -39,9 +39,9 @@ invariant_of-self c =
     let items = c.user_in-lead.result.now.segments.items in
     let last = loaded c.activate.new.banks c.self.inside.users.items in
     let can = can_load old c.args.self.now c.args.user c.args.number c.requires.can.0 (Some c.args.h) c.self.view_is c.requires.can.1 in
-    let pair = led_pair old c.args.self.now c.args.user c.led_by.result c.self.view_is c.led_by.ensures in
-    let turned = has_woken old c.args.user c.args.number c.args.h c.args.address k (lead_is old c.args.user c.led_by.result pair k c.user_in-lead.ensures) c.renew_tables.new.banks c.activate.new.banks last (length items)
-    (sym (length-map items (λ s. s.head))) (renewed_by old c.args.user c.led_by.result pair k.heads k.handles c.args.number (length items) (Some c.args.address) c.self.inside.banks c.renew_tables.new.banks c.renew_tables.ensures) c.activate.ensures refl refl in
+    let pair = led_pair old c.args.self.now c.args.user c.led_by-owner.result c.self.view_is c.led_by-owner.ensures in
+    let turned = has_woken old c.args.user c.args.number c.args.h c.args.address k (lead_is old c.args.user c.led_by-owner.result pair k c.user_in-lead.ensures) c.renew_tables.new.banks c.activate.new.banks last (length items)
+    (sym (length-map items (λ s. s.head))) (renewed_by old c.args.user c.led_by-owner.result pair k.heads k.handles c.args.number (length items) (Some c.args.address) c.self.inside.banks c.renew_tables.new.banks c.renew_tables.ensures) c.activate.ensures refl refl in
     let led = is_led old.users c.args.user can.kept c.self.invariant.0.attached can.made in (
       shifted_sound old last c.args.user c.args.number _ _ can.kept k c.args.h active_block (Some c.args.address) c.requires.can.0 c.self.invariant.0
           led.leading turned.leads led.alone can.made can.head' can.handle' can.dynamic wakes turned.shifted can.runs,
@@ -54,7 +54,7 @@ returns c =
     let k = kept c.user_in-lead.result.now in
     let items = c.user_in-lead.result.now.segments.items in
     let last = loaded c.activate.new.banks c.self.inside.users.items in
-    let pair = led_pair old c.args.self.now c.args.user c.led_by.result c.self.view_is c.led_by.ensures in
-    let turned = has_woken old c.args.user c.args.number c.args.h c.args.address k (lead_is old c.args.user c.led_by.result pair k c.user_in-lead.ensures) c.renew_tables.new.banks c.activate.new.banks last (length items)
-    (sym (length-map items (λ s. s.head))) (renewed_by old c.args.user c.led_by.result pair k.heads k.handles c.args.number (length items) (Some c.args.address) c.self.inside.banks c.renew_tables.new.banks c.renew_tables.ensures) c.activate.ensures refl refl in
+    let pair = led_pair old c.args.self.now c.args.user c.led_by-owner.result c.self.view_is c.led_by-owner.ensures in
+    let turned = has_woken old c.args.user c.args.number c.args.h c.args.address k (lead_is old c.args.user c.led_by-owner.result pair k c.user_in-lead.ensures) c.renew_tables.new.banks c.activate.new.banks last (length items)
+    (sym (length-map items (λ s. s.head))) (renewed_by old c.args.user c.led_by-owner.result pair k.heads k.handles c.args.number (length items) (Some c.args.address) c.self.inside.banks c.renew_tables.new.banks c.renew_tables.ensures) c.activate.ensures refl refl in
     subst (λ (l : Loaded). HasTurned l c.args.user c.args.number c.args.h active_block (Some c.args.address) last) c.self.view_is turned
