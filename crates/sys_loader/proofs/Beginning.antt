@@ -143,7 +143,7 @@ module _ (memory middle new : Memory) (users' last : List (Option User)) (user :
   count : length (map (option_map kept) users') ≡ length users'
   count = length-map users' (option_map kept)
 
-  placed_new : HasPlaced memory path load id entry new
+  abbrev placed_new : HasPlaced memory path load id entry new
   placed_new = record {
     short = short;
     handles = hs;

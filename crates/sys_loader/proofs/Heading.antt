@@ -8,11 +8,13 @@ use Rattle.omf_format.specs.File.{Segment, segment_at}
 use Rattle.load_meaning.specs.laws.CellLaws.{loadable_has}
 use Rattle.load_meaning.specs.Loadable.{IsLoadable}
 use Rattle.omf_cells.specs.Load.{HasFields}
+use Rattle.iigs_meaning.specs.declared.handles.Handle.{Handle}
 use Rattle.loader_machine.specs.declared.seen.Head.{Head}
 use Rattle.loader_machine.specs.Heads.{head_of}
+use Rattle.loader_agrees.specs.Acts.{no_handle_of}
 use Rattle.sys_loader.specs.declared.user.Segment as users
 use Rattle.sys_loader.specs.Filling.{head_in}
-use Rattle.sys_loader.proofs.Written.{heads_of}
+use Rattle.sys_loader.proofs.Written.{heads_of, handles_of}
 
 take_next : (xs : List Segment) (i : ℕ) (c : Segment) → slice_get xs i ≡ Some c → take (suc i) xs ≡ take i xs ++ c ∷ []
 take_next [] i c is = absurd cc
@@ -36,7 +38,13 @@ head_more load kept place f so_far has = go (slice_get load place) refl (subst (
         ∙ ap (map head_of) (sym (take_next load place s e))
         ∙ ap (λ (n : ℕ). map head_of (take n load)) (sym more)
 
--- ---- addresses
+-- one more without a handle
+pub none_more : (kept : List users.Segment) (g : Head) → handles_of kept ≡ map no_handle_of (heads_of kept)
+    → handles_of (kept ++ (record { handle = None; head = g }) ∷ []) ≡ map no_handle_of (heads_of (kept ++ (record { handle = None; head = g }) ∷ []))
+none_more kept g is =
+    let one : users.Segment = record { handle = None; head = g } in
+    map-append (λ (x : users.Segment). x.handle) kept (one ∷ []) ∙ ap (λ (os : List (Option Handle)). os ++ None ∷ []) is
+    ∙ sym (map-append no_handle_of (heads_of kept) (g ∷ [])) ∙ ap (map no_handle_of) (sym (map-append (λ (x : users.Segment). x.head) kept (one ∷ [])))
 
 -- ---- the number of the last segment
 

@@ -21,7 +21,7 @@ use Rattle.sys_loader.specs.Lives.{AreIdled}
 use Rattle.sys_loader.proofs.Written.{handles_of}
 use Rattle.sys_loader.proofs.Renewing.{same_active}
 use Rattle.sys_loader.proofs.Shifting.{set_is}
-use Rattle.sys_loader.proofs.ChangedAll.{all_more, all_none, let_go_again, let_go_active, let_go_idle, let_go_empty}
+use Rattle.sys_loader.proofs.ChangedAll.{all_more, all_none, all_kept, all_join, let_go_again, let_go_at, let_go_active, let_go_idle, let_go_empty}
 
 pub handle_get : (segments : List users.Segment) (k : ℕ) (s : users.Segment) → k < length segments → s ≡ get_or segments k s → slice_get (handles_of segments) k ≡ Some s.handle
 handle_get segments k s inside is =
@@ -144,3 +144,26 @@ module _ (handles : List (Option Handle)) (k : ℕ) (o : Option Handle) (found :
             let its : address_in (slot_at new.slots place) ≡ address_in (slot_at now.slots place) = ap (λ (t : Slots). address_in (slot_at t place)) (changes.slots ∙ set_is now.slots h changes.block (idle_block changes.block) changes.was) ∙ ap address_in same in
             subst (λ (x : Option ℕ). IsSome x) its there
       ]
+
+-- ---- two lists of segments, one behind the other
+
+was_at : (old new : Memory) (handles : List (Option Handle)) → new.slots ≡ changed_all let_go old.slots handles → (place : ℕ) → IsThere new place → IsThere old place
+was_at old new handles same place there = go (block_in (slot_at new.slots place)) refl there
+  where
+    go : (o : Option Block) → block_in (slot_at new.slots place) ≡ o → IsSome (option_and_then (λ (b : Block). b.at) o) → IsThere old place
+    go None is some = absurd cc
+    go (Some b) is some =
+        let was = all_kept let_go let_go_again (λ (x : Block). x.at) let_go_at old.slots handles place b (sym (ap (λ (t : Slots). block_in (slot_at t place)) same) ∙ is) in
+        rw was.1 (subst (λ (o : Option ℕ). IsSome o) (sym was.2) some)
+
+pub idled_none : (memory : Memory) → AreIdled [] memory memory
+idled_none memory = record { slots = refl; bytes = record { banks = refl; bytes = λ place apart there. refl } }
+
+pub idled_join : (xs ys : List (Option Handle)) (old mid new : Memory) → AreIdled xs old mid → AreIdled ys mid new → AreIdled (xs ++ ys) old new
+idled_join xs ys old mid new one two = record {
+  slots = two.slots ∙ ap (λ (t : Slots). changed_all let_go t ys) one.slots ∙ sym (all_join let_go let_go_again old.slots xs ys);
+  bytes = record {
+    banks = two.bytes.banks ∙ one.bytes.banks;
+    bytes = λ place apart there. two.bytes.bytes place apart there ∙ one.bytes.bytes place apart (was_at mid new ys two.slots place there);
+  };
+}

@@ -1,11 +1,13 @@
 -- The user whose tables lead to a user's segments, as it is looked up.
-use Rattle.std.proofs.Common.{◌≡◌, ℕ, List, Option, Some, IsSome, sym, ap, subst, ◌∙◌, refl}
+use Rattle.std.proofs.Common.{◌≡◌, ℕ, Bool, true, false, ◌≤◌, List, Option, Some, None, IsSome, sym, ap, subst, ◌∙◌, refl, arith}
+use Rattle.std.specs.Prelude.{is_some}
+use Rattle.std.specs.Option.{option_map_or}
 use Rattle.iigs_meaning.specs.declared.handles.Handle.{Handle}
 use Rattle.iigs_meaning.specs.Memory.{Memory}
 use Rattle.loader_machine.specs.declared.seen.Head.{Head}
-use Rattle.loader_machine.specs.State.{user_of, led_by}
-use Rattle.loader_agrees.specs.Agrees.{Kept, Loaded, kept_outlines, IsSound}
-use Rattle.loader_agrees.specs.laws.Leading.{is_led}
+use Rattle.loader_machine.specs.State.{user_of, holder_of, attached_at, is_attached, led_by}
+use Rattle.loader_agrees.specs.Agrees.{Kept, Loaded, Outline, kept_outlines, AreAttached, IsSound}
+use Rattle.loader_agrees.specs.laws.Leading.{Leading, Its, Holder, is_led}
 use Rattle.sys_loader.specs.Renewing.{AreRenewed}
 
 -- what is told of the one loader is so of the other
@@ -25,3 +27,19 @@ module _ (old : Loaded) (id : ℕ) (pair : ℕ × ℕ) (is : pair ≡ led_by (ke
   pub renewed_by : (heads : List Head) (handles : List (Option Handle)) (number count : ℕ) (address : Option ℕ) (before after : Memory) → AreRenewed heads handles (Some (pair.1, number)) address before after count
       → AreRenewed heads handles (Some ((led_by (kept_outlines old.users) id).1, number)) address before after count
   renewed_by heads handles number count address before after renewed = subst (λ (p : ℕ × ℕ). AreRenewed heads handles (Some (p.1, number)) address before after count) is renewed
+
+-- a user that is attached to none leads itself, and no row names it
+led_self : (outlines : List (Option Outline)) (id : ℕ) → is_attached outlines id ≡ false → led_by outlines id ≡ (id, 1)
+led_self outlines id alone = go (holder_of outlines id) alone
+  where
+    go : (o : Option (ℕ × ℕ)) → is_some o ≡ false → option_map_or (λ (one : ℕ × ℕ). one) o (id, 1) ≡ (id, 1)
+    go None e = refl
+    go (Some one) e = absurd cc
+
+pub no_row : (users : List (Option Kept)) (id : ℕ) (kept : Kept) → AreAttached users → user_of users id ≡ Some kept → is_attached (kept_outlines users) id ≡ false
+    → (q f : ℕ) → attached_at (kept_outlines users) q f ≡ Some id → ⊥
+no_row users id kept attached made alone = go (subst (λ (p : ℕ × ℕ). Leading users id p.0 p.1) (led_self (kept_outlines users) id alone) (is_led users id kept attached made).leading)
+  where
+    go : Leading users id id 1 → (q f : ℕ) → attached_at (kept_outlines users) q f ≡ Some id → ⊥
+    go (Its same one none) = none
+    go (Holder above apart there empty only) = absurd (omega (arith, above))

@@ -5,11 +5,13 @@ pub mod Naming
 pub mod Dealing
 pub mod Written
 pub mod Tables
+pub mod Together
 pub mod Settling
 pub mod Beginning
 pub mod Loads
 pub mod Heading
 pub mod Purging
+pub mod Paths
 pub mod Poking
 pub mod Renewed
 pub mod Families

@@ -17,7 +17,7 @@ use Rattle.loader_machine.specs.declared.faults.LoaderFault.{LoaderFault}
 use Rattle.loader_machine.specs.declared.faults.LoaderFault.TheVariants as fault
 use Rattle.loader_machine.specs.Heads.{head_of, wants_of}
 use Rattle.loader_machine.specs.State.{Machine, User, first_id, max_users}
-use Rattle.loader_machine.specs.Found.{HoldsFile, HoldsLoad, Found, Unread, Bad, Good, IsFound, Joined, Stops, Joins, joined_behind, AreJoined, reads_of}
+use Rattle.loader_machine.specs.Found.{HoldsFile, HoldsLoad, HoldsFault, Found, Unread, Bad, Good, IsFound, Joined, Stops, Joins, joined_behind, AreJoined, reads_of}
 use Rattle.loader_machine.specs.Commands.{Reply, Command, Load, Refused}
 use Rattle.loader_machine.specs.Refusals.{load_refusal, rows_refusal}
 use Rattle.loader_machine.specs.Steps.{NoSlots, Lacks, Begins, LoadsFound, LoadsJoined, Steps, begun_users, lost_refusal}
@@ -215,7 +215,7 @@ module _ (held : FileMap) (old : Loaded) (state : Machine) (path : List ℕ) (ag
   refuses why reads count (LacksMemory few why_is same one) =
       subst (λ (f : LoaderFault). MeetsReads Purges held state (Load path) (Refused f) old before now) (sym why_is) (lacks few reads (omega (arith, one)) (omega (arith, one)) same count)
   refuses why reads count (IsBad few file is_read bad first' why_is same one) =
-      let holds' = record { file = file; is_held = (is_read.1, is_read.0); first = first' } in
+      let holds' : HoldsFault held path bad = record { file = file; is_held = (is_read.1, is_read.0); first = first' } in
       subst (λ (f : LoaderFault). MeetsReads Purges held state (Load path) (Refused f) old before now) (sym why_is)
       (refused (fault.BadFile bad) (rw (may few) (Bad bad, holds', (refl, refl))) same (found_needed few (Bad bad) holds' refl reads one count))
   refuses why reads count (CantStart segments is rows cant sum) = rows_refused segments is reads rows sum count why cant

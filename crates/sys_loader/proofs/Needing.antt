@@ -1,5 +1,5 @@
 -- The files that a call reads are those that the machine's command needs.
-use Rattle.std.proofs.Common.{◌≡◌, inl, inr, ℕ, Bool, true, false, cond, not, ◌||◌, ◌<◌, ◌≤◌, ◌^◌, List, [], length, take, drop, Option, Some, None, IsSome, nat_lt, refl, sym, ap, subst, ◌∙◌, arith}
+use Rattle.std.proofs.Common.{◌≡◌, inl, inr, ℕ, Bool, true, false, cond, not, ◌||◌, ◌+◌, ◌*◌, ◌<◌, ◌≤◌, ◌^◌, List, [], length, take, drop, Option, Some, None, IsSome, nat_lt, refl, sym, ap, subst, ◌∙◌, arith}
 use Rattle.std.specs.Option.{option_map, option_map_or}
 use Rattle.omf_format.specs.File.{Segment}
 use Rattle.omf_io.specs.Counts.{one_more, risen}
@@ -24,7 +24,7 @@ use Rattle.loader_agrees.specs.Agrees.{Kept, Loaded, Outline, kept_outlines, see
 use Rattle.loader_agrees.specs.Acts.{HasLent, LiesIn}
 use Rattle.loader_agrees.specs.laws.Apart.{is_apart}
 use Rattle.loader_agrees.specs.laws.Reads.{lies_back}
-use Rattle.loader_agrees.specs.laws.Seeing.{IsKept, is_kept, is_seen}
+use Rattle.loader_agrees.specs.laws.Seeing.{IsKept, kept_is, is_seen}
 use Rattle.sys_loader.specs.declared.answers.Entered as answers
 use Rattle.sys_loader.specs.Activating.{segment_reads}
 use Rattle.sys_loader.specs.Following.{IsJslRefusal, NoBytes, NoJsl, NoPlace, NoEntry, EntersPlace, CallsEntry, IsRefused, IsPlace, IsThere, HasAsked}
@@ -216,7 +216,7 @@ module _ (held : FileMap) (old : Loaded) (state : Machine) (sound : IsSound old.
           let clash : Some lead.other ≡ Some other = sym lead.named ∙ named in cc
 
       abbrev its : IsKept held old state agrees lead.other lead.kept
-      its = is_kept held old state agrees lead.other lead.kept lead.made
+      its = kept_is held old state agrees lead.other lead.kept lead.made
 
       same_number : t.segment ≡ segment
       same_number = sym (followed.segment_is held old old state sound agrees below below id number at 0 0 place calls.leads.call calls.target calls.entry) ∙ calls.segment'

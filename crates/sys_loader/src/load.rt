@@ -1,7 +1,7 @@
 //! Programs that are loaded.
 
 ghost use Rattle.std.specs.Prelude.{◌≡◌, ◌⊎◌, ◌+◌, ◌++◌, ◌<◌, ◌≤◌, ◌^◌, ℕ, List, map, option_map, length, slice_get, string_bytes, vec_capacity, All, Some, None, false, IfOk, IfErr, OnOk, OnErr};
-ghost use Rattle.omf_format.specs.File.{Segment};
+ghost use Rattle.omf_format.specs.File as omf;
 ghost use Rattle.omf_io.specs.Counts.{one_more, risen};
 ghost use Rattle.omf_io.specs.Files.{FileMap};
 ghost use Rattle.load_meaning.specs.Pathnames.{paths_of};
@@ -159,7 +159,7 @@ fn join_all<F: Files>(
     requires { (file : List ℕ) × IsLoadable file load.now }
     ensures held { (F.seen files.new).held ≡ (F.seen files.old).held }
     ensures never_falls { (F.seen files.old).faults ≤ (F.seen files.new).faults }
-    ensures joins { IfOk result (λ users. (all : List (List Segment)) × AreRowsRead (F.seen files.old).held (paths_of load.now) (F.seen files.old).faults (F.seen files.new).faults (Joins all)
+    ensures joins { IfOk result (λ users. (all : List (List omf.Segment)) × AreRowsRead (F.seen files.old).held (paths_of load.now) (F.seen files.old).faults (F.seen files.new).faults (Joins all)
         × AreJoinedUsers (paths_of load.now) all (map kept users.items) × ((F.seen files.new).asked ≡ risen (length all) (F.seen files.old).asked)) }
     ensures stops { IfErr result (RowsStop (F.seen files.old).held (paths_of load.now) (F.seen files.old) (F.seen files.new)) }
 {
@@ -214,9 +214,9 @@ impl Loader {
         requires loadable { (file : List ℕ) × IsLoadable file load.now }
         requires short { length load.now < 2 ^ 16 }
         requires plan { IsPlan load.now plan }
-        requires users { (all : List (List Segment)) × AreJoinedUsers (paths_of load.now) all (map kept joined.items) × (lost_refusal (map (map head_of) all) load.now ≡ None) }
+        requires users { (all : List (List omf.Segment)) × AreJoinedUsers (paths_of load.now) all (map kept joined.items) × (lost_refusal (map (map head_of) all) load.now ≡ None) }
         requires attached { attached.items ≡ state.ids_from (first_id + length self.old.users + 1) (length (paths_of load.now)) }
-        ensures begun { (all : List (List Segment)) → AreJoinedUsers (paths_of load.now) all (map kept joined.items)
+        ensures begun { (all : List (List omf.Segment)) → AreJoinedUsers (paths_of load.now) all (map kept joined.items)
             → IfOk result (λ started. HasBegun self.old (string_bytes path) load.now all started.user started.entry self.new) }
         ensures refused { IfErr result (IsBeginRefusal self.old.memory (first_id + length self.old.users) (map head_of load.now)) }
         ensures err { OnErr result (self.new ≡ self.old) }
@@ -266,8 +266,8 @@ impl Loader {
     ) -> Result<Started, LoaderFault>
         requires few { length self.old.users + 1 + length joined.items ≤ max_users }
         requires loadable { (file : List ℕ) × IsLoadable file load.now }
-        requires users { (all : List (List Segment)) × AreJoinedUsers (paths_of load.now) all (map kept joined.items) × (lost_refusal (map (map head_of) all) load.now ≡ None) }
-        ensures begun { (all : List (List Segment)) → AreJoinedUsers (paths_of load.now) all (map kept joined.items)
+        requires users { (all : List (List omf.Segment)) × AreJoinedUsers (paths_of load.now) all (map kept joined.items) × (lost_refusal (map (map head_of) all) load.now ≡ None) }
+        ensures begun { (all : List (List omf.Segment)) → AreJoinedUsers (paths_of load.now) all (map kept joined.items)
             → IfOk result (λ started. HasBegun self.old path.now load.now all started.user started.entry self.new) }
         ensures refused { IfErr result (λ why. (why ≡ LoaderFault.Memory) ⊎ IsBeginRefusal self.old.memory (first_id + length self.old.users) (map head_of load.now) why) }
         ensures err { OnErr result (self.new ≡ self.old) }

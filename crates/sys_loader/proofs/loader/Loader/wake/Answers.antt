@@ -43,7 +43,7 @@ invariant_of-self c =
     let turned = has_woken old c.args.user c.args.number c.args.h c.args.address k (lead_is old c.args.user c.led_by-owner.result pair k c.user_in-lead.ensures) c.renew_tables.new.banks c.activate.new.banks last (length items)
     (sym (length-map items (λ s. s.head))) (renewed_by old c.args.user c.led_by-owner.result pair k.heads k.handles c.args.number (length items) (Some c.args.address) c.self.inside.banks c.renew_tables.new.banks c.renew_tables.ensures) c.activate.ensures refl refl in
     let led = is_led old.users c.args.user can.kept c.self.invariant.0.attached can.made in (
-      shifted_sound old last c.args.user c.args.number _ _ can.kept k c.args.h active_block (Some c.args.address) c.requires.can.0 c.self.invariant.0
+      shifted_sound old last c.args.user c.args.number _ _ can.kept turned.lead c.args.h active_block (Some c.args.address) c.requires.can.0 c.self.invariant.0
           led.leading turned.leads led.alone can.made can.head' can.handle' can.dynamic wakes turned.shifted can.runs,
       c.self.invariant.1,
     )
