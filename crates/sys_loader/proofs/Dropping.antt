@@ -155,39 +155,19 @@ map_gone {A} {B} f (id ∷ ids) users =
 none_in : (place : ℕ) → ¬ Contains {X = ℕ} [] place
 none_in place found = omega (arith, found.1)
 
-module _ (old new : Loaded) (id : ℕ) (sound : IsSound old.memory old.users) (did : HasDropped old id new) (top : (q f : ℕ) → attached_at (kept_outlines old.users) q f ≡ Some id → ⊥) where
-  abbrev place : ℕ
-  place = id - first_id
-
-  abbrev kept : Kept
-  kept = did.kept
-
-  abbrev ids : List ℕ
-  ids = family id kept.attached
-
+-- the handles of these users are released, and they are gone, where no row of another user names one of them
+module _ (old new : Loaded) (ids : List ℕ) (sound : IsSound old.memory old.users) (released' : AreReleased ids old.memory new.memory) (gone : new.users ≡ without_all old.users ids)
+    (high : (n : ℕ) → is_in ids n ≡ true → first_id ≤ n)
+    (row_out : (p : ℕ) (k : Kept) (i n : ℕ) → slice_get old.users p ≡ Some (Some k) → is_in ids (first_id + p) ≡ false → slice_get k.attached i ≡ Some n → is_in ids n ≡ false) where
   abbrev In : ℕ → Bool
   In p = is_in ids (first_id + p)
 
-  its_users : (slice_get old.users place ≡ Some (Some kept)) × (first_id + place ≡ id)
-  its_users = made_at old.users id kept did.made
-
-  place_in : In place ≡ true
-  place_in = ap (is_in ids) its_users.1 ∙ in_last kept.attached id
-
-  high : (n : ℕ) → is_in ids n ≡ true → first_id ≤ n
-  high n inside = elim (in_either kept.attached id n inside) [
-    | inl last ↦ omega (arith, last, its_users.1)
-    | inr row ↦
-        let one = sound.attached.each place row.0 n kept its_users.0 row.1 in
-        omega (arith, (made_at old.users n one.0 one.1).1)
-  ]
-
   -- a user that is left was there before
   before : (p : ℕ) (k : Kept) → slice_get new.users p ≡ Some (Some k) → (slice_get old.users p ≡ Some (Some k)) × (In p ≡ false)
-  before p k made = gone_now ids old.users p k (ap (λ (us : List (Option Kept)). slice_get us p) (sym did.users) ∙ made)
+  before p k made = gone_now ids old.users p k (ap (λ (us : List (Option Kept)). slice_get us p) (sym gone) ∙ made)
 
   left : (p : ℕ) (k : Kept) → slice_get old.users p ≡ Some (Some k) → In p ≡ false → slice_get new.users p ≡ Some (Some k)
-  left p k made out = ap (λ (us : List (Option Kept)). slice_get us p) did.users ∙ stays_there ids old.users p k high made out
+  left p k made out = ap (λ (us : List (Option Kept)). slice_get us p) gone ∙ stays_there ids old.users p k high made out
 
   user_left : (n : ℕ) (k : Kept) → user_of old.users n ≡ Some k → is_in ids n ≡ false → user_of new.users n ≡ Some k
   user_left n k is out =
@@ -200,10 +180,10 @@ module _ (old new : Loaded) (id : ℕ) (sound : IsSound old.memory old.users) (d
   live_before : (p n : ℕ) (head : Head) (h : Handle) → Has old.users p n head h → In p ≡ false → get new.memory.slots h ≡ get old.memory.slots h
   live_before p n head h has out =
       let of' = sound.each p n head h has in
-      ap (λ (t : Slots). get t h) did.released.slots ∙ others_get ids old.memory.slots h of'.block of'.live (ap (is_in ids) of'.user ∙ out)
+      ap (λ (t : Slots). get t h) released'.slots ∙ others_get ids old.memory.slots h of'.block of'.live (ap (is_in ids) of'.user ∙ out)
 
   bytes_same : (h : Handle) → IsSome (there_at (presence new.memory.slots (Some h))) → bytes_at new.memory h.slot ≡ bytes_at old.memory h.slot
-  bytes_same h there = did.released.bytes.bytes h.slot (none_in h.slot) (is_there new.memory h there)
+  bytes_same h there = released'.bytes.bytes h.slot (none_in h.slot) (is_there new.memory h there)
 
   each_now : (p n : ℕ) (head : Head) (h : Handle) → Has new.users p n head h → IsOf new.memory (first_id + p) head h
   each_now p n head h has =
@@ -239,7 +219,7 @@ module _ (old new : Loaded) (id : ℕ) (sound : IsSound old.memory old.users) (d
   only_now : (slot : ℕ) (b : Block) → block_in (slot_at new.memory.slots slot) ≡ Some b → b.user ≢ 0
       → (p : ℕ) × (n : ℕ) × (head : Head) × (h : Handle) × Has new.users p n head h × (h.slot ≡ slot)
   only_now slot b found user =
-      let was = others_in ids old.memory.slots slot b (sym (ap (λ (t : Slots). block_in (slot_at t slot)) did.released.slots) ∙ found) user in
+      let was = others_in ids old.memory.slots slot b (sym (ap (λ (t : Slots). block_in (slot_at t slot)) released'.slots) ∙ found) user in
       let it = sound.only slot b was.0 user in
       let of' = sound.each it.0 it.1 it.2 it.3 it.4 in
       let same : of'.block ≡ b = same_Some of'.block b (sym (live_block old.memory.slots it.3 of'.block of'.live) ∙ ap (λ (n : ℕ). block_in (slot_at old.memory.slots n)) it.5 ∙ was.0) in
@@ -253,20 +233,6 @@ module _ (old new : Loaded) (id : ℕ) (sound : IsSound old.memory old.users) (d
 
   is_row_now : (p : ℕ) (k : Kept) (f : ℕ) → slice_get old.users p ≡ Some (Some k) → In p ≡ false → attached_at (kept_outlines new.users) (first_id + p) f ≡ slice_get k.attached (f - 2)
   is_row_now p k f made out = rw (user_is outline new.users (first_id + p), user_there new.users p k (left p k made out)) refl
-
-  -- a user that is left has none of those that are gone
-  row_out : (p : ℕ) (k : Kept) (i n : ℕ) → slice_get old.users p ≡ Some (Some k) → In p ≡ false → slice_get k.attached i ≡ Some n → is_in ids n ≡ false
-  row_out p k i n made out is = elim (decide (is_in ids n)) [
-    | inr out' ↦ out'
-    | inl inside ↦ elim (in_either kept.attached id n inside) [
-      | inl last ↦
-          let back : i + 2 - 2 ≡ i = omega arith in
-          absurd (top (first_id + p) (i + 2) (is_row p k (i + 2) made ∙ ap (slice_get k.attached) back ∙ is ∙ ap (λ (m : ℕ). Some m) last))
-      | inr row ↦
-          (let both = sound.attached.once p place i row.0 n k kept made its_users.0 is row.1 in
-          let clash : false ≡ true = sym out ∙ ap In both.0 ∙ place_in in absurd cc)
-    ]
-  ]
 
   attached_now : AreAttached new.users
   attached_now = record {
@@ -352,9 +318,9 @@ module _ (old new : Loaded) (id : ℕ) (sound : IsSound old.memory old.users) (d
       subst (λ (bs : List ℕ). IsCall new.users (first_id + p) (target_at bs k)) (sym (bytes_same j there))
       (call_now p was.0.kept was.0.made was.1 (target_at (bytes_at old.memory j.slot) k) (sound.calls p n k g j was.0 table there' inside))
 
-  pub dropped_sound : IsSound new.memory new.users
-  dropped_sound = record {
-    few = omega (arith, sound.few, ap (λ (us : List (Option Kept)). length us) did.users, length_gone ids old.users);
+  pub gone_sound : IsSound new.memory new.users
+  gone_sound = record {
+    few = omega (arith, sound.few, ap (λ (us : List (Option Kept)). length us) gone, length_gone ids old.users);
     lengths = λ p k made. sound.lengths p k (before p k made).0;
     short = λ p k made. sound.short p k (before p k made).0;
     statics = statics_now;
@@ -367,12 +333,6 @@ module _ (old new : Loaded) (id : ℕ) (sound : IsSound old.memory old.users) (d
   }
 
   module _ (held : FileMap) (state : Machine) (agrees : Agrees held old state) where
-    is : IsKept held old state agrees id kept
-    is = kept_is held old state agrees id kept did.made
-
-    abbrev next_of : List ℕ → Machine
-    next_of family = record { banks = state.banks; slots = without_users state.slots family; users = without_all state.users family }
-
     still : (p : ℕ) (k : Kept) (user : User) → slice_get old.users p ≡ Some (Some k) → In p ≡ false → UserAgrees held old.memory (far_in old (first_id + p)) (first_id + p) k user
         → UserAgrees held new.memory (far_in new (first_id + p)) (first_id + p) k user
     still p k user made out was = agrees_still held old.memory new.memory (far_in old (first_id + p)) (far_in new (first_id + p)) (first_id + p) k user was
@@ -384,11 +344,11 @@ module _ (old new : Loaded) (id : ℕ) (sound : IsSound old.memory old.users) (d
         let was = before p k made in
         far_now p k was.0 was.1 t (agrees.entries p number i k segments s t was.0 holds is' table found above)
 
-    agrees_of : Agrees held new (next_of ids)
-    agrees_of = record {
-      banks = did.released.bytes.banks ∙ agrees.banks;
-      slots = did.released.slots ∙ ap (λ (t : Slots). without_users t ids) agrees.slots;
-      users = ap kept_outlines did.users ∙ map_gone outline ids old.users ∙ ap (λ (os : List (Option Outline)). without_all os ids) agrees.users ∙ sym (map_gone outline_of ids state.users);
+    pub gone_agrees : Agrees held new (record { banks = state.banks; slots = without_users state.slots ids; users = without_all state.users ids })
+    gone_agrees = record {
+      banks = released'.bytes.banks ∙ agrees.banks;
+      slots = released'.slots ∙ ap (λ (t : Slots). without_users t ids) agrees.slots;
+      users = ap kept_outlines gone ∙ map_gone outline ids old.users ∙ ap (λ (os : List (Option Outline)). without_all os ids) agrees.users ∙ sym (map_gone outline_of ids state.users);
       attached = attached_now;
       entries = entries_now;
       each = λ p k user made made'.
@@ -397,8 +357,60 @@ module _ (old new : Loaded) (id : ℕ) (sound : IsSound old.memory old.users) (d
           still p k user was.0 was.1 (agrees.each p k user was.0 user'.0);
     }
 
-    pub agrees_next : Agrees held new (dropped_state state id is.user)
-    agrees_next = subst (λ (ns : List ℕ). Agrees held new (next_of (family id ns))) (ap (λ (o : Outline). o.attached) is.does_agree.same) agrees_of
+-- ---- a user with those that are attached to it
+
+module _ (old new : Loaded) (id : ℕ) (sound : IsSound old.memory old.users) (did : HasDropped old id new) (top : (q f : ℕ) → attached_at (kept_outlines old.users) q f ≡ Some id → ⊥) where
+  abbrev place : ℕ
+  place = id - first_id
+
+  abbrev kept : Kept
+  kept = did.kept
+
+  abbrev its : List ℕ
+  its = family id kept.attached
+
+  its_users : (slice_get old.users place ≡ Some (Some kept)) × (first_id + place ≡ id)
+  its_users = made_at old.users id kept did.made
+
+  place_in : is_in its (first_id + place) ≡ true
+  place_in = ap (is_in its) its_users.1 ∙ in_last kept.attached id
+
+  its_high : (n : ℕ) → is_in its n ≡ true → first_id ≤ n
+  its_high n inside = elim (in_either kept.attached id n inside) [
+    | inl last ↦ omega (arith, last, its_users.1)
+    | inr row ↦
+        let one = sound.attached.each place row.0 n kept its_users.0 row.1 in
+        omega (arith, (made_at old.users n one.0 one.1).1)
+  ]
+
+  -- a user that is left has none of them
+  its_out : (p : ℕ) (k : Kept) (i n : ℕ) → slice_get old.users p ≡ Some (Some k) → is_in its (first_id + p) ≡ false → slice_get k.attached i ≡ Some n → is_in its n ≡ false
+  its_out p k i n made out is = elim (decide (is_in its n)) [
+    | inr out' ↦ out'
+    | inl inside ↦ elim (in_either kept.attached id n inside) [
+      | inl last ↦
+          let back : i + 2 - 2 ≡ i = omega arith in
+          let row : attached_at (kept_outlines old.users) (first_id + p) (i + 2) ≡ slice_get k.attached (i + 2 - 2) = rw (user_is outline old.users (first_id + p), user_there old.users p k made) refl in
+          absurd (top (first_id + p) (i + 2) (row ∙ ap (slice_get k.attached) back ∙ is ∙ ap (λ (m : ℕ). Some m) last))
+      | inr row ↦
+          (let both = sound.attached.once p place i row.0 n k kept made its_users.0 is row.1 in
+          let clash : false ≡ true = sym out ∙ ap (λ (q : ℕ). is_in its (first_id + q)) both.0 ∙ place_in in absurd cc)
+    ]
+  ]
+
+  pub dropped_sound : IsSound new.memory new.users
+  dropped_sound = gone_sound old new its sound did.released did.users its_high its_out
+
+  module _ (held : FileMap) (state : Machine) (agrees : Agrees held old state) where
+    is : IsKept held old state agrees id kept
+    is = kept_is held old state agrees id kept did.made
+
+    abbrev next_of : List ℕ → Machine
+    next_of ids = record { banks = state.banks; slots = without_users state.slots ids; users = without_all state.users ids }
+
+    agrees_next : Agrees held new (dropped_state state id is.user)
+    agrees_next = subst (λ (ns : List ℕ). Agrees held new (next_of (family id ns))) (ap (λ (o : Outline). o.attached) is.does_agree.same)
+        (gone_agrees old new its sound did.released did.users its_high its_out held state agrees)
 
     pub drop_met : shut_down_refusal (is_attached (kept_outlines old.users) id) (seen_by old id) false ≡ None → Met Purges held state (ShutDown id false) Okay new
     drop_met passes = (

@@ -5,7 +5,7 @@ use Rattle.std.specs.Option.{option_or, option_map_or, option_and_then}
 use Rattle.std.proofs.lemmas.Bool.{cases_eq}
 use Rattle.std.proofs.lemmas.Bool.Decides.{nat_tests}
 use Rattle.std.proofs.lemmas.Option.{same_Some, slice_get_within, slice_get-map}
-use Rattle.loader_machine.specs.State.{Outline, first_id, user_of, with_user, with_all, without_all, file_in, holder_from, holder_of}
+use Rattle.loader_machine.specs.State.{Outline, first_id, user_of, with_user, with_all, without_all, file_in, holder_from, holder_of, ids_from}
 use Rattle.loader_agrees.specs.Agrees.{Kept, outline, kept_outlines}
 use Rattle.loader_agrees.specs.laws.Lists.{set_at, set_apart, length_set}
 use Rattle.loader_agrees.specs.laws.Seeing.{made_at}
@@ -33,6 +33,14 @@ take_past [] zero le = refl
 take_past [] (suc k) le = refl
 take_past (y ∷ xs) zero le = absurd (omega (arith, le))
 take_past (y ∷ xs) (suc k) le = ap (λ l. y ∷ l) (take_past xs k (omega (arith, le)))
+
+-- one ID more
+pub ids_more : (id k : ℕ) → ids_from id (k + 1) ≡ ids_from id k ++ (id + k) ∷ []
+ids_more id zero = ap (λ (n : ℕ). n ∷ []) (omega arith)
+ids_more id (suc k) =
+    let e : suc k + 1 ≡ suc (k + 1) = omega arith in
+    let n : id + 1 + k ≡ id + suc k = omega arith in
+    ap (ids_from id) e ∙ ap (λ (l : List ℕ). id ∷ l) (ids_more (id + 1) k) ∙ ap (λ (m : ℕ). id ∷ (ids_from (id + 1) k ++ m ∷ [])) n
 
 -- ---- the search for an ID
 

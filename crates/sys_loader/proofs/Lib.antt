@@ -8,6 +8,7 @@ pub mod Tables
 pub mod Together
 pub mod Settling
 pub mod Beginning
+pub mod Lost
 pub mod Loads
 pub mod Heading
 pub mod Purging
@@ -25,6 +26,7 @@ pub mod Turning
 pub mod Unloading
 pub mod Dropping
 pub mod ChangedAll
+pub mod Relived
 pub mod Resting
 pub mod Idling
 pub mod Stopping

@@ -43,6 +43,7 @@ use Rattle.sys_loader.specs.Renewing.{AreRenewed}
 use Rattle.sys_loader.proofs.Lead.{target_stays}
 use Rattle.sys_loader.specs.Lives.{with_life, AreIdled, HasKept}
 use Rattle.sys_loader.proofs.Shifting.{there_block}
+use Rattle.sys_loader.proofs.Relived as relived
 use Rattle.sys_loader.proofs.Together.{is_in, in_last, in_front, in_either, Was, with_all_get, with_all_then, among, from_among, map_all, length_all}
 use Rattle.sys_loader.proofs.Turned.{Becomes, Stays, Turns, Turned, turned_agrees}
 use Rattle.sys_loader.proofs.Leads.{at_most, entries_lead}
@@ -54,9 +55,6 @@ none_in place found = omega (arith, found.1)
 
 abbrev rests : Kept → Kept
 rests = with_life Dormant
-
-rests_again : (k : Kept) → rests (rests k) ≡ rests k
-rests_again k = refl
 
 module _ (old new : Loaded) (id : ℕ) (sound : IsSound old.memory old.users) (did : HasKept old id new) (top : (q f : ℕ) → attached_at (kept_outlines old.users) q f ≡ Some id → ⊥) where
   abbrev place : ℕ
@@ -87,37 +85,18 @@ module _ (old new : Loaded) (id : ℕ) (sound : IsSound old.memory old.users) (d
   slots_are = did.idled.slots ∙ ap (λ (t : Slots). changed_all let_go t (handles_of_all (kept_outlines old.users) ids)) did.renewed.slots
 
   -- a user of the family is the user itself, or an attached one
-  which : (p : ℕ) (k : Kept) → slice_get old.users p ≡ Some (Some k) → In p ≡ true → (p ≡ place) ⊎ ((i : ℕ) × (slice_get kept.attached i ≡ Some (first_id + p)) × IsJoined kept.life k)
-  which p k made inside = elim (in_either kept.attached id (first_id + p) inside) [
-    | inl last ↦ inl (omega (arith, last, its_users.1))
-    | inr row ↦
-        let one = sound.attached.each place row.0 (first_id + p) kept its_users.0 row.1 in
-        let same : one.0 ≡ k = same_Some one.0 k (sym one.1 ∙ user_there old.users p k made) in
-        inr (row.0, row.1, subst (IsJoined kept.life) same one.2)
-  ]
+  which : (p : ℕ) (k : Kept) → slice_get old.users p ≡ Some (Some k) → In p ≡ true → ((p ≡ place) × (k ≡ kept)) ⊎ ((i : ℕ) × (slice_get kept.attached i ≡ Some (first_id + p)) × IsJoined kept.life k)
+  which p k made inside = relived.which old.users sound.attached id kept did.made top ids (in_last kept.attached id) (in_front kept.attached id) (in_either kept.attached id) p k made inside
 
-  users_now : (p : ℕ) (k : Kept) → slice_get new.users p ≡ Some (Some k) → Was rests rests_again old.users ids p k
-  users_now p k made = with_all_get rests rests_again ids old.users p k (ap (λ (us : List (Option Kept)). slice_get us p) (sym did.users) ∙ made)
-
-  users_then : (p : ℕ) (k : Kept) → slice_get old.users p ≡ Some (Some k)
-      → (v : Kept) × (slice_get new.users p ≡ Some (Some v)) × (((In p ≡ true) × (v ≡ rests k)) ⊎ ((In p ≡ false) × (v ≡ k)))
-  users_then p k made = let one = with_all_then rests rests_again ids old.users p k made in (one.0, ap (λ (us : List (Option Kept)). slice_get us p) did.users ∙ one.1, one.2)
-
-  -- all but the life of a user stays
-  same_but : (p : ℕ) (k : Kept) → (made : slice_get new.users p ≡ Some (Some k)) → let was = (users_now p k made).was in (k.handles ≡ was.handles) × (k.heads ≡ was.heads) × (k.attached ≡ was.attached) × (k.path ≡ was.path)
-  same_but p k made = go (users_now p k made)
-    where
-      go : (w : Was rests rests_again old.users ids p k) → (k.handles ≡ w.was.handles) × (k.heads ≡ w.was.heads) × (k.attached ≡ w.was.attached) × (k.path ≡ w.was.path)
-      go w = elim w.is [
-        | inl inside ↦ (ap (λ (x : Kept). x.handles) inside.1, ap (λ (x : Kept). x.heads) inside.1, ap (λ (x : Kept). x.attached) inside.1, ap (λ (x : Kept). x.path) inside.1)
-        | inr outside ↦ (ap (λ (x : Kept). x.handles) outside.1, ap (λ (x : Kept). x.heads) outside.1, ap (λ (x : Kept). x.attached) outside.1, ap (λ (x : Kept). x.path) outside.1)
-      ]
+  users_now : (p : ℕ) (k : Kept) → slice_get new.users p ≡ Some (Some k) → Was rests (relived.life_again Dormant) old.users ids p k
+  users_now p k made = relived.users_now old.users new.users Dormant ids did.users p k made
 
   has_before : (p n : ℕ) (head : Head) (h : Handle) → Has new.users p n head h → Has old.users p n head h
-  has_before p n head h has =
-      let w = users_now p has.kept has.made in
-      let same = same_but p has.kept has.made in
-      record { kept = w.was; made = w.made; head' = ap (λ (hs : List Head). at_number hs n) (sym same.1) ∙ has.head'; handle = ap (λ (hs : List (Option Handle)). handle_at hs n) (sym same.0) ∙ has.handle }
+  has_before p n head h has = relived.has_before old.users new.users Dormant ids did.users p n head h has
+
+  user_then : (n : ℕ) (k : Kept) → user_of old.users n ≡ Some k
+      → (v : Kept) × (user_of new.users n ≡ Some v) × (v.heads ≡ k.heads) × (v.attached ≡ k.attached) × (v.handles ≡ k.handles) × (((is_in ids n ≡ true) × (v ≡ rests k)) ⊎ ((is_in ids n ≡ false) × (v ≡ k)))
+  user_then n k is = relived.user_then old.users new.users Dormant ids did.users n k is
 
   -- ---- blocks
 
@@ -223,72 +202,18 @@ module _ (old new : Loaded) (id : ℕ) (sound : IsSound old.memory old.users) (d
 
   -- ---- what is true of every loader
 
-  user_then : (n : ℕ) (k : Kept) → user_of old.users n ≡ Some k → (v : Kept) × (user_of new.users n ≡ Some v) × (v.heads ≡ k.heads) × (v.attached ≡ k.attached) × (((is_in ids n ≡ true) × (v ≡ rests k)) ⊎ ((is_in ids n ≡ false) × (v ≡ k)))
-  user_then n k is =
-      let there = made_at old.users n k is in
-      let one = users_then (n - first_id) k there.0 in
-      let now : user_of new.users n ≡ Some one.0 = subst (λ (m : ℕ). user_of new.users m ≡ Some one.0) there.1 (user_there new.users (n - first_id) one.0 one.1) in
-      let same : (one.0.heads ≡ k.heads) × (one.0.attached ≡ k.attached) = elim one.2 [ inl l ↦ (ap (λ (x : Kept). x.heads) l.1, ap (λ (x : Kept). x.attached) l.1) | inr l ↦ (ap (λ (x : Kept). x.heads) l.1, ap (λ (x : Kept). x.attached) l.1) ] in
-      (one.0, now, same.0, same.1, subst (λ (m : ℕ). ((is_in ids m ≡ true) × (one.0 ≡ rests k)) ⊎ ((is_in ids m ≡ false) × (one.0 ≡ k))) there.1 one.2)
-
   attached_now : AreAttached new.users
-  attached_now = record {
-    few = λ p k made. let w = users_now p k made in subst (λ (ns : List ℕ). length ns ≤ most_paths) (sym (same_but p k made).2) (sound.attached.few p w.was w.made);
-    each = λ p i n k made is.
-        let w = users_now p k made in
-        let same = same_but p k made in
-        let is' : slice_get w.was.attached i ≡ Some n = ap (λ (ns : List ℕ). slice_get ns i) (sym same.2) ∙ is in
-        let one = sound.attached.each p i n w.was w.made is' in
-        let now = user_then n one.0 one.1 in
-        (now.0, now.1, joined p i n k w now.0 one.0 is' one.1 one.2 now.2 now.3 now.4);
-    once = λ p q i j n one two made made' is is'.
-        let w = users_now p one made in
-        let v = users_now q two made' in
-        sound.attached.once p q i j n w.was v.was w.made v.made (ap (λ (ns : List ℕ). slice_get ns i) (sym (same_but p one made).2) ∙ is) (ap (λ (ns : List ℕ). slice_get ns j) (sym (same_but q two made').2) ∙ is');
-  }
-    where
-      joined : (p i n : ℕ) (k : Kept) (w : Was rests rests_again old.users ids p k) (v o : Kept) → slice_get w.was.attached i ≡ Some n → user_of old.users n ≡ Some o → IsJoined w.was.life o → v.heads ≡ o.heads → v.attached ≡ o.attached
-          → ((is_in ids n ≡ true) × (v ≡ rests o)) ⊎ ((is_in ids n ≡ false) × (v ≡ o)) → IsJoined k.life v
-      joined p i n k w v o is there j heads attached at = record {
-        same = life w.is at;
-        alone = attached ∙ j.alone;
-        dynamic = λ m head found. j.dynamic m head (ap (λ (hs : List Head). at_number hs m) (sym heads) ∙ found);
-        plain = λ m head found. j.plain m head (ap (λ (hs : List Head). at_number hs m) (sym heads) ∙ found);
-      }
-        where
-          nothing : (i n : ℕ) → slice_get {X = ℕ} [] i ≡ Some n → ⊥
-          nothing i n e = cc
-
-          life : ((In p ≡ true) × (k ≡ rests w.was)) ⊎ ((In p ≡ false) × (k ≡ w.was)) → ((is_in ids n ≡ true) × (v ≡ rests o)) ⊎ ((is_in ids n ≡ false) × (v ≡ o)) → v.life ≡ k.life
-          life (inl a) (inl b) = ap (λ (x : Kept). x.life) b.1 ∙ sym (ap (λ (x : Kept). x.life) a.1)
-          life (inr a) (inr b) = ap (λ (x : Kept). x.life) b.1 ∙ j.same ∙ sym (ap (λ (x : Kept). x.life) a.1)
-          life (inl a) (inr b) = elim (which p w.was w.made a.0) [
-            | inl here ↦
-                (let its : slice_get kept.attached i ≡ Some n = ap (λ (x : Kept). slice_get x.attached i) (sym (kept_one p w.was w.made here)) ∙ is in
-                let clash : true ≡ false = sym (in_front kept.attached id n i its) ∙ b.0 in absurd cc)
-            | inr row ↦ absurd (nothing i n (ap (λ (ns : List ℕ). slice_get ns i) (sym row.2.alone) ∙ is))
-          ]
-          life (inr a) (inl b) = elim (in_either kept.attached id n b.0) [
-            | inl last ↦ absurd (top (first_id + p) (i + 2) (rw (user_is outline old.users (first_id + p), user_there old.users p w.was w.made) (ap (slice_get w.was.attached) back ∙ is ∙ ap (λ (m : ℕ). Some m) last)))
-            | inr row ↦
-                (let both = sound.attached.once p place i row.0 n w.was kept w.made its_users.0 is row.1 in
-                let clash : false ≡ true = sym a.0 ∙ ap In both.0 ∙ place_in in absurd cc)
-          ]
-            where
-              back : i + 2 - 2 ≡ i
-              back = omega arith
+  attached_now = relived.attached_now old.users new.users Dormant ids did.users sound.attached
+      (relived.together old.users sound.attached id kept did.made top ids (in_last kept.attached id) (in_front kept.attached id) (in_either kept.attached id))
 
   has_now : (p n : ℕ) (head : Head) (h : Handle) → Has old.users p n head h → Has new.users p n head h
-  has_now p n head h has =
-      let one = users_then p has.kept has.made in
-      let same : (one.0.heads ≡ has.kept.heads) × (one.0.handles ≡ has.kept.handles) = elim one.2 [ inl l ↦ (ap (λ (x : Kept). x.heads) l.1, ap (λ (x : Kept). x.handles) l.1) | inr l ↦ (ap (λ (x : Kept). x.heads) l.1, ap (λ (x : Kept). x.handles) l.1) ] in
-      record { kept = one.0; made = one.1; head' = ap (λ (hs : List Head). at_number hs n) same.0 ∙ has.head'; handle = ap (λ (hs : List (Option Handle)). handle_at hs n) same.1 ∙ has.handle }
+  has_now p n head h has = relived.has_now old.users new.users Dormant ids did.users p n head h has
 
   statics_now : (p : ℕ) (k : Kept) (n : ℕ) (head : Head) → slice_get new.users p ≡ Some (Some k) → k.life ≡ Running → at_number k.heads n ≡ Some head → is_static head ≡ true
       → is_active (presence_at new.memory.slots k.handles n) ≡ true
   statics_now p k n head made runs found static = go (users_now p k made)
     where
-      go : Was rests rests_again old.users ids p k → is_active (presence_at new.memory.slots k.handles n) ≡ true
+      go : Was rests (relived.life_again Dormant) old.users ids p k → is_active (presence_at new.memory.slots k.handles n) ≡ true
       go w = elim w.is [
         | inl inside ↦ (let clash : Dormant ≡ Running = ap (λ (x : Kept). x.life) (sym inside.1) ∙ runs in absurd cc)
         | inr outside ↦
@@ -300,7 +225,7 @@ module _ (old new : Loaded) (id : ℕ) (sound : IsSound old.memory old.users) (d
   rests_now : (p : ℕ) (k : Kept) (n : ℕ) → slice_get new.users p ≡ Some (Some k) → k.life ≡ Dormant → is_active (presence_at new.memory.slots k.handles n) ≡ false
   rests_now p k n made life = go (users_now p k made)
     where
-      go : Was rests rests_again old.users ids p k → is_active (presence_at new.memory.slots k.handles n) ≡ false
+      go : Was rests (relived.life_again Dormant) old.users ids p k → is_active (presence_at new.memory.slots k.handles n) ≡ false
       go w = elim w.is [
         | inl inside ↦
             ap (λ (x : Kept). is_active (presence_at new.memory.slots x.handles n)) inside.1
@@ -317,30 +242,6 @@ module _ (old new : Loaded) (id : ℕ) (sound : IsSound old.memory old.users) (d
       let it = sound.only slot was.0 was.1 (λ e. user (sym was.2 ∙ e)) in
       (it.0, it.1, it.2, it.3, has_now it.0 it.1 it.2 it.3 it.4, it.5)
 
-  -- what an entry names is named still
-  call_now : (q : ℕ) (t : Target) → IsCall old.users q t → IsCall new.users q t
-  call_now q t call =
-      let one = user_then call.other call.kept call.made in
-      record {
-        other = call.other;
-        named = named (t.file == 1) call.named;
-        kept = one.0;
-        made = one.1;
-        head = call.head;
-        head' = ap (λ (hs : List Head). at_number hs t.segment) one.2 ∙ call.head';
-        dynamic = call.dynamic;
-        loaded = call.loaded;
-      }
-    where
-      row : (o : Option Kept) → user_of old.users q ≡ o → option_and_then (λ (u : Outline). slice_get u.attached (t.file - 2)) (option_map outline o) ≡ Some call.other
-          → attached_at (kept_outlines new.users) q t.file ≡ Some call.other
-      row None e is = absurd cc
-      row (Some k) e is = let one = user_then q k e in rw (user_is outline new.users q, one.1) (ap (λ (ns : List ℕ). slice_get ns (t.file - 2)) one.3 ∙ is)
-
-      named : (b : Bool) → cond b (Some q) (attached_at (kept_outlines old.users) q t.file) ≡ Some call.other → cond b (Some q) (attached_at (kept_outlines new.users) q t.file) ≡ Some call.other
-      named true e = e
-      named false e = row (user_of old.users q) refl (ap (option_and_then (λ (u : Outline). slice_get u.attached (t.file - 2))) (sym (user_is outline old.users q)) ∙ e)
-
   was_there : (p n : ℕ) (g : Head) (j : Handle) → Has old.users p n g j → IsSome (there_at (presence new.memory.slots (Some j))) → IsSome (there_at (presence old.memory.slots (Some j)))
   was_there p n g j has there = elim (by_in p) [
     | inl inside ↦
@@ -353,7 +254,7 @@ module _ (old new : Loaded) (id : ℕ) (sound : IsSound old.memory old.users) (d
   calls_now p n k g j has' table there inside =
       let has = has_before p n g j has' in
       let was = was_there p n g j has there in
-      let before = call_now (first_id + p) (target_at (bytes_at old.memory j.slot) k) (sound.calls p n k g j has table was inside) in
+      let before = relived.call_now old.users new.users Dormant ids did.users (first_id + p) (target_at (bytes_at old.memory j.slot) k) (sound.calls p n k g j has table was inside) in
       elim (cases_eq p place) [
         | inl eq ↦
             let user = kept_one p has.kept has.made eq in
@@ -378,8 +279,8 @@ module _ (old new : Loaded) (id : ℕ) (sound : IsSound old.memory old.users) (d
   pub kept_sound : IsSound new.memory new.users
   kept_sound = record {
     few = omega (arith, sound.few, ap length did.users, length_all rests old.users ids);
-    lengths = λ p k made. let w = users_now p k made in let same = same_but p k made in omega (arith, sound.lengths p w.was w.made, ap length same.0, ap length same.1);
-    short = λ p k made. let w = users_now p k made in let same = same_but p k made in omega (arith, sound.short p w.was w.made, ap length same.1);
+    lengths = λ p k made. let w = users_now p k made in let same = relived.same_but old.users new.users Dormant ids did.users p k made in omega (arith, sound.lengths p w.was w.made, ap length same.0, ap length same.1);
+    short = λ p k made. let w = users_now p k made in let same = relived.same_but old.users new.users Dormant ids did.users p k made in omega (arith, sound.short p w.was w.made, ap length same.1);
     statics = statics_now;
     rests = rests_now;
     each = λ p n head h has. each_before p n head h (has_before p n head h has);
@@ -395,7 +296,7 @@ module _ (old new : Loaded) (id : ℕ) (sound : IsSound old.memory old.users) (d
   far_none : (f n : ℕ) → far_of new.memory.slots (kept_outlines new.users) id f n ≡ None
   far_none f n = go (attached_at (kept_outlines new.users) id f) refl
     where
-      its_new : (v : Kept) × (user_of new.users id ≡ Some v) × (v.heads ≡ kept.heads) × (v.attached ≡ kept.attached) × (((is_in ids id ≡ true) × (v ≡ rests kept)) ⊎ ((is_in ids id ≡ false) × (v ≡ kept)))
+      its_new : (v : Kept) × (user_of new.users id ≡ Some v) × (v.heads ≡ kept.heads) × (v.attached ≡ kept.attached) × (v.handles ≡ kept.handles) × (((is_in ids id ≡ true) × (v ≡ rests kept)) ⊎ ((is_in ids id ≡ false) × (v ≡ kept)))
       its_new = user_then id kept did.made
 
       row : (m : ℕ) → slice_get kept.attached (f - 2) ≡ Some m → active_at (presence_at new.memory.slots (handles_in (kept_outlines new.users) m) n) ≡ None
@@ -403,8 +304,8 @@ module _ (old new : Loaded) (id : ℕ) (sound : IsSound old.memory old.users) (d
           let one = sound.attached.each place (f - 2) m kept its_users.0 is in
           let there = made_at old.users m one.0 one.1 in
           let now = user_then m one.0 one.1 in
-          let same : now.0.handles ≡ one.0.handles = elim now.4 [ inl l ↦ ap (λ (x : Kept). x.handles) l.1 | inr l ↦ ap (λ (x : Kept). x.handles) l.1 ] in
-          let inside : In (m - first_id) ≡ true = ap (is_in ids) there.1 ∙ in_front kept.attached id m (f - 2) is in
+          let same : now.0.handles ≡ one.0.handles = now.4 in
+          let inside : In (m - first_id) ≡ true = ap (is_in ids) there.1 ∙ in_front kept.attached id (f - 2) m is in
           let its : handles_in (kept_outlines new.users) m ≡ one.0.handles = rw (user_is outline new.users m, now.1) same in
           ap (λ (hs : List (Option Handle)). active_at (presence_at new.memory.slots hs n)) its ∙ none_active (m - first_id) one.0 there.0 inside n (handle_at one.0.handles n) refl
 
@@ -427,7 +328,7 @@ module _ (old new : Loaded) (id : ℕ) (sound : IsSound old.memory old.users) (d
       → far_of new.memory.slots (kept_outlines new.users) (first_id + p) f n ≡ far_of old.memory.slots (kept_outlines old.users) (first_id + p) f n
   far_other p k made outside f n = rw (row_new, row_old) (go (slice_get k.attached (f - 2)) refl)
     where
-      now : (v : Kept) × (user_of new.users (first_id + p) ≡ Some v) × (v.heads ≡ k.heads) × (v.attached ≡ k.attached) × (((is_in ids (first_id + p) ≡ true) × (v ≡ rests k)) ⊎ ((is_in ids (first_id + p) ≡ false) × (v ≡ k)))
+      now : (v : Kept) × (user_of new.users (first_id + p) ≡ Some v) × (v.heads ≡ k.heads) × (v.attached ≡ k.attached) × (v.handles ≡ k.handles) × (((is_in ids (first_id + p) ≡ true) × (v ≡ rests k)) ⊎ ((is_in ids (first_id + p) ≡ false) × (v ≡ k)))
       now = user_then (first_id + p) k (user_there old.users p k made)
 
       row_new : attached_at (kept_outlines new.users) (first_id + p) f ≡ slice_get k.attached (f - 2)
@@ -445,7 +346,7 @@ module _ (old new : Loaded) (id : ℕ) (sound : IsSound old.memory old.users) (d
           let one = sound.attached.each p (f - 2) m k made is in
           let there = made_at old.users m one.0 one.1 in
           let then' = user_then m one.0 one.1 in
-          let same : then'.0.handles ≡ one.0.handles = elim then'.4 [ inl l ↦ ap (λ (x : Kept). x.handles) l.1 | inr l ↦ ap (λ (x : Kept). x.handles) l.1 ] in
+          let same : then'.0.handles ≡ one.0.handles = then'.4 in
           let its : handles_in (kept_outlines new.users) m ≡ one.0.handles = rw (user_is outline new.users m, then'.1) same in
           let was : handles_in (kept_outlines old.users) m ≡ one.0.handles = rw (user_is outline old.users m, one.1) refl in
           rw (its, was) (ap active_at (other_same (m - first_id) one.0 there.0 (out (m - first_id) m there.1 is) n (handle_at one.0.handles n) refl))
@@ -476,14 +377,14 @@ module _ (old new : Loaded) (id : ℕ) (sound : IsSound old.memory old.users) (d
 
       here_or_plain : (n : ℕ) (s : Segment) → segment_at was.segments n ≡ Some s → load.is_table s ≡ true → (p ≡ place)
       here_or_plain n s found table = elim (which p k made inside) [
-        | inl here ↦ here
+        | inl here ↦ here.0
         | inr row ↦
             (let clash : true ≡ false = sym table ∙ row.2.plain n (head_of s) (heads_at n s found) in absurd cc)
       ]
 
       far_now : (f n : ℕ) → far_of new.memory.slots (kept_outlines new.users) (first_id + p) f n ≡ None
       far_now f n = elim (which p k made inside) [
-        | inl here ↦ (let at : first_id + p ≡ id = omega (arith, here, its_users.1) in ap (λ (q : ℕ). far_of new.memory.slots (kept_outlines new.users) q f n) at ∙ far_none f n)
+        | inl here ↦ (let at : first_id + p ≡ id = omega (arith, here.0, its_users.1) in ap (λ (q : ℕ). far_of new.memory.slots (kept_outlines new.users) q f n) at ∙ far_none f n)
         | inr row ↦ far_alone p k made row.2.alone f n
       ]
 
@@ -538,31 +439,6 @@ module _ (old new : Loaded) (id : ℕ) (sound : IsSound old.memory old.users) (d
     is : IsKept held old state agrees id kept
     is = kept_is held old state agrees id kept did.made
 
-    -- an entry for an attached user leads where it led
-    far_still : (n : ℕ) (t : Target) → LeadsFar old.users n t → LeadsFar new.users n t
-    far_still n t far =
-        let one = user_then far.other far.kept far.made in
-        record {
-          other = far.other;
-          named = row (user_of old.users n) refl (ap (option_and_then (λ (u : Outline). slice_get u.attached (t.file - 2))) (sym (user_is outline old.users n)) ∙ far.named);
-          kept = one.0;
-          made = one.1;
-          head = far.head;
-          head' = ap (λ (hs : List Head). at_number hs t.segment) one.2 ∙ far.head';
-          inside = far.inside;
-        }
-      where
-        row : (o : Option Kept) → user_of old.users n ≡ o → option_and_then (λ (u : Outline). slice_get u.attached (t.file - 2)) (option_map outline o) ≡ Some far.other
-            → attached_at (kept_outlines new.users) n t.file ≡ Some far.other
-        row None e is' = absurd cc
-        row (Some k) e is' = let one = user_then n k e in rw (user_is outline new.users n, one.1) (ap (λ (ns : List ℕ). slice_get ns (t.file - 2)) one.3 ∙ is')
-
-    entries_now : EntriesLead held new.users
-    entries_now p number k now segments s t made holds is' table found above =
-        let w = users_now p now made in
-        far_still (first_id + p) t
-        (agrees.entries p number k w.was segments s t w.made (subst (λ (path : List ℕ). HoldsLoad held path segments) (same_but p now made).3 holds) is' table found above)
-
     rests_outline : Outline → Outline
     rests_outline o = record o { life = Dormant }
 
@@ -581,11 +457,11 @@ module _ (old new : Loaded) (id : ℕ) (sound : IsSound old.memory old.users) (d
       users = ap kept_outlines did.users ∙ map_all outline rests rests_outline (λ k. refl) old.users ids ∙ ap (λ (os : List (Option Outline)). with_all rests_outline os ids) agrees.users
           ∙ sym (map_all outline_of state_of.rests rests_outline (λ u. refl) state.users ids);
       attached = attached_now;
-      entries = entries_now;
+      entries = relived.entries_now old.users new.users Dormant ids did.users held agrees.entries;
       each = λ p k user made made'. each_agrees p k user (users_now p k made) (with_all_get state_of.rests (λ u. refl) ids state.users p user made');
     }
       where
-        each_agrees : (p : ℕ) (k : Kept) (user : User) → Was rests rests_again old.users ids p k → Was state_of.rests (λ u. refl) state.users ids p user
+        each_agrees : (p : ℕ) (k : Kept) (user : User) → Was rests (relived.life_again Dormant) old.users ids p k → Was state_of.rests (λ u. refl) state.users ids p user
             → UserAgrees held new.memory (far_in new (first_id + p)) (first_id + p) k user
         each_agrees p k user w v = elim w.is [
           | inl inside ↦ elim v.is [

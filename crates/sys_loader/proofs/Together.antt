@@ -27,12 +27,12 @@ in_last (one ∷ ids) id = go (one == id) (in_last ids id)
     go true e = refl
     go false e = e
 
-pub in_front : (ids : List ℕ) (last id i : ℕ) → slice_get ids i ≡ Some id → is_in (ids ++ last ∷ []) id ≡ true
-in_front [] last id i is = absurd cc
-in_front (one ∷ ids) last id zero is =
+pub in_front : (ids : List ℕ) (last i id : ℕ) → slice_get ids i ≡ Some id → is_in (ids ++ last ∷ []) id ≡ true
+in_front [] last i id is = absurd cc
+in_front (one ∷ ids) last zero id is =
     let same : one ≡ id = same_Some one id is in
     let test : (one == id) ≡ true = grind arith in rw test refl
-in_front (one ∷ ids) last id (suc i) is = go (one == id) (in_front ids last id i is)
+in_front (one ∷ ids) last (suc i) id is = go (one == id) (in_front ids last i id is)
   where
     go : (b : Bool) → is_in (ids ++ last ∷ []) id ≡ true → (b || is_in (ids ++ last ∷ []) id) ≡ true
     go true e = refl
@@ -45,6 +45,27 @@ in_either (one ∷ ids) last id is = elim (cases_eq one id) [
   | inr ne ↦
       let test : (one == id) ≡ false = grind arith in
       elim (in_either ids last id (rw test at is)) [ inl last' ↦ inl last' | inr there ↦ inr (suc there.0, there.1) ]
+]
+
+pub in_row : (ids : List ℕ) (i id : ℕ) → slice_get ids i ≡ Some id → is_in ids id ≡ true
+in_row [] i id is = absurd cc
+in_row (one ∷ ids) zero id is =
+    let same : one ≡ id = same_Some one id is in
+    let test : (one == id) ≡ true = grind arith in rw test refl
+in_row (one ∷ ids) (suc i) id is = go (one == id) (in_row ids i id is)
+  where
+    go : (b : Bool) → is_in ids id ≡ true → (b || is_in ids id) ≡ true
+    go true e = refl
+    go false e = e
+
+pub in_rows : (ids : List ℕ) (id : ℕ) → is_in ids id ≡ true → (i : ℕ) × (slice_get ids i ≡ Some id)
+in_rows [] id is = absurd cc
+in_rows (one ∷ ids) id is = elim (cases_eq one id) [
+  | inl eq ↦ (0, ap (λ (m : ℕ). Some m) eq)
+  | inr ne ↦
+      let test : (one == id) ≡ false = grind arith in
+      let later = in_rows ids id (rw test at is) in
+      (suc later.0, later.1)
 ]
 
 -- ---- users changed together

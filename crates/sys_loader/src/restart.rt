@@ -201,7 +201,7 @@ impl Loader {
 
     // The static segments of a user, all of which are there, become active, and it runs, with those attached to it.
     fn resume(&mut self, user: u16) -> Started
-        requires made { IsSome (user_of self.old.users user) }
+        requires can { (k : Kept) × CanRestart self.old user k }
         requires whole { (k : Kept) → user_of self.old.users user ≡ Some k → is_whole self.old k ≡ true }
         ensures { (k : Kept) → user_of self.old.users user ≡ Some k → HasResumed self.old.memory self.old.users user k result self.new }
     {
@@ -220,7 +220,8 @@ impl Loader {
         requires room { length places ≡ length load.now }
         requires can { (k : Kept) × CanRestart self.old user k }
         requires whole { (k : Kept) → user_of self.old.users user ≡ Some k → is_whole self.old k ≡ true }
-        requires same { (k : Kept) → user_of self.old.users user ≡ Some k → map head_of load.now ≡ k.heads }
+        requires same { (k : Kept) → user_of self.old.users user ≡ Some k
+            → (lost_refusal (kept_heads self.old.users k.attached) load.now ≡ None) × (map head_of load.now ≡ k.heads) }
         ensures { (file : List ℕ) (k : Kept) → IsLoadable file load.now → user_of self.old.users user ≡ Some k → HasReloaded file self.old user k result self.new }
     {
         self.is_sound();
@@ -283,8 +284,10 @@ impl Loader {
         plan: Plan,
         user: u16,
     ) -> Result<Started, LoaderFault>
-        requires made { IsSome (user_of self.old.users user) }
+        requires can { (k : Kept) × CanRestart self.old user k }
         requires taken { (file : List ℕ) × IsLoadable file load.now }
+        requires same { (k : Kept) → user_of self.old.users user ≡ Some k
+            → (lost_refusal (kept_heads self.old.users k.attached) load.now ≡ None) × (map head_of load.now ≡ k.heads) }
         requires short { length load.now < 2 ^ 16 }
         requires plan { IsPlan load.now plan }
         ensures begun { (k : Kept) → user_of self.old.users user ≡ Some k → IfOk result (λ started. HasBegunAnew self.old user k load.now started self.new) }
@@ -324,7 +327,7 @@ impl Loader {
     // The same of a file that was read, if it is the one that was loaded.
     fn start_anew(&mut self, file: &[u8], user: u16) -> Result<Started, LoaderFault>
         requires short { length file.now < 2 ^ 32 }
-        requires made { IsSome (user_of self.old.users user) }
+        requires can { (k : Kept) × CanRestart self.old user k }
         requires gone { (k : Kept) → user_of self.old.users user ≡ Some k → is_whole self.old k ≡ false }
         ensures begun { (k : Kept) → user_of self.old.users user ≡ Some k → IfOk result (λ started. HasBegunFrom file.now self.old user k started self.new) }
         ensures refused { (k : Kept) → user_of self.old.users user ≡ Some k → IfErr result (IsAgainRefusal file.now self.old user k) }

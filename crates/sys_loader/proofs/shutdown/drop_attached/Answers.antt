@@ -1,0 +1,41 @@
+use Rattle.std.proofs.Common.{rules, ◌≡◌, true, false, List, [], Some, None, IsSome, map, option_map, vec_capacity, IfOk, IfErr, ℕ, ◌+◌, ◌-◌, ◌*◌, ◌<◌, ◌≤◌, length, ◌/◌, ◌%◌, Bool, nat_eq, nat_lt, ◌∷◌, ◌++◌, slice_index_or, slice_set, bit_and, bit_or, Fits, w8, w32, w64, Bor, MutBor}
+use Rattle.omf_io.specs.Files.{FileMap}
+use Rattle.iigs_meaning.specs.declared.handles.Handle.{Handle}
+use Rattle.iigs_meaning.specs.Puts.{Purges}
+use Rattle.iigs_meaning.specs.Memory.{AreAllPlaced}
+use Rattle.loader_machine.specs.State.{Machine, user_of, is_attached, family, handles_of_all, without_all}
+use Rattle.loader_machine.specs.Refusals.{shut_down_refusal}
+use Rattle.loader_machine.specs.Commands.{ShutDown}
+use Rattle.loader_agrees.specs.Agrees.{Kept, AreAttached, Agrees, Met, kept_outlines, seen_by}
+use Rattle.sys_loader.specs.View.{kept}
+use Rattle.sys_loader.specs.Replies.{done_reply}
+use Rattle.sys_loader.specs.Lives.{AreIdled, AreReleased, DidShutDown}
+use Rattle.sys_loader.proofs.shutdown.drop_attached.Goals as goal
+
+-- src/shutdown.rt:79:5
+pub places-init : goal.places-init
+places-init c = ?
+
+-- src/shutdown.rt:80:13
+pub attached_in-other-requires-clause-made : goal.attached_in-other-requires-clause-made
+attached_in-other-requires-clause-made c = ?
+
+-- src/shutdown.rt:80:13
+pub attached_in-other-requires-clause-inside : goal.attached_in-other-requires-clause-inside
+attached_in-other-requires-clause-inside c = ?
+
+-- src/shutdown.rt:82:9
+pub remove-requires : goal.remove-requires
+remove-requires c = ?
+
+-- src/shutdown.rt:79:5
+pub places-preserved : goal.places-preserved
+places-preserved c = ?
+
+-- src/shutdown.rt:71:1
+pub returns-clause-released : goal.returns-clause-released
+returns-clause-released c = ?
+
+-- src/shutdown.rt:71:1
+pub returns-clause-gone : goal.returns-clause-gone
+returns-clause-gone c = ?
