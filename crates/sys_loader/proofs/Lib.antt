@@ -8,7 +8,7 @@ pub mod Tables
 pub mod Together
 pub mod Settling
 pub mod Beginning
-pub mod Lost
+pub mod Losing
 pub mod Loads
 pub mod Heading
 pub mod Purging
@@ -45,6 +45,7 @@ pub mod Entries
 pub mod Followed
 pub mod Reaching
 pub mod Calling
+pub mod Rerun
 pub mod Resuming
 pub mod Again
 pub mod Restarted

@@ -4,6 +4,9 @@ use Rattle.std.specs.Option.{option_map_or}
 use Rattle.omf_format.specs.File.{Segment, segment_at}
 use Rattle.omf_io.specs.Counts.{IsFront}
 use Rattle.omf_io.specs.Files.{FileMap, IsRead, IsUnread}
+use Rattle.load_meaning.specs.declared.load.LoadFault.{LoadFault}
+use Rattle.load_meaning.specs.declared.load.LoadCause.TheVariants as cause
+use Rattle.load_meaning.specs.Table.{entry_start}
 use Rattle.load_meaning.specs.Loadable.{IsLoadable}
 use Rattle.iigs_meaning.specs.declared.handles.Handle.{Handle}
 use Rattle.iigs_meaning.specs.Puts.{without_user}
@@ -53,6 +56,10 @@ heads_in users id = option_map_or (λ kept. kept.heads) (user_of users id) []
 
 abbrev pub kept_heads : List (Option Kept) → List ℕ → List (List Head)
 kept_heads users ids = map (heads_in users) ids
+
+-- the fault of the entry at a place of a table
+abbrev pub lost_entry : ℕ → ℕ → LoadFault
+lost_entry number place = record { cause = cause.NoSuchTarget; segment = number; at = entry_start place }
 
 -- the file isn't the one that was loaded: an entry for another file leads to no segment of an attached user, or its headers differ
 abbrev pub IsOtherFile : List (Option Kept) → Kept → List Segment → LoaderFault → Type 0

@@ -1,16 +1,16 @@
 //! Entries of a file's jump table for other files that lead nowhere.
 
-ghost use Rattle.std.specs.Prelude.{◌≡◌, ◌+◌, ◌*◌, ◌<◌, ◌^◌, ℕ, length, map, option_map, nat_lt, nat_le, slice_get, false, ◌||◌, Some, IsSome};
+ghost use Rattle.std.specs.Prelude.{◌≡◌, ◌⊎◌, ◌<◌, ℕ, length, map, option_map, nat_lt, nat_le, slice_get, false, ◌||◌, Some, IsSome};
 ghost use Rattle.std.specs.Option.{option_map_or, option_and_then};
-ghost use Rattle.load_meaning.specs.Table.{entry_start};
-ghost use Rattle.load_meaning.specs.LoadTable.{table_of};
+ghost use Rattle.load_meaning.specs.LoadTable.{entry_count, table_of};
+ghost use Rattle.omf_cells.specs.Load.{IsOutside, HasLength};
 ghost use Rattle.loader_machine.specs.Heads.{at_number};
 ghost use Rattle.loader_machine.specs.State.{user_of};
 ghost use Rattle.loader_machine.specs.Steps as steps;
 ghost use Rattle.sys_loader.specs.View.{kept};
-ghost use Rattle.sys_loader.specs.Restarting.{new_heads, kept_heads};
+ghost use Rattle.sys_loader.specs.Restarting.{new_heads, kept_heads, lost_entry};
 
-use crate::user::{Segment, User};
+use crate::user::User;
 use crate::users::user_in;
 use load_meaning::Target;
 use omf_cells::{LoadCause, LoadFault, LoadFile};
@@ -19,12 +19,20 @@ use omf_cells::{LoadCause, LoadFault, LoadFile};
 const FRONT: u32 = 8;
 const ENTRY: u32 = 14;
 
-/// The entry at a place leads nowhere.
-fn lost_at(table: u32, place: u32) -> LoadFault
-    requires { 8 + 14 * place < 2 ^ 32 }
-    ensures cause { result.cause ≡ LoadCause.NoSuchTarget }
-    ensures segment { result.segment ≡ table }
-    ensures at { result.at ≡ entry_start place }
+/// How many bytes a segment has; 0 where there is none with this number.
+fn length_of(load: &LoadFile<'_>, number: u32) -> u32
+    ensures { IsOutside load.now number ⊎ HasLength load.now number result }
+{
+    match load.header(number) {
+        Some(header) => header.length,
+        None => 0,
+    }
+}
+
+/// The entry at a place of a table of this length leads nowhere.
+fn lost_at(table: u32, length: u32, place: u32) -> LoadFault
+    requires { place < entry_count length }
+    ensures { result ≡ lost_entry table place }
 {
     LoadFault {
         cause: LoadCause::NoSuchTarget,
@@ -33,14 +41,11 @@ fn lost_at(table: u32, place: u32) -> LoadFault
     }
 }
 
-/// Whether a target is an offset below LENGTH of one of these segments.
-fn is_inside(segments: &Vec<Segment>, target: &Target) -> bool
-    ensures { result ≡ option_map_or (λ head. nat_lt target.now.offset head.length) (at_number (map (λ s. s.head) segments.now.items) target.now.segment) false }
+/// Whether a target is an offset below LENGTH of a segment of this user.
+fn is_inside(user: &User, target: &Target) -> bool
+    ensures { result ≡ option_map_or (λ head. nat_lt target.now.offset head.length) (at_number (map (λ s. s.head) user.now.segments.items) target.now.segment) false }
 {
-    if target.segment == 0 {
-        return false;
-    }
-    match segments.get(usize::from(target.segment) - 1) {
+    match user.segment(target.segment) {
         Some(segment) => target.offset < segment.head.length,
         None => false,
     }
@@ -54,7 +59,7 @@ fn is_reached(joined: &Vec<User>, target: &Target) -> bool
         return true;
     }
     match joined.get(usize::from(target.file) - 2) {
-        Some(user) => is_inside(&user.segments, target),
+        Some(user) => is_inside(user, target),
         None => false,
     }
 }
@@ -68,7 +73,7 @@ fn is_reached_in(users: &Vec<Option<User>>, attached: &Vec<u16>, target: &Target
         return true;
     }
     match attached.get(usize::from(target.file) - 2) {
-        Some(id) => is_inside(&user_in(users, *id).segments, target),
+        Some(id) => is_inside(user_in(users, *id), target),
         None => false,
     }
 }
@@ -81,13 +86,14 @@ pub fn lost(load: &LoadFile<'_>, joined: &Vec<User>) -> Option<LoadFault>
         Some(table) => table,
         None => return None,
     };
+    let length = length_of(load, table);
     'entries: for place in 0..load.target_count() {
         let target = match load.target(place) {
             Some(target) => target,
             None => unreachable!(),
         };
         if !is_reached(joined, &target) {
-            return Some(lost_at(table, place));
+            return Some(lost_at(table, length, place));
         }
     }
     None
@@ -106,13 +112,14 @@ pub fn lost_in(
         Some(table) => table,
         None => return None,
     };
+    let length = length_of(load, table);
     'entries: for place in 0..load.target_count() {
         let target = match load.target(place) {
             Some(target) => target,
             None => unreachable!(),
         };
         if !is_reached_in(users, attached, &target) {
-            return Some(lost_at(table, place));
+            return Some(lost_at(table, length, place));
         }
     }
     None

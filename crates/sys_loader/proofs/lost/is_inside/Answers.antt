@@ -1,18 +1,21 @@
-use Rattle.std.proofs.Common.{rules, ◌≡◌, ◌+◌, ◌*◌, ◌<◌, ◌^◌, ℕ, length, map, option_map, nat_lt, nat_le, slice_get, false, ◌||◌, Some, IsSome, ◌-◌, ◌≤◌, ◌/◌, ◌%◌, Bool, true, nat_eq, List, [], ◌∷◌, ◌++◌, slice_index_or, slice_set, bit_and, bit_or, Fits, w8, w32, w64, Bor, MutBor}
-use Rattle.std.specs.Option.{option_map_or, option_and_then}
-use Rattle.load_meaning.specs.Table.{entry_start}
-use Rattle.load_meaning.specs.LoadTable.{table_of}
+use Rattle.std.proofs.Common.{◌≡◌, ℕ, false, Option, Some, None, sym, ap, ◌∙◌}
+use Rattle.std.specs.Prelude.{option_map, nat_lt}
+use Rattle.std.specs.Option.{option_map_or}
+use Rattle.loader_machine.specs.declared.seen.Head.{Head}
 use Rattle.loader_machine.specs.Heads.{at_number}
-use Rattle.loader_machine.specs.State.{user_of}
-use Rattle.loader_machine.specs.Steps as steps
-use Rattle.sys_loader.specs.View.{kept}
-use Rattle.sys_loader.specs.Restarting.{new_heads, kept_heads}
+use Rattle.sys_loader.proofs.Losing.{head_number}
 use Rattle.sys_loader.proofs.lost.is_inside.Goals as goal
 
--- src/lost.rt:37:1
 pub returns-in-Some : goal.returns-in-Some
-returns-in-Some c = ?
+returns-in-Some c =
+    let items = c.args.user.now.segments.items in
+    let n = c.args.target.now.segment in
+    sym (ap (λ (o : Option Head). option_map_or (λ (head : Head). nat_lt c.args.target.now.offset head.length) o false)
+    (head_number items n ∙ ap (option_map (λ s. s.head)) (sym c.segment.ensures ∙ ap (option_map (λ s. s.now)) c.in-Some.is)))
 
--- src/lost.rt:37:1
 pub returns-in-None : goal.returns-in-None
-returns-in-None c = ?
+returns-in-None c =
+    let items = c.args.user.now.segments.items in
+    let n = c.args.target.now.segment in
+    sym (ap (λ (o : Option Head). option_map_or (λ (head : Head). nat_lt c.args.target.now.offset head.length) o false)
+    (head_number items n ∙ ap (option_map (λ s. s.head)) (sym c.segment.ensures ∙ ap (option_map (λ s. s.now)) c.in-None.is)))

@@ -1,30 +1,31 @@
-use Rattle.std.proofs.Common.{rules, ◌≡◌, ◌+◌, ◌*◌, ◌<◌, ◌^◌, ℕ, length, map, option_map, nat_lt, nat_le, slice_get, false, ◌||◌, Some, IsSome, ◌-◌, ◌≤◌, ◌/◌, ◌%◌, Bool, true, nat_eq, List, [], ◌∷◌, ◌++◌, slice_index_or, slice_set, bit_and, bit_or, Fits, w8, w32, w64, Bor, MutBor}
-use Rattle.std.specs.Option.{option_map_or, option_and_then}
-use Rattle.load_meaning.specs.Table.{entry_start}
-use Rattle.load_meaning.specs.LoadTable.{table_of}
-use Rattle.loader_machine.specs.Heads.{at_number}
-use Rattle.loader_machine.specs.State.{user_of}
-use Rattle.loader_machine.specs.Steps as steps
-use Rattle.sys_loader.specs.View.{kept}
-use Rattle.sys_loader.specs.Restarting.{new_heads, kept_heads}
+use Rattle.std.proofs.Common.{◌≡◌, List, Some, map, refl, sym, ◌∙◌, arith}
+use Rattle.std.specs.Prelude.{option_map}
+use Rattle.loader_machine.specs.declared.seen.Head.{Head}
+use Rattle.omf_cells.specs.Load.{table_targets}
+use Rattle.sys_loader.specs.Restarting.{new_heads}
+use Rattle.sys_loader.proofs.Losing.{lost_here, lost_next, lost_past, lost_some, lost_none, entry_inside}
 use Rattle.sys_loader.proofs.lost.lost.Goals as goal
 
--- src/lost.rt:84:5
 pub entries-init : goal.entries-init
-entries-init c = ?
+entries-init c = refl
 
--- src/lost.rt:90:25
 pub lost_at-requires : goal.lost_at-requires
-lost_at-requires c = ?
+lost_at-requires c =
+    entry_inside c.args.load.now c.in-Some.table c.length_of-length.result c.entries.place (sym c.table.ensures ∙ c.in-Some.is) c.length_of-length.ensures (omega (arith, c.entries-test.true, c.target_count-place-end.ensures))
 
--- src/lost.rt:90:13
 pub returns-then-not-is_reached : goal.returns-then-not-is_reached
-returns-then-not-is_reached c = ?
+returns-then-not-is_reached c =
+    let heads : List (List Head) = new_heads c.args.joined.now.items in
+    lost_some heads c.args.load.now c.in-Some.table c.entries.place c.lost_at.result (sym c.table.ensures ∙ c.in-Some.is) c.lost_at.ensures
+    (c.entries.invariant ∙ lost_here heads (table_targets c.args.load.now) c.entries.place c.in-Some-target.target (sym c.target.ensures ∙ c.in-Some-target.is) (sym c.is_reached.ensures ∙ c.if-not-is_reached.true))
 
--- src/lost.rt:84:5
 pub entries-preserved : goal.entries-preserved
-entries-preserved c = ?
+entries-preserved c =
+    let heads : List (List Head) = new_heads c.args.joined.now.items in
+    c.entries.invariant ∙ lost_next heads (table_targets c.args.load.now) c.entries.place c.in-Some-target.target (sym c.target.ensures ∙ c.in-Some-target.is) (sym c.is_reached.ensures ∙ c.if-not-is_reached.false)
 
--- src/lost.rt:77:1
 pub returns : goal.returns
-returns c = ?
+returns c =
+    let heads : List (List Head) = new_heads c.args.joined.now.items in
+    lost_none heads c.args.load.now c.in-Some.table (sym c.table.ensures ∙ c.in-Some.is)
+    (c.entries.invariant ∙ lost_past heads (table_targets c.args.load.now) c.entries.place (omega (arith, c.entries-test.false, c.target_count-place-end.ensures)))
