@@ -474,33 +474,48 @@ has_dropped old last id k middle users made released gone last_released last_gon
   users = last_gone ∙ ap (λ (us : List (Option Kept)). with_user us id None) gone ∙ sym (more_gone k.attached old.users id);
 }
 
--- the user stays while those that are attached to it go
-pub still_there : (users : List (Option Kept)) (attached : AreAttached users) (id : ℕ) (k : Kept) (count : ℕ) → user_of users id ≡ Some k → user_of (without_all users (take count k.attached)) id ≡ Some k
-still_there users attached id k count made =
-    let there = made_at users id k made in
-    let its : slice_get (without_all users (take count k.attached)) (id - first_id) ≡ Some (Some k) = stays_there (take count k.attached) users (id - first_id) k
-    (λ n inside. let row = of_take k.attached count n inside in let one = attached.each (id - first_id) row.0 n k there.0 row.1 in omega (arith, (made_at users n one.0 one.1).1)) there.0
-    (elim (decide (is_in (take count k.attached) (first_id + (id - first_id)))) [
-      | inr out ↦ out
-      | inl inside ↦
-          let row = of_take k.attached count (first_id + (id - first_id)) inside in
-          let one = attached.each (id - first_id) row.0 (first_id + (id - first_id)) k there.0 row.1 in
-          let it : one.0 ≡ k = same_Some one.0 k (sym one.1 ∙ ap (user_of users) there.1 ∙ made) in
-          absurd (nothing row.0 (first_id + (id - first_id)) (ap (λ (ns : List ℕ). slice_get ns row.0) (sym (ap (λ (x : Kept). x.attached) (sym it) ∙ one.2.alone)) ∙ row.1))
-    ]) in
-    subst (λ (n : ℕ). user_of (without_all users (take count k.attached)) n ≡ Some k) there.1 (user_there (without_all users (take count k.attached)) (id - first_id) k its)
-  where
-    nothing : (i n : ℕ) → slice_get {X = ℕ} [] i ≡ Some n → ⊥
-    nothing i n e = cc
+-- a user that isn't among the first ones is there still
+module _ (users : List (Option Kept)) (attached : AreAttached users) (id : ℕ) (k : Kept) (made : user_of users id ≡ Some k) (count : ℕ) where
+  of_take : (xs : List ℕ) (m n : ℕ) → is_in (take m xs) n ≡ true → (i : ℕ) × (i < m) × (slice_get xs i ≡ Some n)
+  of_take [] zero n inside = absurd cc
+  of_take [] (suc m) n inside = absurd cc
+  of_take (x ∷ xs) zero n inside = absurd cc
+  of_take (x ∷ xs) (suc m) n inside = elim (cases_eq x n) [
+    | inl eq ↦ (0, omega arith, ap (λ (o : ℕ). Some o) eq)
+    | inr ne ↦
+        let test : (x == n) ≡ false = grind (arith, ne) in
+        let later = of_take xs m n (rw test at inside) in
+        (suc later.0, omega (arith, later.1), later.2)
+  ]
 
-    of_take : (xs : List ℕ) (count n : ℕ) → is_in (take count xs) n ≡ true → (i : ℕ) × (slice_get xs i ≡ Some n)
-    of_take [] zero n inside = absurd cc
-    of_take [] (suc count) n inside = absurd cc
-    of_take (x ∷ xs) zero n inside = absurd cc
-    of_take (x ∷ xs) (suc count) n inside = elim (cases_eq x n) [
-      | inl eq ↦ (0, ap (λ (m : ℕ). Some m) eq)
-      | inr ne ↦
-          let test : (x == n) ≡ false = grind (arith, ne) in
-          let later = of_take xs count n (rw test at inside) in
-          (suc later.0, later.1)
-    ]
+  place_of : (slice_get users (id - first_id) ≡ Some (Some k)) × (first_id + (id - first_id) ≡ id)
+  place_of = made_at users id k made
+
+  left_there : (n : ℕ) (u : Kept) → user_of users n ≡ Some u → ((i : ℕ) → i < count → slice_get k.attached i ≡ Some n → ⊥) → user_of (without_all users (take count k.attached)) n ≡ Some u
+  left_there n u is none =
+      let there = made_at users n u is in
+      let its : slice_get (without_all users (take count k.attached)) (n - first_id) ≡ Some (Some u) = stays_there (take count k.attached) users (n - first_id) u
+      (λ m inside. let row = of_take k.attached count m inside in let one = attached.each (id - first_id) row.0 m k place_of.0 row.2 in omega (arith, (made_at users m one.0 one.1).1)) there.0
+      (elim (decide (is_in (take count k.attached) (first_id + (n - first_id)))) [
+        | inr out ↦ out
+        | inl inside ↦ (let row = of_take k.attached count (first_id + (n - first_id)) inside in absurd (none row.0 row.1 (row.2 ∙ ap (λ (m : ℕ). Some m) there.1)))
+      ]) in
+      subst (λ (m : ℕ). user_of (without_all users (take count k.attached)) m ≡ Some u) there.1 (user_there (without_all users (take count k.attached)) (n - first_id) u its)
+
+  nothing : (i n : ℕ) → slice_get {X = ℕ} [] i ≡ Some n → ⊥
+  nothing i n e = cc
+
+  -- so is the user itself
+  pub still_there : user_of (without_all users (take count k.attached)) id ≡ Some k
+  still_there = left_there id k made (λ i less is.
+      let one = attached.each (id - first_id) i id k place_of.0 is in
+      let it : one.0 ≡ k = same_Some one.0 k (sym one.1 ∙ made) in
+      nothing i id (ap (λ (ns : List ℕ). slice_get ns i) (sym (ap (λ (x : Kept). x.attached) (sym it) ∙ one.2.alone)) ∙ is))
+
+  -- and the next one
+  pub next_there : (n : ℕ) → slice_get k.attached count ≡ Some n → (u : Kept) × (user_of (without_all users (take count k.attached)) n ≡ Some u)
+  next_there n is =
+      let one = attached.each (id - first_id) count n k place_of.0 is in
+      (one.0, left_there n one.0 one.1 (λ i less is'.
+      let both = attached.once (id - first_id) (id - first_id) i count n k k place_of.0 place_of.0 is' is in
+      omega (arith, both.1, less)))

@@ -113,6 +113,12 @@ module _ {U : Type 0} (change : U → U) where
   all_more users [] id = refl
   all_more users (one ∷ ids) id = all_more (option_map_or (λ (u : U). with_user users one (Some (change u))) (user_of users one) users) ids id
 
+  -- and one behind them, which is there
+  pub all_last : (users : List (Option U)) (ids : List ℕ) (id : ℕ) (now : U) → user_of (with_all change users ids) id ≡ Some now
+      → with_all change users (ids ++ id ∷ []) ≡ with_user (with_all change users ids) id (Some (change now))
+  all_last users ids id now made =
+      all_more users ids id ∙ ap (λ (o : Option U). option_map_or (λ (u : U). with_user (with_all change users ids) id (Some (change u))) o (with_all change users ids)) made
+
 -- what a change of users keeps of each
 module _ (change : Kept → Kept) (same : (k : Kept) → (change k).attached ≡ k.attached) where
   -- the user that one was, with what is attached to it

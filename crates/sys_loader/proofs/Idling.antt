@@ -1,5 +1,5 @@
 -- Segments that are let go one by one.
-use Rattle.std.proofs.Common.{◌≡◌, inl, inr, ℕ, zero, suc, Bool, true, false, cond, ◌==◌, ◌+◌, ◌<◌, List, [], ◌∷◌, ◌++◌, length, take, get_or, Option, Some, None, IsSome, refl, sym, ap, subst, ◌∙◌, arith}
+use Rattle.std.proofs.Common.{◌≡◌, inl, inr, ℕ, zero, suc, Bool, true, false, cond, ◌==◌, ◌+◌, ◌<◌, ◌≤◌, List, [], ◌∷◌, ◌++◌, length, take, get_or, Option, Some, None, IsSome, refl, sym, ap, subst, ◌∙◌, arith}
 use Rattle.std.specs.Prelude.{slice_get, slice_set, option_map}
 use Rattle.std.specs.Option.{option_map_or, option_and_then}
 use Rattle.std.proofs.lemmas.Option.{same_Some, slice_get-get_or, slice_get-map}
@@ -15,9 +15,13 @@ use Rattle.iigs_meaning.specs.Memory.{Memory, IsThere, Changes}
 use Rattle.loader_machine.specs.declared.seen.Presence.TheVariants.{Absent, Purged, Idle, Active}
 use Rattle.loader_machine.specs.Presences.{presence, lies_in, lies_at}
 use Rattle.loader_machine.specs.Steps.{changed, changed_all, let_go, idle_block}
+use Rattle.loader_machine.specs.State.{user_of, family, handles_of_all}
+use Rattle.loader_agrees.specs.Agrees.{Kept, kept_outlines}
 use Rattle.loader_agrees.specs.laws.Slotted.{slot_set, live_block}
 use Rattle.sys_loader.specs.declared.user.Segment as users
 use Rattle.sys_loader.specs.Lives.{AreIdled}
+use Rattle.sys_loader.proofs.Families.{take_past}
+use Rattle.sys_loader.proofs.Together.{its_handles, more_handles}
 use Rattle.sys_loader.proofs.Written.{handles_of}
 use Rattle.sys_loader.proofs.Renewing.{same_active}
 use Rattle.sys_loader.proofs.Shifting.{set_is}
@@ -167,3 +171,21 @@ idled_join xs ys old mid new one two = record {
     bytes = λ place apart there. two.bytes.bytes place apart there ∙ one.bytes.bytes place apart (was_at mid new ys two.slots place there);
   };
 }
+
+-- the segments of one user more
+module _ (users : List (Option Kept)) (ids : List ℕ) (other : Kept) (old mid new : Memory) where
+  behind : (front : List ℕ) (id : ℕ) → user_of users id ≡ Some other → AreIdled (handles_of_all (kept_outlines users) front) old mid → AreIdled other.handles mid new
+      → AreIdled (handles_of_all (kept_outlines users) (front ++ id ∷ [])) old new
+  behind front id made so_far idled =
+      subst (λ (hs : List (Option Handle)). AreIdled hs old new)
+      (ap (λ (hs : List (Option Handle)). handles_of_all (kept_outlines users) front ++ hs) (sym (its_handles users id other made)) ∙ sym (more_handles users front id))
+      (idled_join (handles_of_all (kept_outlines users) front) other.handles old mid new so_far idled)
+
+  pub family_more : (k id : ℕ) → slice_get ids k ≡ Some id → user_of users id ≡ Some other → AreIdled (handles_of_all (kept_outlines users) (take k ids)) old mid → AreIdled other.handles mid new
+      → AreIdled (handles_of_all (kept_outlines users) (take (k + 1) ids)) old new
+  family_more k id is made so_far idled = subst (λ (l : List ℕ). AreIdled (handles_of_all (kept_outlines users) l) old new) (sym (take_more ids k id is)) (behind (take k ids) id made so_far idled)
+
+  pub family_all : (k id : ℕ) → length ids ≤ k → user_of users id ≡ Some other → AreIdled (handles_of_all (kept_outlines users) (take k ids)) old mid → AreIdled other.handles mid new
+      → AreIdled (handles_of_all (kept_outlines users) (family id ids)) old new
+  family_all k id le made so_far idled =
+      behind ids id made (subst (λ (l : List ℕ). AreIdled (handles_of_all (kept_outlines users) l) old mid) (take_past ids k le) so_far) idled

@@ -9,6 +9,7 @@ pub mod Together
 pub mod Settling
 pub mod Beginning
 pub mod Losing
+pub mod Joined
 pub mod Loads
 pub mod Heading
 pub mod Purging

@@ -19,6 +19,7 @@ use Rattle.iigs_meaning.specs.Fits.{Slots, block_in}
 use Rattle.iigs_meaning.specs.Puts.{Purges}
 use Rattle.iigs_meaning.specs.Memory.{Memory, bytes_at}
 use Rattle.loader_machine.specs.declared.faults.LoaderFault.{LoaderFault}
+use Rattle.loader_machine.specs.declared.faults.LoaderFault.TheVariants.{NoUser}
 use Rattle.loader_machine.specs.declared.seen.Head.{Head}
 use Rattle.loader_machine.specs.declared.seen.Life.TheVariants.{Running, Dormant}
 use Rattle.loader_machine.specs.declared.seen.Presence.{Presence}
@@ -34,6 +35,7 @@ use Rattle.loader_machine.specs.Commands.{Okay, ShutDown}
 use Rattle.loader_machine.specs.Steps.{let_go, changed_all, kept_state}
 use Rattle.loader_agrees.specs.Agrees.{Kept, Loaded, outline, kept_outlines, far_in, seen_by, IsJoined, AreAttached, LeadsFar, EntriesLead, IsCall, UserAgrees, Agrees, IsOf, Has, IsSound, Met}
 use Rattle.loader_agrees.specs.laws.Begun.{decide}
+use Rattle.loader_agrees.specs.laws.Checks.{PassesRunning, StopsRunning}
 use Rattle.loader_agrees.specs.laws.RowUsers.{user_there}
 use Rattle.loader_agrees.specs.laws.Frame.{Same, agrees_still}
 use Rattle.loader_agrees.specs.laws.Reads.{head_at}
@@ -499,6 +501,28 @@ unfolding shut_down_refusal
 alone_of true None keep none = absurd cc
 alone_of true (Some seen) keep none = absurd cc
 alone_of false user keep none = refl
+
+-- an attached user is refused as if there were none
+pub alone_stops : (attached : Bool) (user : Option Seen) (keep : Bool) (fault : LoaderFault) → fault ≡ NoUser → attached ≡ true → shut_down_refusal attached user keep ≡ Some fault
+unfolding shut_down_refusal
+alone_stops attached None keep fault is own = ap (λ (f : LoaderFault). Some f) (sym is)
+alone_stops attached (Some seen) keep fault is own = rw own (ap (λ (f : LoaderFault). Some f) (sym is))
+
+pub keep_stops : (attached : Bool) (user : Option Seen) (fault : LoaderFault) → attached ≡ false → StopsRunning user fault → shut_down_refusal attached user true ≡ Some fault
+unfolding shut_down_refusal
+keep_stops attached user fault own stops = rw own (stops (λ seen. None))
+
+pub keep_passes : (attached : Bool) (user : Option Seen) (seen : Seen) → attached ≡ false → PassesRunning user seen → shut_down_refusal attached user true ≡ None
+unfolding shut_down_refusal
+keep_passes attached user seen own runs = rw own (runs (λ seen. None))
+
+pub drop_none : (attached : Bool) (user : Option Seen) → user ≡ None → shut_down_refusal attached user false ≡ Some NoUser
+unfolding shut_down_refusal
+drop_none attached user is = rw is refl
+
+pub drop_passes : (attached : Bool) (user : Option Seen) (seen : Seen) → attached ≡ false → user ≡ Some seen → shut_down_refusal attached user false ≡ None
+unfolding shut_down_refusal
+drop_passes attached user seen own is = rw (is, own) refl
 
 -- ---- as it is done
 

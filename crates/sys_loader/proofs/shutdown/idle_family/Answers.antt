@@ -1,29 +1,33 @@
-use Rattle.std.proofs.Common.{rules, ◌≡◌, true, false, List, [], Some, None, IsSome, map, option_map, vec_capacity, IfOk, IfErr, ℕ, ◌+◌, ◌-◌, ◌*◌, ◌<◌, ◌≤◌, length, ◌/◌, ◌%◌, Bool, nat_eq, nat_lt, ◌∷◌, ◌++◌, slice_index_or, slice_set, bit_and, bit_or, Fits, w8, w32, w64, Bor, MutBor}
-use Rattle.omf_io.specs.Files.{FileMap}
-use Rattle.iigs_meaning.specs.declared.handles.Handle.{Handle}
-use Rattle.iigs_meaning.specs.Puts.{Purges}
-use Rattle.iigs_meaning.specs.Memory.{AreAllPlaced}
-use Rattle.loader_machine.specs.State.{Machine, user_of, is_attached, family, handles_of_all, without_all}
-use Rattle.loader_machine.specs.Refusals.{shut_down_refusal}
-use Rattle.loader_machine.specs.Commands.{ShutDown}
-use Rattle.loader_agrees.specs.Agrees.{Kept, AreAttached, Agrees, Met, kept_outlines, seen_by}
+use Rattle.std.proofs.Common.{◌≡◌, ◌+◌, ◌-◌, ◌<◌, ℕ, List, length, map, take, Option, Some, IsSome, refl, sym, ap, subst, ◌∙◌, arith}
+use Rattle.std.specs.Prelude.{option_map, slice_get}
+use Rattle.std.proofs.lemmas.Option.{same_Some}
+use Rattle.loader_machine.specs.State.{first_id, user_of}
+use Rattle.loader_agrees.specs.Agrees.{Kept}
+use Rattle.loader_agrees.specs.laws.Seeing.{made_at}
 use Rattle.sys_loader.specs.View.{kept}
-use Rattle.sys_loader.specs.Replies.{done_reply}
-use Rattle.sys_loader.specs.Lives.{AreIdled, AreReleased, DidShutDown}
+use Rattle.sys_loader.proofs.UserItems.{some_is}
+use Rattle.sys_loader.proofs.Idling.{idled_none, family_more, family_all}
 use Rattle.sys_loader.proofs.shutdown.idle_family.Goals as goal
 
--- src/shutdown.rt:63:5
 pub places-init : goal.places-init
-places-init c = ?
+places-init c = λ k made. idled_none c.args.banks.now
 
--- src/shutdown.rt:64:13
 pub user_in-other-requires : goal.user_in-other-requires
-user_in-other-requires c = ?
+user_in-other-requires c =
+    let before = map (option_map kept) c.args.users.now.items in
+    let some = some_is (user_of before c.args.id) c.requires.made in
+    let one = c.requires.attached.each (c.args.id - first_id) c.places.place c.attached_in.result some.0 (made_at before c.args.id some.0 some.1).0 (c.attached_in.ensures some.0 some.1) in
+    rw one.1 refl
 
--- src/shutdown.rt:63:5
 pub places-preserved : goal.places-preserved
-places-preserved c = ?
+places-preserved c = λ k made.
+    let before = map (option_map kept) c.args.users.now.items in
+    family_more before k.attached (kept c.user_in-other.result.now) c.args.banks.now c.places.banks c.idle_all.new.banks c.places.place c.attached_in.result (c.attached_in.ensures k made) c.user_in-other.ensures
+    (c.places.invariant k made) c.idle_all.ensures
 
--- src/shutdown.rt:57:1
 pub returns : goal.returns
-returns c = ?
+returns c = λ k made.
+    let before = map (option_map kept) c.args.users.now.items in
+    let same : kept c.user_in.result.now ≡ k = same_Some (kept c.user_in.result.now) k (sym c.user_in.ensures ∙ made) in
+    family_all before k.attached (kept c.user_in.result.now) c.args.banks.now c.places.banks c.idle_all.new.banks c.places.place c.args.id
+    (omega (arith, c.places-test.false, c.attached_count-place-end.ensures k made)) c.user_in.ensures (c.places.invariant k made) c.idle_all.ensures

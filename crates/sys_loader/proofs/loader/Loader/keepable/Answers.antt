@@ -1,25 +1,22 @@
-use Rattle.std.proofs.Common.{rules, ◌≡◌, true, false, List, [], Some, None, IsSome, map, option_map, vec_capacity, IfOk, IfErr, ℕ, ◌+◌, ◌-◌, ◌*◌, ◌<◌, ◌≤◌, length, ◌/◌, ◌%◌, Bool, nat_eq, nat_lt, ◌∷◌, ◌++◌, slice_index_or, slice_set, bit_and, bit_or, Fits, w8, w32, w64, Bor, MutBor}
-use Rattle.omf_io.specs.Files.{FileMap}
-use Rattle.iigs_meaning.specs.declared.handles.Handle.{Handle}
-use Rattle.iigs_meaning.specs.Puts.{Purges}
-use Rattle.iigs_meaning.specs.Memory.{AreAllPlaced}
-use Rattle.loader_machine.specs.State.{Machine, user_of, is_attached, family, handles_of_all, without_all}
-use Rattle.loader_machine.specs.Refusals.{shut_down_refusal}
-use Rattle.loader_machine.specs.Commands.{ShutDown}
-use Rattle.loader_agrees.specs.Agrees.{Kept, AreAttached, Agrees, Met, kept_outlines, seen_by}
+use Rattle.std.proofs.Common.{true}
+use Rattle.loader_machine.specs.State.{is_attached}
+use Rattle.loader_agrees.specs.Agrees.{kept_outlines, seen_in, seen_by}
 use Rattle.sys_loader.specs.View.{kept}
-use Rattle.sys_loader.specs.Replies.{done_reply}
-use Rattle.sys_loader.specs.Lives.{AreIdled, AreReleased, DidShutDown}
+use Rattle.sys_loader.proofs.Resting.{alone_stops, keep_stops, keep_passes}
 use Rattle.sys_loader.proofs.loader.Loader.keepable.Goals as goal
 
--- src/shutdown.rt:123:27
 pub returns-in-Err-clause-err : goal.returns-in-Err-clause-err
-returns-in-Err-clause-err c = ?
+returns-in-Err-clause-err c =
+    alone_stops (is_attached (kept_outlines c.args.self.now.users) c.args.user) (seen_by c.args.self.now c.args.user) true c.in-Err.fault c.in-Err.ensures.err.0 c.in-Err.ensures.err.1
 
--- src/shutdown.rt:116:5
 pub returns-in-Ok-running-clause-ok : goal.returns-in-Ok-running-clause-ok
-returns-in-Ok-running-clause-ok c = ?
+returns-in-Ok-running-clause-ok c = (
+  kept c.in-Ok-running.field-0.now,
+  c.in-Ok-running.ensures.ok.0,
+  c.in-Ok-running.ensures.ok.1,
+  keep_passes (is_attached (kept_outlines c.args.self.now.users) c.args.user) (seen_by c.args.self.now c.args.user) (seen_in (kept c.in-Ok-running.field-0.now)) c.in-Ok.ensures.ok c.in-Ok-running.ensures.ok.2,
+)
 
--- src/shutdown.rt:116:5
 pub returns-in-Err-running-clause-err : goal.returns-in-Err-running-clause-err
-returns-in-Err-running-clause-err c = ?
+returns-in-Err-running-clause-err c =
+    keep_stops (is_attached (kept_outlines c.args.self.now.users) c.args.user) (seen_by c.args.self.now c.args.user) c.in-Err-running.fault c.in-Ok.ensures.ok c.in-Err-running.ensures.err
