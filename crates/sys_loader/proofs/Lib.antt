@@ -9,6 +9,7 @@ pub mod Together
 pub mod Settling
 pub mod Beginning
 pub mod Losing
+pub mod Loading
 pub mod Joined
 pub mod Loads
 pub mod Heading

@@ -1,24 +1,18 @@
-use Rattle.std.proofs.Common.{◌≡◌, ◌⊎◌, ◌+◌, ◌++◌, ◌<◌, ◌≤◌, ◌^◌, ℕ, List, map, option_map, length, slice_get, string_bytes, vec_capacity, All, Some, None, false, IfOk, IfErr, OnOk, OnErr, ◌-◌, ◌*◌}
+use Rattle.std.specs.Prelude.{◌≡◌, ◌≤◌, List, length, map, take, Some}
 use Rattle.omf_format.specs.File as omf
-use Rattle.omf_io.specs.Counts.{one_more, risen}
-use Rattle.omf_io.specs.Files.{FileMap}
+use Rattle.omf_io.specs.Counts.{risen}
 use Rattle.load_meaning.specs.Pathnames.{paths_of}
-use Rattle.load_meaning.specs.Loadable.{IsLoadable}
-use Rattle.iigs_meaning.specs.Fits.{IsWant}
-use Rattle.iigs_meaning.specs.Puts.{Purges}
-use Rattle.iigs_meaning.specs.Memory.{Memory, AreAllPlaced}
-use Rattle.loader_machine.specs.Heads.{head_of, wants_of}
-use Rattle.loader_machine.specs.Found.{Joins}
-use Rattle.loader_machine.specs.State as state
-use Rattle.loader_machine.specs.State.{Machine, first_id, max_users}
-use Rattle.loader_machine.specs.Steps.{spread, lost_refusal}
-use Rattle.loader_machine.specs.Commands.{Load}
-use Rattle.loader_agrees.specs.Agrees.{Agrees, Meets, MeetsReads}
-use Rattle.loader_agrees.specs.Acts.{HasBegun, joined_kept}
+use Rattle.loader_agrees.specs.Agrees.{Kept}
+use Rattle.loader_agrees.specs.Acts.{joined_kepts}
 use Rattle.sys_loader.specs.View.{kept}
-use Rattle.sys_loader.specs.Calls.{IsPlan, IsSettled, IsBeginRefusal, AreRowsRead, HasJoined, JoinStops, AreJoinedUsers, RowsStop, HasLoadedRows, HasLoadedFile, HasLoaded}
-use Rattle.sys_loader.specs.Replies.{load_reply}
+use Rattle.sys_loader.proofs.Joined.{AreGood}
 use Rattle.sys_loader.proofs.load.join_all.Given as goal
 
+-- the files of the first rows were read, and their users are made
 abbrev pub invariant-rows : goal.invariant-rows
-invariant-rows g l = ?
+invariant-rows g l = ((g.F.Files.seen l.files).held ≡ (g.F.Files.seen l.fn.files).held)
+    × ((g.F.Files.seen l.files).faults ≡ (g.F.Files.seen l.fn.files).faults)
+    × ((g.F.Files.seen l.files).asked ≡ risen l.place (g.F.Files.seen l.fn.files).asked)
+    × (l.place ≤ length (paths_of l.load))
+    × ((all : List (List omf.Segment)) × AreGood (g.F.Files.seen l.fn.files).held (take l.place (paths_of l.load)) all
+    × (map (λ (k : Kept). Some k) (map kept l.users.items) ≡ joined_kepts (take l.place (paths_of l.load)) all))

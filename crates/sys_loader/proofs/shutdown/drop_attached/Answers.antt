@@ -55,7 +55,7 @@ places-preserved c = (go, c.remove.ensures.room ∙ c.places.invariant.1)
         ap (λ (us : List (Option Kept)). user_of us c.args.id) so_far.1 ∙ still_there before c.requires.attached c.args.id k made c.places.place in
         let more = take_more k.attached c.places.place c.attached_in-other.result (c.attached_in-other.ensures k there) in (
           subst (λ (ids : List ℕ). AreReleased ids c.args.banks.now c.release_all.new.banks) (sym more)
-              (released_more (take c.places.place k.attached) c.attached_in-other.result c.args.banks.now c.places.banks c.release_all.new.banks so_far.0 c.release_all.ensures),
+              (released_more (take c.places.place k.attached) c.attached_in-other.result c.args.banks.now c.places.banks c.release_all.new.banks so_far.0 c.release_all.ensures.released),
           c.remove.ensures.gone ∙ ap (λ (us : List (Option Kept)). with_user us c.attached_in-other.result None) so_far.1
               ∙ sym (more_gone (take c.places.place k.attached) before c.attached_in-other.result) ∙ ap (without_all before) (sym more),
         )

@@ -32,7 +32,7 @@ invariant_of-self c =
     let passes : shut_down_refusal (is_attached (kept_outlines old.users) id) (seen_by old id) false ≡ None =
     subst (λ (l : Loaded). shut_down_refusal (is_attached (kept_outlines l.users) id) (seen_by l id) false ≡ None) (sym c.self.view_is) ok.1 in
     let did = has_dropped old last id some.0 c.drop_attached.new.banks (map (option_map kept) c.drop_attached.new.users.items) some.1 (c.drop_attached.ensures.released some.0 some.1) (c.drop_attached.ensures.gone some.0 some.1)
-    c.release_all.ensures c.remove.ensures.gone in
+    c.release_all.ensures.released c.remove.ensures.gone in
     (dropped_sound old last id c.self.invariant.0 did (top_of old id false some.0 c.self.invariant.0 some.1 passes), omega (arith, c.self.invariant.1, c.drop_attached.ensures.room, c.remove.ensures.room))
 
 pub returns : goal.returns
@@ -45,5 +45,5 @@ returns c =
     let passes : shut_down_refusal (is_attached (kept_outlines old.users) id) (seen_by old id) false ≡ None =
     subst (λ (l : Loaded). shut_down_refusal (is_attached (kept_outlines l.users) id) (seen_by l id) false ≡ None) (sym c.self.view_is) ok.1 in
     let did = has_dropped old last id some.0 c.drop_attached.new.banks (map (option_map kept) c.drop_attached.new.users.items) some.1 (c.drop_attached.ensures.released some.0 some.1) (c.drop_attached.ensures.gone some.0 some.1)
-    c.release_all.ensures c.remove.ensures.gone in
+    c.release_all.ensures.released c.remove.ensures.gone in
     record { did = (subst (λ (l : Loaded). HasDropped l id last) c.self.view_is did, ok.1) }

@@ -1,29 +1,31 @@
-use Rattle.std.proofs.Common.{rules, ◌≡◌, ◌⊎◌, ◌+◌, ◌++◌, ◌<◌, ◌≤◌, ◌^◌, ℕ, List, map, option_map, length, slice_get, string_bytes, vec_capacity, All, Some, None, false, IfOk, IfErr, OnOk, OnErr, ◌-◌, ◌*◌, ◌/◌, ◌%◌, Bool, true, nat_eq, nat_lt, [], ◌∷◌, slice_index_or, slice_set, bit_and, bit_or, Fits, w8, w32, w64, Bor, MutBor}
-use Rattle.omf_format.specs.File as omf
-use Rattle.omf_io.specs.Counts.{one_more, risen}
-use Rattle.omf_io.specs.Files.{FileMap}
-use Rattle.load_meaning.specs.Pathnames.{paths_of}
-use Rattle.load_meaning.specs.Loadable.{IsLoadable}
-use Rattle.iigs_meaning.specs.Fits.{IsWant}
-use Rattle.iigs_meaning.specs.Puts.{Purges}
-use Rattle.iigs_meaning.specs.Memory.{Memory, AreAllPlaced}
-use Rattle.loader_machine.specs.Heads.{head_of, wants_of}
-use Rattle.loader_machine.specs.Found.{Joins}
-use Rattle.loader_machine.specs.State as state
-use Rattle.loader_machine.specs.State.{Machine, first_id, max_users}
-use Rattle.loader_machine.specs.Steps.{spread, lost_refusal}
-use Rattle.loader_machine.specs.Commands.{Load}
-use Rattle.loader_agrees.specs.Agrees.{Agrees, Meets, MeetsReads}
-use Rattle.loader_agrees.specs.Acts.{HasBegun, joined_kept}
+use Rattle.std.proofs.Common.{ℕ, ◌<◌, List, length, Option, sym, ap, subst, ◌∙◌, arith}
+use Rattle.std.specs.Prelude.{option_map}
+use Rattle.std.proofs.lemmas.List.{length-map}
+use Rattle.omf_io.specs.Files.{FileMap, IsRead}
+use Rattle.loader_machine.specs.State.{max_users}
+use Rattle.loader_agrees.specs.Agrees.{Loaded}
 use Rattle.sys_loader.specs.View.{kept}
-use Rattle.sys_loader.specs.Calls.{IsPlan, IsSettled, IsBeginRefusal, AreRowsRead, HasJoined, JoinStops, AreJoinedUsers, RowsStop, HasLoadedRows, HasLoadedFile, HasLoaded}
-use Rattle.sys_loader.specs.Replies.{load_reply}
+use Rattle.sys_loader.specs.Calls.{HasLoadedFile}
+use Rattle.sys_loader.proofs.Loading.{not_read, was_read}
 use Rattle.sys_loader.proofs.loader.Loader.read_and_begin.Goals as goal
 
--- src/load.rt:357:27
 pub returns-in-Err-clause-loaded : goal.returns-in-Err-clause-loaded
-returns-in-Err-clause-loaded g c = ?
+returns-in-Err-clause-loaded g c =
+    let before = g.F.Files.seen c.args.files.now in
+    let now = g.F.Files.seen c.read_file.new.files in
+    let few : length c.args.self.now.users < max_users =
+    omega (arith, c.if-len-ge-MAX_USERS.false, c.len.ensures, ap (λ (l : Loaded). length l.users) c.self.view_is, length-map c.self.inside.users.items (option_map kept)) in
+    not_read before.held c.args.self.now c.args.path.now c.in-Err.fault before now few c.in-Err.ensures.unread c.read_file.ensures.asked
 
--- src/load.rt:342:5
 pub returns-clause-loaded : goal.returns-clause-loaded
-returns-clause-loaded g c = ?
+returns-clause-loaded g c =
+    let before = g.F.Files.seen c.args.files.now in
+    let mid = g.F.Files.seen c.read_file.new.files in
+    let now = g.F.Files.seen c.begin.new.files in
+    let few : length c.args.self.now.users < max_users =
+    omega (arith, c.if-len-ge-MAX_USERS.false, c.len.ensures, ap (λ (l : Loaded). length l.users) c.self.view_is, length-map c.self.inside.users.items (option_map kept)) in
+    let read = c.in-Ok.ensures.read in
+    let did = c.begin.ensures.loaded in
+    was_read before.held c.args.self.now c.begin.new.self c.args.path.now c.deref.result.now c.begin.result before mid now did.0 few
+    (subst (λ (file : List ℕ). IsRead before.held c.args.path.now file) (sym c.deref.ensures.value) read.0) read.1 c.read_file.ensures.asked
+    (subst (λ (h : Option FileMap). HasLoadedFile h c.args.self.now c.args.path.now c.deref.result.now c.begin.result c.begin.new.self mid.faults now.faults did.0) c.read_file.ensures.held did.1) did.2
