@@ -1,4 +1,0 @@
-pub mod Agrees
-pub mod StepsOnce
-pub mod Acts
-pub mod laws
