@@ -165,6 +165,20 @@ module _ {U : Type 0} (change : U → U) (again : (u : U) → change (change u) 
         (later.0, later.1, rw test later.2)
   ]
 
+  -- a user that is the same in two lists is the same in both then
+  pub with_all_else : (ids : List ℕ) (a b : List (Option U)) (p : ℕ) (u : U) → slice_get a p ≡ slice_get b p → slice_get (with_all change a ids) p ≡ Some (Some u) → slice_get (with_all change b ids) p ≡ Some (Some u)
+  with_all_else ids a b p u same is =
+      let w = with_all_get ids a p u is in
+      let v = with_all_then ids b p w.was (sym same ∙ w.made) in
+      let one : v.0 ≡ u = go w.was v.0 w.is v.2 in
+      v.1 ∙ ap (λ (x : U). Some (Some x)) one
+    where
+      go : (was x : U) → ((is_in ids (first_id + p) ≡ true) × (u ≡ change was)) ⊎ ((is_in ids (first_id + p) ≡ false) × (u ≡ was)) → ((is_in ids (first_id + p) ≡ true) × (x ≡ change was)) ⊎ ((is_in ids (first_id + p) ≡ false) × (x ≡ was)) → x ≡ u
+      go was x (inl l) (inl m) = m.1 ∙ sym l.1
+      go was x (inr l) (inr m) = m.1 ∙ sym l.1
+      go was x (inl l) (inr m) = let clash : true ≡ false = sym l.0 ∙ m.0 in absurd cc
+      go was x (inr l) (inl m) = let clash : true ≡ false = sym m.0 ∙ l.0 in absurd cc
+
 -- what is told of each user is changed along
 module _ {A B : Type 0} (f : A → B) (change : A → A) (change' : B → B) (same : (a : A) → f (change a) ≡ change' (f a)) where
   map_one : (users : List (Option A)) (id : ℕ) → map (option_map f) (option_map_or (λ (u : A). with_user users id (Some (change u))) (user_of users id) users)

@@ -8,7 +8,10 @@ use Rattle.sys_loader.proofs.Heading.{head_more, none_more}
 use Rattle.sys_loader.proofs.file.segments_of.Goals as goal
 
 pub places-init : goal.places-init
-places-init c = (refl, refl)
+places-init c = (
+  ap heads_of c.new-segments.ensures.items,
+  subst (λ (ss : List users.Segment). handles_of ss ≡ map no_handle_of (heads_of ss)) (sym c.new-segments.ensures.items) refl,
+)
 
 pub places-preserved : goal.places-preserved
 places-preserved c = (

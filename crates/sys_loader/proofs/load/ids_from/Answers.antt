@@ -4,7 +4,7 @@ use Rattle.sys_loader.proofs.Families.{ids_more}
 use Rattle.sys_loader.proofs.load.ids_from.Goals as goal
 
 pub ids-init : goal.ids-init
-ids-init c = (omega arith, refl)
+ids-init c = (omega arith, c.new-ids.ensures.items)
 
 pub ids-preserved : goal.ids-preserved
 ids-preserved c = (

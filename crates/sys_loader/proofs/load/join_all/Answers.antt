@@ -18,7 +18,7 @@ more_reads : (k count now : ℕ) → now ≡ risen k count → one_more now ≡ 
 more_reads k count now is = let e : suc k ≡ k + 1 = omega arith in ap one_more is ∙ ap (λ (n : ℕ). risen n count) e
 
 pub rows-init : goal.rows-init
-rows-init g c = (refl, refl, refl, omega arith, ([], tt, refl))
+rows-init g c = (refl, refl, refl, omega arith, ([], tt, ap (λ (items : List User). map (λ (k : Kept). Some k) (map kept items)) c.new-users.ensures.items))
 
 pub returns-in-Err-clause-held : goal.returns-in-Err-clause-held
 returns-in-Err-clause-held g c = c.join.ensures.held ∙ c.rows.invariant.0

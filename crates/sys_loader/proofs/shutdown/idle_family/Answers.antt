@@ -29,5 +29,5 @@ pub returns : goal.returns
 returns c = λ k made.
     let before = map (option_map kept) c.args.users.now.items in
     let same : kept c.user_in.result.now ≡ k = same_Some (kept c.user_in.result.now) k (sym c.user_in.ensures ∙ made) in
-    family_all before k.attached (kept c.user_in.result.now) c.args.banks.now c.places.banks c.idle_all.new.banks c.places.place c.args.id
-    (omega (arith, c.places-test.false, c.attached_count-place-end.ensures k made)) c.user_in.ensures (c.places.invariant k made) c.idle_all.ensures
+    family_all before k.attached (kept c.user_in.result.now) c.args.banks.now c.places.banks c.idle_all-2.new.banks c.places.place c.args.id
+    (omega (arith, c.places-test.false, c.attached_count-place-end.ensures k made)) c.user_in.ensures (c.places.invariant k made) c.idle_all-2.ensures
