@@ -56,6 +56,11 @@ module _ (heads : List (List Head)) (load : List Segment) where
   pub lost_none : (number : ℕ) → table_of load ≡ Some number → lost_from heads 0 (table_targets load) ≡ None → None ≡ option_and_then (lost_in heads load) (table_of load)
   lost_none number is from = lost_is number is None from
 
+-- the refusal, by what is lost
+pub refusal_of : (heads : List (List Head)) (load : List Segment) (o : Option LoadFault) → o ≡ option_and_then (lost_in heads load) (table_of load) → lost_refusal heads load ≡ option_map BadFile o
+unfolding lost_refusal
+refusal_of heads load o is = ap (option_map BadFile) (sym is)
+
 -- how many entries a file's table has, by its length
 module _ (load : List Segment) (number : ℕ) where
   pub length_is : (f : Fields) (n : ℕ) → n ≡ f.length → HasFields load number f → HasLength load number n

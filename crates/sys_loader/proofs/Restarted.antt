@@ -51,6 +51,10 @@ none_again heads (suc k) head none found again = go heads k none found
         let clash : true ≡ false = sym again ∙ ap is_read_again (sym (same_Some g head e)) ∙ both.0 in absurd cc
     go (g ∷ gs) (suc i) none' e = go gs i (or_parts (is_read_again g) (some_read_again gs) none').1 e
 
+-- no row names a user that can be restarted
+pub can_top : (old : Loaded) (id : ℕ) (kept : Kept) → IsSound old.memory old.users → CanRestart old id kept → (q f : ℕ) → attached_at (kept_outlines old.users) q f ≡ Some id → ⊥
+can_top old id kept sound can = no_row old.users id kept sound.attached can.made (restart_alone (is_attached (kept_outlines old.users) id) (seen_by old id) can.passes)
+
 module _ (held : FileMap) (old : Loaded) (state : Machine) (id : ℕ) (sound : IsSound old.memory old.users) (agrees : Agrees held old state) (kept : Kept) (can : CanRestart old id kept) where
   abbrev is : IsKept held old state agrees id kept
   is = kept_is held old state agrees id kept can.made
@@ -72,7 +76,7 @@ module _ (held : FileMap) (old : Loaded) (state : Machine) (id : ℕ) (sound : I
 
   -- no row names the user
   top : (q f : ℕ) → attached_at (kept_outlines old.users) q f ≡ Some id → ⊥
-  top = no_row old.users id kept sound.attached can.made (restart_alone (is_attached (kept_outlines old.users) id) (seen_by old id) can.passes)
+  top = can_top old id kept sound can
 
   step : (reply : Reply) (next : Machine) → StepsRestart Purges held state id reply next → Steps Purges held state (Restart id) reply next
   step reply next steps = does held old state agrees id (restart_refusal (is_attached (outlines state.users) id)) reply next (λ user. StepsRestart Purges held state id reply next) passes_there is.user is.made steps

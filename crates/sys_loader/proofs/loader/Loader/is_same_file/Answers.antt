@@ -1,44 +1,53 @@
-use Rattle.std.proofs.Common.{rules, ◌≡◌, ◌<◌, ◌≤◌, ◌^◌, ℕ, List, Option, Some, None, IsSome, length, map, true, false, not, ◌&&◌, ◌||◌, All, IfOk, IfErr, OnOk, OnErr, ◌+◌, ◌-◌, ◌*◌, ◌/◌, ◌%◌, Bool, nat_eq, nat_lt, [], ◌∷◌, ◌++◌, slice_index_or, slice_set, bit_and, bit_or, Fits, w8, w32, w64, Bor, MutBor}
-use Rattle.omf_io.specs.Counts.{one_more}
-use Rattle.omf_io.specs.Files.{FileMap}
-use Rattle.load_meaning.specs.Loadable.{IsLoadable}
-use Rattle.iigs_meaning.specs.Fits.{IsWant}
-use Rattle.iigs_meaning.specs.Puts.{Purges}
-use Rattle.iigs_meaning.specs.Memory.{AreAllPlaced}
-use Rattle.loader_machine.specs.Heads.{head_of, wants_of}
-use Rattle.loader_machine.specs.Heads as heads
-use Rattle.loader_machine.specs.Presences as presences
-use Rattle.loader_machine.specs.Steps as steps
-use Rattle.loader_machine.specs.Needs as needs
-use Rattle.loader_machine.specs.State.{Machine, user_of, is_attached}
-use Rattle.loader_machine.specs.Refusals.{restart_refusal}
+use Rattle.std.proofs.Common.{◌≡◌, inl, inr, ◌-◌, Option, Some, None, sym, ap, subst, ◌∙◌}
+use Rattle.std.specs.Option.{option_map, option_and_then}
+use Rattle.std.proofs.lemmas.Option.{same_Some}
+use Rattle.loader_machine.specs.declared.faults.LoaderFault.TheVariants as fault
+use Rattle.loader_machine.specs.State.{first_id, user_of}
 use Rattle.loader_machine.specs.Steps.{lost_refusal}
-use Rattle.loader_machine.specs.Commands.{Restart}
-use Rattle.loader_agrees.specs.Agrees.{Kept, Agrees, Meets, ReadsNeeded, kept_outlines, seen_by}
-use Rattle.sys_loader.specs.View.{kept}
-use Rattle.sys_loader.specs.Filling.{AreSound, AreReady, AreFilled}
-use Rattle.sys_loader.specs.Calls.{IsPlan, IsBeginRefusal}
-use Rattle.sys_loader.specs.Replies.{load_reply}
-use Rattle.sys_loader.specs.Restarting.{CanRestart, is_whole, restart_reads, HasResumed, released_memory, HasBegunAnew, IsAgainRefusal, DidRestart, AreActivated, HasReloaded, HasBegunFrom, IsOtherFile, kept_heads}
-use Rattle.sys_loader.specs.Restarting as restarting
+use Rattle.loader_agrees.specs.Agrees.{Kept, Loaded}
+use Rattle.loader_agrees.specs.laws.Seeing.{made_at}
+use Rattle.sys_loader.specs.View.{kept, loaded}
+use Rattle.sys_loader.specs.Restarting.{kept_heads, IsOtherFile}
+use Rattle.sys_loader.proofs.Losing.{refusal_of}
+use Rattle.sys_loader.proofs.Reloading.{its_short}
 use Rattle.sys_loader.proofs.loader.Loader.is_same_file.Goals as goal
 
--- src/restart.rt:243:15
 pub lost_in-requires : goal.lost_in-requires
-lost_in-requires c = ?
+lost_in-requires c = λ place n is.
+    let old = loaded c.self.inside.banks c.self.inside.users.items in
+    let k = kept c.user_in-found.result.now in
+    let one = c.self.invariant.0.attached.each (c.args.user - first_id) place n k (made_at old.users c.args.user k c.user_in-found.ensures).0 is in
+    rw one.1 refl
 
--- src/restart.rt:244:28
 pub returns-in-Some-clause-other : goal.returns-in-Some-clause-other
-returns-in-Some-clause-other c = ?
+returns-in-Some-clause-other c k made =
+    let found = kept c.user_in-found.result.now in
+    let same : found ≡ k = same_Some found k (sym c.user_in-found.ensures ∙ ap (λ (l : Loaded). user_of l.users c.args.user) c.self.view_is ∙ made) in
+    let lost : lost_refusal (kept_heads (loaded c.self.inside.banks c.self.inside.users.items).users found.attached) c.args.load.now ≡ Some (fault.BadFile c.in-Some.fault) =
+    refusal_of (kept_heads (loaded c.self.inside.banks c.self.inside.users.items).users found.attached) c.args.load.now c.lost_in.result c.lost_in.ensures ∙ ap (option_map fault.BadFile) c.in-Some.is in
+    inl (ap (λ (l : Loaded). lost_refusal (kept_heads l.users k.attached) c.args.load.now) (sym c.self.view_is)
+    ∙ ap (λ (x : Kept). lost_refusal (kept_heads (loaded c.self.inside.banks c.self.inside.users.items).users x.attached) c.args.load.now) (sym same) ∙ lost)
 
--- src/restart.rt:247:15
 pub compare-requires-clause-kept : goal.compare-requires-clause-kept
-compare-requires-clause-kept c = ?
+compare-requires-clause-kept c =
+    its_short (loaded c.self.inside.banks c.self.inside.users.items) c.args.user c.user_in-found.result.now c.self.invariant.0 c.user_in-found.ensures
 
--- src/restart.rt:234:5
 pub returns-in-Ok-clause-same : goal.returns-in-Ok-clause-same
-returns-in-Ok-clause-same c = ?
+returns-in-Ok-clause-same c k made =
+    let found = kept c.user_in-found.result.now in
+    let same : found ≡ k = same_Some found k (sym c.user_in-found.ensures ∙ ap (λ (l : Loaded). user_of l.users c.args.user) c.self.view_is ∙ made) in
+    let none : lost_refusal (kept_heads (loaded c.self.inside.banks c.self.inside.users.items).users found.attached) c.args.load.now ≡ None =
+    refusal_of (kept_heads (loaded c.self.inside.banks c.self.inside.users.items).users found.attached) c.args.load.now c.lost_in.result c.lost_in.ensures ∙ ap (option_map fault.BadFile) c.in-None.is in (
+      ap (λ (l : Loaded). lost_refusal (kept_heads l.users k.attached) c.args.load.now) (sym c.self.view_is)
+          ∙ ap (λ (x : Kept). lost_refusal (kept_heads (loaded c.self.inside.banks c.self.inside.users.items).users x.attached) c.args.load.now) (sym same) ∙ none,
+      c.in-Ok.ensures.same ∙ ap (λ (x : Kept). x.heads) same,
+    )
 
--- src/restart.rt:234:5
 pub returns-in-Err-clause-other : goal.returns-in-Err-clause-other
-returns-in-Err-clause-other c = ?
+returns-in-Err-clause-other c k made =
+    let found = kept c.user_in-found.result.now in
+    let same : found ≡ k = same_Some found k (sym c.user_in-found.ensures ∙ ap (λ (l : Loaded). user_of l.users c.args.user) c.self.view_is ∙ made) in
+    let none : lost_refusal (kept_heads (loaded c.self.inside.banks c.self.inside.users.items).users found.attached) c.args.load.now ≡ None =
+    refusal_of (kept_heads (loaded c.self.inside.banks c.self.inside.users.items).users found.attached) c.args.load.now c.lost_in.result c.lost_in.ensures ∙ ap (option_map fault.BadFile) c.in-None.is in
+    subst (λ (l : Loaded). IsOtherFile l.users k c.args.load.now c.in-Err.fault) c.self.view_is
+    (subst (λ (x : Kept). IsOtherFile (loaded c.self.inside.banks c.self.inside.users.items).users x c.args.load.now c.in-Err.fault) same (inr (none, c.in-Err.ensures.changed)))
