@@ -116,6 +116,20 @@ kept_started user load path hs ids same handles path_is runs attached =
     ∙ ap (λ (gs : List Head). made path Running (spread_handles load hs) gs user.attached.items) same
     ∙ ap (made path Running (spread_handles load hs) (map head_of load)) attached
 
+-- ---- users that are put behind others one by one
+
+pub none_left : {X : Type 0} (xs : List X) → length xs ≡ 0 → xs ≡ []
+none_left [] e = refl
+none_left (x ∷ xs) e = absurd (omega (arith, e))
+
+pub pushed_more : (us us' : List (Option User)) (rest rest' : List User) (u : User) (all : List (Option Kept)) → us' ≡ us ++ Some u ∷ [] → rest ≡ u ∷ rest'
+    → map (option_map kept) us ++ map (λ (k : Kept). Some k) (map kept rest) ≡ all → map (option_map kept) us' ++ map (λ (k : Kept). Some k) (map kept rest') ≡ all
+pushed_more us us' rest rest' u all pushed steps so_far =
+    ap (λ (l : List (Option User)). map (option_map kept) l ++ map (λ (k : Kept). Some k) (map kept rest')) pushed
+    ∙ ap (λ (l : List (Option Kept)). l ++ map (λ (k : Kept). Some k) (map kept rest')) (map-append (option_map kept) us (Some u ∷ []))
+    ∙ append_assoc (map (option_map kept) us) (Some (kept u) ∷ []) (map (λ (k : Kept). Some k) (map kept rest'))
+    ∙ ap (λ (l : List User). map (option_map kept) us ++ map (λ (k : Kept). Some k) (map kept l)) (sym steps) ∙ so_far
+
 -- ---- one user more, and those of its rows
 
 -- a user for each row

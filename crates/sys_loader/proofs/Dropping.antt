@@ -80,7 +80,7 @@ none_of id n ids out = go (id == n) refl out
   where
     go : (b : Bool) → (id == n) ≡ b → (b || is_in ids n) ≡ false → (n ≢ id) × (is_in ids n ≡ false)
     go true yes e = absurd cc
-    go false no e = ((λ same. let yes : (id == n) ≡ true = grind (arith, same) in absurd cc), e)
+    go false other e = ((λ same. let yes : (id == n) ≡ true = grind (arith, same) in absurd cc), e)
 
 all_of : (id n : ℕ) (ids : List ℕ) → n ≢ id → is_in ids n ≡ false → is_in (id ∷ ids) n ≡ false
 all_of id n ids ne out = let no : (id == n) ≡ false = grind (arith, ne) in rw no out
@@ -431,8 +431,8 @@ no_address : (generation : ℕ) → IsSome (address_in (released generation)) �
 no_address generation = go (generation == 255)
   where
     go : (t : Bool) → IsSome (address_in (cond t (record { generation = generation; content = Retired }) (record { generation = generation + 1; content = Free }))) → ⊥
-    go true some = some
-    go false some = some
+    go true some = let clash : false ≡ true = some in absurd cc
+    go false some = let clash : false ≡ true = some in absurd cc
 
 was_there : (slots : Slots) (id place : ℕ) → IsSome (address_in (slot_at (without_user slots id) place)) → IsSome (address_in (slot_at slots place))
 was_there slots id place some = go (block_in (slot_at slots place)) refl (subst (λ (slot : Slot Block). IsSome (address_in slot)) (slot_is slots id place) some)

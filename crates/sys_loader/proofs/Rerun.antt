@@ -49,8 +49,8 @@ module _ (memory : Memory) (old new : List (Option Kept)) (ids : List ℕ) (are 
   pub rerun_sound : IsSound memory new
   rerun_sound = record {
     few = omega (arith, sound.few, ap (λ (us : List (Option Kept)). length us) are, length_all (with_life Running) old ids);
-    lengths = λ p k made. let w = users_now p k made in let same = relived.same_but old new Running ids are p k made in omega (arith, sound.lengths p w.was w.made, ap length same.0, ap length same.1);
-    short = λ p k made. let w = users_now p k made in let same = relived.same_but old new Running ids are p k made in omega (arith, sound.short p w.was w.made, ap length same.1);
+    lengths = λ p k made. let w = relived.users_now old new Running ids are p k made in let same = relived.same_but old new Running ids are p k made in omega (arith, sound.lengths p w.was w.made, ap length same.0, ap length same.1);
+    short = λ p k made. let w = relived.users_now old new Running ids are p k made in let same = relived.same_but old new Running ids are p k made in omega (arith, sound.short p w.was w.made, ap length same.1);
     statics = statics_now;
     rests = rests_now;
     each = λ p n head h has. sound.each p n head h (relived.has_before old new Running ids are p n head h has);

@@ -281,8 +281,8 @@ module _ (old new : Loaded) (id : ℕ) (sound : IsSound old.memory old.users) (d
   pub kept_sound : IsSound new.memory new.users
   kept_sound = record {
     few = omega (arith, sound.few, ap length did.users, length_all rests old.users ids);
-    lengths = λ p k made. let w = users_now p k made in let same = relived.same_but old.users new.users Dormant ids did.users p k made in omega (arith, sound.lengths p w.was w.made, ap length same.0, ap length same.1);
-    short = λ p k made. let w = users_now p k made in let same = relived.same_but old.users new.users Dormant ids did.users p k made in omega (arith, sound.short p w.was w.made, ap length same.1);
+    lengths = λ p k made. let w = relived.users_now old.users new.users Dormant ids did.users p k made in let same = relived.same_but old.users new.users Dormant ids did.users p k made in omega (arith, sound.lengths p w.was w.made, ap length same.0, ap length same.1);
+    short = λ p k made. let w = relived.users_now old.users new.users Dormant ids did.users p k made in let same = relived.same_but old.users new.users Dormant ids did.users p k made in omega (arith, sound.short p w.was w.made, ap length same.1);
     statics = statics_now;
     rests = rests_now;
     each = λ p n head h has. each_before p n head h (has_before p n head h has);

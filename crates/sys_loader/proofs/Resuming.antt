@@ -395,8 +395,8 @@ module _ (old new : Loaded) (id : ℕ) (kept : Kept) (started : Started) (sound 
   pub resumed_sound : AreCalls → IsSound new.memory new.users
   resumed_sound calls = record {
     few = omega (arith, sound.few, ap (λ (us : List (Option Kept)). length us) are, length_all (with_life Running) old.users ids);
-    lengths = λ p k made'. let w = users_now p k made' in let same = relived.same_but old.users new.users Running ids are p k made' in omega (arith, sound.lengths p w.was w.made, ap length same.0, ap length same.1);
-    short = λ p k made'. let w = users_now p k made' in let same = relived.same_but old.users new.users Running ids are p k made' in omega (arith, sound.short p w.was w.made, ap length same.1);
+    lengths = λ p k made'. let w = relived.users_now old.users new.users Running ids are p k made' in let same = relived.same_but old.users new.users Running ids are p k made' in omega (arith, sound.lengths p w.was w.made, ap length same.0, ap length same.1);
+    short = λ p k made'. let w = relived.users_now old.users new.users Running ids are p k made' in let same = relived.same_but old.users new.users Running ids are p k made' in omega (arith, sound.short p w.was w.made, ap length same.1);
     statics = statics_now;
     rests = rests_now;
     each = λ p n head h has. each_before p n head h (has_before p n head h has);

@@ -1,41 +1,39 @@
-use Rattle.std.proofs.Common.{rules, ◌≡◌, ◌⊎◌, ◌+◌, ◌++◌, ◌<◌, ◌≤◌, ◌^◌, ℕ, List, map, option_map, length, slice_get, string_bytes, vec_capacity, All, Some, None, false, IfOk, IfErr, OnOk, OnErr, ◌-◌, ◌*◌, ◌/◌, ◌%◌, Bool, true, nat_eq, nat_lt, [], ◌∷◌, slice_index_or, slice_set, bit_and, bit_or, Fits, w8, w32, w64, Bor, MutBor}
-use Rattle.omf_format.specs.File as omf
-use Rattle.omf_io.specs.Counts.{one_more, risen}
-use Rattle.omf_io.specs.Files.{FileMap}
-use Rattle.load_meaning.specs.Pathnames.{paths_of}
-use Rattle.load_meaning.specs.Loadable.{IsLoadable}
-use Rattle.iigs_meaning.specs.Fits.{IsWant}
-use Rattle.iigs_meaning.specs.Puts.{Purges}
-use Rattle.iigs_meaning.specs.Memory.{Memory, AreAllPlaced}
-use Rattle.loader_machine.specs.Heads.{head_of, wants_of}
-use Rattle.loader_machine.specs.Found.{Joins}
-use Rattle.loader_machine.specs.State as state
-use Rattle.loader_machine.specs.State.{Machine, first_id, max_users}
-use Rattle.loader_machine.specs.Steps.{spread, lost_refusal}
-use Rattle.loader_machine.specs.Commands.{Load}
-use Rattle.loader_agrees.specs.Agrees.{Agrees, Meets, MeetsReads}
-use Rattle.loader_agrees.specs.Acts.{HasBegun, joined_kept}
+use Rattle.std.proofs.Common.{◌≡◌, ◌+◌, ◌≤◌, List, [], ◌∷◌, ◌++◌, length, map, Option, Some, refl, sym, ap, ◌∙◌, arith, append-nil}
+use Rattle.std.specs.Prelude.{option_map}
+use Rattle.loader_agrees.specs.Agrees.{Kept}
+use Rattle.sys_loader.specs.declared.user.User.{User}
 use Rattle.sys_loader.specs.View.{kept}
-use Rattle.sys_loader.specs.Calls.{IsPlan, IsSettled, IsBeginRefusal, AreRowsRead, HasJoined, JoinStops, AreJoinedUsers, RowsStop, HasLoadedRows, HasLoadedFile, HasLoaded}
-use Rattle.sys_loader.specs.Replies.{load_reply}
+use Rattle.sys_loader.proofs.Beginning.{none_left, pushed_more}
 use Rattle.sys_loader.proofs.load.push_all.Goals as goal
 
--- src/load.rt:198:5
 pub joined-init : goal.joined-init
-joined-init c = ?
+joined-init c =
+    let gives = c.into_iter-user-iterator.ensures.into_iter_gives in (
+      ap (λ (items : List User). map (option_map kept) c.args.users.now.items ++ map (λ (k : Kept). Some k) (map kept items)) gives.0,
+      refl,
+      omega (arith, c.requires, ap length gives.0),
+      omega (arith, gives.1, ap length gives.0),
+    )
 
--- src/load.rt:199:9
 pub push_reserved-requires : goal.push_reserved-requires
-push_reserved-requires c = ?
+push_reserved-requires c = omega (arith, c.joined.invariant.2, ap length c.in-Some.ensures.steps.0)
 
--- src/load.rt:198:5
 pub joined-preserved : goal.joined-preserved
-joined-preserved c = ?
+joined-preserved c =
+    let inv = c.joined.invariant in
+    let steps = c.in-Some.ensures.steps in (
+      pushed_more c.joined.users.items c.push_reserved.new.self.items c.joined.user-iterator.rest.items c.next.new.self.rest.items c.in-Some.user _ c.push_reserved.ensures.items steps.0 inv.0,
+      c.push_reserved.ensures.capacity ∙ inv.1,
+      omega (arith, inv.2, ap length steps.0, ap length c.push_reserved.ensures.items, c.push_reserved.ensures.capacity),
+      omega (arith, inv.3, steps.1, ap length steps.0),
+    )
 
--- src/load.rt:193:1
 pub returns-clause-pushed : goal.returns-clause-pushed
-returns-clause-pushed c = ?
+returns-clause-pushed c =
+    let inv = c.joined.invariant in
+    let none = none_left c.joined.user-iterator.rest.items (omega (arith, inv.3, c.in-None.ensures.steps.0)) in
+    sym (append-nil (map (option_map kept) c.joined.users.items))
+    ∙ ap (λ (items : List User). map (option_map kept) c.joined.users.items ++ map (λ (k : Kept). Some k) (map kept items)) (sym none) ∙ inv.0
 
--- src/load.rt:193:1
 pub returns-clause-room : goal.returns-clause-room
-returns-clause-room c = ?
+returns-clause-room c = c.joined.invariant.1

@@ -1,24 +1,11 @@
-use Rattle.std.proofs.Common.{◌≡◌, ◌⊎◌, ◌+◌, ◌++◌, ◌<◌, ◌≤◌, ◌^◌, ℕ, List, map, option_map, length, slice_get, string_bytes, vec_capacity, All, Some, None, false, IfOk, IfErr, OnOk, OnErr, ◌-◌, ◌*◌}
-use Rattle.omf_format.specs.File as omf
-use Rattle.omf_io.specs.Counts.{one_more, risen}
-use Rattle.omf_io.specs.Files.{FileMap}
-use Rattle.load_meaning.specs.Pathnames.{paths_of}
-use Rattle.load_meaning.specs.Loadable.{IsLoadable}
-use Rattle.iigs_meaning.specs.Fits.{IsWant}
-use Rattle.iigs_meaning.specs.Puts.{Purges}
-use Rattle.iigs_meaning.specs.Memory.{Memory, AreAllPlaced}
-use Rattle.loader_machine.specs.Heads.{head_of, wants_of}
-use Rattle.loader_machine.specs.Found.{Joins}
-use Rattle.loader_machine.specs.State as state
-use Rattle.loader_machine.specs.State.{Machine, first_id, max_users}
-use Rattle.loader_machine.specs.Steps.{spread, lost_refusal}
-use Rattle.loader_machine.specs.Commands.{Load}
-use Rattle.loader_agrees.specs.Agrees.{Agrees, Meets, MeetsReads}
-use Rattle.loader_agrees.specs.Acts.{HasBegun, joined_kept}
+use Rattle.std.specs.Prelude.{◌≡◌, ◌+◌, ◌≤◌, ◌++◌, length, map, option_map, Some, vec_capacity}
+use Rattle.loader_agrees.specs.Agrees.{Kept}
 use Rattle.sys_loader.specs.View.{kept}
-use Rattle.sys_loader.specs.Calls.{IsPlan, IsSettled, IsBeginRefusal, AreRowsRead, HasJoined, JoinStops, AreJoinedUsers, RowsStop, HasLoadedRows, HasLoadedFile, HasLoaded}
-use Rattle.sys_loader.specs.Replies.{load_reply}
 use Rattle.sys_loader.proofs.load.push_all.Given as goal
 
+-- the users so far and those that are left are all of them, and have room
 abbrev pub invariant-joined : goal.invariant-joined
-invariant-joined l = ?
+invariant-joined l = (map (option_map kept) l.users.items ++ map (λ (k : Kept). Some k) (map kept l.user-iterator.rest.items)
+    ≡ map (option_map kept) l.fn.users.items ++ map (λ (k : Kept). Some k) (map kept l.fn.joined.items))
+    × (vec_capacity l.users ≡ vec_capacity l.fn.users) × (length l.users.items + length l.user-iterator.rest.items ≤ vec_capacity l.users)
+    × (l.user-iterator.rest.len ≡ length l.user-iterator.rest.items)

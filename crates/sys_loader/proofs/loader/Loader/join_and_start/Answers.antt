@@ -16,7 +16,7 @@ returns-in-Err-clause-loaded g c =
     let before = g.F.Files.seen c.args.files.now in
     let now = g.F.Files.seen c.join_all.new.files in
     let fit : length c.args.self.now.users + 1 + length (paths_of c.args.load.now) ≤ max_users =
-    omega (arith, c.if-MAX_USERS.false, c.len.ensures, c.paths.ensures, ap (λ (l : Loaded). length l.users) c.self.view_is, length-map c.self.inside.users.items (option_map kept)) in
+    omega (arith, c.if-len-paths-gt-MAX_USERS.false, c.len.ensures, c.paths.ensures, ap (λ (l : Loaded). length l.users) c.self.view_is, length-map c.self.inside.users.items (option_map kept)) in
     let stopped = rows_stopped before.held c.args.self.now c.args.load.now before now c.in-Err.fault fit c.in-Err.ensures.stops in
     (stopped.0, (stopped.1, refl), stopped.2)
 
@@ -25,7 +25,7 @@ returns-in-Some-clause-loaded g c =
     let before = g.F.Files.seen c.args.files.now in
     let now = g.F.Files.seen c.join_all.new.files in
     let fit : length c.args.self.now.users + 1 + length (paths_of c.args.load.now) ≤ max_users =
-    omega (arith, c.if-MAX_USERS.false, c.len.ensures, c.paths.ensures, ap (λ (l : Loaded). length l.users) c.self.view_is, length-map c.self.inside.users.items (option_map kept)) in
+    omega (arith, c.if-len-paths-gt-MAX_USERS.false, c.len.ensures, c.paths.ensures, ap (λ (l : Loaded). length l.users) c.self.view_is, length-map c.self.inside.users.items (option_map kept)) in
     let joins = c.in-Ok.ensures.joins in
     rows_lost before.held c.args.self.now c.args.path.now c.args.load.now joins.0 before now (fault.BadFile c.in-Some.fault) fit joins.1
     (lost_of (paths_of c.args.load.now) joins.0 c.in-Ok.joined.items c.args.load.now c.lost.result joins.2 c.lost.ensures ∙ ap (option_map fault.BadFile) c.in-Some.is) joins.3
@@ -33,7 +33,7 @@ returns-in-Some-clause-loaded g c =
 pub plan_and_start-requires-clause-few : goal.plan_and_start-requires-clause-few
 plan_and_start-requires-clause-few g c =
     let joins = c.in-Ok.ensures.joins in
-    omega (arith, c.if-MAX_USERS.false, c.len.ensures, c.paths.ensures, ap (λ (l : Loaded). length l.users) c.self.view_is, length-map c.self.inside.users.items (option_map kept),
+    omega (arith, c.if-len-paths-gt-MAX_USERS.false, c.len.ensures, c.paths.ensures, ap (λ (l : Loaded). length l.users) c.self.view_is, length-map c.self.inside.users.items (option_map kept),
     length-map c.in-Ok.joined.items kept, rows_length (paths_of c.args.load.now) joins.0 (map kept c.in-Ok.joined.items) joins.2)
 
 pub plan_and_start-requires-clause-users : goal.plan_and_start-requires-clause-users
@@ -49,7 +49,7 @@ returns-clause-loaded g c =
     let before = g.F.Files.seen c.args.files.now in
     let now = g.F.Files.seen c.join_all.new.files in
     let fit : length c.args.self.now.users + 1 + length (paths_of c.args.load.now) ≤ max_users =
-    omega (arith, c.if-MAX_USERS.false, c.len.ensures, c.paths.ensures, ap (λ (l : Loaded). length l.users) c.self.view_is, length-map c.self.inside.users.items (option_map kept)) in
+    omega (arith, c.if-len-paths-gt-MAX_USERS.false, c.len.ensures, c.paths.ensures, ap (λ (l : Loaded). length l.users) c.self.view_is, length-map c.self.inside.users.items (option_map kept)) in
     let joins = c.in-Ok.ensures.joins in
     rows_started before.held c.args.self.now c.plan_and_start.new.self c.args.path.now c.args.load.now joins.0 (map kept c.in-Ok.joined.items) before now c.plan_and_start.result fit joins.1 joins.2
     (lost_of (paths_of c.args.load.now) joins.0 c.in-Ok.joined.items c.args.load.now c.lost.result joins.2 c.lost.ensures ∙ ap (option_map fault.BadFile) c.in-None.is) joins.3
