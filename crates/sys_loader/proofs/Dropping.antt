@@ -79,7 +79,7 @@ none_of : (id n : ℕ) (ids : List ℕ) → is_in (id ∷ ids) n ≡ false → (
 none_of id n ids out = go (id == n) refl out
   where
     go : (b : Bool) → (id == n) ≡ b → (b || is_in ids n) ≡ false → (n ≢ id) × (is_in ids n ≡ false)
-    go true yes e = absurd cc
+    go true same e = absurd cc
     go false other e = ((λ same. let yes : (id == n) ≡ true = grind (arith, same) in absurd cc), e)
 
 all_of : (id n : ℕ) (ids : List ℕ) → n ≢ id → is_in ids n ≡ false → is_in (id ∷ ids) n ≡ false

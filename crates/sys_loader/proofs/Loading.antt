@@ -36,11 +36,11 @@ rows_same : (held : Option FileMap) (paths : List (List ℕ)) (before now : ℕ)
 rows_same held [] before now joined all is (e, same) = same
 rows_same held (path ∷ paths) before now joined all is (inl (unread, e)) = let clash : Stops 1 fault.CannotRead ≡ Joins all = sym e ∙ is in absurd cc
 rows_same held (path ∷ paths) before now joined all is (inr (file, is_read, inl (bad, first, e, same))) = same
-rows_same held (path ∷ paths) before now joined all is (inr (file, is_read, inr (segments, runtime, rest, read, e))) = go rest refl
+rows_same held (path ∷ paths) before now joined all is (inr (file, is_read, inr (segments, runtime, rest, read, e))) = go rest refl (λ others eq. rows_same held paths before now rest others eq read)
   where
-    go : (r : Joined) → rest ≡ r → now ≡ before
-    go (Stops reads why) eq = let clash : Stops (reads + 1) why ≡ Joins all = sym (e ∙ ap (joined_behind segments) eq) ∙ is in absurd cc
-    go (Joins others) eq = rows_same held paths before now rest others eq read
+    go : (r : Joined) → rest ≡ r → ((others : List (List Segment)) → rest ≡ Joins others → now ≡ before) → now ≡ before
+    go (Stops reads why) eq later = let clash : Stops (reads + 1) why ≡ Joins all = sym (e ∙ ap (joined_behind segments) eq) ∙ is in absurd cc
+    go (Joins others) eq later = later others eq
 
 -- their reads stop
 pub rows_stopped : (held : Option FileMap) (old : Loaded) (segments : List Segment) (before now : StoreSeen) (why : LoaderFault) → length old.users + 1 + length (paths_of segments) ≤ max_users
@@ -118,10 +118,11 @@ pub was_read : (held : Option FileMap) (old new : Loaded) (path file : List ℕ)
     → mid.faults ≡ before.faults → mid.asked ≡ one_more before.asked → HasLoadedFile held old path file r new mid.faults now.faults more → now.asked ≡ risen more mid.asked
     → (reads : ℕ) × HasLoaded held old path r new before.faults now.faults reads × (now.asked ≡ risen reads before.asked)
 was_read held old new path file r before mid now more few is_read same asked did count =
-    (1 + more, go r (subst (λ (n : ℕ). HasLoadedFile held old path file r new n now.faults more) same did), count ∙ ap (risen more) asked ∙ risen_more more before.asked)
+    let e : suc more ≡ 1 + more = omega arith in
+    (1 + more, go r (subst (λ (n : ℕ). HasLoadedFile held old path file r new n now.faults more) same did), count ∙ ap (risen more) asked ∙ risen_more more before.asked ∙ ap (λ (n : ℕ). risen n before.asked) e)
   where
     go : (x : Result Started LoaderFault) → HasLoadedFile held old path file x new before.faults now.faults more → HasLoaded held old path x new before.faults now.faults (1 + more)
     go (Ok started) (segments, loadable, has) = (segments, record { few = few; file = file; is_read = is_read; loadable = loadable }, more, has, refl)
-    go (Err why) (kept', inl (is, still, none)) = (LacksMemory few is still (ap suc none), kept')
-    go (Err why) (kept', inr (inl (bad, first, is, still, none))) = (IsBad few file is_read bad first is still (ap suc none), kept')
+    go (Err why) (kept', inl (is, still, none)) = (LacksMemory few is still (omega (arith, none)), kept')
+    go (Err why) (kept', inr (inl (bad, first, is, still, none))) = (IsBad few file is_read bad first is still (omega (arith, none)), kept')
     go (Err why) (kept', inr (inr (segments, loadable, refusal))) = (CantStart segments (record { few = few; file = file; is_read = is_read; loadable = loadable }) more refusal refl, kept')

@@ -101,13 +101,13 @@ from_table number zero (t ∷ segments) s is found = go (is_table t) refl is
         by false e' rest = omega (arith, rest e')
 
     go : (b : Bool) → is_table t ≡ b → (if b then Some number else table_from (number + 1) segments) ≡ Some (number + 0) → is_table s ≡ true
-    go true yes e = ap is_table (sym (same_Some t s found)) ∙ yes
-    go false no e = absurd (omega (arith, above (number + 1) (number + 0) segments e))
-from_table number (suc k) (t ∷ segments) s is found = go (is_table t) is
+    go true here e = ap is_table (sym (same_Some t s found)) ∙ here
+    go false other e = absurd (omega (arith, above (number + 1) (number + 0) segments e))
+from_table number (suc k) (t ∷ segments) s is found = go (is_table t) is (λ e. from_table (number + 1) k segments s (e ∙ ap (λ (n : ℕ). Some n) (omega arith)) found)
   where
-    go : (b : Bool) → (if b then Some number else table_from (number + 1) segments) ≡ Some (number + suc k) → is_table s ≡ true
-    go true e = let same : number ≡ number + suc k = same_Some number (number + suc k) e in absurd (omega (arith, same))
-    go false e = from_table (number + 1) k segments s (e ∙ ap (λ (n : ℕ). Some n) (omega arith)) found
+    go : (b : Bool) → (if b then Some number else table_from (number + 1) segments) ≡ Some (number + suc k) → (table_from (number + 1) segments ≡ Some (number + suc k) → is_table s ≡ true) → is_table s ≡ true
+    go true e rest = let same : number ≡ number + suc k = same_Some number (number + suc k) e in absurd (omega (arith, same))
+    go false e rest = rest e
 
 table_there : (segments : List Segment) (n : ℕ) (s : Segment) → table_of segments ≡ Some n → segment_at segments n ≡ Some s → is_table s ≡ true
 table_there segments zero s is found = absurd cc

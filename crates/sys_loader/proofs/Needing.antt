@@ -42,7 +42,7 @@ counted None false path before now asked unasked refused = unasked refl
 
 -- no file is read behind the first, where all reads are made
 abbrev Alone : ℕ → ℕ → Type 0
-Alone count reads = ((0 ≡ 0) × (rows : List (List ℕ)) × (behind : ℕ) × ((rows ≡ []) × (behind ≡ 0)) × (reads ≡ count + behind))
+Alone count reads = (◌≡◌ {A = ℕ} 0 0 × (rows : List (List ℕ)) × (behind : ℕ) × ((rows ≡ []) × (behind ≡ 0)) × (reads ≡ count + behind))
     ⊎ ((count ≤ reads) × (reads ≤ 17 * count) × (count ≤ 0))
 
 alone : (count : ℕ) → Alone count count

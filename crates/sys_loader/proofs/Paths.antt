@@ -38,7 +38,7 @@ with_rows (s ∷ segments) i path is = go (has_pathnames s) refl is (λ found. w
     go : (b : Bool) → has_pathnames s ≡ b → slice_get (cond b (paths_in most_paths (segment_bytes s)) (paths_of segments)) i ≡ Some path
         → (slice_get (paths_of segments) i ≡ Some path → (n : ℕ) × (t : Segment) × (slice_get segments n ≡ Some t) × (has_pathnames t ≡ true))
         → (n : ℕ) × (t : Segment) × (slice_get (s ∷ segments) n ≡ Some t) × (has_pathnames t ≡ true)
-    go true yes found rest = (0, s, refl, yes)
+    go true here found rest = (0, s, refl, here)
     go false none found rest = let one = rest found in (suc one.0, one.1, one.2, one.3)
 
 pub path_text : (file : List ℕ) (segments : List Segment) → IsLoadable file segments → (i : ℕ) (path : List ℕ) → slice_get (paths_of segments) i ≡ Some path → IsUtf8 path

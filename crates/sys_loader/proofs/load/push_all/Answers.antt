@@ -1,5 +1,6 @@
 use Rattle.std.proofs.Common.{◌≡◌, ◌+◌, ◌≤◌, List, [], ◌∷◌, ◌++◌, length, map, Option, Some, refl, sym, ap, ◌∙◌, arith, append-nil}
 use Rattle.std.specs.Prelude.{option_map}
+use Rattle.std.proofs.lemmas.List.{length-append}
 use Rattle.loader_agrees.specs.Agrees.{Kept}
 use Rattle.sys_loader.specs.declared.user.User.{User}
 use Rattle.sys_loader.specs.View.{kept}
@@ -24,7 +25,7 @@ joined-preserved c =
     let steps = c.in-Some.ensures.steps in (
       pushed_more c.joined.users.items c.push_reserved.new.self.items c.joined.user-iterator.rest.items c.next.new.self.rest.items c.in-Some.user _ c.push_reserved.ensures.items steps.0 inv.0,
       c.push_reserved.ensures.capacity ∙ inv.1,
-      omega (arith, inv.2, ap length steps.0, ap length c.push_reserved.ensures.items, c.push_reserved.ensures.capacity),
+      omega (arith, inv.2, ap length steps.0, ap length c.push_reserved.ensures.items ∙ length-append c.joined.users.items (Some c.in-Some.user ∷ []), c.push_reserved.ensures.capacity),
       omega (arith, inv.3, steps.1, ap length steps.0),
     )
 

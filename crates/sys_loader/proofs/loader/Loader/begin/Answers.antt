@@ -11,6 +11,6 @@ returns-clause-loaded g c =
     let now = g.F.Files.seen c.join_and_start.new.files in
     let did = c.join_and_start.ensures.loaded in (
       did.0,
-      file_read before.held c.args.self.now c.join_and_start.new.self c.args.path.now c.args.file.now c.in-Ok.load.now c.join_and_start.result before.faults now.faults did.0 c.in-Ok.ensures.loaded did.1,
+      file_read before.held c.args.self.now c.join_and_start.new.self c.args.path.now c.args.file.now c.in-Ok.load c.join_and_start.result before.faults now.faults did.0 c.in-Ok.ensures.loaded did.1,
       did.2,
     )
