@@ -1,9 +1,9 @@
 -- A program that is restarted is the machine's step.
-use Rattle.std.proofs.Common.{◌≡◌, inl, inr, ℕ, zero, suc, Bool, true, false, ◌<◌, List, [], ◌∷◌, length, map, Option, Some, None, Result, Ok, Err, refl, sym, ap, subst, ◌∙◌, arith}
+use Rattle.std.proofs.Common.{◌≡◌, inl, inr, ℕ, zero, suc, Bool, true, false, ◌-◌, ◌<◌, List, [], ◌∷◌, length, map, Option, Some, None, Result, Ok, Err, refl, sym, ap, subst, ◌∙◌, arith}
 use Rattle.std.specs.Prelude.{not, ◌||◌, IsSomeAnd, slice_get}
 use Rattle.std.specs.Option.{option_map, option_map_or}
 use Rattle.std.specs.FinMap as maps
-use Rattle.std.proofs.lemmas.Bool.{or_parts}
+use Rattle.std.proofs.lemmas.Bool.{or_parts, cases_eq}
 use Rattle.std.proofs.lemmas.Option.{same_Some}
 use Rattle.omf_format.specs.File.{Segment}
 use Rattle.omf_io.specs.Files.{FileMap, IsRead, IsUnread, max_file}
@@ -18,7 +18,7 @@ use Rattle.loader_machine.specs.declared.faults.LoaderFault.{LoaderFault}
 use Rattle.loader_machine.specs.declared.faults.LoaderFault.TheVariants as fault
 use Rattle.loader_machine.specs.declared.seen.Head.{Head}
 use Rattle.loader_machine.specs.Heads.{head_of, at_number, wants_of}
-use Rattle.loader_machine.specs.State.{User, Machine, Seen, first_id, handles_of, outlines, attached_at, is_attached}
+use Rattle.loader_machine.specs.State.{User, Machine, Seen, first_id, user_of, with_user, handles_of, outlines, attached_at, is_attached}
 use Rattle.loader_machine.specs.Found.{HoldsLoad, Bad, Good}
 use Rattle.loader_machine.specs.laws.OnceLaws.{one_load, found_once}
 use Rattle.loader_machine.specs.Commands.{Reply, Started, Restart, Refused}
@@ -26,7 +26,7 @@ use Rattle.loader_machine.specs.Refusals.{Refuse, restart_refusal}
 use Rattle.loader_machine.specs.Steps.{Sees, seen_of, NoSlots, Lacks, Begins, Either, StepsRestart, Steps, active_block, changed_all, are_there, static_handles, is_read_again, entry_of, again_users, lost_refusal}
 use Rattle.loader_machine.specs.Needs as needs
 use Rattle.loader_machine.specs.Needs.{Needs, some_read_again, path_if}
-use Rattle.loader_agrees.specs.Agrees.{Kept, Loaded, Outline, kept_outlines, seen_in, seen_by, Agrees, IsSound, Meets}
+use Rattle.loader_agrees.specs.Agrees.{Kept, Loaded, Outline, kept_outlines, AreAttached, seen_in, seen_by, Agrees, IsSound, Meets}
 use Rattle.loader_agrees.specs.laws.Seeing.{IsKept, kept_is, made_at, refuses, does}
 use Rattle.sys_loader.specs.declared.answers.Started as answers
 use Rattle.sys_loader.specs.Replies.{load_reply}
@@ -35,6 +35,8 @@ use Rattle.sys_loader.specs.Restarting.{CanRestart, is_whole, restart_reads, Are
 use Rattle.sys_loader.proofs.Activated.{not_changed}
 use Rattle.sys_loader.proofs.Resuming.{quiet_reread, resumed_agrees}
 use Rattle.sys_loader.proofs.Again.{next, begun_anew_agrees, begins_anew}
+use Rattle.sys_loader.specs.Lives.{HasItsUsers}
+use Rattle.sys_loader.proofs.Families.{user_set, user_apart}
 use Rattle.sys_loader.proofs.Leading.{no_row}
 use Rattle.sys_loader.proofs.Losing.{entries_none}
 use Rattle.sys_loader.proofs.Reloading.{restart_alone}
@@ -50,6 +52,17 @@ none_again heads (suc k) head none found again = go heads k none found
         let both = or_parts (is_read_again g) (some_read_again gs) none' in
         let clash : true ≡ false = sym again ∙ ap is_read_again (sym (same_Some g head e)) ∙ both.0 in absurd cc
     go (g ∷ gs) (suc i) none' e = go gs i (or_parts (is_read_again g) (some_read_again gs) none').1 e
+
+-- those that are attached to a user are there where it is another
+pub its_there : (users : List (Option Kept)) → AreAttached users → (id : ℕ) (k b : Kept) → user_of users id ≡ Some k → b.attached ≡ k.attached → HasItsUsers (with_user users id (Some b)) id
+its_there users attached id k b made same = λ now place n is row.
+    let one : now ≡ b = same_Some now b (sym is ∙ user_set users id k made (Some b)) in
+    let row' : slice_get k.attached place ≡ Some n = ap (λ (ns : List ℕ). slice_get ns place) (sym (ap (λ (x : Kept). x.attached) one ∙ same)) ∙ row in
+    let other = attached.each (id - first_id) place n k (made_at users id k made).0 row' in
+    elim (cases_eq n id) [
+      | inl eq ↦ (let there : user_of (with_user users id (Some b)) n ≡ Some b = ap (user_of (with_user users id (Some b))) eq ∙ user_set users id k made (Some b) in rw there refl)
+      | inr ne ↦ (let there : user_of (with_user users id (Some b)) n ≡ Some other.0 = user_apart users id k made (Some b) n ne ∙ other.1 in rw there refl)
+    ]
 
 -- no row names a user that can be restarted
 pub can_top : (old : Loaded) (id : ℕ) (kept : Kept) → IsSound old.memory old.users → CanRestart old id kept → (q f : ℕ) → attached_at (kept_outlines old.users) q f ≡ Some id → ⊥

@@ -12,11 +12,11 @@ use Rattle.loader_machine.specs.Steps.{lost_refusal}
 use Rattle.loader_agrees.specs.Agrees.{Kept, Loaded}
 use Rattle.sys_loader.specs.declared.answers.Started.{Started}
 use Rattle.sys_loader.specs.View.{kept, loaded}
-use Rattle.sys_loader.specs.Lives.{with_life}
+use Rattle.sys_loader.specs.Lives.{with_life, HasItsUsers}
 use Rattle.sys_loader.specs.Restarting.{CanRestart, released_memory, HasBegunAnew, kept_heads}
 use Rattle.sys_loader.proofs.Families.{user_set}
 use Rattle.sys_loader.proofs.Beginning.{same_handles}
-use Rattle.sys_loader.proofs.Restarted.{can_top}
+use Rattle.sys_loader.proofs.Restarted.{can_top, its_there}
 use Rattle.sys_loader.proofs.Again.{begun_anew_sound}
 use Rattle.sys_loader.proofs.Anew.{begun_anew, placed_freed}
 use Rattle.sys_loader.proofs.loader.Loader.begin_anew.Goals as goal
@@ -31,6 +31,29 @@ settle-requires-clause-placed c =
           (subst (λ (ws : List Want). AreAllPlaced Purges c.self.inside.banks c.args.user true ws c.as_slice-2.result.now c.place_all_anew.new.banks) (c.as_slice.ensures.value ∙ plan.wants')
           (subst (λ (hs : List Handle). AreAllPlaced Purges c.self.inside.banks c.args.user true c.as_slice.result.now hs c.place_all_anew.new.banks) (sym handles) c.in-Ok.ensures.placed)),
     )
+
+pub set_lives-requires-clause-made : goal.set_lives-requires-clause-made
+set_lives-requires-clause-made c =
+    let old = loaded c.self.inside.banks c.self.inside.users.items in
+    let id = c.args.user in
+    let can : CanRestart old id c.requires.can.0 = subst (λ (l : Loaded). CanRestart l id c.requires.can.0) (sym c.self.view_is) c.requires.can.1 in
+    let found = c.requires.can.0 in
+    let items = c.settle.new.segments.items in
+    let begun : Kept = record found { life = Running; handles = map (λ s. s.handle) items; heads = map (λ s. s.head) items } in
+    let set = c.set_segments.ensures.set found can.made in
+    let there : user_of (map (option_map kept) c.set_segments.new.users.items) id ≡ Some begun = ap (λ (us : List (Option Kept)). user_of us id) set ∙ user_set old.users id found can.made (Some begun) in
+    rw there refl
+
+pub set_lives-requires-clause-there : goal.set_lives-requires-clause-there
+set_lives-requires-clause-there c =
+    let old = loaded c.self.inside.banks c.self.inside.users.items in
+    let id = c.args.user in
+    let can : CanRestart old id c.requires.can.0 = subst (λ (l : Loaded). CanRestart l id c.requires.can.0) (sym c.self.view_is) c.requires.can.1 in
+    let found = c.requires.can.0 in
+    let items = c.settle.new.segments.items in
+    let begun : Kept = record found { life = Running; handles = map (λ s. s.handle) items; heads = map (λ s. s.head) items } in
+    let set = c.set_segments.ensures.set found can.made in
+    subst (λ (us : List (Option Kept)). HasItsUsers us id) (sym set) (its_there old.users c.self.invariant.0.attached id found begun can.made refl)
 
 pub invariant_of-self-2 : goal.invariant_of-self-2
 invariant_of-self-2 c =

@@ -6,10 +6,10 @@ use Rattle.loader_machine.specs.State.{user_of, with_user, with_all}
 use Rattle.loader_agrees.specs.Agrees.{Kept, Loaded}
 use Rattle.sys_loader.specs.declared.answers.Started.{Started}
 use Rattle.sys_loader.specs.View.{kept, loaded}
-use Rattle.sys_loader.specs.Lives.{with_life}
+use Rattle.sys_loader.specs.Lives.{with_life, HasItsUsers}
 use Rattle.sys_loader.specs.Restarting.{CanRestart, is_whole, HasResumed}
 use Rattle.sys_loader.proofs.Families.{user_set}
-use Rattle.sys_loader.proofs.Restarted.{can_top}
+use Rattle.sys_loader.proofs.Restarted.{can_top, its_there}
 use Rattle.sys_loader.proofs.Resuming.{resumed_sound}
 use Rattle.sys_loader.proofs.Reloading.{quiet_same, has_resumed}
 use Rattle.sys_loader.proofs.loader.Loader.resume.Goals as goal
@@ -23,6 +23,21 @@ pub user_in-found-requires : goal.user_in-found-requires
 user_in-found-requires c =
     let made : user_of (loaded c.self.inside.banks c.self.inside.users.items).users c.args.user ≡ Some c.requires.can.0 = ap (λ (l : Loaded). user_of l.users c.args.user) c.self.view_is ∙ c.requires.can.1.made in
     rw made refl
+
+pub set_lives-requires-clause-made : goal.set_lives-requires-clause-made
+set_lives-requires-clause-made c =
+    let old = loaded c.self.inside.banks c.self.inside.users.items in
+    let k = kept c.user_in-found.result.now in
+    let there : user_of (map (option_map kept) c.set_life.new.users.items) c.args.user ≡ Some (with_life Running k) =
+    ap (λ (us : List (Option Kept)). user_of us c.args.user) (c.set_life.ensures.set k c.user_in-found.ensures) ∙ user_set old.users c.args.user k c.user_in-found.ensures (Some (with_life Running k)) in
+    rw there refl
+
+pub set_lives-requires-clause-there : goal.set_lives-requires-clause-there
+set_lives-requires-clause-there c =
+    let old = loaded c.self.inside.banks c.self.inside.users.items in
+    let k = kept c.user_in-found.result.now in
+    subst (λ (us : List (Option Kept)). HasItsUsers us c.args.user) (sym (c.set_life.ensures.set k c.user_in-found.ensures))
+    (its_there old.users c.self.invariant.0.attached c.args.user k (with_life Running k) c.user_in-found.ensures refl)
 
 pub invariant_of-self : goal.invariant_of-self
 invariant_of-self c =
