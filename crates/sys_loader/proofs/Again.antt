@@ -1,5 +1,5 @@
 -- A user that begins again in new blocks, and those that are attached to it run.
-use Rattle.std.proofs.Common.{◌≡◌, ◌≢◌, ◌⊎◌, inl, inr, ℕ, Bool, true, false, cond, ◌==◌, ◌+◌, ◌-◌, ◌^◌, ◌<◌, ◌≤◌, List, [], ◌∷◌, length, map, Option, Some, None, refl, sym, ap, subst, ◌∙◌, arith}
+use Rattle.std.proofs.Common.{◌≡◌, ◌≢◌, ◌⊎◌, inl, inr, ℕ, Bool, true, false, ◌==◌, ◌||◌, ◌+◌, ◌-◌, ◌^◌, ◌<◌, ◌≤◌, List, [], ◌∷◌, length, map, Option, Some, None, refl, sym, ap, subst, ◌∙◌, arith}
 use Rattle.std.specs.Prelude.{slice_get, slice_set, not, ◌&&◌}
 use Rattle.std.specs.Option.{option_map, option_map_or, option_and_then}
 use Rattle.std.proofs.lemmas.Bool.{cases_eq}
@@ -215,7 +215,7 @@ module _ (old new : Loaded) (id : ℕ) (kept : Kept) (segments : List Segment) (
   has_rows : (i n : ℕ) → slice_get kept.attached i ≡ Some n → is_in ids n ≡ true
   has_rows i n is = go (id == n) (in_row rows i n is)
     where
-      go : (b : Bool) → is_in rows n ≡ true → cond b true (is_in rows n) ≡ true
+      go : (b : Bool) → is_in rows n ≡ true → (b || is_in rows n) ≡ true
       go true e = refl
       go false e = e
 

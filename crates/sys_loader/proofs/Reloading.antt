@@ -27,7 +27,7 @@ use Rattle.load_meaning.specs.Loadable.{IsLoadable}
 use Rattle.loader_machine.specs.Refusals.{restart_refusal}
 use Rattle.loader_machine.specs.Stands.{nowhere, place_in, setting, target_with}
 use Rattle.loader_machine.specs.Steps.{active_block, changed_all, static_handles, is_read_again, lost_refusal}
-use Rattle.loader_agrees.specs.Agrees.{Kept, Loaded, IsCall, Has, IsSound}
+use Rattle.loader_agrees.specs.Agrees.{Kept, Loaded, outline, IsCall, Has, IsSound}
 use Rattle.loader_agrees.specs.laws.Begun.{decide}
 use Rattle.loader_agrees.specs.laws.EntryReads.{its_call}
 use Rattle.loader_agrees.specs.laws.Lists.{number_map}

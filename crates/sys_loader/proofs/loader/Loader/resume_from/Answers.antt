@@ -1,4 +1,6 @@
-use Rattle.std.proofs.Common.{◌≡◌, ℕ, length, map, List, Option, sym, ap, subst, ◌∙◌}
+use Rattle.std.proofs.Common.{◌≡◌, ℕ, length, map, List, Option, sym, ap, subst, ◌∙◌, arith}
+use Rattle.std.proofs.lemmas.List.{length-map}
+use Rattle.loader_machine.specs.Heads.{head_of}
 use Rattle.std.proofs.lemmas.Option.{same_Some}
 use Rattle.loader_machine.specs.declared.seen.Life.TheVariants.{Dormant}
 use Rattle.loader_machine.specs.State.{user_of}
@@ -15,6 +17,17 @@ use Rattle.sys_loader.proofs.loader.Loader.resume_from.Goals as goal
 pub set_places-requires-clause-short : goal.set_places-requires-clause-short
 set_places-requires-clause-short c =
     its_short (loaded c.self.inside.banks c.self.inside.users.items) c.args.user c.user_in-found.result.now c.self.invariant.0 c.user_in-found.ensures
+
+pub set_places-requires-clause-room : goal.set_places-requires-clause-room
+set_places-requires-clause-room c =
+    let found = c.user_in-found.result.now in
+    let made' = ap (λ (l : Loaded). user_of l.users c.args.user) (sym c.self.view_is) ∙ c.user_in-found.ensures in
+    omega (arith, c.requires.room, length-map found.segments.items (λ s. s.head), length-map c.args.load.now head_of, ap length (c.requires.same (kept found) made').1)
+
+pub fill_again-requires-clause-heads : goal.fill_again-requires-clause-heads
+fill_again-requires-clause-heads c =
+    let made' = ap (λ (l : Loaded). user_of l.users c.args.user) (sym c.self.view_is) ∙ c.user_in-found.ensures in
+    sym (c.requires.same (kept c.user_in-found.result.now) made').1
 
 pub fill_again-requires-clause-sound : goal.fill_again-requires-clause-sound
 fill_again-requires-clause-sound c = are_sound c.requires.taken.0 c.args.load.now c.requires.taken.1
