@@ -11,7 +11,6 @@ use Rattle.omf_io.specs.Files.{FileMap}
 use Rattle.load_meaning.specs.declared.table.Target.{Target}
 use Rattle.load_meaning.specs.LoadTable.{target_at, entry_count}
 use Rattle.load_meaning.specs.Loadable.{IsLoadable}
-use Rattle.load_meaning.specs.Pathnames.{most_paths}
 use Rattle.iigs_meaning.specs.declared.handles.Handle.{Handle}
 use Rattle.iigs_meaning.specs.Fits.{Slots}
 use Rattle.iigs_meaning.specs.Memory.{bytes_at}
@@ -47,7 +46,7 @@ use Rattle.sys_loader.proofs.Dropping.{gone_sound, gone_agrees}
 use Rattle.sys_loader.proofs.KeptHandles.{keeps_rest}
 use Rattle.sys_loader.proofs.Leads.{at_most}
 use Rattle.sys_loader.proofs.Relived as relived
-use Rattle.sys_loader.proofs.Rerun.{rerun_sound, rerun_agrees, far_same}
+use Rattle.sys_loader.proofs.Rerun.{rerun_sound, rerun_agrees}
 use Rattle.sys_loader.proofs.Together.{is_in, in_row, in_rows, with_all_then, with_all_else, length_all, map_all}
 
 module _ (old new : Loaded) (id : ℕ) (kept : Kept) (segments : List Segment) (started : answers.Started) (sound : IsSound old.memory old.users) (made : user_of old.users id ≡ Some kept) (rests : kept.life ≡ Dormant)

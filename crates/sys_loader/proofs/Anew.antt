@@ -1,6 +1,6 @@
 -- A user that begins again in new blocks, as it is done.
-use Rattle.std.proofs.Common.{◌≡◌, inl, inr, ℕ, true, false, ◌^◌, ◌<◌, List, [], length, map, Option, Some, None, Result, Ok, Err, refl, sym, ap, subst, ◌∙◌}
-use Rattle.std.specs.Prelude.{IfOk, IfErr, string_bytes}
+use Rattle.std.proofs.Common.{◌≡◌, inl, inr, ℕ, true, false, ◌^◌, ◌<◌, List, length, map, Option, Some, None, Result, Ok, Err, refl, sym, ap, subst, ◌∙◌}
+use Rattle.std.specs.Prelude.{IfOk, IfErr}
 use Rattle.omf_format.specs.File.{Segment}
 use Rattle.omf_io.specs.Counts.{IsFront}
 use Rattle.load_meaning.specs.Loadable.{IsLoadable}

@@ -1,10 +1,10 @@
 -- A segment of a load file that gets a block and is written into it.
-use Rattle.std.proofs.Common.{◌≡◌, ◌≢◌, inl, inr, ℕ, zero, suc, Bool, true, false, ◌==◌, ◌+◌, ◌-◌, ◌<◌, ◌≤◌, List, [], ◌∷◌, length, map, Option, Some, None, IsSome, refl, sym, ap, subst, ◌∙◌, arith}
+use Rattle.std.proofs.Common.{◌≡◌, inl, inr, ℕ, zero, suc, Bool, true, false, ◌==◌, ◌+◌, ◌-◌, ◌<◌, ◌≤◌, List, [], ◌∷◌, length, map, Option, Some, None, IsSome, refl, sym, ap, subst, ◌∙◌, arith}
 use Rattle.std.specs.Prelude.{slice_get, slice_set, unwrap_or, IsSomeAnd}
 use Rattle.std.specs.List.{AllByRecursion}
 use Rattle.std.proofs.lemmas.Option.{same_Some, slice_get_within}
 use Rattle.std.proofs.lemmas.Bool.{cases_eq, cases_lt}
-use Rattle.std.proofs.lemmas.List.{get_or-set_same, get_or-set_other, length-map}
+use Rattle.std.proofs.lemmas.List.{get_or-set_same, get_or-set_other}
 use Rattle.std.proofs.Math.ListN.{get_or-eq_default}
 use Rattle.omf_format.specs.Header.{is_dynamic}
 use Rattle.omf_format.specs.File.{Segment, segment_at}
@@ -40,7 +40,7 @@ use Rattle.sys_loader.specs.Activating.{CanLoad, IsBrought, HasCome, with_handle
 use Rattle.sys_loader.proofs.Beginning.{want_some}
 use Rattle.sys_loader.proofs.Came.{IsNew, is_new}
 use Rattle.sys_loader.proofs.Settling.{addresses, address_is}
-use Rattle.sys_loader.proofs.Written.{heads_of, handles_of}
+use Rattle.sys_loader.proofs.Written.{handles_of}
 
 none_active : (ts : List Target) → AllByRecursion (λ (t : Target). ◌≡◌ {A = Option ℕ} None None) ts
 none_active [] = tt

@@ -1,6 +1,6 @@
 -- A user that is dropped, with those that are attached to it.
 use Rattle.std.proofs.Common.{◌≡◌, ◌≢◌, inl, inr, ℕ, zero, suc, Bool, true, false, cond, ◌==◌, ◌+◌, ◌-◌, ◌<◌, ◌≤◌, List, [], ◌∷◌, ◌++◌, length, map, Option, Some, None, IsSome, refl, sym, ap, subst, ◌∙◌, arith}
-use Rattle.std.specs.Prelude.{slice_get, slice_set, take, option_map, Contains, ◌||◌}
+use Rattle.std.specs.Prelude.{slice_get, take, option_map, Contains, ◌||◌}
 use Rattle.std.specs.Option.{option_and_then}
 use Rattle.std.proofs.lemmas.Bool.{cases_eq}
 use Rattle.std.proofs.lemmas.Option.{same_Some, slice_get_within}
@@ -14,18 +14,18 @@ use Rattle.iigs_meaning.specs.declared.slots.Content.TheVariants.{Free, Retired}
 use Rattle.iigs_meaning.specs.Slots.{slot_at, get, released}
 use Rattle.iigs_meaning.specs.Fits.{Slots, block_in}
 use Rattle.iigs_meaning.specs.Puts.{Purges, without_user, without_user_in}
-use Rattle.iigs_meaning.specs.Memory.{Memory, KeepsBut, IsThere, AreAllPlaced, bytes_at}
+use Rattle.iigs_meaning.specs.Memory.{Memory, KeepsBut, AreAllPlaced, bytes_at}
 use Rattle.iigs_meaning.specs.Blocks.{address_in}
 use Rattle.loader_machine.specs.declared.seen.Head.{Head}
 use Rattle.loader_machine.specs.declared.seen.Life.TheVariants.{Running, Dormant}
 use Rattle.loader_machine.specs.Heads.{at_number, is_static, is_table}
-use Rattle.loader_machine.specs.State.{User, Machine, Outline, outline_of, outlines, first_id, user_of, with_user, without_all, family, attached_at, is_attached, handles_in, named_by}
+use Rattle.loader_machine.specs.State.{User, Machine, Outline, outline_of, outlines, first_id, user_of, with_user, without_all, family, attached_at, is_attached, handles_in}
 use Rattle.loader_machine.specs.Presences.{handle_at, presence, presence_at, there_at, active_at, is_active, lies_in}
 use Rattle.loader_machine.specs.Stands.{far_of}
 use Rattle.loader_machine.specs.Refusals.{shut_down_refusal}
 use Rattle.loader_machine.specs.Commands.{Okay, ShutDown}
 use Rattle.loader_machine.specs.Steps.{dropped_state, without_users}
-use Rattle.loader_agrees.specs.Agrees.{Kept, Loaded, outline, kept_outlines, seen_by, far_in, UserAgrees, IsJoined, AreAttached, LeadsFar, EntriesLead, Agrees, IsCall, IsOf, Has, IsSound, Met}
+use Rattle.loader_agrees.specs.Agrees.{Kept, Loaded, outline, kept_outlines, seen_by, far_in, UserAgrees, AreAttached, LeadsFar, EntriesLead, Agrees, IsCall, IsOf, Has, IsSound, Met}
 use Rattle.loader_agrees.specs.laws.Begun.{decide}
 use Rattle.loader_agrees.specs.laws.Frame.{Same, agrees_still}
 use Rattle.loader_agrees.specs.laws.Lists.{set_map, set_at, set_apart, length_set}
@@ -36,7 +36,7 @@ use Rattle.loader_agrees.specs.laws.Stay.{get_is, in_slot, slot_map, is_there}
 use Rattle.loader_agrees.specs.laws.RowUsers.{user_there}
 use Rattle.sys_loader.specs.Lives.{AreReleased, HasDropped}
 use Rattle.sys_loader.proofs.Shifting.{there_block}
-use Rattle.sys_loader.proofs.Together.{is_in, in_last, in_front, in_either}
+use Rattle.sys_loader.proofs.Together.{is_in, in_last, in_either}
 
 -- ---- slots without a user's handles
 

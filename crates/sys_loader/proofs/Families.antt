@@ -1,13 +1,13 @@
 -- Users that are attached to one: the search for theirs, and changes of all of them.
-use Rattle.std.proofs.Common.{◌≡◌, ◌≢◌, inl, inr, ℕ, zero, suc, Bool, true, false, cond, ◌==◌, ◌+◌, ◌-◌, ◌<◌, ◌≤◌, List, [], ◌∷◌, ◌++◌, length, map, take, drop, Option, Some, None, IsSome, refl, sym, ap, subst, ◌∙◌, arith, nat_lt}
-use Rattle.std.specs.Prelude.{slice_get, slice_set, option_map}
-use Rattle.std.specs.Option.{option_or, option_map_or, option_and_then}
+use Rattle.std.proofs.Common.{◌≡◌, ◌≢◌, inl, inr, ℕ, zero, suc, Bool, true, false, ◌==◌, ◌+◌, ◌-◌, ◌<◌, ◌≤◌, List, [], ◌∷◌, ◌++◌, length, take, drop, Option, Some, None, refl, sym, ap, ◌∙◌, arith, nat_lt}
+use Rattle.std.specs.Prelude.{slice_get, option_map}
+use Rattle.std.specs.Option.{option_map_or, option_and_then}
 use Rattle.std.proofs.lemmas.Bool.{cases_eq}
 use Rattle.std.proofs.lemmas.Bool.Decides.{nat_tests}
 use Rattle.std.proofs.lemmas.Option.{same_Some, slice_get_within, slice_get-map}
-use Rattle.loader_machine.specs.State.{Outline, first_id, user_of, with_user, with_all, without_all, file_in, holder_from, holder_of, ids_from}
+use Rattle.loader_machine.specs.State.{Outline, first_id, user_of, with_user, with_all, file_in, holder_from, ids_from}
 use Rattle.loader_agrees.specs.Agrees.{Kept, outline, kept_outlines}
-use Rattle.loader_agrees.specs.laws.Lists.{set_at, set_apart, length_set}
+use Rattle.loader_agrees.specs.laws.Lists.{set_at, set_apart}
 use Rattle.loader_agrees.specs.laws.Seeing.{made_at}
 
 -- ---- lists

@@ -1,5 +1,5 @@
 -- The files of rows, read one by one.
-use Rattle.std.proofs.Common.{◌≡◌, ◌⊎◌, inl, inr, ℕ, zero, suc, ◌+◌, ◌<◌, ◌≤◌, ◌^◌, List, [], ◌∷◌, ◌++◌, length, map, take, Option, Some, None, refl, sym, ap, subst, ◌∙◌, arith}
+use Rattle.std.proofs.Common.{◌≡◌, ◌⊎◌, inl, inr, ℕ, zero, suc, ◌+◌, ◌<◌, ◌^◌, List, [], ◌∷◌, ◌++◌, length, map, take, Option, Some, refl, sym, ap, subst, ◌∙◌, arith}
 use Rattle.std.proofs.lemmas.List.{map-append}
 use Rattle.std.specs.Prelude.{slice_get}
 use Rattle.std.proofs.lemmas.Option.{same_Some}
@@ -10,7 +10,7 @@ use Rattle.load_meaning.specs.Runtime.{IsRuntime, IsFirstRuntimeFault}
 use Rattle.loader_machine.specs.declared.faults.LoaderFault.{LoaderFault}
 use Rattle.loader_machine.specs.declared.faults.LoaderFault.TheVariants as fault
 use Rattle.loader_machine.specs.Heads.{head_of}
-use Rattle.loader_machine.specs.Found.{Joined, Stops, Joins, joined_behind}
+use Rattle.loader_machine.specs.Found.{Stops, Joins}
 use Rattle.loader_agrees.specs.Agrees.{Kept}
 use Rattle.loader_agrees.specs.Acts.{joined_kept, joined_kepts}
 use Rattle.sys_loader.specs.Calls.{AreRowsRead, JoinStops, AreJoinedUsers}

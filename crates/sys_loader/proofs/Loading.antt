@@ -8,7 +8,7 @@ use Rattle.omf_io.specs.Files.{FileMap, StoreSeen, IsRead, IsUnread}
 use Rattle.load_meaning.specs.declared.load.LoadFault.{LoadFault}
 use Rattle.load_meaning.specs.LoadTable.{table_of}
 use Rattle.load_meaning.specs.Loadable.{IsLoadable}
-use Rattle.load_meaning.specs.Pathnames.{most_paths, paths_of}
+use Rattle.load_meaning.specs.Pathnames.{paths_of}
 use Rattle.loader_machine.specs.declared.faults.LoaderFault.{LoaderFault}
 use Rattle.loader_machine.specs.declared.faults.LoaderFault.TheVariants as fault
 use Rattle.loader_machine.specs.declared.seen.Head.{Head}
@@ -23,7 +23,7 @@ use Rattle.sys_loader.specs.declared.answers.Started.{Started}
 use Rattle.sys_loader.specs.declared.user.Segment as users
 use Rattle.sys_loader.specs.declared.user.User.{User}
 use Rattle.sys_loader.specs.View.{kept}
-use Rattle.sys_loader.specs.Calls.{IsBeginRefusal, IsBadFile, AreRowsRead, IsRowsRefusal, RowStops, IsLost, CantBegin, RowsLackMemory, IsLoadRefusal, CantRead, LacksMemory, IsBad, CantStart, HasLoaded, AreJoinedUsers, RowsStop, HasLoadedRows, HasLoadedFile}
+use Rattle.sys_loader.specs.Calls.{IsBeginRefusal, IsBadFile, AreRowsRead, IsRowsRefusal, RowStops, IsLost, CantBegin, RowsLackMemory, CantRead, LacksMemory, IsBad, CantStart, HasLoaded, AreJoinedUsers, RowsStop, HasLoadedRows, HasLoadedFile}
 use Rattle.sys_loader.specs.Restarting.{new_heads}
 
 pub ids_same : (id id' n n' : ℕ) (ids : List ℕ) → ids ≡ ids_from id n → id ≡ id' → n ≡ n' → ids ≡ ids_from id' n'

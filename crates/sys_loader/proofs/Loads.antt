@@ -1,5 +1,5 @@
 -- A load is the machine's step, and reads the files that this needs.
-use Rattle.std.proofs.Common.{◌≡◌, inl, inr, ◌⊎◌, ℕ, true, false, ◌+◌, ◌*◌, ◌<◌, ◌≤◌, List, [], ◌∷◌, length, map, Option, Some, None, nat_lt, Result, Ok, Err, refl, sym, ap, subst, ◌∙◌, arith}
+use Rattle.std.proofs.Common.{◌≡◌, inl, inr, ◌⊎◌, ℕ, true, false, ◌+◌, ◌<◌, ◌≤◌, List, [], ◌∷◌, length, map, Option, Some, None, nat_lt, Result, Ok, Err, refl, sym, ap, subst, ◌∙◌, arith}
 use Rattle.std.specs.Prelude.{IsSomeAnd, nat_le}
 use Rattle.std.specs.Option.{option_map}
 use Rattle.std.specs.FinMap.{get}
@@ -7,8 +7,8 @@ use Rattle.std.proofs.lemmas.List.{length-map}
 use Rattle.std.proofs.lemmas.Bool.Decides.{nat_tests}
 use Rattle.omf_format.specs.File.{Segment}
 use Rattle.omf_io.specs.Counts.{one_more, risen}
-use Rattle.omf_io.specs.Files.{FileMap, StoreSeen, IsRead, IsUnread, max_file}
-use Rattle.load_meaning.specs.Pathnames.{most_paths, paths_of}
+use Rattle.omf_io.specs.Files.{FileMap, StoreSeen, IsUnread, max_file}
+use Rattle.load_meaning.specs.Pathnames.{paths_of}
 use Rattle.iigs_meaning.specs.declared.faults.PlaceFault.{PlaceFault}
 use Rattle.iigs_meaning.specs.declared.faults.PlaceFault.TheVariants as place
 use Rattle.iigs_meaning.specs.Fits.{Slots}
@@ -20,9 +20,9 @@ use Rattle.loader_machine.specs.State.{Machine, User, first_id, max_users}
 use Rattle.loader_machine.specs.Found.{HoldsFile, HoldsLoad, HoldsFault, Found, Unread, Bad, Good, IsFound, Joined, Stops, Joins, joined_behind, AreJoined, reads_of}
 use Rattle.loader_machine.specs.Commands.{Reply, Command, Load, Refused}
 use Rattle.loader_machine.specs.Refusals.{load_refusal, rows_refusal}
-use Rattle.loader_machine.specs.Steps.{NoSlots, Lacks, Begins, LoadsFound, LoadsJoined, Steps, begun_users, lost_refusal}
+use Rattle.loader_machine.specs.Steps.{NoSlots, Lacks, Begins, LoadsFound, LoadsJoined, Steps, begun_users}
 use Rattle.loader_machine.specs.Needs.{Needs, NeedsBehind, rows_of}
-use Rattle.loader_agrees.specs.Agrees.{Loaded, outline, outline_of, IsSound, Agrees, Met, Meets, ReadsNeeded, MeetsReads}
+use Rattle.loader_agrees.specs.Agrees.{Loaded, outline, outline_of, IsSound, Agrees, Meets, ReadsNeeded, MeetsReads}
 use Rattle.loader_agrees.specs.laws.Begun.{may_load}
 use Rattle.loader_agrees.specs.laws.BegunMet.{load_met}
 use Rattle.loader_agrees.specs.laws.Rows.{few_paths}

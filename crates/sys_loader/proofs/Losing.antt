@@ -17,7 +17,7 @@ use Rattle.loader_machine.specs.declared.faults.LoaderFault.TheVariants.{BadFile
 use Rattle.loader_machine.specs.Found.{HoldsLoad}
 use Rattle.loader_machine.specs.State.{first_id}
 use Rattle.loader_machine.specs.Steps.{is_reached, lost_from, lost_in, lost_refusal}
-use Rattle.loader_agrees.specs.Agrees.{Kept, outline, kept_outlines, AreAttached, LeadsFar, EntriesLead}
+use Rattle.loader_agrees.specs.Agrees.{Kept, outline, AreAttached, LeadsFar, EntriesLead}
 use Rattle.loader_agrees.specs.laws.RowUsers.{user_there}
 use Rattle.loader_agrees.specs.laws.Seeing.{user_is}
 use Rattle.loader_agrees.specs.laws.EntryReads.{targets_count, number_within}

@@ -1,5 +1,5 @@
 -- A file that is read again, of a user that may be attached to another.
-use Rattle.std.proofs.Common.{◌≡◌, ℕ, zero, suc, Bool, true, false, cond, ◌+◌, List, [], ◌∷◌, map, Option, Some, None, refl, sym, ap, subst, ◌∙◌}
+use Rattle.std.proofs.Common.{◌≡◌, ℕ, suc, Bool, true, false, cond, ◌+◌, List, [], ◌∷◌, map, Option, Some, None, refl, sym, ap, ◌∙◌}
 use Rattle.std.specs.Prelude.{slice_get, option_map, not, ◌&&◌}
 use Rattle.std.specs.Option.{option_or}
 use Rattle.omf_format.specs.Header.{is_dynamic, is_skipped}

@@ -10,7 +10,7 @@ use Rattle.iigs_meaning.specs.declared.handles.Handle.{Handle}
 use Rattle.loader_machine.specs.declared.seen.Head.{Head}
 use Rattle.loader_machine.specs.declared.seen.Life.{Life}
 use Rattle.loader_machine.specs.Heads.{at_number}
-use Rattle.loader_machine.specs.State.{Outline, first_id, user_of, with_all, attached_at, named_by}
+use Rattle.loader_machine.specs.State.{Outline, first_id, user_of, with_all, attached_at}
 use Rattle.loader_machine.specs.Presences.{handle_at}
 use Rattle.loader_machine.specs.Found.{HoldsLoad}
 use Rattle.loader_agrees.specs.Agrees.{Kept, outline, kept_outlines, IsJoined, AreAttached, LeadsFar, EntriesLead, IsCall, Has}

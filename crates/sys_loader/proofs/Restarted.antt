@@ -18,7 +18,7 @@ use Rattle.loader_machine.specs.declared.faults.LoaderFault.{LoaderFault}
 use Rattle.loader_machine.specs.declared.faults.LoaderFault.TheVariants as fault
 use Rattle.loader_machine.specs.declared.seen.Head.{Head}
 use Rattle.loader_machine.specs.Heads.{head_of, at_number, wants_of}
-use Rattle.loader_machine.specs.State.{User, Machine, Seen, first_id, user_of, with_user, handles_of, outlines, attached_at, is_attached}
+use Rattle.loader_machine.specs.State.{Machine, Seen, first_id, user_of, with_user, handles_of, outlines, attached_at, is_attached}
 use Rattle.loader_machine.specs.Found.{HoldsLoad, Bad, Good}
 use Rattle.loader_machine.specs.laws.OnceLaws.{one_load, found_once}
 use Rattle.loader_machine.specs.Commands.{Reply, Started, Restart, Refused}

@@ -1,15 +1,12 @@
 -- A user that is kept dormant, with those that are attached to it.
-use Rattle.std.proofs.Common.{◌≡◌, ◌≢◌, ◌⊎◌, inl, inr, ℕ, zero, suc, Bool, true, false, cond, ◌==◌, ◌+◌, ◌-◌, ◌^◌, ◌<◌, ◌≤◌, List, [], ◌∷◌, ◌++◌, length, map, Option, Some, None, IsSome, refl, sym, ap, subst, ◌∙◌, arith}
-use Rattle.std.specs.Prelude.{slice_get, slice_set, option_map, unwrap_or, Contains, not, ◌&&◌}
-use Rattle.std.specs.List.{AllByRecursion}
-use Rattle.std.specs.Option.{option_and_then, option_map_or}
+use Rattle.std.proofs.Common.{◌≡◌, ◌≢◌, ◌⊎◌, inl, inr, ℕ, Bool, true, false, ◌+◌, ◌-◌, ◌<◌, ◌≤◌, List, [], length, Option, Some, None, IsSome, refl, sym, ap, subst, ◌∙◌, arith}
+use Rattle.std.specs.Prelude.{slice_get, unwrap_or, Contains}
+use Rattle.std.specs.Option.{option_and_then}
 use Rattle.std.proofs.lemmas.Bool.{cases_eq}
-use Rattle.std.proofs.lemmas.Option.{same_Some, slice_get_within}
-use Rattle.omf_format.specs.Header.{is_dynamic, is_skipped}
+use Rattle.std.proofs.lemmas.Option.{same_Some}
 use Rattle.omf_format.specs.File.{Segment, segment_at}
 use Rattle.omf_io.specs.Files.{FileMap}
 use Rattle.load_meaning.specs.declared.table.Target.{Target}
-use Rattle.load_meaning.specs.Pathnames.{most_paths}
 use Rattle.load_meaning.specs.LoadTable as load
 use Rattle.load_meaning.specs.LoadTable.{targets_of, target_at, entry_count}
 use Rattle.iigs_meaning.specs.declared.handles.Handle.{Handle}
@@ -28,12 +25,11 @@ use Rattle.loader_machine.specs.Heads.{head_of, at_number, is_static, is_table}
 use Rattle.loader_machine.specs.State.{User, Machine, Seen, Outline, outline_of, outlines, first_id, user_of, family, handles_in, handles_of_all, with_all, attached_at, is_attached}
 use Rattle.loader_machine.specs.State as state_of
 use Rattle.loader_machine.specs.Presences.{handle_at, presence, presence_at, there_at, active_at, is_active, lies_in, lies_at}
-use Rattle.loader_machine.specs.Stands.{Far, setting_with, far_of}
-use Rattle.loader_machine.specs.Found.{HoldsLoad}
-use Rattle.loader_machine.specs.Refusals.{of_user, of_running, of_own, shut_down_refusal}
+use Rattle.loader_machine.specs.Stands.{setting_with, far_of}
+use Rattle.loader_machine.specs.Refusals.{shut_down_refusal}
 use Rattle.loader_machine.specs.Commands.{Okay, ShutDown}
 use Rattle.loader_machine.specs.Steps.{let_go, changed_all, kept_state}
-use Rattle.loader_agrees.specs.Agrees.{Kept, Loaded, outline, kept_outlines, far_in, seen_by, IsJoined, AreAttached, LeadsFar, EntriesLead, IsCall, UserAgrees, Agrees, IsOf, Has, IsSound, Met}
+use Rattle.loader_agrees.specs.Agrees.{Kept, Loaded, outline, kept_outlines, far_in, seen_by, IsJoined, AreAttached, IsCall, UserAgrees, Agrees, IsOf, Has, IsSound, Met}
 use Rattle.loader_agrees.specs.laws.Begun.{decide}
 use Rattle.loader_agrees.specs.laws.Checks.{PassesRunning, StopsRunning}
 use Rattle.loader_agrees.specs.laws.RowUsers.{user_there}
@@ -46,10 +42,9 @@ use Rattle.sys_loader.proofs.Lead.{target_stays}
 use Rattle.sys_loader.specs.Lives.{with_life, AreIdled, HasKept}
 use Rattle.sys_loader.proofs.Shifting.{there_block}
 use Rattle.sys_loader.proofs.Relived as relived
-use Rattle.sys_loader.proofs.Together.{is_in, in_last, in_front, in_either, Was, with_all_get, with_all_then, among, from_among, map_all, length_all}
+use Rattle.sys_loader.proofs.Together.{is_in, in_last, in_front, in_either, Was, with_all_get, among, from_among, map_all, length_all}
 use Rattle.sys_loader.proofs.Turned.{Becomes, Stays, Turns, Turned, turned_agrees}
 use Rattle.sys_loader.proofs.Leads.{at_most, entries_lead}
-use Rattle.sys_loader.proofs.Leading.{no_row}
 use Rattle.sys_loader.proofs.ChangedAll.{all_here, all_apart, all_in, let_go_again, let_go_at, let_go_user, let_go_want, let_go_form, let_go_active_at}
 
 none_in : (place : ℕ) → ¬ Contains {X = ℕ} [] place

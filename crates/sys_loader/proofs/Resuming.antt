@@ -1,5 +1,5 @@
 -- A user that is restarted in place, with those that are attached to it.
-use Rattle.std.proofs.Common.{◌≡◌, ◌≢◌, ◌⊎◌, inl, inr, ℕ, zero, suc, Bool, true, false, cond, ◌==◌, ◌||◌, ◌+◌, ◌-◌, ◌^◌, ◌<◌, ◌≤◌, List, [], ◌∷◌, length, map, Option, Some, None, IsSome, refl, sym, ap, subst, ◌∙◌, arith}
+use Rattle.std.proofs.Common.{◌≡◌, ◌≢◌, ◌⊎◌, inl, inr, ℕ, zero, suc, Bool, true, false, cond, ◌==◌, ◌||◌, ◌+◌, ◌-◌, ◌<◌, ◌≤◌, List, [], ◌∷◌, length, map, Option, Some, None, IsSome, refl, sym, ap, subst, ◌∙◌, arith}
 use Rattle.std.specs.Prelude.{slice_get, slice_set, option_map, unwrap_or, Contains, not, ◌&&◌}
 use Rattle.std.specs.Option.{option_map_or, option_and_then}
 use Rattle.std.proofs.lemmas.Bool.{cases_eq, and_parts}
@@ -29,7 +29,7 @@ use Rattle.loader_machine.specs.Steps.{active_block, changed_all, are_there, sta
 use Rattle.loader_agrees.specs.Agrees.{Kept, Loaded, outline, kept_outlines, IsSegments, AreThere, far_in, IsJoined, AreAttached, UserAgrees, Agrees, IsCall, IsOf, Has, IsSound}
 use Rattle.loader_agrees.specs.laws.Begun.{decide}
 use Rattle.loader_agrees.specs.laws.Frame.{Same, agrees_still}
-use Rattle.loader_agrees.specs.laws.Lists.{set_map, set_at, set_apart, length_set}
+use Rattle.loader_agrees.specs.laws.Lists.{set_map, set_at, set_apart}
 use Rattle.loader_agrees.specs.laws.Reads.{head_at}
 use Rattle.loader_agrees.specs.laws.Seeing.{made_at, user_is, IsKept, kept_is, has_any}
 use Rattle.loader_agrees.specs.laws.Stay as stay

@@ -10,7 +10,7 @@ use Rattle.loader_machine.specs.Commands.{Refused, ShutDown}
 use Rattle.loader_agrees.specs.Agrees.{Kept, Loaded, Outline, kept_outlines, seen_by, Agrees, IsSound, Met}
 use Rattle.loader_agrees.specs.laws.Seeing.{refuses}
 use Rattle.sys_loader.specs.Replies.{done_reply}
-use Rattle.sys_loader.specs.Lives.{HasKept, HasDropped, DidShutDown}
+use Rattle.sys_loader.specs.Lives.{DidShutDown}
 use Rattle.sys_loader.proofs.Leading.{no_row}
 use Rattle.sys_loader.proofs.Dropping.{drop_met}
 use Rattle.sys_loader.proofs.Resting.{keep_met, alone_of}

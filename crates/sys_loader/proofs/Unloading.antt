@@ -1,7 +1,6 @@
 -- A segment that is let go.
-use Rattle.std.proofs.Common.{◌≡◌, inl, inr, ℕ, Bool, true, false, length, Option, Some, None, IsSome, refl, sym, ap, subst, ◌∙◌}
+use Rattle.std.proofs.Common.{◌≡◌, inr, ℕ, Bool, true, false, length, Option, Some, None, IsSome, refl, sym, ap, subst, ◌∙◌}
 use Rattle.std.specs.Prelude.{slice_get, Result, Ok, Err}
-use Rattle.std.proofs.lemmas.Option.{same_Some}
 use Rattle.omf_io.specs.Files.{FileMap}
 use Rattle.omf_format.specs.Header.{is_dynamic}
 use Rattle.iigs_meaning.specs.declared.handles.Handle.{Handle}

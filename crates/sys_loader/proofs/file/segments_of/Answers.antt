@@ -1,4 +1,4 @@
-use Rattle.std.proofs.Common.{◌≡◌, List, ◌++◌, [], ◌∷◌, map, Option, None, refl, sym, ap, subst, ◌∙◌}
+use Rattle.std.proofs.Common.{◌≡◌, List, ◌++◌, [], ◌∷◌, map, None, refl, sym, ap, subst, ◌∙◌}
 use Rattle.omf_header.specs.View.{fields}
 use Rattle.loader_machine.specs.declared.seen.Head.{Head}
 use Rattle.loader_agrees.specs.Acts.{no_handle_of}

@@ -1,4 +1,4 @@
-use Rattle.std.proofs.Common.{◌+◌, ℕ, List, [], ◌∷◌, ◌++◌, refl, sym, ap, ◌∙◌, arith}
+use Rattle.std.proofs.Common.{◌+◌, ℕ, List, [], ◌∷◌, ◌++◌, sym, ap, ◌∙◌, arith}
 use Rattle.loader_machine.specs.State.{ids_from}
 use Rattle.sys_loader.proofs.Families.{ids_more}
 use Rattle.sys_loader.proofs.load.ids_from.Goals as goal

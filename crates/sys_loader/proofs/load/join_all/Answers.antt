@@ -1,11 +1,9 @@
-use Rattle.std.proofs.Common.{◌≡◌, ◌⊎◌, inl, inr, ℕ, suc, ◌+◌, ◌<◌, ◌≤◌, List, [], ◌∷◌, ◌++◌, length, map, take, Option, Some, refl, sym, ap, subst, ◌∙◌, arith}
+use Rattle.std.proofs.Common.{◌≡◌, inl, inr, ℕ, suc, ◌+◌, List, [], ◌∷◌, ◌++◌, map, Option, Some, refl, sym, ap, subst, ◌∙◌, arith}
 use Rattle.std.proofs.lemmas.List.{map-append}
-use Rattle.omf_format.specs.File as omf
 use Rattle.omf_io.specs.Counts.{one_more, risen}
 use Rattle.omf_io.specs.Files.{FileMap}
 use Rattle.load_meaning.specs.Pathnames.{paths_of}
-use Rattle.loader_machine.specs.Found.{Stops, Joins}
-use Rattle.loader_machine.specs.declared.faults.LoaderFault.TheVariants as fault
+use Rattle.loader_machine.specs.Found.{Joins}
 use Rattle.loader_agrees.specs.Agrees.{Kept}
 use Rattle.loader_agrees.specs.Acts.{joined_kepts}
 use Rattle.sys_loader.specs.declared.user.User.{User}

@@ -1,8 +1,7 @@
-use Rattle.std.proofs.Common.{◌≡◌, ℕ, false, Option, Some, None, sym, ap, ◌∙◌}
+use Rattle.std.proofs.Common.{false, Option, sym, ap, ◌∙◌}
 use Rattle.std.specs.Prelude.{option_map, nat_lt}
 use Rattle.std.specs.Option.{option_map_or}
 use Rattle.loader_machine.specs.declared.seen.Head.{Head}
-use Rattle.loader_machine.specs.Heads.{at_number}
 use Rattle.sys_loader.proofs.Losing.{head_number}
 use Rattle.sys_loader.proofs.lost.is_inside.Goals as goal
 

@@ -1,5 +1,4 @@
-use Rattle.std.proofs.Common.{◌≡◌, List, Some, map, refl, sym, ◌∙◌, arith}
-use Rattle.std.specs.Prelude.{option_map}
+use Rattle.std.proofs.Common.{List, refl, sym, ◌∙◌, arith}
 use Rattle.loader_machine.specs.declared.seen.Head.{Head}
 use Rattle.omf_cells.specs.Load.{table_targets}
 use Rattle.sys_loader.specs.Restarting.{new_heads}

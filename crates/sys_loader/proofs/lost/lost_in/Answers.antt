@@ -1,4 +1,4 @@
-use Rattle.std.proofs.Common.{◌≡◌, List, Some, map, refl, sym, ◌∙◌, arith}
+use Rattle.std.proofs.Common.{List, map, refl, sym, ◌∙◌, arith}
 use Rattle.std.specs.Prelude.{option_map}
 use Rattle.loader_machine.specs.declared.seen.Head.{Head}
 use Rattle.sys_loader.specs.View.{kept}

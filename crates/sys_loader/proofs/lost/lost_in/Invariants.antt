@@ -1,4 +1,4 @@
-use Rattle.std.specs.Prelude.{◌≡◌, ◌≤◌, drop, map, option_map, length}
+use Rattle.std.specs.Prelude.{◌≡◌, drop, map, option_map}
 use Rattle.omf_cells.specs.Load.{table_targets}
 use Rattle.loader_machine.specs.Steps.{lost_from}
 use Rattle.sys_loader.specs.View.{kept}

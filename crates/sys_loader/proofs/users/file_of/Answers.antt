@@ -1,5 +1,5 @@
 use Rattle.sys_loader.specs.View.{kept}
-use Rattle.std.proofs.Common.{Some, ap}
+use Rattle.std.proofs.Common.{ap}
 use Rattle.std.specs.Prelude.{option_map}
 use Rattle.sys_loader.proofs.users.file_of.Goals as goal
 

@@ -1,8 +1,8 @@
-use Rattle.std.proofs.Common.{◌≡◌, List, length, Some, refl, sym, ap, ◌∙◌, arith, map}
-use Rattle.std.specs.Prelude.{option_map, slice_get}
+use Rattle.std.proofs.Common.{length, Some, refl, sym, ap, ◌∙◌, arith, map}
+use Rattle.std.specs.Prelude.{option_map}
 use Rattle.std.proofs.lemmas.Option.{slice_get_read, slice_get-map}
 use Rattle.std.proofs.lemmas.List.{length-map}
-use Rattle.loader_agrees.specs.Agrees.{Kept, outline}
+use Rattle.loader_agrees.specs.Agrees.{outline}
 use Rattle.loader_machine.specs.State.{holder_of}
 use Rattle.sys_loader.specs.View.{kept}
 use Rattle.sys_loader.proofs.Families.{holder_here, holder_next, holder_past}

@@ -1,11 +1,11 @@
-use Rattle.std.proofs.Common.{◌≡◌, ◌+◌, ◌<◌, ℕ, List, length, map, take, Option, Some, IsSome, refl, sym, ap, subst, ◌∙◌, arith}
+use Rattle.std.proofs.Common.{◌≡◌, ◌+◌, ℕ, List, length, map, take, Option, Some, refl, sym, ap, ◌∙◌, arith}
 use Rattle.std.specs.Prelude.{option_map, slice_get}
 use Rattle.std.proofs.lemmas.Option.{same_Some}
 use Rattle.loader_machine.specs.State.{user_of, with_user, with_all}
 use Rattle.loader_agrees.specs.Agrees.{Kept}
 use Rattle.sys_loader.specs.View.{kept}
 use Rattle.sys_loader.specs.Lives.{with_life}
-use Rattle.sys_loader.proofs.Families.{Stays, stays_all, all_step, take_past}
+use Rattle.sys_loader.proofs.Families.{stays_all, all_step, take_past}
 use Rattle.sys_loader.proofs.UserItems.{some_is}
 use Rattle.sys_loader.proofs.users.set_lives.Goals as goal
 

@@ -1,11 +1,11 @@
 use Rattle.std.proofs.Common.{◌≡◌, List, true, map, Option, Some, None, refl, sym, ap, subst, ◌∙◌, arith}
-use Rattle.std.specs.Prelude.{option_map, IsSome}
+use Rattle.std.specs.Prelude.{option_map}
 use Rattle.std.proofs.lemmas.Option.{same_Some}
 use Rattle.iigs_meaning.specs.declared.handles.Handle.{Handle}
 use Rattle.iigs_meaning.specs.declared.wants.Want.{Want}
 use Rattle.iigs_meaning.specs.Puts.{Purges, without_user}
 use Rattle.iigs_meaning.specs.Memory.{AreAllPlaced}
-use Rattle.loader_machine.specs.declared.seen.Life.TheVariants.{Running, Dormant}
+use Rattle.loader_machine.specs.declared.seen.Life.TheVariants.{Running}
 use Rattle.loader_machine.specs.Heads.{head_of, wants_of}
 use Rattle.loader_machine.specs.State.{user_of, with_user, with_all}
 use Rattle.loader_machine.specs.Steps.{lost_refusal}

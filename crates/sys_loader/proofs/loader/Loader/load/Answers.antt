@@ -1,4 +1,3 @@
-use Rattle.iigs_meaning.specs.Puts.{Purges}
 use Rattle.loader_machine.specs.Commands.{Load}
 use Rattle.sys_loader.specs.Replies.{load_reply}
 use Rattle.sys_loader.proofs.Loads.{loads, meets_of}

@@ -1,9 +1,9 @@
-use Rattle.std.proofs.Common.{◌≡◌, ◌-◌, ℕ, length, Some, refl, sym, ap, subst, ◌∙◌}
+use Rattle.std.proofs.Common.{◌-◌, length, Some, refl, sym, ap, subst, ◌∙◌}
 use Rattle.std.proofs.lemmas.List.{length-map}
 use Rattle.loader_machine.specs.State.{first_id}
 use Rattle.loader_machine.specs.Presences.{presence}
 use Rattle.loader_machine.specs.Steps.{active_block}
-use Rattle.loader_agrees.specs.Agrees.{Kept, Loaded}
+use Rattle.loader_agrees.specs.Agrees.{Loaded}
 use Rattle.loader_agrees.specs.laws.Seeing.{made_at}
 use Rattle.loader_agrees.specs.laws.Leading.{is_led}
 use Rattle.sys_loader.specs.View.{kept, loaded}
