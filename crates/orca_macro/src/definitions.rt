@@ -14,7 +14,7 @@ ghost use Rattle.orca_text.specs.View.{line};
 
 use crate::body::Body;
 use crate::model_line::{ModelLine, model_of};
-use crate::names::is_operation;
+use crate::names::operation_is;
 use macro_meaning::{MacroCause, MacroFault};
 use orca_text::{Lines, SourceLine};
 use std::alloc::{AllocError, Global};
@@ -28,14 +28,6 @@ pub(crate) struct Definition {
     pub(crate) behind: u32,
     /// The lines behind the model line, with the MEND line, to which no branch goes.
     pub(crate) body: Body,
-}
-
-/// Whether the operation of a line has this spelling.
-pub(crate) fn operation_is(of: &SourceLine, spelling: &[u8]) -> bool
-    requires { HaveFields of.now.text (line of.now).fields }
-    ensures { result ≡ operation_is spelling.now (line of.now) }
-{
-    is_operation(of.part(of.operation), spelling)
 }
 
 /// Copies a line to the end of others.

@@ -16,11 +16,13 @@ mod names;
 mod pieces;
 mod plan;
 mod program;
+mod sequence;
 mod substitution;
 mod symbols;
 mod template;
 mod text;
 mod untouched;
+mod visited;
 mod visits;
 mod word;
 

@@ -3,14 +3,17 @@
 ghost use Rattle.std.specs.Prelude.{◌≡◌, ◌≤◌, List, ℕ, length, bytes_eq, Some, None, is_some, IfOk, MatchOption};
 ghost use Rattle.std.specs.Option.{option_map};
 ghost use Rattle.orca_meaning.specs.Characters.{folded};
+ghost use Rattle.orca_meaning.specs.Line.{HaveFields};
 ghost use Rattle.orca_meaning.specs.Operation.{beside};
 ghost use Rattle.orca_meaning.specs.Token.{Found};
 ghost use Rattle.orca_macro.specs.Letters.{with_a, with_s, with_l, with_m, with_g};
+ghost use Rattle.macro_meaning.specs.Definition.{operation_is};
 ghost use Rattle.macro_meaning.specs.Statements.{statement_of, is_operation, whole, behind_dot, symbol_name, sequence_name, target_name};
+ghost use Rattle.orca_text.specs.View.{line};
 
 use macro_meaning::{Declaration, Kind, Statement};
 use omf_base::Name;
-use orca_text::{behind_byte, is_name_start, is_spelled, name_at, name_len, symbol_at};
+use orca_text::{SourceLine, behind_byte, is_name_start, is_spelled, name_at, name_len, symbol_at};
 use std::alloc::{AllocError, Global};
 
 /// Whether an operation has this spelling.
@@ -18,6 +21,14 @@ pub(crate) fn is_operation(operation: &[u8], spelling: &[u8]) -> bool
     ensures { result ≡ bytes_eq spelling.now (folded operation.now) }
 {
     is_spelled(operation, spelling)
+}
+
+/// Whether the operation of a line has this spelling.
+pub(crate) fn operation_is(of: &SourceLine, spelling: &[u8]) -> bool
+    requires { HaveFields of.now.text (line of.now).fields }
+    ensures { result ≡ operation_is spelling.now (line of.now) }
+{
+    is_operation(of.part(of.operation), spelling)
 }
 
 /// The statements that begin with A.

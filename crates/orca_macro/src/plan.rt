@@ -7,10 +7,9 @@ ghost use Rattle.orca_macro.specs.Plain.{plain_len};
 ghost use Rattle.orca_macro.specs.Plan.{known, FitsDone, FitsStatement, FitsLine, Fits};
 ghost use Rattle.orca_text.specs.View.{line};
 
-use crate::deed::cut;
-use crate::definitions::operation_is;
 use crate::head::{Head, head_of};
-use crate::names::{statement_of, target_name};
+use crate::names::{operation_is, statement_of, target_name};
+use crate::sequence::cut;
 use crate::substitution::is_plain;
 use crate::template::{Part, parts_of, plain_front};
 use macro_meaning::Statement;

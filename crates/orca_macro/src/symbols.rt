@@ -13,7 +13,6 @@ use crate::text::Text;
 use indexmap::IndexMap;
 use itoa::Buffer;
 use macro_meaning::{Declaration, Kind};
-use omf_base::{Name, NameFault};
 use std::alloc::{AllocError, Global};
 use std::marker::Model;
 
@@ -61,18 +60,6 @@ impl Model for Calls {
     ghost view = { λ calls. calls.count };
 
     ghost invariant = { λ calls. calls.digits ≡ decimal calls.count };
-}
-
-/// Bytes, of which there are at most 255.
-pub(crate) fn name(alloc: Global, bytes: &[u8]) -> Result<Name, AllocError>
-    requires { length bytes.now ≤ 255 }
-    ensures { IfOk result (λ n. n ≡ bytes.now) }
-{
-    match Name::of(alloc, bytes) {
-        Ok(name) => Ok(name),
-        Err(NameFault::TooLong) => unreachable!(),
-        Err(NameFault::Memory) => Err(AllocError),
-    }
 }
 
 /// A number in decimal digits.

@@ -13,7 +13,8 @@ use crate::names::statement_of;
 use crate::substitution::{
     Naming, begins_letter, begins_name, copy_plain, naming_at, taken_length,
 };
-use crate::symbols::{Values, name, text_of};
+use crate::symbols::{Values, text_of};
+use crate::text::name;
 use omf_base::Name;
 use orca_text::{SourceLine, folded, name_len};
 use std::alloc::{AllocError, Global};

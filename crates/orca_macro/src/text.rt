@@ -2,14 +2,25 @@
 
 ghost use Rattle.std.specs.Prelude.{◌≡◌, ◌≤◌, length, IfOk};
 
-use crate::symbols::name;
 use arrayvec::ArrayVec;
-use omf_base::Name;
+use omf_base::{Name, NameFault};
 use std::alloc::{AllocError, Global};
 use std::marker::Model;
 
 /// How many bytes stand in the value itself.
 const FEW: usize = 16;
+
+/// Bytes, of which there are at most 255.
+pub(crate) fn name(alloc: Global, bytes: &[u8]) -> Result<Name, AllocError>
+    requires { length bytes.now ≤ 255 }
+    ensures { IfOk result (λ n. n ≡ bytes.now) }
+{
+    match Name::of(alloc, bytes) {
+        Ok(name) => Ok(name),
+        Err(NameFault::TooLong) => unreachable!(),
+        Err(NameFault::Memory) => Err(AllocError),
+    }
+}
 
 /// Where the bytes of a text stand.
 #[derive(Drop)]

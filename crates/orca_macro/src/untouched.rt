@@ -6,11 +6,10 @@ ghost use Rattle.orca_meaning.specs.Line.{HaveFields, fields_of, part};
 ghost use Rattle.orca_macro.specs.Untouched.{IsUntouched, AreUntouched};
 ghost use Rattle.orca_text.specs.View.{line};
 
-use crate::deed::begins_dot;
-use crate::definitions::operation_is;
-use crate::expansion::MOST_VISITS;
-use crate::names::statement_of;
+use crate::names::{operation_is, statement_of};
+use crate::sequence::begins_dot;
 use crate::substitution::is_plain;
+use crate::visits::MOST_VISITS;
 use macro_meaning::Statement;
 use orca_text::{Lines, SourceLine, is_comment};
 

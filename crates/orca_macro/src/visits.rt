@@ -28,6 +28,9 @@ pub(crate) enum Outcome {
     Stops(MacroCause),
 }
 
+/// How many lines are visited at most.
+pub(crate) const MOST_VISITS: u32 = 1_000_000;
+
 /// How deep calls are nested at most.
 const MOST_NESTED: usize = 32;
 

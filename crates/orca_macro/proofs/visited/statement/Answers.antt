@@ -2,7 +2,7 @@ use Rattle.std.proofs.Common.{sym, ◌∙◌}
 use Rattle.orca_text.specs.View.{fields}
 use Rattle.orca_macro.specs.DeedView.{where_}
 use Rattle.orca_macro.proofs.Both.{statement_ok}
-use Rattle.orca_macro.proofs.deed.statement.Goals as goal
+use Rattle.orca_macro.proofs.visited.statement.Goals as goal
 
 pub returns-in-Some : goal.returns-in-Some
 returns-in-Some c =

@@ -2,7 +2,7 @@ use Rattle.std.proofs.Common.{sym, ◌∙◌}
 use Rattle.orca_text.specs.View.{line}
 use Rattle.orca_macro.specs.DeedView.{where_}
 use Rattle.orca_macro.proofs.Both.{plain_ok}
-use Rattle.orca_macro.proofs.deed.deed_of.Goals as goal
+use Rattle.orca_macro.proofs.visited.deed_of.Goals as goal
 
 pub returns-then-is_plain : goal.returns-then-is_plain
 returns-then-is_plain c =
