@@ -6,9 +6,9 @@ use Rattle.orca_meaning.specs.Line.{Fields, Line, part, three_fields, is_comment
 use Rattle.macro_meaning.specs.Symbol.{text_of, Values}
 use Rattle.macro_meaning.specs.Condition.{Answer, IsCondition}
 use Rattle.macro_meaning.specs.Pieces.{pieces}
-use Rattle.orca_macro.specs.Piece.{AreNotTwo}
-use Rattle.orca_macro.specs.Plain.{plain_len}
-use Rattle.orca_macro.proofs.Fronts.{plain_text}
+use Rattle.orca_symbols.specs.Piece.{AreNotTwo}
+use Rattle.orca_symbols.specs.Plain.{plain_len}
+use Rattle.orca_symbols.proofs.Fronts.{plain_text}
 use Rattle.macro_meaning.specs.declared.statements.Statement.{Statement}
 use Rattle.macro_meaning.specs.Statements.{statement_of, target_name, behind_dot, whole}
 use Rattle.macro_meaning.specs.Substitution.{first_passes, naming_at}
@@ -45,17 +45,6 @@ pub statement_ok : {E : Type 0} (s : Setting) (text : List ℕ) (fields : Fields
 statement_ok s text fields operation label operand found (Ok d) fields_are operation_is label_is operand_is some is done =
     statement_is s text fields operation label operand found (deed d) fields_are operation_is label_is operand_is some is done
 statement_ok s text fields operation label operand found (Err e) fields_are operation_is label_is operand_is some is done = done
-
--- a line without a dot at its front has no sequence symbol
-no_dot : (n : ℕ) (text : List ℕ) → first_passes (λ (byte : ℕ). eqb byte 0x2E) text ≡ false → behind_dot (take n text) ≡ None
-no_dot zero [] other = refl
-no_dot (suc n) [] other = refl
-no_dot zero (byte ∷ behind) other = refl
-no_dot (suc n) (byte ∷ behind) other = ap (λ (b : Bool). cond b (name_at (take n behind)) None) other
-
-pub cut_none : (text : List ℕ) → first_passes (λ (byte : ℕ). eqb byte 0x2E) text ≡ false → text ≡ cut text
-unfolding cut three_fields
-cut_none text other = rw (no_dot ((three_fields text).label.to - 0) text other) refl
 
 -- a line without `&`
 pub plain_is : (s : Setting) (l : Line) (text : List ℕ) (d : meaning.Deed) → text ≡ l.text → is_comment text ≡ false → eqb (plain_len text) (length text) ≡ true

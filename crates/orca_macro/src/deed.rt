@@ -1,9 +1,7 @@
 //! What a visited line can do (ORCA/M reference manual, "Conditional assembly directives").
 
-use crate::symbols::Symbols;
-use crate::text::Text;
-use crate::word::Word;
 use macro_meaning::{Declaration, Kind, MacroCause};
+use orca_symbols::{Symbols, Text, Word};
 
 /// What a visited line does.
 #[derive(Drop)]

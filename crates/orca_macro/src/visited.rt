@@ -3,32 +3,29 @@
 ghost use Rattle.std.specs.Prelude.{IsTrue, ◌≡◌, ◌==◌, ◌≤◌, ◌<◌, nat_lt, length, take, slice_get, Some, None, Ok, IfOk, MatchOption, false};
 ghost use Rattle.macro_meaning.specs.Deed.{calling_if, calling_at, begins_definition, IsDeed, IsStatement, IsShort, cut};
 ghost use Rattle.macro_meaning.specs.Substitution.{first_passes};
-ghost use Rattle.orca_macro.specs.View.{values};
+ghost use Rattle.orca_symbols.specs.View.{values};
 ghost use Rattle.orca_macro.specs.DeedView.{deed, where_};
 ghost use Rattle.orca_macro.specs.Parts.{definition};
 ghost use Rattle.orca_macro.specs.Plan.{Fits, FitsLine, IsGiven, IsPlain, known};
 ghost use Rattle.orca_macro.specs.Head.{HasFields, HasHead, MayHaveHead, BeginsSo};
-ghost use Rattle.orca_macro.specs.Template.{HasParts};
+ghost use Rattle.orca_symbols.specs.Template.{HasParts};
 ghost use Rattle.orca_meaning.specs.Line.{HaveFields, fields_of, part, three_fields, is_comment};
 ghost use Rattle.orca_meaning.specs.Characters.{folded};
 ghost use Rattle.macro_meaning.specs.Definition.{first_named};
 ghost use Rattle.orca_text.specs.View.{line};
 
-use crate::call::{bound, names_count};
 use crate::deed::Deed;
 use crate::definitions::Definition;
 use crate::doing::done;
 use crate::head::Head;
-use crate::names::{is_operation, statement_of};
 use crate::plan::{Known, Plan};
 use crate::program::Program;
-use crate::sequence::cut;
-use crate::substitution::{is_folded, is_plain, shown};
-use crate::symbols::{Symbols, Values};
-use crate::template::{Part, fill};
 use crate::untouched::is_untouched;
-use crate::word::Word;
 use macro_meaning::{MacroCause, Statement};
+use orca_symbols::{
+    Part, Symbols, Values, Word, bound, cut, fill, is_folded, is_operation, is_plain, names_count,
+    shown, statement_of,
+};
 use orca_text::{SourceLine, folded, is_comment, operand_behind, part, three_fields};
 use std::alloc::{AllocError, Global};
 
