@@ -14,7 +14,7 @@ use Rattle.asm_meaning.specs.declared.faults.AsmFault.{AsmFault}
 use Rattle.asm_meaning.specs.Object.{AreSteps, HasLines, cause_of, IsFirstFault, InExpansion, InLine, InSegment, InLength, IsAsmFault, OutOfMemory, First}
 use Rattle.asm_meaning.specs.State.{State, Segment, start}
 use Rattle.asm_meaning.specs.Statement.{IsStep}
-use Rattle.orca_asm.specs.declared.kept.Kept.{Kept}
+use Rattle.orca_asm.specs.declared.state.Kept.{Kept}
 use Rattle.orca_asm.specs.AssembleView.{Stops, IsLastFault, IsAssembled}
 use Rattle.orca_asm.specs.StateView.{ShowsState}
 

@@ -7,7 +7,7 @@ use Rattle.link_meaning.specs.Sizes.{size_at}
 use Rattle.asm_meaning.specs.Object.{records_text}
 use Rattle.asm_meaning.specs.Pieces.{place_behind}
 use Rattle.asm_meaning.specs.laws.PieceLaws.{place_behind-append}
-use Rattle.orca_asm.specs.declared.body.Body.{Body}
+use Rattle.orca_asm.specs.declared.text.Body.{Body}
 use Rattle.orca_asm.specs.TextView.{limited, kept_text}
 use Rattle.orca_asm.specs.BodyView.{ShowsBody}
 

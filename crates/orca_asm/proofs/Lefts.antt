@@ -17,7 +17,7 @@ use Rattle.orca_meaning.specs.Characters.{is_name, folded}
 use Rattle.asm_meaning.specs.laws.InstructionLaws.{both_ok}
 use Rattle.asm_meaning.specs.Statement.{IsDone, constants_of, marking, entering, turning, beginning, equated, name_of, load_name_of}
 use Rattle.orca_asm.specs.declared.amount.Amount.{Amount}
-use Rattle.orca_asm.specs.declared.kept.Kept.{Kept}
+use Rattle.orca_asm.specs.declared.state.Kept.{Kept}
 use Rattle.orca_asm.specs.AmountView.{Kept as Amount_kept, kept_view, kept_of, kept_answer, amount_view}
 use Rattle.orca_asm.specs.DoneView.{IsSome, using_by, spaced_by, aligned_by, moved_by, kinded_by}
 use Rattle.orca_asm.specs.DoingView.{HasDistance, ending, IsEquated, IsConstant}

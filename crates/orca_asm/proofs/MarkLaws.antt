@@ -25,8 +25,8 @@ use Rattle.asm_meaning.specs.Pieces.{Piece, length_at, records_of}
 use Rattle.asm_meaning.specs.State.{State, Segment, cells_of, marked, in_segment, within_length, greatest_length, is_too_long}
 use Rattle.asm_meaning.specs.Statement.{IsDone, IsOperandOf, Good, Bad, Large, constants_of, marking}
 use Rattle.orca_asm.specs.declared.given.Given.{Given}
-use Rattle.orca_asm.specs.declared.kept.Kept.{Kept}
-use Rattle.orca_asm.specs.declared.segment.Open.{Open}
+use Rattle.orca_asm.specs.declared.state.Kept.{Kept}
+use Rattle.orca_asm.specs.declared.state.Open.{Open}
 use Rattle.orca_asm.specs.GivenBy.{IsByInstruction, IsByList}
 use Rattle.orca_asm.specs.GivenView.{given_pieces, given_answer}
 use Rattle.orca_asm.specs.MarkView.{giving, IsPlainAnswer}

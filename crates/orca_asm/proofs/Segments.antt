@@ -5,7 +5,7 @@ use Rattle.omf_format.specs.Record.{Record}
 use Rattle.link_meaning.specs.Sizes.{size_at}
 use Rattle.asm_meaning.specs.Pieces.{place_behind, length_at}
 use Rattle.asm_meaning.specs.State.{Segment, cells_of, with_label, local_of, marked}
-use Rattle.orca_asm.specs.declared.segment.Open.{Open}
+use Rattle.orca_asm.specs.declared.state.Open.{Open}
 use Rattle.orca_asm.specs.StateView.{ShowsSegment, with_records, labelled}
 
 no_more : (s : Segment) → with_records [] s ≡ s

@@ -19,7 +19,7 @@ use Rattle.orca_asm.specs.EquateView.{with_constant}
 use Rattle.orca_asm.specs.NamesView.{outside_of}
 use Rattle.orca_asm.specs.StateView.{ShowsState, ShowsOption, ShowsSegment, header_view}
 use Rattle.orca_asm.specs.EndView.{ended_header}
-use Rattle.orca_asm.specs.declared.segment.Open.{Open}
+use Rattle.orca_asm.specs.declared.state.Open.{Open}
 use Rattle.orca_asm.specs.TextView.{limited, kept_text}
 use Rattle.orca_asm.proofs.Bodies.{records_text-one, cells-one}
 

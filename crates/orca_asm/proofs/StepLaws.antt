@@ -15,7 +15,7 @@ use Rattle.asm_meaning.specs.Answer.{Answer}
 use Rattle.asm_meaning.specs.Operations.{operation_of, directives}
 use Rattle.asm_meaning.specs.State.{State, Segment}
 use Rattle.asm_meaning.specs.Statement.{IsDone, IsKnown, IsPlaced, IsStep, label_of, is_misplaced, equating, equating_global}
-use Rattle.orca_asm.specs.declared.kept.Kept.{Kept}
+use Rattle.orca_asm.specs.declared.state.Kept.{Kept}
 use Rattle.orca_asm.specs.DoingView.{IsEquated, IsConstant}
 use Rattle.orca_asm.specs.StateView.{Leaves, IsLeft}
 use Rattle.orca_asm.specs.StepView.{IsJudged, IsPlacedAs, Steps}

@@ -8,7 +8,7 @@ use Rattle.asm_meaning.specs.Object.{AreSteps, object_text, most_bytes}
 use Rattle.asm_meaning.specs.declared.faults.AsmCause.TheVariants.{Unclosed, TooLong}
 use Rattle.asm_meaning.specs.State.{State, Segment, start}
 use Rattle.asm_meaning.specs.Statement.{IsStep}
-use Rattle.orca_asm.specs.declared.kept.Kept.{Kept}
+use Rattle.orca_asm.specs.declared.state.Kept.{Kept}
 use Rattle.orca_asm.specs.StateView.{ShowsState}
 
 -- a line with a fault, behind lines that have none

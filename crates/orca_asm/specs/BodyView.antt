@@ -3,7 +3,7 @@ use Rattle.std.specs.Prelude.{◌≡◌, List}
 use Rattle.omf_format.specs.Record.{Record}
 use Rattle.asm_meaning.specs.Object.{records_text}
 use Rattle.asm_meaning.specs.Pieces.{place_behind}
-use Rattle.orca_asm.specs.declared.body.Body.{Body}
+use Rattle.orca_asm.specs.declared.text.Body.{Body}
 use Rattle.orca_asm.specs.TextView.{limited, kept_text}
 
 -- their bytes, as far as a file may have them, and the number of their cells

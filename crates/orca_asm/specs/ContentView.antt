@@ -2,8 +2,8 @@
 use Rattle.std.specs.Prelude.{◌≤◌, ◌<◌, ◌^◌, List, [], ◌∷◌, length}
 use Rattle.omf_format.specs.Record as format
 use Rattle.omf_format.specs.Record.{Record}
-use Rattle.orca_asm.specs.declared.segment.Content.{Content}
-use Rattle.orca_asm.specs.declared.segment.Content.TheVariants.{Nothing, End, Using, Space, Align, Org}
+use Rattle.orca_asm.specs.declared.state.Content.{Content}
+use Rattle.orca_asm.specs.declared.state.Content.TheVariants.{Nothing, End, Using, Space, Align, Org}
 
 abbrev pub content_records : Content → List Record
 content_records Nothing = []

@@ -8,7 +8,7 @@ use Rattle.asm_meaning.specs.Answer.{Answer}
 use Rattle.asm_meaning.specs.Formulas.{IsFormula}
 use Rattle.asm_meaning.specs.State.{State, closed}
 use Rattle.asm_meaning.specs.Statement.{IsMove, constants_of, marking, equating, equating_outside}
-use Rattle.orca_asm.specs.declared.kept.Kept.{Kept}
+use Rattle.orca_asm.specs.declared.state.Kept.{Kept}
 use Rattle.orca_asm.specs.NumberView.{number_found}
 use Rattle.orca_asm.specs.StateView.{Leaves}
 

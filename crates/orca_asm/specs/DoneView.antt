@@ -6,7 +6,7 @@ use Rattle.asm_meaning.specs.declared.faults.AsmCause.{AsmCause}
 use Rattle.asm_meaning.specs.Answer.{Answer, both}
 use Rattle.asm_meaning.specs.State.{State, in_segment, marked}
 use Rattle.asm_meaning.specs.Statement.{marking, alignment_in, aligned, distance_in, moved, listed_kind, with_kind}
-use Rattle.orca_asm.specs.declared.segment.Content.{Content}
+use Rattle.orca_asm.specs.declared.state.Content.{Content}
 use Rattle.orca_asm.specs.ContentView.{content_records, IsContent}
 
 abbrev pub content_answer : Result Content AsmCause → Answer (List Record)

@@ -1,6 +1,6 @@
 -- The header of a segment that ends.
 use Rattle.omf_format.specs.Header.{Fields}
-use Rattle.orca_asm.specs.declared.segment.Open.{Open}
+use Rattle.orca_asm.specs.declared.state.Open.{Open}
 use Rattle.orca_asm.specs.StateView.{header_view}
 
 -- LENGTH is the number of its cells

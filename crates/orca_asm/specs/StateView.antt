@@ -11,8 +11,8 @@ use Rattle.orca_meaning.specs.Line.{Line}
 use Rattle.asm_meaning.specs.declared.directives.Operation.{Operation}
 use Rattle.asm_meaning.specs.State.{Segment, State, bank_size_of, with_label, local_of, within_length}
 use Rattle.asm_meaning.specs.Statement.{IsDone}
-use Rattle.orca_asm.specs.declared.segment.Open.{Open}
-use Rattle.orca_asm.specs.declared.kept.Kept.{Kept}
+use Rattle.orca_asm.specs.declared.state.Open.{Open}
+use Rattle.orca_asm.specs.declared.state.Kept.{Kept}
 use Rattle.orca_asm.specs.ModeView.{widths}
 use Rattle.orca_asm.specs.NamesView.{names_of, outside_of}
 use Rattle.orca_asm.specs.TextView.{limited, kept_text}

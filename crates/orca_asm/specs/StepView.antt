@@ -7,7 +7,7 @@ use Rattle.omf_format.specs.Field.{◌>>=◌}
 use Rattle.asm_meaning.specs.Answer.{Answer}
 use Rattle.asm_meaning.specs.declared.directives.Operation.{Operation}
 use Rattle.asm_meaning.specs.Statement.{IsStep, IsDone}
-use Rattle.orca_asm.specs.declared.kept.Kept.{Kept}
+use Rattle.orca_asm.specs.declared.state.Kept.{Kept}
 use Rattle.orca_asm.specs.StateView.{ShowsState}
 
 -- what an operation leaves, or its first fault

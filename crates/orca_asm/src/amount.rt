@@ -1,7 +1,6 @@
 //! What a formula amounts to: a number, or the expression that is written (ORCA/M reference manual, "Expressions").
 
-ghost use Rattle.std.specs.Prelude.{◌≡◌, ◌≤◌, ◌<◌, ◌^◌, ◌++◌, ◌∷◌, ◌&&◌, [], List, ℕ, length, map, true, false, Some, None, Ok, Err, IfOk, IfSome, OnOk, IsTrue};
-ghost use Rattle.std.specs.List.{list_all};
+ghost use Rattle.std.specs.Prelude.{◌≡◌, ◌≤◌, ◌++◌, ◌∷◌, [], length, map, Ok, IfOk, IfSome, OnOk};
 ghost use Rattle.omf_format.specs.Expression.{AreTerms, IsTerm, term_text, terms_text, Tree, Spells};
 ghost use Rattle.omf_format.specs.Value.{value};
 ghost use Rattle.omf_expr.specs.View.{view};
@@ -9,11 +8,13 @@ ghost use Rattle.asm_meaning.specs.Constant.{amount};
 ghost use Rattle.orca_asm.specs.AmountView.{with_terms, IsFormulaOf, kept_view, amount_view, kept_answer, less_location, written_term, written_terms, all_written, is_number_term, are_numbers, worth_of_value, nowhere, worth_view};
 ghost use Rattle.orca_asm.specs.NamesView.{constants};
 ghost use Rattle.orca_text.specs.View.{term};
+ghost use Rattle.orca_asm.specs.FineView.{IsFineAmount};
+ghost use Rattle.orca_asm.specs.NumberView.{IsTerms, HasAmount, HasNumber};
 
 use crate::names::Known;
 use asm_meaning::AsmCause;
 use omf_expr::{Env, Expr, Term, Value, ValueFault, evaluate, put_term};
-use orca_text::FormulaTerm;
+use orca_text::{Formula, FormulaTerm, Operands, formula_at, is_too_deep};
 use std::alloc::{AllocError, Global};
 
 /// What a formula is worth.
@@ -244,5 +245,60 @@ pub(crate) fn amount_of(
         Worth::Number(n) => Ok(Ok(Amount::Known(n))),
         Worth::Divided => Ok(Err(AsmCause::DivideByZero)),
         Worth::Open => Ok(Ok(Amount::Written(out))),
+    }
+}
+
+/// The formula that a text is, unless it is too deep or has a number that is too large.
+fn formula_in(alloc: Global, text: &[u8]) -> Result<Result<Formula, AsmCause>, AllocError>
+    requires { length text.now ≤ 255 }
+    ensures { IfOk result (IsTerms text.now) }
+{
+    let Some(found) = formula_at(alloc, Operands::Labels, text)? else {
+        return Ok(Err(AsmCause::BadOperand));
+    };
+    if !found.rest.is_empty() {
+        return Ok(Err(AsmCause::BadOperand));
+    }
+    if is_too_deep(1, &found.formula) {
+        return Ok(Err(AsmCause::BadOperand));
+    }
+    if found.large {
+        return Ok(Err(AsmCause::BadNumber));
+    }
+    Ok(Ok(found.formula))
+}
+
+/// What the formula amounts to that a text is.
+pub(crate) fn amount_in(
+    alloc: Global,
+    known: Known<'_>,
+    text: &[u8],
+) -> Result<Result<Amount, AsmCause>, AllocError>
+    requires { length text.now ≤ 255 }
+    ensures amount { IfOk result (HasAmount (constants known.entry) text.now) }
+    ensures fine { IfOk result (λ answer. IfOk answer IsFineAmount) }
+{
+    match formula_in(alloc, text)? {
+        Ok(formula) => {
+            known.know_small();
+            amount_of(alloc, known, 0, formula.terms())
+        }
+        Err(cause) => Ok(Err(cause)),
+    }
+}
+
+/// The number that a text is, where it has to be a constant.
+pub(crate) fn number_in(
+    alloc: Global,
+    known: Known<'_>,
+    text: &[u8],
+) -> Result<Result<u32, AsmCause>, AllocError>
+    requires { length text.now ≤ 255 }
+    ensures { IfOk result (HasNumber (constants known.entry) text.now) }
+{
+    match amount_in(alloc, known, text)? {
+        Ok(Amount::Known(n)) => Ok(Ok(n)),
+        Ok(Amount::Written(_text)) => Ok(Err(AsmCause::UnknownConstant)),
+        Err(cause) => Ok(Err(cause)),
     }
 }

@@ -1,9 +1,11 @@
-//! Which of several faults of one statement is told.
+//! Which of several faults is told.
 
-ghost use Rattle.std.specs.Prelude.{◌≡◌, Ok, Err};
+ghost use Rattle.std.specs.Prelude.{◌≡◌, Err, OnOk, Some};
 ghost use Rattle.asm_meaning.specs.Answer.{rank, earlier, both};
+ghost use Rattle.orca_asm.specs.DcView.{fault_behind, all_behind, all_or};
 
 use asm_meaning::AsmCause;
+use std::alloc::AllocError;
 
 /// The place of a fault in the order of those of one statement.
 fn rank(cause: AsmCause) -> u8
@@ -44,4 +46,64 @@ pub(crate) fn earlier(cause: AsmCause, other: AsmCause) -> AsmCause
         return other;
     }
     cause
+}
+
+/// Both of two answers, or the earlier of their faults.
+pub(crate) fn both<A: Drop, B: Drop>(
+    first: Result<A, AsmCause>,
+    second: Result<B, AsmCause>,
+) -> Result<(A, B), AsmCause>
+    ensures { result ≡ both first second }
+{
+    match first {
+        Ok(a) => match second {
+            Ok(b) => Ok((a, b)),
+            Err(cause) => Err(cause),
+        },
+        Err(cause) => match second {
+            Ok(_b) => Err(cause),
+            Err(other) => Err(earlier(cause, other)),
+        },
+    }
+}
+
+/// Keeps what an answer gives, or its fault if none comes before it.
+pub(crate) fn gather<T: Drop>(
+    out: &mut Vec<T>,
+    fault: &mut Option<AsmCause>,
+    answer: Result<T, AsmCause>,
+) -> Result<(), AllocError>
+    ensures fault { OnOk result (fault.new ≡ fault_behind fault.old answer) }
+    ensures all { OnOk result (out.new.items ≡ all_behind out.old.items answer) }
+{
+    match answer {
+        Ok(value) => {
+            out.push(value)?;
+            Ok(())
+        }
+        Err(cause) => {
+            *fault = Some(first_of(*fault, cause));
+            Ok(())
+        }
+    }
+}
+
+/// The earlier of two faults, if there are two.
+fn first_of(before: Option<AsmCause>, cause: AsmCause) -> AsmCause
+    ensures { Some result ≡ fault_behind {T = Unit {0}} before (Err cause) }
+{
+    match before {
+        Some(before) => earlier(before, cause),
+        None => cause,
+    }
+}
+
+/// All that was given, unless there is a fault.
+pub(crate) fn gathered<T: Drop>(fault: Option<AsmCause>, out: T) -> Result<T, AsmCause>
+    ensures { result ≡ all_or fault out }
+{
+    match fault {
+        Some(cause) => Err(cause),
+        None => Ok(out),
+    }
 }

@@ -23,13 +23,10 @@ ghost use Rattle.orca_asm.specs.GivenView.{given_pieces, given_answer};
 ghost use Rattle.orca_asm.specs.PieceView.{piece};
 
 use crate::amount::{Amount, amount_of};
+use crate::mode::{Kind, Widths, first_mode, is_distance, kind_of, mode_of_number, mode_of_tree, operand_bytes, shift_in};
 use crate::causes::earlier;
 use crate::few::Few;
 use crate::given::{Given, given_once};
-use crate::mode::{
-    Kind, Widths, first_mode, is_distance, kind_of, mode_of_number, mode_of_tree, operand_bytes,
-    shift_in,
-};
 use crate::names::Known;
 use crate::piece::{Piece, ended, number_text};
 use asm_meaning::AsmCause;

@@ -2,43 +2,33 @@
 //! GS/OS Reference, appendix F).
 #![tactic(auto)]
 
-mod act;
 mod amount;
-mod body;
-mod both;
 mod causes;
 mod count;
+mod data;
 mod dc;
-mod defined;
 mod digits;
-mod directive;
-mod doing;
 mod element;
-mod ending;
-mod equate;
+mod equates;
 mod few;
-mod gather;
 mod given;
 mod held;
 mod instruct;
-mod kept;
-mod label;
-mod limits;
 mod lists;
-mod load_name;
-mod marked;
 mod mode;
 mod names;
-mod number;
 mod numbers;
 mod object;
 mod operand;
 mod operation;
 mod piece;
-mod segment;
+mod places;
+mod segments;
 mod source;
+mod state;
 mod statement;
 mod step;
+mod switches;
 mod text;
 
 pub use asm_meaning::{AsmCause, AsmFault};

@@ -14,7 +14,7 @@ ghost use Rattle.orca_asm.specs.NamesView.{constants};
 ghost use Rattle.orca_asm.specs.PieceView.{piece, pieces_answer};
 
 use crate::amount::{Amount, amount_of};
-use crate::gather::{gather, gathered};
+use crate::causes::{gather, gathered};
 use crate::names::Known;
 use crate::piece::{Piece, ended, number_bytes};
 use asm_meaning::AsmCause;

@@ -1,28 +1,40 @@
-//! Operands of directives that are names or switches (ORCA/M reference manual, "Assembler directives").
+//! Names in operands and labels (ORCA/M reference manual, "Assembler directives").
 
-ghost use Rattle.std.specs.Prelude.{◌≡◌, ◌≤◌, ◌++◌, ◌-◌, ◌^◌, [], List, ℕ, length, nat_le, nat_lt, not, codes, bytes_eq, Ok, Err, IfOk};
-ghost use Rattle.omf_format.specs.Header.{is_listed, form_of, alignment_of};
-ghost use Rattle.orca_meaning.specs.Characters.{folded, is_name};
-ghost use Rattle.asm_meaning.specs.Statement.{switch_of, listed_kind, name_of};
+ghost use Rattle.std.specs.Prelude.{◌≡◌, ◌≤◌, length, Some, None, IfOk, MatchOption};
+ghost use Rattle.orca_meaning.specs.Characters.{is_name};
+ghost use Rattle.asm_meaning.specs.Statement.{behind_here, name_of};
 ghost use Rattle.orca_asm.specs.OperandView.{name_answer};
 
-use crate::label::is_name;
 use asm_meaning::AsmCause;
 use omf_base::Name;
-use orca_text::{folded, is_spelled};
+use orca_text::{folded, is_name_start, name_len};
 use std::alloc::{AllocError, Global};
 
-/// ON or OFF, in upper or lower case.
-pub(crate) fn switch_of(text: &[u8]) -> Result<bool, AsmCause>
-    ensures { result ≡ switch_of text.now }
+/// Whether a text is a name.
+#[tactic(auto, unfolding(orca_meaning::specs::Characters::is_name), using(crate::proofs::Labels::all_name_bytes))]
+pub(crate) fn is_name(text: &[u8]) -> bool
+    ensures { result ≡ is_name text.now }
 {
-    if is_spelled(text, b"ON") {
-        return Ok(true);
+    let Some((first, behind)) = text.split_first() else {
+        return false;
+    };
+    is_name_start(*first) && name_len(behind) == behind.len()
+}
+
+/// What stands behind `*+` at the front, with which ORG moves the location counter.
+pub(crate) fn behind_here(text: &[u8]) -> Option<&[u8]>
+    ensures { MatchOption result (behind_here text.now ≡ None) (λ behind. behind_here text.now ≡ Some behind.now) }
+{
+    let Some((first, others)) = text.split_first() else {
+        return None;
+    };
+    let Some((second, behind)) = others.split_first() else {
+        return None;
+    };
+    if *first == b'*' && *second == b'+' {
+        return Some(behind);
     }
-    if is_spelled(text, b"OFF") {
-        return Ok(false);
-    }
-    Err(AsmCause::BadOperand)
+    None
 }
 
 /// A name in upper case.

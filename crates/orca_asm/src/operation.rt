@@ -1,14 +1,23 @@
-//! What a line's operation is.
+//! What a line's operation is, where it may stand, and its label (ORCA/M reference manual, "Assembler directives", "The label
+//! field").
 
-ghost use Rattle.std.specs.Prelude.{◌≡◌, bytes_eq, None};
-ghost use Rattle.std.specs.Option.{option_map};
+ghost use Rattle.std.specs.Prelude.{◌≡◌, bytes_eq, ◌≤◌, length, IfOk, true};
 ghost use Rattle.orca_meaning.specs.Characters.{folded};
 ghost use Rattle.orca_meaning.specs.Operation.{beside};
 ghost use Rattle.asm_meaning.specs.Operations.{directives, ignored, as_ignored, operation_of};
 ghost use Rattle.orca_asm.specs.Tables.{later};
+ghost use Rattle.asm_meaning.specs.Statement.{behind_here, is_some_text, is_labelled, needs_segment, begins_segment, needs_label, label_of};
+ghost use Rattle.orca_asm.specs.OperandView.{name_answer, label_name};
+ghost use Rattle.asm_meaning.specs.State.{State};
+ghost use Rattle.orca_asm.specs.DoneView.{IsSome};
+ghost use Rattle.orca_asm.specs.StateView.{ShowsState};
 
-use asm_meaning::{Class, Directive, Operation, Switch};
-use orca_text::{is_spelled, mnemonic_of};
+use crate::operand::{behind_here, is_name};
+use crate::state::Kept;
+use asm_meaning::{AsmCause, Class, Directive, Operation, Switch};
+use omf_base::Name;
+use orca_text::{folded, is_spelled, mnemonic_of};
+use std::alloc::{AllocError, Global};
 
 /// Whether an operation has this spelling.
 fn is_operation(operation: &[u8], spelling: &[u8]) -> bool
@@ -143,4 +152,126 @@ pub(crate) fn operation_of(operation: &[u8]) -> Option<Operation>
         Some(directive) => Some(Operation::Direct(directive)),
         None => None,
     }
+}
+
+/// Whether a statement has a label.
+#[inline(always)]
+fn is_labelled(label: &[u8]) -> bool
+    ensures { result ≡ is_labelled label.now }
+{
+    match label.split_first() {
+        Some(_) => true,
+        None => false,
+    }
+}
+
+/// Whether an operand begins with `*+`.
+fn begins_here(operand: &[u8]) -> bool
+    ensures { result ≡ is_some_text (behind_here operand.now) }
+{
+    match behind_here(operand) {
+        Some(_) => true,
+        None => false,
+    }
+}
+
+/// Whether a statement may not stand outside segments.
+#[inline(always)]
+pub(crate) fn needs_segment(operation: Operation, label: &[u8], operand: &[u8]) -> bool
+    ensures { result ≡ needs_segment operation label.now operand.now }
+{
+    let directive = match operation {
+        Operation::Instruct(_) => return true,
+        Operation::Direct(directive) => directive,
+    };
+    match directive {
+        Directive::Begin(_) => false,
+        Directive::End => true,
+        Directive::Entry => true,
+        Directive::Using => true,
+        Directive::Equ => true,
+        Directive::Gequ => false,
+        Directive::Constants => true,
+        Directive::Space => true,
+        Directive::Align => is_labelled(label),
+        Directive::Org => is_labelled(label) || begins_here(operand),
+        Directive::Kind => true,
+        Directive::Turn(_) => is_labelled(label),
+        Directive::Nothing => is_labelled(label),
+        Directive::Ignored => is_labelled(label),
+    }
+}
+
+/// Whether a statement begins a segment.
+#[inline(always)]
+pub(crate) fn begins_segment(operation: Operation) -> bool
+    ensures { result ≡ begins_segment operation }
+{
+    match operation {
+        Operation::Direct(Directive::Begin(_)) => true,
+        Operation::Direct(_) => false,
+        Operation::Instruct(_) => false,
+    }
+}
+
+/// Whether a statement needs a label.
+#[inline(always)]
+pub(crate) fn needs_label(operation: Operation) -> bool
+    ensures { result ≡ needs_label operation }
+{
+    match operation {
+        Operation::Direct(Directive::Begin(_)) => true,
+        Operation::Direct(Directive::Entry) => true,
+        Operation::Direct(Directive::Equ) => true,
+        Operation::Direct(Directive::Gequ) => true,
+        Operation::Direct(_) => false,
+        Operation::Instruct(_) => false,
+    }
+}
+
+/// A label in upper case, which is empty where there is none.
+pub(crate) fn label_name(
+    alloc: Global,
+    operation: Operation,
+    text: &[u8],
+) -> Result<Result<Name, AsmCause>, AllocError>
+    requires { length text.now ≤ 255 }
+    ensures { IfOk result (λ answer. name_answer answer ≡ label_name operation text.now) }
+{
+    if text.is_empty() {
+        if needs_label(operation) {
+            return Ok(Err(AsmCause::BadLabel));
+        }
+        let name = folded(alloc, text)?;
+        return Ok(Ok(name));
+    }
+    if is_name(text) {
+        let name = folded(alloc, text)?;
+        return Ok(Ok(name));
+    }
+    Ok(Err(AsmCause::BadLabel))
+}
+
+/// A label in upper case, empty where there is none; `Duplicate` where it can't be defined again.
+pub(crate) fn label_of(
+    alloc: Global,
+    kept: &Kept,
+    operation: Operation,
+    text: &[u8],
+) -> Result<Result<Name, AsmCause>, AllocError>
+    requires { length text.now ≤ 255 }
+    ensures value { IfOk result (λ answer. (state : State) → ShowsState state kept.now → answer ≡ label_of state operation text.now) }
+    ensures some { IfOk result (λ answer. needs_label operation ≡ true → IsSome answer) }
+{
+    if text.is_empty() {
+        return label_name(alloc, operation, text);
+    }
+    if !is_name(text) {
+        return Ok(Err(AsmCause::BadLabel));
+    }
+    let name = folded(alloc, text)?;
+    if kept.is_taken(begins_segment(operation), name.bytes()) {
+        return Ok(Err(AsmCause::Duplicate));
+    }
+    Ok(Ok(name))
 }

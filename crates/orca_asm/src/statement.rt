@@ -10,8 +10,8 @@ ghost use Rattle.orca_asm.specs.GivenView.{given_answer, parts_answer};
 ghost use Rattle.orca_asm.specs.ModeView.{widths};
 ghost use Rattle.orca_asm.specs.NamesView.{constants};
 
+use crate::causes::{gather, gathered};
 use crate::dc::element_at;
-use crate::gather::{gather, gathered};
 use crate::given::{Given, Part};
 use crate::instruct::instruct;
 use crate::mode::Widths;

@@ -1,77 +1,30 @@
-//! What a line leaves for the lines behind it (ORCA/M reference manual, "The assembly language statement").
+//! What lines leave, one behind another, and the object at their end (ORCA/M reference manual, "The assembly language
+//! statement").
 
-ghost use Rattle.std.specs.Prelude.{◌≡◌, ◌≤◌, [], List, ℕ, length, true, false, Some, IfOk, OnOk};
+ghost use Rattle.std.specs.Prelude.{◌≡◌, ◌≤◌, [], List, length, true, false, Some, IfOk, OnOk, Err};
 ghost use Rattle.orca_meaning.specs.Line.{Line, LiesIn, HaveFields, part};
 ghost use Rattle.orca_text.specs.OperandView.{line_operand};
 ghost use Rattle.orca_text.specs.View.{line};
 ghost use Rattle.asm_meaning.specs.declared.directives.Operation.TheVariants.{Direct};
-ghost use Rattle.asm_meaning.specs.declared.directives.Directive.TheVariants as directives;
 ghost use Rattle.asm_meaning.specs.Operations.{operation_of};
 ghost use Rattle.asm_meaning.specs.State.{State};
 ghost use Rattle.asm_meaning.specs.Statement.{needs_label, is_misplaced};
 ghost use Rattle.orca_asm.specs.DoneView.{IsSome};
 ghost use Rattle.orca_asm.specs.StateView.{ShowsState, IsShortOption, IsLeft};
 ghost use Rattle.orca_asm.specs.StepView.{Steps, IsPlacedAs};
+ghost use Rattle.orca_asm.specs.AssembleView.{HasStepped, IsLast, IsAssembled};
 
-use crate::defined::label_of;
-use crate::directive::{entering, rest, turning};
-use crate::doing::{
-    do_align, do_begin, do_constant, do_end, do_equate, do_kind, do_org, do_space, do_using,
-};
-use crate::kept::Kept;
-use crate::label::{begins_segment, needs_segment};
-use crate::marked::{do_constants, do_instruct};
-use crate::operation::operation_of;
-use asm_meaning::{AsmCause, Directive, Operation};
+use crate::data::{do_constants, do_instruct, do_space, rest};
+use crate::equates::{do_equ, do_gequ};
+use crate::operation::{begins_segment, label_of, needs_segment, operation_of};
+use crate::places::{do_align, do_org};
+use crate::segments::{do_begin, do_end, do_entry, do_kind, do_using};
+use crate::state::Kept;
+use crate::switches::turning;
+use asm_meaning::{AsmCause, AsmFault, Directive, Operation};
 use omf_base::Name;
-use orca_text::SourceLine;
+use orca_text::{Lines, SourceLine};
 use std::alloc::{AllocError, Global};
-
-/// EQU.
-fn do_equ(
-    alloc: Global,
-    kept: &mut Kept,
-    label: Result<Name, AsmCause>,
-    text: &[u8],
-) -> Result<Result<(), AsmCause>, AllocError>
-    requires text { length text.now ≤ 255 }
-    requires some { IsSome label }
-    requires short { IsShortOption kept.old.segment }
-    ensures { IfOk result (λ done. (state : State) (l : Line) → ShowsState state kept.old → IsLeft state l (Direct directives.Equ) label text.now done kept.new) }
-{
-    do_equate(alloc, kept, false, label, text)
-}
-
-/// ENTRY.
-fn do_entry(
-    alloc: Global,
-    kept: &mut Kept,
-    label: Result<Name, AsmCause>,
-) -> Result<Result<(), AsmCause>, AllocError>
-    requires some { IsSome label }
-    requires short { IsShortOption kept.old.segment }
-    ensures { IfOk result (λ done. (state : State) (l : Line) (text : List ℕ) → ShowsState state kept.old → IsLeft state l (Direct directives.Entry) label text done kept.new) }
-{
-    entering(alloc, kept, label)
-}
-
-/// GEQU.
-fn do_gequ(
-    alloc: Global,
-    kept: &mut Kept,
-    label: Result<Name, AsmCause>,
-    text: &[u8],
-) -> Result<Result<(), AsmCause>, AllocError>
-    requires text { length text.now ≤ 255 }
-    requires some { IsSome label }
-    requires short { IsShortOption kept.old.segment }
-    ensures { IfOk result (λ done. (state : State) (l : Line) → ShowsState state kept.old → IsLeft state l (Direct directives.Gequ) label text.now done kept.new) }
-{
-    if kept.is_open() {
-        return do_equate(alloc, kept, true, label, text);
-    }
-    do_constant(alloc, kept, label, text)
-}
 
 /// A directive that needs no label.
 fn do_unlabelled(
@@ -201,4 +154,77 @@ pub(crate) fn step(
     }
     let label = label_of(alloc, kept, operation, text)?;
     finish(alloc, kept, pending, operation, label, of)
+}
+
+/// A fault at a line.
+fn fault_at(of: &SourceLine, cause: AsmCause) -> AsmFault
+    ensures { result ≡ record { cause = cause; file = of.now.file; line = of.now.line } }
+{
+    AsmFault {
+        cause,
+        file: of.file,
+        line: of.line,
+    }
+}
+
+/// What lines leave, or the fault of the first that has one.
+fn step_all(alloc: Global, lines: &Lines) -> Result<Result<Kept, AsmFault>, AllocError>
+    ensures { IfOk result (HasStepped lines.now) }
+{
+    let mut kept = Kept::new(alloc);
+    let mut pending: Vec<u8> = Vec::new(alloc);
+    let mut place: u32 = 0;
+    let count = lines.count();
+    'lines: while place < count {
+        let line = match lines.get(place) {
+            Some(line) => line,
+            None => unreachable!(),
+        };
+        match step(alloc, &mut kept, &mut pending, line)? {
+            Ok(()) => {}
+            Err(cause) => return Ok(Err(fault_at(line, cause))),
+        }
+        place += 1;
+    }
+    Ok(Ok(kept))
+}
+
+/// The object that lines have left: the first of their faults is that a segment has no END, then that it is too long.
+fn object_of(kept: Kept) -> Result<Vec<u8>, AsmFault>
+    ensures { (state : State) → ShowsState state kept → IsLast state result }
+{
+    if let Some(open) = &kept.segment {
+        return Err(AsmFault {
+            cause: AsmCause::Unclosed,
+            file: open.file,
+            line: open.line,
+        });
+    }
+    if kept.object.long {
+        return Err(AsmFault {
+            cause: AsmCause::TooLong,
+            file: 0,
+            line: 0,
+        });
+    }
+    Ok(kept.object.bytes)
+}
+
+/// The object that lines have left, or the fault of the first that has one.
+fn answered(stepped: Result<Kept, AsmFault>) -> Result<Vec<u8>, AsmFault>
+    ensures assembled { (lines : List Line) → HasStepped lines stepped → IsAssembled lines result }
+    ensures fault { (fault : AsmFault) → stepped ≡ Err fault → result ≡ Err fault }
+{
+    match stepped {
+        Ok(kept) => object_of(kept),
+        Err(fault) => Err(fault),
+    }
+}
+
+/// The object of expanded lines, or the first fault of theirs.
+pub(crate) fn assembled(alloc: Global, lines: &Lines) -> Result<Result<Vec<u8>, AsmFault>, AllocError>
+    ensures { IfOk result (IsAssembled lines.now) }
+{
+    let stepped = step_all(alloc, lines)?;
+    Ok(answered(stepped))
 }

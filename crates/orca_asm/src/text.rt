@@ -1,14 +1,8 @@
-//! The bytes of records, as far as a file may have them.
+//! The bytes of records, as far as a file may have them, and how many cells they give (GS/OS Reference, appendix F, "Segment
+//! body").
 
-ghost use Rattle.std.specs.Prelude.{◌≡◌, ◌≤◌, ◌<◌, ◌++◌, ◌∷◌, [], List, ℕ, length, true, false, Some, None, IfOk, OnOk};
+ghost use Rattle.std.specs.Prelude.{◌≡◌, ◌∷◌};
 ghost use Rattle.byteorder.specs.Endian.{little_bytes};
-ghost use Rattle.omf_format.specs.Field.{written_layout};
-ghost use Rattle.omf_format.specs.Record.{Const, Formula, spelling, IsRecord};
-ghost use Rattle.omf_records.specs.View.{view};
-ghost use Rattle.asm_meaning.specs.Object.{records_text};
-ghost use Rattle.asm_meaning.specs.Pieces.{constant_records};
-ghost use Rattle.orca_asm.specs.FewView.{few_bytes};
-ghost use Rattle.orca_asm.specs.TextView.{limited, kept_text};
 
 use crate::few::Few;
 use omf_records::{Rec, put_record};
@@ -35,6 +29,15 @@ fn with_distance(opcode: u8, code: u8, count: u8, n: u32) -> [u8; 8]
 }
 
 impl Text {
+    ghost use Rattle.std.specs.Prelude.{◌≡◌, ◌++◌, ◌∷◌, [], List, ℕ, None, OnOk};
+    ghost use Rattle.omf_format.specs.Field.{written_layout};
+    ghost use Rattle.omf_format.specs.Record.{Const, Formula, spelling, IsRecord};
+    ghost use Rattle.omf_records.specs.View.{view};
+    ghost use Rattle.asm_meaning.specs.Object.{records_text};
+    ghost use Rattle.asm_meaning.specs.Pieces.{constant_records};
+    ghost use Rattle.orca_asm.specs.FewView.{few_bytes};
+    ghost use Rattle.orca_asm.specs.TextView.{limited, kept_text};
+
     /// None.
     #[tactic(auto, using(crate::proofs::Limited::limited_nothing))]
     pub(crate) fn new(alloc: Global) -> Text
@@ -120,5 +123,47 @@ impl Text {
     {
         self.bytes.clear();
         self.long = true;
+    }
+}
+
+/// The bytes of records, and how many cells they give.
+#[derive(Drop)]
+pub(crate) struct Body {
+    pub(crate) text: Text,
+    pub(crate) cells: u64,
+}
+
+impl Body {
+    ghost use Rattle.std.specs.Prelude.{◌≡◌, ◌+◌, ◌<◌, ◌^◌, ◌++◌, ◌∷◌, [], List, OnOk};
+    ghost use Rattle.omf_format.specs.Field.{written_layout};
+    ghost use Rattle.omf_format.specs.Record.{Record, IsRecord};
+    ghost use Rattle.omf_records.specs.View.{view};
+    ghost use Rattle.link_meaning.specs.Sizes.{size_at};
+    ghost use Rattle.orca_asm.specs.BodyView.{ShowsBody};
+
+    /// No records.
+    #[tactic(auto, using(crate::proofs::Bodies::no_records))]
+    pub(crate) fn new(alloc: Global) -> Body
+        ensures body { ShowsBody [] result }
+        ensures cells { result.cells ≡ 0 }
+    {
+        Body {
+            text: Text::new(alloc),
+            cells: 0,
+        }
+    }
+
+    /// One more record, which gives so many cells.
+    #[tactic(auto, using(crate::proofs::Bodies::one_more))]
+    pub(crate) fn put(&mut self, rec: &Rec, size: u64) -> Result<(), AllocError>
+        requires record { IsRecord written_layout (view rec.now) }
+        requires size { size ≡ size_at self.old.cells (view rec.now) }
+        requires room { self.old.cells + size < 2 ^ 64 }
+        ensures body { OnOk result ((records : List Record) → ShowsBody records self.old → ShowsBody (records ++ view rec.now ∷ []) self.new) }
+        ensures cells { OnOk result (self.new.cells ≡ self.old.cells + size) }
+    {
+        self.text.put(rec)?;
+        self.cells += size;
+        Ok(())
     }
 }
