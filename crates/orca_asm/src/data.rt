@@ -207,7 +207,7 @@ pub(crate) fn rest(
 }
 
 /// DS, by its number.
-pub(crate) fn space(
+fn space(
     alloc: Global,
     kept: &mut Kept,
     label: Result<Name, AsmCause>,

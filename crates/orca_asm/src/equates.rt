@@ -19,7 +19,6 @@ ghost use Rattle.orca_asm.specs.DoingView.{IsEquated, IsConstant};
 use crate::amount::{Amount, amount_in, number_in};
 use crate::causes::both;
 use crate::piece::{ended, number_text};
-use crate::segments::using;
 use crate::state::Kept;
 use asm_meaning::AsmCause;
 use omf_base::Name;
@@ -69,7 +68,7 @@ impl Kept {
     ghost use Rattle.orca_asm.specs.EquateView.{with_constant};
 
     /// EQU and GEQU in a segment.
-    pub(crate) fn equate(
+    fn equate(
         &mut self,
         alloc: Global,
         global: bool,
@@ -100,7 +99,7 @@ impl Kept {
     }
 
     /// GEQU outside segments.
-    pub(crate) fn equate_outside(
+    fn equate_outside(
         &mut self,
         alloc: Global,
         label: &[u8],
@@ -126,7 +125,7 @@ impl Kept {
 }
 
 /// EQU, and GEQU in a segment.
-pub(crate) fn do_equate(
+fn do_equate(
     alloc: Global,
     kept: &mut Kept,
     global: bool,
@@ -149,7 +148,7 @@ pub(crate) fn do_equate(
 }
 
 /// GEQU outside segments.
-pub(crate) fn do_constant(
+fn do_constant(
     alloc: Global,
     kept: &mut Kept,
     label: Result<Name, AsmCause>,

@@ -315,7 +315,7 @@ impl Given {
 
 /// Appends LOCAL for a label, if there is one: its length is at most $FFFF, and it isn't private.
 #[inline(always)]
-pub(crate) fn put_local(out: &mut Text, label: &Name, form: u8, size: u32) -> Result<(), AllocError>
+fn put_local(out: &mut Text, label: &Name, form: u8, size: u32) -> Result<(), AllocError>
     requires { IsLabelText label.now }
     ensures { OnOk result ((text : List ℕ) → kept_text out.old ≡ limited text → kept_text out.new ≡ limited (text ++ records_text (local_of label.now form size))) }
 {

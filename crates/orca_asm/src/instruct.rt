@@ -105,7 +105,7 @@ fn with_record(opcode: u8, mnemonic: Mnemonic, of: Kind, width: u8, expr: Vec<u8
 
 /// All bytes of an instruction whose operand is this number.
 #[inline(always)]
-pub(crate) fn with_number(
+fn with_number(
     mnemonic: Mnemonic,
     mode: Mode,
     prefix: Prefix,
@@ -121,7 +121,7 @@ pub(crate) fn with_number(
 
 /// The opcode, and the record of an operand with these terms.
 #[inline(always)]
-pub(crate) fn with_tree(
+fn with_tree(
     mnemonic: Mnemonic,
     mode: Mode,
     prefix: Prefix,
@@ -137,7 +137,7 @@ pub(crate) fn with_tree(
 
 /// An instruction whose operand is a number, in this mode. A branch has its record for a constant too.
 #[inline(always)]
-pub(crate) fn with_known(
+fn with_known(
     alloc: Global,
     of: Widths,
     mnemonic: Mnemonic,
@@ -158,7 +158,7 @@ pub(crate) fn with_known(
 
 /// An instruction with one formula, which amounts to this, in one of the modes that it is offered, of which this is the first.
 #[inline(always)]
-pub(crate) fn with_amount(
+fn with_amount(
     alloc: Global,
     of: Widths,
     mnemonic: Mnemonic,

@@ -22,7 +22,7 @@ use orca_text::{Formula, Operands, behind_byte, formula_at, is_too_deep};
 use std::alloc::{AllocError, Global};
 
 /// What a formula amounts to, unless it is too deep or has a number that is too large.
-pub(crate) fn judged_amount(
+fn judged_amount(
     alloc: Global,
     known: Known<'_>,
     formula: &Formula,

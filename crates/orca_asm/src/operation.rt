@@ -216,7 +216,7 @@ pub(crate) fn begins_segment(operation: Operation) -> bool
 
 /// Whether a statement needs a label.
 #[inline(always)]
-pub(crate) fn needs_label(operation: Operation) -> bool
+fn needs_label(operation: Operation) -> bool
     ensures { result ≡ needs_label operation }
 {
     match operation {
@@ -230,7 +230,7 @@ pub(crate) fn needs_label(operation: Operation) -> bool
 }
 
 /// A label in upper case, which is empty where there is none.
-pub(crate) fn label_name(
+fn label_name(
     alloc: Global,
     operation: Operation,
     text: &[u8],

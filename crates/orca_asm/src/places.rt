@@ -19,7 +19,7 @@ use omf_base::Name;
 use std::alloc::{AllocError, Global};
 
 /// Of what the address of a segment with this ALIGN is a multiple.
-pub(crate) fn alignment_of(align: u32) -> u32
+fn alignment_of(align: u32) -> u32
     ensures { result ≡ alignment_of align }
 {
     match align {
@@ -37,7 +37,7 @@ impl Kept {
     ghost use Rattle.orca_asm.specs.ActView.{IsNear};
 
     /// An alignment: a power of two up to $10000, and in a segment up to its own.
-    pub(crate) fn alignment(&self, n: u32) -> Result<u32, AsmCause>
+    fn alignment(&self, n: u32) -> Result<u32, AsmCause>
         ensures value { (state : State) → ShowsState state self.now → result ≡ alignment_in state n }
         ensures some { IfOk result (λ n. 1 ≤ n) }
     {
@@ -52,7 +52,7 @@ impl Kept {
     }
 
     /// ALIGN.
-    pub(crate) fn align(&mut self, alloc: Global, label: &[u8], n: u32) -> Result<(), AllocError>
+    fn align(&mut self, alloc: Global, label: &[u8], n: u32) -> Result<(), AllocError>
         requires label { length label.now ≤ 255 }
         requires some { 1 ≤ n }
         requires short { IsShortOption self.old.segment }
@@ -67,7 +67,7 @@ impl Kept {
     }
 
     /// A distance of ORG: in a segment one below $80000000.
-    pub(crate) fn distance(&self, n: u32) -> Result<u32, AsmCause>
+    fn distance(&self, n: u32) -> Result<u32, AsmCause>
         ensures value { (state : State) → ShowsState state self.now → result ≡ distance_in state.segment n }
         ensures near { IfOk result (IsNear self.now.segment) }
     {
@@ -78,7 +78,7 @@ impl Kept {
     }
 
     /// ORG.
-    pub(crate) fn org(&mut self, alloc: Global, label: &[u8], n: u32) -> Result<(), AllocError>
+    fn org(&mut self, alloc: Global, label: &[u8], n: u32) -> Result<(), AllocError>
         requires label { length label.now ≤ 255 }
         requires near { IsNear self.old.segment n }
         requires short { IsShortOption self.old.segment }
@@ -94,7 +94,7 @@ impl Kept {
 }
 
 /// ALIGN, by its number.
-pub(crate) fn aligning(
+fn aligning(
     alloc: Global,
     kept: &mut Kept,
     label: Result<Name, AsmCause>,
@@ -146,7 +146,7 @@ fn distance_in(alloc: Global, kept: &Kept, text: &[u8]) -> Result<Result<u32, As
 }
 
 /// ORG, by its number.
-pub(crate) fn moving(
+fn moving(
     alloc: Global,
     kept: &mut Kept,
     label: Result<Name, AsmCause>,

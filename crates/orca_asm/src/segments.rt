@@ -14,7 +14,6 @@ ghost use Rattle.asm_meaning.specs.declared.directives.Directive.TheVariants as 
 ghost use Rattle.orca_asm.specs.StateView.{ShowsState, IsShortOption, IsLeft, Leaves};
 ghost use Rattle.orca_asm.specs.DoneView.{IsSome, kinded_by, using_by};
 ghost use Rattle.orca_asm.specs.DoingView.{ending};
-ghost use Rattle.orca_text.specs.View.{line};
 
 use crate::amount::number_in;
 use crate::causes::{both, earlier};
@@ -32,7 +31,7 @@ use std::alloc::{AllocError, Global};
 use std::mem;
 
 /// KIND of a class.
-pub(crate) fn kind_of(class: Class) -> u16
+fn kind_of(class: Class) -> u16
     ensures kind { result ≡ kind_of class }
     ensures listed { is_listed (form_of result) ≡ true }
 {
@@ -100,7 +99,7 @@ fn padded(text: &[u8]) -> [u8; 10]
 
 /// A name of at most ten bytes, with spaces up to ten; no operand is ten spaces.
 #[tactic(auto, unfolding(asm_meaning::specs::Statement::load_name_of))]
-pub(crate) fn load_name_of(text: &[u8]) -> Result<[u8; 10], AsmCause>
+fn load_name_of(text: &[u8]) -> Result<[u8; 10], AsmCause>
     ensures { result ≡ load_name_of text.now }
 {
     if text.is_empty() {
@@ -120,7 +119,7 @@ fn is_listed(form: u32) -> bool
 }
 
 /// KIND has two bytes, and its type is one that is listed.
-pub(crate) fn listed_kind(n: u32) -> Result<u16, AsmCause>
+fn listed_kind(n: u32) -> Result<u16, AsmCause>
     ensures kind { result ≡ listed_kind n }
     ensures listed { IfOk result (λ kind. is_listed (form_of kind) ≡ true) }
 {
@@ -143,7 +142,7 @@ impl Kept {
     ghost use Rattle.asm_meaning.specs.Statement.{with_kind};
 
     /// START and its kin.
-    pub(crate) fn begin(
+    fn begin(
         &mut self,
         alloc: Global,
         file: u32,
@@ -180,7 +179,7 @@ impl Kept {
     }
 
     /// END.
-    pub(crate) fn end(&mut self, alloc: Global, label: &[u8]) -> Result<(), AllocError>
+    fn end(&mut self, alloc: Global, label: &[u8]) -> Result<(), AllocError>
         requires label { length label.now ≤ 255 }
         requires short { IsShortOption self.old.segment }
         ensures { OnOk result ((state : State) → ShowsState state self.old → ShowsState (closed (in_segment (marked label.now 0x4E (End ∷ [])) state)) self.new) }
@@ -197,7 +196,7 @@ impl Kept {
     }
 
     /// KIND.
-    pub(crate) fn kind(&mut self, alloc: Global, label: &[u8], n: u16) -> Result<(), AllocError>
+    fn kind(&mut self, alloc: Global, label: &[u8], n: u16) -> Result<(), AllocError>
         requires label { length label.now ≤ 255 }
         requires listed { is_listed (form_of n) ≡ true }
         requires short { IsShortOption self.old.segment }
@@ -212,7 +211,7 @@ impl Kept {
     }
 
     /// ENTRY.
-    pub(crate) fn entry(&mut self, alloc: Global, label: &[u8]) -> Result<(), AllocError>
+    fn entry(&mut self, alloc: Global, label: &[u8]) -> Result<(), AllocError>
         requires some { 1 ≤ length label.now }
         requires label { length label.now ≤ 255 }
         requires short { IsShortOption self.old.segment }
@@ -280,7 +279,7 @@ pub(crate) fn do_end(
 }
 
 /// ENTRY.
-pub(crate) fn entering(
+fn entering(
     alloc: Global,
     kept: &mut Kept,
     label: Result<Name, AsmCause>,
@@ -312,7 +311,7 @@ pub(crate) fn do_entry(
 }
 
 /// USING, by the name of its operand.
-pub(crate) fn using(
+fn using(
     alloc: Global,
     kept: &mut Kept,
     label: Result<Name, AsmCause>,
@@ -344,7 +343,7 @@ pub(crate) fn do_using(
 }
 
 /// KIND, by its number.
-pub(crate) fn kinding(
+fn kinding(
     alloc: Global,
     kept: &mut Kept,
     label: Result<Name, AsmCause>,

@@ -133,7 +133,7 @@ impl Open {
     }
 
     /// LOCAL of a label, where the statement has one: its length, as far as two bytes hold it, and its type.
-    pub(crate) fn put_local(&mut self, label: &[u8], form: u8, size: u64) -> Result<(), AllocError>
+    fn put_local(&mut self, label: &[u8], form: u8, size: u64) -> Result<(), AllocError>
         requires label { length label.now ≤ 255 }
         requires short { self.old.body.cells ≤ 0xFFFFFF }
         ensures segment { OnOk result ((s : Segment) → ShowsSegment s self.old → ShowsSegment (with_records (local_of label.now form size) s) self.new) }
@@ -153,7 +153,7 @@ impl Open {
     }
 
     /// A label, with its LOCAL.
-    pub(crate) fn mark(
+    fn mark(
         &mut self,
         alloc: Global,
         label: &[u8],

@@ -132,7 +132,7 @@ fn finish(
 }
 
 /// What a line leaves, or its first fault.
-pub(crate) fn step(
+fn step(
     alloc: Global,
     kept: &mut Kept,
     pending: &mut Vec<u8>,

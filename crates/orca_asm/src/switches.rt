@@ -13,7 +13,7 @@ use orca_text::is_spelled;
 use std::alloc::{AllocError, Global};
 
 /// ON or OFF, in upper or lower case.
-pub(crate) fn switch_of(text: &[u8]) -> Result<bool, AsmCause>
+fn switch_of(text: &[u8]) -> Result<bool, AsmCause>
     ensures { result ≡ switch_of text.now }
 {
     if is_spelled(text, b"ON") {
@@ -31,7 +31,7 @@ impl Kept {
     ghost use Rattle.orca_asm.specs.StateView.{ShowsState, IsShortOption};
 
     /// LONGA, LONGI and MSB, with a label.
-    pub(crate) fn turn(
+    fn turn(
         &mut self,
         alloc: Global,
         label: &[u8],
