@@ -6,7 +6,7 @@ use Rattle.asm_meaning.specs.declared.faults.AsmCause.TheVariants.{BadLabel, Dup
 use Rattle.asm_meaning.specs.Answer.{Answer}
 use Rattle.asm_meaning.specs.State.{State}
 use Rattle.asm_meaning.specs.Statement.{label_of, free_label, is_taken, needs_label}
-use Rattle.orca_asm.specs.OperandView.{label_name}
+use Rattle.orca_asm.specs.OperandView as view
 use Rattle.orca_asm.specs.DoneView.{IsSome}
 use Rattle.orca_asm.proofs.ByFormulas.{empty_list}
 
@@ -16,15 +16,15 @@ fault = Err BadLabel
 abbrev label : List ℕ → Answer (List ℕ)
 label text = Ok text
 
--- none
-pub no_label : (state : State) (operation : Operation) (text : List ℕ) (answer : Answer (List ℕ)) → eqb (length text) 0 ≡ true → answer ≡ label_name operation text → answer ≡ label_of state operation text
-no_label state operation text answer none is =
-    let empty = empty_list text none in
-    is ∙ ap (label_name operation) empty ∙ sym (ap (label_of state operation) empty)
+abbrev missing : Operation → Answer (List ℕ)
+missing = view.no_label
 
-pub no_label_some : (operation : Operation) (text : List ℕ) (answer : Answer (List ℕ)) → eqb (length text) 0 ≡ true → answer ≡ label_name operation text → needs_label operation ≡ true → IsSome answer
-no_label_some operation text answer none is needs =
-    subst IsSome (sym (is ∙ ap (label_name operation) (empty_list text none) ∙ ap (λ (b : Bool). cond b fault (label [])) needs)) tt
+-- none
+pub no_label : (state : State) (operation : Operation) (text : List ℕ) (answer : Answer (List ℕ)) → eqb (length text) 0 ≡ true → answer ≡ missing operation → answer ≡ label_of state operation text
+no_label state operation text answer none is = is ∙ sym (ap (label_of state operation) (empty_list text none))
+
+pub no_label_some : (operation : Operation) (answer : Answer (List ℕ)) → answer ≡ missing operation → needs_label operation ≡ true → IsSome answer
+no_label_some operation answer is needs = subst IsSome (sym (is ∙ ap (λ (b : Bool). cond b fault (label [])) needs)) tt
 
 -- no name
 pub bad_label : (state : State) (operation : Operation) (text : List ℕ) → eqb (length text) 0 ≡ false → is_name text ≡ false → fault ≡ label_of state operation text

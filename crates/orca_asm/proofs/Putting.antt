@@ -139,28 +139,6 @@ left_more old now new pending waits more all left a others l parts step = record
   plain = (plain_append a others (subst ArePlainPieces parts l.plain)).1;
 }
 
--- ---- labels
-
-pub no_local : (label : List ℕ) (form size : ℕ) (old : Option (List ℕ)) → label ≡ [] → Grows old old (records_text (local_of label form size))
-no_local label form size old none text is =
-    is ∙ ap limited (sym (append-nil text)) ∙ ap (λ (l : List ℕ). limited (text ++ l)) (sym (ap (λ (n : List ℕ). records_text (local_of n form size)) none ∙ text_none))
-
-pub some_local : (label : List ℕ) (form size : ℕ) (old new : Option (List ℕ)) → label ≢ [] → Grows old new (spelling written_layout (Label false label (min size 0xFFFF) form 0)) → Grows old new (records_text (local_of label form size))
-some_local [] form size old new some grows text is = absurd (some refl)
-some_local (byte ∷ label) form size old new some grows text is =
-    grows text is ∙ ap (λ (l : List ℕ). limited (text ++ l)) (sym (one_text (Label false (byte ∷ label) (min size 0xFFFF) form 0)))
-
-pub both_grow : (old one two : Option (List ℕ)) (a b c : List Record) → Grows old one (records_text a) → Grows one two (records_text b) → a ≡ c → Grows old two (records_text (c ++ b))
-both_grow old one two a b c first second same text is =
-    second (text ++ records_text a) (first text is)
-    ∙ ap limited (append_assoc text (records_text a) (records_text b) ∙ ap (λ (x : List Record). text ++ (records_text x ++ records_text b)) same ∙ ap (λ (l : List ℕ). text ++ l) (sym (text_append c b)))
-
-pub local_put : (label name : List ℕ) (form size n : ℕ) (old new : Option (List ℕ)) → name ≡ label → n ≡ min size 0xFFFF → name ≢ [] → Grows old new (spelling written_layout (Label false name n form 0))
-    → Grows old new (records_text (local_of label form size))
-local_put label name form size n old new same n_is some grows =
-    some_local label form size old new (λ none. some (same ∙ none))
-    (subst (λ (l : List ℕ). Grows old new (spelling written_layout (Label false l (min size 0xFFFF) form 0))) same (subst (λ (k : ℕ). Grows old new (spelling written_layout (Label false name k form 0))) n_is grows))
-
 pub puts_same : (old new : Option (List ℕ)) (p q : List ℕ) (a b : List Piece) → a ≡ b → Puts old p a new q → Puts old p b new q
 puts_same old new p q a b same puts = subst (λ (l : List Piece). Puts old p l new q) same puts
 

@@ -6,7 +6,6 @@ ghost use Rattle.orca_meaning.specs.Line.{Line, LiesIn};
 ghost use Rattle.orca_text.specs.OperandView.{line_mnemonic, line_operand};
 ghost use Rattle.asm_meaning.specs.declared.directives.Operation.TheVariants.{Instruct, Direct};
 ghost use Rattle.asm_meaning.specs.declared.directives.Directive.TheVariants.{Constants};
-ghost use Rattle.asm_meaning.specs.laws.Sound.{IsLabelText};
 ghost use Rattle.asm_meaning.specs.State.{State};
 ghost use Rattle.orca_asm.specs.MarkView.{giving, IsPlainAnswer};
 ghost use Rattle.orca_asm.specs.StateView.{ShowsState, IsShortOption, IsLeft, Leaves};
@@ -16,7 +15,7 @@ ghost use Rattle.asm_meaning.specs.declared.directives.Directive.TheVariants as 
 
 use crate::amount::number_in;
 use crate::causes::both;
-use crate::given::{Given, labelled, put_marked};
+use crate::given::{Given, labelled};
 use crate::state::{Content, Kept, Open};
 use crate::statement::{constants_given, instruction_given};
 use asm_meaning::AsmCause;
@@ -29,7 +28,6 @@ const TOO_MANY: u32 = 0x100_0000;
 
 impl Open {
     ghost use Rattle.std.specs.Prelude.{◌≡◌, ◌≤◌, [], ℕ, OnOk, ◌<◌};
-    ghost use Rattle.asm_meaning.specs.laws.Sound.{IsLabelText};
     ghost use Rattle.orca_asm.specs.GivenView.{given_pieces, given_records};
     ghost use Rattle.asm_meaning.specs.Pieces.{length_at};
     ghost use Rattle.asm_meaning.specs.laws.PieceLaws.{ArePlainPieces};
@@ -40,31 +38,27 @@ impl Open {
     fn mark_given(
         &mut self,
         alloc: Global,
-        pending: &mut Vec<u8>,
         label: &Name,
         form: u8,
         given: &Given,
         size: u32,
     ) -> Result<(), AllocError>
-        requires label { IsLabelText label.now }
         requires plain { ArePlainPieces (given_pieces given.now) }
         requires size { (at : ℕ) → size ≡ length_at at (given_records given.now) }
         requires few { size < 0x1000000 }
         requires short { self.old.body.cells ≤ 0xFFFFFF }
-        requires none { pending.old.items ≡ [] }
-        ensures segment { OnOk result ((s : Segment) → ShowsSegment s self.old → ShowsSegment (marked label.now form (given_records given.now) s) self.new) }
-        ensures none { OnOk result (pending.new.items ≡ []) }
+        ensures { OnOk result ((s : Segment) → ShowsSegment s self.old → ShowsSegment (marked label.now form (given_records given.now) s) self.new) }
     {
-        self.define(alloc, label.bytes(), None)?;
-        put_marked(&mut self.body.text, pending, label, form, given, size)?;
-        self.body.cells += u64::from(size);
+        let cells = u64::from(size);
+        self.mark(alloc, label.bytes(), form, cells)?;
+        given.put(&mut self.body.text, &mut self.pending)?;
+        self.body.cells += cells;
         Ok(())
     }
 }
 
 impl Kept {
     ghost use Rattle.std.specs.Prelude.{◌≡◌, [], IfOk, OnOk, Ok};
-    ghost use Rattle.asm_meaning.specs.laws.Sound.{IsLabelText};
     ghost use Rattle.asm_meaning.specs.State.{State, in_segment, marked};
     ghost use Rattle.orca_asm.specs.GivenView.{given_pieces, given_records};
     ghost use Rattle.orca_asm.specs.StateView.{ShowsState, IsShortOption, Leaves};
@@ -74,35 +68,24 @@ impl Kept {
     fn mark_given(
         &mut self,
         alloc: Global,
-        pending: &mut Vec<u8>,
         label: &Name,
         form: u8,
         given: &Given,
     ) -> Result<Result<(), AsmCause>, AllocError>
-        requires label { IsLabelText label.now }
         requires plain { ArePlainPieces (given_pieces given.now) }
         requires short { IsShortOption self.old.segment }
-        requires none { pending.old.items ≡ [] }
-        ensures left { IfOk result (λ done. (state : State) → ShowsState state self.old → Leaves done self.new (Ok (in_segment (marked label.now form (given_records given.now)) state))) }
-        ensures none { OnOk result (pending.new.items ≡ []) }
+        ensures { IfOk result (λ done. (state : State) → ShowsState state self.old → Leaves done self.new (Ok (in_segment (marked label.now form (given_records given.now)) state))) }
     {
         let size = given.cells();
         if let Some(open) = &mut self.segment {
             if size >= TOO_MANY {
                 return Ok(Err(AsmCause::SegmentTooLong));
             }
-            open.mark_given(alloc, pending, label, form, given, size)?;
+            open.mark_given(alloc, label, form, given, size)?;
             return Ok(Ok(()));
         }
         Ok(Ok(()))
     }
-}
-
-/// A label fits a record.
-fn know_label(label: &Name)
-    ensures { IsLabelText label.now }
-{
-    let _bytes = label.bytes();
 }
 
 /// A statement that gives pieces, with its label.
@@ -110,21 +93,17 @@ fn know_label(label: &Name)
 fn give_statement(
     alloc: Global,
     kept: &mut Kept,
-    pending: &mut Vec<u8>,
     form: u8,
     label: Result<Name, AsmCause>,
     given: Result<Given, AsmCause>,
 ) -> Result<Result<(), AsmCause>, AllocError>
     requires plain { IsPlainAnswer given }
     requires short { IsShortOption kept.old.segment }
-    requires none { pending.old.items ≡ [] }
-    ensures left { IfOk result (λ done. (state : State) → ShowsState state kept.old → Leaves done kept.new (giving state form label given)) }
-    ensures none { OnOk result (pending.new.items ≡ []) }
+    ensures { IfOk result (λ done. (state : State) → ShowsState state kept.old → Leaves done kept.new (giving state form label given)) }
 {
     match labelled(label, given) {
         Ok((name, given)) => {
-            know_label(&name);
-            kept.mark_given(alloc, pending, &name, form, &given)
+            kept.mark_given(alloc, &name, form, &given)
         }
         Err(cause) => Ok(Err(cause)),
     }
@@ -134,7 +113,6 @@ fn give_statement(
 pub(crate) fn do_instruct(
     alloc: Global,
     kept: &mut Kept,
-    pending: &mut Vec<u8>,
     mnemonic: Mnemonic,
     label: Result<Name, AsmCause>,
     line: &SourceLine,
@@ -144,34 +122,29 @@ pub(crate) fn do_instruct(
     requires mnemonic { line_mnemonic line.now ≡ Some mnemonic }
     requires text { length (line_operand line.now) ≤ 255 }
     requires short { IsShortOption kept.old.segment }
-    requires none { pending.old.items ≡ [] }
-    ensures left { IfOk result (λ done. (state : State) (l : Line) → ShowsState state kept.old → IsLeft state l (Instruct mnemonic) label (line_operand line.now) done kept.new) }
-    ensures none { OnOk result (pending.new.items ≡ []) }
+    ensures { IfOk result (λ done. (state : State) (l : Line) → ShowsState state kept.old → IsLeft state l (Instruct mnemonic) label (line_operand line.now) done kept.new) }
 {
     let known = kept.known();
     known.know_small();
     let given = instruction_given(alloc, known, kept.widths, mnemonic, line)?;
-    give_statement(alloc, kept, pending, 0x4D, label, given)
+    give_statement(alloc, kept, 0x4D, label, given)
 }
 
 /// DC.
 pub(crate) fn do_constants(
     alloc: Global,
     kept: &mut Kept,
-    pending: &mut Vec<u8>,
     label: Result<Name, AsmCause>,
     text: &[u8],
 ) -> Result<Result<(), AsmCause>, AllocError>
     requires text { length text.now ≤ 255 }
     requires short { IsShortOption kept.old.segment }
-    requires none { pending.old.items ≡ [] }
-    ensures left { IfOk result (λ done. (state : State) (l : Line) → ShowsState state kept.old → IsLeft state l (Direct Constants) label text.now done kept.new) }
-    ensures none { OnOk result (pending.new.items ≡ []) }
+    ensures { IfOk result (λ done. (state : State) (l : Line) → ShowsState state kept.old → IsLeft state l (Direct Constants) label text.now done kept.new) }
 {
     let known = kept.known();
     known.know_small();
     let given = constants_given(alloc, known, kept.msb, text)?;
-    give_statement(alloc, kept, pending, 0x4E, label, given)
+    give_statement(alloc, kept, 0x4E, label, given)
 }
 
 /// A label, with what its directive gives.

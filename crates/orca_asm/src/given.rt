@@ -7,8 +7,6 @@ ghost use Rattle.asm_meaning.specs.Pieces as meaning;
 ghost use Rattle.asm_meaning.specs.Object.{records_text};
 ghost use Rattle.asm_meaning.specs.laws.PieceLaws.{IsPlain, IsPlainPiece, ArePlainPieces};
 ghost use Rattle.omf_format.specs.Record as record_;
-ghost use Rattle.asm_meaning.specs.laws.Sound.{IsLabelText};
-ghost use Rattle.asm_meaning.specs.State.{local_of};
 ghost use Rattle.orca_asm.specs.GivenView.{part_pieces, all_pieces, given_pieces, given_records, given_answer, labelled_answer};
 ghost use Rattle.orca_asm.specs.PieceView.{piece};
 ghost use Rattle.orca_asm.specs.PutView.{piece_size, pieces_size, parts_size, Wrote};
@@ -250,13 +248,12 @@ fn put_parts(out: &mut Text, pending: &mut Vec<u8>, parts: &[Part]) -> Result<()
     Ok(())
 }
 
-/// Appends the records of parts. Constant bytes that stand side by side are gathered in a buffer, which is empty before and behind.
+/// Appends the records of parts. Constant bytes that stand side by side are gathered in a buffer, whatever stood in it.
 fn put_all_parts(out: &mut Text, pending: &mut Vec<u8>, parts: &[Part]) -> Result<(), AllocError>
-    requires plain { ArePlainPieces (all_pieces parts.now) }
-    requires none { pending.now.items ≡ [] }
-    ensures text { OnOk result ((text : List ℕ) → kept_text out.old ≡ limited text → kept_text out.new ≡ limited (text ++ records_text (records_of (all_pieces parts.now)))) }
-    ensures none { OnOk result (pending.new.items ≡ []) }
+    requires { ArePlainPieces (all_pieces parts.now) }
+    ensures { OnOk result ((text : List ℕ) → kept_text out.old ≡ limited text → kept_text out.new ≡ limited (text ++ records_text (records_of (all_pieces parts.now)))) }
 {
+    pending.clear();
     put_parts(out, pending, parts)?;
     flush(out, pending)?;
     Ok(())
@@ -292,12 +289,10 @@ impl Given {
         }
     }
 
-    /// Appends its records. The buffer is empty before and behind.
+    /// Appends its records, with a buffer for constant bytes that wait for theirs.
     pub(crate) fn put(&self, out: &mut Text, pending: &mut Vec<u8>) -> Result<(), AllocError>
-        requires plain { ArePlainPieces (given_pieces self.now) }
-        requires none { pending.now.items ≡ [] }
-        ensures text { OnOk result ((text : List ℕ) → kept_text out.old ≡ limited text → kept_text out.new ≡ limited (text ++ records_text (given_records self.now))) }
-        ensures none { OnOk result (pending.new.items ≡ []) }
+        requires { ArePlainPieces (given_pieces self.now) }
+        ensures { OnOk result ((text : List ℕ) → kept_text out.old ≡ limited text → kept_text out.new ≡ limited (text ++ records_text (given_records self.now))) }
     {
         match self {
             Given::Bytes(few) => out.put_few(*few),
@@ -311,48 +306,6 @@ impl Given {
             Given::Parts(parts) => put_all_parts(out, pending, parts.as_slice()),
         }
     }
-}
-
-/// Appends LOCAL for a label, if there is one: its length is at most $FFFF, and it isn't private.
-#[inline(always)]
-fn put_local(out: &mut Text, label: &Name, form: u8, size: u32) -> Result<(), AllocError>
-    requires { IsLabelText label.now }
-    ensures { OnOk result ((text : List ℕ) → kept_text out.old ≡ limited text → kept_text out.new ≡ limited (text ++ records_text (local_of label.now form size))) }
-{
-    let name = label.bytes();
-    if name.is_empty() {
-        return Ok(());
-    }
-    out.put(&Rec::Label {
-        global: false,
-        name,
-        length: size.min(0xFFFF) as u16,
-        form,
-        private: 0,
-    })?;
-    Ok(())
-}
-
-/// Appends LOCAL for a statement's label, and the statement's records, which give so many cells.
-pub(crate) fn put_marked(
-    out: &mut Text,
-    pending: &mut Vec<u8>,
-    label: &Name,
-    form: u8,
-    given: &Given,
-    size: u32,
-) -> Result<(), AllocError>
-    requires label { IsLabelText label.now }
-    requires plain { ArePlainPieces (given_pieces given.now) }
-    requires size { (at : ℕ) → size ≡ length_at at (given_records given.now) }
-    requires none { pending.now.items ≡ [] }
-    ensures text { OnOk result ((at : ℕ) (text : List ℕ) → kept_text out.old ≡ limited text
-        → kept_text out.new ≡ limited (text ++ records_text (local_of label.now form (length_at at (given_records given.now)) ++ given_records given.now))) }
-    ensures none { OnOk result (pending.new.items ≡ []) }
-{
-    put_local(out, label, form, size)?;
-    given.put(out, pending)?;
-    Ok(())
 }
 
 /// A statement's label and what it gives, or the first of their faults.

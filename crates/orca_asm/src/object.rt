@@ -7,29 +7,9 @@ ghost use Rattle.asm_meaning.specs.State.{Ended};
 ghost use Rattle.asm_meaning.specs.Object.{records_text, segment_text, object_text, most_bytes};
 ghost use Rattle.orca_asm.specs.TextView.{limited, kept_text};
 
-use crate::text::Text;
+use crate::text::{MAX_FILE, Text};
 use omf_header::{Header, WriteHeaderFault, write_header};
 use std::alloc::{AllocError, Global};
-
-/// The most bytes that a file has.
-const MAX_FILE: usize = 16_777_216;
-
-/// Appends bytes.
-#[tactic(auto, using(crate::proofs::Limited::stays_long, crate::proofs::Limited::grows_long, crate::proofs::Limited::grows))]
-fn append(object: &mut Text, bytes: &[u8]) -> Result<(), AllocError>
-    ensures { OnOk result ((text : List ℕ) → kept_text object.old ≡ limited text → kept_text object.new ≡ limited (text ++ bytes.now)) }
-{
-    if object.long {
-        return Ok(());
-    }
-    object.bytes.extend_from_slice(bytes)?;
-    if object.bytes.len() > MAX_FILE {
-        object.bytes.clear();
-        object.long = true;
-        return Ok(());
-    }
-    Ok(())
-}
 
 /// Keeps no more bytes, since too many come.
 fn end_long(object: &mut Text)
@@ -66,8 +46,8 @@ pub(crate) fn put_segment(
     know_size(&header.load_name);
     match write_header(alloc, header, body.bytes.len() as u32) {
         Ok(written) => {
-            append(object, written.as_slice())?;
-            append(object, body.bytes.as_slice())
+            object.append(written.as_slice())?;
+            object.append(body.bytes.as_slice())
         }
         Err(WriteHeaderFault::TooLong) => {
             end_long(object);

@@ -7,7 +7,7 @@ ghost use Rattle.orca_meaning.specs.Operation.{beside};
 ghost use Rattle.asm_meaning.specs.Operations.{directives, ignored, as_ignored, operation_of};
 ghost use Rattle.orca_asm.specs.Tables.{later};
 ghost use Rattle.asm_meaning.specs.Statement.{behind_here, is_some_text, is_labelled, needs_segment, begins_segment, needs_label, label_of};
-ghost use Rattle.orca_asm.specs.OperandView.{name_answer, label_name};
+ghost use Rattle.orca_asm.specs.OperandView.{name_answer, no_label};
 ghost use Rattle.asm_meaning.specs.State.{State};
 ghost use Rattle.orca_asm.specs.DoneView.{IsSome};
 ghost use Rattle.orca_asm.specs.StateView.{ShowsState};
@@ -229,27 +229,14 @@ fn needs_label(operation: Operation) -> bool
     }
 }
 
-/// A label in upper case, which is empty where there is none.
-fn label_name(
-    alloc: Global,
-    operation: Operation,
-    text: &[u8],
-) -> Result<Result<Name, AsmCause>, AllocError>
-    requires { length text.now ≤ 255 }
-    ensures { IfOk result (λ answer. name_answer answer ≡ label_name operation text.now) }
+/// No label, unless the operation needs one.
+fn no_label(alloc: Global, operation: Operation) -> Result<Name, AsmCause>
+    ensures { name_answer result ≡ no_label operation }
 {
-    if text.is_empty() {
-        if needs_label(operation) {
-            return Ok(Err(AsmCause::BadLabel));
-        }
-        let name = folded(alloc, text)?;
-        return Ok(Ok(name));
+    if needs_label(operation) {
+        return Err(AsmCause::BadLabel);
     }
-    if is_name(text) {
-        let name = folded(alloc, text)?;
-        return Ok(Ok(name));
-    }
-    Ok(Err(AsmCause::BadLabel))
+    Ok(Name::from_vec(Vec::new(alloc)))
 }
 
 /// A label in upper case, empty where there is none; `Duplicate` where it can't be defined again.
@@ -264,7 +251,7 @@ pub(crate) fn label_of(
     ensures some { IfOk result (λ answer. needs_label operation ≡ true → IsSome answer) }
 {
     if text.is_empty() {
-        return label_name(alloc, operation, text);
+        return Ok(no_label(alloc, operation));
     }
     if !is_name(text) {
         return Ok(Err(AsmCause::BadLabel));

@@ -156,6 +156,7 @@ impl Kept {
         let mut names = Names::new(alloc);
         names.set(alloc, name.bytes(), None)?;
         let front = mem::replace(&mut self.front, Text::new(alloc));
+        let pending = Vec::new(alloc);
         let open = Open {
             file,
             line,
@@ -171,6 +172,7 @@ impl Kept {
                 text: front,
                 cells: 0,
             },
+            pending,
         };
         self.segment = Some(open);
         self.org = 0;

@@ -31,6 +31,8 @@ pub(crate) struct Open {
     /// The names that it defines.
     pub(crate) names: Names,
     pub(crate) body: Body,
+    /// Where constant bytes of one statement wait for their record. Between statements it says nothing.
+    pub(crate) pending: Vec<u8>,
     ghost listed: { is_listed (form_of kind) ≡ true },
 }
 
@@ -89,7 +91,7 @@ impl Open {
     ghost use Rattle.orca_asm.specs.ContentView.{content_records, IsContent};
 
     /// One more name, where the statement has a label.
-    pub(crate) fn define(
+    fn define(
         &mut self,
         alloc: Global,
         label: &[u8],
@@ -153,7 +155,7 @@ impl Open {
     }
 
     /// A label, with its LOCAL.
-    fn mark(
+    pub(crate) fn mark(
         &mut self,
         alloc: Global,
         label: &[u8],

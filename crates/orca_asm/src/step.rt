@@ -30,7 +30,6 @@ use std::alloc::{AllocError, Global};
 fn do_unlabelled(
     alloc: Global,
     kept: &mut Kept,
-    pending: &mut Vec<u8>,
     directive: Directive,
     label: Result<Name, AsmCause>,
     text: &[u8],
@@ -38,14 +37,12 @@ fn do_unlabelled(
     requires unlabelled { needs_label (Direct directive) ≡ false }
     requires text { length text.now ≤ 255 }
     requires short { IsShortOption kept.old.segment }
-    requires none { pending.old.items ≡ [] }
-    ensures left { IfOk result (λ done. (state : State) (l : Line) → ShowsState state kept.old → IsLeft state l (Direct directive) label text.now done kept.new) }
-    ensures none { OnOk result (pending.new.items ≡ []) }
+    ensures { IfOk result (λ done. (state : State) (l : Line) → ShowsState state kept.old → IsLeft state l (Direct directive) label text.now done kept.new) }
 {
     match directive {
         Directive::End => do_end(alloc, kept, label),
         Directive::Using => do_using(alloc, kept, label, text),
-        Directive::Constants => do_constants(alloc, kept, pending, label, text),
+        Directive::Constants => do_constants(alloc, kept, label, text),
         Directive::Space => do_space(alloc, kept, label, text),
         Directive::Align => do_align(alloc, kept, label, text),
         Directive::Org => do_org(alloc, kept, label, text),
@@ -61,7 +58,6 @@ fn do_unlabelled(
 fn do_operation(
     alloc: Global,
     kept: &mut Kept,
-    pending: &mut Vec<u8>,
     operation: Operation,
     label: Result<Name, AsmCause>,
     of: &SourceLine,
@@ -71,20 +67,18 @@ fn do_operation(
     requires is { operation_of (part of.now.text of.now.operation) ≡ Some operation }
     requires some { needs_label operation ≡ true → IsSome label }
     requires short { IsShortOption kept.old.segment }
-    requires none { pending.old.items ≡ [] }
-    ensures left { IfOk result (λ done. (state : State) → ShowsState state kept.old → IsLeft state (line of.now) operation label (line_operand of.now) done kept.new) }
-    ensures none { OnOk result (pending.new.items ≡ []) }
+    ensures { IfOk result (λ done. (state : State) → ShowsState state kept.old → IsLeft state (line of.now) operation label (line_operand of.now) done kept.new) }
 {
     let text = of.part(of.operand);
     match operation {
-        Operation::Instruct(mnemonic) => do_instruct(alloc, kept, pending, mnemonic, label, of),
+        Operation::Instruct(mnemonic) => do_instruct(alloc, kept, mnemonic, label, of),
         Operation::Direct(Directive::Begin(class)) => {
             do_begin(alloc, kept, of.file, of.line, class, label, text)
         }
         Operation::Direct(Directive::Entry) => do_entry(alloc, kept, label),
         Operation::Direct(Directive::Equ) => do_equ(alloc, kept, label, text),
         Operation::Direct(Directive::Gequ) => do_gequ(alloc, kept, label, text),
-        Operation::Direct(other) => do_unlabelled(alloc, kept, pending, other, label, text),
+        Operation::Direct(other) => do_unlabelled(alloc, kept, other, label, text),
     }
 }
 
@@ -104,7 +98,6 @@ fn is_misplaced(kept: &Kept, operation: Operation, label: &[u8], operand: &[u8])
 fn finish(
     alloc: Global,
     kept: &mut Kept,
-    pending: &mut Vec<u8>,
     operation: Operation,
     label: Result<Name, AsmCause>,
     of: &SourceLine,
@@ -114,12 +107,10 @@ fn finish(
     requires is { operation_of (part of.now.text of.now.operation) ≡ Some operation }
     requires some { needs_label operation ≡ true → IsSome label }
     requires short { IsShortOption kept.old.segment }
-    requires none { pending.old.items ≡ [] }
     ensures placed { IfOk result (λ done. (state : State) → ShowsState state kept.old → IsPlacedAs state (line of.now) operation label (line_operand of.now) done kept.new) }
     ensures short { IfOk result (λ done. OnOk done (IsShortOption kept.new.segment)) }
-    ensures none { OnOk result (pending.new.items ≡ []) }
 {
-    let done = do_operation(alloc, kept, pending, operation, label, of)?;
+    let done = do_operation(alloc, kept, operation, label, of)?;
     match done {
         Ok(()) => {
             if kept.is_too_long() {
@@ -135,15 +126,12 @@ fn finish(
 fn step(
     alloc: Global,
     kept: &mut Kept,
-    pending: &mut Vec<u8>,
     of: &SourceLine,
 ) -> Result<Result<(), AsmCause>, AllocError>
     requires fields { HaveFields of.now.text (line of.now).fields }
     requires short { IsShortOption kept.old.segment }
-    requires none { pending.old.items ≡ [] }
     ensures step { IfOk result (λ done. (state : State) → ShowsState state kept.old → Steps state (line of.now) done kept.new) }
     ensures short { IfOk result (λ done. OnOk done (IsShortOption kept.new.segment)) }
-    ensures none { OnOk result (pending.new.items ≡ []) }
 {
     let Some(operation) = operation_of(of.part(of.operation)) else {
         return Ok(Err(AsmCause::UnknownOperation));
@@ -153,7 +141,7 @@ fn step(
         return Ok(Err(AsmCause::OutsideSegment));
     }
     let label = label_of(alloc, kept, operation, text)?;
-    finish(alloc, kept, pending, operation, label, of)
+    finish(alloc, kept, operation, label, of)
 }
 
 /// A fault at a line.
@@ -172,7 +160,6 @@ fn step_all(alloc: Global, lines: &Lines) -> Result<Result<Kept, AsmFault>, Allo
     ensures { IfOk result (HasStepped lines.now) }
 {
     let mut kept = Kept::new(alloc);
-    let mut pending: Vec<u8> = Vec::new(alloc);
     let mut place: u32 = 0;
     let count = lines.count();
     'lines: while place < count {
@@ -180,7 +167,7 @@ fn step_all(alloc: Global, lines: &Lines) -> Result<Result<Kept, AsmFault>, Allo
             Some(line) => line,
             None => unreachable!(),
         };
-        match step(alloc, &mut kept, &mut pending, line)? {
+        match step(alloc, &mut kept, line)? {
             Ok(()) => {}
             Err(cause) => return Ok(Err(fault_at(line, cause))),
         }

@@ -73,7 +73,7 @@ impl Text {
     /// Appends bytes.
     #[tactic(auto, using(crate::proofs::Limited::stays_long, crate::proofs::Limited::grows_long, crate::proofs::Limited::grows))]
     #[inline(always)]
-    fn append(&mut self, bytes: &[u8]) -> Result<(), AllocError>
+    pub(crate) fn append(&mut self, bytes: &[u8]) -> Result<(), AllocError>
         ensures { OnOk result ((text : List ℕ) → kept_text self.old ≡ limited text → kept_text self.new ≡ limited (text ++ bytes.now)) }
     {
         if self.long {

@@ -14,7 +14,7 @@ returns-then-len-gt-MAX_FILE c = λ segments e header body object. body_many c.a
 pub returns-in_ok-append-in-Ok : goal.returns-in_ok-append-in-Ok
 returns-in_ok-append-in-Ok c =
     then_ok c.append-in-Ok.result (λ k segments e header body object.
-    segment_put c.args.body.now segments e (fields c.args.header.now) c.len-2.result c.as_slice.result.now c.as_slice-in-Ok.result.now c.append.new.object c.append-in-Ok.new.object c.if-body.false body header
+    segment_put c.args.body.now segments e (fields c.args.header.now) c.len-2.result c.as_slice.result.now c.as_slice-in-Ok.result.now c.append.new.self c.append-in-Ok.new.self c.if-body.false body header
     (omega (arith, c.len-2.ensures, c.args.body.now.bytes.ok.0)) (c.as_slice.ensures.value ∙ c.in-Ok.ensures.bytes) c.as_slice-in-Ok.ensures.value (c.in_ok-append-in-Ok.ensures _ object) k) c.append-in-Ok.ensures
 
 pub returns-in-Err-TooLong : goal.returns-in-Err-TooLong

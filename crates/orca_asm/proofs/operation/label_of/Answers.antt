@@ -1,14 +1,13 @@
 use Rattle.std.proofs.Common.{sym, ap, ◌∙◌}
 use Rattle.asm_meaning.specs.Statement.{is_taken}
 use Rattle.orca_asm.proofs.Labelled.{no_label, no_label_some, bad_label, taken_label, free_label_is, some_name}
-use Rattle.orca_asm.proofs.Segments.{then_if}
 use Rattle.orca_asm.proofs.operation.label_of.Goals as goal
 
 pub returns-then-is_empty-clause-value : goal.returns-then-is_empty-clause-value
-returns-then-is_empty-clause-value c = then_if c.label_name.result (λ answer is state shows. no_label state c.args.operation c.args.text.now answer (sym c.is_empty.ensures ∙ c.if-is_empty.true) is) c.label_name.ensures
+returns-then-is_empty-clause-value c = λ state shows. no_label state c.args.operation c.args.text.now c.no_label.result (sym c.is_empty.ensures ∙ c.if-is_empty.true) c.no_label.ensures
 
 pub returns-then-is_empty-clause-some : goal.returns-then-is_empty-clause-some
-returns-then-is_empty-clause-some c = then_if c.label_name.result (λ answer is needs. no_label_some c.args.operation c.args.text.now answer (sym c.is_empty.ensures ∙ c.if-is_empty.true) is needs) c.label_name.ensures
+returns-then-is_empty-clause-some c = λ needs. no_label_some c.args.operation c.no_label.result c.no_label.ensures needs
 
 pub returns-then-not-is_name-clause-value : goal.returns-then-not-is_name-clause-value
 returns-then-not-is_name-clause-value c = λ state shows. bad_label state c.args.operation c.args.text.now (sym c.is_empty.ensures ∙ c.if-is_empty.false) (sym c.is_name.ensures ∙ c.if-not-is_name.true)

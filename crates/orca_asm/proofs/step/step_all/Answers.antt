@@ -15,5 +15,4 @@ lines-preserved c =
     record {
       under_way = goes_on c.args.lines.now c.lines.place c.lines.kept c.step.new.kept (line c.in-Some.line.now) so_far c.in-Some.ensures.line step;
       short = rw c.in-Ok.is at c.in_ok-step.ensures.short;
-      none = c.in_ok-step.ensures.none;
     }

@@ -1,4 +1,5 @@
-use Rattle.std.proofs.Common.{List, ℕ, ◌++◌, None, sym, ap, ◌∙◌, arith}
+use Rattle.std.proofs.Common.{◌≡◌, List, ℕ, ◌++◌, None, sym, ap, ◌∙◌, append_assoc, arith}
+use Rattle.omf_format.specs.Record.{Record}
 use Rattle.asm_meaning.specs.laws.LabelProofs.{lengths_add}
 use Rattle.asm_meaning.specs.Object.{records_text}
 use Rattle.asm_meaning.specs.Pieces.{length_at}
@@ -8,20 +9,24 @@ use Rattle.orca_asm.specs.TextView.{limited}
 use Rattle.orca_asm.proofs.Bodies.{records_text-append}
 use Rattle.orca_asm.proofs.state.Open.mark_given.Goals as goal
 
-pub returns-clause-segment : goal.returns-clause-segment
-returns-clause-segment c = λ s shows.
-    let named = c.in_ok-define.ensures.segment s shows in
-    let records = given_records c.args.given.now in
+pub returns : goal.returns
+returns c = λ s shows.
     let label = c.args.label.now in
-    let local = local_of label c.args.form (length_at (cells_of s) records) in
+    let records = given_records c.args.given.now in
+    let local = local_of c.bytes.result.now c.args.form c.from-cells.result in
+    let labelled = c.in_ok-mark.ensures.segment s shows in
+    let same : s.body ++ (local ++ records) ≡ s.body ++ (local_of label c.args.form (length_at (cells_of s) records) ++ records) =
+    ap (λ (l : List ℕ). s.body ++ (local_of l c.args.form c.from-cells.result ++ records)) c.bytes.ensures.value
+    ∙ ap (λ (k : ℕ). s.body ++ (local_of label c.args.form k ++ records)) (c.from-cells.ensures ∙ c.requires.size (cells_of s)) in
     record {
-      file = named.file;
-      line = named.line;
-      class = named.class;
-      header = named.header;
-      names = named.names ∙ ap (λ (l : List ℕ). with_label l None s.names) c.bytes.ensures.value;
+      file = labelled.file;
+      line = labelled.line;
+      class = labelled.class;
+      header = labelled.header;
+      names = labelled.names ∙ ap (λ (l : List ℕ). with_label l None s.names) c.bytes.ensures.value;
       body = record {
-        text = c.in_ok-put_marked.ensures.text (cells_of s) (records_text s.body) named.body.text ∙ ap limited (sym (records_text-append s.body (local ++ records)));
-        cells = omega (arith, named.body.cells, c.from.ensures, c.requires.size (cells_of s), lengths_add label c.args.form records s);
+        text = c.in_ok-put.ensures (records_text (s.body ++ local)) labelled.body.text
+        ∙ ap limited (sym (records_text-append (s.body ++ local) records) ∙ ap records_text (append_assoc s.body local records ∙ same));
+        cells = omega (arith, shows.body.cells, c.in_ok-mark.ensures.cells, c.from-cells.ensures, c.requires.size (cells_of s), lengths_add label c.args.form records s);
       };
     }
