@@ -5,9 +5,9 @@ ghost use Rattle.orca_macro.specs.Files.{texts_of_files};
 ghost use Rattle.macro_meaning.specs.Expansion.{IsMacroFault};
 ghost use Rattle.asm_meaning.specs.Object.{IsObject, IsAsmFault, cause_of};
 
-use crate::step::assembled;
 use asm_meaning::{AsmCause, AsmFault};
 use orca_macro::{MacroCause, MacroFault, expand};
+use orca_object::assembled;
 use std::alloc::Global;
 
 /// Memory ran out.

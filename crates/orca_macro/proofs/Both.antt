@@ -1,5 +1,5 @@
 -- Faults that stand together.
-use Rattle.std.proofs.Common.{◌≡◌, ℕ, zero, suc, ◌-◌, Bool, false, true, cond, take, eqb, List, [], ◌∷◌, length, Option, Some, None, refl, sym, ap, subst, ◌∙◌}
+use Rattle.std.proofs.Common.{◌≡◌, ℕ, Bool, false, true, eqb, List, [], ◌∷◌, length, Option, Some, None, refl, sym, ap, subst, ◌∙◌}
 use Rattle.std.specs.Prelude.{Result, Ok, Err, IfOk, nat_lt, is_some}
 use Rattle.std.proofs.lemmas.Bool.{eqb-true}
 use Rattle.orca_meaning.specs.Line.{Fields, Line, part, three_fields, is_comment}
@@ -10,15 +10,14 @@ use Rattle.orca_symbols.specs.Piece.{AreNotTwo}
 use Rattle.orca_symbols.specs.Plain.{plain_len}
 use Rattle.orca_symbols.proofs.Fronts.{plain_text}
 use Rattle.macro_meaning.specs.declared.statements.Statement.{Statement}
-use Rattle.macro_meaning.specs.Statements.{statement_of, target_name, behind_dot, whole}
-use Rattle.macro_meaning.specs.Substitution.{first_passes, naming_at}
-use Rattle.orca_meaning.specs.Token.{name_at}
+use Rattle.macro_meaning.specs.Statements.{statement_of, target_name, whole}
+use Rattle.macro_meaning.specs.Substitution.{naming_at}
 use Rattle.orca_macro.specs.declared.deed.Deed.{Deed}
 use Rattle.orca_macro.specs.DeedView.{deed}
 use Rattle.macro_meaning.specs.declared.faults.MacroCause.{MacroCause}
 use Rattle.macro_meaning.specs.declared.faults.MacroCause.TheVariants.{BadSetting}
 use Rattle.macro_meaning.specs.Deed as meaning
-use Rattle.macro_meaning.specs.Deed.{Setting, both, or_bad, going, IsBranchIf, operation_or_anop, cut, IsDone, IsDoneBy, IsStatement, IsShort, IsWithTexts, IsWritten, IsDeed}
+use Rattle.macro_meaning.specs.Deed.{Setting, both, or_bad, going, IsBranchIf, operation_or_anop, IsDone, IsDoneBy, IsStatement, IsShort, IsWithTexts, IsWritten, IsDeed}
 
 -- the second one, where the first can only be BadSetting
 pub second_fault : {A B : Type 0} (found : Option A) (cause : MacroCause) → both {A = A} {B = B} (or_bad found) (Err cause) ≡ Err cause

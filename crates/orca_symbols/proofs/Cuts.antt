@@ -1,5 +1,5 @@
 -- Lines that begin with no sequence symbol.
-use Rattle.std.proofs.Common.{◌≡◌, ℕ, zero, suc, ◌-◌, Bool, false, cond, take, eqb, List, [], ◌∷◌, Option, None, refl, ap}
+use Rattle.std.proofs.Common.{◌≡◌, ℕ, zero, suc, ◌-◌, Bool, false, cond, take, eqb, List, [], ◌∷◌, None, refl, ap}
 use Rattle.orca_meaning.specs.Line.{three_fields}
 use Rattle.orca_meaning.specs.Token.{name_at}
 use Rattle.macro_meaning.specs.Statements.{behind_dot}
