@@ -15,10 +15,10 @@ pub mod ByFormulas
 pub mod Bodies
 pub mod Formulated
 pub mod After
-pub mod Segments
+pub mod OpenLaws
 pub mod States
 pub mod Small
-pub mod Equates
+pub mod EquateLaws
 pub mod Objects
 pub mod Packed
 pub mod Gathering

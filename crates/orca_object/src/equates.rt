@@ -26,7 +26,7 @@ use omf_records::Rec;
 use std::alloc::{AllocError, Global};
 
 /// The expression of a number.
-#[tactic(auto, using(crate::proofs::Equates::number_spelled))]
+#[tactic(auto, using(crate::proofs::EquateLaws::number_spelled))]
 fn number_expression(alloc: Global, n: u32) -> Result<Vec<u8>, AllocError>
     ensures text { IfOk result (λ v. (meant : meaning.Amount) → kept_view (Amount.Known n) ≡ kept_of 0 meant → v.items ≡ expression_text (tree_of_amount meant)) }
     ensures fine { IfOk result (λ v. IsExpression 0 v.items) }

@@ -13,7 +13,7 @@ ghost use Rattle.orca_symbols.specs.ModelView.{model};
 ghost use Rattle.orca_symbols.specs.View.{symbols_of};
 
 use crate::model_line::ModelLine;
-use crate::parted::first_piece;
+use crate::operands::first_piece;
 use crate::symbols::{Symbol, Symbols, is_count};
 use crate::text::Text;
 use macro_meaning::Kind;

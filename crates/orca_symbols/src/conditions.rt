@@ -13,7 +13,7 @@ ghost use Rattle.orca_symbols.specs.Short.{HasNumber};
 ghost use Rattle.orca_symbols.specs.View.{values};
 ghost use Rattle.orca_text.specs.View.{term};
 
-use crate::parted::{quoted, quoted_at};
+use crate::operands::{quoted, quoted_at};
 use crate::symbols::{Values, text_of};
 use macro_meaning::MacroCause;
 use omf_expr::{Env, Expr, Term, Value, ValueFault, evaluate, put_term};

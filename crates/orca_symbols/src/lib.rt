@@ -8,7 +8,7 @@ mod frames;
 mod held;
 mod model_line;
 mod names;
-mod parted;
+mod operands;
 mod sequence;
 mod substitution;
 mod symbols;
@@ -22,7 +22,7 @@ pub use frames::{Frames, Scope, State};
 pub use held::{look, put};
 pub use model_line::{ModelLine, model_of};
 pub use names::{is_operation, is_target, operation_is, sequence_name, statement_of, target_name};
-pub use parted::{Piece, joined, pieces, quoted, two_pieces};
+pub use operands::{Piece, joined, pieces, quoted, two_pieces};
 pub use sequence::{begins_dot, cut};
 pub use substitution::{is_folded, is_plain, shown};
 pub use symbols::{

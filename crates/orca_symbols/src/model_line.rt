@@ -7,7 +7,7 @@ ghost use Rattle.orca_text.specs.View.{fields};
 ghost use Rattle.orca_meaning.specs.Line.{HaveFields};
 
 use crate::names::{symbol_name, whole};
-use crate::parted::{Piece, piece_at, pieces};
+use crate::operands::{Piece, piece_at, pieces};
 use omf_base::Name;
 use orca_text::{Fields, is_comment, name_at, part, three_fields};
 use std::alloc::{AllocError, Global};

@@ -1,4 +1,4 @@
-use Rattle.orca_object.proofs.Equates.{tree_fine}
+use Rattle.orca_object.proofs.EquateLaws.{tree_fine}
 use Rattle.orca_object.proofs.After.{then_if}
 use Rattle.orca_object.proofs.equates.expression_of.Goals as goal
 

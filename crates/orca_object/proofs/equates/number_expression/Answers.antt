@@ -1,5 +1,5 @@
 use Rattle.omf_format.specs.Expression.{Leaf, Constant}
-use Rattle.orca_object.proofs.Equates.{number_fine}
+use Rattle.orca_object.proofs.EquateLaws.{number_fine}
 use Rattle.orca_object.proofs.After.{then_if}
 use Rattle.orca_object.proofs.equates.number_expression.Goals as goal
 

@@ -1,5 +1,5 @@
 use Rattle.orca_object.proofs.After.{then_ok}
-use Rattle.orca_object.proofs.Segments.{marked_none}
+use Rattle.orca_object.proofs.OpenLaws.{marked_none}
 use Rattle.orca_object.proofs.state.Open.give.Goals as goal
 
 pub returns-in-Nothing : goal.returns-in-Nothing

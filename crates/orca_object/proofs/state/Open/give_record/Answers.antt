@@ -1,7 +1,7 @@
 use Rattle.omf_records.specs.View.{view}
 use Rattle.orca_object.specs.StateView.{labelled}
 use Rattle.orca_object.proofs.After.{then_ok}
-use Rattle.orca_object.proofs.Segments.{marked_one}
+use Rattle.orca_object.proofs.OpenLaws.{marked_one}
 use Rattle.orca_object.proofs.state.Open.give_record.Goals as goal
 
 pub returns-clause-segment : goal.returns-clause-segment

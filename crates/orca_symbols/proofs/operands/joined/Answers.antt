@@ -1,7 +1,7 @@
 use Rattle.std.proofs.Common.{ap, sym, ◌∙◌}
 use Rattle.macro_meaning.specs.Pieces.{quoted}
 use Rattle.orca_symbols.proofs.Parted.{join_next, get_inside}
-use Rattle.orca_symbols.proofs.parted.joined.Goals as goal
+use Rattle.orca_symbols.proofs.operands.joined.Goals as goal
 
 pub pieces-preserved : goal.pieces-preserved
 pieces-preserved c =

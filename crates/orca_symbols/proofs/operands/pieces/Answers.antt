@@ -1,6 +1,6 @@
 use Rattle.std.proofs.Common.{◌≡◌, ℕ, List, length, subst, ◌∙◌}
 use Rattle.orca_symbols.proofs.Parted.{last_piece}
-use Rattle.orca_symbols.proofs.parted.pieces.Goals as goal
+use Rattle.orca_symbols.proofs.operands.pieces.Goals as goal
 
 pub returns-in_default : goal.returns-in_default
 returns-in_default c =

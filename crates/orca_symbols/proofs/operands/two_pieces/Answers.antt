@@ -1,6 +1,6 @@
 use Rattle.std.proofs.Common.{sym, ◌∙◌}
 use Rattle.orca_symbols.proofs.Parted.{three_are}
-use Rattle.orca_symbols.proofs.parted.two_pieces.Goals as goal
+use Rattle.orca_symbols.proofs.operands.two_pieces.Goals as goal
 
 pub returns-then-piece_len-second-clause-pieces : goal.returns-then-piece_len-second-clause-pieces
 returns-then-piece_len-second-clause-pieces c =

@@ -1,6 +1,6 @@
 use Rattle.std.proofs.Common.{◌≡◌, ◌≤◌, ◌++◌, length}
 use Rattle.macro_meaning.specs.Pieces.{pieces}
-use Rattle.orca_symbols.proofs.parted.pieces.Given as goal
+use Rattle.orca_symbols.proofs.operands.pieces.Given as goal
 
 abbrev pub invariant-pieces : goal.invariant-pieces
 invariant-pieces l = (l.found.items ++ pieces l.separator l.left ≡ pieces l.separator l.text) × (length l.left ≤ length l.text)
