@@ -194,7 +194,7 @@ LoadsFound Makes held state path Unread reply next = (reply ≡ Refused CannotRe
 LoadsFound Makes held state path (Bad fault) reply next = (reply ≡ Refused (BadFile fault)) × (next ≡ state)
 LoadsFound Makes held state path (Good segments) reply next =
     Decides (rows_refusal (length state.users) (length (paths_of segments))) state reply next
-        ((joined : Joined) × AreJoined held (paths_of segments) joined × LoadsJoined Makes state path segments joined reply next)
+    ((joined : Joined) × AreJoined held (paths_of segments) joined × LoadsJoined Makes state path segments joined reply next)
 
 abbrev pub StepsLoad : MakesRoom → FileMap → Machine → List ℕ → Reply → Machine → Type 0
 StepsLoad Makes held state path reply next = Decides (load_refusal (length state.users)) state reply next

@@ -294,17 +294,20 @@ module _ (old new : Loaded) (id : ℕ) (kept : Kept) (segments : List Segment) (
           let within = slice_get_within kept.attached (t.file - 2) n e in
           let few = sound.attached.few place kept its_users.0 in
           let other : (t.file == 1) ≡ false = grind arith in
-          let now = now_user n was.0 was.1 e in
-          (record {
-            other = n;
-            named = rw other (rw (user_is outline new.users id, its_made) e);
-            kept = now.0;
-            made = now.1;
-            head = reached.head;
-            head' = ap (λ (hs : List Head). at_number hs t.segment) now.2 ∙ head';
-            dynamic = kind.0;
-            loaded = kind.1;
-          }, omega (arith, within, few, above), omega (arith, at_most was.0.heads t.segment reached.head head', sound.short (n - first_id) was.0 there.0))
+          let now = now_user n was.0 was.1 e in (
+            record {
+              other = n;
+              named = rw other (rw (user_is outline new.users id, its_made) e);
+              kept = now.0;
+              made = now.1;
+              head = reached.head;
+              head' = ap (λ (hs : List Head). at_number hs t.segment) now.2 ∙ head';
+              dynamic = kind.0;
+              loaded = kind.1;
+            },
+            omega (arith, within, few, above),
+            omega (arith, at_most was.0.heads t.segment reached.head head', sound.short (n - first_id) was.0 there.0),
+          )
         where
           go' : (u : Kept) → user_of old.users n ≡ Some u → heads_in old.users n ≡ reached.heads → u.heads ≡ reached.heads
           go' u is' e' = sym (ap (λ (o : Option Kept). option_map_or (λ (k : Kept). k.heads) o []) is') ∙ e'

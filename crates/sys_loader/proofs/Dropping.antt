@@ -515,7 +515,9 @@ module _ (users : List (Option Kept)) (attached : AreAttached users) (id : ℕ) 
   -- and the next one
   pub next_there : (n : ℕ) → slice_get k.attached count ≡ Some n → (u : Kept) × (user_of (without_all users (take count k.attached)) n ≡ Some u)
   next_there n is =
-      let one = attached.each (id - first_id) count n k place_of.0 is in
-      (one.0, left_there n one.0 one.1 (λ i less is'.
-      let both = attached.once (id - first_id) (id - first_id) i count n k k place_of.0 place_of.0 is' is in
-      omega (arith, both.1, less)))
+      let one = attached.each (id - first_id) count n k place_of.0 is in (
+        one.0,
+        left_there n one.0 one.1 (λ i less is'.
+            let both = attached.once (id - first_id) (id - first_id) i count n k k place_of.0 place_of.0 is' is in
+            omega (arith, both.1, less)),
+      )

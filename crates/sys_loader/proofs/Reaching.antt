@@ -91,8 +91,7 @@ module _ (loader : Loaded) (address owner segment offset : ℕ) (lies : LiesIn l
       let there : IsSome (there_at (presence loader.memory.slots (Some lies.h))) = rw lies.is.active refl in
       let t = target_at (bytes_at loader.memory lies.h.slot) k in
       let call = subst (λ (n : ℕ). IsCall loader.users n t) place.1 (sound.calls (owner - first_id) segment k lies.is.head lies.h its table there inside) in
-      let runs = named_runs loader.users sound.attached owner t.file call.other lies.is.kept call.kept lies.is.made lies.is.runs call.named call.made in
-      (
+      let runs = named_runs loader.users sound.attached owner t.file call.other lies.is.kept call.kept lies.is.made lies.is.runs call.named call.made in (
         call.other,
         call.named,
         ap (λ (o : Option Kept). load_segment_refusal (option_map seen_in o) t.segment) call.made ∙ passes_all (seen_in call.kept) t.segment call.head runs call.head' call.loaded call.dynamic,

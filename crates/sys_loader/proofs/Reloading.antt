@@ -144,17 +144,20 @@ module _ (old middle : Memory) (users' : List (Option Kept)) (id : ℕ) (kept : 
           let head' : at_number one.0.heads t.segment ≡ Some reached.head = ap (λ (hs : List Head). at_number hs t.segment) (heads_are m one.0 one.1 (same_Some (heads_in users' m) reached.heads is)) ∙ reached.head' in
           let kind = one.2.dynamic t.segment reached.head head' in
           let within = slice_get_within kept.attached (t.file - 2) m e in
-          let other : (t.file == 1) ≡ false = grind arith in
-          (record {
-            other = m;
-            named = rw other (rw (user_is outline users' id, made) e);
-            kept = one.0;
-            made = one.1;
-            head = reached.head;
-            head' = head';
-            dynamic = kind.0;
-            loaded = kind.1;
-          }, omega (arith, within, above, sound.attached.few (id - first_id) kept its_place.0), omega (arith, at_most one.0.heads t.segment reached.head head', sound.short (m - first_id) one.0 there.0))
+          let other : (t.file == 1) ≡ false = grind arith in (
+            record {
+              other = m;
+              named = rw other (rw (user_is outline users' id, made) e);
+              kept = one.0;
+              made = one.1;
+              head = reached.head;
+              head' = head';
+              dynamic = kind.0;
+              loaded = kind.1;
+            },
+            omega (arith, within, above, sound.attached.few (id - first_id) kept its_place.0),
+            omega (arith, at_most one.0.heads t.segment reached.head head', sound.short (m - first_id) one.0 there.0),
+          )
 
   -- a segment that is read again
   again_call : (p n k : ℕ) (g : Head) (j : Handle) → Has users' p n g j → is_table g ≡ true → k < entry_count g.length → p ≡ id - first_id → is_read_again g ≡ true

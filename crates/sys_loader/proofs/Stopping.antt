@@ -17,13 +17,12 @@ use Rattle.sys_loader.proofs.Resting.{keep_met, alone_of}
 
 refused_meet : (old new : Loaded) (id : ℕ) (keep : Bool) (fault : LoaderFault) → shut_down_refusal (is_attached (kept_outlines old.users) id) (seen_by old id) keep ≡ Some fault → new ≡ old
     → (held : FileMap) (state : Machine) → Agrees held old state → Met Purges held state (ShutDown id keep) (Refused fault) new
-refused_meet old new id keep fault is same held state agrees = subst (λ (l : Loaded). Met Purges held state (ShutDown id keep) (Refused fault) l) (sym same)
-    (
-      state,
-      refuses held old state agrees id (λ seen. shut_down_refusal (is_attached (outlines state.users) id) seen keep) fault _
-          (ap (λ (os : List (Option Outline)). shut_down_refusal (is_attached os id) (seen_by old id) keep) (sym agrees.users) ∙ is),
-      agrees,
-    )
+refused_meet old new id keep fault is same held state agrees = subst (λ (l : Loaded). Met Purges held state (ShutDown id keep) (Refused fault) l) (sym same) (
+  state,
+  refuses held old state agrees id (λ seen. shut_down_refusal (is_attached (outlines state.users) id) seen keep) fault _
+      (ap (λ (os : List (Option Outline)). shut_down_refusal (is_attached os id) (seen_by old id) keep) (sym agrees.users) ∙ is),
+  agrees,
+)
 
 -- no row names a user that is shut down
 pub top_of : (old : Loaded) (id : ℕ) (keep : Bool) (kept : Kept) → IsSound old.memory old.users → Rattle.loader_machine.specs.State.user_of old.users id ≡ Some kept

@@ -17,6 +17,7 @@ use omf_cells::{LoadCause, LoadFault, LoadFile};
 
 /// The bytes before the first entry of a table, and those of an entry.
 const FRONT: u32 = 8;
+
 const ENTRY: u32 = 14;
 
 /// How many bytes a segment has; 0 where there is none with this number.

@@ -12,11 +12,7 @@ use omf_io::{Files, ReadFault};
 use std::alloc::Global;
 
 /// The bytes of the file at a path.
-pub fn read_file<F: Files>(
-    alloc: Global,
-    files: &mut F,
-    path: &str,
-) -> Result<Vec<u8>, LoaderFault>
+pub fn read_file<F: Files>(alloc: Global, files: &mut F, path: &str) -> Result<Vec<u8>, LoaderFault>
     ensures held { (F.seen files.new).held ≡ (F.seen files.old).held }
     ensures never_falls { (F.seen files.old).faults ≤ (F.seen files.new).faults }
     ensures asked { (F.seen files.new).asked ≡ one_more (F.seen files.old).asked }

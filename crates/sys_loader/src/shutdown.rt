@@ -18,9 +18,7 @@ use crate::memory::presence;
 use crate::renew::renew_tables;
 use crate::turn::idle;
 use crate::user::{Segment, User};
-use crate::users::{
-    attached_count, attached_in, remove, set_life, set_lives, user_in,
-};
+use crate::users::{attached_count, attached_in, remove, set_life, set_lives, user_in};
 use iigs_meaning::PlaceFault;
 use iigs_memory::Banks;
 use loader_machine::{Life, LoaderFault, Presence};

@@ -53,12 +53,7 @@ impl Loader {
         };
         let (owner, file) = self.led_by(user);
         let lead = user_in(&self.users, owner);
-        renew_tables(
-            &mut self.banks,
-            &lead.segments,
-            Some((file, segment)),
-            None,
-        );
+        renew_tables(&mut self.banks, &lead.segments, Some((file, segment)), None);
         idle(&mut self.banks, h);
         Ok(())
     }

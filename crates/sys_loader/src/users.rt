@@ -83,7 +83,10 @@ pub fn set_segments(users: &mut Vec<Option<User>>, id: u16, segments: Vec<Segmen
     requires { IsSome (user_of (map (option_map kept) users.old.items) id) }
     ensures set { (k : Kept) → user_of (map (option_map kept) users.old.items) id ≡ Some k
         → map (option_map kept) users.new.items ≡ with_user (map (option_map kept) users.old.items) id (Some (record k {
-        life = Life.Running; handles = map (λ s. s.handle) segments.items; heads = map (λ s. s.head) segments.items })) }
+          life = Life.Running;
+          handles = map (λ s. s.handle) segments.items;
+          heads = map (λ s. s.head) segments.items;
+        })) }
     ensures room { vec_capacity users.new ≡ vec_capacity users.old }
 {
     match &mut users[usize::from(id - FIRST_ID)] {

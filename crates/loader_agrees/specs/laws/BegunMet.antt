@@ -60,10 +60,10 @@ module _ (held : FileMap) (old new : Loaded) (state : Machine) (path : List ℕ)
   begins : Begins Purges state state.slots path (first_id + length state.users) segments (begun_users state (paths_of segments) all) (Started id entry) next
   begins = subst (λ (n : ℕ). Begins Purges state state.slots path n segments
       (λ (user : User). state.users ++ Some (record user { attached = ids_from (n + 1) (length (paths_of segments)) }) ∷ joined_users (paths_of segments) all) (Started id entry) next) id_is (record {
-    put = PutIn begun.placed.handles new.memory.slots;
-    is_put = (rw (← agrees.slots) begun.placed.placed.enough, puts);
-    lands = (ap (λ (e : Option ℕ). Started id e) begun.placed.entry_is, refl);
-  })
+        put = PutIn begun.placed.handles new.memory.slots;
+        is_put = (rw (← agrees.slots) begun.placed.placed.enough, puts);
+        lands = (ap (λ (e : Option ℕ). Started id e) begun.placed.entry_is, refl);
+      })
 
   few : length state.users + 1 + length (paths_of segments) ≤ max_users
   few = omega (arith, begun.few, same_count)

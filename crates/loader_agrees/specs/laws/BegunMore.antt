@@ -125,17 +125,20 @@ module _ (old new : Loaded) (path : List ℕ) (segments : List Segment) (all : L
       let head' : at_number (map head_of row.1) t.segment ≡ Some reached.head = ap (λ (hs : List Head). at_number hs t.segment) heads ∙ reached.head' in
       let s = headed row.1 t.segment reached.head head' in
       let kind = called (t.file - 2) row.1 row.2.segments' t.segment s.0 s.1 in
-      let other : (t.file == 1) ≡ false = grind arith in
-      (record {
-        other = id + 1 + (t.file - 2);
-        named = rw other (its_attached old.users (paths_of segments) all id rows first refl t.file ∙ id_there (id + 1) (length (paths_of segments)) (t.file - 2) less);
-        kept = joined_kept row.0 (map head_of row.1);
-        made = row.3;
-        head = reached.head;
-        head' = head';
-        dynamic = ap (λ (g : Head). is_dynamic g.kind) (sym s.2) ∙ kind.0;
-        loaded = ap (λ (g : Head). is_skipped g.kind) (sym s.2) ∙ kind.1;
-      }, omega (arith, less, few_paths segments), omega (arith, number_within row.1 t.segment s.0 s.1, begun.shorts (t.file - 2) row.1 row.2.segments'))
+      let other : (t.file == 1) ≡ false = grind arith in (
+        record {
+          other = id + 1 + (t.file - 2);
+          named = rw other (its_attached old.users (paths_of segments) all id rows first refl t.file ∙ id_there (id + 1) (length (paths_of segments)) (t.file - 2) less);
+          kept = joined_kept row.0 (map head_of row.1);
+          made = row.3;
+          head = reached.head;
+          head' = head';
+          dynamic = ap (λ (g : Head). is_dynamic g.kind) (sym s.2) ∙ kind.0;
+          loaded = ap (λ (g : Head). is_skipped g.kind) (sym s.2) ∙ kind.1;
+        },
+        omega (arith, less, few_paths segments),
+        omega (arith, number_within row.1 t.segment s.0 s.1, begun.shorts (t.file - 2) row.1 row.2.segments'),
+      )
 
   its_calls : (number k : ℕ) (head : Head) (h : Handle) → at_number (map head_of segments) number ≡ Some head → handle_at first.handles number ≡ Some h → is_table head ≡ true → k < entry_count head.length
       → IsCall made id (target_at (bytes_at new.memory h.slot) k)

@@ -76,11 +76,14 @@ pub runtime_called : (file : List ℕ) (segments : List Segment) → IsRuntime f
 unfolding runtime_fault
 runtime_called file segments is zero s found = absurd cc
 runtime_called file segments is (suc k) s found =
-    let kinds = both_kinds (is_dynamic s.fields.kind) (is_skipped s.fields.kind) (kind_none 1 segments is.dynamic k s found) in
-    (kinds.0, kinds.1, elim (decide (is_table s)) [
-      | inr other ↦ other
-      | inl table ↦ (let clash : true ≡ false = sym kinds.0 ∙ ((loadable_has file segments is.loadable (suc k) s found).table table).static in absurd cc)
-    ])
+    let kinds = both_kinds (is_dynamic s.fields.kind) (is_skipped s.fields.kind) (kind_none 1 segments is.dynamic k s found) in (
+      kinds.0,
+      kinds.1,
+      elim (decide (is_table s)) [
+        | inr other ↦ other
+        | inl table ↦ (let clash : true ≡ false = sym kinds.0 ∙ ((loadable_has file segments is.loadable (suc k) s found).table table).static in absurd cc)
+      ],
+    )
 
 -- ---- entries
 

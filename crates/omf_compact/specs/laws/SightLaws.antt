@@ -511,10 +511,14 @@ module _ (held other : FileMap) (there : Shows held other) (back : Shows other h
   behind state Room rows reads is = is
 
   reads_for : (state : Machine) (command : Command) (others reads : ℕ) → IsReadFor held state command others reads → IsReadFor other state command others reads
-  reads_for state command others reads is = (is.0, needs state command is.0 is.1, elim is.2 [
-    | inl all ↦ inl (all.0, all.1, all.2, behind state command all.1 all.2 all.3, all.4)
-    | inr some ↦ inr some
-  ])
+  reads_for state command others reads is = (
+    is.0,
+    needs state command is.0 is.1,
+    elim is.2 [
+      | inl all ↦ inl (all.0, all.1, all.2, behind state command all.1 all.2 all.3, all.4)
+      | inr some ↦ inr some
+    ],
+  )
 
   pub all_answered : (state : Machine) (commands : List Command) (replies : List Reply) (others reads : ℕ) (last : Machine) → AnswersAlike held other state commands replies others reads last
   all_answered state [] [] others reads last is = ([], tt, is)

@@ -32,8 +32,16 @@ returns-in-Some-clause-loaded g c =
 pub plan_and_start-requires-clause-few : goal.plan_and_start-requires-clause-few
 plan_and_start-requires-clause-few g c =
     let joins = c.in-Ok.ensures.joins in
-    omega (arith, c.if-len-paths-gt-MAX_USERS.false, c.len.ensures, c.paths.ensures, ap (λ (l : Loaded). length l.users) c.self.view_is, length-map c.self.inside.users.items (option_map kept),
-    length-map c.in-Ok.joined.items kept, rows_length (paths_of c.args.load.now) joins.0 (map kept c.in-Ok.joined.items) joins.2)
+    omega (
+      arith,
+      c.if-len-paths-gt-MAX_USERS.false,
+      c.len.ensures,
+      c.paths.ensures,
+      ap (λ (l : Loaded). length l.users) c.self.view_is,
+      length-map c.self.inside.users.items (option_map kept),
+      length-map c.in-Ok.joined.items kept,
+      rows_length (paths_of c.args.load.now) joins.0 (map kept c.in-Ok.joined.items) joins.2,
+    )
 
 pub plan_and_start-requires-clause-users : goal.plan_and_start-requires-clause-users
 plan_and_start-requires-clause-users g c =
