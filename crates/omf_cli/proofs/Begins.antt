@@ -1,5 +1,5 @@
 -- A file that the linker wrote begins, or lacks what lies outside it.
-use Rattle.std.proofs.Common.{◌≡◌, inl, inr, ℕ, zero, suc, Bool, true, false, cond, ◌<◌, ◌≤◌, ◌+◌, ◌-◌, List, [], ◌∷◌, length, map, Option, Some, None, nat_lt, nat_le, ltb, Result, Ok, Err, refl, sym, ap, subst, ◌∙◌, arith}
+use Rattle.std.proofs.Common.{◌≡◌, ◌⊎◌, inl, inr, ℕ, zero, suc, Bool, true, false, cond, ◌<◌, ◌≤◌, ◌+◌, ◌-◌, List, [], ◌∷◌, length, map, Option, Some, None, nat_lt, nat_le, ltb, Result, Ok, Err, refl, sym, ap, subst, ◌∙◌, arith}
 use Rattle.std.specs.Prelude.{slice_get, option_map, option_and_then, ◌||◌}
 use Rattle.std.specs.List.{AllByRecursion}
 use Rattle.std.specs.Option.{option_map_or}
@@ -99,7 +99,7 @@ rows_come held (file ∷ files) (r ∷ runtimes) are there = by_size (nat_le (le
         → (joined : Joined) × AreJoined held (map (λ r. r.path) (r ∷ runtimes)) joined × Joining (r ∷ runtimes) joined
     by_size true e rest = (
       joined_behind r.segments rest.0,
-      (Good r.segments, record { file = file.1; is_held = (here, leb-true (length file.1) max_file e); runtime = are.1 }, rest.0, rest.1, refl),
+      (Good r.segments, record { file = file.1; is_held = (here, leb-true (length file.1) max_file e); runtime = are.1 }, (rest.0, rest.1, refl)),
       joining_more r runtimes rest.0 rest.2,
     )
     by_size false e rest = (Stops 1 fault.CannotRead, (Unread, long, refl), refl)
@@ -194,11 +194,11 @@ module _ (given : Given) (output : List ℕ) (bytes : HasBytes given) (is : IsLi
     -- by what comes of the rows
     joins : (joined : Joined) → Joining (setting_in is.list).runtimes joined → LoadsJoined Purges state path loaded.0 joined reply next → Passes reply
     joins (Stops reads why) comes at = refused reply fault.CannotRead tt (at.0 ∙ ap (λ (w : LoaderFault). Refused w) comes)
-    joins (Joins all) comes at = by_entries (lost_refusal (map (map head_of) all) loaded.0) (ap (λ (l : List (List Segment)). lost_refusal (map (map head_of) l) loaded.0) comes ∙ no_lost) at
+    joins (Joins all) comes at = by_entries _ _ (lost_refusal (map (map head_of) all) loaded.0) (ap (λ (l : List (List Segment)). lost_refusal (map (map head_of) l) loaded.0) comes ∙ no_lost) at
       where
-        by_entries : {id : ℕ} {users : User → List (Option User)} (r : Refuse) → r ≡ None → Decides r state reply next (Begins Purges state state.slots path id loaded.0 users reply next) → Passes reply
-        by_entries None e begins' = lands begins'.put _ _ _ begins'.lands
-        by_entries (Some why) e begins' = absurd cc
+        by_entries : (id : ℕ) (users : User → List (Option User)) (r : Refuse) → r ≡ None → Decides r state reply next (Begins Purges state state.slots path id loaded.0 users reply next) → Passes reply
+        by_entries id users None e begins' = lands begins'.put id (map head_of loaded.0) users begins'.lands
+        by_entries id users (Some why) e begins' = absurd cc
 
     rows : (r : Refuse) → rows_refusal (length state.users) (length (paths_of loaded.0)) ≡ r
         → Decides r state reply next ((joined : Joined) × AreJoined held (paths_of loaded.0) joined × LoadsJoined Purges state path loaded.0 joined reply next) → Passes reply

@@ -1,5 +1,5 @@
 -- A file that the linker wrote, as a loader reads it: where the entries of its table lead, and the paths of its rows.
-use Rattle.std.proofs.Common.{◌≡◌, ◌⊎◌, inl, inr, ℕ, suc, ◌+◌, ◌-◌, ◌*◌, ◌<◌, ◌≤◌, Bool, cond, eqb, List, [], ◌∷◌, ◌++◌, length, map, Option, Some, None, refl, sym, ap, subst, ◌∙◌, arith}
+use Rattle.std.proofs.Common.{◌≡◌, ◌⊎◌, inl, inr, ℕ, zero, suc, ◌+◌, ◌-◌, ◌*◌, ◌<◌, ◌≤◌, Bool, false, cond, eqb, List, [], ◌∷◌, ◌++◌, length, map, Option, Some, None, refl, sym, ap, subst, ◌∙◌, arith}
 use Rattle.std.specs.Prelude.{slice_get, option_map}
 use Rattle.std.specs.List.{AllByRecursion}
 use Rattle.std.proofs.lemmas.List.{length-map}
@@ -36,7 +36,8 @@ use Rattle.link_meaning.specs.laws.WrittenSegments.{IsWritten, AreWrittenAs, len
 -- ---- a table
 
 same_target : (a b : Target) → a.file ≡ b.file → a.segment ≡ b.segment → a.offset ≡ b.offset → a ≡ b
-same_target a b e f g = cc
+same_target a b e f g =
+    ap (λ (n : ℕ). record a { file = n }) e ∙ ap (λ (n : ℕ). record a { file = b.file; segment = n }) f ∙ ap (λ (n : ℕ). record a { file = b.file; segment = b.segment; offset = n }) g
 
 -- the entry of a target leads there
 leads : (t : Target) (k : ℕ) (bytes : List ℕ) → IsEntryAt (file_entry t) (entry_start k) bytes → target_at bytes k ≡ t
@@ -54,7 +55,7 @@ all_lead bytes k (t ∷ ts) each =
 
 mapped : (ts : List Target) (i : ℕ) (t : Target) → slice_get ts i ≡ Some t → slice_get (map file_entry ts) i ≡ Some (file_entry t)
 mapped [] i t at = absurd cc
-mapped (u ∷ ts) 0 t at = ap (option_map file_entry) at
+mapped (u ∷ ts) zero t at = ap (option_map file_entry) at
 mapped (u ∷ ts) (suc i) t at = mapped ts i t at
 
 -- a segment that was written as a table
@@ -72,7 +73,7 @@ targets_read number ts s fits is =
     let read = table_read number (map file_entry ts) s is in
     let laid : IsTableOf (map file_entry ts) (segment_bytes s) = subst (IsTableOf (map file_entry ts)) (sym read.1) (table_laid_out (map file_entry ts) fits) in
     let count : entry_count s.fields.length ≡ length ts = omega (arith, read.2, length-table_bytes (map file_entry ts), length-map ts (λ (t : Target). file_entry t)) in
-    ap (targets_from (segment_bytes s) 0) count ∙ all_lead (segment_bytes s) 0 ts (λ i t at. leads t i (segment_bytes s) (laid.each i (file_entry t) (mapped ts i t at)))
+    ap (targets_from (segment_bytes s) 0) count ∙ all_lead (segment_bytes s) 0 ts (λ i t at. ap (target_at (segment_bytes s)) (omega arith) ∙ leads t i (segment_bytes s) (laid.each i (file_entry t) (mapped ts i t at)))
 
 -- ---- rows
 
@@ -126,7 +127,7 @@ module _ (given : Given) (list : List Member) (table : List Told) (bytes : HasBy
 
   entries_fit : (ts : List Target) → AllByRecursion (IsCalled list) ts → (k : ℕ) (entry : Entry) → slice_get (map file_entry ts) k ≡ Some entry → FitsEntry entry
   entries_fit [] called k entry at = absurd cc
-  entries_fit (t ∷ ts) called 0 entry at = subst FitsEntry (same_entry (file_entry t) entry at) (entry_fits t called.0)
+  entries_fit (t ∷ ts) called zero entry at = subst FitsEntry (same_entry (file_entry t) entry at) (entry_fits t called.0)
     where
       same_entry : (a b : Entry) → Some a ≡ Some b → a ≡ b
       same_entry a b e = cc
@@ -146,7 +147,7 @@ module _ (given : Given) (list : List Member) (table : List Told) (bytes : HasBy
       → AreWrittenAs (load_images list table number xs ++ rest) segments → Behind segments (length xs) rest
   unfolding paths_of image_of
   behind_loads number [] rest segments plain written =
-      record { behind = segments; paths = refl; table' = λ n. ap (λ (m : ℕ). table_from m segments) (omega arith); at = λ k. refl; written = written }
+      record { behind = segments; paths = refl; table' = λ n. ap (λ (m : ℕ). table_from m segments) (omega arith); at = λ k. ap (slice_get segments) (omega arith); written = written }
   behind_loads number (x ∷ xs) rest [] plain written = absurd written
   behind_loads number (x ∷ xs) rest (s ∷ segments) plain written =
       let more = behind_loads (number + 1) xs rest segments (λ n y is'. plain n y (inr is')) written.1 in
