@@ -82,7 +82,6 @@ paths_read : (number : ℕ) (paths : List (List ℕ)) (s : Segment) → IsWritte
 unfolding pathnames_image pathnames_fields table_fields paths_text
 paths_read number paths s is = (ap (λ (f : Fields). f.kind) is.read.fields, bytes_whole (pathnames_image number paths) s refl is)
 
-
 -- the paths that are read are those that were written
 rows_read : (more number : ℕ) (runtimes : List RuntimeFile) (segments : List Segment) → more ≡ most_paths → AllByRecursion IsPath (map (λ r. r.path) runtimes) → length runtimes ≤ more
     → AreWrittenAs (path_images number runtimes) segments → (paths_of segments ≡ map (λ r. r.path) runtimes) × ((n : ℕ) → table_from n segments ≡ None)
@@ -97,7 +96,7 @@ rows_read more number (r ∷ runtimes) (s ∷ []) most all few written =
     let read = paths_read number paths s written.0 in
     let is = paths_written more paths all (omega (arith, count, few)) (omega arith) (omega (arith, count, few, most)) in (
       ap (λ (k : ℕ). cond (eqb (form_of k) 0x04) (paths_in most_paths (segment_bytes s)) []) read.0
-      ∙ ap (λ (n : ℕ). paths_in n (segment_bytes s)) (sym most) ∙ ap (paths_in more) read.1 ∙ is.1,
+          ∙ ap (λ (n : ℕ). paths_in n (segment_bytes s)) (sym most) ∙ ap (paths_in more) read.1 ∙ is.1,
       λ n. ap (λ (k : ℕ). cond (eqb (form_of k) 0x02) (Some n) None) read.0,
     )
 
