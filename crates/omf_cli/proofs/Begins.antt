@@ -1,5 +1,5 @@
 -- A file that the linker wrote begins, or lacks what lies outside it.
-use Rattle.std.proofs.Common.{◌≡◌, ◌⊎◌, inl, inr, ℕ, zero, suc, Bool, true, false, cond, ◌<◌, ◌≤◌, ◌+◌, ◌-◌, List, [], ◌∷◌, length, map, Option, Some, None, nat_lt, nat_le, ltb, Result, Ok, Err, refl, sym, ap, subst, ◌∙◌, arith}
+use Rattle.std.proofs.Common.{◌≡◌, inl, inr, ℕ, zero, suc, Bool, true, false, cond, ◌<◌, ◌+◌, ◌-◌, List, [], ◌∷◌, length, map, Option, Some, None, nat_lt, nat_le, Result, Ok, Err, refl, sym, ap, subst, ◌∙◌, arith}
 use Rattle.std.specs.Prelude.{slice_get, option_map, option_and_then, ◌||◌}
 use Rattle.std.specs.List.{AllByRecursion}
 use Rattle.std.specs.Option.{option_map_or}
@@ -10,24 +10,21 @@ use Rattle.omf_format.specs.File.{Segment, IsFile, segment_at}
 use Rattle.omf_format.specs.laws.FileLaws.{file_same}
 use Rattle.omf_io.specs.Files.{FileMap, max_file}
 use Rattle.load_meaning.specs.declared.table.Target.{Target}
-use Rattle.load_meaning.specs.declared.load.LoadFault.{LoadFault}
-use Rattle.load_meaning.specs.Table.{entry_start}
 use Rattle.load_meaning.specs.Pathnames.{paths_of}
-use Rattle.load_meaning.specs.LoadTable.{table_from, targets_of}
+use Rattle.load_meaning.specs.LoadTable.{table_of, targets_of}
 use Rattle.load_meaning.specs.Loadable.{IsLoadable}
 use Rattle.link_meaning.specs.Member.{Member, RuntimeFile, Setting, setting_in}
 use Rattle.link_meaning.specs.Layout.{load_names}
-use Rattle.link_meaning.specs.LinkValues.{Told}
-use Rattle.link_meaning.specs.LinkedCells.{items, targets}
+use Rattle.link_meaning.specs.LinkedCells.{targets}
 use Rattle.link_meaning.specs.LinkFaults.{Given, HasBytes, AreRuntimes}
 use Rattle.link_meaning.specs.LinkWritten.{images, written_file}
-use Rattle.link_meaning.specs.EmitFaults.{IsLinkable, IsLinkedTo}
-use Rattle.link_meaning.specs.LinkLoadable.{NamesNoSkipped, StandFor, IsCalledHere, IsCalledThere, IsCalled}
+use Rattle.link_meaning.specs.EmitFaults.{IsLinkedTo}
+use Rattle.link_meaning.specs.LinkLoadable.{NamesNoSkipped, StandFor, IsCalled}
 use Rattle.link_meaning.specs.laws.EmitFaultLaws.{linkable_made, linkable_short, linkable_stands_for}
 use Rattle.link_meaning.specs.laws.ValueFits.{all_sound}
 use Rattle.link_meaning.specs.laws.LinkWrittenLaws.{are_images}
 use Rattle.link_meaning.specs.laws.SettingLaws.{of_setting}
-use Rattle.link_meaning.specs.laws.WrittenSegments.{AreWrittenAs, are_written_as}
+use Rattle.link_meaning.specs.laws.WrittenSegments.{are_written_as}
 use Rattle.link_meaning.specs.laws.LoadSegmentLaws.{is_read_whole}
 use Rattle.link_meaning.specs.laws.LinkLoadableLaws.{only_calls_reach_dynamic, is_loaded}
 use Rattle.iigs_meaning.specs.Puts.{Purges}
@@ -45,22 +42,22 @@ use Rattle.loader_agrees.specs.Agrees.{Loaded, Meets}
 use Rattle.sys_loader.specs.declared.answers.Started as answers
 use Rattle.sys_loader.specs.Replies.{load_reply}
 use Rattle.omf_cli.specs.Loads.{LiesOutside, BeginsOrLacks, HoldsLibraries}
-use Rattle.omf_cli.proofs.ReadBack.{IsReadBack, read_back}
+use Rattle.omf_cli.proofs.ReadBack.{HasTable, IsReadBack, read_back}
 
 -- ---- replies
 
 -- a program began, or none did for a reason outside the file
-abbrev Passes : Reply → Type 0
-Passes (Started user entry) = Unit {0}
-Passes (Refused why) = LiesOutside why
-Passes _ = ⊥
+abbrev ReplyBegins : Reply → Type 0
+ReplyBegins (Started user entry) = Unit {0}
+ReplyBegins (Refused why) = LiesOutside why
+ReplyBegins _ = ⊥
 
-begun : (result : Result answers.Started LoaderFault) → Passes (load_reply result) → BeginsOrLacks result
-begun (Ok started) passes = tt
-begun (Err why) passes = passes
+begun : (result : Result answers.Started LoaderFault) → ReplyBegins (load_reply result) → BeginsOrLacks result
+begun (Ok started) begins' = tt
+begun (Err why) outside = outside
 
-refused : (reply : Reply) (why : LoaderFault) → LiesOutside why → reply ≡ Refused why → Passes reply
-refused reply why outside e = subst Passes (sym e) outside
+refused : (reply : Reply) (why : LoaderFault) → LiesOutside why → reply ≡ Refused why → ReplyBegins reply
+refused reply why outside e = subst ReplyBegins (sym e) outside
 
 crowded : (fits : Bool) (why : LoaderFault) → cond fits None (Some fault.TooManyUsers) ≡ Some why → LiesOutside why
 crowded true why e = absurd cc
@@ -176,9 +173,8 @@ module _ (given : Given) (output : List ℕ) (bytes : HasBytes given) (is : IsLi
   unfolding lost_refusal
   no_lost = by_table back.table'
     where
-      by_table : (table_from 1 loaded.0 ≡ None)
-          ⊎ ((s : Segment) × (slice_get loaded.0 (length (load_names is.list)) ≡ Some s) × (table_from 1 loaded.0 ≡ Some (suc (length (load_names is.list)))) × (targets_of s ≡ targets is.list is.table))
-          → option_map fault.BadFile (option_and_then (lost_in (heads_in (setting_in is.list).runtimes) loaded.0) (table_from 1 loaded.0)) ≡ None
+      by_table : HasTable (length (load_names is.list)) (targets is.list is.table) loaded.0
+          → option_map fault.BadFile (option_and_then (lost_in (heads_in (setting_in is.list).runtimes) loaded.0) (table_of loaded.0)) ≡ None
       by_table (inl no_table) = rw no_table refl
       by_table (inr (s, there, number, leads)) =
           let entries : lost_from (heads_in (setting_in is.list).runtimes) 0 (targets_of s) ≡ None = ap (lost_from (heads_in (setting_in is.list).runtimes) 0) leads ∙ none_lost is.list 0 (targets is.list is.table) called in
@@ -186,22 +182,22 @@ module _ (given : Given) (output : List ℕ) (bytes : HasBytes given) (is : IsLi
           rw number (rw rest refl)
 
   module _ (reply : Reply) (next : Machine) where
-    lands : (put : Put) (id : ℕ) (heads : List Head) (users : User → List (Option User)) → Lands state path id heads users put reply next → Passes reply
+    lands : (put : Put) (id : ℕ) (heads : List Head) (users : User → List (Option User)) → Lands state path id heads users put reply next → ReplyBegins reply
     lands NoSlots id heads users at = refused reply fault.NoHandle tt at.0
     lands (Lacks i) id heads users at = refused reply (fault.NoRoom _) tt at.0
-    lands (PutIn handles slots) id heads users at = subst Passes (sym at.0) tt
+    lands (PutIn handles slots) id heads users at = subst ReplyBegins (sym at.0) tt
 
     -- by what comes of the rows
-    joins : (joined : Joined) → Joining (setting_in is.list).runtimes joined → LoadsJoined Purges state path loaded.0 joined reply next → Passes reply
+    joins : (joined : Joined) → Joining (setting_in is.list).runtimes joined → LoadsJoined Purges state path loaded.0 joined reply next → ReplyBegins reply
     joins (Stops reads why) comes at = refused reply fault.CannotRead tt (at.0 ∙ ap (λ (w : LoaderFault). Refused w) comes)
     joins (Joins all) comes at = by_entries _ _ (lost_refusal (map (map head_of) all) loaded.0) (ap (λ (l : List (List Segment)). lost_refusal (map (map head_of) l) loaded.0) comes ∙ no_lost) at
       where
-        by_entries : (id : ℕ) (users : User → List (Option User)) (r : Refuse) → r ≡ None → Decides r state reply next (Begins Purges state state.slots path id loaded.0 users reply next) → Passes reply
+        by_entries : (id : ℕ) (users : User → List (Option User)) (r : Refuse) → r ≡ None → Decides r state reply next (Begins Purges state state.slots path id loaded.0 users reply next) → ReplyBegins reply
         by_entries id users None e begins' = lands begins'.put id (map head_of loaded.0) users begins'.lands
         by_entries id users (Some why) e begins' = absurd cc
 
     rows : (r : Refuse) → rows_refusal (length state.users) (length (paths_of loaded.0)) ≡ r
-        → Decides r state reply next ((joined : Joined) × AreJoined held (paths_of loaded.0) joined × LoadsJoined Purges state path loaded.0 joined reply next) → Passes reply
+        → Decides r state reply next ((joined : Joined) × AreJoined held (paths_of loaded.0) joined × LoadsJoined Purges state path loaded.0 joined reply next) → ReplyBegins reply
     rows (Some why) e at = refused reply why (too_many (length state.users) (length (paths_of loaded.0)) why e) at.0
     rows None e at =
         let program = is.linkable.resolved.program in
@@ -210,21 +206,21 @@ module _ (given : Given) (output : List ℕ) (bytes : HasBytes given) (is : IsLi
         let same : come.0 ≡ at.0 = joined_once held (paths_of loaded.0) come.0 at.0 (subst (λ (paths : List (List ℕ)). AreJoined held paths come.0) (sym back.paths) come.1) at.1 in
         joins at.0 (subst (Joining (setting_in is.list).runtimes) same come.2) at.2
 
-    found : (f : Found) → IsFound held path f → LoadsFound Purges held state path f reply next → Passes reply
+    found : (f : Found) → IsFound held path f → LoadsFound Purges held state path f reply next → ReplyBegins reply
     found f is_found at =
         let good : HoldsLoad held path loaded.0 = record { file = output; is_held = (here, is_read_whole given output is); loadable = loaded.1 } in
         rows (rows_refusal (length state.users) (length (paths_of loaded.0))) refl
         (subst (λ (g : Found). LoadsFound Purges held state path g reply next) (found_once held path f (Good loaded.0) is_found good) at)
 
     steps : (r : Refuse) → load_refusal (length state.users) ≡ r
-        → Decides r state reply next ((f : Found) × IsFound held path f × LoadsFound Purges held state path f reply next) → Passes reply
+        → Decides r state reply next ((f : Found) × IsFound held path f × LoadsFound Purges held state path f reply next) → ReplyBegins reply
     steps None e at = found at.0 at.1 at.2
     steps (Some why) e at = refused reply why (full (length state.users) why e) at.0
 
   pub begins : (result : Result answers.Started LoaderFault) (new : Loaded) (before now : ℕ) → Meets Purges held state (Load path) (load_reply result) new before now → BeginsOrLacks result
   begins result new before now met = begun result (by_case met)
     where
-      by_case : Meets Purges held state (Load path) (load_reply result) new before now → Passes (load_reply result)
+      by_case : Meets Purges held state (Load path) (load_reply result) new before now → ReplyBegins (load_reply result)
       by_case (inl is') = steps (load_reply result) is'.0.0 (load_refusal (length state.users)) refl is'.0.1
       by_case (inr (inl cannot)) = refused (load_reply result) fault.CannotRead tt cannot.0
       by_case (inr (inr memory)) = refused (load_reply result) fault.Memory tt memory.0

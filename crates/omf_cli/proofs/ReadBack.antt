@@ -1,16 +1,16 @@
 -- A file that the linker wrote, as a loader reads it: where the entries of its table lead, and the paths of its rows.
-use Rattle.std.proofs.Common.{◌≡◌, ◌⊎◌, inl, inr, ℕ, zero, suc, ◌+◌, ◌-◌, ◌*◌, ◌<◌, ◌≤◌, Bool, false, cond, eqb, List, [], ◌∷◌, ◌++◌, length, map, Option, Some, None, refl, sym, ap, subst, ◌∙◌, arith}
+use Rattle.std.proofs.Common.{◌≡◌, ◌⊎◌, inl, inr, ℕ, zero, suc, ◌+◌, ◌-◌, ◌≤◌, Bool, false, cond, eqb, List, [], ◌∷◌, ◌++◌, length, map, Option, Some, None, refl, sym, ap, subst, ◌∙◌, arith}
 use Rattle.std.specs.Prelude.{slice_get, option_map}
 use Rattle.std.specs.List.{AllByRecursion}
 use Rattle.std.proofs.lemmas.List.{length-map}
 use Rattle.omf_format.specs.Header.{Fields, form_of}
-use Rattle.omf_format.specs.File.{Segment}
+use Rattle.omf_format.specs.File.{Segment, segment_at}
 use Rattle.load_meaning.specs.declared.table.Target.{Target}
 use Rattle.load_meaning.specs.declared.table.Entry.{Entry}
 use Rattle.load_meaning.specs.Cells.{segment_bytes}
-use Rattle.load_meaning.specs.Pathnames.{IsPath, most_paths, has_pathnames, rows_text, paths_text, paths_in, paths_of}
+use Rattle.load_meaning.specs.Pathnames.{IsPath, most_paths, rows_text, paths_text, paths_in, paths_of}
 use Rattle.load_meaning.specs.Table.{FitsEntry, IsTableOf, IsEntryAt, entry_start, file_entry, table_bytes}
-use Rattle.load_meaning.specs.LoadTable.{is_table, table_from, entry_count, target_at, targets_from, targets_of}
+use Rattle.load_meaning.specs.LoadTable.{table_from, table_of, entry_count, target_at, targets_from, targets_of}
 use Rattle.load_meaning.specs.WrittenFile.{Image, table_fields, table_image, pathnames_fields, pathnames_image}
 use Rattle.load_meaning.specs.laws.TableLaws.{table_laid_out}
 use Rattle.load_meaning.specs.laws.WrittenTableLaws.{length-table_bytes}
@@ -20,11 +20,11 @@ use Rattle.link_meaning.specs.Member.{Member, RuntimeFile, setting_in}
 use Rattle.link_meaning.specs.Layout.{load_names, load_fields, load_headers}
 use Rattle.link_meaning.specs.LinkValues.{Told}
 use Rattle.link_meaning.specs.Fitting.{load_header, length_of}
-use Rattle.link_meaning.specs.LinkedCells.{table_number, items, targets}
+use Rattle.link_meaning.specs.LinkedCells.{table_number, targets}
 use Rattle.link_meaning.specs.LinkFaults.{Given, HasBytes, is_too_long}
 use Rattle.link_meaning.specs.LinkWritten.{image_of, load_images, table_images, path_images, images}
 use Rattle.link_meaning.specs.EmitFaults.{IsLinkable}
-use Rattle.link_meaning.specs.LinkLoadable.{IsCalledHere, IsCalledThere, IsCalled}
+use Rattle.link_meaning.specs.LinkLoadable.{IsCalled}
 use Rattle.link_meaning.specs.laws.ReadMembers.{members_read, read_kind}
 use Rattle.link_meaning.specs.laws.LinkWrittenLaws.{few_loads, short_loads, short_length}
 use Rattle.link_meaning.specs.laws.LoadSegmentLaws.{PlainKind, load_kind}
@@ -102,6 +102,11 @@ rows_read more number (r ∷ runtimes) (s ∷ []) most all few written =
 
 -- ---- the whole file
 
+-- there is no table; or it stands behind so many segments, and its entries lead to these targets
+abbrev pub HasTable : ℕ → List Target → List Segment → Type 0
+HasTable count ts segments = (table_of segments ≡ None)
+    ⊎ ((s : Segment) × (segment_at segments (suc count) ≡ Some s) × (table_of segments ≡ Some (suc count)) × (targets_of s ≡ ts))
+
 module _ (given : Given) (list : List Member) (table : List Told) (bytes : HasBytes given) (is : IsLinkable given list table) where
   -- LENGTH of a load segment
   length_fits : (number : ℕ) → length_of (load_headers list) number ≤ 0xFFFFFF
@@ -165,13 +170,13 @@ module _ (given : Given) (list : List Member) (table : List Told) (bytes : HasBy
       }
 
   -- there is no table, where it has no entries; or it is the first of these segments, of which the first has this number
-  abbrev HasTable : ℕ → List Target → List Segment → Type 0
-  HasTable number ts segments = (table_from number segments ≡ None)
+  abbrev BeginsWithTable : ℕ → List Target → List Segment → Type 0
+  BeginsWithTable number ts segments = (table_from number segments ≡ None)
       ⊎ ((s : Segment) × (slice_get segments 0 ≡ Some s) × (table_from number segments ≡ Some number) × (targets_of s ≡ ts))
 
   behind_table : (number last : ℕ) (ts : List Target) (segments : List Segment) → AllByRecursion (IsCalled list) ts
       → AreWrittenAs (table_images number ts ++ path_images last (setting_in list).runtimes) segments
-      → (paths_of segments ≡ map (λ r. r.path) (setting_in list).runtimes) × ((n : ℕ) → HasTable n ts segments)
+      → (paths_of segments ≡ map (λ r. r.path) (setting_in list).runtimes) × ((n : ℕ) → BeginsWithTable n ts segments)
   unfolding paths_of
   behind_table number last [] segments called written =
       let paths = has_paths given list bytes is.resolved.program in
@@ -191,11 +196,10 @@ module _ (given : Given) (list : List Member) (table : List Told) (bytes : HasBy
         ),
       )
 
-  -- the paths of the rows are those of the run-time library files
+  -- the paths of the rows are those of the run-time library files, and the table's entries lead to what the linker calls
   pub record IsReadBack (segments : List Segment) : Type 0 where
     pub paths : paths_of segments ≡ map (λ r. r.path) (setting_in list).runtimes
-    pub table' : (table_from 1 segments ≡ None)
-        ⊎ ((s : Segment) × (slice_get segments (length (load_names list)) ≡ Some s) × (table_from 1 segments ≡ Some (suc (length (load_names list)))) × (targets_of s ≡ targets list table))
+    pub table' : HasTable (length (load_names list)) (targets list table) segments
 
   pub read_back : (segments : List Segment) → AllByRecursion (IsCalled list) (targets list table) → AreWrittenAs (images list table) segments → IsReadBack segments
   unfolding images
@@ -207,9 +211,8 @@ module _ (given : Given) (list : List Member) (table : List Told) (bytes : HasBy
       let rest = behind_table (table_number list) last (targets list table) loads.behind called loads.written in
       record { paths = loads.paths ∙ rest.0; table' = by_table loads (rest.1 (1 + length (load_names list))) }
     where
-      by_table : {more : List Image} (loads : Behind segments (length (load_names list)) more) → HasTable (1 + length (load_names list)) (targets list table) loads.behind
-          → (table_from 1 segments ≡ None)
-          ⊎ ((s : Segment) × (slice_get segments (length (load_names list)) ≡ Some s) × (table_from 1 segments ≡ Some (suc (length (load_names list)))) × (targets_of s ≡ targets list table))
+      by_table : {more : List Image} (loads : Behind segments (length (load_names list)) more) → BeginsWithTable (1 + length (load_names list)) (targets list table) loads.behind
+          → HasTable (length (load_names list)) (targets list table) segments
       by_table loads (inl none) = inl (loads.table' 1 ∙ none)
       by_table loads (inr (s, there, number, leads')) =
           let place : length (load_names list) + 0 ≡ length (load_names list) = omega arith in
