@@ -48,7 +48,7 @@ rows_end held (path ∷ paths) before now joined (inr (file, is_read, inr (segme
 -- ---- the counts of a load that was refused
 
 -- so many files were read, and one read failed at most
-record HasCounts (held : Option FileMap) (why : LoaderFault) (before now reads : ℕ) : Type 0 where
+pub record HasCounts (held : Option FileMap) (why : LoaderFault) (before now reads : ℕ) : Type 0 where
   pub few : reads ≤ most_reads
   pub may : LoadMayRead (is_full_fault why) reads
   pub faulted : IsFaulted {A = Started} held (Err why) before now

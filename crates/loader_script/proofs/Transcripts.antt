@@ -23,11 +23,11 @@ use Rattle.loader_machine.specs.declared.seen.Head.{Head}
 use Rattle.loader_machine.specs.declared.faults.LoaderFault.{LoaderFault}
 use Rattle.loader_machine.specs.declared.faults.LoaderFault.TheVariants as faults
 use Rattle.loader_machine.specs.Heads.{at_number, is_table}
-use Rattle.loader_machine.specs.State.{User, Machine, Seen, empty_of, is_running, is_attached}
+use Rattle.loader_machine.specs.State.{Machine, Seen, empty_of, is_running, is_attached}
 use Rattle.loader_machine.specs.Presences.{presence_at, is_active}
 use Rattle.loader_machine.specs.Commands as commands
 use Rattle.loader_machine.specs.Commands.{Command, Load, LoadSegment, Jsl, Restart, Reply}
-use Rattle.loader_machine.specs.Needs.{Needs, NeedsOf, NeedsBehind, IsReadFor, path_if}
+use Rattle.loader_machine.specs.Needs.{Needs, NeedsBehind, IsReadFor, path_if}
 use Rattle.loader_machine.specs.Refusals.{Refuse, of_user, of_running, of_head, of_own, of_live, of_there, bytes_refusal, info_refusal, poke_refusal, unload_refusal, load_segment_refusal, restart_refusal, shut_down_refusal, purge_refusal, free_refusal, change_refusal, state_refusal}
 use Rattle.loader_machine.specs.Transcript.{IsAnswered, AreAnswered}
 use Rattle.loader_machine.specs.Replies.{reply_line, replies_text}
@@ -358,27 +358,24 @@ Counted reply before now = now ≡ risen (unread (reply ∷ [])) before
 
 -- ---- reads that fail
 
+few_as : (a b : List (List ℕ)) → a ≡ b → length b ≤ 1 → length a ≤ 1
+few_as a b is few = subst (λ (l : List (List ℕ)). length l ≤ 1) (sym is) few
+
+one_if : (paths : List (List ℕ)) (r : Refuse) (needed : Bool) (path : List ℕ) → paths ≡ path_if r needed path → length paths ≤ 1
+one_if paths (Some why) needed path is = few_as paths [] is (omega arith)
+one_if paths None true path is = few_as paths (path ∷ []) is (omega arith)
+one_if paths None false path is = few_as paths [] is (omega arith)
+
 -- no command needs two files, but for those of rows
-one_if : (r : Refuse) (needed : Bool) (path : List ℕ) → length (path_if r needed path) ≤ 1
-one_if (Some why) needed path = omega arith
-one_if None true path = omega arith
-one_if None false path = omega arith
-
-same_length : (a b : List (List ℕ)) → a ≡ b → length b ≤ 1 → length a ≤ 1
-same_length a b is few = subst (λ (l : List (List ℕ)). length l ≤ 1) (sym is) few
-
-one_of : (files : FileMap) (state : Machine) (id : ℕ) (of : Seen → User → List (List ℕ)) (paths : List (List ℕ)) → ((seen : Seen) (user : User) → length (of seen user) ≤ 1)
-    → NeedsOf files state id of paths → length paths ≤ 1
-one_of files state id of paths few (inl none) = same_length paths [] none.1 (omega arith)
-one_of files state id of paths few (inr its) = same_length paths _ its.1 (few _ its.0.user)
-
 one_needed : (files : FileMap) (state : Machine) (command : Command) (paths : List (List ℕ)) → Needs files state command paths → length paths ≤ 1
-one_needed files state (Load path) paths is = same_length paths _ is (one_if _ true path)
-one_needed files state (LoadSegment user segment) paths is = one_of files state user _ paths (λ seen its. one_if _ _ its.path) is
-one_needed files state (Jsl user segment at) paths (inl its) = same_length paths _ its.5 (one_if None _ its.3.path)
-one_needed files state (Jsl user segment at) paths (inr none) = same_length paths [] none.1 (omega arith)
-one_needed files state (Restart user) paths is = one_of files state user _ paths (λ seen its. one_if _ _ its.path) is
-one_needed files state _ paths is = same_length paths [] is (omega arith)
+one_needed files state (Load path) paths is = one_if paths _ true path is
+one_needed files state (LoadSegment user segment) paths (inl none) = few_as paths [] none.1 (omega arith)
+one_needed files state (LoadSegment user segment) paths (inr its) = one_if paths _ _ _ its.1
+one_needed files state (Jsl user segment at) paths (inl its) = one_if paths None _ _ its.5
+one_needed files state (Jsl user segment at) paths (inr none) = few_as paths [] none.1 (omega arith)
+one_needed files state (Restart user) paths (inl none) = few_as paths [] none.1 (omega arith)
+one_needed files state (Restart user) paths (inr its) = one_if paths _ _ _ its.1
+one_needed files state _ paths is = few_as paths [] is (omega arith)
 
 -- where no file is needed behind the first, as many are read where a read fails
 failed_reads : (files : FileMap) (state : Machine) (command : Command) (before now : ℕ) → ((rows : List (List ℕ)) (behind : ℕ) → NeedsBehind files state command rows behind → behind ≡ 0)
