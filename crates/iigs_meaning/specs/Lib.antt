@@ -5,8 +5,10 @@ pub mod Free
 pub mod Fits
 pub mod Placement
 pub mod Puts
+pub mod Slide
 pub mod Blocks
 pub mod Room
 pub mod Banks
 pub mod Memory
+pub mod Moves
 pub mod laws

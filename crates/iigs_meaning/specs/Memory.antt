@@ -40,8 +40,8 @@ pub record IsNew (banks : List ℕ) (memory : Memory) : Type 0 where
 -- ---- placement
 
 -- a new handle has the block, all zeros
-pub record IsPlaced (Makes : MakesRoom) (old : Memory) (want : Want) (user : ℕ) (locked : Bool) (level : ℕ) (h : Handle) (new : Memory) : Type 0 where
-  pub puts : Puts Makes old.banks old.slots want user locked level h new.slots
+pub record IsPlaced (Makes : MakesRoom) (old : Memory) (want : Want) (user : ℕ) (locked : Bool) (level : ℕ) (movable : Bool) (h : Handle) (new : Memory) : Type 0 where
+  pub puts : Puts Makes old.banks old.slots want user locked level movable h new.slots
   pub zeros : bytes_at new h.slot ≡ replicate want.size 0
   pub kept : KeepsBut old new (h.slot ∷ [])
 

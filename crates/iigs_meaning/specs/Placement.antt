@@ -20,6 +20,10 @@ goes_before one other = nat_lt other.level one.level
 unfoldable pub rank : Slots → Block → ℕ
 rank slots block = count_by (λ slot. option_map_or (λ one. can_purge one && goes_before one block) (block_in slot) false) slots
 
+-- how many blocks may be purged
+abbrev pub count_purgeable : Slots → ℕ
+count_purgeable slots = count_by (λ slot. option_map_or can_purge (block_in slot) false) slots
+
 -- the block is one of the first so many purgeable ones
 unfoldable pub is_gone : Slots → ℕ → Block → Bool
 is_gone slots count block = can_purge block && nat_lt (rank slots block) count

@@ -1,6 +1,6 @@
 -- Blocks put where their wants go, over banks and slots alone. What makes room for a want is a parameter. These are this
 -- project's own rules.
-use Rattle.std.specs.Prelude.{◌≡◌, ◌↔◌, ℕ, Bool, true, ◌==◌, ◌<◌, ◌≤◌, List, [], ◌∷◌, map, take, length, count_by, Some, None, IsSome, IsSomeAnd, slice_get, if◌then◌else◌}
+use Rattle.std.specs.Prelude.{◌≡◌, ◌↔◌, ℕ, Bool, true, false, ◌==◌, ◌<◌, ◌≤◌, List, [], ◌∷◌, map, take, length, count_by, Some, None, IsSome, IsSomeAnd, slice_get, if◌then◌else◌}
 use Rattle.std.specs.Option.{option_map_or}
 use Rattle.iigs_meaning.specs.declared.handles.Handle.{Handle}
 use Rattle.iigs_meaning.specs.declared.slots.Slot.{Slot}
@@ -40,18 +40,18 @@ pub record IsOnce (Makes : MakesRoom) : Type 0 where
 -- ---- one block
 
 -- a block that was just placed
-abbrev pub placed : Want → ℕ → ℕ → Bool → ℕ → Block
-placed want address user locked level = record { at = Some address; want = want; user = user; level = level; locked = locked }
+abbrev pub placed : Want → ℕ → ℕ → Bool → ℕ → Bool → Block
+placed want address user locked level movable = record { at = Some address; want = want; user = user; level = level; locked = locked; movable = movable }
 
 -- a new handle has the block, where there is room for its want
-pub record Puts (Makes : MakesRoom) (banks : List ℕ) (slots : Slots) (want : Want) (user : ℕ) (locked : Bool) (level : ℕ) (h : Handle) (next : Slots) : Type 0 where
+pub record Puts (Makes : MakesRoom) (banks : List ℕ) (slots : Slots) (want : Want) (user : ℕ) (locked : Bool) (level : ℕ) (movable : Bool) (h : Handle) (next : Slots) : Type 0 where
   pub address : ℕ
   pub room : Slots
   pub makes : Makes banks slots want address room
   pub handle : new_handle slots ≡ Some h
-  pub next_is : next ≡ after_take room (placed want address user locked level)
+  pub next_is : next ≡ after_take room (placed want address user locked level movable)
 
--- the handle's empty block is put anew, where there is room for the want; it keeps its user, level and lock
+-- the handle's empty block is put anew, where there is room for the want; it keeps its user, level and lock, and isn't movable
 pub record PutsAnew (Makes : MakesRoom) (banks : List ℕ) (slots : Slots) (h : Handle) (want : Want) (next : Slots) : Type 0 where
   pub block : Block
   pub was : get slots h ≡ Some block
@@ -59,7 +59,7 @@ pub record PutsAnew (Makes : MakesRoom) (banks : List ℕ) (slots : Slots) (h : 
   pub address : ℕ
   pub room : Slots
   pub makes : Makes banks slots want address room
-  pub next_is : next ≡ with_value room h (placed want address block.user block.locked block.level)
+  pub next_is : next ≡ with_value room h (placed want address block.user block.locked block.level false)
 
 -- why no block is put: no slot is free, and else there is no room for the want
 abbrev pub IsPlaceRefusal : MakesRoom → List ℕ → Slots → Want → PlaceFault → Type 0
@@ -98,7 +98,7 @@ PutsAll Makes banks user slots [] [] last = last ≡ slots
 PutsAll Makes banks user slots [] (h ∷ hs) last = ⊥
 PutsAll Makes banks user slots (want ∷ wants) [] last = ⊥
 PutsAll Makes banks user slots (want ∷ wants) (h ∷ hs) last =
-    (middle : Slots) × Puts Makes banks slots want user true 0 h middle × PutsAll Makes banks user middle wants hs last
+    (middle : Slots) × Puts Makes banks slots want user true 0 false h middle × PutsAll Makes banks user middle wants hs last
 
 -- the wants before this one are placed, and there is no room for it then
 pub record LacksRoomAt (Makes : MakesRoom) (banks : List ℕ) (user : ℕ) (slots : Slots) (wants : List Want) (i : ℕ) : Type 0 where

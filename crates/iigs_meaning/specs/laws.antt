@@ -1,1 +1,5 @@
 pub mod PlacementLaws
+pub mod PurgeLaws
+pub mod SlideLaws
+pub mod Left
+pub mod SlideRoomLaws

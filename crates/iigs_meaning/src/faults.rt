@@ -34,3 +34,29 @@ pub enum BlockFault {
     /// The handle's block was purged.
     Empty,
 }
+
+/// Why a block isn't purged.
+#[derive(Clone, Copy, PartialEq, Eq, Debug)]
+pub enum EmptyFault {
+    /// The handle isn't live.
+    Stale,
+    /// The handle's block was purged.
+    Empty,
+    /// The block is locked, or its level is 0.
+    NotPurgeable,
+}
+
+/// Why a block isn't moved.
+#[derive(Clone, Copy, PartialEq, Eq, Debug)]
+pub enum ShiftFault {
+    /// The handle isn't live.
+    Stale,
+    /// The handle's block was purged.
+    Empty,
+    /// The block is locked.
+    Locked,
+    /// The address is above the block's.
+    Higher,
+    /// The want with which the block was last placed doesn't fit there beside the other blocks.
+    NoFit,
+}

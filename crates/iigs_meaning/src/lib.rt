@@ -7,7 +7,7 @@ mod handles;
 mod slots;
 mod wants;
 
-pub use faults::{BanksFault, BlockFault, PlaceFault};
+pub use faults::{BanksFault, BlockFault, EmptyFault, PlaceFault, ShiftFault};
 pub use handles::{Handle, Stale};
 pub use slots::{Content, Slot};
 pub use wants::{Block, BlockState, Want};

@@ -30,8 +30,10 @@ pub struct Block {
     pub user: u16,
     /// How willingly it is purged: 0 never, the highest level first.
     pub level: u8,
-    /// Whether it may not be purged meanwhile.
+    /// Whether it may not be purged or moved meanwhile.
     pub locked: bool,
+    /// Whether it was made to be moved while it isn't locked.
+    pub movable: bool,
 }
 
 /// What is told of a block.

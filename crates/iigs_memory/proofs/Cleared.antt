@@ -1,5 +1,5 @@
 -- Blocks whose bytes are made zeros.
-use Rattle.std.proofs.Common.{◌≡◌, ◌≢◌, inl, inr, ℕ, true, zero, suc, ◌+◌, ◌<◌, ◌≤◌, ◌^◌, List, [], ◌∷◌, map, take, replicate, All, Contains, length, get_or, slice_get, Some, IfSome, length-append, length-drop, ◌++◌, drop, arith, add-one, refl, sym, ap, ◌∙◌}
+use Rattle.std.proofs.Common.{◌≡◌, ◌≢◌, inl, inr, ℕ, true, false, zero, suc, ◌+◌, ◌<◌, ◌≤◌, ◌^◌, List, [], ◌∷◌, map, take, replicate, All, Contains, length, get_or, slice_get, Some, IfSome, length-append, length-drop, ◌++◌, drop, arith, add-one, refl, sym, ap, ◌∙◌}
 use Rattle.std.specs.Option.{option_and_then}
 use Rattle.std.proofs.Math.ListN.{set}
 use Rattle.std.proofs.lemmas.List.{length-take, length-replicate}
@@ -50,12 +50,12 @@ here_is : (slot : Slot Block) (block : Block) → block_in slot ≡ Some block �
 here_is slot block there = ap (option_and_then extent_of) there
 
 module _ (banks : List ℕ) (user : ℕ) (slots : List (Slot Block)) (bounded : All IsBoundedSlot slots) (sound : AreApart banks slots) where
-  put_at : (want : Want) (put : Put) → block_in (slot_at slots put.handle.slot) ≡ Some (placed want put.at user true 0)
+  put_at : (want : Want) (put : Put) → block_in (slot_at slots put.handle.slot) ≡ Some (placed want put.at user true 0 false)
       → extent (slot_at slots put.handle.slot) ≡ Some (put.at, want.size)
-  put_at want put there = here_is (slot_at slots put.handle.slot) (placed want put.at user true 0) there
+  put_at want put there = here_is (slot_at slots put.handle.slot) (placed want put.at user true 0 false) there
 
   module _ (buffer : List ℕ) (room : bytes_below banks 256 ≤ length buffer) (want : Want) (put : Put)
-      (there : block_in (slot_at slots put.handle.slot) ≡ Some (placed want put.at user true 0)) where
+      (there : block_in (slot_at slots put.handle.slot) ≡ Some (placed want put.at user true 0 false)) where
     one_inside : offset_of banks put.at + want.size ≤ length buffer
     one_inside = in_buffer banks buffer slots bounded sound room put.handle.slot (put.at, want.size) (put_at want put there)
 

@@ -5,6 +5,7 @@ pub mod Keeps
 pub mod Stores
 pub mod Holds
 pub mod Puts
+pub mod Shifted
 pub mod Cleared
 pub mod AllPlaced
 pub mod Blank

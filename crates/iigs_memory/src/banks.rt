@@ -12,12 +12,17 @@ ghost use Rattle.iigs_meaning.specs.Puts.{Purges, IsPlaceRefusal, IsReplaceRefus
 ghost use Rattle.iigs_meaning.specs.Blocks.{IsBlockRefusal, IsStale, AreApart, new_slots, state_of};
 ghost use Rattle.iigs_meaning.specs.Banks.{IsBanksRefusal};
 ghost use Rattle.iigs_meaning.specs.Memory.{bytes_at, IsLent, KeepsBut, Changes, IsFreed, IsPurged, IsPlaced, AreAllPlaced, IsReplaced, IsNew};
+ghost use Rattle.iigs_meaning.specs.Placement.{emptied};
+ghost use Rattle.iigs_meaning.specs.Moves.{count_there, IsNth, IsEmptied, IsEmptyRefusal, IsShifted, IsShiftRefusal};
 ghost use Rattle.iigs_meaning.specs.Room.{CountsBelow, IsRoom};
 
 use crate::part::Part;
-use crate::placed::{clear, clear_all, give};
+use crate::placed::{clear, clear_all, copy_bytes, give};
 use iigs_handles::SLOTS;
-use iigs_meaning::{BanksFault, Block, BlockFault, BlockState, Handle, PlaceFault, Stale, Want};
+use iigs_meaning::{
+    BanksFault, Block, BlockFault, BlockState, EmptyFault, Handle, PlaceFault, ShiftFault, Stale,
+    Want,
+};
 use iigs_places::{Places, Put};
 use std::alloc::{AllocError, Global};
 use std::marker::Model;
@@ -205,7 +210,7 @@ impl Banks {
     }
 
     // Puts a block in the place of a live handle's, with its place and size.
-    fn put(&mut self, h: Handle, block: Block)
+    fn change(&mut self, h: Handle, block: Block)
         requires same { IsSomeAnd (get self.old.slots h) (λ old. (block.at ≡ old.at) × (block.want ≡ old.want)) }
         requires level { block.level < 256 }
         ensures slots { self.new.slots ≡ with_value self.old.slots h block }
@@ -221,7 +226,7 @@ impl Banks {
         ensures err { OnErr result (self.new ≡ self.old) }
     {
         let block = self.there(h)?;
-        self.put(
+        self.change(
             h,
             Block {
                 locked: true,
@@ -238,7 +243,7 @@ impl Banks {
         ensures err { OnErr result (self.new ≡ self.old) }
     {
         let block = self.there(h)?;
-        self.put(
+        self.change(
             h,
             Block {
                 locked: false,
@@ -255,7 +260,7 @@ impl Banks {
         ensures err { OnErr result (self.new ≡ self.old) }
     {
         let block = self.there(h)?;
-        self.put(h, Block { level, ..block });
+        self.change(h, Block { level, ..block });
         Ok(())
     }
 
@@ -295,7 +300,7 @@ impl Banks {
         self.places.purge_user(user)
     }
 
-    /// Places a block under a new handle. It is all zeros. Blocks are purged for it as needed.
+    /// Places a block under a new handle, which isn't movable. It is all zeros. Blocks are purged for it as needed.
     pub fn place(
         &mut self,
         want: &Want,
@@ -304,12 +309,29 @@ impl Banks {
         level: u8,
     ) -> Result<Handle, PlaceFault>
         requires want { IsWant want.now }
-        ensures placed { IfOk result (λ h. IsPlaced Purges self.old want.now user locked level h self.new) }
+        ensures placed { IfOk result (λ h. IsPlaced Purges self.old want.now user locked level false h self.new) }
+        ensures refused { IfErr result (IsPlaceRefusal Purges self.old.banks self.old.slots want.now) }
+        ensures err { OnErr result (self.new ≡ self.old) }
+    {
+        self.put(want, user, locked, level, false)
+    }
+
+    /// Places a block under a new handle, which may be movable. It is all zeros. Blocks are purged for it as needed.
+    pub fn put(
+        &mut self,
+        want: &Want,
+        user: u16,
+        locked: bool,
+        level: u8,
+        movable: bool,
+    ) -> Result<Handle, PlaceFault>
+        requires want { IsWant want.now }
+        ensures placed { IfOk result (λ h. IsPlaced Purges self.old want.now user locked level movable h self.new) }
         ensures refused { IfErr result (IsPlaceRefusal Purges self.old.banks self.old.slots want.now) }
         ensures err { OnErr result (self.new ≡ self.old) }
     {
         self.places.know_arranged();
-        let put = match self.places.place(want, user, locked, level) {
+        let put = match self.places.place(want, user, locked, level, movable) {
             Ok(put) => put,
             Err(fault) => return Err(fault),
         };
@@ -322,7 +344,8 @@ impl Banks {
         Ok(put.handle)
     }
 
-    /// Places an empty block anew under its handle. It is all zeros, and keeps its user, level and lock.
+    /// Places an empty block anew under its handle. It is all zeros, keeps its user, level and lock,
+    /// and isn't movable.
     pub fn replace(&mut self, h: Handle, want: &Want) -> Result<(), PlaceFault>
         requires want { IsWant want.now }
         ensures replaced { IfOk result (λ _. IsReplaced Purges self.old h want.now self.new) }
@@ -370,6 +393,86 @@ impl Banks {
         mem::swap(&mut self.places, &mut self.plan);
         clear_all(&self.places, &mut self.bytes, self.blank, wants, &self.made);
         give(&self.made, handles);
+        Ok(())
+    }
+
+    /// Where the blocks lie.
+    pub fn places(&self) -> &Places
+        ensures { result.now ≡ record { banks = self.now.banks; slots = self.now.slots } }
+    {
+        &self.places
+    }
+
+    /// How many blocks are there.
+    pub fn count(&self) -> u32
+        ensures { result ≡ count_there self.now.slots }
+    {
+        self.places.count()
+    }
+
+    /// The handle of the block at a place, from 0, in order of address.
+    pub fn nth(&self, place: u32) -> Option<Handle>
+        ensures { MatchOption result (count_there self.now.slots ≤ place) (IsNth self.now.slots place) }
+    {
+        self.places.nth(place)
+    }
+
+    /// The want with which a handle's block was last placed, whether it is there or was purged.
+    pub fn kept(&self, h: Handle) -> Result<Want, BlockFault>
+        ensures want { result_ok result ≡ option_map (λ block. block.want) (get self.now.slots h) }
+        ensures refused { IfErr result (IsStale self.now.slots h) }
+    {
+        match self.places.look(h) {
+            Ok(block) => Ok(block.want),
+            Err(Stale) => Err(BlockFault::Stale),
+        }
+    }
+
+    /// Purges a block. Its handle stays.
+    pub fn empty(&mut self, h: Handle) -> Result<(), EmptyFault>
+        ensures emptied { IfOk result (λ _. IsEmptied self.old h self.new) }
+        ensures refused { IfErr result (IsEmptyRefusal self.old.slots h) }
+        ensures err { OnErr result (self.new ≡ self.old) }
+    {
+        self.places.know_arranged();
+        match self.places.empty(h) {
+            Ok(()) => {}
+            Err(fault) => return Err(fault),
+        }
+        Ok(())
+    }
+
+    /// Purges the first so many purgeable blocks, whose handles stay.
+    pub fn purge_first(&mut self, count: u32)
+        ensures slots { self.new.slots ≡ emptied self.old.slots count }
+        ensures kept { KeepsBut self.old self.new [] }
+    {
+        self.places.purge_first(count);
+    }
+
+    /// Moves a block that isn't locked, with its bytes, to an address not above its own.
+    pub fn shift(&mut self, h: Handle, to: u32) -> Result<(), ShiftFault>
+        ensures shifted { IfOk result (λ _. IsShifted self.old h to self.new) }
+        ensures refused { IfErr result (IsShiftRefusal self.old.banks self.old.slots h to) }
+        ensures err { OnErr result (self.new ≡ self.old) }
+    {
+        self.places.know_arranged();
+        let block = match self.places.shift(h, to) {
+            Ok(block) => block,
+            Err(fault) => return Err(fault),
+        };
+        let Some(at) = block.at else {
+            unreachable!();
+        };
+        let from = self.places.offset(at);
+        let start = self.places.offset(to);
+        copy_bytes(
+            &mut self.bytes,
+            self.blank,
+            from,
+            block.want.size as usize,
+            start,
+        );
         Ok(())
     }
 

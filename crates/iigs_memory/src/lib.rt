@@ -10,5 +10,7 @@ mod placed;
 
 pub use banks::Banks;
 pub use iigs_handles::Handle;
-pub use iigs_meaning::{BanksFault, Block, BlockFault, BlockState, PlaceFault, Want};
+pub use iigs_meaning::{
+    BanksFault, Block, BlockFault, BlockState, EmptyFault, PlaceFault, ShiftFault, Want,
+};
 pub use law::wants_go_to_one_address;

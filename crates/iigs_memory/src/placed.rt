@@ -27,6 +27,27 @@ pub fn clear(bytes: &mut Vec<u8>, blank: bool, start: usize, size: usize)
     }
 }
 
+fn copy(bytes: &mut Vec<u8>, from: usize, size: usize, start: usize)
+    requires from { from + size ≤ length bytes.old.items }
+    requires to { start + size ≤ length bytes.old.items }
+    ensures { bytes.new.items ≡ take start bytes.old.items ++ (take size (drop from bytes.old.items) ++ drop (start + size) bytes.old.items) }
+{
+    bytes.as_mut_slice().copy_within(from..from + size, start);
+}
+
+/// Copies bytes of the buffer to another place, which may overlap theirs. Where it is blank they are there already.
+pub fn copy_bytes(bytes: &mut Vec<u8>, blank: bool, from: usize, size: usize, start: usize)
+    requires from { from + size ≤ length bytes.old.items }
+    requires to { start + size ≤ length bytes.old.items }
+    requires blank { IsBlank blank bytes.old.items }
+    ensures value { bytes.new.items ≡ take start bytes.old.items ++ (take size (drop from bytes.old.items) ++ drop (start + size) bytes.old.items) }
+    ensures blank { IsBlank blank bytes.new.items }
+{
+    if !blank {
+        copy(bytes, from, size, start);
+    }
+}
+
 /// Makes the bytes of all these blocks zeros. Where the buffer is blank they are zeros already.
 pub fn clear_all(places: &Places, bytes: &mut Vec<u8>, blank: bool, wants: &[Want], made: &[Put])
     requires lengths { length wants.now ≡ length made.now }

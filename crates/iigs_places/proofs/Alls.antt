@@ -24,9 +24,9 @@ use Rattle.iigs_places.proofs.Puts.{PutFacts, put_is, put_facts}
 
 -- one more at the end
 pub puts_more : (banks : List ℕ) (user : ℕ) (start : List (Slot Block)) (wants : List Want) (hs : List Handle) (now next : List (Slot Block)) (want : Want) (h : Handle)
-    → PutsAll Purges banks user start wants hs now → Puts Purges banks now want user true 0 h next
+    → PutsAll Purges banks user start wants hs now → Puts Purges banks now want user true 0 false h next
     → PutsAll Purges banks user start (wants ++ want ∷ []) (hs ++ h ∷ []) next
-puts_more banks user start [] [] now next want h done one = (next, subst (λ (s : List (Slot Block)). Puts Purges banks s want user true 0 h next) done one, refl)
+puts_more banks user start [] [] now next want h done one = (next, subst (λ (s : List (Slot Block)). Puts Purges banks s want user true 0 false h next) done one, refl)
 puts_more banks user start [] (g ∷ hs) now next want h done one = absurd done
 puts_more banks user start (w ∷ wants) [] now next want h done one = absurd done
 puts_more banks user start (w ∷ wants) (g ∷ hs) now next want h done one =
@@ -54,9 +54,9 @@ locked_stays slots count slot block locked there = go (block_in slot) there
         rw (kept (nat_lt (rank slots one) count) one is) there
 
 -- in the slots after one more block was put
-module _ (banks : List ℕ) (now next : List (Slot Block)) (want : Want) (user : ℕ) (put : Put) (done : IsPut banks now want user true 0 put next) where
+module _ (banks : List ℕ) (now next : List (Slot Block)) (want : Want) (user : ℕ) (put : Put) (done : IsPut banks now want user true 0 false put next) where
   abbrev pub block : Block
-  block = placed want put.at user true 0
+  block = placed want put.at user true 0 false
 
   took : (after_take (emptied now done.count) block ≡ set (emptied now done.count) put.handle.slot (record { generation = put.handle.generation; content = Used block }))
       × (put.handle.slot < length (emptied now done.count)) × (block_in (slot_at (emptied now done.count) put.handle.slot) ≡ None)
@@ -80,7 +80,7 @@ module _ (banks : List ℕ) (now next : List (Slot Block)) (want : Want) (user :
   blocks_more [] [] blocks = (block_here, tt)
   blocks_more [] (p ∷ puts) blocks = absurd blocks
   blocks_more (w ∷ wants) [] blocks = absurd blocks
-  blocks_more (w ∷ wants) (p ∷ puts) blocks = (block_stays p.handle.slot (placed w p.at user true 0) refl blocks.0, blocks_more wants puts blocks.1)
+  blocks_more (w ∷ wants) (p ∷ puts) blocks = (block_stays p.handle.slot (placed w p.at user true 0 false) refl blocks.0, blocks_more wants puts blocks.1)
 
 -- how many slots are free
 count-map : (f : Slot Block → Slot Block) → ((slot : Slot Block) → is_free (f slot) ≡ is_free slot) → (slots : List (Slot Block)) → count_by is_free (map f slots) ≡ count_by is_free slots
@@ -106,11 +106,11 @@ first_free_slot slots h is = go (lowest_free slots) refl is
         let found = position-Some is_free slots place new_slot there in
         subst (λ (p : ℕ). is_free (slot_at slots p) ≡ true) slot found.1
 
-pub free_less : (banks : List ℕ) (now next : List (Slot Block)) (want : Want) (user : ℕ) (put : Put) → IsPut banks now want user true 0 put next
+pub free_less : (banks : List ℕ) (now next : List (Slot Block)) (want : Want) (user : ℕ) (put : Put) → IsPut banks now want user true 0 false put next
     → count_by is_free next + 1 ≡ count_by is_free now
 free_less banks now next want user put done =
-    let took = taken (emptied now done.count) put.handle (placed want put.at user true 0) (gone_handle done.count now ∙ done.handle) in
-    let slot : Slot Block = record { generation = put.handle.generation; content = Used (placed want put.at user true 0) } in
+    let took = taken (emptied now done.count) put.handle (placed want put.at user true 0 false) (gone_handle done.count now ∙ done.handle) in
+    let slot : Slot Block = record { generation = put.handle.generation; content = Used (placed want put.at user true 0 false) } in
     let free : is_free (slot_at (emptied now done.count) put.handle.slot) ≡ true = first_free_slot (emptied now done.count) put.handle (gone_handle done.count now ∙ done.handle) in
     let change : count_by is_free (set (emptied now done.count) put.handle.slot slot) + cond {A = ℕ} true 1 0 ≡ count_by is_free (emptied now done.count) + cond {A = ℕ} (is_free slot) 1 0 =
     rw free at (sum_by-set (λ s. cond (is_free s) 1 0) (emptied now done.count) put.handle.slot slot new_slot took.1) in
@@ -131,12 +131,12 @@ stays_on one two three (inr same') (inr same) = inr (same ∙ same')
 
 -- one more is placed
 pub all_more : (banks : List ℕ) (user : ℕ) (start now next : List (Slot Block)) (wants : List Want) (puts : List Put) (want : Want) (put : Put)
-    → All (λ bank. bank < 256) banks → IsWant want → AllPut banks user start wants puts now → IsPut banks now want user true 0 put next
+    → All (λ bank. bank < 256) banks → IsWant want → AllPut banks user start wants puts now → IsPut banks now want user true 0 false put next
     → AllPut banks user start (wants ++ want ∷ []) (puts ++ put ∷ []) next
 all_more banks user start now next wants puts want put small is_want all done =
-    let facts : PutFacts banks now want put next = put_facts banks now next want user true 0 put small is_want all.bounded all.sound (omega arith) done in
+    let facts : PutFacts banks now want put next = put_facts banks now next want user true 0 false put small is_want all.bounded all.sound (omega arith) done in
     record {
-      places = rw (map-append handle_of puts (put ∷ [])) (puts_more banks user start wants (map handle_of puts) now next want put.handle all.places (put_is banks now next want user true 0 put done));
+      places = rw (map-append handle_of puts (put ∷ [])) (puts_more banks user start wants (map handle_of puts) now next want put.handle all.places (put_is banks now next want user true 0 false put done));
       bounded = facts.bounded;
       sound = facts.sound;
       len = facts.len ∙ all.len;
@@ -147,7 +147,7 @@ all_more banks user start now next wants puts want put small is_want all done =
 
 pub all_next : (banks : List ℕ) (user : ℕ) (start now next : List (Slot Block)) (wants : List Want) (puts : List Put) (place : ℕ) (d : Want) (put : Put)
     → All (λ bank. bank < 256) banks → IsWant (get_or wants place d) → place < length wants → AllPut banks user start (take place wants) puts now
-    → IsPut banks now (get_or wants place d) user true 0 put next
+    → IsPut banks now (get_or wants place d) user true 0 false put next
     → AllPut banks user start (take (place + 1) wants) (puts ++ put ∷ []) next
 all_next banks user start now next wants puts place d put small is_want inside all done =
     rw (take_more wants place d inside) (all_more banks user start now next (take place wants) puts (get_or wants place d) put small is_want all done)

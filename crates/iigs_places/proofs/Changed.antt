@@ -78,7 +78,7 @@ emptied_bounded test slot = go slot.generation slot.content
   where
     used : (b : Bool) (generation : ℕ) (block : Block) → IsBounded block
         → IsBoundedSlot (cond b (record { generation = generation; content = Used (record block { at = None }) }) (record { generation = generation; content = Used block }))
-    used true generation block bounded = record { some = bounded.some; level = bounded.level; ends = tt }
+    used true generation block bounded = record { want = bounded.want; some = bounded.some; level = bounded.level; ends = tt }
     used false generation block bounded = bounded
 
     go : (generation : ℕ) (content : Content Block) → IsBoundedSlot (record { generation = generation; content = content })

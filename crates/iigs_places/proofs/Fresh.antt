@@ -13,6 +13,7 @@ use Rattle.iigs_places.specs.Marks.{HaveMarks}
 use Rattle.iigs_places.specs.Runs.{HasRoom, IsLayout}
 use Rattle.iigs_places.proofs.Extents.{all_slots}
 use Rattle.iigs_places.proofs.Covered.{cover_none}
+use Rattle.iigs_places.proofs.Once.{once_none}
 
 all_new : (n place : ℕ) → slot_at (replicate n (new_slot {T = Block})) place ≡ new_slot
 all_new zero place = refl
@@ -50,6 +51,7 @@ none_have : (n : ℕ) → HaveMarks (replicate n new_slot) []
 none_have n = record {
   each = λ place e is. absurd (none place e is);
   are = λ m has. absurd (omega (arith, has.1));
+  once = once_none;
 }
   where
     none : (place : ℕ) (e : ℕ × ℕ) → extent (slot_at (replicate n new_slot) place) ≡ Some e → ⊥
@@ -64,7 +66,7 @@ new_layout layout marks runs room = record {
   laid = record {
     order = rw marks (λ i j d le lt. absurd (omega (arith, lt)));
     few = rw marks (omega arith);
-    cover = rw (marks, runs) cover_none;
+    cover = λ joined. rw (marks, runs) cover_none;
     room = room;
   };
   have = rw marks new_have;

@@ -77,6 +77,7 @@ module _ (slots : List (Slot Block)) (h : Handle) (block old : Block) (was : get
       let some : 0 < block.want.size = rw want old_bounded.some in
       rw (with_is slots h (record { generation = h.generation; content = Used block }) live)
       (set_bounded slots h.slot (record { generation = h.generation; content = Used block }) bounded (record {
+        want = rw want old_bounded.want;
         some = some;
         level = level;
         ends = rw (place, want) old_bounded.ends;
@@ -96,10 +97,10 @@ pub blocks_same : (slots : List (Slot Block)) (h : Handle) (block : Block) → I
     → (place : ℕ) → extent (slot_at (with_value slots h block) place) ≡ extent (slot_at slots place)
 blocks_same slots h block same = let all = put_all slots h block same in put_same slots h block all.0 all.1 all.2 all.3
 
-pub arranged_put : (banks : List ℕ) (slots : List (Slot Block)) (h : Handle) (block : Block) → IsArranged banks slots
+pub arranged_changed : (banks : List ℕ) (slots : List (Slot Block)) (h : Handle) (block : Block) → IsArranged banks slots
     → block.level < 256 → IsSomeAnd (get slots h) (λ old. (block.at ≡ old.at) × (block.want ≡ old.want))
     → IsArranged banks (with_value slots h block)
-arranged_put banks slots h block store level same =
+arranged_changed banks slots h block store level same =
     let all = put_all slots h block same in
     arranged_stays banks slots (with_value slots h block) store
     (length-with_slot slots h (record { generation = h.generation; content = Used block }))

@@ -6,6 +6,7 @@ pub mod Beside
 pub mod Fewest
 pub mod Turns
 pub mod Placed
+pub mod First
 pub mod Extents
 pub mod InPlace
 pub mod Emptied
@@ -14,10 +15,17 @@ pub mod Takes
 pub mod Stays
 pub mod Changed
 pub mod Holds
+pub mod Once
 pub mod Marked
+pub mod Neighbours
+pub mod Replaced
+pub mod Counting
 pub mod Covered
 pub mod Quick
 pub mod Puts
+pub mod Moved
+pub mod Sliding
+pub mod Orders
 pub mod Fresh
 pub mod Alls
 pub mod Starts

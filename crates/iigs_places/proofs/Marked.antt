@@ -28,6 +28,7 @@ use Rattle.iigs_places.specs.Marks.{mark, mark_in, AreGathered, HaveMarks, IsMar
 use Rattle.iigs_places.specs.Holder.{Has, IsHolder}
 use Rattle.iigs_places.proofs.Extents.{holds_to, holds_from, bounded_extent, each_slot, start_extent}
 use Rattle.iigs_places.proofs.Stays.{released_none}
+use Rattle.iigs_places.proofs.Once.{once_filter, once_moved, once_more, once_push}
 use Rattle.iigs_places.proofs.Changed.{set_other, set_here, live_block, live_in, with_is}
 
 -- ---- marks that are gathered
@@ -40,6 +41,7 @@ module _ (slots : List (Slot Block)) (place : ℕ) (marks : List Mark) (g : AreG
       | inr after ↦ absurd (clash k e (omega (arith, lt, after)) is)
     ];
     are = λ m has. (omega (arith, (g.are m has).0), (g.are m has).1, (g.are m has).2, (g.are m has).3);
+    once = g.once;
   }
     where
       clash : (k : ℕ) (e : ℕ × ℕ) → k ≡ place → extent (slot_at slots k) ≡ Some e → ⊥
@@ -55,6 +57,7 @@ module _ (slots : List (Slot Block)) (place : ℕ) (marks : List Mark) (g : AreG
       | inl old ↦ (omega (arith, (g.are m old).0), (g.are m old).1, (g.are m old).2, (g.are m old).3)
       | inr new ↦ subst (λ (x : Mark). (x.slot < place + 1) × (f : ℕ × ℕ) × (extent (slot_at slots x.slot) ≡ Some f) × (x ≡ mark x.slot f)) new (omega arith, e, here, refl)
     ];
+    once = once_push marks (mark place e) (λ k d inside eq. absurd (omega (arith, (g.are (get_or marks k d) (Contains-get_or marks k d inside)).0, eq))) g.once;
   }
     where
       same : (k : ℕ) (f : ℕ × ℕ) → k ≡ place → extent (slot_at slots k) ≡ Some f → mark place e ≡ mark k f
@@ -69,7 +72,7 @@ module _ (slots : List (Slot Block)) (place : ℕ) (marks : List Mark) (g : AreG
       go None is = rw (append-nil marks) (gathered_none is)
       go (Some e) is = gathered_one e is
 
-past_none : (slots : List (Slot Block)) (place : ℕ) (e : ℕ × ℕ) → extent (slot_at slots place) ≡ Some e → place < length slots
+pub past_none : (slots : List (Slot Block)) (place : ℕ) (e : ℕ × ℕ) → extent (slot_at slots place) ≡ Some e → place < length slots
 past_none slots place e is = elim (cases_lt place (length slots)) [
   | inl lt ↦ lt
   | inr le ↦ let no : None ≡ Some e = ap extent (sym (get_or-eq_default slots new_slot le)) ∙ is in absurd cc
@@ -84,12 +87,14 @@ gathered_all slots count marks g unused le = record {
     | inr behind ↦ (let no : None ≡ Some e = ap extent (sym (unused place behind)) ∙ is in absurd cc)
   ];
   are = λ m has. (omega (arith, (g.are m has).0, le), (g.are m has).1, (g.are m has).2, (g.are m has).3);
+  once = g.once;
 }
 
 pub sorted_marks : (slots : List (Slot Block)) (marks sorted : List Mark) → AreGathered slots (length slots) marks → IsPermutation marks sorted → HaveMarks slots sorted
 sorted_marks slots marks sorted g moved = record {
   each = λ place e is. Contains-permutation marks sorted (mark place e) moved (g.each place e (past_none slots place e is) is);
   are = λ m has. let one = g.are m (Contains-permutation sorted marks m (IsPermutation-sym marks sorted moved) has) in (one.1, one.2, one.3);
+  once = once_moved marks sorted moved g.once;
 }
 
 -- ---- changes of marks
@@ -98,12 +103,14 @@ pub have_moved : (slots : List (Slot Block)) (marks moved : List Mark) → IsPer
 have_moved slots marks moved same have = record {
   each = λ place e is. Contains-permutation marks moved (mark place e) same (have.each place e is);
   are = λ m has. have.are m (Contains-permutation moved marks m (IsPermutation-sym marks moved same) has);
+  once = once_moved marks moved same have.once;
 }
 
 pub have_same : (old new : List (Slot Block)) (marks : List Mark) → ((place : ℕ) → extent (slot_at new place) ≡ extent (slot_at old place)) → HaveMarks old marks → HaveMarks new marks
 have_same old new marks same have = record {
   each = λ place e is. have.each place e (sym (same place) ∙ is);
   are = λ m has. let one = have.are m has in (one.0, same m.slot ∙ one.1, one.2);
+  once = have.once;
 }
 
 pub cons_cases : {X : Type 0} (y : X) (xs : List X) (x : X) → Contains (y ∷ xs) x → (y ≡ x) ⊎ Contains xs x
@@ -134,6 +141,9 @@ have_set slots at slot e marks inside none is have = record {
         let ne : m.slot ≢ at = λ eq. clash one.0 (sym none ∙ ap (λ n. extent (slot_at slots n)) (sym eq) ∙ one.1) in
         (one.0, ap extent (set_other slots at slot m.slot ne) ∙ one.1, one.2))
   ];
+  once = once_more marks (mark at e) (λ k d inside eq.
+      let one = have.are (get_or marks k d) (Contains-get_or marks k d inside) in
+      clash one.0 (sym none ∙ ap (λ n. extent (slot_at slots n)) (sym eq) ∙ one.1)) have.once;
 }
   where
     clash : (f : ℕ × ℕ) → None ≡ Some f → ⊥
@@ -218,33 +228,39 @@ order_remove n xs i inside up a b d le lt =
 pub All-remove : {X : Type 0} (P : X → Type 0) (xs : List X) (i : ℕ) → All P xs → All P (remove xs i)
 All-remove P xs i all = All-append P (take i xs) (drop (suc i) xs) (All-take P i xs all) (All-drop P (suc i) xs all)
 
-pub have_released : (slots : List (Slot Block)) (h : Handle) (marks : List Mark) → is_some (get slots h) ≡ true → HaveMarks slots marks
-    → HaveMarks (after_release slots h) (filter (λ (m : Mark). not (m.slot == h.slot)) marks)
-have_released slots h marks live have = rw (with_is slots h (released h.generation) live) (record {
-  each = λ place e there. elim (cases_eq place h.slot) [
-    | inl eq ↦ absurd (clash e (sym (released_none h.generation) ∙ ap extent (sym (set_here slots h.slot (released h.generation) (live_in slots h live)))
-        ∙ ap (λ n. extent (slot_at (set slots h.slot (released h.generation)) n)) (sym eq) ∙ there))
-    | inr ne ↦ filter_has (λ (m : Mark). not (m.slot == h.slot)) marks (mark place e) (differ place ne)
-        (have.each place e (ap extent (sym (set_other slots h.slot (released h.generation) place ne)) ∙ there))
+-- a slot's block is gone
+pub have_gone : (slots : List (Slot Block)) (at : ℕ) (slot : Slot Block) (marks : List Mark) → at < length slots → extent slot ≡ None → HaveMarks slots marks
+    → HaveMarks (set slots at slot) (filter (λ (m : Mark). not (m.slot == at)) marks)
+have_gone slots at slot marks inside gone have = record {
+  each = λ place e there. elim (cases_eq place at) [
+    | inl eq ↦ absurd (clash e (sym gone ∙ ap extent (sym (set_here slots at slot inside)) ∙ ap (λ n. extent (slot_at (set slots at slot) n)) (sym eq) ∙ there))
+    | inr ne ↦ filter_has (λ (m : Mark). not (m.slot == at)) marks (mark place e) (differ place ne)
+        (have.each place e (ap extent (sym (set_other slots at slot place ne)) ∙ there))
   ];
   are = λ m has.
-      let one = have.are m (filter_from (λ (m : Mark). not (m.slot == h.slot)) marks m has) in
-      let ne : m.slot ≢ h.slot = other m.slot (filter_pass (λ (m : Mark). not (m.slot == h.slot)) marks m has) in
-      (one.0, ap extent (set_other slots h.slot (released h.generation) m.slot ne) ∙ one.1, one.2);
-})
+      let one = have.are m (filter_from (λ (m : Mark). not (m.slot == at)) marks m has) in
+      let ne : m.slot ≢ at = other m.slot (filter_pass (λ (m : Mark). not (m.slot == at)) marks m has) in
+      (one.0, ap extent (set_other slots at slot m.slot ne) ∙ one.1, one.2);
+  once = once_filter (λ (m : Mark). not (m.slot == at)) marks have.once;
+}
   where
     clash : (f : ℕ × ℕ) → None ≡ Some f → ⊥
     clash f e = cc
 
-    differ : (place : ℕ) → place ≢ h.slot → not (place == h.slot) ≡ true
-    differ place ne = let test : (place == h.slot) ≡ false = grind (arith, nat_tests) in rw test refl
+    differ : (place : ℕ) → place ≢ at → not (place == at) ≡ true
+    differ place ne = let test : (place == at) ≡ false = grind (arith, nat_tests) in rw test refl
 
-    other : (place : ℕ) → not (place == h.slot) ≡ true → place ≢ h.slot
-    other place is = go (place == h.slot) refl is
+    other : (place : ℕ) → not (place == at) ≡ true → place ≢ at
+    other place is = go (place == at) refl is
       where
-        go : (b : Bool) → (place == h.slot) ≡ b → not b ≡ true → place ≢ h.slot
+        go : (b : Bool) → (place == at) ≡ b → not b ≡ true → place ≢ at
         go true eq e = absurd (cc)
         go false ne e = grind (arith, nat_tests)
+
+pub have_released : (slots : List (Slot Block)) (h : Handle) (marks : List Mark) → is_some (get slots h) ≡ true → HaveMarks slots marks
+    → HaveMarks (after_release slots h) (filter (λ (m : Mark). not (m.slot == h.slot)) marks)
+have_released slots h marks live have = rw (with_is slots h (released h.generation) live)
+    (have_gone slots h.slot (released h.generation) marks (live_in slots h live) (released_none h.generation) have)
 
 -- ---- their sizes
 

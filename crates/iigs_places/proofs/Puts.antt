@@ -44,29 +44,29 @@ free_limit banks address size small some free =
 -- slots in which one has a block where its want goes, and the first blocks are emptied
 module _ (banks : List ℕ) (small : All (λ bank. bank < 256) banks) (old : List (Slot Block)) (want : Want) (is_want : IsWant want) (count address : ℕ)
     (goes : GoesTo banks old want count address) (bounded : All IsBoundedSlot old) (sound : AreApart banks old)
-    (user : ℕ) (locked : Bool) (level : ℕ) (low : level < 256) (at generation : ℕ) (inside : at < length old) where
+    (user : ℕ) (locked : Bool) (level : ℕ) (movable : Bool) (low : level < 256) (at generation : ℕ) (inside : at < length old) where
   abbrev pub put_in : List (Slot Block)
-  put_in = set (emptied old count) at (record { generation = generation; content = Used (placed want address user locked level) })
+  put_in = set (emptied old count) at (record { generation = generation; content = Used (placed want address user locked level movable) })
 
   inside' : at < length (emptied old count)
   inside' = omega (arith, length-emptied old count)
 
   pub put_length : length put_in ≡ length old
-  put_length = length-set (emptied old count) at (record { generation = generation; content = Used (placed want address user locked level) }) ∙ length-emptied old count
+  put_length = length-set (emptied old count) at (record { generation = generation; content = Used (placed want address user locked level movable) }) ∙ length-emptied old count
 
   pub put_extent : extent (slot_at put_in at) ≡ Some (address, want.size)
-  put_extent = rw (set_here (emptied old count) at (record { generation = generation; content = Used (placed want address user locked level) }) inside') refl
+  put_extent = rw (set_here (emptied old count) at (record { generation = generation; content = Used (placed want address user locked level movable) }) inside') refl
 
   pub put_bounded : All IsBoundedSlot put_in
-  put_bounded = set_bounded (emptied old count) at (record { generation = generation; content = Used (placed want address user locked level) })
-      (gone_bounded count old bounded) (record { some = is_want.some; level = low; ends = free_limit banks address want.size small is_want.some goes.fits.free })
+  put_bounded = set_bounded (emptied old count) at (record { generation = generation; content = Used (placed want address user locked level movable) })
+      (gone_bounded count old bounded) (record { want = is_want; some = is_want.some; level = low; ends = free_limit banks address want.size small is_want.some goes.fits.free })
 
   pub put_others : (place : ℕ) → place ≢ at → Stays old put_in place
-  put_others place ne = rw (set_other (emptied old count) at (record { generation = generation; content = Used (placed want address user locked level) }) place ne) (gone_stays old count place)
+  put_others place ne = rw (set_other (emptied old count) at (record { generation = generation; content = Used (placed want address user locked level movable) }) place ne) (gone_stays old count place)
 
   pub put_apart : ((i : ℕ) → ¬ HoldsByte i (slot_at (emptied old count) at)) → AreApart banks put_in
   put_apart none = apart_placed banks (emptied old count) put_in at (address, want.size) (apart_stays banks old (emptied old count) sound (gone_stays old count))
-      (set_others_stay (emptied old count) at (record { generation = generation; content = Used (placed want address user locked level) }))
+      (set_others_stay (emptied old count) at (record { generation = generation; content = Used (placed want address user locked level movable) }))
       put_extent (λ i spans. goes.fits.free i spans.0 spans.1)
       (λ place i ne spans holds. each_slot (IsApart address want.size) (emptied old count) (λ i from to holds. absurd holds) goes.fits.apart place i spans.0 spans.1 holds)
 
@@ -82,9 +82,9 @@ no_byte : (slot : Slot Block) (i : ℕ) → block_in slot ≡ None → ¬ HoldsB
 no_byte slot i none holds = let no : IsSomeAnd {T = Block} None (λ block. IsSomeAnd block.at (λ first. (first ≤ i) × (i < first + block.want.size))) = rw none at holds in absurd no
 
 -- the same in the words of placement
-pub put_is : (banks : List ℕ) (old new : List (Slot Block)) (want : Want) (user : ℕ) (locked : Bool) (level : ℕ) (put : Put)
-    → IsPut banks old want user locked level put new → Puts Purges banks old want user locked level put.handle new
-put_is banks old new want user locked level put done = record {
+pub put_is : (banks : List ℕ) (old new : List (Slot Block)) (want : Want) (user : ℕ) (locked : Bool) (level : ℕ) (movable : Bool) (put : Put)
+    → IsPut banks old want user locked level movable put new → Puts Purges banks old want user locked level movable put.handle new
+put_is banks old new want user locked level movable put done = record {
   address = put.at;
   room = emptied old done.count;
   makes = record { count = done.count; goes = done.goes; room_is = refl };
@@ -104,20 +104,20 @@ reput_is banks old new h want address done = record {
   next_is = done.slots;
 }
 
-pub put_facts : (banks : List ℕ) (old new : List (Slot Block)) (want : Want) (user : ℕ) (locked : Bool) (level : ℕ) (put : Put)
+pub put_facts : (banks : List ℕ) (old new : List (Slot Block)) (want : Want) (user : ℕ) (locked : Bool) (level : ℕ) (movable : Bool) (put : Put)
     → All (λ bank. bank < 256) banks → IsWant want → All IsBoundedSlot old → AreApart banks old → level < 256
-    → IsPut banks old want user locked level put new → PutFacts banks old want put new
-put_facts banks old new want user locked level put small is_want bounded sound low done =
-    let block : Block = placed want put.at user locked level in
+    → IsPut banks old want user locked level movable put new → PutFacts banks old want put new
+put_facts banks old new want user locked level movable put small is_want bounded sound low done =
+    let block : Block = placed want put.at user locked level movable in
     let took = taken (emptied old done.count) put.handle block (gone_handle done.count old ∙ done.handle) in
     let new_is : new ≡ set (emptied old done.count) put.handle.slot (record { generation = put.handle.generation; content = Used block }) = done.slots ∙ took.0 in
     let inside : put.handle.slot < length old = omega (arith, took.1, length-emptied old done.count) in
     rw new_is (record {
-      len = put_length banks small old want is_want done.count put.at done.goes bounded sound user locked level low put.handle.slot put.handle.generation inside;
-      bounded = put_bounded banks small old want is_want done.count put.at done.goes bounded sound user locked level low put.handle.slot put.handle.generation inside;
-      others = put_others banks small old want is_want done.count put.at done.goes bounded sound user locked level low put.handle.slot put.handle.generation inside;
-      is = put_extent banks small old want is_want done.count put.at done.goes bounded sound user locked level low put.handle.slot put.handle.generation inside;
-      sound = put_apart banks small old want is_want done.count put.at done.goes bounded sound user locked level low put.handle.slot put.handle.generation inside
+      len = put_length banks small old want is_want done.count put.at done.goes bounded sound user locked level movable low put.handle.slot put.handle.generation inside;
+      bounded = put_bounded banks small old want is_want done.count put.at done.goes bounded sound user locked level movable low put.handle.slot put.handle.generation inside;
+      others = put_others banks small old want is_want done.count put.at done.goes bounded sound user locked level movable low put.handle.slot put.handle.generation inside;
+      is = put_extent banks small old want is_want done.count put.at done.goes bounded sound user locked level movable low put.handle.slot put.handle.generation inside;
+      sound = put_apart banks small old want is_want done.count put.at done.goes bounded sound user locked level movable low put.handle.slot put.handle.generation inside
           (λ i. no_byte (slot_at (emptied old done.count) put.handle.slot) i took.2);
     })
 
@@ -161,7 +161,7 @@ pub reput_facts : (banks : List ℕ) (old new : List (Slot Block)) (h : Handle) 
     → All (λ bank. bank < 256) banks → IsWant want → All IsBoundedSlot old → AreApart banks old
     → IsReput banks old h want address new → PutFacts banks old want (record { handle = h; at = address }) new
 reput_facts banks old new h want address small is_want bounded sound done =
-    let block : Block = placed want address done.block.user done.block.locked done.block.level in
+    let block : Block = placed want address done.block.user done.block.locked done.block.level false in
     let live : IsSome (get old h) = ap is_some done.was in
     let there : block_in (slot_at old h.slot) ≡ Some done.block = live_block old h done.block done.was in
     let one : IfSome (block_in (slot_at old h.slot)) IsBounded = each_slot IsBoundedSlot old tt bounded h.slot in
@@ -172,11 +172,11 @@ reput_facts banks old new h want address small is_want bounded sound done =
     let new_is : new ≡ set (emptied old done.count) h.slot (record { generation = h.generation; content = Used block }) =
     done.slots ∙ with_is (emptied old done.count) h (record { generation = h.generation; content = Used block }) (gone_live done.count old h live) in
     rw new_is (record {
-      len = put_length banks small old want is_want done.count address done.goes bounded sound done.block.user done.block.locked done.block.level low h.slot h.generation inside;
-      bounded = put_bounded banks small old want is_want done.count address done.goes bounded sound done.block.user done.block.locked done.block.level low h.slot h.generation inside;
-      others = put_others banks small old want is_want done.count address done.goes bounded sound done.block.user done.block.locked done.block.level low h.slot h.generation inside;
-      is = put_extent banks small old want is_want done.count address done.goes bounded sound done.block.user done.block.locked done.block.level low h.slot h.generation inside;
-      sound = put_apart banks small old want is_want done.count address done.goes bounded sound done.block.user done.block.locked done.block.level low h.slot h.generation inside
+      len = put_length banks small old want is_want done.count address done.goes bounded sound done.block.user done.block.locked done.block.level false low h.slot h.generation inside;
+      bounded = put_bounded banks small old want is_want done.count address done.goes bounded sound done.block.user done.block.locked done.block.level false low h.slot h.generation inside;
+      others = put_others banks small old want is_want done.count address done.goes bounded sound done.block.user done.block.locked done.block.level false low h.slot h.generation inside;
+      is = put_extent banks small old want is_want done.count address done.goes bounded sound done.block.user done.block.locked done.block.level false low h.slot h.generation inside;
+      sound = put_apart banks small old want is_want done.count address done.goes bounded sound done.block.user done.block.locked done.block.level false low h.slot h.generation inside
           (λ i. no_extent (slot_at (emptied old done.count) h.slot) i (stays_empty (slot_at old h.slot) (slot_at (emptied old done.count) h.slot) (gone_stays old done.count h.slot) empty));
     })
 
@@ -193,10 +193,10 @@ after_put banks old new want put arranged facts = record {
   sound = facts.sound;
 }
 
-pub arranged_put : (banks : List ℕ) (old new : List (Slot Block)) (want : Want) (user : ℕ) (locked : Bool) (level : ℕ) (put : Put)
-    → IsArranged banks old → IsWant want → level < 256 → IsPut banks old want user locked level put new → IsArranged banks new
-arranged_put banks old new want user locked level put arranged is_want low done = after_put banks old new want put arranged
-    (put_facts banks old new want user locked level put arranged.small is_want arranged.bounded arranged.sound low done)
+pub arranged_put : (banks : List ℕ) (old new : List (Slot Block)) (want : Want) (user : ℕ) (locked : Bool) (level : ℕ) (movable : Bool) (put : Put)
+    → IsArranged banks old → IsWant want → level < 256 → IsPut banks old want user locked level movable put new → IsArranged banks new
+arranged_put banks old new want user locked level movable put arranged is_want low done = after_put banks old new want put arranged
+    (put_facts banks old new want user locked level movable put arranged.small is_want arranged.bounded arranged.sound low done)
 
 pub arranged_reput : (banks : List ℕ) (old new : List (Slot Block)) (h : Handle) (want : Want) (address : ℕ)
     → IsArranged banks old → IsWant want → IsReput banks old h want address new → IsArranged banks new

@@ -1,5 +1,5 @@
 -- Where a want fits beside all blocks.
-use Rattle.std.proofs.Common.{◌≡◌, ◌⊎◌, inl, inr, ℕ, Bool, true, false, ◌&&◌, nat_lt, ◌+◌, ◌<◌, ◌≤◌, List, ◌∷◌, map, get_or, max, Some, None, IsSome, is_some, arith, refl, sym, ap, subst, ◌∙◌}
+use Rattle.std.proofs.Common.{◌≡◌, ◌⊎◌, inl, inr, ℕ, Bool, true, false, ◌&&◌, nat_lt, ◌+◌, ◌<◌, ◌≤◌, List, ◌∷◌, map, get_or, max, MatchOption, Option, Some, None, IsSome, is_some, arith, refl, sym, ap, subst, ◌∙◌}
 use Rattle.std.specs.Option.{option_and_then}
 use Rattle.std.proofs.lemmas.Bool.{cases_lt}
 use Rattle.std.proofs.lemmas.Bool.Decides.{nat_tests}
@@ -88,6 +88,17 @@ module _ (slots : List (Slot Block)) (marks : List Mark) (have : HaveMarks slots
           | inr behind ↦ absurd (omega (arith, behind, r.3, from))
         ]))
 
+    -- so a search among runs tells whether the want fits anywhere
+    pub has_yes : (o : Option ℕ) (b : Bool) → b ≡ is_some o → MatchOption o ((address : ℕ) → ¬ FitsAmong banks want runs 0 address) (IsLeastAmong banks want runs 0) → b ≡ true
+        → (address : ℕ) × Fits banks slots want address
+    has_yes None b is told e = let clash : true ≡ false = sym e ∙ is in absurd cc
+    has_yes (Some at) b is told e = (at, runs_fit at told.fits)
+
+    pub has_no : (o : Option ℕ) (b : Bool) → b ≡ is_some o → MatchOption o ((address : ℕ) → ¬ FitsAmong banks want runs 0 address) (IsLeastAmong banks want runs 0) → b ≡ false
+        → (address : ℕ) → ¬ Fits banks slots want address
+    has_no None b is told e = λ address fits. told address (fits_runs address fits)
+    has_no (Some at) b is told e = let clash : true ≡ false = sym is ∙ e in absurd cc
+
     -- the least such address is where the want goes, and no block is purged
     pub quick_found : (address : ℕ) → IsLeastAmong banks want runs 0 address → IsFound banks slots want (record { limit = 0; at = address })
     quick_found address least = record {
@@ -103,18 +114,18 @@ module _ (slots : List (Slot Block)) (marks : List Mark) (have : HaveMarks slots
 -- ---- what is made of a place that was found
 
 module _ (banks : List ℕ) (old : List (Slot Block)) (want : Want) (found : Found) (is : IsFound banks old want found) where
-  pub put_done : (user : ℕ) (locked : Bool) (level : ℕ) (h : Handle) (new : List (Slot Block)) → Some h ≡ new_handle (map (emptied_where (below found.limit)) old)
-      → new ≡ after_take (map (emptied_where (below found.limit)) old) (placed want found.at user locked level)
-      → IsPut banks old want user locked level (record { handle = h; at = found.at }) new
-  put_done user locked level h new handle made = record {
+  pub put_done : (user : ℕ) (locked : Bool) (level : ℕ) (movable : Bool) (h : Handle) (new : List (Slot Block)) → Some h ≡ new_handle (map (emptied_where (below found.limit)) old)
+      → new ≡ after_take (map (emptied_where (below found.limit)) old) (placed want found.at user locked level movable)
+      → IsPut banks old want user locked level movable (record { handle = h; at = found.at }) new
+  put_done user locked level movable h new handle made = record {
     count = is.count;
     goes = is.goes;
     handle = sym (handle ∙ emptied_handle (below found.limit) old);
-    slots = made ∙ ap (λ slots. after_take slots (placed want found.at user locked level)) is.empties;
+    slots = made ∙ ap (λ slots. after_take slots (placed want found.at user locked level movable)) is.empties;
   }
 
   pub reput_done : (h : Handle) (block : Block) (new : List (Slot Block)) → get old h ≡ Some block → block.at ≡ None
-      → new ≡ with_value (map (emptied_where (below found.limit)) old) h (placed want found.at block.user block.locked block.level)
+      → new ≡ with_value (map (emptied_where (below found.limit)) old) h (placed want found.at block.user block.locked block.level false)
       → IsReput banks old h want found.at new
   reput_done h block new was empty made = record {
     block = block;
@@ -122,23 +133,23 @@ module _ (banks : List ℕ) (old : List (Slot Block)) (want : Want) (found : Fou
     empty = empty;
     count = is.count;
     goes = is.goes;
-    slots = made ∙ ap (λ slots. with_value slots h (placed want found.at block.user block.locked block.level)) is.empties;
+    slots = made ∙ ap (λ slots. with_value slots h (placed want found.at block.user block.locked block.level false)) is.empties;
   }
 
 -- where no block is purged, the marks of the others stay and the new one's comes to them
-module _ (slots : List (Slot Block)) (limit : ℕ) (none : limit ≡ 0) (marks : List Mark) (have : HaveMarks slots marks) (want : Want) (address user : ℕ) (locked : Bool) (level : ℕ) (h : Handle) where
+module _ (slots : List (Slot Block)) (limit : ℕ) (none : limit ≡ 0) (marks : List Mark) (have : HaveMarks slots marks) (want : Want) (address user : ℕ) (locked : Bool) (level : ℕ) (movable : Bool) (h : Handle) where
   pub have_taken : new_handle slots ≡ Some h
-      → HaveMarks (after_take (map (emptied_where (below limit)) slots) (placed want address user locked level)) (mark h.slot (address, want.size) ∷ marks)
+      → HaveMarks (after_take (map (emptied_where (below limit)) slots) (placed want address user locked level movable)) (mark h.slot (address, want.size) ∷ marks)
   have_taken is =
-      let block : Block = placed want address user locked level in
+      let block : Block = placed want address user locked level movable in
       let took = taken slots h block is in
       subst (λ (now : List (Slot Block)). HaveMarks (after_take now block) (mark h.slot (address, want.size) ∷ marks)) (below_none slots limit none)
       (rw took.0 (have_set slots h.slot (record { generation = h.generation; content = Used block }) (address, want.size) marks took.1 (ap (option_and_then extent_of) took.2) refl have))
 
   pub have_reput : (old : Block) → get slots h ≡ Some old → old.at ≡ None
-      → HaveMarks (with_value (map (emptied_where (below limit)) slots) h (placed want address user locked level)) (mark h.slot (address, want.size) ∷ marks)
+      → HaveMarks (with_value (map (emptied_where (below limit)) slots) h (placed want address user locked level movable)) (mark h.slot (address, want.size) ∷ marks)
   have_reput old was empty =
-      let block : Block = placed want address user locked level in
+      let block : Block = placed want address user locked level movable in
       let live : IsSome (get slots h) = ap is_some was in
       let there : block_in (slot_at slots h.slot) ≡ Some old = live_block slots h old was in
       let gone : extent (slot_at slots h.slot) ≡ None = rw (there, empty) refl in

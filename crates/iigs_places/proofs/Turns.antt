@@ -85,7 +85,7 @@ first_true : (a b c : Bool) → (a && b && c) ≡ true → a ≡ true
 first_true true b c e = refl
 first_true false b c e = absurd (cc)
 
-there_purge : (one : Block) → can_purge one ≡ true → is_some one.at ≡ true
+pub there_purge : (one : Block) → can_purge one ≡ true → is_some one.at ≡ true
 unfolding can_purge
 there_purge one can = first_true (is_some one.at) (not one.locked) (not (one.level == 0)) can
 
@@ -119,7 +119,7 @@ slot_before None block first second can = refl
 slot_before (Some one) block first second can = block_before one block first second can
 
 -- two tests that agree on all items count the same
-count-same : {X : Type 0} (p q : X → Bool) (xs : List X) → All (λ x. p x ≡ q x) xs → count_by p xs ≡ count_by q xs
+pub count-same : {X : Type 0} (p q : X → Bool) (xs : List X) → All (λ x. p x ≡ q x) xs → count_by p xs ≡ count_by q xs
 count-same p q [] all = refl
 count-same p q (x ∷ xs) all =
     sum_by-cons (λ x. cond (p x) 1 0) x xs

@@ -1,5 +1,5 @@
 -- Several blocks that are placed in order. No public clause cites this module.
-use Rattle.std.specs.Prelude.{◌≡◌, ◌≢◌, ◌⊎◌, ℕ, true, List, [], ◌∷◌, map, length, All, Some, None}
+use Rattle.std.specs.Prelude.{◌≡◌, ◌≢◌, ◌⊎◌, ℕ, true, false, List, [], ◌∷◌, map, length, All, Some, None}
 use Rattle.iigs_meaning.specs.declared.handles.Handle.{Handle}
 use Rattle.iigs_meaning.specs.declared.slots.Slot.{Slot}
 use Rattle.iigs_meaning.specs.declared.wants.Want.{Want}
@@ -20,7 +20,7 @@ abbrev pub BlocksAre : ℕ → List (Slot Block) → List Want → List Put → 
 BlocksAre user slots [] [] = Unit {0}
 BlocksAre user slots [] (put ∷ puts) = ⊥
 BlocksAre user slots (want ∷ wants) [] = ⊥
-BlocksAre user slots (want ∷ wants) (put ∷ puts) = (block_in (slot_at slots put.handle.slot) ≡ Some (placed want put.at user true 0)) × BlocksAre user slots wants puts
+BlocksAre user slots (want ∷ wants) (put ∷ puts) = (block_in (slot_at slots put.handle.slot) ≡ Some (placed want put.at user true 0 false)) × BlocksAre user slots wants puts
 
 -- none of them is in this slot
 abbrev pub NotAmong : List Put → ℕ → Type 0

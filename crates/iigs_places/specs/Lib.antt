@@ -8,4 +8,6 @@ pub mod Table
 pub mod Alls
 pub mod Marks
 pub mod Runs
+pub mod Sliding
+pub mod Lowest
 pub mod Holder

@@ -1,5 +1,5 @@
 -- Marks of blocks in order of address. No public clause cites this module.
-use Rattle.std.specs.Prelude.{◌≡◌, ◌≢◌, ℕ, ◌+◌, ◌<◌, ◌≤◌, ◌^◌, List, Contains, length, Option, Some, slice_index_or}
+use Rattle.std.specs.Prelude.{◌≡◌, ◌≢◌, ◌⊎◌, ℕ, ◌+◌, ◌==◌, ◌<◌, ◌≤◌, ◌^◌, List, Contains, length, count_by, Option, Some, slice_index_or}
 use Rattle.std.specs.Option.{option_map}
 use Rattle.std.specs.List.Sorted.{IsNonDecreasingBy}
 use Rattle.iigs_meaning.specs.declared.slots.Slot.{Slot}
@@ -15,15 +15,21 @@ mark place e = record { at = e.0; end = e.0 + e.1; slot = place }
 abbrev pub mark_in : ℕ → Slot Block → Option Mark
 mark_in place slot = option_map (mark place) (extent slot)
 
--- the blocks in the first so many slots that are there have their marks, and each mark is one of a block that is there
+-- no block is marked twice
+abbrev pub AreOnce : List Mark → Type 0
+AreOnce marks = (slot : ℕ) → count_by (λ m. m.slot == slot) marks ≤ 1
+
+-- the blocks in the first so many slots that are there have their marks, each one, and each mark is one of a block that is there
 pub record AreGathered (slots : List (Slot Block)) (count : ℕ) (marks : List Mark) : Type 0 where
   pub each : (place : ℕ) (e : ℕ × ℕ) → place < count → extent (slot_at slots place) ≡ Some e → Contains marks (mark place e)
   pub are : (m : Mark) → Contains marks m → (m.slot < count) × (e : ℕ × ℕ) × (extent (slot_at slots m.slot) ≡ Some e) × (m ≡ mark m.slot e)
+  pub once : AreOnce marks
 
--- the blocks that are there have their marks, and each mark is one of a block that is there
+-- the blocks that are there have their marks, each one, and each mark is one of a block that is there
 pub record HaveMarks (slots : List (Slot Block)) (marks : List Mark) : Type 0 where
   pub each : (place : ℕ) (e : ℕ × ℕ) → extent (slot_at slots place) ≡ Some e → Contains marks (mark place e)
   pub are : (m : Mark) → Contains marks m → (e : ℕ × ℕ) × (extent (slot_at slots m.slot) ≡ Some e) × (m ≡ mark m.slot e)
+  pub once : AreOnce marks
 
 -- a block with a mark has the byte
 abbrev pub InMarks : List Mark → ℕ → Type 0
@@ -50,6 +56,35 @@ pub record CountsBefore (marks : List Mark) (address count : ℕ) : Type 0 where
   pub within : count ≤ length marks
   pub before : (i : ℕ) (d : Mark) → i < count → (slice_index_or marks i d).at < address
   pub behind : (i : ℕ) (d : Mark) → count ≤ i → i < length marks → address ≤ (slice_index_or marks i d).at
+
+-- the first mark that is at the address or behind it
+pub record IsFirstFrom (marks : List Mark) (address : ℕ) (first : Mark) : Type 0 where
+  pub is : Contains marks first
+  pub from : address ≤ first.at
+  pub least : (m : Mark) → Contains marks m → address ≤ m.at → first.at ≤ m.at
+
+-- of the marks of other slots the last one that is before the address
+pub record IsLastOther (marks : List Mark) (address slot : ℕ) (last : Mark) : Type 0 where
+  pub is : Contains marks last
+  pub other : last.slot ≢ slot
+  pub before : last.at < address
+  pub most : (m : Mark) → Contains marks m → m.slot ≢ slot → m.at < address → m.at ≤ last.at
+
+-- blocks of two slots share no byte
+abbrev pub AreMarksApart : List Mark → Type 0
+AreMarksApart marks = (m o : Mark) → Contains marks m → Contains marks o → m.slot ≢ o.slot → (o.at < m.at) ⊎ (m.end ≤ o.at)
+
+-- so many bytes from an address on lie in none of the blocks of other slots
+abbrev pub LiesBeside : List Mark → ℕ → ℕ → ℕ → Type 0
+LiesBeside marks slot address size = (m : Mark) → Contains marks m → m.slot ≢ slot → (address + size ≤ m.at) ⊎ (m.end ≤ address)
+
+-- one of them lies in such a block
+pub record SharesByte (marks : List Mark) (slot address size : ℕ) : Type 0 where
+  pub mark : Mark
+  pub is : Contains marks mark
+  pub other : mark.slot ≢ slot
+  pub before : mark.at < address + size
+  pub behind : address < mark.end
 
 -- the last mark that is at the address or before it
 pub record IsLast (marks : List Mark) (address : ℕ) (last : Mark) : Type 0 where

@@ -1,5 +1,5 @@
 -- Runs of bytes of blocks, and what is held of where the blocks of a table lie. No public clause cites this module.
-use Rattle.std.specs.Prelude.{◌⊎◌, ℕ, ◌<◌, ◌≤◌, ◌^◌, List, All, Contains, length, slice_index_or, vec_capacity}
+use Rattle.std.specs.Prelude.{◌⊎◌, ℕ, ◌<◌, ◌≤◌, ◌^◌, List, All, Contains, IsTrue, length, slice_index_or, vec_capacity}
 use Rattle.std.specs.List.Sorted.{IsNonDecreasingBy}
 use Rattle.iigs_meaning.specs.declared.slots.Slot.{Slot}
 use Rattle.iigs_meaning.specs.declared.wants.Block.{Block}
@@ -51,11 +51,11 @@ pub record Cover (marks : List Mark) (runs : List Spot) : Type 0 where
 abbrev pub HasRoom : Layout → Type 0
 HasRoom layout = (4096 ≤ vec_capacity layout.marks) × (4096 ≤ vec_capacity layout.runs)
 
--- marks in order of address, and the runs of their blocks
+-- marks in order of address, and the runs of their blocks, where these were joined
 pub record IsLaid (layout : Layout) : Type 0 where
   pub order : IsNonDecreasingBy (λ m. m.at) layout.marks.items
   pub few : length layout.marks.items ≤ 4096
-  pub cover : Cover layout.marks.items layout.runs.items
+  pub cover : IsTrue layout.joined → Cover layout.marks.items layout.runs.items
   pub room : HasRoom layout
 
 -- they are those of the table's blocks

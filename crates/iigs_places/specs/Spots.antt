@@ -5,7 +5,7 @@ use Rattle.std.specs.List.Sorted.{IsPermutation, IsNonDecreasingBy}
 use Rattle.iigs_meaning.specs.declared.slots.Slot.{Slot}
 use Rattle.iigs_meaning.specs.declared.wants.Want.{Want}
 use Rattle.iigs_meaning.specs.declared.wants.Block.{Block}
-use Rattle.iigs_meaning.specs.Fits.{block_in}
+use Rattle.iigs_meaning.specs.Fits.{IsWant, block_in}
 use Rattle.iigs_meaning.specs.Placement.{can_purge, emptied_where, emptied, GoesTo}
 use Rattle.iigs_places.specs.declared.spots.Spot.{Spot}
 use Rattle.iigs_places.specs.declared.search.Found.{Found}
@@ -75,8 +75,9 @@ abbrev pub FitsWithNone : List ℕ → Want → List Spot → List ℕ → Type 
 FitsWithNone banks want spots turns = (count : ℕ) → count ≤ length turns → (address : ℕ)
     → ¬ FitsAmong banks want spots (limit_of turns count) address
 
--- a block has a size, ends within the addresses of banks, and its level is a byte
+-- a block was placed by a want, ends within the addresses of banks, and its level is a byte
 pub record IsBounded (block : Block) : Type 0 where
+  pub want : IsWant block.want
   pub some : 0 < block.want.size
   pub level : block.level < 256
   pub ends : IfSome block.at (λ at. at + block.want.size ≤ 2 ^ 24)

@@ -1,5 +1,5 @@
 -- What a placement makes of the slots. No public clause cites this module.
-use Rattle.std.specs.Prelude.{◌≡◌, ℕ, Bool, List, Some, None}
+use Rattle.std.specs.Prelude.{◌≡◌, ℕ, Bool, false, List, Some, None}
 use Rattle.iigs_meaning.specs.declared.handles.Handle.{Handle}
 use Rattle.iigs_meaning.specs.declared.slots.Slot.{Slot}
 use Rattle.iigs_meaning.specs.declared.wants.Want.{Want}
@@ -10,11 +10,11 @@ use Rattle.iigs_meaning.specs.Puts.{placed}
 use Rattle.iigs_places.specs.declared.table.Put.{Put}
 
 -- a new handle has the block where the want goes
-pub record IsPut (banks : List ℕ) (old : List (Slot Block)) (want : Want) (user : ℕ) (locked : Bool) (level : ℕ) (put : Put) (new : List (Slot Block)) : Type 0 where
+pub record IsPut (banks : List ℕ) (old : List (Slot Block)) (want : Want) (user : ℕ) (locked : Bool) (level : ℕ) (movable : Bool) (put : Put) (new : List (Slot Block)) : Type 0 where
   pub count : ℕ
   pub goes : GoesTo banks old want count put.at
   pub handle : new_handle old ≡ Some put.handle
-  pub slots : new ≡ after_take (emptied old count) (placed want put.at user locked level)
+  pub slots : new ≡ after_take (emptied old count) (placed want put.at user locked level movable)
 
 -- the handle's empty block is where the want goes
 pub record IsReput (banks : List ℕ) (old : List (Slot Block)) (h : Handle) (want : Want) (address : ℕ) (new : List (Slot Block)) : Type 0 where
@@ -23,4 +23,4 @@ pub record IsReput (banks : List ℕ) (old : List (Slot Block)) (h : Handle) (wa
   pub empty : block.at ≡ None
   pub count : ℕ
   pub goes : GoesTo banks old want count address
-  pub slots : new ≡ with_value (emptied old count) h (placed want address block.user block.locked block.level)
+  pub slots : new ≡ with_value (emptied old count) h (placed want address block.user block.locked block.level false)

@@ -3,10 +3,11 @@
 ghost use Rattle.std.specs.Prelude.{◌≡◌, ◌≢◌, ◌==◌, ◌<◌, ◌∷◌, [], ℕ, not, filter, All, Contains, IfOk, IsTrue, vec_len};
 ghost use Rattle.std.specs.List.Sorted.{IsPermutation};
 ghost use Rattle.iigs_places.specs.Spots.{IsBoundedSlot};
-ghost use Rattle.iigs_places.specs.Marks.{HaveMarks, IsSized};
+ghost use Rattle.iigs_places.specs.declared.marks.Mark as declared;
+ghost use Rattle.iigs_places.specs.Marks.{AreOnce, HaveMarks, IsSized};
 ghost use Rattle.iigs_places.specs.Runs.{HasRoom, IsLaid, IsLayout};
 
-use crate::marks::{Mark, add_mark, drop_mark, mark_all};
+use crate::marks::{Mark, add_mark, drop_mark, mark_all, move_mark};
 use crate::runs::{add_run, join_marks};
 use crate::spots::Spot;
 use iigs_handles::{Handles, SLOTS};
@@ -18,8 +19,10 @@ use std::alloc::{AllocError, Global};
 pub struct Layout {
     /// The blocks that are there, in order of address.
     pub marks: Vec<Mark>,
-    /// Their bytes, in order of address.
+    /// Their bytes, in order of address, where they were joined.
     pub runs: Vec<Spot>,
+    /// Whether the runs are those of the blocks.
+    pub joined: bool,
 }
 
 /// Where no block lies, with room for all.
@@ -30,17 +33,37 @@ pub fn new_layout(alloc: Global) -> Result<Layout, AllocError>
 {
     let marks = Vec::with_capacity(alloc, SLOTS)?;
     let runs = Vec::with_capacity(alloc, SLOTS)?;
-    Ok(Layout { marks, runs })
+    Ok(Layout {
+        marks,
+        runs,
+        joined: true,
+    })
 }
 
 /// Lays out the blocks of a table.
 pub fn lay_all(layout: &mut Layout, table: &Handles<Block>)
     requires bounded { All IsBoundedSlot table.now }
     requires room { HasRoom layout.old }
-    ensures { IsLayout table.now layout.new }
+    ensures laid { IsLayout table.now layout.new }
+    ensures joined { IsTrue layout.new.joined }
 {
     mark_all(table, &mut layout.marks);
     join_marks(&layout.marks, &mut layout.runs);
+    layout.joined = true;
+}
+
+/// Joins the runs, if they aren't those of the blocks.
+pub fn join(layout: &mut Layout)
+    requires laid { IsLaid layout.old }
+    requires sized { All IsSized layout.old.marks.items }
+    ensures laid { IsLaid layout.new }
+    ensures joined { IsTrue layout.new.joined }
+    ensures marks { layout.new.marks.items ≡ layout.old.marks.items }
+{
+    if !layout.joined {
+        join_marks(&layout.marks, &mut layout.runs);
+        layout.joined = true;
+    }
 }
 
 // Whether a mark and a run have room still.
@@ -53,6 +76,7 @@ fn has_more(layout: &Layout) -> bool
 // Adds a block.
 fn lay_more(layout: &mut Layout, mark: Mark)
     requires laid { IsLaid layout.old }
+    requires joined { IsTrue layout.old.joined }
     requires sized { IsSized mark }
     requires marks_more { vec_len layout.old.marks < 4096 }
     requires runs_more { vec_len layout.old.runs < 4096 }
@@ -66,6 +90,7 @@ fn lay_more(layout: &mut Layout, mark: Mark)
 /// Lays out a table in which a block was put. Blocks with a turn below the limit were purged for it.
 pub fn lay_put(layout: &mut Layout, table: &Handles<Block>, mark: Mark, limit: u32)
     requires laid { IsLaid layout.old }
+    requires joined { IsTrue layout.old.joined }
     requires bounded { All IsBoundedSlot table.now }
     requires sized { IsSized mark }
     requires more { limit ≡ 0 → HaveMarks table.now (mark ∷ layout.old.marks.items) }
@@ -88,4 +113,29 @@ pub fn lay_less(layout: &mut Layout, slot: u16, at: u32)
 {
     drop_mark(&mut layout.marks, slot, at);
     join_marks(&layout.marks, &mut layout.runs);
+    layout.joined = true;
+}
+
+/// Lets the block of a slot go, which is at an address if it is there, and leaves the runs for later.
+pub fn lay_gone(layout: &mut Layout, slot: u16, at: u32)
+    requires laid { IsLaid layout.old }
+    requires same { All (λ mark. mark.slot ≡ slot → mark.at ≡ at) layout.old.marks.items }
+    ensures laid { IsLaid layout.new }
+    ensures marks { layout.new.marks.items ≡ filter (λ mark. not (mark.slot == slot)) layout.old.marks.items }
+{
+    drop_mark(&mut layout.marks, slot, at);
+    layout.joined = false;
+}
+
+/// Moves the block of a slot, which is at an address, and leaves the runs for later.
+pub fn lay_moved(layout: &mut Layout, at: u32, mark: Mark)
+    requires laid { IsLaid layout.old }
+    requires same { All (λ other. other.slot ≡ mark.slot → other.at ≡ at) layout.old.marks.items }
+    requires once { AreOnce layout.old.marks.items }
+    requires marked { (other : declared.Mark) × Contains layout.old.marks.items other × (other.slot ≡ mark.slot) }
+    ensures laid { IsLaid layout.new }
+    ensures marks { IsPermutation (mark ∷ filter (λ other. not (other.slot == mark.slot)) layout.old.marks.items) layout.new.marks.items }
+{
+    move_mark(&mut layout.marks, at, mark);
+    layout.joined = false;
 }

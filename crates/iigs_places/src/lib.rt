@@ -7,10 +7,12 @@
 mod bank_map;
 mod layout;
 mod marks;
+mod moves;
 mod open;
 mod places;
 mod runs;
 mod search;
+mod slide;
 mod spots;
 mod table;
 

@@ -1,11 +1,11 @@
 //! Marks of blocks in order of address, by which the block that has a byte is found.
 
-ghost use Rattle.std.specs.Prelude.{◌≡◌, ◌≢◌, ℕ, ◌<◌, ◌≤◌, ◌==◌, ◌∷◌, not, slice_index_or, filter, length, Contains, MatchOption, All, vec_len, vec_capacity};
+ghost use Rattle.std.specs.Prelude.{◌≡◌, ◌≢◌, ℕ, ◌-◌, ◌+◌, ◌^◌, ◌<◌, ◌≤◌, ◌==◌, ◌∷◌, not, false, IsTrue, slice_index_or, filter, length, Contains, MatchOption, All, vec_len, vec_capacity};
 ghost use Rattle.std.specs.List.Sorted.{IsNonDecreasingBy, IsPermutation};
 ghost use Rattle.iigs_meaning.specs.Slots.{slot_at};
 ghost use Rattle.iigs_places.specs.declared.marks.Mark as declared;
 ghost use Rattle.iigs_places.specs.Spots.{IsBoundedSlot};
-ghost use Rattle.iigs_places.specs.Marks.{mark_in, AreGathered, HaveMarks, CountsUpTo, CountsBefore, IsLast};
+ghost use Rattle.iigs_places.specs.Marks.{mark_in, AreGathered, HaveMarks, AreOnce, AreMarksApart, IsSized, CountsUpTo, CountsBefore, IsLast, IsFirstFrom, IsLastOther, LiesBeside, SharesByte};
 
 use crate::spots::{insert_reserved, push_some};
 use iigs_handles::Handles;
@@ -111,6 +111,53 @@ fn count_before(marks: &[Mark], address: u32) -> usize
     marks.partition_point(|mark| mark.at < address)
 }
 
+/// The first mark at an address or behind it.
+pub fn first_from(marks: &[Mark], address: u32) -> Option<Mark>
+    requires { IsNonDecreasingBy (λ mark. mark.at) marks.now }
+    ensures { MatchOption result ((mark : declared.Mark) → Contains marks.now mark → mark.at < address) (IsFirstFrom marks.now address) }
+{
+    let count = count_before(marks, address);
+    if count == marks.len() {
+        return None;
+    }
+    Some(marks[count])
+}
+
+// Of the marks of other slots the last one before an address.
+fn last_other(marks: &[Mark], address: u32, slot: u16) -> Option<Mark>
+    requires order { IsNonDecreasingBy (λ mark. mark.at) marks.now }
+    requires once { AreOnce marks.now }
+    ensures { MatchOption result ((mark : declared.Mark) → Contains marks.now mark → mark.slot ≢ slot → address ≤ mark.at) (IsLastOther marks.now address slot) }
+{
+    let count = count_before(marks, address);
+    if count == 0 {
+        return None;
+    }
+    if marks[count - 1].slot != slot {
+        return Some(marks[count - 1]);
+    }
+    if count == 1 {
+        return None;
+    }
+    Some(marks[count - 2])
+}
+
+/// Whether so many bytes from an address on lie in none of the blocks of other slots.
+pub fn lies_beside(marks: &[Mark], slot: u16, address: u32, size: u32) -> bool
+    requires order { IsNonDecreasingBy (λ mark. mark.at) marks.now }
+    requires once { AreOnce marks.now }
+    requires sized { All IsSized marks.now }
+    requires apart { AreMarksApart marks.now }
+    requires small { address + size < 2 ^ 32 }
+    ensures yes { IsTrue result → LiesBeside marks.now slot address size }
+    ensures no { result ≡ false → SharesByte marks.now slot address size }
+{
+    match last_other(marks, address + size, slot) {
+        Some(last) => last.end <= address,
+        None => true,
+    }
+}
+
 // The place of a mark of a slot, whose marks are all at one address.
 fn place_of(marks: &[Mark], slot: u16, at: u32) -> Option<usize>
     requires order { IsNonDecreasingBy (λ mark. mark.at) marks.now }
@@ -141,4 +188,34 @@ pub fn drop_mark(marks: &mut Vec<Mark>, slot: u16, at: u32)
     while let Some(place) = place_of(marks, slot, at) {
         marks.remove(place);
     }
+}
+
+// Whether a mark that is put at a place keeps the order, where it is at an address.
+fn keeps_order(marks: &[Mark], place: usize, address: u32) -> bool
+    requires { place < length marks.now }
+    ensures below { IsTrue result → (d : declared.Mark) → 0 < place → (slice_index_or marks.now (place - 1) d).at ≤ address }
+    ensures above { IsTrue result → (d : declared.Mark) → place + 1 < length marks.now → address ≤ (slice_index_or marks.now (place + 1) d).at }
+{
+    (place == 0 || marks[place - 1].at <= address)
+        && (place + 1 == marks.len() || address <= marks[place + 1].at)
+}
+
+/// Moves the one mark of a slot, which is at an address. Where the order stays, no other mark is touched.
+pub fn move_mark(marks: &mut Vec<Mark>, at: u32, mark: Mark)
+    requires order { IsNonDecreasingBy (λ mark. mark.at) marks.old.items }
+    requires same { All (λ other. other.slot ≡ mark.slot → other.at ≡ at) marks.old.items }
+    requires once { AreOnce marks.old.items }
+    requires marked { (other : declared.Mark) × Contains marks.old.items other × (other.slot ≡ mark.slot) }
+    ensures order { IsNonDecreasingBy (λ mark. mark.at) marks.new.items }
+    ensures moved { IsPermutation (mark ∷ filter (λ other. not (other.slot == mark.slot)) marks.old.items) marks.new.items }
+    ensures capacity { vec_capacity marks.old ≤ vec_capacity marks.new }
+{
+    if let Some(place) = place_of(marks, mark.slot, at) {
+        if keeps_order(marks, place, mark.at) {
+            marks[place] = mark;
+            return;
+        }
+    }
+    drop_mark(marks, mark.slot, at);
+    add_mark(marks, mark);
 }

@@ -201,6 +201,19 @@ pub fn next_open(map: &BankMap, want: &Want, from: u32) -> Option<u32>
     None
 }
 
+/// Whether the want fits at an address where no block is.
+pub fn is_open(map: &BankMap, want: &Want, at: u32) -> bool
+    requires want { IsWant want.now }
+    requires at { at ≤ 2 ^ 24 }
+    ensures yes { IsTrue result → IsOpen map.now want.now at }
+    ensures no { result ≡ false → ¬ IsOpen map.now want.now at }
+{
+    match next_open(map, want, at) {
+        Some(place) => place == at,
+        None => false,
+    }
+}
+
 /// How many bytes of a bank are free memory.
 #[tactic(auto, unfolding(iigs_meaning::specs::Free::is_special, iigs_meaning::specs::Free::first_free, iigs_meaning::specs::Free::free_end))]
 pub fn free_bytes(bank: u32) -> u32

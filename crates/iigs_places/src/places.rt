@@ -1,14 +1,16 @@
 //! Places of blocks among banks.
 
-ghost use Rattle.std.specs.Prelude.{◌≡◌, ◌≢◌, ◌+◌, ◌-◌, ◌<◌, ◌≤◌, ◌^◌, ℕ, [], false, All, MatchOption, IsSome, IsSomeAnd, IfOk, IfErr, OnErr, OnOk, length, count_by, map, vec_capacity};
+ghost use Rattle.std.specs.Prelude.{◌≡◌, ◌≢◌, ◌+◌, ◌-◌, ◌<◌, ◌≤◌, ◌^◌, ℕ, [], false, All, MatchOption, IsSome, IsSomeAnd, IsTrue, Some, IfSome, IfOk, IfErr, OnErr, OnOk, length, count_by, map, vec_capacity};
 ghost use Rattle.std.specs.Option.{option_map_or};
 ghost use Rattle.std.specs.Result.{result_ok};
 ghost use Rattle.iigs_meaning.specs.declared.handles.Handle as declared;
 ghost use Rattle.iigs_meaning.specs.Slots.{get, slot_at, with_value, after_release, is_free};
-ghost use Rattle.iigs_meaning.specs.Fits.{IsWant, HoldsByte, block_in};
-ghost use Rattle.iigs_meaning.specs.Placement.{emptied_where};
+ghost use Rattle.iigs_meaning.specs.Fits.{IsWant, Fits, HoldsByte, block_in};
+ghost use Rattle.iigs_meaning.specs.Placement.{emptied_where, emptied, count_purgeable as purgeable_of};
+ghost use Rattle.iigs_meaning.specs.Slide.{Slides, AreSettled};
+ghost use Rattle.iigs_meaning.specs.Moves.{count_there, IsNth, Empties, IsEmptyRefusal, Shifts, IsShiftRefusal};
 ghost use Rattle.iigs_meaning.specs.Puts.{Purges, IsPlaceRefusal, IsReplaceRefusal, IsPlaceAllRefusal, slots_for};
-ghost use Rattle.iigs_meaning.specs.Blocks.{new_slots, can_purge_of};
+ghost use Rattle.iigs_meaning.specs.Blocks.{new_slots, can_purge_of, address_in};
 ghost use Rattle.iigs_meaning.specs.Banks.{AreDistinctTo, IsBanksRefusal};
 ghost use Rattle.iigs_meaning.specs.Room.{CountsBelow, IsRoom};
 ghost use Rattle.iigs_places.specs.Offsets.{bytes_below, offset_of};
@@ -17,14 +19,19 @@ ghost use Rattle.iigs_places.specs.Table.{IsPut, IsReput};
 ghost use Rattle.iigs_places.specs.Alls.{AllPut};
 
 use crate::bank_map::BankMap;
-use crate::layout::{Layout, lay_all, lay_less, new_layout};
-use crate::marks::last_mark;
+use crate::layout::{Layout, join, lay_all, lay_less, new_layout};
+use crate::marks::{first_from, last_mark};
+use crate::moves::{count_purgeable, empty_block, purge_first, shift_block};
+use crate::search::least_among;
+use crate::slide::slide_all;
 use crate::spots::Spot;
 use crate::table::{
     Put, purge_user, put_all, put_block, replace_block, set, start_plan, used_bytes,
 };
 use iigs_handles::{Handles, HandlesFault, SLOTS};
-use iigs_meaning::{BanksFault, Block, Content, Handle, PlaceFault, Stale, Want};
+use iigs_meaning::{
+    BanksFault, Block, Content, EmptyFault, Handle, PlaceFault, ShiftFault, Stale, Want,
+};
 use std::alloc::{AllocError, Global};
 use std::marker::Model;
 
@@ -86,6 +93,7 @@ fn parts(alloc: Global, map: BankMap) -> Result<Places, AllocError>
 
 impl Places {
     ghost use Rattle.iigs_places.specs.Holder.{Has, IsHolder};
+    ghost use Rattle.iigs_places.specs.Lowest.{IsFirstPut};
 
     /// The places of these banks, without blocks. It takes all the memory that it ever takes.
     pub fn new(alloc: Global, banks: &[u8]) -> Result<Places, BanksFault>
@@ -208,9 +216,10 @@ impl Places {
         user: u16,
         locked: bool,
         level: u8,
+        movable: bool,
     ) -> Result<Put, PlaceFault>
         requires want { IsWant want.now }
-        ensures put { IfOk result (λ put. IsPut self.old.banks self.old.slots want.now user locked level put self.new.slots) }
+        ensures put { IfOk result (λ put. IsPut self.old.banks self.old.slots want.now user locked level movable put self.new.slots) }
         ensures banks { self.new.banks ≡ self.old.banks }
         ensures refused { IfErr result (IsPlaceRefusal Purges self.old.banks self.old.slots want.now) }
         ensures err { OnErr result (self.new ≡ self.old) }
@@ -225,10 +234,12 @@ impl Places {
             user,
             locked,
             level,
+            movable,
         )
     }
 
-    /// Places an empty block anew under its handle, and gives the address. It keeps its user, level and lock.
+    /// Places an empty block anew under its handle, and gives the address. It keeps its user, level and lock, and
+    /// isn't movable.
     pub fn replace(&mut self, h: Handle, want: &Want) -> Result<u32, PlaceFault>
         requires want { IsWant want.now }
         ensures put { IfOk result (λ address. IsReput self.old.banks self.old.slots h want.now address self.new.slots) }
@@ -290,6 +301,116 @@ impl Places {
             user,
             wants,
         )
+    }
+
+    /// How many blocks are there.
+    pub fn count(&self) -> u32
+        ensures { result ≡ count_there self.now.slots }
+    {
+        self.layout.marks.len() as u32
+    }
+
+    // The handle of a slot.
+    fn handle_in(&self, slot: u16) -> Handle
+        requires { slot < 4096 }
+        ensures { (result.slot ≡ slot) × (result.generation ≡ (slot_at self.now.slots slot).generation) }
+    {
+        Handle {
+            slot,
+            generation: self.table.slots()[usize::from(slot)].generation,
+        }
+    }
+
+    /// The handle of the block at a place, from 0, in order of address.
+    pub fn nth(&self, place: u32) -> Option<Handle>
+        ensures { MatchOption result (count_there self.now.slots ≤ place) (IsNth self.now.slots place) }
+    {
+        match self.layout.marks.get(place as usize) {
+            Some(mark) => Some(self.handle_in(mark.slot)),
+            None => None,
+        }
+    }
+
+    /// The lowest block from an address on.
+    pub fn first_from(&self, address: u32) -> Option<Put>
+        ensures found { MatchOption result ((place at : ℕ) → address_in (slot_at self.now.slots place) ≡ Some at → at < address) (IsFirstPut self.now.slots address) }
+        ensures small { IfSome result (λ put. put.at < 2 ^ 24) }
+    {
+        match first_from(&self.layout.marks, address) {
+            Some(mark) => Some(Put {
+                handle: self.handle_in(mark.slot),
+                at: mark.at,
+            }),
+            None => None,
+        }
+    }
+
+    /// How many blocks may be purged.
+    pub fn purgeable(&self) -> u32
+        ensures value { result ≡ purgeable_of self.now.slots }
+        ensures small { result ≤ 4096 }
+    {
+        count_purgeable(self.table.slots())
+    }
+
+    /// Empties the first so many purgeable blocks, whose handles stay.
+    pub fn purge_first(&mut self, count: u32)
+        ensures { self.new ≡ record self.old { slots = emptied self.old.slots count } }
+    {
+        purge_first(
+            &mut self.table,
+            &mut self.layout,
+            &mut self.spots,
+            &mut self.turns,
+            count,
+        );
+    }
+
+    /// Empties a purgeable block. Its handle stays.
+    pub fn empty(&mut self, h: Handle) -> Result<(), EmptyFault>
+        ensures emptied { OnOk result (Empties self.old.slots h self.new.slots) }
+        ensures banks { self.new.banks ≡ self.old.banks }
+        ensures refused { IfErr result (IsEmptyRefusal self.old.slots h) }
+        ensures err { OnErr result (self.new ≡ self.old) }
+    {
+        empty_block(&mut self.table, &mut self.layout, h)
+    }
+
+    /// Moves a block that isn't locked to an address not above its own at which its kept want fits beside the other
+    /// blocks, and gives the block as it was.
+    pub fn shift(&mut self, h: Handle, to: u32) -> Result<Block, ShiftFault>
+        ensures was { IfOk result (λ block. get self.old.slots h ≡ Some block) }
+        ensures shifted { OnOk result (Shifts self.old.banks self.old.slots h to self.new.slots) }
+        ensures banks { self.new.banks ≡ self.old.banks }
+        ensures refused { IfErr result (IsShiftRefusal self.old.banks self.old.slots h to) }
+        ensures err { OnErr result (self.new ≡ self.old) }
+    {
+        shift_block(&self.map, &mut self.table, &mut self.layout, h, to)
+    }
+
+    /// Slides the movable blocks down.
+    pub fn slide(&mut self)
+        requires { AreSettled self.old.banks self.old.slots }
+        ensures slides { Slides self.old.banks self.old.slots self.new.slots }
+        ensures banks { self.new.banks ≡ self.old.banks }
+    {
+        slide_all(
+            &self.map,
+            &mut self.table,
+            &mut self.layout,
+            &mut self.spots,
+        );
+    }
+
+    /// Whether a want fits anywhere beside all blocks.
+    pub fn has_room(&mut self, want: &Want) -> bool
+        requires { IsWant want.now }
+        ensures yes { IsTrue result → (address : ℕ) × Fits self.old.banks self.old.slots want.now address }
+        ensures no { result ≡ false → (address : ℕ) → ¬ Fits self.old.banks self.old.slots want.now address }
+        ensures same { self.new ≡ self.old }
+    {
+        join(&mut self.layout);
+        least_among(&self.map, want, &self.layout.runs, 0).is_some()
     }
 
     /// How many bytes of free memory lie in no block.

@@ -36,6 +36,7 @@ fn add_at(runs: &mut Vec<Spot>, count: usize, at: u32, end: u32)
     requires room { vec_len runs.old < vec_capacity runs.old }
     ensures runs { AreRuns runs.new.items }
     ensures added { RunsAdd runs.old.items at end runs.new.items }
+    ensures len { vec_len runs.new ≤ vec_len runs.old + 1 }
     ensures capacity { vec_capacity runs.old ≤ vec_capacity runs.new }
 {
     if ends_at(runs, count, at) {
@@ -69,6 +70,7 @@ pub fn add_run(runs: &mut Vec<Spot>, at: u32, end: u32)
     requires room { vec_len runs.old < vec_capacity runs.old }
     ensures runs { AreRuns runs.new.items }
     ensures added { RunsAdd runs.old.items at end runs.new.items }
+    ensures len { vec_len runs.new ≤ vec_len runs.old + 1 }
     ensures capacity { vec_capacity runs.old ≤ vec_capacity runs.new }
 {
     let count = count_up_to(runs, at);

@@ -1,6 +1,6 @@
 //! The search for the least address at which a want fits beside blocks.
 
-ghost use Rattle.std.specs.Prelude.{◌≡◌, ◌⊎◌, ℕ, ◌+◌, ◌-◌, ◌^◌, ◌<◌, ◌≤◌, All, length, slice_index_or, MatchOption, vec_capacity};
+ghost use Rattle.std.specs.Prelude.{◌≡◌, ◌⊎◌, ℕ, IsTrue, ◌+◌, ◌-◌, ◌^◌, ◌<◌, ◌≤◌, All, length, slice_index_or, MatchOption, vec_capacity};
 ghost use Rattle.iigs_meaning.specs.Placement.{HasNoRoom};
 ghost use Rattle.std.specs.List.Sorted.{IsNonDecreasingBy};
 ghost use Rattle.iigs_meaning.specs.Fits.{IsWant};
@@ -104,9 +104,9 @@ pub fn least_among(map: &BankMap, want: &Want, spots: &[Spot], limit: u32) -> Op
     None
 }
 
-// The turn below which the first so many purgeable blocks lie.
+/// The turn below which the first so many purgeable blocks lie.
 #[tactic(auto, unfolding(crate::specs::Spots::limit_of))]
-fn limit_at(turns: &[u32], count: usize) -> u32
+pub fn limit_at(turns: &[u32], count: usize) -> u32
     requires count { count ≤ length turns.now }
     requires small { All (λ turn. turn < never) turns.now }
     ensures { result ≡ limit_of turns.now count }
@@ -163,6 +163,7 @@ pub fn find(
     requires want { IsWant want.now }
     requires bounded { All IsBoundedSlot table.now }
     requires laid { IsLayout table.now layout.now }
+    requires joined { IsTrue layout.now.joined }
     requires spots_room { 4096 ≤ vec_capacity spots.old }
     requires turns_room { 4096 ≤ vec_capacity turns.old }
     ensures found { MatchOption result (HasNoRoom map.now table.now want.now) (IsFound map.now table.now want.now) }

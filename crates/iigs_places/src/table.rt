@@ -15,7 +15,7 @@ ghost use Rattle.iigs_places.specs.Runs.{IsLayout};
 ghost use Rattle.iigs_places.specs.Arranged.{IsArranged};
 
 use crate::bank_map::BankMap;
-use crate::layout::{Layout, lay_put};
+use crate::layout::{Layout, join, lay_put};
 use crate::marks::Mark;
 use crate::search::find;
 use crate::spots::{Spot, turn_of};
@@ -123,8 +123,9 @@ fn is_purgeable(table: &Handles<Block>, place: usize, user: u16) -> bool
     can_be_purged(block) && block.user == user
 }
 
+/// Whether a block is purgeable.
 #[tactic(auto, unfolding(iigs_meaning::specs::Placement::can_purge))]
-fn can_be_purged(block: &Block) -> bool
+pub fn can_be_purged(block: &Block) -> bool
     ensures { result ≡ can_purge block.now }
 {
     block.at.is_some() && !block.locked && block.level != 0
@@ -157,13 +158,14 @@ pub fn put_block(
     user: u16,
     locked: bool,
     level: u8,
+    movable: bool,
 ) -> Result<Put, PlaceFault>
     requires want { IsWant want.now }
     requires arranged { IsArranged map.now table.old }
     requires laid { IsLayout table.old layout.old }
     requires spots_room { 4096 ≤ vec_capacity spots.old }
     requires turns_room { 4096 ≤ vec_capacity turns.old }
-    ensures put { IfOk result (λ put. IsPut map.now table.old want.now user locked level put table.new) }
+    ensures put { IfOk result (λ put. IsPut map.now table.old want.now user locked level movable put table.new) }
     ensures refused { IfErr result (IsPlaceRefusal Purges map.now table.old want.now) }
     ensures err { OnErr result (table.new ≡ table.old) }
     ensures arranged { IsArranged map.now table.new }
@@ -174,6 +176,7 @@ pub fn put_block(
     if table.left() == 0 {
         return Err(PlaceFault::NoHandle);
     }
+    join(layout);
     let Some(found) = find(map, want, table, layout, spots, turns) else {
         return Err(PlaceFault::NoRoom(0));
     };
@@ -185,6 +188,7 @@ pub fn put_block(
         user,
         locked,
         level,
+        movable,
     };
     let handle = match table.take(block) {
         Ok(handle) => handle,
@@ -232,6 +236,7 @@ pub fn replace_block(
     if block.at.is_some() {
         return Err(PlaceFault::NotEmpty);
     }
+    join(layout);
     let Some(found) = find(map, want, table, layout, spots, turns) else {
         return Err(PlaceFault::NoRoom(0));
     };
@@ -240,6 +245,7 @@ pub fn replace_block(
     let block = Block {
         at: Some(found.at),
         want: *want,
+        movable: false,
         ..block
     };
     set(table, h, block);
@@ -327,6 +333,7 @@ pub fn put_all(
             user,
             true,
             0,
+            false,
         ) {
             Ok(put) => made.push_reserved(put),
             Err(PlaceFault::NoRoom(_)) => return Err(PlaceFault::NoRoom(place as u32)),

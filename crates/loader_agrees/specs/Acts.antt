@@ -2,6 +2,7 @@
 use Rattle.std.specs.Prelude.{◌≡◌, ◌≢◌, ◌⊎◌, slice_get, ◌^◌, take, drop, None, ℕ, ◌+◌, ◌<◌, ◌≤◌, [], ◌∷◌, ◌++◌, map, false, IsSome, List, length, Option, Some}
 use Rattle.omf_format.specs.File.{Segment, segment_at}
 use Rattle.omf_io.specs.Counts.{IsFront}
+use Rattle.load_meaning.specs.Pathnames.{paths_of}
 use Rattle.iigs_meaning.specs.declared.handles.Handle.{Handle}
 use Rattle.iigs_meaning.specs.Slots.{get}
 use Rattle.iigs_meaning.specs.Puts.{Purges}
@@ -9,7 +10,7 @@ use Rattle.iigs_meaning.specs.Memory.{Memory, AreAllPlaced, bytes_at}
 use Rattle.loader_machine.specs.declared.seen.Head.{Head}
 use Rattle.loader_machine.specs.declared.seen.Life.TheVariants.{Running}
 use Rattle.loader_machine.specs.Heads.{head_of, at_number, wants_of}
-use Rattle.loader_machine.specs.State.{no_pokes, max_users, first_id, user_of, handles_of}
+use Rattle.loader_machine.specs.State.{no_pokes, max_users, first_id, user_of, handles_of, ids_from}
 use Rattle.loader_machine.specs.declared.seen.Presence.TheVariants.{Active}
 use Rattle.loader_machine.specs.declared.seen.Presence.{Presence}
 use Rattle.loader_machine.specs.Presences.{handle_at, presence, presence_at}
@@ -73,7 +74,7 @@ started_kept path heads handles = record {
   attached = [];
 }
 
--- The same of memory alone: the static segments of a file are in new blocks, each of which begins with what stands in its segment,
+-- The static segments of a file are in new blocks, each of which begins with what stands in its segment,
 -- and nothing else is written.
 pub record HasPlaced (old : Memory) (path : List ℕ) (segments : List Segment) (id : ℕ) (entry : Option ℕ) (new : Memory) : Type 0 where
   pub short : length segments < 2 ^ 16
@@ -96,21 +97,27 @@ pub record IsAdded (old : List (Option Kept)) (place : ℕ) (kept : Kept) (new :
   pub which : (p : ℕ) (k : Kept) → slice_get new p ≡ Some (Some k) → ((p ≢ place) × (slice_get old p ≡ Some (Some k))) ⊎ ((p ≡ place) × (k ≡ kept))
   pub stay : (p : ℕ) (k : Kept) → slice_get old p ≡ Some (Some k) → slice_get new p ≡ Some (Some k)
 
--- The static segments of a file are in new blocks, each of which begins with what stands in its segment; nothing else is written;
--- and there is one user more.
-pub record HasBegun (old : Loaded) (path : List ℕ) (segments : List Segment) (id : ℕ) (entry : Option ℕ) (new : Loaded) : Type 0 where
-  pub few : length old.users < max_users
-  pub short : length segments < 2 ^ 16
+-- no segment has a handle
+abbrev pub no_handle_of : Head → Option Handle
+no_handle_of head = None
+
+-- an attached user as it is kept: none of its segments is there
+abbrev pub joined_kept : List ℕ → List Head → Kept
+joined_kept path heads = record { path = path; life = Running; handles = map no_handle_of heads; heads = heads; attached = [] }
+
+-- the same for each row
+abbrev pub joined_kepts : List (List ℕ) → List (List Segment) → List (Option Kept)
+joined_kepts [] all = []
+joined_kepts (path ∷ paths) [] = []
+joined_kepts (path ∷ paths) (segments ∷ all) = Some (joined_kept path (map head_of segments)) ∷ joined_kepts paths all
+
+-- The static segments of a file are in new blocks, each of which begins with what stands in its segment; nothing else is written; and
+-- there is one user more, and behind it one for each row of its pathname segment, attached to it, whose file has these segments.
+pub record HasBegun (old : Loaded) (path : List ℕ) (segments : List Segment) (all : List (List Segment)) (id : ℕ) (entry : Option ℕ) (new : Loaded) : Type 0 where
+  pub few : length old.users + 1 + length (paths_of segments) ≤ max_users
+  pub long : length all ≡ length (paths_of segments)
+  pub shorts : (j : ℕ) (other : List Segment) → slice_get all j ≡ Some other → length other < 2 ^ 16
   pub id_is : id ≡ first_id + length old.users
-  pub handles : List Handle
-  pub middle : Memory
-  pub placed : AreAllPlaced Purges old.memory id false (wants_of (map head_of segments)) handles middle
-  pub banks : new.memory.banks ≡ old.memory.banks
-  pub slots : new.memory.slots ≡ middle.slots
-  pub users : new.users ≡ old.users ++ Some (started_kept path (map head_of segments) handles) ∷ []
-  pub entry_is : entry ≡ entry_of id new.memory.slots (map head_of segments) (started_kept path (map head_of segments) handles).handles
-  pub stay : (k : Handle) → IsSome (get old.memory.slots k) → bytes_at new.memory k.slot ≡ bytes_at middle k.slot
-  pub begins : (n : ℕ) (s : Segment) (h : Handle) → segment_at segments n ≡ Some s
-      → handle_at (started_kept path (map head_of segments) handles).handles n ≡ Some h
-      → IsFront (stands (setting id new.memory.slots (started_kept path (map head_of segments) handles).handles) no_pokes s) (bytes_at new.memory h.slot)
-  pub sizes : (slot : ℕ) → length (bytes_at new.memory slot) ≡ length (bytes_at middle slot)
+  pub placed : HasPlaced old.memory path segments id entry new.memory
+  pub users : new.users ≡ old.users
+      ++ Some (record (started_kept path (map head_of segments) placed.handles) { attached = ids_from (id + 1) (length (paths_of segments)) }) ∷ joined_kepts (paths_of segments) all

@@ -2,8 +2,9 @@
 use Rattle.std.specs.Prelude.{◌≡◌, ◌≢◌, ◌⊎◌, ℕ, ◌+◌, ◌≤◌, ◌<◌, ◌^◌, true, false, List, [], length, map, Option, Some, option_map, IsSome, slice_get}
 use Rattle.omf_format.specs.File.{Segment, segment_at}
 use Rattle.omf_io.specs.Counts.{risen, one_more, IsFront}
-use Rattle.omf_io.specs.Files.{FileMap}
+use Rattle.omf_io.specs.Files.{FileMap, StoreSeen}
 use Rattle.load_meaning.specs.declared.table.Target.{Target}
+use Rattle.load_meaning.specs.Pathnames.{most_paths}
 use Rattle.load_meaning.specs.LoadTable.{is_table, targets_of, target_at, entry_count}
 use Rattle.omf_format.specs.Header.{is_dynamic, is_skipped}
 use Rattle.iigs_meaning.specs.declared.handles.Handle.{Handle}
@@ -63,7 +64,7 @@ abbrev pub AreThere : Slots → List (Option Handle) → List Segment → Type 0
 AreThere slots handles segments = (number : ℕ) (s : Segment) → segment_at segments number ≡ Some s → is_static (head_of s) ≡ true
     → IsSome (there_at (presence_at slots handles number))
 
--- A user agrees: the path holds a load file that is taken, whose headers are kept; a table has no pokes; the static segments of a
+-- A user agrees: the path holds a load file, whose headers are kept; a table has no pokes; the static segments of a
 -- running user are active; and while all static segments are there, the block of each segment that is there begins with what stands in it,
 -- where the segments of attached users are active so.
 pub record UserAgrees (held : FileMap) (memory : Memory) (far : Far) (id : ℕ) (kept : Kept) (user : User) : Type 0 where
@@ -79,22 +80,20 @@ pub record UserAgrees (held : FileMap) (memory : Memory) (far : Far) (id : ℕ) 
       → handle_at kept.handles number ≡ Some h → IsSome (there_at (presence_at memory.slots kept.handles number))
       → IsFront (stands (setting_with far id memory.slots kept.handles) (held_at user number).pokes s) (bytes_at memory h.slot)
 
--- an attached user: it runs where its user does, nothing is attached to it, and its segments are dynamic and not skipped
+-- an attached user: it runs where its user does, nothing is attached to it, and its segments are dynamic, not skipped, and no tables
 pub record IsJoined (life : Life) (other : Kept) : Type 0 where
   pub same : other.life ≡ life
   pub alone : other.attached ≡ []
   pub dynamic : (number : ℕ) (head : Head) → at_number other.heads number ≡ Some head → (is_dynamic head.kind ≡ true) × (is_skipped head.kind ≡ false)
+  pub plain : (number : ℕ) (head : Head) → at_number other.heads number ≡ Some head → is_table_head head ≡ false
 
--- each ID in a list of attached users is that of such a user, and stands in one list, at one place
+-- each ID in a list of attached users, at most 16 in all, is that of such a user, and stands in one list, at one place
 pub record AreAttached (users : List (Option Kept)) : Type 0 where
+  pub few : (place : ℕ) (kept : Kept) → slice_get users place ≡ Some (Some kept) → length kept.attached ≤ most_paths
   pub each : (place i n : ℕ) (kept : Kept) → slice_get users place ≡ Some (Some kept) → slice_get kept.attached i ≡ Some n
       → (other : Kept) × (user_of users n ≡ Some other) × IsJoined kept.life other
   pub once : (place other i j n : ℕ) (one two : Kept) → slice_get users place ≡ Some (Some one) → slice_get users other ≡ Some (Some two)
       → slice_get one.attached i ≡ Some n → slice_get two.attached j ≡ Some n → (place ≡ other) × (i ≡ j)
-
--- no user has attached users: a file with a pathname segment isn't loaded yet
-abbrev pub AreBare : List (Option Kept) → Type 0
-AreBare users = (place : ℕ) (kept : Kept) → slice_get users place ≡ Some (Some kept) → kept.attached ≡ []
 
 -- a target of a file above 1 leads to a segment of the attached user of that file, and to an offset below its LENGTH
 pub record LeadsFar (users : List (Option Kept)) (id : ℕ) (t : Target) : Type 0 where
@@ -172,7 +171,6 @@ pub record IsSound (memory : Memory) (users : List (Option Kept)) : Type 0 where
       → h.slot ≡ k.slot → (place ≡ other) × (number ≡ n)
   pub only : (slot : ℕ) (block : Block) → block_in (slot_at memory.slots slot) ≡ Some block → block.user ≢ 0
       → (place : ℕ) × (number : ℕ) × (head : Head) × (h : Handle) × Has users place number head h × (h.slot ≡ slot)
-  pub bare : AreBare users
   pub attached : AreAttached users
   pub calls : (place number k : ℕ) (head : Head) (h : Handle) → Has users place number head h → is_table_head head ≡ true → IsSome (there_at (presence memory.slots (Some h)))
       → k < entry_count head.length → IsCall users (first_id + place) (target_at (bytes_at memory h.slot) k)
@@ -191,6 +189,15 @@ Meets Makes held state command reply new before now =
     ⊎ (((reply ≡ Refused refusal.CannotRead) × (paths : List (List ℕ)) × Needs held state command paths × (paths ≢ []) × Agrees held new state × (now ≡ one_more before))
     ⊎ ((reply ≡ Refused refusal.Memory) × Agrees held new state × (now ≡ before)))
 
--- The files that the command needs were read, once each, and no other was: the count of reads is one more for each.
-abbrev pub ReadsNeeded : FileMap → Machine → Command → ℕ → ℕ → Type 0
-ReadsNeeded held state command before now = (reads : ℕ) × IsReadFor held state command reads × (now ≡ risen reads before)
+-- The files that the command needs were read, once each, and no other was: the count of reads is one more for each. Where a read failed,
+-- as this number of failures says, or memory ran out, those behind may not have been read.
+abbrev pub ReadsNeeded : FileMap → Machine → Command → ℕ → ℕ → ℕ → Type 0
+ReadsNeeded held state command others before now = (reads : ℕ) × IsReadFor held state command others reads × (now ≡ risen reads before)
+
+-- a call that may read several files, with how many it read, by what is seen of the store before it and after it
+abbrev pub MeetsReads : MakesRoom → FileMap → Machine → Command → Reply → Loaded → StoreSeen → StoreSeen → Type 0
+MeetsReads Makes held state command reply new before now =
+    (Met Makes held state command reply new × (now.faults ≡ before.faults) × ReadsNeeded held state command 0 before.asked now.asked)
+    ⊎ (((reply ≡ Refused refusal.CannotRead) × (paths : List (List ℕ)) × Needs held state command paths × (paths ≢ []) × Agrees held new state
+    × (now.faults ≡ one_more before.faults) × ReadsNeeded held state command 1 before.asked now.asked)
+    ⊎ ((reply ≡ Refused refusal.Memory) × Agrees held new state × (now.faults ≡ before.faults) × ReadsNeeded held state command 1 before.asked now.asked))

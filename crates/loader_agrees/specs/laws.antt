@@ -15,8 +15,12 @@ pub mod ScriptBlocks
 pub mod Checking
 pub mod Joining
 pub mod Empty
-pub mod BegunSound
+pub mod RowUsers
+pub mod Rows
 pub mod BegunRows
+pub mod BegunSound
+pub mod BegunMore
 pub mod BegunMet
-pub mod Bare
+pub mod Leading
+pub mod Likes
 pub mod Filled

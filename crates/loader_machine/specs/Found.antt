@@ -1,28 +1,31 @@
 -- What a read of a path finds.
-use Rattle.std.specs.Prelude.{◌≡◌, ◌≤◌, ℕ, List, length, Some}
+use Rattle.std.specs.Prelude.{◌≡◌, ◌≤◌, ℕ, ◌+◌, List, [], ◌∷◌, length, Some}
 use Rattle.std.specs.FinMap.{get}
 use Rattle.omf_format.specs.File.{Segment}
 use Rattle.omf_io.specs.Files.{FileMap, max_file}
 use Rattle.load_meaning.specs.declared.load.LoadFault.{LoadFault}
-use Rattle.loader_machine.specs.Taken.{IsTaken, IsFirstRefusal}
+use Rattle.load_meaning.specs.Loadable.{IsLoadable, IsFirstLoadFault}
+use Rattle.load_meaning.specs.Runtime.{IsRuntime, IsFirstRuntimeFault}
+use Rattle.loader_machine.specs.declared.faults.LoaderFault.{LoaderFault}
+use Rattle.loader_machine.specs.declared.faults.LoaderFault.TheVariants.{CannotRead, BadFile}
 
 -- the path holds a file that isn't too long to be read
 abbrev pub HoldsFile : FileMap → List ℕ → List ℕ → Type 0
 HoldsFile held path file = (get held path ≡ Some file) × (length file ≤ max_file)
 
--- the path holds a load file of these segments, none of which is a pathname segment
+-- the path holds a load file of these segments
 pub record HoldsLoad (held : FileMap) (path : List ℕ) (segments : List Segment) : Type 0 where
   pub file : List ℕ
   pub is_held : HoldsFile held path file
-  pub taken : IsTaken file segments
+  pub loadable : IsLoadable file segments
 
--- the path holds a file that isn't taken: it has this first fault, or else its pathname segment is unsupported
+-- the path holds a file that isn't loaded, and has this first fault
 pub record HoldsFault (held : FileMap) (path : List ℕ) (fault : LoadFault) : Type 0 where
   pub file : List ℕ
   pub is_held : HoldsFile held path file
-  pub first : IsFirstRefusal file fault
+  pub first : IsFirstLoadFault file fault
 
--- what a read of a path finds: no file that can be read, one that isn't taken and why, or a load file of these segments
+-- what a read of a path finds: no file that can be read, one that isn't loaded and why, or a load file of these segments
 pub data Found : Type 0 where
   Unread : Found
   Bad : (fault : LoadFault) → Found
@@ -32,3 +35,49 @@ abbrev pub IsFound : FileMap → List ℕ → Found → Type 0
 IsFound held path Unread = (file : List ℕ) → ¬ HoldsFile held path file
 IsFound held path (Bad fault) = HoldsFault held path fault
 IsFound held path (Good segments) = HoldsLoad held path segments
+
+-- ---- run-time library files
+
+-- the path holds a run-time library file of these segments
+pub record HoldsRuntime (held : FileMap) (path : List ℕ) (segments : List Segment) : Type 0 where
+  pub file : List ℕ
+  pub is_held : HoldsFile held path file
+  pub runtime : IsRuntime file segments
+
+-- the path holds a file with this first fault as a run-time library file
+pub record HoldsRuntimeFault (held : FileMap) (path : List ℕ) (fault : LoadFault) : Type 0 where
+  pub file : List ℕ
+  pub is_held : HoldsFile held path file
+  pub first : IsFirstRuntimeFault file fault
+
+-- what a read of a row's path finds
+abbrev pub IsRowFound : FileMap → List ℕ → Found → Type 0
+IsRowFound held path Unread = (file : List ℕ) → ¬ HoldsFile held path file
+IsRowFound held path (Bad fault) = HoldsRuntimeFault held path fault
+IsRowFound held path (Good segments) = HoldsRuntime held path segments
+
+-- what comes of reading the files of rows, one by one: the call is refused at the last of so many reads; or each is a run-time
+-- library file, of these segments
+pub data Joined : Type 0 where
+  Stops : (reads : ℕ) (why : LoaderFault) → Joined
+  Joins : (all : List (List Segment)) → Joined
+
+-- behind one file more
+abbrev pub joined_behind : List Segment → Joined → Joined
+joined_behind segments (Stops reads why) = Stops (reads + 1) why
+joined_behind segments (Joins all) = Joins (segments ∷ all)
+
+-- by what the read of the first row finds, where this is what comes of the others
+abbrev pub JoinsFound : Found → (Joined → Type 0) → Joined → Type 0
+JoinsFound Unread Rest joined = joined ≡ Stops 1 CannotRead
+JoinsFound (Bad fault) Rest joined = joined ≡ Stops 1 (BadFile fault)
+JoinsFound (Good segments) Rest joined = (rest : Joined) × Rest rest × (joined ≡ joined_behind segments rest)
+
+abbrev pub AreJoined : FileMap → List (List ℕ) → Joined → Type 0
+AreJoined held [] joined = joined ≡ Joins []
+AreJoined held (path ∷ paths) joined = (found : Found) × IsRowFound held path found × JoinsFound found (AreJoined held paths) joined
+
+-- how many files were read
+abbrev pub reads_of : Joined → ℕ
+reads_of (Stops reads why) = reads
+reads_of (Joins all) = length all

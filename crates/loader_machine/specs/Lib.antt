@@ -2,7 +2,6 @@ pub mod Heads
 pub mod State
 pub mod Presences
 pub mod Stands
-pub mod Taken
 pub mod Found
 pub mod Commands
 pub mod Refusals

@@ -1,13 +1,15 @@
 -- The files that a command reads: the paths that it needs in a state. These are this project's own rules.
-use Rattle.std.specs.Prelude.{◌≡◌, ◌⊎◌, ℕ, Bool, true, false, not, ◌||◌, List, [], ◌∷◌, length, take, drop, Option, Some, None}
+use Rattle.std.specs.Prelude.{◌≡◌, ◌⊎◌, ◌≤◌, ◌+◌, ◌*◌, ℕ, Bool, true, false, not, ◌||◌, List, [], ◌∷◌, length, take, drop, Option, Some, None}
 use Rattle.omf_io.specs.Files.{FileMap}
 use Rattle.load_meaning.specs.declared.table.Target.{Target}
+use Rattle.load_meaning.specs.Pathnames.{paths_of}
 use Rattle.load_meaning.specs.LoadTable.{targets_of}
 use Rattle.loader_machine.specs.Heads.{Head, head_of, is_table}
-use Rattle.loader_machine.specs.State.{User, Machine, Seen, user_of, handles_of}
+use Rattle.loader_machine.specs.State.{User, Machine, Seen, user_of, handles_of, outlines, named_by, is_attached}
+use Rattle.loader_machine.specs.Found.{Found, Unread, Bad, Good, IsFound, Joined, AreJoined, reads_of}
 use Rattle.loader_machine.specs.Presences.{Presence, Absent, Purged, Idle, Active, presence_at}
 use Rattle.loader_machine.specs.Commands.{Command, Load, LoadSegment, Jsl, Restart}
-use Rattle.loader_machine.specs.Refusals.{Refuse, load_refusal, bytes_refusal, load_segment_refusal, restart_refusal}
+use Rattle.loader_machine.specs.Refusals.{Refuse, load_refusal, rows_refusal, bytes_refusal, load_segment_refusal, restart_refusal}
 use Rattle.loader_machine.specs.Steps.{seen_of, Sees, IsSeen, StandsIn, IsAt, target_at_code, no_jsl, address_of, are_there, is_read_again}
 
 -- a segment that is made active is read where it isn't there
@@ -28,8 +30,9 @@ abbrev pub NeedsOf : FileMap → Machine → ℕ → (Seen → User → List (Li
 NeedsOf held state id of paths = ((user_of state.users id ≡ None) × (paths ≡ []))
     ⊎ ((sees : Sees held state id) × (paths ≡ of (seen_of sees.user sees.segments) sees.user))
 
--- a JSL that passes the checks before a read, and names this target of the table of a user
-pub record Reaches (held : FileMap) (state : Machine) (id number at : ℕ) (owner : ℕ) (t : Target) : Type 0 where
+-- a JSL that passes the checks before a read, and leads to an entry for this target, in a segment of this user
+pub record Reaches (held : FileMap) (state : Machine) (id number at : ℕ) (other : ℕ) (t : Target) : Type 0 where
+  pub owner : ℕ
   pub seen : Option Seen
   pub is_seen : IsSeen held state id seen
   pub passes : bytes_refusal state.slots seen number at 4 ≡ None
@@ -41,6 +44,7 @@ pub record Reaches (held : FileMap) (state : Machine) (id number at : ℕ) (owne
   pub is_at : IsAt held state (address_of (take 4 (drop at bytes))) owner table offset
   pub is_table : is_table (head_of is_at.s) ≡ true
   pub target : target_at_code (targets_of is_at.s) 0 offset ≡ Some t
+  pub named : named_by (outlines state.users) owner t.file ≡ Some other
 
 -- a static segment that is read again at each restart
 abbrev pub some_read_again : List Head → Bool
@@ -56,13 +60,33 @@ Needs held state (Load path) paths = paths ≡ path_if (load_refusal (length sta
 Needs held state (LoadSegment id number) paths = NeedsOf held state id
     (λ seen user. path_if (load_segment_refusal (Some seen) number) (is_read (presence_at state.slots (handles_of user) number)) user.path) paths
 Needs held state (Jsl id number at) paths =
-    ((owner : ℕ) × (t : Target) × Reaches held state id number at owner t × (user : User) × (user_of state.users owner ≡ Some user)
+    ((other : ℕ) × (t : Target) × Reaches held state id number at other t × (user : User) × (user_of state.users other ≡ Some user)
     × (paths ≡ path_if None (is_read (presence_at state.slots (handles_of user) t.segment)) user.path))
-    ⊎ (((owner : ℕ) (t : Target) → ¬ Reaches held state id number at owner t) × (paths ≡ []))
+    ⊎ (((other : ℕ) (t : Target) → ¬ Reaches held state id number at other t) × (paths ≡ []))
 Needs held state (Restart id) paths = NeedsOf held state id
-    (λ seen user. path_if (restart_refusal (Some seen)) (restart_reads state seen) user.path) paths
+    (λ seen user. path_if (restart_refusal (is_attached (outlines state.users) id) (Some seen)) (restart_reads state seen) user.path) paths
 Needs _ _ _ paths = paths ≡ []
 
--- so many files are read for the command in the state
-abbrev pub IsReadFor : FileMap → Machine → Command → ℕ → Type 0
-IsReadFor held state command reads = (paths : List (List ℕ)) × Needs held state command paths × (reads ≡ length paths)
+-- the paths in the rows of a file's pathname segment, where it is loaded and its users can be made
+abbrev pub rows_if : Refuse → List (List ℕ) → List (List ℕ)
+rows_if (Some fault) rows = []
+rows_if None rows = rows
+
+abbrev pub rows_of : Machine → Found → List (List ℕ)
+rows_of state Unread = []
+rows_of state (Bad fault) = []
+rows_of state (Good segments) = rows_if (rows_refusal (length state.users) (length (paths_of segments))) (paths_of segments)
+
+-- The paths that a command needs behind the first, in order, and how many of them are read, where no read fails: a load those of the
+-- rows, up to the first at which it is refused, and any other command none.
+abbrev pub NeedsBehind : FileMap → Machine → Command → List (List ℕ) → ℕ → Type 0
+NeedsBehind held state (Load path) rows reads = ((load_refusal (length state.users) ≡ None) × (found : Found) × IsFound held path found × (rows ≡ rows_of state found)
+    × (joined : Joined) × AreJoined held rows joined × (reads ≡ reads_of joined))
+    ⊎ (((load_refusal (length state.users) ≡ None) → ⊥) × (rows ≡ []) × (reads ≡ 0))
+NeedsBehind held state _ rows reads = (rows ≡ []) × (reads ≡ 0)
+
+-- so many files are read for the command in the state: where no read fails, all whose turn comes; else one at least, where it needs one
+abbrev pub IsReadFor : FileMap → Machine → Command → ℕ → ℕ → Type 0
+IsReadFor held state command others reads = (first : List (List ℕ)) × Needs held state command first
+    × (((others ≡ 0) × (rows : List (List ℕ)) × (behind : ℕ) × NeedsBehind held state command rows behind × (reads ≡ length first + behind))
+    ⊎ ((length first ≤ reads) × (reads ≤ 17 * length first) × (length first ≤ others)))

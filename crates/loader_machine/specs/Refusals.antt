@@ -55,6 +55,10 @@ of_plain head rest = if is_table head then Some TableByte else rest
 unfoldable pub load_refusal : ℕ → Refuse
 load_refusal made = if nat_lt made max_users then None else Some TooManyUsers
 
+-- a load of a file with so many rows: more than 255 users would be made
+unfoldable pub rows_refusal : ℕ → ℕ → Refuse
+rows_refusal made rows = if nat_le (made + 1 + rows) max_users then None else Some TooManyUsers
+
 unfoldable pub bytes_refusal : Slots → Option Seen → ℕ → ℕ → ℕ → Refuse
 bytes_refusal slots user number at count = of_user user (λ seen. of_running seen (of_segment seen number (λ head.
     of_active slots seen number (of_inside at count head None))))
@@ -73,12 +77,16 @@ unfoldable pub poke_refusal : Slots → Option Seen → ℕ → ℕ → Refuse
 poke_refusal slots user number at = of_user user (λ seen. of_running seen (of_segment seen number (λ head.
     of_active slots seen number (of_plain head (of_inside at 1 head None)))))
 
--- a shutdown: only a user that runs can be kept
-unfoldable pub shut_down_refusal : Option Seen → Bool → Refuse
-shut_down_refusal user keep = of_user user (λ seen. if keep then of_running seen None else None)
+-- a user that is attached to another is shut down and restarted with that one alone
+abbrev pub of_own : Bool → Refuse → Refuse
+of_own attached rest = if attached then Some NoUser else rest
 
-unfoldable pub restart_refusal : Option Seen → Refuse
-restart_refusal user = of_user user (λ seen. if is_running seen.life then Some Running else None)
+-- a shutdown: only a user that runs can be kept
+unfoldable pub shut_down_refusal : Bool → Option Seen → Bool → Refuse
+shut_down_refusal attached user keep = of_user user (λ seen. of_own attached (if keep then of_running seen None else None))
+
+unfoldable pub restart_refusal : Bool → Option Seen → Refuse
+restart_refusal attached user = of_user user (λ seen. of_own attached (if is_running seen.life then Some Running else None))
 
 -- user 0 is the script
 unfoldable pub purge_refusal : Option Seen → ℕ → Refuse

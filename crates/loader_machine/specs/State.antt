@@ -1,6 +1,7 @@
 -- What a state of the loader's machine holds, and what is seen of a user. User IDs and limits are this project's own.
-use Rattle.std.specs.Prelude.{ℕ, zero, suc, ◌+◌, ◌-◌, ◌==◌, Bool, true, false, List, [], ◌∷◌, map, nat_lt, Option, Some, None, slice_get, slice_set, if◌then◌else◌}
-use Rattle.std.specs.Option.{option_map, option_and_then, option_map_or}
+use Rattle.std.specs.Prelude.{ℕ, zero, suc, ◌+◌, ◌-◌, ◌==◌, Bool, true, false, List, [], ◌∷◌, ◌++◌, map, nat_lt, Option, Some, None, is_some, slice_get, slice_set, if◌then◌else◌}
+use Rattle.std.specs.List.{flat_map}
+use Rattle.std.specs.Option.{option_map, option_or, option_and_then, option_map_or}
 use Rattle.std.specs.FinMap.{FinMap, empty}
 use Rattle.std.specs.Ordering.{nat_cmp}
 use Rattle.iigs_meaning.specs.declared.handles.Handle.{Handle}
@@ -96,9 +97,55 @@ attached_at users id file = option_and_then (λ user. slice_get user.attached (f
 abbrev pub named_by : List (Option Outline) → ℕ → ℕ → Option ℕ
 named_by users id file = if file == 1 then Some id else attached_at users id file
 
--- the handles of all segments of the user of an ID
+-- the file number under which an ID stands in a list of attached users, of which the first has this number
+abbrev pub file_in : ℕ → List ℕ → ℕ → Option ℕ
+file_in file [] id = None
+file_in file (one ∷ attached) id = if one == id then Some file else file_in (file + 1) attached id
+
+-- the user to which the user of an ID is attached, and the file number under which it is; the first of these users has this ID
+abbrev pub holder_from : ℕ → List (Option Outline) → ℕ → Option (ℕ × ℕ)
+holder_from owner [] id = None
+holder_from owner (None ∷ users) id = holder_from (owner + 1) users id
+holder_from owner (Some user ∷ users) id = option_or (option_map (λ file. (owner, file)) (file_in 2 user.attached id)) (holder_from (owner + 1) users id)
+
+unfoldable pub holder_of : List (Option Outline) → ℕ → Option (ℕ × ℕ)
+holder_of users id = holder_from first_id users id
+
+-- the user of an ID is attached to another
+abbrev pub is_attached : List (Option Outline) → ℕ → Bool
+is_attached users id = is_some (holder_of users id)
+
+-- the user whose tables lead to the segments of the user of an ID, and the file number by which they do: its own, with file 1, or those
+-- of the user to which it is attached
+abbrev pub led_by : List (Option Outline) → ℕ → ℕ × ℕ
+led_by users id = option_map_or (λ one. one) (holder_of users id) (id, 1)
+
+-- the users that are attached to a user, and it itself
+abbrev pub family : ℕ → List ℕ → List ℕ
+family id attached = attached ++ id ∷ []
+
+-- the handles of all segments of the user of an ID, and of the users of all these
 abbrev pub handles_in : List (Option Outline) → ℕ → List (Option Handle)
 handles_in users id = option_map_or (λ user. user.handles) (user_of users id) []
+
+abbrev pub handles_of_all : List (Option Outline) → List ℕ → List (Option Handle)
+handles_of_all users ids = flat_map (handles_in users) ids
+
+-- the users, with those of these IDs changed so
+abbrev pub with_all : {U : Type 0} → (U → U) → List (Option U) → List ℕ → List (Option U)
+with_all change users [] = users
+with_all change users (id ∷ ids) = with_all change (option_map_or (λ user. with_user users id (Some (change user))) (user_of users id) users) ids
+
+-- the users, where those of these IDs are gone
+abbrev pub without_all : {U : Type 0} → List (Option U) → List ℕ → List (Option U)
+without_all users [] = users
+without_all users (id ∷ ids) = without_all (with_user users id None) ids
+
+abbrev pub runs_again : User → User
+runs_again user = record user { life = Running }
+
+abbrev pub rests : User → User
+rests user = record user { life = Dormant }
 
 -- so many IDs from one on
 abbrev pub ids_from : ℕ → ℕ → List ℕ

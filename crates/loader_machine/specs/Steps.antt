@@ -1,15 +1,16 @@
 -- What each command does to the machine, and what it answers. A refused command leaves the state. These are this project's own
 -- rules (GS/OS Reference, "System Loader", is the model for users, dynamic segments, shutdown and restart).
-use Rattle.std.specs.Prelude.{◌≡◌, ℕ, ◌+◌, ◌-◌, ◌^◌, ◌==◌, ◌<◌, ◌≤◌, ◌&&◌, Bool, true, false, List, [], ◌∷◌, ◌++◌, length, map, take, drop, count_by, Option, Some, None, IsSome, is_some, slice_set, slice_index, if◌then◌else◌}
-use Rattle.std.specs.Option.{option_map_or}
+use Rattle.std.specs.Prelude.{◌≡◌, ℕ, ◌+◌, ◌-◌, ◌^◌, ◌==◌, ◌<◌, ◌≤◌, ◌&&◌, ◌||◌, nat_le, nat_lt, Bool, true, false, List, [], ◌∷◌, ◌++◌, length, map, take, drop, count_by, Option, Some, None, IsSome, is_some, slice_get, slice_set, slice_index, if◌then◌else◌}
+use Rattle.std.specs.Option.{option_map, option_map_or, option_and_then}
 use Rattle.std.specs.FinMap.{insert}
 use Rattle.omf_format.specs.Header.{is_reload}
 use Rattle.omf_format.specs.Number.{number_at}
 use Rattle.omf_format.specs.File.{Segment, segment_at}
 use Rattle.omf_io.specs.Files.{FileMap}
 use Rattle.load_meaning.specs.declared.table.Target.{Target}
-use Rattle.load_meaning.specs.Table.{entry_place}
-use Rattle.load_meaning.specs.LoadTable.{targets_of}
+use Rattle.load_meaning.specs.Table.{entry_place, entry_start}
+use Rattle.load_meaning.specs.Pathnames.{paths_of}
+use Rattle.load_meaning.specs.LoadTable.{targets_of, table_of}
 use Rattle.iigs_meaning.specs.declared.handles.Handle.{Handle}
 use Rattle.iigs_meaning.specs.declared.wants.Want.{Want}
 use Rattle.iigs_meaning.specs.declared.wants.Block.{Block}
@@ -20,14 +21,16 @@ use Rattle.iigs_meaning.specs.Placement.{emptied_where}
 use Rattle.iigs_meaning.specs.Puts.{MakesRoom, LacksRoom, Puts, PutsAnew, PutsAll, IsPlaceAllRefusal, without_user}
 use Rattle.iigs_meaning.specs.Blocks.{state_of, can_purge_of}
 use Rattle.iigs_meaning.specs.Room.{CountsBelow, IsRoom}
+use Rattle.load_meaning.specs.declared.load.LoadFault.{LoadFault}
+use Rattle.load_meaning.specs.declared.load.LoadCause.TheVariants as cause
 use Rattle.loader_machine.specs.declared.faults.LoaderFault.TheVariants.{NotJsl, NoTarget, NotEntry, CannotRead, BadFile, NoHandle, NoRoom}
-use Rattle.loader_machine.specs.Heads.{Head, head_of, is_static, is_table, want_of, wants_of, number_of, entry_in}
-use Rattle.loader_machine.specs.State.{Running, Dormant, Held, User, Machine, absent, fresh, Seen, empty_of, first_id, user_of, with_user, handles_of, held_at, outlines}
+use Rattle.loader_machine.specs.Heads.{Head, head_of, at_number, is_static, is_table, want_of, wants_of, number_of, entry_in}
+use Rattle.loader_machine.specs.State.{Running, Held, User, Machine, absent, fresh, Seen, empty_of, first_id, user_of, with_user, handles_of, held_at, outlines, named_by, is_attached, family, handles_of_all, with_all, without_all, runs_again, rests, ids_from}
 use Rattle.loader_machine.specs.Presences.{Presence, Absent, Purged, Idle, Active, presence_at, handle_at, is_there}
 use Rattle.loader_machine.specs.Stands.{Setting, stands, setting, setting_with, far_of}
-use Rattle.loader_machine.specs.Found.{HoldsLoad, Found, Unread, Bad, Good, IsFound}
+use Rattle.loader_machine.specs.Found.{HoldsLoad, Found, Unread, Bad, Good, IsFound, Joined, Stops, Joins, AreJoined}
 use Rattle.loader_machine.specs.Commands.{Command, Banks, Load, LoadSegment, UnloadSegment, Jsl, ShutDown, Restart, Purge, Poke, Bytes, Where, Info, Alloc, Free, Lock, Unlock, Level, StateOf, Room, Reply, Okay, Started, MadeActive, Entered, Counted, Shown, Lies, Nothing, SegmentIs, Placed, BlockIs, RoomIs, Refused}
-use Rattle.loader_machine.specs.Refusals.{Refuse, load_refusal, bytes_refusal, info_refusal, load_segment_refusal, unload_refusal, poke_refusal, shut_down_refusal, restart_refusal, purge_refusal, state_refusal, free_refusal, change_refusal}
+use Rattle.loader_machine.specs.Refusals.{Refuse, load_refusal, rows_refusal, bytes_refusal, info_refusal, load_segment_refusal, unload_refusal, poke_refusal, shut_down_refusal, restart_refusal, purge_refusal, state_refusal, free_refusal, change_refusal}
 
 -- ---- what is seen of users
 
@@ -155,16 +158,47 @@ joined_users [] all = []
 joined_users (path ∷ paths) [] = []
 joined_users (path ∷ paths) (segments ∷ all) = Some (joined_user path (map head_of segments)) ∷ joined_users paths all
 
+-- an entry for file 1 leads into the user's own file; one for another leads to a segment of that attached user, of which these are
+-- the headers, and to an offset below its LENGTH
+abbrev pub is_reached : List (List Head) → Target → Bool
+is_reached attached t = nat_le t.file 1 || option_map_or (λ heads. option_map_or (λ head. nat_lt t.offset head.length) (at_number heads t.segment) false)
+    (slice_get attached (t.file - 2)) false
+
+-- the first entry that leads nowhere, where the first has this place
+abbrev pub lost_from : List (List Head) → ℕ → List Target → Option ℕ
+lost_from attached k [] = None
+lost_from attached k (t ∷ targets) = if is_reached attached t then lost_from attached (k + 1) targets else Some k
+
+-- and the fault that it is: in the table, at the entry
+abbrev pub lost_in : List (List Head) → List Segment → ℕ → Option LoadFault
+lost_in attached segments number = option_and_then (λ s. option_map (λ k. record { cause = cause.NoSuchTarget; segment = number; at = entry_start k })
+    (lost_from attached 0 (targets_of s))) (segment_at segments number)
+
+unfoldable pub lost_refusal : List (List Head) → List Segment → Refuse
+lost_refusal attached segments = option_map BadFile (option_and_then (lost_in attached segments) (table_of segments))
+
+-- the users where one more begins, and one for each row behind it, attached to it
+abbrev pub begun_users : Machine → List (List ℕ) → List (List Segment) → User → List (Option User)
+begun_users state paths all user = state.users
+    ++ Some (record user { attached = ids_from (first_id + length state.users + 1) (length paths) }) ∷ joined_users paths all
+
+-- by what comes of the rows: the program begins, with a user more for each row, attached to it
+abbrev pub LoadsJoined : MakesRoom → Machine → List ℕ → List Segment → Joined → Reply → Machine → Type 0
+LoadsJoined Makes state path segments (Stops reads why) reply next = (reply ≡ Refused why) × (next ≡ state)
+LoadsJoined Makes state path segments (Joins all) reply next = Decides (lost_refusal (map (map head_of) all) segments) state reply next
+    (Begins Makes state state.slots path (first_id + length state.users) segments (begun_users state (paths_of segments) all) reply next)
+
 -- by what the read of the path finds
-abbrev pub LoadsFound : MakesRoom → Machine → List ℕ → Found → Reply → Machine → Type 0
-LoadsFound Makes state path Unread reply next = (reply ≡ Refused CannotRead) × (next ≡ state)
-LoadsFound Makes state path (Bad fault) reply next = (reply ≡ Refused (BadFile fault)) × (next ≡ state)
-LoadsFound Makes state path (Good segments) reply next =
-    Begins Makes state state.slots path (first_id + length state.users) segments (λ user. state.users ++ Some user ∷ []) reply next
+abbrev pub LoadsFound : MakesRoom → FileMap → Machine → List ℕ → Found → Reply → Machine → Type 0
+LoadsFound Makes held state path Unread reply next = (reply ≡ Refused CannotRead) × (next ≡ state)
+LoadsFound Makes held state path (Bad fault) reply next = (reply ≡ Refused (BadFile fault)) × (next ≡ state)
+LoadsFound Makes held state path (Good segments) reply next =
+    Decides (rows_refusal (length state.users) (length (paths_of segments))) state reply next
+    ((joined : Joined) × AreJoined held (paths_of segments) joined × LoadsJoined Makes state path segments joined reply next)
 
 abbrev pub StepsLoad : MakesRoom → FileMap → Machine → List ℕ → Reply → Machine → Type 0
 StepsLoad Makes held state path reply next = Decides (load_refusal (length state.users)) state reply next
-    ((found : Found) × IsFound held path found × LoadsFound Makes state path found reply next)
+    ((found : Found) × IsFound held path found × LoadsFound Makes held state path found reply next)
 
 -- ---- activation
 
@@ -194,7 +228,7 @@ abbrev pub ComesFirst : MakesRoom → Machine → ℕ → User → ℕ → Want 
 ComesFirst Makes state id user number want OutOfSlots = new_handle state.slots ≡ None
 ComesFirst Makes state id user number want OutOfRoom = IsSome (new_handle state.slots) × LacksRoom Makes state.banks state.slots want
 ComesFirst Makes state id user number want (Made address next) = (h : Handle) × (slots : Slots)
-    × (puts : Puts Makes state.banks state.slots want id true 0 h slots)
+    × (puts : Puts Makes state.banks state.slots want id true 0 false h slots)
     × (puts.address ≡ address) × (next ≡ with_both state id slots (Some (with_segment user number (fresh (Some h)))))
 
 -- a segment of a user is made active
@@ -264,11 +298,11 @@ abbrev pub target_at_code : List Target → ℕ → ℕ → Option Target
 target_at_code [] k offset = None
 target_at_code (t ∷ targets) k offset = if entry_place k == offset then Some t else target_at_code targets (k + 1) offset
 
--- in a table: the entry's segment is made active, and entered at the entry's offset
+-- in a table: the entry's segment, of the user that the entry names, is made active, and entered at the entry's offset
 abbrev pub EntersEntry : MakesRoom → FileMap → Machine → ℕ → Option Target → Reply → Machine → Type 0
 EntersEntry Makes held state id None reply next = (reply ≡ Refused NotEntry) × (next ≡ state)
-EntersEntry Makes held state id (Some t) reply next =
-    MakesActive Makes held state id t.segment (λ address. Entered id t.segment t.offset (address + t.offset)) reply next
+EntersEntry Makes held state id (Some t) reply next = (other : ℕ) × (named_by (outlines state.users) id t.file ≡ Some other)
+    × MakesActive Makes held state other t.segment (λ address. Entered other t.segment t.offset (address + t.offset)) reply next
 
 -- the segment in which the address lies: outside a table it is entered there
 abbrev pub EntersSegment : MakesRoom → FileMap → Machine → ℕ → ℕ → ℕ → ℕ → Segment → Reply → Machine → Type 0
@@ -298,17 +332,30 @@ pub record StepsJsl (Makes : MakesRoom) (held : FileMap) (state : Machine) (id n
 
 -- ---- shutdown and restart
 
--- kept: every active segment becomes idle, and the user dormant
+-- kept: every active segment of the user and of those attached to it becomes idle, and they are dormant
 abbrev pub kept_state : Machine → ℕ → User → Machine
-kept_state state id user = with_both state id (changed_all let_go state.slots (handles_of user)) (Some (record user { life = Dormant }))
+kept_state state id user = record {
+  banks = state.banks;
+  slots = changed_all let_go state.slots (handles_of_all (outlines state.users) (family id user.attached));
+  users = with_all rests state.users (family id user.attached);
+}
 
--- dropped: its handles are released, and the user is gone
-abbrev pub dropped_state : Machine → ℕ → Machine
-dropped_state state id = with_both state id (without_user state.slots id) None
+-- the slots once all handles of these users were released
+abbrev pub without_users : Slots → List ℕ → Slots
+without_users slots [] = slots
+without_users slots (id ∷ ids) = without_users (without_user slots id) ids
+
+-- dropped: their handles are released, and they are gone
+abbrev pub dropped_state : Machine → ℕ → User → Machine
+dropped_state state id user = record {
+  banks = state.banks;
+  slots = without_users state.slots (family id user.attached);
+  users = without_all state.users (family id user.attached);
+}
 
 abbrev pub StepsShutDown : Machine → ℕ → Bool → User → Machine → Type 0
 StepsShutDown state id true user next = next ≡ kept_state state id user
-StepsShutDown state id false user next = next ≡ dropped_state state id
+StepsShutDown state id false user next = next ≡ dropped_state state id user
 
 -- every static segment is there
 abbrev pub are_there : Slots → List Head → List (Option Handle) → ℕ → Bool
@@ -337,20 +384,28 @@ abbrev pub RestartsInPlace : Machine → ℕ → User → List Head → Reply �
 RestartsInPlace state id user heads reply next =
     let slots = changed_all active_block state.slots (static_handles heads (handles_of user) 1) in
     (reply ≡ Started id (entry_of id slots heads (handles_of user)))
-    × (next ≡ with_both state id slots (Some (record user { life = Running; segments = read_again heads user.segments })))
+    × (next ≡ record {
+      banks = state.banks;
+      slots = slots;
+      users = with_all runs_again (with_user state.users id (Some (record user { life = Running; segments = read_again heads user.segments }))) user.attached;
+    })
+
+-- the users where that of an ID begins again as this one: it keeps those attached to it, and they run
+abbrev pub again_users : Machine → ℕ → User → User → List (Option User)
+again_users state id was user = with_all runs_again (with_user state.users id (Some (record user { attached = was.attached }))) was.attached
 
 -- where every static segment is there it restarts in place; else its handles are released, and it begins as at a load
 pub record StepsRestart (Makes : MakesRoom) (held : FileMap) (state : Machine) (id : ℕ) (reply : Reply) (next : Machine) : Type 0 where
   pub sees : Sees held state id
   pub is : Either (are_there state.slots (map head_of sees.segments) (handles_of sees.user) 1)
       (RestartsInPlace state id sees.user (map head_of sees.segments) reply next)
-      (Begins Makes state (without_user state.slots id) sees.user.path id sees.segments (λ user. with_user state.users id (Some user)) reply next)
+      (Begins Makes state (without_user state.slots id) sees.user.path id sees.segments (again_users state id sees.user) reply next)
 
 -- ---- the script's own blocks
 
 -- a block is placed for the script under a new handle, unlocked or locked
 pub data StepsAlloc (Makes : MakesRoom) (state : Machine) (want : Want) (locked : Bool) (level : ℕ) (reply : Reply) (next : Machine) : Type 0 where
-  IsPlaced : (h : Handle) (slots : Slots) (puts : Puts Makes state.banks state.slots want 0 locked level h slots)
+  IsPlaced : (h : Handle) (slots : Slots) (puts : Puts Makes state.banks state.slots want 0 locked level false h slots)
       → reply ≡ Placed h puts.address → next ≡ with_slots state slots → StepsAlloc Makes state want locked level reply next
   HasNoHandle : new_handle state.slots ≡ None → reply ≡ Refused NoHandle → next ≡ state → StepsAlloc Makes state want locked level reply next
   HasNoRoom : IsSome (new_handle state.slots) → LacksRoom Makes state.banks state.slots want → reply ≡ Refused (NoRoom 0) → next ≡ state
@@ -373,9 +428,9 @@ Steps Makes held state (UnloadSegment id number) reply next = Does held state id
     (λ user. (reply ≡ Okay) × (next ≡ with_slots state (idled state.slots (handle_at (handles_of user) number))))
 Steps Makes held state (Jsl id number at) reply next = Does held state id (λ seen. bytes_refusal state.slots seen number at 4) reply next
     (λ user. StepsJsl Makes held state id number at reply next)
-Steps Makes held state (ShutDown id keep) reply next = Does held state id (λ seen. shut_down_refusal seen keep) reply next
+Steps Makes held state (ShutDown id keep) reply next = Does held state id (λ seen. shut_down_refusal (is_attached (outlines state.users) id) seen keep) reply next
     (λ user. (reply ≡ Okay) × StepsShutDown state id keep user next)
-Steps Makes held state (Restart id) reply next = Does held state id restart_refusal reply next
+Steps Makes held state (Restart id) reply next = Does held state id (λ seen. restart_refusal (is_attached (outlines state.users) id) seen) reply next
     (λ user. StepsRestart Makes held state id reply next)
 Steps Makes held state (Purge id) reply next = (seen : Option Seen) × IsSeen held state id seen × Decides (purge_refusal seen id) state reply next
     ((reply ≡ Counted (count_by (λ slot. option_map_or (can_purge_of id) (block_in slot) false) state.slots))

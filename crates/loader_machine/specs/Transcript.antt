@@ -23,5 +23,5 @@ AreAnswered held state [] (reply ∷ replies) others reads last = ⊥
 AreAnswered held state (command ∷ commands) [] others reads last = ⊥
 AreAnswered held state (command ∷ commands) (reply ∷ replies) others reads last =
     (here : ℕ) × (later : ℕ) × (read : ℕ) × (reads_later : ℕ) × (next : Machine) × IsAnswered held state command reply here next
-    × IsReadFor held state command read × AreAnswered held next commands replies later reads_later last × (others ≡ here + later)
+    × IsReadFor held state command here read × AreAnswered held next commands replies later reads_later last × (others ≡ here + later)
     × (reads ≡ read + reads_later)

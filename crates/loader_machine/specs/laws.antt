@@ -1,5 +1,4 @@
 pub mod PokeLaws
-pub mod TakenLaws
 pub mod StandsLaws
 pub mod PutLaws
 pub mod OnceLaws

@@ -3,6 +3,7 @@ ghost use Rattle.std.specs.Prelude.{◌<◌, ◌^◌, IsTrue};
 ghost use Rattle.iigs_meaning.specs.Fits.{IsWant};
 
 use crate::asserting::same;
+use crate::handles::{SLOT_0, SLOT_0_1, SLOT_1, SLOT_2};
 use iigs_memory::{Banks, BanksFault, BlockFault, Handle, PlaceFault, Want};
 use std::alloc::Global;
 use std::process::Abort;
@@ -41,27 +42,7 @@ enum Step {
     Stale(Handle),
 }
 
-// The first slots, and what they are under later generations.
-const SLOT_0: Handle = Handle {
-    slot: 0,
-    generation: 0,
-};
-
-const SLOT_0_1: Handle = Handle {
-    slot: 0,
-    generation: 1,
-};
-
-const SLOT_1: Handle = Handle {
-    slot: 1,
-    generation: 0,
-};
-
-const SLOT_2: Handle = Handle {
-    slot: 2,
-    generation: 0,
-};
-
+// The third slot under its next generation, and slots further on.
 const SLOT_2_1: Handle = Handle {
     slot: 2,
     generation: 1,

@@ -1,24 +1,23 @@
 -- Faults that stand together.
-use Rattle.std.proofs.Common.{◌≡◌, ℕ, zero, suc, ◌-◌, Bool, false, true, cond, take, eqb, List, [], ◌∷◌, length, Option, Some, None, refl, sym, ap, subst, ◌∙◌}
+use Rattle.std.proofs.Common.{◌≡◌, ℕ, Bool, false, true, eqb, List, [], ◌∷◌, length, Option, Some, None, refl, sym, ap, subst, ◌∙◌}
 use Rattle.std.specs.Prelude.{Result, Ok, Err, IfOk, nat_lt, is_some}
 use Rattle.std.proofs.lemmas.Bool.{eqb-true}
 use Rattle.orca_meaning.specs.Line.{Fields, Line, part, three_fields, is_comment}
 use Rattle.macro_meaning.specs.Symbol.{text_of, Values}
 use Rattle.macro_meaning.specs.Condition.{Answer, IsCondition}
 use Rattle.macro_meaning.specs.Pieces.{pieces}
-use Rattle.orca_macro.specs.Piece.{AreNotTwo}
-use Rattle.orca_macro.specs.Plain.{plain_len}
-use Rattle.orca_macro.proofs.Fronts.{plain_text}
+use Rattle.orca_symbols.specs.Piece.{AreNotTwo}
+use Rattle.orca_symbols.specs.Plain.{plain_len}
+use Rattle.orca_symbols.proofs.Fronts.{plain_text}
 use Rattle.macro_meaning.specs.declared.statements.Statement.{Statement}
-use Rattle.macro_meaning.specs.Statements.{statement_of, target_name, behind_dot, whole}
-use Rattle.macro_meaning.specs.Substitution.{first_passes, naming_at}
-use Rattle.orca_meaning.specs.Token.{name_at}
+use Rattle.macro_meaning.specs.Statements.{statement_of, target_name, whole}
+use Rattle.macro_meaning.specs.Substitution.{naming_at}
 use Rattle.orca_macro.specs.declared.deed.Deed.{Deed}
 use Rattle.orca_macro.specs.DeedView.{deed}
 use Rattle.macro_meaning.specs.declared.faults.MacroCause.{MacroCause}
 use Rattle.macro_meaning.specs.declared.faults.MacroCause.TheVariants.{BadSetting}
 use Rattle.macro_meaning.specs.Deed as meaning
-use Rattle.macro_meaning.specs.Deed.{Setting, both, or_bad, going, IsBranchIf, operation_or_anop, cut, IsDone, IsDoneBy, IsStatement, IsShort, IsWithTexts, IsWritten, IsDeed}
+use Rattle.macro_meaning.specs.Deed.{Setting, both, or_bad, going, IsBranchIf, operation_or_anop, IsDone, IsDoneBy, IsStatement, IsShort, IsWithTexts, IsWritten, IsDeed}
 
 -- the second one, where the first can only be BadSetting
 pub second_fault : {A B : Type 0} (found : Option A) (cause : MacroCause) → both {A = A} {B = B} (or_bad found) (Err cause) ≡ Err cause
@@ -45,17 +44,6 @@ pub statement_ok : {E : Type 0} (s : Setting) (text : List ℕ) (fields : Fields
 statement_ok s text fields operation label operand found (Ok d) fields_are operation_is label_is operand_is some is done =
     statement_is s text fields operation label operand found (deed d) fields_are operation_is label_is operand_is some is done
 statement_ok s text fields operation label operand found (Err e) fields_are operation_is label_is operand_is some is done = done
-
--- a line without a dot at its front has no sequence symbol
-no_dot : (n : ℕ) (text : List ℕ) → first_passes (λ (byte : ℕ). eqb byte 0x2E) text ≡ false → behind_dot (take n text) ≡ None
-no_dot zero [] other = refl
-no_dot (suc n) [] other = refl
-no_dot zero (byte ∷ behind) other = refl
-no_dot (suc n) (byte ∷ behind) other = ap (λ (b : Bool). cond b (name_at (take n behind)) None) other
-
-pub cut_none : (text : List ℕ) → first_passes (λ (byte : ℕ). eqb byte 0x2E) text ≡ false → text ≡ cut text
-unfolding cut three_fields
-cut_none text other = rw (no_dot ((three_fields text).label.to - 0) text other) refl
 
 -- a line without `&`
 pub plain_is : (s : Setting) (l : Line) (text : List ℕ) (d : meaning.Deed) → text ≡ l.text → is_comment text ≡ false → eqb (plain_len text) (length text) ≡ true

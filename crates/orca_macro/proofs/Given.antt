@@ -12,12 +12,13 @@ use Rattle.macro_meaning.specs.Symbol.{SharedTexts}
 use Rattle.macro_meaning.specs.Visit.{Program, Visit, given_by, move_of, next_line}
 use Rattle.macro_meaning.specs.declared.statements.Statement.{Statement}
 use Rattle.macro_meaning.specs.declared.statements.Statement.TheVariants.{Nothing}
-use Rattle.orca_macro.specs.Plain.{plain_len}
+use Rattle.orca_symbols.specs.Plain.{plain_len}
 use Rattle.orca_macro.specs.Plan.{IsGiven}
 use Rattle.orca_macro.specs.Untouched.{IsUntouched}
-use Rattle.orca_macro.specs.Stacks.{Frame, MovesTo}
+use Rattle.orca_symbols.specs.Frame.{Frame}
+use Rattle.orca_macro.specs.Stacks.{MovesTo}
 use Rattle.orca_macro.specs.declared.visits.Outcome.{Outcome}
-use Rattle.orca_macro.proofs.Both.{cut_none}
+use Rattle.orca_symbols.proofs.Cuts.{cut_none}
 use Rattle.orca_macro.proofs.Plans.{after_cut}
 
 -- the operation of a line that is no comment is its second field

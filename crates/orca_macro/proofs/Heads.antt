@@ -14,11 +14,11 @@ use Rattle.macro_meaning.specs.Deed.{Setting, cut, operation_or_anop, IsDone, Is
 use Rattle.macro_meaning.specs.Definition.{first_named}
 use Rattle.macro_meaning.specs.Statements.{statement_of, sequence_name}
 use Rattle.orca_macro.specs.DeedView.{deed}
-use Rattle.orca_macro.specs.Template.{BeginWith, followed}
+use Rattle.orca_symbols.specs.Template.{BeginWith, followed}
 use Rattle.orca_macro.specs.Head.{HasFields, HasHead, IsHead, MayHaveHead, BeginsSo}
 use Rattle.orca_macro.specs.declared.deed.Deed.{Deed}
 use Rattle.orca_macro.specs.declared.head.Head.{Head}
-use Rattle.orca_macro.specs.declared.template.Part.{Part}
+use Rattle.orca_symbols.specs.declared.template.Part.{Part}
 
 -- ---- a place that is found in a front
 

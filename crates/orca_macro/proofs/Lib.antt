@@ -1,13 +1,4 @@
-pub mod CountName
-pub mod Maps
-pub mod Parted
-pub mod Fronts
-pub mod Signed
-pub mod Terms
-pub mod Models
 pub mod Targets
-pub mod Numbers
-pub mod Binds
 pub mod Both
 pub mod Scans
 pub mod Firsts
@@ -17,12 +8,7 @@ pub mod Free
 pub mod Runs
 pub mod Whole
 pub mod Texts
-pub mod Letters
-pub mod Shorts
-pub mod WholeName
-pub mod Templates
 pub mod Plans
 pub mod Given
 pub mod Heads
-pub mod Renewals
 pub mod Sources

@@ -12,8 +12,9 @@ use Rattle.macro_meaning.specs.Symbol.{Symbol, Own, Common, Symbols, SharedTexts
 use Rattle.macro_meaning.specs.Visit.{Program, Visit, Move, On, Stops, line_at, body_of, target_of, if_line, onward, after, returned, next_line, branch_to, call_of, move_of, root_by, shared_first, set_by}
 use Rattle.orca_macro.specs.declared.visits.Outcome.{Outcome}
 use Rattle.orca_macro.specs.declared.visits.Outcome.TheVariants as outcomes
-use Rattle.orca_macro.specs.Changes.{IsDeclared, IsAssigned}
-use Rattle.orca_macro.specs.Stacks.{Frame, Stacks, Stands, MovesTo, IsBack}
+use Rattle.orca_symbols.specs.Changes.{IsDeclared, IsAssigned}
+use Rattle.orca_symbols.specs.Frame.{Frame}
+use Rattle.orca_macro.specs.Stacks.{Stacks, Stands, MovesTo, IsBack}
 
 get_front : (before : List Visit) (place : ℕ) (v w : Visit) → slice_get before place ≡ Some v → slice_get (before ++ w ∷ []) place ≡ Some v
 get_front [] place v w is = absurd cc

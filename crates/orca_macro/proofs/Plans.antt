@@ -11,14 +11,14 @@ use Rattle.macro_meaning.specs.Substitution.{naming_at, substituted}
 use Rattle.macro_meaning.specs.Symbol.{text_of}
 use Rattle.macro_meaning.specs.Visit.{Program, line_at, body_of}
 use Rattle.macro_meaning.specs.declared.statements.Statement.{Statement}
-use Rattle.orca_macro.specs.Plain.{plain_len}
+use Rattle.orca_symbols.specs.Plain.{plain_len}
 use Rattle.orca_macro.specs.Plan.{known, FitsDone, FitsStatement, FitsLine, IsAlways, IsPlain, Fits, FitsAt, HavePlans}
 use Rattle.orca_macro.specs.DeedView.{deed}
 use Rattle.orca_macro.specs.declared.deed.Deed.{Deed}
 use Rattle.orca_macro.specs.declared.plan.Known.{Known}
 use Rattle.orca_macro.specs.declared.plan.Plan.{Plan}
 use Rattle.orca_macro.proofs.Both.{plain_is, statement_is}
-use Rattle.orca_macro.proofs.Fronts.{plain_text}
+use Rattle.orca_symbols.proofs.Fronts.{plain_text}
 
 -- ---- what is known of a line does it here
 

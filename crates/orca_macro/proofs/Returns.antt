@@ -3,7 +3,8 @@ use Rattle.std.proofs.Common.{◌≡◌, ℕ, zero, suc, ◌+◌, List, [], ◌�
 use Rattle.std.specs.Prelude.{slice_get}
 use Rattle.orca_meaning.specs.Line.{Line}
 use Rattle.macro_meaning.specs.Visit.{Program, Visit, On, Ends, line_at, resumed, if_line, returned}
-use Rattle.orca_macro.specs.Stacks.{Frame, Stacks, HasRoot, IsBack}
+use Rattle.orca_symbols.specs.Frame.{Frame}
+use Rattle.orca_macro.specs.Stacks.{Stacks, HasRoot, IsBack}
 
 -- an empty stack is the source's
 pub ended : (program : Program) (before : List Visit) (last : Visit) (depth : ℕ) (caller : Option ℕ) (frames : List Frame) → frames ≡ [] → Stacks before depth caller frames → returned program before last depth caller ≡ Ends

@@ -10,12 +10,13 @@ use Rattle.macro_meaning.specs.Call.{no_symbols}
 use Rattle.macro_meaning.specs.Deed.{Deed, IsDeed}
 use Rattle.macro_meaning.specs.Expansion.{HasVisits, fault_at}
 use Rattle.macro_meaning.specs.Visit.{Program, Visit, Move, Ends, Stops, line_at, setting_of, given_by, move_of, most_visits, IsVisitOf, IsVisitAt, IsVisit, Follow, no_texts, first_visit}
-use Rattle.orca_macro.specs.declared.frames.State.{State}
+use Rattle.orca_symbols.specs.declared.frames.State.{State}
 use Rattle.orca_macro.specs.declared.visits.Outcome.TheVariants as outcomes
 use Rattle.orca_macro.specs.Files.{IsStopped}
-use Rattle.orca_macro.specs.Stacks.{Frame, frame, stack_of, Stacks}
+use Rattle.orca_symbols.specs.Frame.{Frame, frame, stack_of}
+use Rattle.orca_macro.specs.Stacks.{Stacks}
 use Rattle.orca_macro.specs.StateView.{StandsIn, Visited}
-use Rattle.orca_macro.specs.View.{texts_of}
+use Rattle.orca_symbols.specs.View.{texts_of}
 
 -- ---- where a line stands
 

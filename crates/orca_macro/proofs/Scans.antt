@@ -12,7 +12,7 @@ use Rattle.macro_meaning.specs.Definition.{Part, Plain, Closed, Open, Begun, Mod
 use Rattle.macro_meaning.specs.Expansion.{fault_at, line_fault_of}
 use Rattle.orca_macro.specs.declared.definitions.Definition.{Definition}
 use Rattle.orca_macro.specs.Parts.{definition, IsBegun, Judged, IsScanned, open_lines, Scanned}
-use Rattle.orca_macro.proofs.Parted.{drop_next, drop_all}
+use Rattle.orca_symbols.proofs.Parted.{drop_next, drop_all}
 use Rattle.orca_macro.proofs.Targets.{take_next}
 
 -- ---- parts of lists

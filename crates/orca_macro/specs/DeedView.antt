@@ -2,8 +2,8 @@
 use Rattle.macro_meaning.specs.Deed as meaning
 use Rattle.orca_macro.specs.declared.deed.Deed.{Deed}
 use Rattle.orca_macro.specs.declared.deed.Deed.TheVariants.{Rests, Gives, Declares, Sets, Goes, Counts, Leaves, Calls, Fails}
-use Rattle.orca_macro.specs.declared.deed.Standing.{Standing}
-use Rattle.orca_macro.specs.View.{symbols_of, values}
+use Rattle.orca_macro.specs.declared.visited.Standing.{Standing}
+use Rattle.orca_symbols.specs.View.{symbols_of, values}
 
 abbrev pub deed : Deed → meaning.Deed
 deed Rests = meaning.Rests

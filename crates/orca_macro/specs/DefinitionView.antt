@@ -1,12 +1,7 @@
--- How definitions are seen.
+-- How the places of sequence symbols are kept.
 use Rattle.std.specs.Prelude.{ℕ, List, [], ◌∷◌, Option, Some, None}
-use Rattle.macro_meaning.specs.Definition as meaning
 use Rattle.orca_macro.specs.declared.body.Target.{Target}
 use Rattle.orca_macro.specs.declared.body.Target.TheVariants.{Once, Twice}
-use Rattle.orca_macro.specs.declared.model_line.ModelLine.{ModelLine}
-
-abbrev pub model : ModelLine → meaning.Model
-model m = record { name = m.name; label = m.label; parameters = m.parameters.items }
 
 -- the places of a sequence symbol, as a map keeps them
 abbrev pub summary : List ℕ → Option Target

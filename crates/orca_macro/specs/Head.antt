@@ -3,9 +3,9 @@ use Rattle.std.specs.Prelude.{◌≡◌, ◌≤◌, ℕ, List, [], ◌++◌, tak
 use Rattle.macro_meaning.specs.Deed.{cut, operation_or_anop}
 use Rattle.orca_meaning.specs.Characters.{folded}
 use Rattle.orca_meaning.specs.Line.{part, three_fields, is_comment}
-use Rattle.orca_macro.specs.Template.{followed}
+use Rattle.orca_symbols.specs.Template.{followed}
 use Rattle.orca_macro.specs.declared.head.Head.{Head}
-use Rattle.orca_macro.specs.declared.template.Part.{Part}
+use Rattle.orca_symbols.specs.declared.template.Part.{Part}
 
 -- a text behind its sequence symbol has this label and this operation
 pub record HasFields (h : Head) (text : List ℕ) : Type 0 where

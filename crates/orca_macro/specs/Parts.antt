@@ -6,7 +6,7 @@ use Rattle.macro_meaning.specs.Definition as meaning
 use Rattle.macro_meaning.specs.Definition.{Part, Closed, Begun, parts_of, source_line, definitions_in, first_part_fault, definition_from, part_fault}
 use Rattle.macro_meaning.specs.Expansion.{line_fault_of}
 use Rattle.orca_macro.specs.declared.definitions.Definition.{Definition}
-use Rattle.orca_macro.specs.DefinitionView.{model}
+use Rattle.orca_symbols.specs.ModelView.{model}
 
 abbrev pub definition : Definition → meaning.Definition
 definition d = record { model = model d.model; behind = d.behind; body = d.body }

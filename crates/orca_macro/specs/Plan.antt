@@ -7,8 +7,8 @@ use Rattle.macro_meaning.specs.Symbol.{Values}
 use Rattle.macro_meaning.specs.declared.statements.Statement.{Statement}
 use Rattle.orca_meaning.specs.Line.{Line, three_fields, is_comment}
 use Rattle.orca_macro.specs.Head.{BeginsSo}
-use Rattle.orca_macro.specs.Plain.{plain_len}
-use Rattle.orca_macro.specs.Template.{HasParts}
+use Rattle.orca_symbols.specs.Plain.{plain_len}
+use Rattle.orca_symbols.specs.Template.{HasParts}
 use Rattle.orca_macro.specs.declared.plan.Known.{Known}
 use Rattle.orca_macro.specs.declared.plan.Known.TheVariants.{Open, Rests, Goes, Leaves}
 use Rattle.orca_macro.specs.declared.plan.Plan.{Plan}

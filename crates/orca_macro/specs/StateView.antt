@@ -2,10 +2,11 @@
 use Rattle.std.specs.Prelude.{◌≡◌, List, [], ◌∷◌, ◌++◌}
 use Rattle.macro_meaning.specs.Visit.{Program, Visit, Move, IsVisit}
 use Rattle.orca_meaning.specs.Line.{Line}
-use Rattle.orca_macro.specs.declared.frames.State.{State}
+use Rattle.orca_symbols.specs.declared.frames.State.{State}
 use Rattle.orca_macro.specs.declared.visits.Outcome.{Outcome}
-use Rattle.orca_macro.specs.Stacks.{frame, stack_of, Stands, MovesTo}
-use Rattle.orca_macro.specs.View.{texts_of}
+use Rattle.orca_symbols.specs.Frame.{frame, stack_of}
+use Rattle.orca_macro.specs.Stacks.{Stands, MovesTo}
+use Rattle.orca_symbols.specs.View.{texts_of}
 
 -- the visit behind these others stands where the state says
 abbrev pub StandsIn : List Visit → Visit → State → Type 0

@@ -3,15 +3,14 @@
 ghost use Rattle.std.specs.Prelude.{◌≡◌, ◌≤◌, ◌<◌, ◌+◌, ◌^◌, ◌∷◌, ◌++◌, [], List, ℕ, length, slice_get, take, bytes_eq, Some, None, IfOk, IfSome, OnOk, MatchOption, if◌then◌else◌};
 ghost use Rattle.macro_meaning.specs.Visit.{places_from, target_of, has_sequence};
 ghost use Rattle.orca_meaning.specs.Line.{HaveFields, fields_of, part};
-ghost use Rattle.orca_macro.specs.Held.{held};
+ghost use Rattle.orca_symbols.specs.Held.{held};
 ghost use Rattle.orca_macro.specs.DefinitionView.{summary, with_place};
 ghost use Rattle.orca_macro.specs.Plan.{HavePlans, FitsAt};
 ghost use Rattle.orca_text.specs.View.{line};
 
-use crate::held::{look, put};
-use crate::names::sequence_name;
 use crate::plan::{Plan, plan_of};
 use indexmap::IndexMap;
+use orca_symbols::{look, put, sequence_name};
 use orca_text::{Lines, SourceLine};
 use std::alloc::{AllocError, Global};
 use std::marker::Model;
@@ -39,7 +38,7 @@ impl Model for Body {
     ghost use Rattle.std.specs.Prelude.{◌≡◌, ◌≤◌, ℕ, List, length, take};
     ghost use Rattle.macro_meaning.specs.Definition as meaning;
     ghost use Rattle.macro_meaning.specs.Visit.{places_from};
-    ghost use Rattle.orca_macro.specs.Held.{held};
+    ghost use Rattle.orca_symbols.specs.Held.{held};
     ghost use Rattle.orca_macro.specs.DefinitionView.{summary};
     ghost use Rattle.orca_macro.specs.Plan.{HavePlans};
 

@@ -8,14 +8,13 @@ ghost use Rattle.macro_meaning.specs.Definition.{operation_is, parts_of, source_
 ghost use Rattle.macro_meaning.specs.Expansion.{fault_at, line_fault_of};
 ghost use Rattle.macro_meaning.specs.Definition as macros;
 ghost use Rattle.std.specs.Prelude.{Bool};
-ghost use Rattle.orca_macro.specs.DefinitionView.{model};
+ghost use Rattle.orca_symbols.specs.ModelView.{model};
 ghost use Rattle.orca_macro.specs.Parts.{definition, HaveOwn, IsScanned, IsBegun, Judged, Scanned};
 ghost use Rattle.orca_text.specs.View.{line};
 
 use crate::body::Body;
-use crate::model_line::{ModelLine, model_of};
-use crate::names::is_operation;
 use macro_meaning::{MacroCause, MacroFault};
+use orca_symbols::{ModelLine, model_of, operation_is};
 use orca_text::{Lines, SourceLine};
 use std::alloc::{AllocError, Global};
 
@@ -28,14 +27,6 @@ pub(crate) struct Definition {
     pub(crate) behind: u32,
     /// The lines behind the model line, with the MEND line, to which no branch goes.
     pub(crate) body: Body,
-}
-
-/// Whether the operation of a line has this spelling.
-pub(crate) fn operation_is(of: &SourceLine, spelling: &[u8]) -> bool
-    requires { HaveFields of.now.text (line of.now).fields }
-    ensures { result ≡ operation_is spelling.now (line of.now) }
-{
-    is_operation(of.part(of.operation), spelling)
 }
 
 /// Copies a line to the end of others.

@@ -3,20 +3,17 @@
 ghost use Rattle.std.specs.Prelude.{◌≡◌, ◌==◌, ◌≤◌, ◌<◌, [], length, take, drop, Some, None, Ok, Err, IfOk, IsTrue, false};
 ghost use Rattle.macro_meaning.specs.Deed.{earlier, both, or_bad, first_time, declaring, settable, setting, printed, printed_answer, middle_from, middle_of, going, going_to, counting, noted, noting, IsBranchIf, IsMiddle, IsNote, IsSetting, IsDone, resting};
 ghost use Rattle.macro_meaning.specs.Pieces.{pieces, quoted, joined};
-ghost use Rattle.orca_macro.specs.View.{values, texts_of};
+ghost use Rattle.orca_symbols.specs.View.{values, texts_of};
 ghost use Rattle.orca_macro.specs.DeedView.{deed};
 ghost use Rattle.macro_meaning.specs.Condition.{Answer, IsCondition};
 
-use crate::condition::{condition, number};
 use crate::deed::Deed;
-use crate::names::is_target;
-use crate::pieces::{Piece, joined, pieces, quoted, two_pieces};
-use crate::symbols::{
-    Texts, Values, declaration_of, is_count, is_declaration, is_kind, kind_of, signed_decimal,
-};
-use crate::text::Text;
-use crate::word::{Word, symbol_word, target_word};
 use macro_meaning::{Declaration, Kind, MacroCause, Statement};
+use orca_symbols::{
+    Piece, Text, Texts, Values, Word, condition, declaration_of, is_count, is_declaration, is_kind,
+    is_target, joined, kind_of, number, pieces, quoted, signed_decimal, symbol_word, target_word,
+    two_pieces,
+};
 use std::alloc::{AllocError, Global};
 
 /// Of two faults that stand together the one that is answered: NoSuchSymbol comes before BadSetting.
@@ -244,7 +241,7 @@ fn front_of(text: &[u8], count: usize) -> &[u8]
 }
 
 /// What stands behind the first so many bytes.
-#[tactic(auto, using(crate::proofs::Parted::drop_all))]
+#[tactic(auto, using(orca_symbols::proofs::Parted::drop_all))]
 fn behind_first(text: &[u8], count: usize) -> &[u8]
     ensures value { result.now ≡ drop count text.now }
     ensures bound { length result.now ≤ length text.now }

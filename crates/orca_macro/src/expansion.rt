@@ -12,27 +12,24 @@ ghost use Rattle.orca_macro.specs.DeedView.{deed};
 ghost use Rattle.orca_macro.specs.Files.{texts_of_files, CanRead, lines_from, IsTextFault, AllOwn, first_part_in, definitions_of, IsProgram, HasVisited};
 ghost use Rattle.orca_macro.specs.Parts.{definition, HaveOwn};
 ghost use Rattle.orca_macro.specs.Plan.{Fits, IsGiven};
-ghost use Rattle.orca_macro.specs.Stacks.{frame, stack_of};
+ghost use Rattle.orca_symbols.specs.Frame.{frame, stack_of};
 ghost use Rattle.orca_macro.specs.StateView.{StandsIn, Visited};
-ghost use Rattle.orca_macro.specs.View.{texts_of};
+ghost use Rattle.orca_symbols.specs.View.{texts_of};
 ghost use Rattle.orca_text.specs.Refusals.{IsRefused};
 ghost use Rattle.orca_text.specs.View.{line};
 
 use crate::body::Body;
-use crate::deed::{Deed, Standing, deed_of, is_given, planned};
+use crate::deed::Deed;
 use crate::definitions::{Definition, fault_at, scan_file, scan_source};
-use crate::frames::State;
 use crate::plan::Plan;
 use crate::program::Program;
-use crate::symbols::{Symbols, Values};
 use crate::untouched::are_untouched;
-use crate::visits::{Outcome, onward, step};
+use crate::visited::{Standing, deed_of, is_given, planned};
+use crate::visits::{MOST_VISITS, Outcome, onward, step};
 use macro_meaning::{MacroCause, MacroFault};
+use orca_symbols::{State, Symbols, Values};
 use orca_text::{Lines, SourceLine, TextCause, TextFault, read_lines};
 use std::alloc::{AllocError, Global};
-
-/// How many lines are visited at most.
-pub(crate) const MOST_VISITS: u32 = 1_000_000;
 
 /// Memory ran out.
 fn no_memory() -> MacroFault

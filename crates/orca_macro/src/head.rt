@@ -3,10 +3,9 @@
 ghost use Rattle.std.specs.Prelude.{◌≡◌, ◌≤◌, length, take, drop, IfOk, IfSome};
 ghost use Rattle.orca_macro.specs.Head.{IsHead};
 
-use crate::deed::cut;
-use crate::names::statement_of;
 use macro_meaning::Statement;
 use omf_base::Name;
+use orca_symbols::{cut, statement_of};
 use orca_text::{folded, is_comment, part, three_fields};
 use std::alloc::{AllocError, Global};
 

@@ -3,18 +3,16 @@
 ghost use Rattle.std.specs.Prelude.{◌≡◌, ◌≤◌, ◌==◌, List, ℕ, length, true, false, IfOk};
 ghost use Rattle.orca_meaning.specs.Line.{HaveFields, is_comment};
 ghost use Rattle.orca_macro.specs.Head.{BeginsSo};
-ghost use Rattle.orca_macro.specs.Plain.{plain_len};
+ghost use Rattle.orca_symbols.specs.Plain.{plain_len};
 ghost use Rattle.orca_macro.specs.Plan.{known, FitsDone, FitsStatement, FitsLine, Fits};
 ghost use Rattle.orca_text.specs.View.{line};
 
-use crate::deed::cut;
-use crate::definitions::operation_is;
 use crate::head::{Head, head_of};
-use crate::names::{statement_of, target_name};
-use crate::substitution::is_plain;
-use crate::template::{Part, parts_of, plain_front};
 use macro_meaning::Statement;
 use omf_base::Name;
+use orca_symbols::{
+    Part, cut, is_plain, operation_is, parts_of, plain_front, statement_of, target_name,
+};
 use orca_text::{SourceLine, is_comment, part, three_fields};
 use std::alloc::{AllocError, Global};
 

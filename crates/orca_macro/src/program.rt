@@ -4,16 +4,16 @@ ghost use Rattle.std.specs.Prelude.{◌≡◌, ◌≤◌, ◌<◌, ◌+◌, ◌^
 ghost use Rattle.macro_meaning.specs.Definition.{first_named, or_else};
 ghost use Rattle.macro_meaning.specs.Visit.{line_at, body_of, no_body, target_of};
 ghost use Rattle.orca_meaning.specs.Line.{HaveFields, fields_of};
-ghost use Rattle.orca_macro.specs.Held.{held};
+ghost use Rattle.orca_symbols.specs.Held.{held};
 ghost use Rattle.orca_macro.specs.Parts.{definition};
 ghost use Rattle.orca_macro.specs.Plan.{Fits};
 ghost use Rattle.orca_text.specs.View.{line};
 
 use crate::body::Body;
 use crate::definitions::Definition;
-use crate::held::{look, put};
 use crate::plan::Plan;
 use indexmap::IndexMap;
+use orca_symbols::{look, put};
 use orca_text::SourceLine;
 use std::alloc::{AllocError, Global};
 use std::marker::Model;
@@ -30,7 +30,7 @@ impl Model for Program {
     ghost use Rattle.std.specs.Prelude.{◌≡◌, ℕ, List, map};
     ghost use Rattle.macro_meaning.specs.Visit as meaning;
     ghost use Rattle.macro_meaning.specs.Definition.{first_named};
-    ghost use Rattle.orca_macro.specs.Held.{held};
+    ghost use Rattle.orca_symbols.specs.Held.{held};
     ghost use Rattle.orca_macro.specs.Parts.{definition};
 
     ghost Value = { meaning.Program };

@@ -6,12 +6,9 @@ ghost use Rattle.orca_meaning.specs.Line.{HaveFields, fields_of, part};
 ghost use Rattle.orca_macro.specs.Untouched.{IsUntouched, AreUntouched};
 ghost use Rattle.orca_text.specs.View.{line};
 
-use crate::deed::begins_dot;
-use crate::definitions::operation_is;
-use crate::expansion::MOST_VISITS;
-use crate::names::statement_of;
-use crate::substitution::is_plain;
+use crate::visits::MOST_VISITS;
 use macro_meaning::Statement;
+use orca_symbols::{begins_dot, is_plain, operation_is, statement_of};
 use orca_text::{Lines, SourceLine, is_comment};
 
 /// The statement that an operation is. A line without one is read as ANOP.

@@ -5,18 +5,19 @@ ghost use Rattle.macro_meaning.specs.Symbol.{SharedTexts};
 ghost use Rattle.macro_meaning.specs.Visit.{Visit, On, Ends, Program, returned, next_line, line_at, root_by, branch_to, call_of, target_of, body_of, move_of, shared_first};
 ghost use Rattle.macro_meaning.specs.Deed as deeds;
 ghost use Rattle.orca_meaning.specs.Line as meaning;
-ghost use Rattle.orca_macro.specs.Changes.{IsDeclared, IsAssigned};
+ghost use Rattle.orca_symbols.specs.Changes.{IsDeclared, IsAssigned};
 ghost use Rattle.orca_macro.specs.DeedView.{deed};
-ghost use Rattle.orca_macro.specs.Stacks.{Frame, frame, stack_of, Stacks, Stands, IsBack, MovesTo};
+ghost use Rattle.orca_symbols.specs.Frame.{Frame, frame, stack_of};
+ghost use Rattle.orca_macro.specs.Stacks.{Stacks, Stands, IsBack, MovesTo};
 ghost use Rattle.orca_macro.specs.StateView.{StandsIn, MovesIn};
-ghost use Rattle.orca_macro.specs.View.{symbols_of, texts_of};
+ghost use Rattle.orca_symbols.specs.View.{symbols_of, texts_of};
 
 use crate::deed::Deed;
-use crate::frames::{Frames, Scope, State};
 use crate::program::Program;
-use crate::symbols::{Calls, SharedText, Symbol, Symbols, Texts, first_text};
-use crate::text::Text;
 use macro_meaning::{Declaration, Kind, MacroCause};
+use orca_symbols::{
+    Calls, Frames, Scope, SharedText, State, Symbol, Symbols, Text, Texts, first_text,
+};
 use orca_text::SourceLine;
 use std::alloc::{AllocError, Global};
 
@@ -27,6 +28,9 @@ pub(crate) enum Outcome {
     Ends,
     Stops(MacroCause),
 }
+
+/// How many lines are visited at most.
+pub(crate) const MOST_VISITS: u32 = 1_000_000;
 
 /// How deep calls are nested at most.
 const MOST_NESTED: usize = 32;
@@ -70,7 +74,7 @@ fn declare(
 }
 
 /// Sets a symbol to a text.
-#[tactic(auto, using(crate::proofs::Renewals::assigned_own, crate::proofs::Renewals::assigned_common))]
+#[tactic(auto, using(orca_symbols::proofs::Renewals::assigned_own, orca_symbols::proofs::Renewals::assigned_common))]
 fn assign(
     alloc: Global,
     symbols: &mut Symbols,

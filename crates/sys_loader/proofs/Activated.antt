@@ -8,7 +8,7 @@ use Rattle.omf_format.specs.File.{Segment, segment_at}
 use Rattle.omf_io.specs.Counts.{one_more}
 use Rattle.omf_io.specs.Files.{FileMap, IsRead, IsUnread, max_file}
 use Rattle.load_meaning.specs.declared.load.LoadFault.{LoadFault}
-use Rattle.loader_machine.specs.Taken.{IsTaken, IsFirstRefusal}
+use Rattle.load_meaning.specs.Loadable.{IsLoadable}
 use Rattle.iigs_meaning.specs.declared.handles.Handle.{Handle}
 use Rattle.iigs_meaning.specs.declared.wants.Block.{Block}
 use Rattle.iigs_meaning.specs.Slots.{get, new_handle}
@@ -21,23 +21,25 @@ use Rattle.loader_machine.specs.declared.seen.Head.{Head}
 use Rattle.loader_machine.specs.declared.seen.Presence.{Presence}
 use Rattle.loader_machine.specs.declared.seen.Presence.TheVariants.{Absent, Purged, Idle, Active}
 use Rattle.loader_machine.specs.Heads.{head_of, at_number, is_table, want_of}
-use Rattle.loader_machine.specs.State.{Machine, Seen, fresh, first_id, handles_of}
+use Rattle.loader_machine.specs.State.{Machine, Seen, fresh, first_id, handles_of, is_attached, led_by}
 use Rattle.loader_machine.specs.Presences.{handle_at, presence, presence_at, lies_in, lies_at, active_at}
-use Rattle.loader_machine.specs.Found.{HoldsLoad, Bad, Good}
-use Rattle.loader_machine.specs.laws.OnceLaws.{one_load, found_once}
+use Rattle.loader_machine.specs.Found.{HoldsLoad}
+use Rattle.loader_machine.specs.laws.OnceLaws.{one_load}
 use Rattle.loader_machine.specs.Commands.{Reply, LoadSegment, MadeActive, Refused}
 use Rattle.loader_machine.specs.Refusals.{Refuse, load_segment_refusal}
 use Rattle.loader_machine.specs.Steps.{Sees, seen_of, Outcome, OutOfSlots, OutOfRoom, Made, Activates, Answers, MakesActive, active_block, changed, with_slots, with_both, with_segment}
 use Rattle.loader_machine.specs.Needs.{Needs, is_read, path_if}
-use Rattle.loader_agrees.specs.Agrees.{Loaded, Outline, seen_in, Agrees, Has, IsSound, Meets}
+use Rattle.loader_agrees.specs.Agrees.{Loaded, Outline, kept_outlines, seen_in, Agrees, Has, IsSound, Meets}
 use Rattle.loader_agrees.specs.laws.Reads.{headed}
 use Rattle.loader_agrees.specs.laws.Seeing.{made_at, IsKept, kept_is, refuses, does}
+use Rattle.loader_agrees.specs.laws.Leading.{is_led, joined_of}
 use Rattle.sys_loader.specs.Replies.{activation_reply}
-use Rattle.sys_loader.specs.Lives.{HasShifted}
+use Rattle.sys_loader.specs.Calls.{IsFaultAs}
+use Rattle.sys_loader.specs.Lives.{HasTurned}
+use Rattle.sys_loader.proofs.ReadAs.{as_loadable, no_fault_as}
 use Rattle.sys_loader.specs.Activating.{IsChanged, CanLoad, IsBringRefusal, HasCome, IsComeRefusal, IsReadRefusal, CantRead, LacksMemory, CantCome, DidCome, HasActivated, DidActivate}
 use Rattle.sys_loader.proofs.Came.{dynamic_plain, came_agrees}
-use Rattle.sys_loader.proofs.Shifting.{IsTurn, own_leading, shifted_agrees}
-use Rattle.sys_loader.proofs.Turned.{own_leads}
+use Rattle.sys_loader.proofs.Shifting.{IsTurn, shifted_agrees}
 
 -- ---- a segment that wakes
 
@@ -143,9 +145,11 @@ module _ (held : FileMap) (old : Loaded) (state : Machine) (id number : ℕ) (so
   stays : (h : Handle) (at now : ℕ) (of : ℕ → Reply) → presence old.memory.slots handle ≡ Active h at → IsMet held state id number of false (of at) old now now
   stays h at now of here = inl (state, makes (Active h at) here (Made at state) refl of (of at) state (refl, refl), agrees, refl)
 
-  woke : (new : Loaded) (h : Handle) (at now : ℕ) (of : ℕ → Reply) → presence old.memory.slots handle ≡ Idle h at → HasShifted old can.kept (1, number) h active_block (Some at) new
+  woke : (new : Loaded) (h : Handle) (at now : ℕ) (of : ℕ → Reply) → presence old.memory.slots handle ≡ Idle h at → HasTurned old id number h active_block (Some at) new
       → IsMet held state id number of false (of at) new now now
-  woke new h at now of here shifted =
+  woke new h at now of here turned =
+      let shifted = turned.shifted in
+      let led = is_led old.users id can.kept sound.attached can.made in
       let its : handle ≡ Some h = idle_handle old.memory.slots handle h at here in
       let next : Machine = with_slots state (changed active_block state.slots h) in
       let was : get old.memory.slots h ≡ Some shifted.changes.block = ap (λ (t : Slots). get t h) (sym shifted.renewed.slots) ∙ shifted.changes.was in
@@ -153,25 +157,25 @@ module _ (held : FileMap) (old : Loaded) (state : Machine) (id number : ℕ) (so
       inl (
         next,
         makes (Idle h at) here (Made at next) refl of (of at) next (refl, refl),
-        shifted_agrees old new id number id 1 can.kept can.kept h active_block (Some at) head sound (own_leading old.users sound.bare id) can.made (inl refl) can.made can.head' (can.handle' ∙ its) can.dynamic wakes shifted
-            (ap (λ (o : Option ℕ). active_at (lies_at h o true)) its_at) held state agrees (λ some. can.fits) (own_leads held),
+        shifted_agrees old new id number (led_by (kept_outlines old.users) id).0 (led_by (kept_outlines old.users) id).1 can.kept turned.lead h active_block (Some at) head sound led.leading turned.leads led.alone can.made can.head' (can.handle' ∙ its) can.dynamic wakes shifted
+            (ap (λ (o : Option ℕ). active_at (lies_at h o true)) its_at) held state agrees (λ some. can.fits),
         refl,
       )
 
   -- ---- it comes
 
   plain : is_table head ≡ false
-  plain = dynamic_plain is.does_agree.holds.file is.does_agree.segments is.does_agree.holds.taken number head (ap (λ (hs : List Head). at_number hs number) (sym is.does_agree.heads) ∙ can.head') can.dynamic
+  plain = dynamic_plain is.does_agree.holds.file is.does_agree.segments is.does_agree.holds.loadable number head (ap (λ (hs : List Head). at_number hs number) (sym is.does_agree.heads) ∙ can.head') can.dynamic
 
-  same_load : (file : List ℕ) (segments : List Segment) → IsRead (Some held) can.kept.path file → IsTaken file segments → is.does_agree.segments ≡ segments
+  same_load : (file : List ℕ) (segments : List Segment) → IsRead (Some held) can.kept.path file → IsLoadable file segments → is.does_agree.segments ≡ segments
   same_load file segments is_read taken =
-      one_load held can.kept.path is.does_agree.segments segments is.does_agree.holds (record { file = file; is_held = (is_read.1, is_read.0); taken = taken })
+      one_load held can.kept.path is.does_agree.segments segments is.does_agree.holds (record { file = file; is_held = (is_read.1, is_read.0); loadable = taken })
 
-  not_bad : (file : List ℕ) (bad : LoadFault) → IsRead (Some held) can.kept.path file → IsFirstRefusal file bad → ⊥
+  not_bad : (file : List ℕ) (bad : LoadFault) → IsRead (Some held) can.kept.path file → IsFaultAs (is_attached (kept_outlines old.users) id) file bad → ⊥
   not_bad file bad is_read first =
-      let same : Bad bad ≡ Good is.does_agree.segments =
-      found_once held can.kept.path (Bad bad) (Good is.does_agree.segments) (record { file = file; is_held = (is_read.1, is_read.0); first = first }) is.does_agree.holds in
-      absurd cc
+      let same : is.does_agree.holds.file ≡ file = same_Some is.does_agree.holds.file file (sym is.does_agree.holds.is_held.0 ∙ is_read.1) in
+      no_fault_as (is_attached (kept_outlines old.users) id) file is.does_agree.segments bad (subst (λ (f : List ℕ). IsLoadable f is.does_agree.segments) same is.does_agree.holds.loadable)
+      (λ attached n g found'. (joined_of old.users id can.kept sound.attached can.made attached).1.dynamic n g (ap (λ (hs : List Head). at_number hs n) is.does_agree.heads ∙ found')) first
 
   has_it : (h : Handle) → handle ≡ Some h → Has old.users (id - first_id) number head h
   has_it h its = record { kept = can.kept; made = (made_at old.users id can.kept can.made).0; head' = can.head'; handle = can.handle' ∙ its }
@@ -201,11 +205,11 @@ module _ (held : FileMap) (old : Loaded) (state : Machine) (id number : ℕ) (so
         refl,
       )
     where
-      moved : {h : Handle} {last : Slots} (puts : Puts Purges old.memory.banks old.memory.slots (want_of head) id true 0 h last) → puts.address ≡ address → (t : Slots) → old.memory.slots ≡ t → (b : List ℕ) → old.memory.banks ≡ b
-          → (puts' : Puts Purges b t (want_of head) id true 0 h last) × (puts'.address ≡ address)
+      moved : {h : Handle} {last : Slots} (puts : Puts Purges old.memory.banks old.memory.slots (want_of head) id true 0 false h last) → puts.address ≡ address → (t : Slots) → old.memory.slots ≡ t → (b : List ℕ) → old.memory.banks ≡ b
+          → (puts' : Puts Purges b t (want_of head) id true 0 false h last) × (puts'.address ≡ address)
       moved {h} {last} puts at t es b eb =
-          subst (λ (x : Slots). (puts' : Puts Purges b x (want_of head) id true 0 h last) × (puts'.address ≡ address)) es
-          (subst (λ (x : List ℕ). (puts' : Puts Purges x old.memory.slots (want_of head) id true 0 h last) × (puts'.address ≡ address)) eb (puts, at))
+          subst (λ (x : Slots). (puts' : Puts Purges b x (want_of head) id true 0 false h last) × (puts'.address ≡ address)) es
+          (subst (λ (x : List ℕ). (puts' : Puts Purges x old.memory.slots (want_of head) id true 0 false h last) × (puts'.address ≡ address)) eb (puts, at))
 
   came_anew : (new : Loaded) (k : Handle) (address now : ℕ) (of : ℕ → Reply) (segments : List Segment) → handle ≡ Some k → presence old.memory.slots handle ≡ Purged k → is.does_agree.segments ≡ segments
       → HasCome old id number can.kept head handle segments address new → IsMet held state id number of true (of address) new now now
@@ -266,12 +270,12 @@ module _ (held : FileMap) (old : Loaded) (state : Machine) (id number : ℕ) (so
   lacks_memory : (why : LoaderFault) (now : ℕ) (of : ℕ → Reply) → why ≡ fault.Memory → IsMet held state id number of true (Refused why) old now now
   lacks_memory why now of short = inr (inr (ap (λ (f : LoaderFault). Refused f) short, agrees, refl))
 
-  none_comes : IsGone → (file : List ℕ) (why : LoaderFault) (now : ℕ) (of : ℕ → Reply) → IsRead (Some held) can.kept.path file → IsComeRefusal file old number can.kept head handle why
+  none_comes : IsGone → (file : List ℕ) (why : LoaderFault) (now : ℕ) (of : ℕ → Reply) → IsRead (Some held) can.kept.path file → IsComeRefusal file old id number can.kept head handle why
       → IsMet held state id number of true (Refused why) old now now
   none_comes gone file why now of is_read (inl (inl short)) = lacks_memory why now of short
   none_comes gone file why now of is_read (inl (inr bad)) = absurd (not_bad file bad.0 is_read bad.1)
   none_comes gone file why now of is_read (inr (segments, taken, inl changes)) =
-      let same = same_load file segments is_read taken in
+      let same = same_load file segments is_read (as_loadable (is_attached (kept_outlines old.users) id) file segments taken) in
       absurd (not_changed can.kept.heads (map head_of segments) why (ap (map head_of) (sym same) ∙ sym is.does_agree.heads) changes)
   none_comes gone file why now of is_read (inr (segments, taken, inr none)) = refused gone why now of none.1
 
@@ -286,7 +290,7 @@ module _ (held : FileMap) (old : Loaded) (state : Machine) (id number : ℕ) (so
   unread why before now of (inr (inl long)) is_why = absurd (too_long long.0)
   unread why before now of (inr (inr rose)) is_why = inr (inl (ap (λ (f : LoaderFault). Refused f) is_why, agrees, refl, rose))
 
-  read_refused : IsGone → (why : LoaderFault) (before now : ℕ) (of : ℕ → Reply) → IsReadRefusal (Some held) old number can.kept head handle before now why → IsMet held state id number of true (Refused why) old before now
+  read_refused : IsGone → (why : LoaderFault) (before now : ℕ) (of : ℕ → Reply) → IsReadRefusal (Some held) old id number can.kept head handle before now why → IsMet held state id number of true (Refused why) old before now
   read_refused gone why before now of (CantRead none is_why) = unread why before now of none is_why
   read_refused gone why before now of (LacksMemory short same) = subst (λ (n : ℕ). IsMet held state id number of true (Refused why) old before n) (sym same) (lacks_memory why before of short)
   read_refused gone why before now of (CantCome file is_read none same) =
@@ -297,7 +301,7 @@ module _ (held : FileMap) (old : Loaded) (state : Machine) (id number : ℕ) (so
   did_come gone (Ok address) new before now of did =
       let read = did.0 in
       subst (λ (n : ℕ). IsMet held state id number of true (of address) new before n) (sym did.1)
-      (came gone new address before of read.2.0 (same_load read.0 read.2.0 read.1 read.2.1) read.2.3)
+      (came gone new address before of read.2.0 (same_load read.0 read.2.0 read.1 (as_loadable (is_attached (kept_outlines old.users) id) read.0 read.2.0 read.2.1)) read.2.3)
   did_come gone (Err why) new before now of did =
       subst (λ (l : Loaded). IsMet held state id number of true (Refused why) l before now) (sym did.1) (read_refused gone why before now of did.0)
 

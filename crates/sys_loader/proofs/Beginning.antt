@@ -3,10 +3,11 @@ use Rattle.std.proofs.Common.{◌≡◌, ◌≢◌, inl, inr, ℕ, zero, suc, fa
 use Rattle.std.specs.Prelude.{slice_get, string_bytes}
 use Rattle.std.specs.Option.{option_map, option_and_then}
 use Rattle.std.proofs.lemmas.Option.{slice_get_within}
-use Rattle.std.proofs.lemmas.List.{length-map, length-replicate, map-append, take_at}
+use Rattle.std.proofs.lemmas.List.{length-map, length-replicate, map-append, append_assoc, take_at}
 use Rattle.omf_format.specs.File.{Segment, segment_at}
 use Rattle.omf_io.specs.Counts.{IsFront}
-use Rattle.loader_machine.specs.Taken.{IsTaken}
+use Rattle.load_meaning.specs.Loadable.{IsLoadable}
+use Rattle.load_meaning.specs.Pathnames.{paths_of}
 use Rattle.iigs_meaning.specs.declared.handles.Handle.{Handle}
 use Rattle.iigs_meaning.specs.declared.wants.Want.{Want}
 use Rattle.iigs_meaning.specs.Fits.{Slots}
@@ -16,18 +17,20 @@ use Rattle.loader_machine.specs.declared.seen.Head.{Head}
 use Rattle.loader_machine.specs.declared.seen.Life.{Life}
 use Rattle.loader_machine.specs.declared.seen.Life.TheVariants.{Running}
 use Rattle.loader_machine.specs.Heads.{head_of, at_number, is_stack, stack_want, plain_want, want_of, wants_of, entry_in}
-use Rattle.loader_machine.specs.State.{no_pokes, first_id, max_users}
+use Rattle.loader_machine.specs.State.{no_pokes, first_id, max_users, ids_from}
 use Rattle.loader_machine.specs.Presences.{handle_at}
 use Rattle.loader_machine.specs.Stands.{setting, stands, place_in}
+use Rattle.loader_machine.specs.Steps.{lost_refusal}
 use Rattle.loader_agrees.specs.Agrees.{Kept, Loaded, IsSound}
-use Rattle.loader_agrees.specs.Acts.{HasBegun, started_kept}
+use Rattle.loader_agrees.specs.Acts.{HasPlaced, HasBegun, started_kept, joined_kepts}
 use Rattle.loader_agrees.specs.laws.Begun.{all_placed, all_length, decide}
-use Rattle.loader_agrees.specs.laws.BegunSound.{AreDistinct, rest_apart, all_distinct, spread_want, spread_index, spread_once, want_size, sound_begun}
+use Rattle.loader_agrees.specs.laws.BegunSound.{AreDistinct, rest_apart, all_distinct, spread_want, spread_index, spread_once, want_size}
+use Rattle.loader_agrees.specs.laws.BegunMore.{sound_begun}
 use Rattle.sys_loader.specs.declared.user.Segment as users
 use Rattle.sys_loader.specs.declared.user.User.{User}
 use Rattle.sys_loader.specs.View.{kept, loaded}
 use Rattle.sys_loader.specs.Filling.{IsReady, AreReady, AreFilled}
-use Rattle.sys_loader.specs.Calls.{spread_handles, IsSettled}
+use Rattle.sys_loader.specs.Calls.{spread_handles, IsSettled, AreJoinedUsers}
 use Rattle.sys_loader.proofs.Written.{heads_of, handles_of}
 use Rattle.sys_loader.proofs.Settling.{addresses, is_setting}
 
@@ -83,7 +86,7 @@ number_within load (suc k) s is = omega (arith, slice_get_within load k s is)
 pub same_count : (load : List Segment) (kept : List users.Segment) → heads_of kept ≡ map head_of load → length kept ≡ length load
 same_count load kept same = sym (length-map kept (λ (s : users.Segment). s.head)) ∙ ap length same ∙ length-map load head_of
 
-pub settled : (file : List ℕ) (load : List Segment) (hs : List Handle) (user : ℕ) (kept : List users.Segment) (old new : Memory) → IsTaken file load → heads_of kept ≡ map head_of load
+pub settled : (file : List ℕ) (load : List Segment) (hs : List Handle) (user : ℕ) (kept : List users.Segment) (old new : Memory) → IsLoadable file load → heads_of kept ≡ map head_of load
     → handles_of kept ≡ spread_handles load hs → AreFilled load (handles_of kept) user (addresses old.slots kept) old new (length kept) → IsSettled load user hs old new
 settled file load hs user kept old new taken same handles filled = record {
   banks = filled.banks;
@@ -103,38 +106,65 @@ settled file load hs user kept old new taken same handles filled = record {
 
 -- ---- a user whose static segments have these handles
 
-pub kept_started : (user : User) (load : List Segment) (path : List ℕ) (hs : List Handle) → heads_of user.segments.items ≡ map head_of load → handles_of user.segments.items ≡ spread_handles load hs
-    → string_bytes user.path ≡ path → user.life ≡ Running → kept user ≡ started_kept path (map head_of load) hs
-kept_started user load path hs same handles path_is runs =
-    let made : List ℕ → Life → List (Option Handle) → List Head → Kept = λ p l os gs. record { path = p; life = l; handles = os; heads = gs; attached = [] } in
-    ap (λ (p : List ℕ). made p user.life (handles_of user.segments.items) (heads_of user.segments.items)) path_is
-    ∙ ap (λ (l : Life). made path l (handles_of user.segments.items) (heads_of user.segments.items)) runs
-    ∙ ap (λ (os : List (Option Handle)). made path Running os (heads_of user.segments.items)) handles
-    ∙ ap (λ (gs : List Head). made path Running (spread_handles load hs) gs) same
+pub kept_started : (user : User) (load : List Segment) (path : List ℕ) (hs : List Handle) (ids : List ℕ) → heads_of user.segments.items ≡ map head_of load → handles_of user.segments.items ≡ spread_handles load hs
+    → string_bytes user.path ≡ path → user.life ≡ Running → user.attached.items ≡ ids → kept user ≡ record (started_kept path (map head_of load) hs) { attached = ids }
+kept_started user load path hs ids same handles path_is runs attached =
+    let made : List ℕ → Life → List (Option Handle) → List Head → List ℕ → Kept = λ p l os gs ids'. record { path = p; life = l; handles = os; heads = gs; attached = ids' } in
+    ap (λ (p : List ℕ). made p user.life (handles_of user.segments.items) (heads_of user.segments.items) user.attached.items) path_is
+    ∙ ap (λ (l : Life). made path l (handles_of user.segments.items) (heads_of user.segments.items) user.attached.items) runs
+    ∙ ap (λ (os : List (Option Handle)). made path Running os (heads_of user.segments.items) user.attached.items) handles
+    ∙ ap (λ (gs : List Head). made path Running (spread_handles load hs) gs user.attached.items) same
+    ∙ ap (made path Running (spread_handles load hs) (map head_of load)) attached
 
--- ---- one user more
+-- ---- users that are put behind others one by one
 
-module _ (memory middle new : Memory) (users' : List (Option User)) (user : User) (load : List Segment) (path : List ℕ) (hs : List Handle) (id : ℕ) (entry : Option ℕ)
-    (few : length users' < max_users) (short : length load < 2 ^ 16) (id_is : id ≡ first_id + length users') (placed : AreAllPlaced Purges memory id false (wants_of (map head_of load)) hs middle)
+pub none_left : {X : Type 0} (xs : List X) → length xs ≡ 0 → xs ≡ []
+none_left [] e = refl
+none_left (x ∷ xs) e = absurd (omega (arith, e))
+
+pub pushed_more : (us us' : List (Option User)) (rest rest' : List User) (u : User) (all : List (Option Kept)) → us' ≡ us ++ Some u ∷ [] → rest ≡ u ∷ rest'
+    → map (option_map kept) us ++ map (λ (k : Kept). Some k) (map kept rest) ≡ all → map (option_map kept) us' ++ map (λ (k : Kept). Some k) (map kept rest') ≡ all
+pushed_more us us' rest rest' u all pushed steps so_far =
+    ap (λ (l : List (Option User)). map (option_map kept) l ++ map (λ (k : Kept). Some k) (map kept rest')) pushed
+    ∙ ap (λ (l : List (Option Kept)). l ++ map (λ (k : Kept). Some k) (map kept rest')) (map-append (option_map kept) us (Some u ∷ []))
+    ∙ append_assoc (map (option_map kept) us) (Some (kept u) ∷ []) (map (λ (k : Kept). Some k) (map kept rest'))
+    ∙ ap (λ (l : List User). map (option_map kept) us ++ map (λ (k : Kept). Some k) (map kept l)) (sym steps) ∙ so_far
+
+-- ---- one user more, and those of its rows
+
+-- a user for each row
+joined_length : (paths : List (List ℕ)) (all : List (List Segment)) → length all ≡ length paths → length (joined_kepts paths all) ≡ length paths
+joined_length [] all long = refl
+joined_length (path ∷ paths) [] long = absurd (omega (arith, long))
+joined_length (path ∷ paths) (segments ∷ all) long = ap suc (joined_length paths all (omega (arith, long)))
+
+pub rows_length : (paths : List (List ℕ)) (all : List (List Segment)) (joined : List Kept) → AreJoinedUsers paths all joined → length joined ≡ length paths
+rows_length paths all joined rows = sym (length-map joined (λ (k : Kept). Some k)) ∙ ap length rows.users' ∙ joined_length paths all rows.long
+
+module _ (memory middle new : Memory) (users' last : List (Option User)) (user : User) (joined : List User) (load : List Segment) (path : List ℕ) (all : List (List Segment)) (hs : List Handle) (id : ℕ) (entry : Option ℕ)
+    (few : length users' + 1 + length joined ≤ max_users) (short : length load < 2 ^ 16) (id_is : id ≡ first_id + length users') (placed : AreAllPlaced Purges memory id false (wants_of (map head_of load)) hs middle)
     (is_settled : IsSettled load id hs middle new) (same : heads_of user.segments.items ≡ map head_of load) (handles : handles_of user.segments.items ≡ spread_handles load hs)
-    (path_is : string_bytes user.path ≡ path) (runs : user.life ≡ Running) (entry_is : entry ≡ entry_in (heads_of user.segments.items) (place_in new.slots (handles_of user.segments.items)) 1) where
-  kept_is : kept user ≡ started_kept path (map head_of load) hs
-  kept_is = kept_started user load path hs same handles path_is runs
+    (path_is : string_bytes user.path ≡ path) (runs : user.life ≡ Running) (attached : user.attached.items ≡ ids_from (id + 1) (length (paths_of load)))
+    (entry_is : entry ≡ entry_in (heads_of user.segments.items) (place_in new.slots (handles_of user.segments.items)) 1)
+    (rows : AreJoinedUsers (paths_of load) all (map kept joined))
+    (pushed : map (option_map kept) last ≡ map (option_map kept) (users' ++ Some user ∷ []) ++ map (λ k. Some k) (map kept joined)) where
+  abbrev its : Kept
+  its = record (started_kept path (map head_of load) hs) { attached = ids_from (id + 1) (length (paths_of load)) }
+
+  kept_is : kept user ≡ its
+  kept_is = kept_started user load path hs (ids_from (id + 1) (length (paths_of load))) same handles path_is runs attached
 
   count : length (map (option_map kept) users') ≡ length users'
   count = length-map users' (option_map kept)
 
-  pub begun : HasBegun (loaded memory users') path load id entry (loaded new (users' ++ Some user ∷ []))
-  begun = record {
-    few = omega (arith, few, count);
+  abbrev placed_new : HasPlaced memory path load id entry new
+  placed_new = record {
     short = short;
-    id_is = omega (arith, id_is, count);
     handles = hs;
     middle = middle;
     placed = placed;
     banks = is_settled.banks ∙ placed.kept.banks;
     slots = is_settled.slots;
-    users = map-append (option_map kept) users' (Some user ∷ []) ∙ ap (λ (k : Kept). map (option_map kept) users' ++ Some k ∷ []) kept_is;
     entry_is = entry_is ∙ ap (λ (gs : List Head). entry_in gs (place_in new.slots (handles_of user.segments.items)) 1) same
         ∙ ap (λ (os : List (Option Handle)). entry_in (map head_of load) (place_in new.slots os) 1) handles;
     stay = λ k live. is_settled.stay k.slot (λ i h is. rest_apart memory.banks id memory.slots middle.slots (wants_of (map head_of load)) hs placed.puts k live i h is);
@@ -142,25 +172,46 @@ module _ (memory middle new : Memory) (users' : List (Option User)) (user : User
     sizes = is_settled.sizes;
   }
 
--- ---- why no program begins
+  fits : length (map (option_map kept) users') + 1 + length (paths_of load) ≤ max_users
+  fits = omega (arith, few, count, length-map joined kept, rows_length (paths_of load) all (map kept joined) rows)
 
--- the same, as the loader's fields are
-module _ (old : Loaded) (memory middle new : Memory) (users' users'' : List (Option User)) (user : User) (load : List Segment) (path : List ℕ) (wants : List Want) (hs given : List Handle) (id count : ℕ) (entry : Option ℕ)
-    (view : old ≡ loaded memory users') (pushed : users'' ≡ users' ++ Some user ∷ []) (few : length old.users < max_users) (short : length load < 2 ^ 16) (id_is : id ≡ first_id + count) (count_is : count ≡ length users')
+  users_are : map (option_map kept) last ≡ map (option_map kept) users' ++ Some its ∷ joined_kepts (paths_of load) all
+  users_are =
+      pushed
+      ∙ ap (λ (us : List (Option Kept)). us ++ map (λ k. Some k) (map kept joined)) (map-append (option_map kept) users' (Some user ∷ []))
+      ∙ append_assoc (map (option_map kept) users') (Some (kept user) ∷ []) (map (λ k. Some k) (map kept joined))
+      ∙ ap (λ (us : List (Option Kept)). map (option_map kept) users' ++ Some (kept user) ∷ us) rows.users'
+      ∙ ap (λ (k : Kept). map (option_map kept) users' ++ Some k ∷ joined_kepts (paths_of load) all) kept_is
+
+  pub begun : HasBegun (loaded memory users') path load all id entry (loaded new last)
+  begun = record { few = fits; long = rows.long; shorts = rows.shorts; id_is = omega (arith, id_is, count); placed = placed_new; users = users_are }
+
+-- ---- the same, as the loader's fields are
+
+module _ (old : Loaded) (memory middle new : Memory) (users' last : List (Option User)) (user : User) (joined : List User) (load : List Segment) (path : List ℕ) (all : List (List Segment)) (wants : List Want) (hs given : List Handle) (id count : ℕ) (entry : Option ℕ)
+    (view : old ≡ loaded memory users') (few : length old.users + 1 + length joined ≤ max_users) (short : length load < 2 ^ 16) (id_is : id ≡ first_id + count) (count_is : count ≡ length users')
     (placed : AreAllPlaced Purges memory id false wants given middle) (wants_are : wants ≡ wants_of (map head_of load)) (hs_are : hs ≡ given) (is_settled : IsSettled load id hs middle new)
     (same : heads_of user.segments.items ≡ map head_of load) (handles : handles_of user.segments.items ≡ spread_handles load hs) (path_is : string_bytes user.path ≡ path) (runs : user.life ≡ Running)
-    (entry_is : entry ≡ entry_in (heads_of user.segments.items) (place_in new.slots (handles_of user.segments.items)) 1) where
-  as_begun : HasBegun (loaded memory users') path load id entry (loaded new (users' ++ Some user ∷ []))
+    (attached : user.attached.items ≡ ids_from (first_id + length old.users + 1) (length (paths_of load)))
+    (entry_is : entry ≡ entry_in (heads_of user.segments.items) (place_in new.slots (handles_of user.segments.items)) 1)
+    (rows : AreJoinedUsers (paths_of load) all (map kept joined))
+    (pushed : map (option_map kept) last ≡ map (option_map kept) (users' ++ Some user ∷ []) ++ map (λ k. Some k) (map kept joined)) where
+  old_count : length old.users ≡ length users'
+  old_count = ap (λ (l : Loaded). length l.users) view ∙ length-map users' (option_map kept)
+
+  as_begun : HasBegun (loaded memory users') path load all id entry (loaded new last)
   as_begun =
-      begun memory middle new users' user load path hs id entry (omega (arith, few, ap (λ (l : Loaded). length l.users) view, length-map users' (option_map kept))) short (omega (arith, id_is, count_is))
+      begun memory middle new users' last user joined load path all hs id entry (omega (arith, few, old_count)) short (omega (arith, id_is, count_is))
       (subst (λ (ws : List Want). AreAllPlaced Purges memory id false ws hs middle) wants_are (subst (λ (given' : List Handle). AreAllPlaced Purges memory id false wants given' middle) (sym hs_are) placed))
-      is_settled same handles path_is runs entry_is
+      is_settled same handles path_is runs
+      (attached ∙ ap (λ (n : ℕ). ids_from n (length (paths_of load))) (omega (arith, old_count, id_is, count_is)))
+      entry_is rows pushed
 
-  pub started : HasBegun old path load id entry (loaded new users'')
-  started = subst (λ (l : Loaded). HasBegun l path load id entry (loaded new users'')) (sym view) (subst (λ (us : List (Option User)). HasBegun (loaded memory users') path load id entry (loaded new us)) (sym pushed) as_begun)
+  pub started : HasBegun old path load all id entry (loaded new last)
+  started = subst (λ (l : Loaded). HasBegun l path load all id entry (loaded new last)) (sym view) as_begun
 
-  pub started_sound : IsSound memory (map (option_map kept) users') → (file : List ℕ) → IsTaken file load → IsSound new (map (option_map kept) users'')
-  started_sound sound file taken = subst (λ (us : List (Option User)). IsSound new (map (option_map kept) us)) (sym pushed) (sound_begun (loaded memory users') (loaded new (users' ++ Some user ∷ [])) path load id entry sound as_begun file taken)
+  pub started_sound : IsSound memory (map (option_map kept) users') → (file : List ℕ) → IsLoadable file load → lost_refusal (map (map head_of) all) load ≡ None → IsSound new (map (option_map kept) last)
+  started_sound sound file loadable none = sound_begun (loaded memory users') (loaded new last) path load all id entry sound as_begun file loadable rows.runtimes none
 
 -- the handles that were given, as the list of them holds them
 pub same_handles : (banks : List ℕ) (user : ℕ) (slots last : Slots) (wants wants' : List Want) (hs given old : List Handle) (len : ℕ) → PutsAll Purges banks user slots wants given last → wants ≡ wants'

@@ -41,9 +41,9 @@ pub record Brings (old : Loaded) (id : ℕ) (head : Head) (h : Handle) (address 
 
 module _ (old : Loaded) (sound : IsSound old.memory old.users) (id : ℕ) (head : Head) (h : Handle) (address : ℕ) (new : Memory) where
   -- under a new handle
-  pub brings_first : (is : IsPlaced Purges old.memory (want_of head) id true 0 h new) → is.puts.address ≡ address → Brings old id head h address new
+  pub brings_first : (is : IsPlaced Purges old.memory (want_of head) id true 0 false h new) → is.puts.address ≡ address → Brings old id head h address new
   brings_first is at = record {
-    block = placed (want_of head) is.puts.address id true 0;
+    block = placed (want_of head) is.puts.address id true 0 false;
     live = puts_here old.memory.banks old.memory.slots new.slots (want_of head) id true 0 h is.puts;
     at = ap (λ (n : ℕ). Some n) at;
     want = refl;
@@ -57,7 +57,7 @@ module _ (old : Loaded) (sound : IsSound old.memory old.users) (id : ℕ) (head 
   }
 
   -- no handle is in its slot
-  pub first_apart : (is : IsPlaced Purges old.memory (want_of head) id true 0 h new) → (p n : ℕ) (g : Head) (k : Handle) → Has old.users p n g k → k.slot ≢ h.slot
+  pub first_apart : (is : IsPlaced Purges old.memory (want_of head) id true 0 false h new) → (p n : ℕ) (g : Head) (k : Handle) → Has old.users p n g k → k.slot ≢ h.slot
   first_apart is p n g k has =
       let of' = sound.each p n g k has in
       let live : IsSome (get old.memory.slots k) = rw of'.live refl in
@@ -70,7 +70,7 @@ module _ (old : Loaded) (sound : IsSound old.memory old.users) (id : ℕ) (head 
     room = is.puts.room
 
     abbrev fresh : Block
-    fresh = placed (want_of head) is.puts.address is.puts.block.user is.puts.block.locked is.puts.block.level
+    fresh = placed (want_of head) is.puts.address is.puts.block.user is.puts.block.locked is.puts.block.level false
 
     live_room : get room h ≡ Some (cond (is_gone old.memory.slots is.puts.makes.count is.puts.block) (record is.puts.block { at = None }) is.puts.block)
     live_room = ap (λ (t : Slots). get t h) is.puts.makes.room_is ∙ get_emptied old.memory.slots is.puts.makes.count h is.puts.block is.puts.was
@@ -159,7 +159,7 @@ module _ (old : Loaded) (sound : IsSound old.memory old.users) (id : ℕ) (head 
 -- a block that was placed anew is there
 pub replaced_there : (old : Memory) (h : Handle) (want : Want) (new : Memory) → IsReplaced Purges old h want new → IsSomeAnd (get new.slots h) (λ block. IsSome block.at)
 replaced_there old h want new is =
-    let fresh : Block = placed want is.puts.address is.puts.block.user is.puts.block.locked is.puts.block.level in
+    let fresh : Block = placed want is.puts.address is.puts.block.user is.puts.block.locked is.puts.block.level false in
     let was = cond (is_gone old.slots is.puts.makes.count is.puts.block) (record is.puts.block { at = None }) is.puts.block in
     let room : get is.puts.room h ≡ Some was = ap (λ (t : Slots). get t h) is.puts.makes.room_is ∙ get_emptied old.slots is.puts.makes.count h is.puts.block is.puts.was in
     let live : get new.slots h ≡ Some fresh = ap (λ (t : Slots). get t h) is.puts.next_is ∙ value_here is.puts.room h was fresh room in

@@ -1,17 +1,17 @@
 -- A segment of a load file that gets a block and is written into it.
-use Rattle.std.proofs.Common.{◌≡◌, ◌≢◌, inl, inr, ℕ, zero, suc, Bool, true, false, ◌==◌, ◌+◌, ◌-◌, ◌<◌, ◌≤◌, List, [], ◌∷◌, length, map, Option, Some, None, IsSome, refl, sym, ap, subst, ◌∙◌, arith}
+use Rattle.std.proofs.Common.{◌≡◌, inl, inr, ℕ, zero, suc, Bool, true, false, ◌==◌, ◌+◌, ◌-◌, ◌<◌, ◌≤◌, List, [], ◌∷◌, length, map, Option, Some, None, IsSome, refl, sym, ap, subst, ◌∙◌, arith}
 use Rattle.std.specs.Prelude.{slice_get, slice_set, unwrap_or, IsSomeAnd}
 use Rattle.std.specs.List.{AllByRecursion}
 use Rattle.std.proofs.lemmas.Option.{same_Some, slice_get_within}
 use Rattle.std.proofs.lemmas.Bool.{cases_eq, cases_lt}
-use Rattle.std.proofs.lemmas.List.{get_or-set_same, get_or-set_other, length-map}
+use Rattle.std.proofs.lemmas.List.{get_or-set_same, get_or-set_other}
 use Rattle.std.proofs.Math.ListN.{get_or-eq_default}
 use Rattle.omf_format.specs.Header.{is_dynamic}
 use Rattle.omf_format.specs.File.{Segment, segment_at}
 use Rattle.omf_io.specs.Counts.{IsFront}
 use Rattle.load_meaning.specs.declared.table.Target.{Target}
 use Rattle.load_meaning.specs.laws.CellLaws.{loadable_has}
-use Rattle.loader_machine.specs.Taken.{IsTaken}
+use Rattle.load_meaning.specs.Loadable.{IsLoadable}
 use Rattle.load_meaning.specs.LoadTable.{targets_of}
 use Rattle.omf_cells.specs.Places.{address_in}
 use Rattle.iigs_meaning.specs.declared.handles.Handle.{Handle}
@@ -21,12 +21,12 @@ use Rattle.iigs_meaning.specs.Fits.{Slots}
 use Rattle.iigs_meaning.specs.Memory.{Memory, bytes_at}
 use Rattle.loader_machine.specs.declared.seen.Head.{Head}
 use Rattle.loader_machine.specs.Heads.{head_of, at_number}
-use Rattle.loader_machine.specs.State.{no_pokes, first_id, user_of, with_user}
+use Rattle.loader_machine.specs.State.{no_pokes, first_id, user_of, with_user, led_by}
 use Rattle.loader_machine.specs.Presences.{handle_at, presence, there_at, lies_in, lies_at}
 use Rattle.loader_machine.specs.Stands as machine
 use Rattle.loader_machine.specs.Stands.{Setting, nowhere, target_with, setting, stands}
 use Rattle.loader_machine.specs.laws.StandsLaws.{AreAlike, stands_alike}
-use Rattle.loader_agrees.specs.Agrees.{Kept, Loaded, Has, IsSound}
+use Rattle.loader_agrees.specs.Agrees.{Kept, Loaded, kept_outlines, Has, IsSound}
 use Rattle.loader_agrees.specs.laws.BegunSound.{want_size}
 use Rattle.loader_agrees.specs.laws.Keeping.{of_kept}
 use Rattle.loader_agrees.specs.laws.Lists.{set_map}
@@ -40,7 +40,7 @@ use Rattle.sys_loader.specs.Activating.{CanLoad, IsBrought, HasCome, with_handle
 use Rattle.sys_loader.proofs.Beginning.{want_some}
 use Rattle.sys_loader.proofs.Came.{IsNew, is_new}
 use Rattle.sys_loader.proofs.Settling.{addresses, address_is}
-use Rattle.sys_loader.proofs.Written.{heads_of, handles_of}
+use Rattle.sys_loader.proofs.Written.{handles_of}
 
 none_active : (ts : List Target) → AllByRecursion (λ (t : Target). ◌≡◌ {A = Option ℕ} None None) ts
 none_active [] = tt
@@ -110,7 +110,7 @@ module _ (old : Loaded) (id number : ℕ) (sound : IsSound old.memory old.users)
     abbrev bare : Setting
     bare = record { id = id; place = machine.place_in placed.slots (with_handle can.kept number h).handles; target = λ file segment. None }
 
-    module _ (file : List ℕ) (load : List Segment) (taken : IsTaken file load) (heads : map head_of load ≡ can.kept.heads) where
+    module _ (file : List ℕ) (load : List Segment) (taken : IsLoadable file load) (heads : map head_of load ≡ can.kept.heads) where
       bare_setting : IsSetting load id (slice_set (addresses placed.slots items) (number - 1) (Some address)) bare
       bare_setting = record { id = refl; place = place_is; targets = λ n s is table. none_active (targets_of s) }
 
@@ -120,7 +120,7 @@ module _ (old : Loaded) (id number : ℕ) (sound : IsSound old.memory old.users)
       pub begins : (content : List ℕ) → IsFilled load number id (slice_set (addresses placed.slots items) (number - 1) (Some address)) content → (s : Segment) → segment_at load number ≡ Some s
           → IsFront (stands (setting id placed.slots (with_handle can.kept number h).handles) no_pokes s) content
       begins content filled s is =
-          let its = loadable_has file load taken.loadable number s is in
+          let its = loadable_has file load taken number s is in
           let alike : AreAlike load number s bare (setting id placed.slots (with_handle can.kept number h).handles) = record {
             id = refl;
             own = refl;
@@ -140,35 +140,43 @@ module _ (old : Loaded) (id number : ℕ) (sound : IsSound old.memory old.users)
       go None locked e = absurd cc
       go (Some a) locked e = refl
 
-  pub roomy_now : (content : List ℕ) → length content ≡ length (bytes_at placed h.slot) → AreRoomy (with_bytes placed h.slot content) can.kept.heads can.kept.handles
-  roomy_now content same = record { each = each; once = once }
+  -- each segment of a user that is there has room in its block, where this content is in the new one
+  pub roomy_now : (content : List ℕ) → length content ≡ length (bytes_at placed h.slot) → (owner : ℕ) (lead : Kept) → user_of old.users owner ≡ Some lead → AreRoomy (with_bytes placed h.slot content) lead.heads lead.handles
+  roomy_now content same owner lead lead_made = record { each = each; once = once }
     where
-      here : (n : ℕ) (g : Head) (k : Handle) → at_number can.kept.heads n ≡ Some g → handle_at can.kept.handles n ≡ Some k → n ≡ number → g.length ≤ length (bytes_at (with_bytes placed h.slot content) k.slot)
-      here n g k found has eq =
-          let its : k ≡ h = new_one.own k (sym can.handle' ∙ ap (handle_at can.kept.handles) (sym eq) ∙ has) in
-          let g_is : g ≡ head = same_Some g head (sym found ∙ ap (at_number can.kept.heads) eq ∙ can.head') in
+      lead_users : (slice_get old.users (owner - first_id) ≡ Some (Some lead)) × (first_id + (owner - first_id) ≡ owner)
+      lead_users = made_at old.users owner lead lead_made
+
+      here : (n : ℕ) (g : Head) (k : Handle) → at_number lead.heads n ≡ Some g → handle_at lead.handles n ≡ Some k → owner ≡ id → n ≡ number → g.length ≤ length (bytes_at (with_bytes placed h.slot content) k.slot)
+      here n g k found has owns eq =
+          let user : lead ≡ can.kept = same_Some lead can.kept (sym lead_made ∙ ap (user_of old.users) owns ∙ can.made) in
+          let its : k ≡ h = new_one.own k (sym can.handle' ∙ ap (handle_at can.kept.handles) (sym eq) ∙ ap (λ (x : Kept). handle_at x.handles n) (sym user) ∙ has) in
+          let g_is : g ≡ head = same_Some g head (sym found ∙ ap (λ (x : Kept). at_number x.heads n) user ∙ ap (at_number can.kept.heads) eq ∙ can.head') in
           let bytes : bytes_at (with_bytes placed h.slot content) k.slot ≡ content =
           ap (λ (x : Handle). bytes_at (with_bytes placed h.slot content) x.slot) its ∙ get_or-set_same placed.bytes h.slot content [] slot_inside in
           omega (arith, ap length bytes, same, block_fits, ap (λ (x : Head). x.length) g_is)
 
-      apart : (n : ℕ) (g : Head) (k : Handle) → at_number can.kept.heads n ≡ Some g → handle_at can.kept.handles n ≡ Some k → n ≢ number → IsSome (there_at (presence placed.slots (Some k)))
+      apart : (n : ℕ) (g : Head) (k : Handle) → at_number lead.heads n ≡ Some g → handle_at lead.handles n ≡ Some k → ((owner ≡ id) → (n ≡ number) → ⊥) → IsSome (there_at (presence placed.slots (Some k)))
           → g.length ≤ length (bytes_at (with_bytes placed h.slot content) k.slot)
-      apart n g k found has ne there =
-          let it : Has old.users (id - first_id) n g k = record { kept = can.kept; made = its_users.0; head' = found; handle = has } in
-          let other = new_one.apart (id - first_id) n g k it (λ p q. ne q) in
-          let of' = of_kept old.memory placed (first_id + (id - first_id)) g k (sound.each (id - first_id) n g k it) (new_one.brings.keeps (id - first_id) n g k it other) in
+      apart n g k found has differ there =
+          let it : Has old.users (owner - first_id) n g k = record { kept = lead; made = lead_users.0; head' = found; handle = has } in
+          let other = new_one.apart (owner - first_id) n g k it (λ p q. differ (sym lead_users.1 ∙ p) q) in
+          let of' = of_kept old.memory placed (first_id + (owner - first_id)) g k (sound.each (owner - first_id) n g k it) (new_one.brings.keeps (owner - first_id) n g k it other) in
           let room = of'.room (at_block placed.slots k of'.block of'.live there) in
           omega (arith, room, ap length (get_or-set_other placed.bytes h.slot k.slot content [] other))
 
-      each : (n : ℕ) (g : Head) (k : Handle) → at_number can.kept.heads n ≡ Some g → handle_at can.kept.handles n ≡ Some k → IsSome (there_at (presence placed.slots (Some k)))
+      each : (n : ℕ) (g : Head) (k : Handle) → at_number lead.heads n ≡ Some g → handle_at lead.handles n ≡ Some k → IsSome (there_at (presence placed.slots (Some k)))
           → g.length ≤ length (bytes_at (with_bytes placed h.slot content) k.slot)
-      each n g k found has there = elim (cases_eq n number) [ inl eq ↦ here n g k found has eq | inr ne ↦ apart n g k found has ne there ]
+      each n g k found has there = elim (cases_eq owner id) [
+        | inl owns ↦ elim (cases_eq n number) [ inl eq ↦ here n g k found has owns eq | inr ne ↦ apart n g k found has (λ o e. ne e) there ]
+        | inr other ↦ apart n g k found has (λ o e. other o) there
+      ]
 
-      once : (m n : ℕ) (j k : Handle) → handle_at can.kept.handles m ≡ Some j → handle_at can.kept.handles n ≡ Some k → j.slot ≡ k.slot → m ≡ n
+      once : (m n : ℕ) (j k : Handle) → handle_at lead.handles m ≡ Some j → handle_at lead.handles n ≡ Some k → j.slot ≡ k.slot → m ≡ n
       once m n j k found found' same' =
-          let one' = has_any old sound (id - first_id) can.kept its_users.0 m j found in
-          let two = has_any old sound (id - first_id) can.kept its_users.0 n k found' in
-          (sound.once (id - first_id) (id - first_id) m n one'.0 two.0 j k one'.1 two.1 same').1
+          let one' = has_any old sound (owner - first_id) lead lead_users.0 m j found in
+          let two = has_any old sound (owner - first_id) lead lead_users.0 n k found' in
+          (sound.once (owner - first_id) (owner - first_id) m n one'.0 two.0 j k one'.1 two.1 same').1
 
   -- ---- as it is done
 
@@ -184,16 +192,17 @@ module _ (old : Loaded) (id number : ℕ) (sound : IsSound old.memory old.users)
         let it = headed load number head (ap (λ (hs : List Head). at_number hs number) (heads ∙ ap (λ (x : Kept). x.heads) (sym same_kept)) ∙ can.head') in
         rw it.1 (sym it.2)
 
-    pub roomy_filled : (load : List Segment) (places : List (Option ℕ)) (filled : Memory) → IsWritten load number id places placed h filled → AreRoomy filled k.heads k.handles
-    roomy_filled load places filled written =
-        subst (λ (m : Memory). AreRoomy m k.heads k.handles) (sym written.new_is)
-        (subst (λ (x : Kept). AreRoomy (with_bytes placed h.slot written.content) x.heads x.handles) same_kept (roomy_now written.content written.same))
+    pub roomy_filled : (load : List Segment) (places : List (Option ℕ)) (filled : Memory) → IsWritten load number id places placed h filled → (owner : ℕ) (lead : Kept) → user_of old.users owner ≡ Some lead
+        → AreRoomy filled lead.heads lead.handles
+    roomy_filled load places filled written owner lead lead_made =
+        subst (λ (m : Memory). AreRoomy m lead.heads lead.handles) (sym written.new_is) (roomy_now written.content written.same owner lead lead_made)
 
-    come_at : (last : Loaded) (items : List users.Segment) (file : List ℕ) (load : List Segment) (places : List (Option ℕ)) (filled new : Memory) (count : ℕ) → handles_of items ≡ k.handles → IsTaken file load
-        → map head_of load ≡ k.heads → count ≡ length k.heads → places ≡ slice_set (addresses placed.slots items) (number - 1) (Some address) → IsWritten load number id places placed h filled
-        → AreRenewed k.heads k.handles (Some (1, number)) (Some address) filled new count → last.memory ≡ new → last.users ≡ with_user old.users id (Some (with_handle k number h))
+    come_at : (last : Loaded) (items : List users.Segment) (file : List ℕ) (load : List Segment) (places : List (Option ℕ)) (filled new : Memory) (count : ℕ) (lead : Kept)
+        → user_of old.users (led_by (kept_outlines old.users) id).0 ≡ Some lead → handles_of items ≡ k.handles → IsLoadable file load
+        → map head_of load ≡ k.heads → count ≡ length lead.heads → places ≡ slice_set (addresses placed.slots items) (number - 1) (Some address) → IsWritten load number id places placed h filled
+        → AreRenewed lead.heads lead.handles (Some ((led_by (kept_outlines old.users) id).1, number)) (Some address) filled new count → last.memory ≡ new → last.users ≡ with_user old.users id (Some (with_handle k number h))
         → HasCome old id number k head handle load address last
-    come_at last items file load places filled new count handles taken heads long at_places written renewed memory users' = record {
+    come_at last items file load places filled new count lead leads handles taken heads long at_places written renewed memory users' = record {
       h = h;
       placed = placed;
       brought = brought;
@@ -203,9 +212,11 @@ module _ (old : Loaded) (id number : ℕ) (sound : IsSound old.memory old.users)
           subst (λ (x : Kept). IsFront (stands (setting id placed.slots (with_handle x number h).handles) no_pokes s) written.content) same_kept
           (begins items (handles ∙ ap (λ (x : Kept). x.handles) (sym same_kept)) file load taken (heads ∙ ap (λ (x : Kept). x.heads) (sym same_kept)) written.content
           (subst (λ (ps : List (Option ℕ)). IsFilled load number id ps written.content) at_places written.filled) s is);
-      renewed = subst (λ (m : Memory). AreRenewed k.heads k.handles (Some (1, number)) (Some address) (with_bytes placed h.slot written.content) m (length k.heads)) (sym memory)
-          (subst (AreRenewed k.heads k.handles (Some (1, number)) (Some address) (with_bytes placed h.slot written.content) new) long
-          (subst (λ (m : Memory). AreRenewed k.heads k.handles (Some (1, number)) (Some address) m new count) written.new_is renewed));
+      lead = lead;
+      leads = leads;
+      renewed = subst (λ (m : Memory). AreRenewed lead.heads lead.handles (Some ((led_by (kept_outlines old.users) id).1, number)) (Some address) (with_bytes placed h.slot written.content) m (length lead.heads)) (sym memory)
+          (subst (AreRenewed lead.heads lead.handles (Some ((led_by (kept_outlines old.users) id).1, number)) (Some address) (with_bytes placed h.slot written.content) new) long
+          (subst (λ (m : Memory). AreRenewed lead.heads lead.handles (Some ((led_by (kept_outlines old.users) id).1, number)) (Some address) m new count) written.new_is renewed));
       users = users';
     }
 
@@ -216,11 +227,11 @@ module _ (old : Loaded) (id number : ℕ) (sound : IsSound old.memory old.users)
   brought_there : IsBrought old.memory id head handle h address placed
   brought_there = subst (λ (a : ℕ). IsBrought old.memory id head handle h a placed) (address_of old id number sound head handle can h brought.0 placed brought.1 address looked) brought.1
 
-  pub has_come : (k : Kept) → user_of old.users id ≡ Some k → (last : Loaded) (items : List users.Segment) (file : List ℕ) (load : List Segment) (others places : List (Option ℕ)) (m n : ℕ) (filled new : Memory)
-      → heads_of items ≡ k.heads → handles_of items ≡ k.handles → IsTaken file load → map head_of load ≡ k.heads → others ≡ addresses placed.slots items → m ≡ number → places ≡ slice_set others (m - 1) (Some address)
-      → n ≡ number → IsWritten load n id places placed h filled → AreRenewed k.heads k.handles (Some (1, number)) (Some address) filled new (length items) → last.memory ≡ new
+  pub has_come : (k : Kept) → user_of old.users id ≡ Some k → (last : Loaded) (items : List users.Segment) (file : List ℕ) (load : List Segment) (others places : List (Option ℕ)) (m n : ℕ) (filled new : Memory) (count : ℕ) (lead : Kept)
+      → user_of old.users (led_by (kept_outlines old.users) id).0 ≡ Some lead → count ≡ length lead.heads → handles_of items ≡ k.handles → IsLoadable file load → map head_of load ≡ k.heads → others ≡ addresses placed.slots items → m ≡ number → places ≡ slice_set others (m - 1) (Some address)
+      → n ≡ number → IsWritten load n id places placed h filled → AreRenewed lead.heads lead.handles (Some ((led_by (kept_outlines old.users) id).1, number)) (Some address) filled new count → last.memory ≡ new
       → last.users ≡ with_user old.users id (Some (with_handle k number h)) → HasCome old id number k head handle load address last
-  has_come k made last items file load others places m n filled new heads handles taken same others_so m_so placed_so n_so written renewed memory users' =
-      come_at old id number sound head handle can h address placed brought_there k made last items file load places filled new (length items) handles taken same (sym (length-map items (λ s. s.head)) ∙ ap length heads)
+  has_come k made last items file load others places m n filled new count lead leads long handles taken same others_so m_so placed_so n_so written renewed memory users' =
+      come_at old id number sound head handle can h address placed brought_there k made last items file load places filled new count lead leads handles taken same long
       (placed_so ∙ ap (λ (x : ℕ). slice_set others (x - 1) (Some address)) m_so ∙ ap (λ (ps : List (Option ℕ)). slice_set ps (number - 1) (Some address)) others_so)
       (subst (λ (x : ℕ). IsWritten load x id places placed h filled) n_so written) renewed memory users'

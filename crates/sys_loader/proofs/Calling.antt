@@ -21,7 +21,7 @@ use Rattle.loader_machine.specs.declared.faults.LoaderFault.TheVariants.{CannotR
 use Rattle.loader_machine.specs.declared.seen.Head.{Head}
 use Rattle.loader_machine.specs.declared.seen.Life.TheVariants.{Running}
 use Rattle.loader_machine.specs.Heads.{head_of, at_number, is_table}
-use Rattle.loader_machine.specs.State.{User, Machine, Seen, handles_of, held_at}
+use Rattle.loader_machine.specs.State.{User, Machine, Seen, handles_of, held_at, outlines, named_by}
 use Rattle.loader_machine.specs.Presences.{presence_at, is_active}
 use Rattle.loader_machine.specs.Stands.{place_in, stands}
 use Rattle.loader_machine.specs.Found.{HoldsLoad}
@@ -154,16 +154,16 @@ module _ (held : FileMap) (loader : Loaded) (state : Machine) (agrees : Agrees h
 
   -- ---- what comes of them
 
-  answers_enter : (outcome : Outcome) (result : Result answers.Entered LoaderFault) (next : Machine)
-      → Answers state t.segment outcome (λ address. Entered id t.segment t.offset (address + t.offset)) (jsl_reply result) next → EntersTarget id t result
-  answers_enter OutOfSlots (Ok place) next is = let no = is.0 in absurd cc
-  answers_enter OutOfSlots (Err why) next is = let e = is.0 in inr (inl cc)
-  answers_enter OutOfRoom (Ok place) next is = let no = is.0 in absurd cc
-  answers_enter OutOfRoom (Err why) next is = let e = is.0 in inr (inr (inl cc))
-  answers_enter (Made address last) (Ok place) next is = let e = is.0 in (cc, cc, cc)
-  answers_enter (Made address last) (Err why) next is = let no = is.0 in absurd cc
+  answers_enter : (other : ℕ) → named_by (outlines state.users) id t.file ≡ Some other → (outcome : Outcome) (result : Result answers.Entered LoaderFault) (next : Machine)
+      → Answers state t.segment outcome (λ address. Entered other t.segment t.offset (address + t.offset)) (jsl_reply result) next → EntersTarget state id t result
+  answers_enter other named OutOfSlots (Ok place) next is = let no = is.0 in absurd cc
+  answers_enter other named OutOfSlots (Err why) next is = let e = is.0 in inr (inl cc)
+  answers_enter other named OutOfRoom (Ok place) next is = let no = is.0 in absurd cc
+  answers_enter other named OutOfRoom (Err why) next is = let e = is.0 in inr (inr (inl cc))
+  answers_enter other named (Made address last) (Ok place) next is = let e = is.0 in let user : place.user ≡ other = cc in (named ∙ ap (λ (n : ℕ). Some n) (sym user), cc, cc)
+  answers_enter other named (Made address last) (Err why) next is = let no = is.0 in absurd cc
 
-  enters : (result : Result answers.Entered LoaderFault) (next : Machine) (address : ℕ) → Enters Purges held state address (In id call.table (entry_place call.k)) (jsl_reply result) next → EntersTarget id t result
+  enters : (result : Result answers.Entered LoaderFault) (next : Machine) (address : ℕ) → Enters Purges held state address (In id call.table (entry_place call.k)) (jsl_reply result) next → EntersTarget state id t result
   enters result next address e =
       let other = e.0 in
       let s = e.1 in
@@ -175,12 +175,12 @@ module _ (held : FileMap) (loader : Loaded) (state : Machine) (agrees : Agrees h
       let entry : EntersEntry Purges held state id (target_at_code (targets_of has.t) 0 (entry_place call.k)) (jsl_reply result) next =
       yes (is_table (head_of has.t)) _ _ call.is_table (subst (λ (x : Segment). EntersSegment Purges held state address id call.table (entry_place call.k) x (jsl_reply result) next) same e.3) in
       let made = subst (λ (o : Option Target). EntersEntry Purges held state id o (jsl_reply result) next) found entry in
-      answers_enter made.outcome result next made.answers
+      answers_enter made.0 made.1 made.2.outcome result next made.2.answers
     where
       yes : (b : Bool) (P Q : Type 0) → b ≡ true → Either b P Q → P
       yes b P Q is e = subst (λ (x : Bool). Either x P Q) is e
 
-  follows : (result : Result answers.Entered LoaderFault) (next : Machine) → StepsJsl Purges held state id number at (jsl_reply result) next → EntersTarget id t result
+  follows : (result : Result answers.Entered LoaderFault) (next : Machine) → StepsJsl Purges held state id number at (jsl_reply result) next → EntersTarget state id t result
   follows result next steps =
       let other : List ℕ = take 4 (drop at steps.bytes) in
       let shown : Steps Purges held state (Bytes id number at 4) (Shown other) state = record {
@@ -195,10 +195,10 @@ module _ (held : FileMap) (loader : Loaded) (state : Machine) (agrees : Agrees h
       (steps_once_there held loader state agrees sound apart (Where (address_of four)) (place_reply done.0) (Lies id call.table (entry_place call.k)) state state (done.0, located, refl, refl) lies).0 in
       enters result next (address_of other) (subst (λ (p : Place). Enters Purges held state (address_of other) p (jsl_reply result) next) place done.2)
 
-  steps_enter : (result : Result answers.Entered LoaderFault) (next : Machine) → Steps Purges held state (Jsl id number at) (jsl_reply result) next → EntersTarget id t result
+  steps_enter : (result : Result answers.Entered LoaderFault) (next : Machine) → Steps Purges held state (Jsl id number at) (jsl_reply result) next → EntersTarget state id t result
   steps_enter result next steps = go (bytes_refusal state.slots steps.seen number at 4) refl
     where
-      go : (r : Refuse) → bytes_refusal state.slots steps.seen number at 4 ≡ r → EntersTarget id t result
+      go : (r : Refuse) → bytes_refusal state.slots steps.seen number at 4 ≡ r → EntersTarget state id t result
       go None is = follows result next (undecided (bytes_refusal state.slots steps.seen number at 4) state (jsl_reply result) next _ is steps.is).2
       go (Some why) is =
           let refuses : Steps Purges held state (Bytes id number at 4) (Refused why) state = record { seen = steps.seen; is_seen = steps.is_seen; is = rw is (refl, refl) } in
@@ -210,7 +210,7 @@ module _ (held : FileMap) (loader : Loaded) (state : Machine) (agrees : Agrees h
   same_refused (Err other) why e = cc
 
   -- following a JSL to an entry enters the entry's target, or is refused for want of the file or of room
-  pub calls_enter : (result : Result answers.Entered LoaderFault) (new : Loaded) (before now : ℕ) → Meets Purges held state (Jsl id number at) (jsl_reply result) new before now → EntersTarget id t result
+  pub calls_enter : (result : Result answers.Entered LoaderFault) (new : Loaded) (before now : ℕ) → Meets Purges held state (Jsl id number at) (jsl_reply result) new before now → EntersTarget state id t result
   calls_enter result new before now (inl met) = steps_enter result met.0.0 met.0.1
-  calls_enter result new before now (inr (inl unread)) = subst (λ (r : Result answers.Entered LoaderFault). EntersTarget id t r) (sym (same_refused result CannotRead unread.0)) (inl refl)
-  calls_enter result new before now (inr (inr short)) = subst (λ (r : Result answers.Entered LoaderFault). EntersTarget id t r) (sym (same_refused result Memory short.0)) (inr (inr (inr refl)))
+  calls_enter result new before now (inr (inl unread)) = subst (λ (r : Result answers.Entered LoaderFault). EntersTarget state id t r) (sym (same_refused result CannotRead unread.0)) (inl refl)
+  calls_enter result new before now (inr (inr short)) = subst (λ (r : Result answers.Entered LoaderFault). EntersTarget state id t r) (sym (same_refused result Memory short.0)) (inr (inr (inr refl)))

@@ -13,17 +13,18 @@ use Rattle.loader_machine.specs.declared.seen.Head.{Head}
 use Rattle.loader_machine.specs.declared.seen.Presence.{Presence}
 use Rattle.loader_machine.specs.declared.seen.Presence.TheVariants.{Absent, Purged, Idle, Active}
 use Rattle.loader_machine.specs.Heads.{head_of, at_number, is_table}
-use Rattle.loader_machine.specs.State.{Machine, fresh, first_id}
+use Rattle.loader_machine.specs.State.{Machine, fresh, first_id, led_by}
 use Rattle.loader_machine.specs.Presences.{handle_at, presence, there_at}
-use Rattle.loader_machine.specs.Taken.{IsTaken}
+use Rattle.load_meaning.specs.Loadable.{IsLoadable}
 use Rattle.loader_machine.specs.Steps.{with_both, with_segment}
 use Rattle.loader_machine.specs.Needs.{is_read}
-use Rattle.loader_agrees.specs.Agrees.{Kept, Loaded, Agrees, Has, IsSound}
+use Rattle.loader_agrees.specs.Agrees.{Kept, Loaded, kept_outlines, Agrees, Has, IsSound}
 use Rattle.loader_agrees.specs.laws.Begun.{decide}
 use Rattle.loader_agrees.specs.laws.Reads.{headed}
 use Rattle.loader_agrees.specs.laws.Seeing.{made_at, kept_is}
 use Rattle.sys_loader.specs.Activating.{CanLoad, IsBrought, HasCome}
 use Rattle.sys_loader.proofs.Bringing.{Brings, brings_first, first_apart, brings_anew}
+use Rattle.loader_agrees.specs.laws.Leading.{IsLed, is_led}
 use Rattle.sys_loader.proofs.Coming.{come_sound, come_agrees}
 
 not_there : (p : Presence) → is_read p ≡ true → there_at p ≡ None
@@ -62,13 +63,13 @@ module _ (old : Loaded) (id number : ℕ) (sound : IsSound old.memory old.users)
       }
 
 -- a dynamic segment of a load file is no table
-pub dynamic_plain : (file : List ℕ) (segments : List Segment) → IsTaken file segments → (number : ℕ) (head : Head) → at_number (map head_of segments) number ≡ Some head → is_dynamic head.kind ≡ true → is_table head ≡ false
+pub dynamic_plain : (file : List ℕ) (segments : List Segment) → IsLoadable file segments → (number : ℕ) (head : Head) → at_number (map head_of segments) number ≡ Some head → is_dynamic head.kind ≡ true → is_table head ≡ false
 dynamic_plain file segments taken number head is dynamic =
     let s = headed segments number head is in
     elim (decide (is_table head)) [
       | inr other ↦ other
       | inl table ↦
-          (let t = (loadable_has file segments taken.loadable number s.0 s.1).table (ap is_table s.2 ∙ table) in
+          (let t = (loadable_has file segments taken number s.0 s.1).table (ap is_table s.2 ∙ table) in
           let clash : false ≡ true = sym t.static ∙ ap (λ (h : Head). is_dynamic h.kind) s.2 ∙ dynamic in absurd cc)
     ]
 
@@ -80,14 +81,17 @@ module _ (old new : Loaded) (id number : ℕ) (head : Head) (handle : Option Han
   new_one : IsNew old id number head handle did.h address did.placed
   new_one = is_new old id number sound can.kept head its_users.0 its_users.1 can.head' handle did.h address did.placed can.handle' did.brought
 
+  led : IsLed old.users id can.kept (led_by (kept_outlines old.users) id).0 (led_by (kept_outlines old.users) id).1
+  led = is_led old.users id can.kept sound.attached can.made
+
   pub came_sound : IsSound new.memory new.users
   came_sound =
-      come_sound old new id number can.kept head handle did.h address did.placed did.content sound can.made can.head' can.handle' can.dynamic plain (not_there (presence old.memory.slots handle) gone)
+      come_sound old new id number (led_by (kept_outlines old.users) id).0 (led_by (kept_outlines old.users) id).1 can.kept did.lead head handle did.h address did.placed did.content sound led.leading did.leads led.alone can.made can.head' can.handle' can.dynamic plain (not_there (presence old.memory.slots handle) gone)
       new_one.brings new_one.apart new_one.own did.same did.renewed did.users can.runs
 
   module _ (held : FileMap) (state : Machine) (agrees : Agrees held old state) (same : (kept_is held old state agrees id can.kept can.made).does_agree.segments ≡ segments) where
     pub came_agrees : Agrees held new (with_both state id new.memory.slots (Some (with_segment (kept_is held old state agrees id can.kept can.made).user number (fresh (Some did.h)))))
     came_agrees =
-        come_agrees old new id number can.kept head handle did.h address did.placed did.content sound can.made can.head' can.handle' can.dynamic plain (not_there (presence old.memory.slots handle) gone)
+        come_agrees old new id number (led_by (kept_outlines old.users) id).0 (led_by (kept_outlines old.users) id).1 can.kept did.lead head handle did.h address did.placed did.content sound led.leading did.leads led.alone can.made can.head' can.handle' can.dynamic plain (not_there (presence old.memory.slots handle) gone)
         new_one.brings new_one.apart new_one.own did.same did.renewed did.users held state agrees can.fits
         (λ s found. did.begins s (subst (λ (ss : List Segment). segment_at ss number ≡ Some s) same found))

@@ -97,22 +97,33 @@ module _ (f : Block → Block) (again : (b : Block) → f (f b) ≡ f b) where
       go None none = ap (λ (t : Slots). get t k) (changed_is slots h None none)
       go (Some c) found = ap (λ (t : Slots). get t k) (changed_is slots h (Some c) found) ∙ slot_apart slots h k (record { generation = h.generation; content = Used (f c) }) (apart zero h refl)
 
-  -- a block in such slots was there before, of the same user
-  pub all_in : (user : (b : Block) → (f b).user ≡ b.user) (slots : Slots) (handles : List (Option Handle)) (n : ℕ) (b : Block) → block_in (slot_at (changed_all f slots handles) n) ≡ Some b
-      → (was : Block) × (block_in (slot_at slots n) ≡ Some was) × (was.user ≡ b.user)
-  all_in user slots [] n b is = (b, is, refl)
-  all_in user slots (None ∷ handles) n b is = all_in user slots handles n b is
-  all_in user slots (Some h ∷ handles) n b is =
-      let was = all_in user (changed f slots h) handles n b is in
+  -- what stays of each block stays of those in such slots
+  pub all_kept : {X : Type 0} (of : Block → X) (same : (b : Block) → of (f b) ≡ of b) (slots : Slots) (handles : List (Option Handle)) (n : ℕ) (b : Block)
+      → block_in (slot_at (changed_all f slots handles) n) ≡ Some b → (was : Block) × (block_in (slot_at slots n) ≡ Some was) × (of was ≡ of b)
+  all_kept of same slots [] n b is = (b, is, refl)
+  all_kept of same slots (None ∷ handles) n b is = all_kept of same slots handles n b is
+  all_kept {X} of same slots (Some h ∷ handles) n b is =
+      let was = all_kept of same (changed f slots h) handles n b is in
       let more = go was.0 was.1 (get slots h) refl in
       (more.0, more.1, more.2 ∙ was.2)
     where
-      go : (c : Block) → block_in (slot_at (changed f slots h) n) ≡ Some c → (o : Option Block) → get slots h ≡ o → (was : Block) × (block_in (slot_at slots n) ≡ Some was) × (was.user ≡ c.user)
+      go : (c : Block) → block_in (slot_at (changed f slots h) n) ≡ Some c → (o : Option Block) → get slots h ≡ o → (was : Block) × (block_in (slot_at slots n) ≡ Some was) × (of was ≡ of c)
       go c found None none = (c, sym (ap (λ (t : Slots). block_in (slot_at t n)) (changed_is slots h None none)) ∙ found, refl)
       go c found (Some d) live = elim (value_in slots h d (f d) live n c (sym (ap (λ (t : Slots). block_in (slot_at t n)) (changed_is slots h (Some d) live)) ∙ found)) [
-        | inl new ↦ (d, ap (λ (m : ℕ). block_in (slot_at slots m)) new.0 ∙ live_block slots h d live, sym (ap (λ (x : Block). x.user) new.1 ∙ user d))
-        | inr same ↦ (c, same, refl)
+        | inl new ↦ (d, ap (λ (m : ℕ). block_in (slot_at slots m)) new.0 ∙ live_block slots h d live, sym (ap of new.1 ∙ same d))
+        | inr kept ↦ (c, kept, refl)
       ]
+
+  -- a block in such slots was there before, of the same user
+  pub all_in : (user : (b : Block) → (f b).user ≡ b.user) (slots : Slots) (handles : List (Option Handle)) (n : ℕ) (b : Block) → block_in (slot_at (changed_all f slots handles) n) ≡ Some b
+      → (was : Block) × (block_in (slot_at slots n) ≡ Some was) × (was.user ≡ b.user)
+  all_in user slots handles n b is = all_kept (λ (x : Block). x.user) user slots handles n b is
+
+  -- two lists of handles, one behind the other
+  pub all_join : (slots : Slots) (xs ys : List (Option Handle)) → changed_all f slots (xs ++ ys) ≡ changed_all f (changed_all f slots xs) ys
+  all_join slots [] ys = refl
+  all_join slots (None ∷ xs) ys = all_join slots xs ys
+  all_join slots (Some h ∷ xs) ys = all_join (changed f slots h) xs ys
 
   -- one handle more
   pub all_more : (slots : Slots) (handles : List (Option Handle)) (h : Handle) → changed_all f slots (handles ++ Some h ∷ []) ≡ changed f (changed_all f slots handles) h

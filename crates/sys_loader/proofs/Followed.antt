@@ -1,8 +1,6 @@
 -- A JSL that is followed is the machine's step.
-use Rattle.std.proofs.Common.{◌≡◌, ◌≢◌, inl, inr, ℕ, zero, suc, Bool, true, false, ◌+◌, ◌-◌, ◌%◌, ◌^◌, ◌<◌, List, [], ◌∷◌, length, map, take, drop, Option, Some, None, Result, Ok, Err, refl, sym, ap, subst, ◌∙◌, arith}
+use Rattle.std.proofs.Common.{◌≡◌, ◌≢◌, inl, inr, ℕ, Bool, true, false, ◌==◌, ◌+◌, ◌-◌, ◌%◌, ◌^◌, ◌<◌, ◌≤◌, List, [], ◌∷◌, length, map, take, drop, Option, Some, None, Result, Ok, Err, refl, sym, ap, subst, ◌∙◌, arith}
 use Rattle.std.specs.Prelude.{slice_get}
-use Rattle.std.specs.Option.{option_map}
-use Rattle.std.specs.List.{AllByRecursion}
 use Rattle.std.proofs.lemmas.Option.{same_Some}
 use Rattle.omf_format.specs.File.{Segment, segment_at}
 use Rattle.omf_io.specs.Counts.{IsFront}
@@ -12,7 +10,7 @@ use Rattle.load_meaning.specs.Table.{entry_place, table_bytes}
 use Rattle.load_meaning.specs.LoadTable as load
 use Rattle.load_meaning.specs.LoadTable.{entry_count, target_at, targets_of}
 use Rattle.load_meaning.specs.laws.CellLaws.{loadable_has}
-use Rattle.load_meaning.specs.Loadable.{IsOwnTarget}
+use Rattle.load_meaning.specs.Loadable.{IsTarget}
 use Rattle.iigs_meaning.specs.declared.handles.Handle.{Handle}
 use Rattle.iigs_meaning.specs.declared.wants.Want.{Want}
 use Rattle.iigs_meaning.specs.declared.wants.Block.{Block}
@@ -23,17 +21,16 @@ use Rattle.iigs_meaning.specs.Memory.{bytes_at}
 use Rattle.loader_machine.specs.declared.faults.LoaderFault.{LoaderFault}
 use Rattle.loader_machine.specs.declared.seen.Head.{Head}
 use Rattle.loader_machine.specs.Heads.{head_of, at_number, is_table}
-use Rattle.loader_machine.specs.State.{Machine, first_id, handles_of, held_at}
+use Rattle.loader_machine.specs.State.{Machine, Outline, outlines, first_id, user_of, named_by, handles_of, held_at}
 use Rattle.loader_machine.specs.declared.seen.Presence.{Presence}
 use Rattle.loader_machine.specs.declared.seen.Presence.TheVariants.{Absent, Purged, Idle, Active}
 use Rattle.loader_machine.specs.Presences.{presence, presence_at, there_at, lies_in, lies_at}
-use Rattle.loader_machine.specs.Stands.{setting_with, entry_for, stands}
+use Rattle.loader_machine.specs.Stands.{Setting, setting_with, entry_for, stands}
 use Rattle.loader_machine.specs.Refusals.{Refuse, bytes_refusal, load_segment_refusal}
 use Rattle.loader_machine.specs.Steps.{Sees, StandsIn, IsAt, Place, Nowhere, In, IsLocated, Decides, Either, no_jsl, address_of, target_at_code, Enters, EntersEntry, MakesActive, StepsJsl}
 use Rattle.loader_machine.specs.Needs.{Needs, Reaches, is_read, path_if}
 use Rattle.loader_machine.specs.Commands.{Reply, Jsl, Entered, Refused}
-use Rattle.loader_machine.specs.laws.TakenLaws.{own_targets}
-use Rattle.loader_agrees.specs.Agrees.{far_in, Kept, Loaded, seen_in, seen_by, Agrees, Has, IsSound, Meets}
+use Rattle.loader_agrees.specs.Agrees.{far_in, Kept, Loaded, kept_outlines, seen_by, LeadsFar, Agrees, Has, IsSound, Meets}
 use Rattle.loader_agrees.specs.Acts.{HasLent, LiesIn}
 use Rattle.loader_agrees.specs.laws.Reads.{its_segment, begins, stands_there, stands_size, at_there, within_front, lies_back, sees_of, one, user}
 use Rattle.loader_agrees.specs.laws.BegunSound.{want_size}
@@ -45,9 +42,9 @@ use Rattle.sys_loader.specs.Activating.{CanLoad, HasCome, HasActivated, DidActiv
 use Rattle.sys_loader.specs.Following.{jsl_reply, HasJsl, IsEntry, IsJslRefusal, NoBytes, NoJsl, NoPlace, NoEntry, EntersPlace, entered_at, DidJsl, Stops, Leads, Calls}
 use Rattle.sys_loader.proofs.Activated.{IsMet, activated, presence_same}
 use Rattle.sys_loader.proofs.Came.{is_new}
-use Rattle.sys_loader.proofs.Reaching.{passes_all}
 use Rattle.sys_loader.proofs.Entries.{found_code, no_code}
-use Rattle.loader_agrees.specs.laws.EntryReads.{segment_read, offset_read, table_stands, targets_count, number_within}
+use Rattle.loader_agrees.specs.laws.EntryReads.{get_all, file_read, segment_read, offset_read, table_stands, targets_count, number_within}
+use Rattle.sys_loader.proofs.Leads.{far_file, far_segment}
 
 -- ---- what decides
 
@@ -56,6 +53,18 @@ decided r state reply next Done is done = rw is done
 
 stopped : (r : Refuse) (why : LoaderFault) (state : Machine) (Done : Type 0) → r ≡ Some why → Decides r state (Refused why) state Done
 stopped r why state Done is = rw is (refl, refl)
+
+-- an entry of a user's table leads to an offset below LENGTH of a segment of the user that it names; its numbers are small
+pub record LeadsInto (users : List (Option Kept)) (owner : ℕ) (t : Target) : Type 0 where
+  pub other : ℕ
+  pub named : named_by (kept_outlines users) owner t.file ≡ Some other
+  pub kept : Kept
+  pub made : user_of users other ≡ Some kept
+  pub head : Head
+  pub head' : at_number kept.heads t.segment ≡ Some head
+  pub inside : t.offset < head.length
+  pub file_fits : t.file < 2 ^ 16
+  pub segment_fits : t.segment < 2 ^ 16
 
 module _ (held : FileMap) (old : Loaded) (state : Machine) (sound : IsSound old.memory old.users) (agrees : Agrees held old state) where
   -- ---- the four bytes
@@ -184,40 +193,64 @@ module _ (held : FileMap) (old : Loaded) (state : Machine) (sound : IsSound old.
         by_code : target_at_code (targets_of s) 0 offset ≡ Some entry.0
         by_code = found_code (targets_of s) 0 k offset entry.0 entry.1 (omega (arith, code))
 
-        is_target : IsOwnTarget its.does_agree.segments entry.0
-        is_target = target_of (targets_of s) k entry.0 entry.1
-            (own_targets its.does_agree.segments its.does_agree.holds.taken.alone (targets_of s)
-            ((loadable_has its.does_agree.holds.file its.does_agree.segments its.does_agree.holds.taken.loadable number s found).table its_table).targets)
-          where
-            target_of : (ts : List Target) (n : ℕ) (t : Target) → slice_get ts n ≡ Some t → AllByRecursion (IsOwnTarget its.does_agree.segments) ts → IsOwnTarget its.does_agree.segments t
-            target_of [] n t is all = absurd cc
-            target_of (x ∷ ts) zero t is all = subst (IsOwnTarget its.does_agree.segments) (same_Some x t is) all.0
-            target_of (x ∷ ts) (suc n) t is all = target_of ts n t is all.1
+        is_target : IsTarget its.does_agree.segments entry.0
+        is_target = get_all (IsTarget its.does_agree.segments) (targets_of s) k entry.0 entry.1
+            ((loadable_has its.does_agree.holds.file its.does_agree.segments its.does_agree.holds.loadable number s found).table its_table).targets
 
-        segment_fits : entry.0.segment < 256 ^ 2
-        segment_fits =
-            let within = number_within its.does_agree.segments entry.0.segment is_target.segment' is_target.is in
-            let short = sound.short (owner - first_id) lies.is.kept (made_at old.users owner lies.is.kept lies.is.made).0 in
-            omega (arith, within, short, ap (λ (hs : List Head). length hs) its.does_agree.heads, Rattle.std.proofs.lemmas.List.length-map its.does_agree.segments head_of)
+        -- the place to which it leads
+        pub leads_to : LeadsInto old.users owner entry.0
+        leads_to = by_target is_target
+          where
+            own_place : owner ≡ first_id + (owner - first_id)
+            own_place = sym (made_at old.users owner lies.is.kept lies.is.made).1
+
+            by_target : IsTarget its.does_agree.segments entry.0 → LeadsInto old.users owner entry.0
+            by_target (inl own) =
+                let within = number_within its.does_agree.segments entry.0.segment own.segment' own.is in
+                let short = sound.short (owner - first_id) lies.is.kept (made_at old.users owner lies.is.kept lies.is.made).0 in
+                record {
+                  other = owner;
+                  named = ap (λ (n : ℕ). named_by (kept_outlines old.users) owner n) own.file';
+                  kept = lies.is.kept;
+                  made = lies.is.made;
+                  head = head_of own.segment';
+                  head' = ap (λ (hs : List Head). at_number hs entry.0.segment) its.does_agree.heads ∙ Rattle.loader_agrees.specs.laws.Reads.head_at its.does_agree.segments entry.0.segment own.segment' own.is;
+                  inside = own.inside;
+                  file_fits = omega (arith, own.file');
+                  segment_fits = omega (arith, within, short, ap (λ (hs : List Head). length hs) its.does_agree.heads, Rattle.std.proofs.lemmas.List.length-map its.does_agree.segments head_of);
+                }
+            by_target (inr far) =
+                let above : 2 ≤ entry.0.file = far.beyond in
+                let other : (entry.0.file == 1) ≡ false = grind arith in
+                let leads = subst (λ (n : ℕ). LeadsFar old.users n entry.0) (sym own_place)
+                (agrees.entries (owner - first_id) number k lies.is.kept its.does_agree.segments s entry.0 (made_at old.users owner lies.is.kept lies.is.made).0 its.does_agree.holds found its_table entry.1 above) in
+                record {
+                  other = leads.other;
+                  named = rw other leads.named;
+                  kept = leads.kept;
+                  made = leads.made;
+                  head = leads.head;
+                  head' = leads.head';
+                  inside = leads.inside;
+                  file_fits = far_file held old state agrees sound owner entry.0 above leads;
+                  segment_fits = far_segment held old state agrees sound owner entry.0 leads;
+                }
+
+        abbrev its_setting : Setting
+        its_setting = setting_with (far_in old owner) owner old.memory.slots lies.is.kept.handles
 
         -- what is read of the entry is its target
+        file_same : (target_at (bytes_at old.memory lies.h.slot) k).file ≡ entry.0.file
+        unfolding target_at
+        file_same = file_read its_setting (targets_of s) (bytes_at old.memory lies.h.slot) front k entry.0 entry.1 (omega (arith, leads_to.file_fits))
+
         segment_same : (target_at (bytes_at old.memory lies.h.slot) k).segment ≡ entry.0.segment
         unfolding target_at
-        segment_same = segment_read (setting_with (far_in old owner) owner old.memory.slots lies.is.kept.handles) (targets_of s) (bytes_at old.memory lies.h.slot) front k entry.0 entry.1 segment_fits
+        segment_same = segment_read its_setting (targets_of s) (bytes_at old.memory lies.h.slot) front k entry.0 entry.1 (omega (arith, leads_to.segment_fits))
 
         offset_same : entry.0.offset < 256 ^ 4 → (target_at (bytes_at old.memory lies.h.slot) k).offset ≡ entry.0.offset
         unfolding target_at
-        offset_same fits = offset_read (setting_with (far_in old owner) owner old.memory.slots lies.is.kept.handles) (targets_of s) (bytes_at old.memory lies.h.slot) front k entry.0 entry.1 fits
-
-        head_there : at_number lies.is.kept.heads entry.0.segment ≡ Some (head_of is_target.segment')
-        head_there = ap (λ (hs : List Head). at_number hs entry.0.segment) its.does_agree.heads
-            ∙ Rattle.loader_agrees.specs.laws.Reads.head_at its.does_agree.segments entry.0.segment is_target.segment' is_target.is
-
-        -- so its segment can be made active
-        pub can_load : load_segment_refusal (seen_by old owner) entry.0.segment ≡ None
-        can_load =
-            ap (λ (o : Option Kept). load_segment_refusal (option_map seen_in o) entry.0.segment) lies.is.made
-            ∙ passes_all (seen_in lies.is.kept) entry.0.segment (head_of is_target.segment') lies.is.runs head_there is_target.kept is_target.dynamic
+        offset_same fits = offset_read its_setting (targets_of s) (bytes_at old.memory lies.h.slot) front k entry.0 entry.1 fits
 
 -- ---- where a segment lands
 
@@ -350,8 +383,15 @@ module _ (held : FileMap) (old new : Loaded) (state : Machine) (sound : IsSound 
     abbrev pub t : (t : Target) × (slice_get (targets_of (s held old state sound agrees place.address place.user place.segment place.offset is.lies)) is.k ≡ Some t)
     t = entry held old state sound agrees place.address place.user place.segment place.offset is.lies is.table is.k is.inside is.code
 
-    abbrev target' : IsOwnTarget (its held old state sound agrees place.address place.user place.segment place.offset is.lies).does_agree.segments t.0
-    target' = is_target held old state sound agrees place.address place.user place.segment place.offset is.lies is.table is.k is.inside is.code
+    pub lead : LeadsInto old.users place.user t.0
+    lead = leads_to held old state sound agrees place.address place.user place.segment place.offset is.lies is.table is.k is.inside is.code
+
+    -- the user that the entry names
+    named : named_by (outlines state.users) place.user t.0.file ≡ Some lead.other
+    named = ap (λ (os : List (Option Outline)). named_by os place.user t.0.file) (sym agrees.users) ∙ lead.named
+
+    pub file_is : target.file ≡ t.0.file
+    file_is = ap (λ (x : Target). x.file) is.target_is ∙ file_same held old state sound agrees place.address place.user place.segment place.offset is.lies is.table is.k is.inside is.code
 
     pub segment_is : target.segment ≡ t.0.segment
     segment_is = ap (λ (x : Target). x.segment) is.target_is ∙ segment_same held old state sound agrees place.address place.user place.segment place.offset is.lies is.table is.k is.inside is.code
@@ -360,9 +400,9 @@ module _ (held : FileMap) (old new : Loaded) (state : Machine) (sound : IsSound 
     offset_is fits = ap (λ (x : Target). x.offset) is.target_is ∙ offset_same held old state sound agrees place.address place.user place.segment place.offset is.lies is.table is.k is.inside is.code fits
 
     abbrev of : ℕ → Reply
-    of address = Entered place.user t.0.segment t.0.offset (address + t.0.offset)
+    of address = Entered lead.other t.0.segment t.0.offset (address + t.0.offset)
 
-    steps_call : (reply : Reply) (next : Machine) → MakesActive Purges held state place.user t.0.segment of reply next
+    steps_call : (reply : Reply) (next : Machine) → MakesActive Purges held state lead.other t.0.segment of reply next
         → Rattle.loader_machine.specs.Steps.Does held state id (λ seen. bytes_refusal state.slots seen number at 4) reply next (λ user. StepsJsl Purges held state id number at reply next)
     steps_call reply next makes =
         does_jsl held old state sound agrees id number at call.bytes call.lent reply next
@@ -370,17 +410,18 @@ module _ (held : FileMap) (old new : Loaded) (state : Machine) (sound : IsSound 
         (subst (λ (n : ℕ). IsLocated held state n (In place.user place.segment place.offset)) call.address_is (is_at held old state sound agrees place.address place.user place.segment place.offset is.lies))
         (subst (λ (n : ℕ). Enters Purges held state n (In place.user place.segment place.offset) reply next) call.address_is
         (steps_entry held old state sound agrees place.address place.user place.segment place.offset is.lies (Some t.0) reply next is.table
-        (by_code held old state sound agrees place.address place.user place.segment place.offset is.lies is.table is.k is.inside is.code) makes)))
+        (by_code held old state sound agrees place.address place.user place.segment place.offset is.lies is.table is.k is.inside is.code) (lead.other, named, makes))))
 
     -- the place by the address that is read
     abbrev read_lies : (n : ℕ) → place.address ≡ n → LiesIn old n place.user place.segment place.offset
     read_lies n e = record { h = is.lies.h; is = is.lies.is; sum = is.lies.sum ∙ e; inside = is.lies.inside }
 
     -- the call reaches the target
-    pub reaches : Reaches held state id number at place.user t.0
+    pub reaches : Reaches held state id number at lead.other t.0
     reaches =
         let f = four held old state sound agrees id number at call.bytes call.lent in
         record {
+          owner = place.user;
           seen = seen_by old id;
           is_seen = is_seen held old state agrees id;
           passes = can_read held old state sound agrees id number at call.bytes call.lent;
@@ -392,17 +433,18 @@ module _ (held : FileMap) (old new : Loaded) (state : Machine) (sound : IsSound 
           is_at = is_at held old state sound agrees (address_of (take 4 (drop at f.0))) place.user place.segment place.offset (read_lies (address_of (take 4 (drop at f.0))) (call.address_is ∙ ap address_of f.2));
           is_table = same_table held old state sound agrees place.address place.user place.segment place.offset is.lies ∙ is.table;
           target = by_code held old state sound agrees place.address place.user place.segment place.offset is.lies is.table is.k is.inside is.code;
+          named = named;
         }
 
-    module _ (head : Head) (handle : Option Handle) (can : CanLoad old place.user t.0.segment head handle) where
-      abbrev its_user : IsKept held old state agrees place.user can.kept
-      its_user = kept_is held old state agrees place.user can.kept can.made
+    module _ (head : Head) (handle : Option Handle) (can : CanLoad old lead.other t.0.segment head handle) where
+      abbrev its_user : IsKept held old state agrees lead.other can.kept
+      its_user = kept_is held old state agrees lead.other can.kept can.made
 
       needs : is_read (presence old.memory.slots handle) ≡ true → Needs held state (Jsl id number at) (its_user.user.path ∷ [])
       needs reads =
-          let same' : presence_at state.slots (handles_of its_user.user) t.0.segment ≡ presence old.memory.slots handle = presence_same held old state place.user t.0.segment sound agrees head handle can in
+          let same' : presence_at state.slots (handles_of its_user.user) t.0.segment ≡ presence old.memory.slots handle = presence_same held old state lead.other t.0.segment sound agrees head handle can in
           inl (
-            place.user,
+            lead.other,
             t.0,
             reaches,
             its_user.user,
@@ -410,56 +452,57 @@ module _ (held : FileMap) (old new : Loaded) (state : Machine) (sound : IsSound 
             sym (ap (λ (b : Bool). path_if None b its_user.user.path) (ap is_read same' ∙ reads)),
           )
 
-      head_is : head ≡ head_of target'.segment'
+      head_is : head ≡ lead.head
       head_is =
-          let same : can.kept ≡ is.lies.is.kept = same_Some can.kept is.lies.is.kept (sym can.made ∙ is.lies.is.made) in
-          same_Some head (head_of target'.segment') (sym can.head' ∙ ap (λ (k : Kept). at_number k.heads t.0.segment) same
-          ∙ head_there held old state sound agrees place.address place.user place.segment place.offset is.lies is.table is.k is.inside is.code)
+          let same : can.kept ≡ lead.kept = same_Some can.kept lead.kept (sym can.made ∙ lead.made) in
+          same_Some head lead.head (sym can.head' ∙ ap (λ (k : Kept). at_number k.heads t.0.segment) same ∙ lead.head')
 
       inside' : t.0.offset < head.length
-      inside' = omega (arith, target'.inside, ap (λ (x : Head). x.length) head_is)
+      inside' = omega (arith, lead.inside, ap (λ (x : Head). x.length) head_is)
 
-      reply_same : (made : Result ℕ LoaderFault) → HasActivated (Some held) old place.user t.0.segment can.kept head handle (presence old.memory.slots handle) made new before now
-          → activation_reply of made ≡ jsl_reply (entered_at place.user t.0.segment t.0.offset made)
+      reply_same : (made : Result ℕ LoaderFault) → HasActivated (Some held) old lead.other t.0.segment can.kept head handle (presence old.memory.slots handle) made new before now
+          → activation_reply of made ≡ jsl_reply (entered_at lead.other t.0.segment t.0.offset made)
       reply_same (Ok address) did =
-          let small = lands (Some held) old new sound below below_now place.user t.0.segment head handle can t.0.offset inside' (presence old.memory.slots handle) refl address before now did in
-          ap (Entered place.user t.0.segment t.0.offset) (small_sum (address + t.0.offset) small)
+          let small = lands (Some held) old new sound below below_now lead.other t.0.segment head handle can t.0.offset inside' (presence old.memory.slots handle) refl address before now did in
+          ap (Entered lead.other t.0.segment t.0.offset) (small_sum (address + t.0.offset) small)
         where
           small_sum : (n : ℕ) → n < 2 ^ 24 → n ≡ n % 2 ^ 24
           small_sum n lt = omega (arith, lt)
       reply_same (Err why) did = refl
 
-      activation : (made : Result ℕ LoaderFault) → HasActivated (Some held) old place.user t.0.segment can.kept head handle (presence old.memory.slots handle) made new before now
-          → Met' (entered_at place.user t.0.segment t.0.offset made) new now
-      activation made did = elim (subst (λ (r : Reply). IsMet held state place.user t.0.segment of (is_read (presence old.memory.slots handle)) r new before now) (reply_same made did)
-          (activated held old state place.user t.0.segment sound agrees head handle can (presence old.memory.slots handle) refl made new before now of did)) [
-            | inl met ↦ inl ((met.0, steps_call (jsl_reply (entered_at place.user t.0.segment t.0.offset made)) met.0 met.1, met.2), met.3)
+      activation : (made : Result ℕ LoaderFault) → HasActivated (Some held) old lead.other t.0.segment can.kept head handle (presence old.memory.slots handle) made new before now
+          → Met' (entered_at lead.other t.0.segment t.0.offset made) new now
+      activation made did = elim (subst (λ (r : Reply). IsMet held state lead.other t.0.segment of (is_read (presence old.memory.slots handle)) r new before now) (reply_same made did)
+          (activated held old state lead.other t.0.segment sound agrees head handle can (presence old.memory.slots handle) refl made new before now of did)) [
+            | inl met ↦ inl ((met.0, steps_call (jsl_reply (entered_at lead.other t.0.segment t.0.offset made)) met.0 met.1, met.2), met.3)
             | inr other ↦ elim other [
               | inl unread ↦ inr (inl (unread.0, its_user.user.path ∷ [], needs unread.2, (λ none. absurd cc), unread.1, unread.3))
               | inr short ↦ inr (inr short)
             ]
           ]
 
-    called : (made : Result ℕ LoaderFault) → DidActivate (Some held) old place.user t.0.segment made new before now → (offset : ℕ) → (t.0.offset < 256 ^ 4 → offset ≡ t.0.offset)
-        → Met' (entered_at place.user t.0.segment offset made) new now
-    called made (inl stops) offset same =
-        let passes = can_load held old state sound agrees place.address place.user place.segment place.offset is.lies is.table is.k is.inside is.code in
-        let clash : Some stops.0 ≡ None = sym stops.1 ∙ passes in absurd cc
-    called made (inr did) offset same =
+    called : load_segment_refusal (seen_by old lead.other) t.0.segment ≡ None → (made : Result ℕ LoaderFault) → DidActivate (Some held) old lead.other t.0.segment made new before now → (offset : ℕ)
+        → (t.0.offset < 256 ^ 4 → offset ≡ t.0.offset) → Met' (entered_at lead.other t.0.segment offset made) new now
+    called passes made (inl stops) offset same = let clash : Some stops.0 ≡ None = sym stops.1 ∙ passes in absurd cc
+    called passes made (inr did) offset same =
         let inside = inside' did.0 did.1 did.2 in
-        subst (λ (n : ℕ). Met' (entered_at place.user t.0.segment n made) new now) (sym (same (omega (arith, inside, did.2.fits))))
+        subst (λ (n : ℕ). Met' (entered_at lead.other t.0.segment n made) new now) (sym (same (omega (arith, inside, did.2.fits))))
         (activation did.0 did.1 did.2 made did.3)
 
-    by_entry : (owner segment offset : ℕ) → place.user ≡ owner → target.segment ≡ segment → target.offset ≡ offset → (made : Result ℕ LoaderFault)
-        → DidActivate (Some held) old owner segment made new before now → Met' (entered_at owner segment offset made) new now
-    by_entry owner segment offset its_owner its_segment' its_offset made did =
+    by_entry : (other segment offset : ℕ) → named_by (kept_outlines old.users) place.user target.file ≡ Some other → target.segment ≡ segment → target.offset ≡ offset
+        → load_segment_refusal (seen_by old other) segment ≡ None → (made : Result ℕ LoaderFault)
+        → DidActivate (Some held) old other segment made new before now → Met' (entered_at other segment offset made) new now
+    by_entry other segment offset its_named its_segment' its_offset passes made did =
         let segment_same' : t.0.segment ≡ segment = sym segment_is ∙ its_segment' in
-        let did' : DidActivate (Some held) old place.user t.0.segment made new before now =
-        subst (λ (n : ℕ). DidActivate (Some held) old n t.0.segment made new before now) (sym its_owner)
-        (subst (λ (n : ℕ). DidActivate (Some held) old owner n made new before now) (sym segment_same') did) in
-        subst (λ (n : ℕ). Met' (entered_at n segment offset made) new now) its_owner
-        (subst (λ (n : ℕ). Met' (entered_at place.user n offset made) new now) segment_same'
-        (called made did' offset (λ fits. sym its_offset ∙ offset_is fits)))
+        let user : lead.other ≡ other = same_Some lead.other other (sym lead.named ∙ ap (λ (n : ℕ). named_by (kept_outlines old.users) place.user n) (sym file_is) ∙ its_named) in
+        let did' : DidActivate (Some held) old lead.other t.0.segment made new before now =
+        subst (λ (n : ℕ). DidActivate (Some held) old n t.0.segment made new before now) (sym user)
+        (subst (λ (n : ℕ). DidActivate (Some held) old other n made new before now) (sym segment_same') did) in
+        let passes' : load_segment_refusal (seen_by old lead.other) t.0.segment ≡ None =
+        subst (λ (n : ℕ). load_segment_refusal (seen_by old n) t.0.segment ≡ None) (sym user) (subst (λ (n : ℕ). load_segment_refusal (seen_by old other) n ≡ None) (sym segment_same') passes) in
+        subst (λ (n : ℕ). Met' (entered_at n segment offset made) new now) user
+        (subst (λ (n : ℕ). Met' (entered_at lead.other n offset made) new now) segment_same'
+        (called passes' made did' offset (λ fits. sym its_offset ∙ offset_is fits)))
 
   jsl_met : (result : Result answers.Entered LoaderFault) → DidJsl (Some held) old id number at result new before now → Met' result new now
   jsl_met result (Stops why is result_is new_is now_is) =
@@ -468,9 +511,9 @@ module _ (held : FileMap) (old new : Loaded) (state : Machine) (sound : IsSound 
   jsl_met result (Leads place is result_is new_is now_is) =
       subst (λ (r : Result answers.Entered LoaderFault). Met' r new now) (sym result_is)
       (subst (λ (l : Loaded). Met' (Ok place) l now) (sym new_is) (subst (λ (n : ℕ). Met' (Ok place) old n) (sym now_is) (entered place is)))
-  jsl_met result (Calls owner segment offset calls made did result_is) =
+  jsl_met result (Calls other segment offset calls made did result_is) =
       subst (λ (r : Result answers.Entered LoaderFault). Met' r new now) (sym result_is)
-      (by_entry calls.place calls.leads.call calls.target calls.entry owner segment offset calls.its calls.segment' calls.offset' made did)
+      (by_entry calls.place calls.leads.call calls.target calls.entry other segment offset calls.named calls.segment' calls.offset' calls.passes made did)
 
 -- following a JSL is the machine's step
 pub jsls_meet : (store : Option FileMap) (held : FileMap) (old new : Loaded) (state : Machine) (id number at : ℕ) (result : Result answers.Entered LoaderFault) (before now : ℕ) → store ≡ Some held

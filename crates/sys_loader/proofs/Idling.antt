@@ -1,5 +1,5 @@
 -- Segments that are let go one by one.
-use Rattle.std.proofs.Common.{◌≡◌, inl, inr, ℕ, zero, suc, Bool, true, false, cond, ◌==◌, ◌+◌, ◌<◌, List, [], ◌∷◌, ◌++◌, length, take, get_or, Option, Some, None, IsSome, refl, sym, ap, subst, ◌∙◌, arith}
+use Rattle.std.proofs.Common.{◌≡◌, inl, inr, ℕ, zero, suc, Bool, true, false, cond, ◌==◌, ◌+◌, ◌<◌, ◌≤◌, List, [], ◌∷◌, ◌++◌, length, take, get_or, Option, Some, None, IsSome, refl, sym, ap, subst, ◌∙◌, arith}
 use Rattle.std.specs.Prelude.{slice_get, slice_set, option_map}
 use Rattle.std.specs.Option.{option_map_or, option_and_then}
 use Rattle.std.proofs.lemmas.Option.{same_Some, slice_get-get_or, slice_get-map}
@@ -15,13 +15,17 @@ use Rattle.iigs_meaning.specs.Memory.{Memory, IsThere, Changes}
 use Rattle.loader_machine.specs.declared.seen.Presence.TheVariants.{Absent, Purged, Idle, Active}
 use Rattle.loader_machine.specs.Presences.{presence, lies_in, lies_at}
 use Rattle.loader_machine.specs.Steps.{changed, changed_all, let_go, idle_block}
+use Rattle.loader_machine.specs.State.{user_of, family, handles_of_all}
+use Rattle.loader_agrees.specs.Agrees.{Kept, kept_outlines}
 use Rattle.loader_agrees.specs.laws.Slotted.{slot_set, live_block}
 use Rattle.sys_loader.specs.declared.user.Segment as users
 use Rattle.sys_loader.specs.Lives.{AreIdled}
+use Rattle.sys_loader.proofs.Families.{take_past}
+use Rattle.sys_loader.proofs.Together.{its_handles, more_handles}
 use Rattle.sys_loader.proofs.Written.{handles_of}
 use Rattle.sys_loader.proofs.Renewing.{same_active}
 use Rattle.sys_loader.proofs.Shifting.{set_is}
-use Rattle.sys_loader.proofs.ChangedAll.{all_more, all_none, let_go_again, let_go_active, let_go_idle, let_go_empty}
+use Rattle.sys_loader.proofs.ChangedAll.{all_more, all_none, all_kept, all_join, let_go_again, let_go_at, let_go_active, let_go_idle, let_go_empty}
 
 pub handle_get : (segments : List users.Segment) (k : ℕ) (s : users.Segment) → k < length segments → s ≡ get_or segments k s → slice_get (handles_of segments) k ≡ Some s.handle
 handle_get segments k s inside is =
@@ -144,3 +148,44 @@ module _ (handles : List (Option Handle)) (k : ℕ) (o : Option Handle) (found :
             let its : address_in (slot_at new.slots place) ≡ address_in (slot_at now.slots place) = ap (λ (t : Slots). address_in (slot_at t place)) (changes.slots ∙ set_is now.slots h changes.block (idle_block changes.block) changes.was) ∙ ap address_in same in
             subst (λ (x : Option ℕ). IsSome x) its there
       ]
+
+-- ---- two lists of segments, one behind the other
+
+was_at : (old new : Memory) (handles : List (Option Handle)) → new.slots ≡ changed_all let_go old.slots handles → (place : ℕ) → IsThere new place → IsThere old place
+was_at old new handles same place there = go (block_in (slot_at new.slots place)) refl there
+  where
+    go : (o : Option Block) → block_in (slot_at new.slots place) ≡ o → IsSome (option_and_then (λ (b : Block). b.at) o) → IsThere old place
+    go None is some = absurd cc
+    go (Some b) is some =
+        let was = all_kept let_go let_go_again (λ (x : Block). x.at) let_go_at old.slots handles place b (sym (ap (λ (t : Slots). block_in (slot_at t place)) same) ∙ is) in
+        rw was.1 (subst (λ (o : Option ℕ). IsSome o) (sym was.2) some)
+
+pub idled_none : (memory : Memory) → AreIdled [] memory memory
+idled_none memory = record { slots = refl; bytes = record { banks = refl; bytes = λ place apart there. refl } }
+
+pub idled_join : (xs ys : List (Option Handle)) (old mid new : Memory) → AreIdled xs old mid → AreIdled ys mid new → AreIdled (xs ++ ys) old new
+idled_join xs ys old mid new one two = record {
+  slots = two.slots ∙ ap (λ (t : Slots). changed_all let_go t ys) one.slots ∙ sym (all_join let_go let_go_again old.slots xs ys);
+  bytes = record {
+    banks = two.bytes.banks ∙ one.bytes.banks;
+    bytes = λ place apart there. two.bytes.bytes place apart there ∙ one.bytes.bytes place apart (was_at mid new ys two.slots place there);
+  };
+}
+
+-- the segments of one user more
+module _ (users : List (Option Kept)) (ids : List ℕ) (other : Kept) (old mid new : Memory) where
+  behind : (front : List ℕ) (id : ℕ) → user_of users id ≡ Some other → AreIdled (handles_of_all (kept_outlines users) front) old mid → AreIdled other.handles mid new
+      → AreIdled (handles_of_all (kept_outlines users) (front ++ id ∷ [])) old new
+  behind front id made so_far idled =
+      subst (λ (hs : List (Option Handle)). AreIdled hs old new)
+      (ap (λ (hs : List (Option Handle)). handles_of_all (kept_outlines users) front ++ hs) (sym (its_handles users id other made)) ∙ sym (more_handles users front id))
+      (idled_join (handles_of_all (kept_outlines users) front) other.handles old mid new so_far idled)
+
+  pub family_more : (k id : ℕ) → slice_get ids k ≡ Some id → user_of users id ≡ Some other → AreIdled (handles_of_all (kept_outlines users) (take k ids)) old mid → AreIdled other.handles mid new
+      → AreIdled (handles_of_all (kept_outlines users) (take (k + 1) ids)) old new
+  family_more k id is made so_far idled = subst (λ (l : List ℕ). AreIdled (handles_of_all (kept_outlines users) l) old new) (sym (take_more ids k id is)) (behind (take k ids) id made so_far idled)
+
+  pub family_all : (k id : ℕ) → length ids ≤ k → user_of users id ≡ Some other → AreIdled (handles_of_all (kept_outlines users) (take k ids)) old mid → AreIdled other.handles mid new
+      → AreIdled (handles_of_all (kept_outlines users) (family id ids)) old new
+  family_all k id le made so_far idled =
+      behind ids id made (subst (λ (l : List ℕ). AreIdled (handles_of_all (kept_outlines users) l) old mid) (take_past ids k le) so_far) idled

@@ -13,7 +13,7 @@ use Rattle.loader_machine.specs.Refusals.{load_segment_refusal}
 use Rattle.loader_machine.specs.Steps.{active_block}
 use Rattle.loader_machine.specs.Needs.{is_read}
 use Rattle.loader_agrees.specs.Agrees.{Kept, Loaded, seen_by}
-use Rattle.sys_loader.specs.Lives.{HasShifted}
+use Rattle.sys_loader.specs.Lives.{HasTurned}
 use Rattle.sys_loader.specs.Activating.{segment_reads, CanLoad, DidCome, HasActivated, DidActivate}
 use Rattle.sys_loader.proofs.Renewing.{same_idle}
 
@@ -44,9 +44,8 @@ module _ (loader : Loaded) (id number : ℕ) (head : Head) (handle : Option Hand
     pub was_active : (h : Handle) (at : ℕ) → presence loader.memory.slots handle ≡ Active h at → new ≡ loader → now ≡ before → DidActivate held loader id number (Ok at) new before now
     was_active h at is same count = activates (Active h at) (Ok at) is (refl, same, count)
 
-    pub was_idle : (h : Handle) (at : ℕ) → presence loader.memory.slots handle ≡ Idle h at → ((k : Kept) → user_of loader.users id ≡ Some k → HasShifted loader k (1, number) h active_block (Some at) new)
-        → now ≡ before → DidActivate held loader id number (Ok at) new before now
-    was_idle h at is shifted count = activates (Idle h at) (Ok at) is (refl, shifted can.kept can.made, count)
+    pub was_idle : (h : Handle) (at : ℕ) → presence loader.memory.slots handle ≡ Idle h at → HasTurned loader id number h active_block (Some at) new → now ≡ before → DidActivate held loader id number (Ok at) new before now
+    was_idle h at is turned count = activates (Idle h at) (Ok at) is (refl, turned, count)
 
     pub was_purged : (h : Handle) (r : Result ℕ LoaderFault) → presence loader.memory.slots handle ≡ Purged h
         → ((k : Kept) → user_of loader.users id ≡ Some k → DidCome held loader id number k head handle r new before now) → DidActivate held loader id number r new before now

@@ -178,7 +178,7 @@ module _ (held : FileMap) (loader : Loaded) (state : Machine) (agrees : Agrees h
     (below : (place address : ℕ) → HoldsByte address (slot_at loader.memory.slots place) → address < 2 ^ 24)
     (id number at target offset : ℕ) (has : HasAddress held state id number at target offset) where
   pub segment_sound : IsSoundSegment has.sees.segments number has.s
-  segment_sound = loadable_has has.sees.holds.file has.sees.segments has.sees.holds.taken.loadable number has.s has.is
+  segment_sound = loadable_has has.sees.holds.file has.sees.segments has.sees.holds.loadable number has.s has.is
 
   target_active : is_active (presence_at state.slots (handles_of has.sees.user) target) ≡ true
   target_active =

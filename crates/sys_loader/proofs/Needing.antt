@@ -1,7 +1,6 @@
 -- The files that a call reads are those that the machine's command needs.
-use Rattle.std.proofs.Common.{◌≡◌, inl, inr, ℕ, Bool, true, false, cond, not, ◌||◌, ◌<◌, ◌≤◌, ◌^◌, List, [], length, take, drop, Option, Some, None, IsSome, nat_lt, refl, sym, ap, subst, ◌∙◌, arith}
+use Rattle.std.proofs.Common.{◌≡◌, ◌⊎◌, inl, inr, ℕ, Bool, true, false, not, ◌||◌, ◌+◌, ◌*◌, ◌<◌, ◌≤◌, ◌^◌, List, [], length, take, drop, Option, Some, None, IsSome, refl, sym, ap, subst, ◌∙◌, arith}
 use Rattle.std.specs.Option.{option_map, option_map_or}
-use Rattle.std.proofs.lemmas.List.{length-map}
 use Rattle.omf_format.specs.File.{Segment}
 use Rattle.omf_io.specs.Counts.{one_more, risen}
 use Rattle.omf_io.specs.Files.{FileMap}
@@ -12,21 +11,20 @@ use Rattle.iigs_meaning.specs.Fits.{Slots, HoldsByte}
 use Rattle.iigs_meaning.specs.Puts.{Purges}
 use Rattle.iigs_meaning.specs.Blocks.{AreApart}
 use Rattle.loader_machine.specs.declared.faults.LoaderFault.{LoaderFault}
-use Rattle.loader_machine.specs.declared.faults.LoaderFault.TheVariants as fault
 use Rattle.loader_machine.specs.Heads.{head_of, is_table}
-use Rattle.loader_machine.specs.State.{User, Machine, Seen, max_users, user_of, handles_of}
+use Rattle.loader_machine.specs.State.{User, Machine, Seen, user_of, handles_of, outlines, named_by, is_attached}
 use Rattle.loader_machine.specs.Presences.{presence_at}
 use Rattle.loader_machine.specs.laws.OnceLaws.{IsApartState, segment_same, seen_once, at_once, stands_once}
-use Rattle.loader_machine.specs.Commands.{Load, LoadSegment, Jsl, Restart}
-use Rattle.loader_machine.specs.Refusals.{Refuse, load_refusal, bytes_refusal, load_segment_refusal, restart_refusal}
+use Rattle.loader_machine.specs.Commands.{LoadSegment, Jsl, Restart}
+use Rattle.loader_machine.specs.Refusals.{Refuse, bytes_refusal, load_segment_refusal, restart_refusal}
 use Rattle.loader_machine.specs.Steps.{Sees, IsSeen, IsAt, seen_of, are_there, no_jsl, address_of, target_at_code}
 use Rattle.loader_machine.specs.Needs as needs
 use Rattle.loader_machine.specs.Needs.{NeedsOf, IsReadFor, Reaches, is_read, path_if, some_read_again}
-use Rattle.loader_agrees.specs.Agrees.{Kept, Loaded, Outline, outline, outline_of, seen_in, seen_by, Agrees, IsSound, ReadsNeeded}
+use Rattle.loader_agrees.specs.Agrees.{Kept, Loaded, Outline, kept_outlines, seen_in, seen_by, Agrees, IsSound, ReadsNeeded}
 use Rattle.loader_agrees.specs.Acts.{HasLent, LiesIn}
 use Rattle.loader_agrees.specs.laws.Apart.{is_apart}
 use Rattle.loader_agrees.specs.laws.Reads.{lies_back}
-use Rattle.loader_agrees.specs.laws.Seeing.{IsKept, is_seen}
+use Rattle.loader_agrees.specs.laws.Seeing.{IsKept, kept_is, is_seen}
 use Rattle.sys_loader.specs.declared.answers.Entered as answers
 use Rattle.sys_loader.specs.Activating.{segment_reads}
 use Rattle.sys_loader.specs.Following.{IsJslRefusal, NoBytes, NoJsl, NoPlace, NoEntry, EntersPlace, CallsEntry, IsRefused, IsPlace, IsThere, HasAsked}
@@ -42,35 +40,13 @@ counted (Some why) b path before now asked unasked refused = refused refl
 counted None true path before now asked unasked refused = asked refl refl
 counted None false path before now asked unasked refused = unasked refl
 
--- ---- load
+-- no file is read behind the first, where all reads are made
+abbrev Alone : ℕ → ℕ → Type 0
+Alone count reads = (◌≡◌ {A = ℕ} 0 0 × (rows : List (List ℕ)) × (behind : ℕ) × ((rows ≡ []) × (behind ≡ 0)) × (reads ≡ count + behind))
+    ⊎ ((count ≤ reads) × (reads ≤ 17 * count) × (count ≤ 0))
 
-few_of : (made : ℕ) → load_refusal made ≡ None → made < max_users
-unfolding load_refusal
-few_of made none = go (nat_lt made max_users) refl none
-  where
-    go : (b : Bool) → nat_lt made max_users ≡ b → cond b None (Some fault.TooManyUsers) ≡ None → made < max_users
-    go true lt e = grind (arith, lt)
-    go false ge e = absurd cc
-
-full_of : (made : ℕ) → IsSome (load_refusal made) → max_users ≤ made
-unfolding load_refusal
-full_of made some = go (nat_lt made max_users) refl some
-  where
-    go : (b : Bool) → nat_lt made max_users ≡ b → IsSome (cond b None (Some fault.TooManyUsers)) → max_users ≤ made
-    go true lt e = absurd cc
-    go false ge e = grind (arith, ge)
-
-pub load_needs : (held : FileMap) (old : Loaded) (state : Machine) (path : List ℕ) (before now : ℕ) → Agrees held old state
-    → (length old.users < max_users → now ≡ one_more before) → (max_users ≤ length old.users → now ≡ before) → ReadsNeeded held state (Load path) before now
-load_needs held old state path before now agrees asked unasked =
-    let same : length old.users ≡ length state.users =
-    sym (length-map old.users (option_map outline)) ∙ ap length agrees.users ∙ length-map state.users (option_map outline_of) in
-    let r : Refuse = load_refusal (length state.users) in (
-      length (path_if r true path),
-      (path_if r true path, refl, refl),
-      counted r true path before now (λ none yes. asked (omega (arith, few_of (length state.users) none, same))) (λ no'. absurd cc)
-          (λ some. unasked (omega (arith, full_of (length state.users) some, same))),
-    )
+alone : (count : ℕ) → Alone count count
+alone count = inl (refl, [], 0, (refl, refl), omega arith)
 
 -- ---- a command on a user
 
@@ -81,19 +57,19 @@ module _ (held : FileMap) (old : Loaded) (state : Machine) (agrees : Agrees held
   abbrev Of : Seen → User → List (List ℕ)
   Of seen user = path_if (refusal (Some seen)) (reads seen user) user.path
 
-  user_needs : (reads : ℕ) × ((paths : List (List ℕ)) × NeedsOf held state id Of paths × (reads ≡ length paths)) × (now ≡ risen reads before)
+  user_needs : (reads : ℕ) × ((paths : List (List ℕ)) × NeedsOf held state id Of paths × Alone (length paths) reads) × (now ≡ risen reads before)
   user_needs = go (seen_by old id) refl (is_seen held old state agrees id)
     where
       go : (o : Option Seen) → seen_by old id ≡ o → IsSeen held state id o
-          → (reads : ℕ) × ((paths : List (List ℕ)) × NeedsOf held state id Of paths × (reads ≡ length paths)) × (now ≡ risen reads before)
-      go None e gone = (0, ([], inl (gone, refl), refl), unasked (none e))
+          → (reads : ℕ) × ((paths : List (List ℕ)) × NeedsOf held state id Of paths × Alone (length paths) reads) × (now ≡ risen reads before)
+      go None e gone = (0, ([], inl (gone, refl), alone 0), unasked (none e))
       go (Some seen) e is =
           let sees = is.0 in
           let its : Seen = seen_of sees.user sees.segments in
           let here : seen_by old id ≡ Some its = e ∙ ap (λ (s : Seen). Some s) is.1 in
           let flag' : reads its sees.user ≡ flag = same sees here in (
             length (Of its sees.user),
-            (Of its sees.user, inr (sees, refl), refl),
+            (Of its sees.user, inr (sees, refl), alone (length (Of its sees.user))),
             counted (refusal (Some its)) (reads its sees.user) sees.user.path before now
                 (λ passes yes. asked (ap refusal here ∙ passes) (sym flag' ∙ yes)) (λ no'. unasked (sym flag' ∙ no'))
                 (λ stops. refused (subst (λ (o : Option Seen). IsSome (refusal o)) (sym here) stops)),
@@ -117,7 +93,7 @@ not_kept old id f is = go (user_of old.users id) is
 
 module _ (held : FileMap) (old : Loaded) (state : Machine) (agrees : Agrees held old state) (id : ℕ) (before now : ℕ) where
   pub load_segment_needs : (number : ℕ) → (load_segment_refusal (seen_by old id) number ≡ None → segment_reads old id number ≡ true → now ≡ one_more before)
-      → (segment_reads old id number ≡ false → now ≡ before) → (IsSome (load_segment_refusal (seen_by old id) number) → now ≡ before) → ReadsNeeded held state (LoadSegment id number) before now
+      → (segment_reads old id number ≡ false → now ≡ before) → (IsSome (load_segment_refusal (seen_by old id) number) → now ≡ before) → ReadsNeeded held state (LoadSegment id number) 0 before now
   load_segment_needs number asked unasked refused =
       user_needs held old state agrees id (λ seen. load_segment_refusal seen number) (λ seen user. is_read (presence_at state.slots (handles_of user) number)) (segment_reads old id number) before now
       same (not_kept old id (λ kept. is_read (presence_at old.memory.slots kept.handles number))) asked unasked refused
@@ -129,12 +105,23 @@ module _ (held : FileMap) (old : Loaded) (state : Machine) (agrees : Agrees held
           ∙ ap (λ (t : Slots). is_read (presence_at t kept.0.handles number)) agrees.slots
           ∙ ap (λ (seen : Seen). is_read (presence_at state.slots seen.handles number)) kept.2)
 
-  pub restart_needs : (restart_refusal (seen_by old id) ≡ None → restart_reads old id ≡ true → now ≡ one_more before)
-      → (restart_reads old id ≡ false → now ≡ before) → (IsSome (restart_refusal (seen_by old id)) → now ≡ before) → ReadsNeeded held state (Restart id) before now
+  -- whether a user is attached to another
+  abbrev its_own : Bool
+  its_own = is_attached (kept_outlines old.users) id
+
+  same_own : is_attached (outlines state.users) id ≡ its_own
+  same_own = ap (λ (os : List (Option Outline)). is_attached os id) (sym agrees.users)
+
+  pub restart_needs : (restart_refusal its_own (seen_by old id) ≡ None → restart_reads old id ≡ true → now ≡ one_more before)
+      → (restart_reads old id ≡ false → now ≡ before) → (IsSome (restart_refusal its_own (seen_by old id)) → now ≡ before) → ReadsNeeded held state (Restart id) 0 before now
   restart_needs asked unasked refused =
-      user_needs held old state agrees id restart_refusal (λ seen user. needs.restart_reads state seen) (restart_reads old id) before now
-      same (not_kept old id (λ kept. not (are_there old.memory.slots kept.heads kept.handles 1) || some_read_again kept.heads)) asked unasked refused
+      user_needs held old state agrees id (restart_refusal (is_attached (outlines state.users) id)) (λ seen user. needs.restart_reads state seen) (restart_reads old id) before now
+      same (not_kept old id (λ kept. not (are_there old.memory.slots kept.heads kept.handles 1) || some_read_again kept.heads))
+      (λ passes. asked (sym (of_own (seen_by old id)) ∙ passes)) unasked (λ stops. refused (subst (λ (r : Refuse). IsSome r) (of_own (seen_by old id)) stops))
     where
+      of_own : (seen : Option Seen) → restart_refusal (is_attached (outlines state.users) id) seen ≡ restart_refusal its_own seen
+      of_own seen = ap (λ (b : Bool). restart_refusal b seen) same_own
+
       same : (sees : Sees held state id) → seen_by old id ≡ Some (seen_of sees.user sees.segments) → needs.restart_reads state (seen_of sees.user sees.segments) ≡ restart_reads old id
       same sees is =
           let kept = kept_of old id (seen_of sees.user sees.segments) is in
@@ -171,7 +158,7 @@ module _ (held : FileMap) (old : Loaded) (state : Machine) (sound : IsSound old.
 
   module _ (id number at : ℕ) where
     -- no read is needed where the call stops, or enters a place
-    module _ (owner : ℕ) (t : Target) (r : Reaches held state id number at owner t) where
+    module _ (other : ℕ) (t : Target) (r : Reaches held state id number at other t) where
       passes : bytes_refusal old.memory.slots (seen_by old id) number at 4 ≡ None
       passes =
           ap (λ (slots : Slots). bytes_refusal slots (seen_by old id) number at 4) agrees.slots
@@ -189,15 +176,15 @@ module _ (held : FileMap) (old : Loaded) (state : Machine) (sound : IsSound old.
       stops why (NoBytes is) = let clash : Some why ≡ None = sym is ∙ passes in cc
       stops why (NoJsl bytes lent is) = let clash : Some why ≡ None = sym is ∙ ap no_jsl (same_bytes bytes lent) ∙ r.jsl in cc
       stops why (NoPlace address call none is) =
-          none owner r.table r.offset (lies_back held old state agrees Purges sound address owner r.table r.offset
-          (subst (λ (n : ℕ). IsAt held state n owner r.table r.offset) (same_address address call.bytes call.lent call.address_is) r.is_at))
+          none r.owner r.table r.offset (lies_back held old state agrees Purges sound address r.owner r.table r.offset
+          (subst (λ (n : ℕ). IsAt held state n r.owner r.table r.offset) (same_address address call.bytes call.lent call.address_is) r.is_at))
       stops why (NoEntry place leads table apart' is) =
           anywhere (λ address id' n offset at'. target_at_code (targets_of at'.s) 0 offset ≡ Some t → ⊥) place leads.lies
           (λ at' found.
           let none : target_at_code (targets_of (followed.s held old state sound agrees place.address place.user place.segment place.offset leads.lies)) 0 place.offset ≡ None =
           followed.none held old state sound agrees place.address place.user place.segment place.offset leads.lies table apart' in
           let clash : Some t ≡ None = sym found ∙ ap (λ (x : Segment). target_at_code (targets_of x) 0 place.offset) (same_segment place leads.lies at') ∙ none in cc)
-          (address_of (take 4 (drop at r.bytes))) owner r.table r.offset (same_address place.address leads.call.bytes leads.call.lent leads.call.address_is) r.is_at r.target
+          (address_of (take 4 (drop at r.bytes))) r.owner r.table r.offset (same_address place.address leads.call.bytes leads.call.lent leads.call.address_is) r.is_at r.target
 
       leads : (place : answers.Entered) → EntersPlace old id number at place → ⊥
       leads place enters =
@@ -206,49 +193,58 @@ module _ (held : FileMap) (old : Loaded) (state : Machine) (sound : IsSound old.
           (λ at' table.
           let clash : true ≡ false = sym table ∙ ap (λ (x : Segment). is_table (head_of x)) (same_segment place lies at')
           ∙ followed.same_table held old state sound agrees place.address place.user place.segment place.offset lies ∙ enters.plain in cc)
-          (address_of (take 4 (drop at r.bytes))) owner r.table r.offset (same_address place.address enters.leads.call.bytes enters.leads.call.lent enters.leads.call.address_is) r.is_at r.is_table
+          (address_of (take 4 (drop at r.bytes))) r.owner r.table r.offset (same_address place.address enters.leads.call.bytes enters.leads.call.lent enters.leads.call.address_is) r.is_at r.is_table
 
-    none_needed : ((owner : ℕ) (t : Target) → ¬ Reaches held state id number at owner t) → IsReadFor held state (Jsl id number at) 0
-    none_needed none = ([], inr (none, refl), refl)
+    none_needed : ((other : ℕ) (t : Target) → ¬ Reaches held state id number at other t) → IsReadFor held state (Jsl id number at) 0 0
+    none_needed none = ([], inr (none, refl), alone 0)
 
-    -- an entry needs the path of the table's user where its segment isn't there
-    module _ (below : (place address : ℕ) → HoldsByte address (slot_at old.memory.slots place) → address < 2 ^ 24) (owner segment offset : ℕ) (calls : CallsEntry old id number at owner segment offset) where
+    -- an entry needs the path of the file that it names, where its segment isn't there
+    module _ (below : (place address : ℕ) → HoldsByte address (slot_at old.memory.slots place) → address < 2 ^ 24) (other segment offset : ℕ) (calls : CallsEntry old id number at other segment offset) where
       abbrev place : answers.Entered
       place = calls.place
-
-      abbrev its : IsKept held old state agrees place.user calls.entry.lies.is.kept
-      its = followed.its held old state sound agrees place.address place.user place.segment place.offset calls.entry.lies
 
       abbrev t : Target
       t = (followed.t held old old state sound agrees below below id number at 0 0 place calls.leads.call calls.target calls.entry).0
 
+      abbrev lead : followed.LeadsInto old.users place.user t
+      lead = followed.lead held old old state sound agrees below below id number at 0 0 place calls.leads.call calls.target calls.entry
+
+      same_other : lead.other ≡ other
+      same_other =
+          let named : named_by (kept_outlines old.users) place.user t.file ≡ Some other =
+          ap (named_by (kept_outlines old.users) place.user) (sym (followed.file_is held old old state sound agrees below below id number at 0 0 place calls.leads.call calls.target calls.entry)) ∙ calls.named in
+          let clash : Some lead.other ≡ Some other = sym lead.named ∙ named in cc
+
+      abbrev its : IsKept held old state agrees lead.other lead.kept
+      its = kept_is held old state agrees lead.other lead.kept lead.made
+
       same_number : t.segment ≡ segment
       same_number = sym (followed.segment_is held old old state sound agrees below below id number at 0 0 place calls.leads.call calls.target calls.entry) ∙ calls.segment'
 
-      same_reads : is_read (presence_at state.slots (handles_of its.user) t.segment) ≡ segment_reads old owner segment
+      same_reads : is_read (presence_at state.slots (handles_of its.user) t.segment) ≡ segment_reads old other segment
       same_reads =
           ap (λ (o : Outline). is_read (presence_at state.slots o.handles t.segment)) (sym its.does_agree.same)
-          ∙ ap (λ (slots : Slots). is_read (presence_at slots calls.entry.lies.is.kept.handles t.segment)) (sym agrees.slots)
-          ∙ sym (ap (λ (o : Option Kept). option_map_or (λ k. is_read (presence_at old.memory.slots k.handles t.segment)) o false) calls.entry.lies.is.made)
-          ∙ ap (λ (n : ℕ). segment_reads old n t.segment) calls.its ∙ ap (segment_reads old owner) same_number
+          ∙ ap (λ (slots : Slots). is_read (presence_at slots lead.kept.handles t.segment)) (sym agrees.slots)
+          ∙ sym (ap (λ (o : Option Kept). option_map_or (λ k. is_read (presence_at old.memory.slots k.handles t.segment)) o false) lead.made)
+          ∙ ap (λ (n : ℕ). segment_reads old n t.segment) same_other ∙ ap (segment_reads old other) same_number
 
-      entry_needs : (b : Bool) → segment_reads old owner segment ≡ b → IsReadFor held state (Jsl id number at) (length (path_if None b its.user.path))
+      entry_needs : (b : Bool) → segment_reads old other segment ≡ b → IsReadFor held state (Jsl id number at) 0 (length (path_if None b its.user.path))
       entry_needs b is = (
         path_if None b its.user.path,
         inl (
-          place.user,
+          lead.other,
           t,
           followed.reaches held old old state sound agrees below below id number at 0 0 place calls.leads.call calls.target calls.entry,
           its.user,
           its.made,
           sym (ap (λ (x : Bool). path_if None x its.user.path) (same_reads ∙ is)),
         ),
-        refl,
+        alone (length (path_if None b its.user.path)),
       )
 
     pub jsl_needs : (below : (place address : ℕ) → HoldsByte address (slot_at old.memory.slots place) → address < 2 ^ 24) (before now : ℕ) → HasAsked old id number at before now
-        → ReadsNeeded held state (Jsl id number at) before now
-    jsl_needs below before now (inl (reads, is)) = (1, entry_needs below reads.owner reads.segment reads.offset reads.calls true reads.reads, is)
-    jsl_needs below before now (inr (IsRefused why stopped, is)) = (0, none_needed (λ owner t r. stops owner t r why stopped), is)
-    jsl_needs below before now (inr (IsPlace place enters, is)) = (0, none_needed (λ owner t r. leads owner t r place enters), is)
-    jsl_needs below before now (inr (IsThere owner segment offset calls there, is)) = (0, entry_needs below owner segment offset calls false there, is)
+        → ReadsNeeded held state (Jsl id number at) 0 before now
+    jsl_needs below before now (inl (reads, is)) = (1, entry_needs below reads.other reads.segment reads.offset reads.calls true reads.reads, is)
+    jsl_needs below before now (inr (IsRefused why stopped, is)) = (0, none_needed (λ other t r. stops other t r why stopped), is)
+    jsl_needs below before now (inr (IsPlace place enters, is)) = (0, none_needed (λ other t r. leads other t r place enters), is)
+    jsl_needs below before now (inr (IsThere other segment offset calls there, is)) = (0, entry_needs below other segment offset calls false there, is)

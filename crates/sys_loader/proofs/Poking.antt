@@ -128,7 +128,6 @@ sound_written memory users slot w sound same tables = record {
       } in is';
   once = sound.once;
   only = sound.only;
-  bare = sound.bare;
   attached = sound.attached;
   calls = λ p n k g j has table there inside. subst (λ (bs : List ℕ). IsCall users (first_id + p) (target_at bs k)) (sym (others_bytes memory slot w j.slot (tables p n g j has table)))
       (sound.calls p n k g j has table there inside);
@@ -263,7 +262,7 @@ module _ (held : FileMap) (old : Loaded) (state : Machine) (id number at byte : 
           let found' : segment_at is.does_agree.segments number ≡ Some s = subst (λ (m : ℕ). segment_at is.does_agree.segments m ≡ Some s) eq found in
           let heads = its_head s found' in
           let plain : is_table (head_of s) ≡ false = subst (λ (f : Head). is_table f ≡ false) heads can.plain in
-          let sized = stands_long is.does_agree.segments n s (setting_with (far_in old id) id old.memory.slots can.is.kept.handles) was.pokes (loadable_has is.does_agree.holds.file is.does_agree.segments is.does_agree.holds.taken.loadable n s found) in
+          let sized = stands_long is.does_agree.segments n s (setting_with (far_in old id) id old.memory.slots can.is.kept.handles) was.pokes (loadable_has is.does_agree.holds.file is.does_agree.segments is.does_agree.holds.loadable n s found) in
           let inside : at < s.fields.length = omega (arith, can.inside, ap (λ (f : Head). f.length) heads) in
           let handle : k ≡ h = same_Some k h (sym has' ∙ ap (handle_at can.is.kept.handles) eq ∙ can.is.handle) in
           let before : IsFront (stands (setting_with (far_in old id) id old.memory.slots can.is.kept.handles) (held_at is.user n).pokes s) (bytes_at old.memory k.slot) = is.does_agree.begins there n s k found has' present in

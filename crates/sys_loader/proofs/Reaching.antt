@@ -1,8 +1,9 @@
 -- What a JSL reaches, as it is looked up.
-use Rattle.std.proofs.Common.{◌≡◌, ◌≢◌, inl, inr, ℕ, Bool, true, false, ◌+◌, ◌-◌, ◌*◌, ◌<◌, ◌≤◌, length, drop, List, Option, Some, None, IsSome, refl, sym, ap, subst, ◌∙◌, arith}
+use Rattle.std.proofs.Common.{◌≡◌, ◌≢◌, inl, inr, ℕ, Bool, true, false, ◌==◌, ◌+◌, ◌-◌, ◌*◌, ◌<◌, ◌≤◌, length, drop, List, Option, Some, None, IsSome, refl, sym, ap, subst, ◌∙◌, arith}
 use Rattle.std.specs.Prelude.{IsSomeAnd, option_map}
 use Rattle.std.proofs.lemmas.List.{length-take-le, length-drop}
 use Rattle.std.proofs.lemmas.Option.{same_Some}
+use Rattle.std.proofs.lemmas.Bool.{cases_eq}
 use Rattle.omf_format.specs.Header.{is_dynamic, is_skipped}
 use Rattle.omf_io.specs.Counts.{one_more}
 use Rattle.load_meaning.specs.declared.table.Target.{Target}
@@ -14,12 +15,12 @@ use Rattle.loader_machine.specs.declared.faults.LoaderFault.TheVariants as fault
 use Rattle.loader_machine.specs.declared.seen.Head.{Head}
 use Rattle.loader_machine.specs.Heads.{at_number, is_table}
 use Rattle.loader_machine.specs.declared.seen.Life.TheVariants.{Running}
-use Rattle.loader_machine.specs.State.{Seen, first_id, user_of}
+use Rattle.loader_machine.specs.State.{Seen, first_id, user_of, named_by}
 use Rattle.loader_machine.specs.Presences.{handle_at, presence, there_at}
 use Rattle.loader_machine.specs.Refusals.{load_segment_refusal}
-use Rattle.loader_agrees.specs.Agrees.{Kept, Loaded, IsSound, seen_in, seen_by}
+use Rattle.loader_agrees.specs.Agrees.{Kept, Loaded, kept_outlines, AreAttached, IsCall, IsSound, seen_in, seen_by}
 use Rattle.loader_agrees.specs.Acts.{HasLent, LiesIn}
-use Rattle.loader_agrees.specs.laws.Bare.{bare_named}
+use Rattle.loader_agrees.specs.laws.Leading.{row_of}
 use Rattle.loader_agrees.specs.laws.Seeing.{made_at, has, block_room}
 use Rattle.sys_loader.specs.declared.answers.Entered.{Entered}
 use Rattle.sys_loader.specs.Activating.{segment_reads}
@@ -39,6 +40,24 @@ pub passes_all : (seen : Seen) (number : ℕ) (head : Head) → seen.life ≡ Ru
     → load_segment_refusal (Some seen) number ≡ None
 unfolding load_segment_refusal
 passes_all seen number head runs head' kept dynamic = rw (runs, head', kept, dynamic) refl
+
+-- the user that an entry names runs where the table's user does
+pub named_runs : (users : List (Option Kept)) → AreAttached users → (owner file other : ℕ) (k k' : Kept) → user_of users owner ≡ Some k → k.life ≡ Running → named_by (kept_outlines users) owner file ≡ Some other
+    → user_of users other ≡ Some k' → k'.life ≡ Running
+named_runs users attached owner file other k k' made runs named made' = elim (cases_eq file 1) [
+  | inl own ↦
+      (let test : (file == 1) ≡ true = grind (arith, own) in
+      let it : owner ≡ other = same_Some owner other (rw test at named) in
+      let same : k ≡ k' = same_Some k k' (sym made ∙ ap (user_of users) it ∙ made') in
+      ap (λ (x : Kept). x.life) (sym same) ∙ runs)
+  | inr far ↦
+      (let test : (file == 1) ≡ false = grind (arith, far) in
+      let row = row_of users owner file other (rw test at named) in
+      let one = attached.each (owner - first_id) (file - 2) other row.0 (made_at users owner row.0 row.1).0 row.2 in
+      let same : one.0 ≡ k' = same_Some one.0 k' (sym one.1 ∙ made') in
+      let same' : row.0 ≡ k = same_Some row.0 k (sym row.1 ∙ made) in
+      ap (λ (x : Kept). x.life) (sym same) ∙ one.2.same ∙ ap (λ (x : Kept). x.life) same' ∙ runs)
+]
 
 -- ---- the segment in which an address lies
 
@@ -62,19 +81,21 @@ module _ (loader : Loaded) (address owner segment offset : ℕ) (lies : LiesIn l
   pub lent_here : (handle : Option Handle) (bytes : List ℕ) → handle ≡ Some lies.h → IsSomeAnd handle (λ h. bytes ≡ bytes_at loader.memory h.slot) → bytes ≡ bytes_at loader.memory lies.h.slot
   lent_here handle bytes is here = subst (λ (o : Option Handle). IsSomeAnd o (λ h. bytes ≡ bytes_at loader.memory h.slot)) is here
 
-  -- its segment can be made active
+  -- its segment, of the user that it names, can be made active
   pub entry_passes : IsSound loader.memory loader.users → is_table lies.is.head ≡ true → (k : ℕ) → k < entry_count lies.is.head.length
-      → load_segment_refusal (seen_by loader owner) (target_at (bytes_at loader.memory lies.h.slot) k).segment ≡ None
+      → (other : ℕ) × (named_by (kept_outlines loader.users) owner (target_at (bytes_at loader.memory lies.h.slot) k).file ≡ Some other)
+      × (load_segment_refusal (seen_by loader other) (target_at (bytes_at loader.memory lies.h.slot) k).segment ≡ None)
   entry_passes sound table k inside =
       let place = made_at loader.users owner lies.is.kept lies.is.made in
       let its = has loader sound owner segment lies.h lies.is in
       let there : IsSome (there_at (presence loader.memory.slots (Some lies.h))) = rw lies.is.active refl in
-      let call = sound.calls (owner - first_id) segment k lies.is.head lies.h its table there inside in
-      let named = bare_named loader.users sound.bare (first_id + (owner - first_id)) (target_at (bytes_at loader.memory lies.h.slot) k).file call.other call.named in
-      let same : call.kept ≡ lies.is.kept = same_Some call.kept lies.is.kept (sym call.made ∙ ap (user_of loader.users) (named.1 ∙ place.1) ∙ lies.is.made) in
-      ap (λ (o : Option Kept). load_segment_refusal (option_map seen_in o) (target_at (bytes_at loader.memory lies.h.slot) k).segment) lies.is.made
-      ∙ passes_all (seen_in lies.is.kept) (target_at (bytes_at loader.memory lies.h.slot) k).segment call.head lies.is.runs
-      (ap (λ (x : Kept). at_number x.heads (target_at (bytes_at loader.memory lies.h.slot) k).segment) (sym same) ∙ call.head') call.loaded call.dynamic
+      let t = target_at (bytes_at loader.memory lies.h.slot) k in
+      let call = subst (λ (n : ℕ). IsCall loader.users n t) place.1 (sound.calls (owner - first_id) segment k lies.is.head lies.h its table there inside) in
+      let runs = named_runs loader.users sound.attached owner t.file call.other lies.is.kept call.kept lies.is.made lies.is.runs call.named call.made in (
+        call.other,
+        call.named,
+        ap (λ (o : Option Kept). load_segment_refusal (option_map seen_in o) t.segment) call.made ∙ passes_all (seen_in call.kept) t.segment call.head runs call.head' call.loaded call.dynamic,
+      )
 
 -- ---- a place
 
@@ -90,15 +111,17 @@ module _ (loader : Loaded) (id number at : ℕ) (place : Entered) (leads : Leads
   no_entry table apart = NoEntry place leads (ap is_table same ∙ table) (λ k inside. apart k (subst (λ (h : Head). k < entry_count h.length) same inside)) refl
 
   pub calls_entry : IsSound loader.memory loader.users → (handle : Option Handle) → handle_at kept.handles place.segment ≡ handle → is_table head ≡ true → (k : ℕ) → k < entry_count head.length → entry_place k ≡ place.offset
-      → (bytes : List ℕ) → IsSomeAnd handle (λ h. bytes ≡ bytes_at loader.memory h.slot) → (t : Target) → t ≡ target_at bytes k → CallsEntry loader id number at place.user t.segment t.offset
-  calls_entry sound handle handle' table k inside code bytes here t is =
+      → (bytes : List ℕ) → IsSomeAnd handle (λ h. bytes ≡ bytes_at loader.memory h.slot) → (t : Target) → t ≡ target_at bytes k → (other : ℕ) → named_by (kept_outlines loader.users) place.user t.file ≡ Some other
+      → CallsEntry loader id number at other t.segment t.offset
+  calls_entry sound handle handle' table k inside code bytes here t is other named =
       let its_handle = handle_same loader place.address place.user place.segment place.offset leads.lies kept made handle handle' in
       let its_bytes = lent_here loader place.address place.user place.segment place.offset leads.lies handle bytes its_handle here in
       let its_target : t ≡ target_at (bytes_at loader.memory leads.lies.h.slot) k = is ∙ ap (λ (bs : List ℕ). target_at bs k) its_bytes in
+      let passes = entry_passes loader place.address place.user place.segment place.offset leads.lies sound (ap is_table same ∙ table) k (subst (λ (h : Head). k < entry_count h.length) (sym same) inside) in
+      let one : passes.0 ≡ other = same_Some passes.0 other (sym passes.1 ∙ ap (λ (x : Target). named_by (kept_outlines loader.users) place.user x.file) (sym its_target) ∙ named) in
       record {
         place = place;
         leads = leads;
-        its = refl;
         target = t;
         entry = record {
           lies = leads.lies;
@@ -108,11 +131,26 @@ module _ (loader : Loaded) (id number at : ℕ) (place : Entered) (leads : Leads
           code = code;
           target_is = its_target;
         };
+        named = named;
         segment' = refl;
         offset' = refl;
-        passes = rw its_target (entry_passes loader place.address place.user place.segment place.offset leads.lies sound (ap is_table same ∙ table) k
-            (subst (λ (h : Head). k < entry_count h.length) (sym same) inside));
+        passes = ap (λ (x : Target). load_segment_refusal (seen_by loader other) x.segment) its_target
+            ∙ subst (λ (n : ℕ). load_segment_refusal (seen_by loader n) (target_at (bytes_at loader.memory leads.lies.h.slot) k).segment ≡ None) one passes.2;
       }
+
+-- an entry of a table names a user
+module _ (loader : Loaded) (address owner segment offset : ℕ) (lies : LiesIn loader address owner segment offset) (kept : Kept) (made : user_of loader.users owner ≡ Some kept)
+    (head : Head) (head' : at_number kept.heads segment ≡ Some head) where
+  pub names_one : IsSound loader.memory loader.users → (handle : Option Handle) → handle_at kept.handles segment ≡ handle → is_table head ≡ true → (k : ℕ) → k < entry_count head.length
+      → (bytes : List ℕ) → IsSomeAnd handle (λ h. bytes ≡ bytes_at loader.memory h.slot) → (t : Target) → t ≡ target_at bytes k → IsSome (named_by (kept_outlines loader.users) owner t.file)
+  names_one sound handle handle' table k inside bytes here t is =
+      let its_head = head_same loader address owner segment offset lies kept made head head' in
+      let its_handle = handle_same loader address owner segment offset lies kept made handle handle' in
+      let its_bytes = lent_here loader address owner segment offset lies handle bytes its_handle here in
+      let its_target : t ≡ target_at (bytes_at loader.memory lies.h.slot) k = is ∙ ap (λ (bs : List ℕ). target_at bs k) its_bytes in
+      let passes = entry_passes loader address owner segment offset lies sound (ap is_table its_head ∙ table) k (subst (λ (h : Head). k < entry_count h.length) (sym its_head) inside) in
+      let there : named_by (kept_outlines loader.users) owner t.file ≡ Some passes.0 = ap (λ (x : Target). named_by (kept_outlines loader.users) owner x.file) its_target ∙ passes.1 in
+      rw there refl
 
 -- ---- reads
 
@@ -124,4 +162,4 @@ has_asked loader id number at owner segment offset calls before now asked unaske
   where
     go : (b : Bool) → segment_reads loader owner segment ≡ b → HasAsked loader id number at before now
     go false is = inr (IsThere owner segment offset calls is, unasked is)
-    go true is = inl (record { owner = owner; segment = segment; offset = offset; calls = calls; reads = is }, asked calls.passes is)
+    go true is = inl (record { other = owner; segment = segment; offset = offset; calls = calls; reads = is }, asked calls.passes is)

@@ -1,10 +1,10 @@
 -- A user that is restarted in place, as it is done.
 use Rattle.std.proofs.Common.{◌≡◌, inl, inr, ℕ, zero, suc, Bool, true, false, cond, ◌==◌, ◌+◌, ◌-◌, ◌^◌, ◌<◌, ◌≤◌, List, [], ◌∷◌, length, map, get_or, Option, Some, None, IsSome, refl, sym, ap, subst, ◌∙◌, arith}
 use Rattle.std.specs.Prelude.{slice_get, IsSomeAnd, option_map}
-use Rattle.std.specs.Option.{option_and_then}
+use Rattle.std.specs.Option.{option_map_or, option_and_then}
 use Rattle.std.specs.List.{AllByRecursion}
 use Rattle.std.proofs.lemmas.Bool.{and_parts, cases_eq}
-use Rattle.std.proofs.lemmas.Option.{same_Some, slice_get_within, slice_get-get_or}
+use Rattle.std.proofs.lemmas.Option.{same_Some, slice_get_within, slice_get-get_or, slice_get-map}
 use Rattle.std.proofs.lemmas.List.{length-map}
 use Rattle.omf_format.specs.File.{Segment}
 use Rattle.load_meaning.specs.declared.table.Target.{Target}
@@ -14,48 +14,65 @@ use Rattle.iigs_meaning.specs.declared.wants.Block.{Block}
 use Rattle.iigs_meaning.specs.Slots.{get, slot_at}
 use Rattle.iigs_meaning.specs.Fits.{Slots, block_in}
 use Rattle.iigs_meaning.specs.Memory.{Memory, bytes_at}
+use Rattle.loader_machine.specs.declared.faults.LoaderFault.{LoaderFault}
 use Rattle.loader_machine.specs.declared.faults.LoaderFault.TheVariants as fault
 use Rattle.loader_machine.specs.declared.seen.Head.{Head}
 use Rattle.loader_machine.specs.declared.seen.Life.TheVariants.{Running, Dormant}
 use Rattle.loader_machine.specs.declared.seen.Presence.{Presence}
 use Rattle.loader_machine.specs.declared.seen.Presence.TheVariants.{Absent, Purged, Idle, Active}
 use Rattle.loader_machine.specs.Heads.{head_of, at_number, is_static, is_table, entry_in}
-use Rattle.loader_machine.specs.State.{Seen, first_id, user_of, with_user}
+use Rattle.loader_machine.specs.State.{Seen, first_id, user_of, with_user, with_all}
 use Rattle.loader_machine.specs.Presences.{handle_at, presence, presence_at, there_at, is_there, is_active, active_at}
-use Rattle.loader_machine.specs.Taken.{IsTaken}
+use Rattle.load_meaning.specs.Loadable.{IsLoadable}
 use Rattle.loader_machine.specs.Refusals.{restart_refusal}
 use Rattle.loader_machine.specs.Stands.{nowhere, place_in, setting, target_with}
-use Rattle.loader_machine.specs.Steps.{active_block, changed_all, static_handles, is_read_again}
-use Rattle.loader_agrees.specs.Agrees.{Kept, Loaded, IsCall, Has, IsSound}
+use Rattle.loader_machine.specs.Steps.{active_block, changed_all, static_handles, is_read_again, lost_refusal}
+use Rattle.loader_agrees.specs.Agrees.{Kept, Loaded, outline, IsCall, Has, IsSound}
 use Rattle.loader_agrees.specs.laws.Begun.{decide}
-use Rattle.loader_agrees.specs.laws.EntryReads.{own_call}
+use Rattle.loader_agrees.specs.laws.EntryReads.{its_call}
 use Rattle.loader_agrees.specs.laws.Lists.{number_map}
 use Rattle.loader_agrees.specs.laws.Reads.{headed, head_at}
-use Rattle.loader_agrees.specs.laws.Seeing.{made_at}
+use Rattle.loader_agrees.specs.laws.Rows.{IsReached, all_reached}
+use Rattle.loader_agrees.specs.laws.Seeing.{made_at, user_is}
 use Rattle.sys_loader.specs.declared.answers.Started.{Started}
 use Rattle.sys_loader.specs.declared.user.Segment as users
 use Rattle.sys_loader.specs.declared.user.User.{User}
 use Rattle.sys_loader.specs.View.{kept}
+use Rattle.sys_loader.specs.Lives.{with_life}
 use Rattle.sys_loader.specs.Filling.{IsSetting, AreReady, AreFilled}
-use Rattle.sys_loader.specs.Restarting.{is_whole, AreReread, HasResumed, AreActivated, static_handle, again_handle}
+use Rattle.sys_loader.specs.Restarting.{is_whole, AreReread, HasResumed, AreActivated, static_handle, again_handle, heads_in, kept_heads}
 use Rattle.sys_loader.proofs.Written.{heads_of, handles_of}
 use Rattle.sys_loader.proofs.Settling.{addresses, address_is}
 use Rattle.sys_loader.proofs.Resuming.{IsQuiet, there_all, number_suc}
+use Rattle.sys_loader.proofs.Leads.{at_most}
 use Rattle.sys_loader.proofs.Static.{live_of, same_changed}
 
 -- ---- the refusal
 
-pub restart_none : (user : Option Seen) → user ≡ None → restart_refusal user ≡ Some fault.NoUser
+-- an attached user is refused as if there were none
+pub restart_attached : (attached : Bool) (user : Option Seen) (why : LoaderFault) → why ≡ fault.NoUser → attached ≡ true → restart_refusal attached user ≡ Some why
 unfolding restart_refusal
-restart_none user is = rw is refl
+restart_attached attached None why is own = ap (λ (f : LoaderFault). Some f) (sym is)
+restart_attached attached (Some seen) why is own = rw own (ap (λ (f : LoaderFault). Some f) (sym is))
 
-pub restart_runs : (user : Option Seen) (seen : Seen) → user ≡ Some seen → seen.life ≡ Running → restart_refusal user ≡ Some fault.Running
+pub restart_none : (attached : Bool) (user : Option Seen) → user ≡ None → restart_refusal attached user ≡ Some fault.NoUser
 unfolding restart_refusal
-restart_runs user seen is runs = rw (is, runs) refl
+restart_none attached user is = rw is refl
 
-pub restart_rests : (user : Option Seen) (seen : Seen) → user ≡ Some seen → seen.life ≡ Dormant → restart_refusal user ≡ None
+pub restart_runs : (attached : Bool) (user : Option Seen) (seen : Seen) → attached ≡ false → user ≡ Some seen → seen.life ≡ Running → restart_refusal attached user ≡ Some fault.Running
 unfolding restart_refusal
-restart_rests user seen is rests = rw (is, rests) refl
+restart_runs attached user seen own is runs = rw (is, own, runs) refl
+
+pub restart_rests : (attached : Bool) (user : Option Seen) (seen : Seen) → attached ≡ false → user ≡ Some seen → seen.life ≡ Dormant → restart_refusal attached user ≡ None
+unfolding restart_refusal
+restart_rests attached user seen own is rests = rw (is, own, rests) refl
+
+-- one that passes is attached to no user
+pub restart_alone : (attached : Bool) (user : Option Seen) → restart_refusal attached user ≡ None → attached ≡ false
+unfolding restart_refusal
+restart_alone true None none = absurd cc
+restart_alone true (Some seen) none = absurd cc
+restart_alone false user none = refl
 
 -- ---- it runs
 
@@ -63,7 +80,7 @@ pub quiet_same : (memory : Memory) → IsQuiet memory memory
 quiet_same memory = record { banks = refl; slots = refl; sizes = λ slot. refl }
 
 pub has_resumed : (old : Memory) (users' : List (Option Kept)) (id : ℕ) (k : Kept) (items : List users.Segment) (started : Started) (new : Loaded) → heads_of items ≡ k.heads → handles_of items ≡ k.handles → started.user ≡ id
-    → AreActivated (map static_handle items) old new.memory → new.users ≡ with_user users' id (Some (record k { life = Running }))
+    → AreActivated (map static_handle items) old new.memory → new.users ≡ with_all (with_life Running) (with_user users' id (Some (record k { life = Running }))) k.attached
     → started.entry ≡ entry_in (heads_of items) (place_in new.memory.slots (handles_of items)) 1 → HasResumed old users' id k started new
 has_resumed old users' id k items started new heads handles user activated runs entry = record {
   user = user;
@@ -99,19 +116,48 @@ quiet_sound old new users' sound quiet calls = record {
       };
   once = sound.once;
   only = λ slot b found user. sound.only slot b (sym (ap (λ (t : Slots). block_in (slot_at t slot)) quiet.slots) ∙ found) user;
-  bare = sound.bare;
   attached = sound.attached;
   calls = λ p n k g j has table there inside. calls p n k g j has table (subst (λ (t : Slots). IsSome (there_at (presence t (Some j)))) quiet.slots there) inside;
 }
 
 -- so they do where a user's segments are read again from the file that was loaded
 module _ (old middle : Memory) (users' : List (Option Kept)) (id : ℕ) (kept : Kept) (sound : IsSound old users') (made : user_of users' id ≡ Some kept) (file : List ℕ) (segments : List Segment)
-    (taken : IsTaken file segments) (heads : map head_of segments ≡ kept.heads) (reread : AreReread segments id kept old middle) where
+    (taken : IsLoadable file segments) (heads : map head_of segments ≡ kept.heads) (none : lost_refusal (kept_heads users' kept.attached) segments ≡ None) (reread : AreReread segments id kept old middle) where
   its_place : (slice_get users' (id - first_id) ≡ Some (Some kept)) × (first_id + (id - first_id) ≡ id)
   its_place = made_at users' id kept made
 
   one_kept : (a b : Kept) → Some (Some a) ≡ Some (Some b) → a ≡ b
   one_kept a b e = cc
+
+  -- an entry for another file leads to an attached user
+  far_call : (t : Target) → 2 ≤ t.file → IsReached (kept_heads users' kept.attached) t → IsCall users' id t × (t.file < 2 ^ 16) × (t.segment < 2 ^ 16)
+  far_call t above reached = go (slice_get kept.attached (t.file - 2)) refl (sym (slice_get-map (heads_in users') kept.attached (t.file - 2)) ∙ reached.row)
+    where
+      heads_are : (m : ℕ) (u : Kept) → user_of users' m ≡ Some u → heads_in users' m ≡ reached.heads → u.heads ≡ reached.heads
+      heads_are m u is' e' = sym (ap (λ (o : Option Kept). option_map_or (λ (k : Kept). k.heads) o []) is') ∙ e'
+
+      go : (o : Option ℕ) → slice_get kept.attached (t.file - 2) ≡ o → option_map (heads_in users') o ≡ Some reached.heads → IsCall users' id t × (t.file < 2 ^ 16) × (t.segment < 2 ^ 16)
+      go None e is = absurd cc
+      go (Some m) e is =
+          let one = sound.attached.each (id - first_id) (t.file - 2) m kept its_place.0 e in
+          let there = made_at users' m one.0 one.1 in
+          let head' : at_number one.0.heads t.segment ≡ Some reached.head = ap (λ (hs : List Head). at_number hs t.segment) (heads_are m one.0 one.1 (same_Some (heads_in users' m) reached.heads is)) ∙ reached.head' in
+          let kind = one.2.dynamic t.segment reached.head head' in
+          let within = slice_get_within kept.attached (t.file - 2) m e in
+          let other : (t.file == 1) ≡ false = grind arith in (
+            record {
+              other = m;
+              named = rw other (rw (user_is outline users' id, made) e);
+              kept = one.0;
+              made = one.1;
+              head = reached.head;
+              head' = head';
+              dynamic = kind.0;
+              loaded = kind.1;
+            },
+            omega (arith, within, above, sound.attached.few (id - first_id) kept its_place.0),
+            omega (arith, at_most one.0.heads t.segment reached.head head', sound.short (m - first_id) one.0 there.0),
+          )
 
   -- a segment that is read again
   again_call : (p n k : ℕ) (g : Head) (j : Handle) → Has users' p n g j → is_table g ≡ true → k < entry_count g.length → p ≡ id - first_id → is_read_again g ≡ true
@@ -124,8 +170,9 @@ module _ (old middle : Memory) (users' : List (Option Kept)) (id : ℕ) (kept : 
       let short : length segments < 2 ^ 16 = omega (arith, sound.short (id - first_id) kept its_place.0, ap length heads, length-map segments head_of) in
       let front = reread.begins n s.0 j s.1 (ap is_read_again s.2 ∙ again) handle in
       subst (λ (q : ℕ). IsCall users' q (target_at (bytes_at middle j.slot) k)) (omega (arith, its_place.1, here))
-      (own_call file segments taken short users' id kept made (sym heads) (setting id old.slots kept.handles) n k s.0 (bytes_at middle j.slot) s.1 (ap is_table s.2 ∙ table) front
-      (omega (arith, inside, ap (λ (x : Head). entry_count x.length) s.2)))
+      (its_call file segments taken short users' id kept made (sym heads) (setting id old.slots kept.handles) n k s.0 (bytes_at middle j.slot) s.1 (ap is_table s.2 ∙ table) front
+      (omega (arith, inside, ap (λ (x : Head). entry_count x.length) s.2))
+      (λ t found above. far_call t above (all_reached file segments (kept_heads users' kept.attached) taken none n k s.0 t s.1 (ap is_table s.2 ∙ table) found above)))
 
   -- and any other
   plain_call : (p n k : ℕ) (g : Head) (j : Handle) → Has users' p n g j → is_table g ≡ true → IsSome (there_at (presence old.slots (Some j))) → k < entry_count g.length
@@ -188,10 +235,6 @@ again_at items (suc k) head h found again has = go items k found has
     go [] i e e' = absurd cc
     go (x ∷ xs) zero e e' = ap (λ (b : Bool). cond b x.handle None) (ap is_read_again (same_Some x.head head e) ∙ again) ∙ e'
     go (x ∷ xs) (suc i) e e' = go xs i e e'
-
-at_most : (heads : List Head) (n : ℕ) (g : Head) → at_number heads n ≡ Some g → n ≤ length heads
-at_most heads zero g e = omega arith
-at_most heads (suc m) g e = let inside = slice_get_within heads m g e in omega (arith, inside)
 
 module _ (old : Loaded) (id : ℕ) (user : User) (sound : IsSound old.memory old.users) (made : user_of old.users id ≡ Some (kept user)) where
   abbrev place : ℕ

@@ -19,12 +19,12 @@ module _ (held : Option FileMap) (old new : Loaded) (id : ℕ) (k : Kept) (can :
 
   pub did_reload : (r : Result Started LoaderFault) → is_whole old k ≡ true → IfOk r (λ started. HasReloaded file old id k started new) → IfErr r (IsAgainRefusal file old id k) → OnErr r (new ≡ old)
       → DidRestart held old id r new before now
-  did_reload (Ok started) whole did none kept = (k, can, Reread whole (again_needed whole) file is_read did.0 did.1 did.2 did.3 did.4 did.5, same)
+  did_reload (Ok started) whole did none kept = (k, can, Reread whole (again_needed whole) file is_read did.0 did.1 did.2 did.3 did.4 did.5 did.6, same)
   did_reload (Err why) whole did none kept = (CantRestart k can reads file is_read none same, kept)
 
   pub did_begin : (r : Result Started LoaderFault) → is_whole old k ≡ false → IfOk r (λ started. HasBegunFrom file old id k started new) → IfErr r (IsAgainRefusal file old id k) → OnErr r (new ≡ old)
       → DidRestart held old id r new before now
-  did_begin (Ok started) gone did none kept = (k, can, Anew gone file is_read did.0 did.1 did.2 did.3, same)
+  did_begin (Ok started) gone did none kept = (k, can, Anew gone file is_read did.0 did.1 did.2 did.3 did.4, same)
   did_begin (Err why) gone did none kept = (CantRestart k can reads file is_read none same, kept)
 
 -- where the file hasn't to be read, all are there and none is read again

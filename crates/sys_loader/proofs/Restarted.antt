@@ -1,14 +1,14 @@
 -- A program that is restarted is the machine's step.
-use Rattle.std.proofs.Common.{◌≡◌, inl, inr, ℕ, zero, suc, Bool, true, false, ◌<◌, List, [], ◌∷◌, length, map, Option, Some, None, Result, Ok, Err, refl, sym, ap, subst, ◌∙◌, arith}
+use Rattle.std.proofs.Common.{◌≡◌, inl, inr, ℕ, zero, suc, Bool, true, false, ◌-◌, ◌<◌, List, [], ◌∷◌, length, map, Option, Some, None, Result, Ok, Err, refl, sym, ap, subst, ◌∙◌, arith}
 use Rattle.std.specs.Prelude.{not, ◌||◌, IsSomeAnd, slice_get}
 use Rattle.std.specs.Option.{option_map, option_map_or}
 use Rattle.std.specs.FinMap as maps
-use Rattle.std.proofs.lemmas.Bool.{or_parts}
+use Rattle.std.proofs.lemmas.Bool.{or_parts, cases_eq}
 use Rattle.std.proofs.lemmas.Option.{same_Some}
 use Rattle.omf_format.specs.File.{Segment}
 use Rattle.omf_io.specs.Files.{FileMap, IsRead, IsUnread, max_file}
 use Rattle.load_meaning.specs.declared.load.LoadFault.{LoadFault}
-use Rattle.loader_machine.specs.Taken.{IsTaken, IsFirstRefusal}
+use Rattle.load_meaning.specs.Loadable.{IsLoadable, IsFirstLoadFault}
 use Rattle.iigs_meaning.specs.declared.faults.PlaceFault.{PlaceFault}
 use Rattle.iigs_meaning.specs.declared.faults.PlaceFault.TheVariants as place
 use Rattle.iigs_meaning.specs.Fits.{Slots}
@@ -18,23 +18,28 @@ use Rattle.loader_machine.specs.declared.faults.LoaderFault.{LoaderFault}
 use Rattle.loader_machine.specs.declared.faults.LoaderFault.TheVariants as fault
 use Rattle.loader_machine.specs.declared.seen.Head.{Head}
 use Rattle.loader_machine.specs.Heads.{head_of, at_number, wants_of}
-use Rattle.loader_machine.specs.State.{User, Machine, Seen, with_user, handles_of}
+use Rattle.loader_machine.specs.State.{Machine, Seen, first_id, user_of, with_user, handles_of, outlines, attached_at, is_attached}
 use Rattle.loader_machine.specs.Found.{HoldsLoad, Bad, Good}
 use Rattle.loader_machine.specs.laws.OnceLaws.{one_load, found_once}
 use Rattle.loader_machine.specs.Commands.{Reply, Started, Restart, Refused}
 use Rattle.loader_machine.specs.Refusals.{Refuse, restart_refusal}
-use Rattle.loader_machine.specs.Steps.{Sees, seen_of, NoSlots, Lacks, Begins, Either, StepsRestart, Steps, active_block, changed_all, are_there, static_handles, is_read_again, entry_of, started_user}
+use Rattle.loader_machine.specs.Steps.{Sees, seen_of, NoSlots, Lacks, Begins, Either, StepsRestart, Steps, active_block, changed_all, are_there, static_handles, is_read_again, entry_of, again_users, lost_refusal}
 use Rattle.loader_machine.specs.Needs as needs
 use Rattle.loader_machine.specs.Needs.{Needs, some_read_again, path_if}
-use Rattle.loader_agrees.specs.Agrees.{Kept, Loaded, Outline, seen_in, Agrees, IsSound, Meets}
-use Rattle.loader_agrees.specs.laws.Seeing.{IsKept, kept_is, refuses, does}
+use Rattle.loader_agrees.specs.Agrees.{Kept, Loaded, Outline, kept_outlines, AreAttached, seen_in, seen_by, Agrees, IsSound, Meets}
+use Rattle.loader_agrees.specs.laws.Seeing.{IsKept, kept_is, made_at, refuses, does}
 use Rattle.sys_loader.specs.declared.answers.Started as answers
 use Rattle.sys_loader.specs.Replies.{load_reply}
 use Rattle.sys_loader.specs.Calls.{IsBeginRefusal}
-use Rattle.sys_loader.specs.Restarting.{CanRestart, is_whole, restart_reads, AreReread, HasResumed, released_memory, HasBegunAnew, HasRestarted, InPlace, Reread, Anew, IsAgainRefusal, IsRestartRefusal, IsStopped, CantRead, LacksMemory, CantRestart, DidRestart}
+use Rattle.sys_loader.specs.Restarting.{CanRestart, is_whole, restart_reads, AreReread, HasResumed, released_memory, HasBegunAnew, HasRestarted, InPlace, Reread, Anew, IsAgainRefusal, IsRestartRefusal, IsStopped, CantRead, LacksMemory, CantRestart, DidRestart, kept_heads}
 use Rattle.sys_loader.proofs.Activated.{not_changed}
 use Rattle.sys_loader.proofs.Resuming.{quiet_reread, resumed_agrees}
-use Rattle.sys_loader.proofs.Again.{begun_anew_agrees, begins_anew}
+use Rattle.sys_loader.proofs.Again.{next, begun_anew_agrees, begins_anew}
+use Rattle.sys_loader.specs.Lives.{HasItsUsers}
+use Rattle.sys_loader.proofs.Families.{user_set, user_apart}
+use Rattle.sys_loader.proofs.Leading.{no_row}
+use Rattle.sys_loader.proofs.Losing.{entries_none}
+use Rattle.sys_loader.proofs.Reloading.{restart_alone}
 
 -- where none is read again, no header is of such a segment
 none_again : (heads : List Head) (n : ℕ) (head : Head) → some_read_again heads ≡ false → at_number heads n ≡ Some head → is_read_again head ≡ true → ⊥
@@ -47,6 +52,21 @@ none_again heads (suc k) head none found again = go heads k none found
         let both = or_parts (is_read_again g) (some_read_again gs) none' in
         let clash : true ≡ false = sym again ∙ ap is_read_again (sym (same_Some g head e)) ∙ both.0 in absurd cc
     go (g ∷ gs) (suc i) none' e = go gs i (or_parts (is_read_again g) (some_read_again gs) none').1 e
+
+-- those that are attached to a user are there where it is another
+pub its_there : (users : List (Option Kept)) → AreAttached users → (id : ℕ) (k b : Kept) → user_of users id ≡ Some k → b.attached ≡ k.attached → HasItsUsers (with_user users id (Some b)) id
+its_there users attached id k b made same = λ now place n is row.
+    let one : now ≡ b = same_Some now b (sym is ∙ user_set users id k made (Some b)) in
+    let row' : slice_get k.attached place ≡ Some n = ap (λ (ns : List ℕ). slice_get ns place) (sym (ap (λ (x : Kept). x.attached) one ∙ same)) ∙ row in
+    let other = attached.each (id - first_id) place n k (made_at users id k made).0 row' in
+    elim (cases_eq n id) [
+      | inl eq ↦ (let there : user_of (with_user users id (Some b)) n ≡ Some b = ap (user_of (with_user users id (Some b))) eq ∙ user_set users id k made (Some b) in rw there refl)
+      | inr ne ↦ (let there : user_of (with_user users id (Some b)) n ≡ Some other.0 = user_apart users id k made (Some b) n ne ∙ other.1 in rw there refl)
+    ]
+
+-- no row names a user that can be restarted
+pub can_top : (old : Loaded) (id : ℕ) (kept : Kept) → IsSound old.memory old.users → CanRestart old id kept → (q f : ℕ) → attached_at (kept_outlines old.users) q f ≡ Some id → ⊥
+can_top old id kept sound can = no_row old.users id kept sound.attached can.made (restart_alone (is_attached (kept_outlines old.users) id) (seen_by old id) can.passes)
 
 module _ (held : FileMap) (old : Loaded) (state : Machine) (id : ℕ) (sound : IsSound old.memory old.users) (agrees : Agrees held old state) (kept : Kept) (can : CanRestart old id kept) where
   abbrev is : IsKept held old state agrees id kept
@@ -63,8 +83,16 @@ module _ (held : FileMap) (old : Loaded) (state : Machine) (id : ℕ) (sound : I
       ap (λ (t : Slots). are_there t kept.heads kept.handles 1) agrees.slots ∙ ap (λ (hs : List Head). are_there state.slots hs kept.handles 1) is.does_agree.heads
       ∙ ap (λ (o : Outline). are_there state.slots (map head_of is.does_agree.segments) o.handles 1) is.does_agree.same
 
+  -- as the machine has it
+  passes_there : restart_refusal (is_attached (outlines state.users) id) (seen_by old id) ≡ None
+  passes_there = ap (λ (os : List (Option Outline)). restart_refusal (is_attached os id) (seen_by old id)) (sym agrees.users) ∙ can.passes
+
+  -- no row names the user
+  top : (q f : ℕ) → attached_at (kept_outlines old.users) q f ≡ Some id → ⊥
+  top = can_top old id kept sound can
+
   step : (reply : Reply) (next : Machine) → StepsRestart Purges held state id reply next → Steps Purges held state (Restart id) reply next
-  step reply next steps = does held old state agrees id restart_refusal reply next (λ user. StepsRestart Purges held state id reply next) can.passes is.user is.made steps
+  step reply next steps = does held old state agrees id (restart_refusal (is_attached (outlines state.users) id)) reply next (λ user. StepsRestart Purges held state id reply next) passes_there is.user is.made steps
 
   in_place_yes : (b : Bool) (P Q : Type 0) → b ≡ true → P → Either b P Q
   in_place_yes b P Q whole p = rw whole p
@@ -76,8 +104,8 @@ module _ (held : FileMap) (old : Loaded) (state : Machine) (id : ℕ) (sound : I
   needs_path : restart_reads old id ≡ true → Needs held state (Restart id) (is.user.path ∷ [])
   needs_path reads =
       let seen_same : seen_in kept ≡ seen_of is.user is.does_agree.segments = same_seen in
-      let passes : restart_refusal (Some (seen_of is.user is.does_agree.segments)) ≡ None =
-      ap (λ (s : Seen). restart_refusal (Some s)) (sym seen_same) ∙ ap restart_refusal (sym (ap (option_map seen_in) can.made)) ∙ can.passes in
+      let passes : restart_refusal (is_attached (outlines state.users) id) (Some (seen_of is.user is.does_agree.segments)) ≡ None =
+      ap (λ (s : Seen). restart_refusal (is_attached (outlines state.users) id) (Some s)) (sym seen_same) ∙ ap (restart_refusal (is_attached (outlines state.users) id)) (sym (ap (option_map seen_in) can.made)) ∙ passes_there in
       let here : needs.restart_reads state (seen_of is.user is.does_agree.segments) ≡ true =
       ap (λ (b : Bool). not b || some_read_again (map head_of is.does_agree.segments)) (sym whole_same)
       ∙ ap (λ (hs : List Head). not (is_whole old kept) || some_read_again hs) (sym is.does_agree.heads)
@@ -94,15 +122,19 @@ module _ (held : FileMap) (old : Loaded) (state : Machine) (id : ℕ) (sound : I
           let heads : kept.heads ≡ map head_of is.does_agree.segments = is.does_agree.heads in
           cc
 
-  same_load : (file : List ℕ) (segments : List Segment) → IsRead (Some held) kept.path file → IsTaken file segments → is.does_agree.segments ≡ segments
+  same_load : (file : List ℕ) (segments : List Segment) → IsRead (Some held) kept.path file → IsLoadable file segments → is.does_agree.segments ≡ segments
   same_load file segments is_read taken =
-      one_load held kept.path is.does_agree.segments segments is.does_agree.holds (record { file = file; is_held = (is_read.1, is_read.0); taken = taken })
+      one_load held kept.path is.does_agree.segments segments is.does_agree.holds (record { file = file; is_held = (is_read.1, is_read.0); loadable = taken })
 
-  not_bad : (file : List ℕ) (bad : LoadFault) → IsRead (Some held) kept.path file → IsFirstRefusal file bad → ⊥
+  not_bad : (file : List ℕ) (bad : LoadFault) → IsRead (Some held) kept.path file → IsFirstLoadFault file bad → ⊥
   not_bad file bad is_read first =
       let same : Bad bad ≡ Good is.does_agree.segments =
       found_once held kept.path (Bad bad) (Good is.does_agree.segments) (record { file = file; is_held = (is_read.1, is_read.0); first = first }) is.does_agree.holds in
       absurd cc
+
+  -- no entry of its table is lost
+  none_lost : lost_refusal (kept_heads old.users kept.attached) is.does_agree.segments ≡ None
+  none_lost = entries_none old.users (id - first_id) kept held is.does_agree.segments is.does_agree.holds sound.attached agrees.entries (made_at old.users id kept can.made).0
 
   -- ---- it runs again
 
@@ -124,25 +156,29 @@ module _ (held : FileMap) (old : Loaded) (state : Machine) (id : ℕ) (sound : I
             sees = sees;
             is = in_place_yes _ _ _ (sym whole_same ∙ whole) (ap (λ (n : ℕ). Started n started.entry) did.user ∙ ap (λ (e : Option ℕ). Started id e) entry, refl);
           }),
-          resumed_agrees old new id kept started sound can.made whole middle (quiet_reread is.does_agree.segments id kept old.memory middle reread) did is.does_agree.segments reread held state agrees refl,
+          resumed_agrees old new id kept started sound can.made can.rests top whole middle (quiet_reread is.does_agree.segments id kept old.memory middle reread) did is.does_agree.segments reread held state agrees refl,
         ),
         refl,
       )
 
+  rows_are : is.user.attached ≡ kept.attached
+  rows_are = ap (λ (o : Outline). o.attached) (sym is.does_agree.same)
+
   begun : (new : Loaded) (started : answers.Started) (now : ℕ) → is_whole old kept ≡ false → HasBegunAnew old id kept is.does_agree.segments started new
       → Meets Purges held state (Restart id) (Started started.user started.entry) new now now
   begun new started now gone did =
-      let next : Machine = record { banks = state.banks; slots = new.memory.slots; users = with_user state.users id (Some (started_user kept.path (map head_of is.does_agree.segments) did.placed.handles)) } in
+      let same : map head_of is.does_agree.segments ≡ kept.heads = sym is.does_agree.heads in
+      let then_next = next old new id kept is.does_agree.segments started sound can.made can.rests top same did held state agrees is.does_agree.holds in
       inl (
         (
-          next,
-          subst (λ (n : ℕ). Steps Purges held state (Restart id) (Started n started.entry) next) (sym did.user)
-              (step (Started id started.entry) next (record {
+          then_next,
+          subst (λ (n : ℕ). Steps Purges held state (Restart id) (Started n started.entry) then_next) (sym did.user)
+              (step (Started id started.entry) then_next (record {
                 sees = sees;
-                is = in_place_no _ _ _ (sym whole_same ∙ gone) (subst (λ (p : List ℕ). Begins Purges state (without_user state.slots id) p id is.does_agree.segments (λ (u : User). with_user state.users id (Some u)) (Started id started.entry) next) path_same
-                    (begins_anew old new id kept is.does_agree.segments started sound can.made did held state agrees is.does_agree.holds));
+                is = in_place_no _ _ _ (sym whole_same ∙ gone) (subst (λ (p : List ℕ). Begins Purges state (without_user state.slots id) p id is.does_agree.segments (again_users state id is.user) (Started id started.entry) then_next) path_same
+                    (begins_anew old new id kept is.does_agree.segments started sound can.made can.rests top same did held state agrees is.does_agree.holds is.user rows_are));
               })),
-          begun_anew_agrees old new id kept is.does_agree.segments started sound can.made did held state agrees is.does_agree.holds,
+          begun_anew_agrees old new id kept is.does_agree.segments started sound can.made can.rests top same did held state agrees is.does_agree.holds,
         ),
         refl,
       )
@@ -156,10 +192,10 @@ module _ (held : FileMap) (old : Loaded) (state : Machine) (id : ℕ) (sound : I
     stay = λ slot apart. refl;
     sizes = λ slot. refl;
   }) did
-  restarted new started now (Reread whole some file is_read segments taken same middle reread did) =
+  restarted new started now (Reread whole some file is_read segments taken none same middle reread did) =
       let ours = same_load file segments is_read taken in
       resumed new started middle now whole (subst (λ (ss : List Segment). AreReread ss id kept old.memory middle) (sym ours) reread) did
-  restarted new started now (Anew gone file is_read segments taken same did) =
+  restarted new started now (Anew gone file is_read segments taken none same did) =
       let ours = same_load file segments is_read taken in
       begun new started now gone (subst (λ (ss : List Segment). HasBegunAnew old id kept ss started new) (sym ours) did)
 
@@ -177,7 +213,7 @@ module _ (held : FileMap) (old : Loaded) (state : Machine) (id : ℕ) (sound : I
   unread why before now reads (inr (inr rose)) is_why = inr (inl (ap (λ (f : LoaderFault). Refused f) is_why, is.user.path ∷ [], needs_path reads, (λ none. absurd cc), agrees, rose))
 
   none_begins : (why : LoaderFault) → IsBeginRefusal (released_memory old.memory id) id kept.heads why
-      → Begins Purges state (without_user state.slots id) is.user.path id is.does_agree.segments (λ (u : User). with_user state.users id (Some u)) (Refused why) state
+      → Begins Purges state (without_user state.slots id) is.user.path id is.does_agree.segments (again_users state id is.user) (Refused why) state
   none_begins why refusal = go refusal
     where
       moved : (f : PlaceFault) → IsPlaceAllRefusal Purges old.memory.banks id (without_user old.memory.slots id) (wants_of kept.heads) f
@@ -188,7 +224,7 @@ module _ (held : FileMap) (old : Loaded) (state : Machine) (id : ℕ) (sound : I
           (subst (λ (b : List ℕ). IsPlaceAllRefusal Purges b id (without_user old.memory.slots id) (wants_of kept.heads) f) agrees.banks p))
 
       go : IsBeginRefusal (released_memory old.memory id) id kept.heads why
-          → Begins Purges state (without_user state.slots id) is.user.path id is.does_agree.segments (λ (u : User). with_user state.users id (Some u)) (Refused why) state
+          → Begins Purges state (without_user state.slots id) is.user.path id is.does_agree.segments (again_users state id is.user) (Refused why) state
       go (inl slots) = record { put = NoSlots; is_put = moved place.NoHandle slots.1; lands = (ap (λ (f : LoaderFault). Refused f) slots.0, refl) }
       go (inr room) = record {
         put = Lacks room.0;
@@ -199,7 +235,11 @@ module _ (held : FileMap) (old : Loaded) (state : Machine) (id : ℕ) (sound : I
   none_again_from : (file : List ℕ) (why : LoaderFault) (now : ℕ) → IsRead (Some held) kept.path file → IsAgainRefusal file old id kept why → Meets Purges held state (Restart id) (Refused why) old now now
   none_again_from file why now is_read (inl (inl short)) = inr (inr (ap (λ (f : LoaderFault). Refused f) short, agrees, refl))
   none_again_from file why now is_read (inl (inr bad)) = absurd (not_bad file bad.0 is_read bad.1)
-  none_again_from file why now is_read (inr (segments, taken, inl changes)) =
+  none_again_from file why now is_read (inr (segments, taken, inl (inl lost))) =
+      let same = same_load file segments is_read taken in
+      let none : lost_refusal (kept_heads old.users kept.attached) segments ≡ None = subst (λ (ss : List Segment). lost_refusal (kept_heads old.users kept.attached) ss ≡ None) same none_lost in
+      let clash : Some why ≡ None = sym lost ∙ none in absurd cc
+  none_again_from file why now is_read (inr (segments, taken, inl (inr (none, changes)))) =
       let same = same_load file segments is_read taken in
       absurd (not_changed kept.heads (map head_of segments) why (ap (map head_of) (sym same) ∙ sym is.does_agree.heads) changes)
   none_again_from file why now is_read (inr (segments, taken, inr none)) =
@@ -215,7 +255,10 @@ module _ (held : FileMap) (old : Loaded) (state : Machine) (id : ℕ) (sound : I
 module _ (held : FileMap) (old : Loaded) (state : Machine) (id : ℕ) (sound : IsSound old.memory old.users) (agrees : Agrees held old state) where
   restart_refused : (why : LoaderFault) (before now : ℕ) → IsRestartRefusal (Some held) old id before now why → Meets Purges held state (Restart id) (Refused why) old before now
   restart_refused why before now (IsStopped is same) =
-      subst (λ (n : ℕ). Meets Purges held state (Restart id) (Refused why) old before n) (sym same) (inl ((state, refuses held old state agrees id restart_refusal why _ is, agrees), refl))
+      subst (λ (n : ℕ). Meets Purges held state (Restart id) (Refused why) old before n) (sym same) (inl (
+        (state, refuses held old state agrees id (restart_refusal (is_attached (outlines state.users) id)) why _ (ap (λ (os : List (Option Outline)). restart_refusal (is_attached os id) (seen_by old id)) (sym agrees.users) ∙ is), agrees),
+        refl,
+      ))
   restart_refused why before now (CantRead kept can reads none is_why) = unread held old state id sound agrees kept can why before now reads none is_why
   restart_refused why before now (LacksMemory passes reads short same) = inr (inr (ap (λ (f : LoaderFault). Refused f) short, agrees, same))
   restart_refused why before now (CantRestart kept can reads file is_read none same) =

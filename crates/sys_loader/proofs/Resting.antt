@@ -1,12 +1,14 @@
--- A user that is kept dormant.
-use Rattle.std.proofs.Common.{◌≡◌, ◌≢◌, ◌⊎◌, inl, inr, ℕ, zero, suc, Bool, true, false, ◌+◌, ◌-◌, ◌^◌, ◌<◌, ◌≤◌, List, [], length, map, Option, Some, None, IsSome, refl, sym, ap, subst, ◌∙◌, arith}
-use Rattle.std.specs.Prelude.{slice_get, slice_set, option_map, unwrap_or, Contains}
+-- A user that is kept dormant, with those that are attached to it.
+use Rattle.std.proofs.Common.{◌≡◌, ◌≢◌, ◌⊎◌, inl, inr, ℕ, Bool, true, false, ◌+◌, ◌-◌, ◌<◌, ◌≤◌, List, [], length, Option, Some, None, IsSome, refl, sym, ap, subst, ◌∙◌, arith}
+use Rattle.std.specs.Prelude.{slice_get, unwrap_or, Contains}
 use Rattle.std.specs.Option.{option_and_then}
 use Rattle.std.proofs.lemmas.Bool.{cases_eq}
-use Rattle.std.proofs.lemmas.Option.{same_Some, slice_get_within}
+use Rattle.std.proofs.lemmas.Option.{same_Some}
 use Rattle.omf_format.specs.File.{Segment, segment_at}
 use Rattle.omf_io.specs.Files.{FileMap}
+use Rattle.load_meaning.specs.declared.table.Target.{Target}
 use Rattle.load_meaning.specs.LoadTable as load
+use Rattle.load_meaning.specs.LoadTable.{target_at, entry_count}
 use Rattle.iigs_meaning.specs.declared.handles.Handle.{Handle}
 use Rattle.iigs_meaning.specs.declared.wants.Block.{Block}
 use Rattle.iigs_meaning.specs.Slots.{slot_at, get}
@@ -14,120 +16,100 @@ use Rattle.iigs_meaning.specs.Fits.{Slots, block_in}
 use Rattle.iigs_meaning.specs.Puts.{Purges}
 use Rattle.iigs_meaning.specs.Memory.{Memory, bytes_at}
 use Rattle.loader_machine.specs.declared.faults.LoaderFault.{LoaderFault}
+use Rattle.loader_machine.specs.declared.faults.LoaderFault.TheVariants.{NoUser}
 use Rattle.loader_machine.specs.declared.seen.Head.{Head}
 use Rattle.loader_machine.specs.declared.seen.Life.TheVariants.{Running, Dormant}
 use Rattle.loader_machine.specs.declared.seen.Presence.{Presence}
 use Rattle.loader_machine.specs.declared.seen.Presence.TheVariants.{Absent, Purged, Idle, Active}
 use Rattle.loader_machine.specs.Heads.{head_of, at_number, is_static, is_table}
-use Rattle.loader_machine.specs.State.{Seen, User, Machine, first_id, user_of, with_user}
+use Rattle.loader_machine.specs.State.{User, Machine, Seen, Outline, outline_of, outlines, first_id, user_of, family, handles_in, handles_of_all, with_all, attached_at, is_attached}
+use Rattle.loader_machine.specs.State as state_of
 use Rattle.loader_machine.specs.Presences.{handle_at, presence, presence_at, there_at, active_at, is_active, lies_in, lies_at}
-use Rattle.loader_machine.specs.Stands.{setting_with}
-use Rattle.loader_machine.specs.Refusals.{of_user, of_running, shut_down_refusal}
+use Rattle.loader_machine.specs.Stands.{setting_with, far_of}
+use Rattle.loader_machine.specs.Refusals.{shut_down_refusal}
 use Rattle.loader_machine.specs.Commands.{Okay, ShutDown}
 use Rattle.loader_machine.specs.Steps.{let_go, changed_all, kept_state}
-use Rattle.loader_agrees.specs.Agrees.{Kept, Loaded, Outline, outline, outline_of, seen_by, far_in, UserAgrees, AreBare, Agrees, IsCall, IsOf, Has, IsSound, Met}
+use Rattle.loader_agrees.specs.Agrees.{Kept, Loaded, outline, kept_outlines, far_in, seen_by, IsJoined, AreAttached, IsCall, UserAgrees, Agrees, IsOf, Has, IsSound, Met}
 use Rattle.loader_agrees.specs.laws.Begun.{decide}
 use Rattle.loader_agrees.specs.laws.Checks.{PassesRunning, StopsRunning}
-use Rattle.loader_agrees.specs.laws.Frame.{Same}
-use Rattle.loader_agrees.specs.laws.Lists.{set_map, set_at, set_apart, length_set}
+use Rattle.loader_agrees.specs.laws.RowUsers.{user_there}
+use Rattle.loader_agrees.specs.laws.Frame.{Same, agrees_still}
 use Rattle.loader_agrees.specs.laws.Reads.{head_at}
-use Rattle.loader_agrees.specs.laws.Seeing.{made_at, IsKept, kept_is, does, has_any}
+use Rattle.loader_agrees.specs.laws.Seeing.{made_at, user_is, IsKept, kept_is, does, has_any}
 use Rattle.loader_agrees.specs.laws.Stay.{is_there}
-use Rattle.loader_agrees.specs.laws.Bare.{bare_far, bare_attached, bare_still, bare_set, bare_entries, bare_call}
-use Rattle.loader_agrees.specs.laws.BegunRows.{user_there}
 use Rattle.sys_loader.specs.Renewing.{AreRenewed}
-use Rattle.sys_loader.specs.Lives.{AreIdled, HasKept}
-use Rattle.load_meaning.specs.declared.table.Target.{Target}
 use Rattle.sys_loader.proofs.Lead.{target_stays}
-use Rattle.sys_loader.proofs.Shifting.{there_block, room_there}
-use Rattle.sys_loader.proofs.Turned.{Becomes, Stays, Turns, Turned, own_leads, turned_agrees}
+use Rattle.sys_loader.specs.Lives.{with_life, AreIdled, HasKept}
+use Rattle.sys_loader.proofs.Shifting.{there_block}
+use Rattle.sys_loader.proofs.Relived as relived
+use Rattle.sys_loader.proofs.Together.{is_in, in_last, in_front, in_either, Was, with_all_get, among, from_among, map_all, length_all}
+use Rattle.sys_loader.proofs.Turned.{Becomes, Stays, Turns, Turned, turned_agrees}
+use Rattle.sys_loader.proofs.Leads.{at_most, entries_lead}
 use Rattle.sys_loader.proofs.ChangedAll.{all_here, all_apart, all_in, let_go_again, let_go_at, let_go_user, let_go_want, let_go_form, let_go_active_at}
-
--- ---- the refusal
-
-pub keep_is : (user : Option Seen) → shut_down_refusal user true ≡ of_user user (λ seen. of_running seen None)
-unfolding shut_down_refusal
-keep_is user = refl
-
-pub keep_stops : (user : Option Seen) (fault : LoaderFault) → StopsRunning user fault → shut_down_refusal user true ≡ Some fault
-keep_stops user fault stops = keep_is user ∙ stops (λ seen. None)
-
-pub keep_passes : (user : Option Seen) (seen : Seen) → PassesRunning user seen → shut_down_refusal user true ≡ None
-keep_passes user seen runs = keep_is user ∙ runs (λ seen. None)
-
--- ---- the loader
 
 none_in : (place : ℕ) → ¬ Contains {X = ℕ} [] place
 none_in place found = omega (arith, found.1)
 
--- the handle with a number is one of the list
-handle_in : (handles : List (Option Handle)) (n : ℕ) (h : Handle) → handle_at handles n ≡ Some h → (i : ℕ) × (n ≡ i + 1) × (slice_get handles i ≡ Some (Some h))
-handle_in handles zero h is = absurd cc
-handle_in handles (suc i) h is = (i, omega arith, go (slice_get handles i) refl is)
-  where
-    go : (o : Option (Option Handle)) → slice_get handles i ≡ o → option_and_then (λ (x : Option Handle). x) o ≡ Some h → slice_get handles i ≡ Some (Some h)
-    go None e found = absurd cc
-    go (Some x) e found = e ∙ ap (λ (y : Option Handle). Some y) found
+abbrev rests : Kept → Kept
+rests = with_life Dormant
 
-module _ (old new : Loaded) (id : ℕ) (sound : IsSound old.memory old.users) (did : HasKept old id new) where
+module _ (old new : Loaded) (id : ℕ) (sound : IsSound old.memory old.users) (did : HasKept old id new) (top : (q f : ℕ) → attached_at (kept_outlines old.users) q f ≡ Some id → ⊥) where
   abbrev place : ℕ
   place = id - first_id
 
   abbrev kept : Kept
   kept = did.kept
 
-  abbrev rests : Kept
-  rests = record kept { life = Dormant }
+  abbrev ids : List ℕ
+  ids = family id kept.attached
+
+  abbrev In : ℕ → Bool
+  In p = is_in ids (first_id + p)
 
   its_users : (slice_get old.users place ≡ Some (Some kept)) × (first_id + place ≡ id)
   its_users = made_at old.users id kept did.made
 
-  slots_are : new.memory.slots ≡ changed_all let_go old.memory.slots kept.handles
-  slots_are = did.idled.slots ∙ ap (λ (t : Slots). changed_all let_go t kept.handles) did.renewed.slots
-
-  -- ---- users
-
-  -- a user is as before, or it is the one that rests
-  users_now : (p : ℕ) (k : Kept) → slice_get new.users p ≡ Some (Some k) → ((p ≡ place) × (k ≡ rests)) ⊎ ((p ≢ place) × (slice_get old.users p ≡ Some (Some k)))
-  users_now p k made = elim (cases_eq p place) [
-    | inl eq ↦
-        let inside = slice_get_within old.users place (Some kept) its_users.0 in
-        let now : slice_get new.users p ≡ Some (Some rests) = ap (λ (us : List (Option Kept)). slice_get us p) did.users ∙ ap (slice_get (slice_set old.users place (Some rests))) eq ∙ set_at old.users place (Some rests) inside in
-        inl (eq, one k rests (sym made ∙ now))
-    | inr ne ↦ inr (ne, sym (set_apart old.users place p (Some rests) ne) ∙ ap (λ (us : List (Option Kept)). slice_get us p) (sym did.users) ∙ made)
-  ]
+  kept_one : (p : ℕ) (k : Kept) → slice_get old.users p ≡ Some (Some k) → p ≡ place → k ≡ kept
+  kept_one p k found eq = go k kept (sym found ∙ ap (slice_get old.users) eq ∙ its_users.0)
     where
-      one : (a b : Kept) → Some (Some a) ≡ Some (Some b) → a ≡ b
-      one a b e = cc
+      go : (a b : Kept) → Some (Some a) ≡ Some (Some b) → a ≡ b
+      go a b e = cc
+
+  place_in : In place ≡ true
+  place_in = ap (is_in ids) its_users.1 ∙ in_last kept.attached id
+
+  slots_are : new.memory.slots ≡ changed_all let_go old.memory.slots (handles_of_all (kept_outlines old.users) ids)
+  slots_are = did.idled.slots ∙ ap (λ (t : Slots). changed_all let_go t (handles_of_all (kept_outlines old.users) ids)) did.renewed.slots
+
+  -- a user of the family is the user itself, or an attached one
+  which : (p : ℕ) (k : Kept) → slice_get old.users p ≡ Some (Some k) → In p ≡ true → ((p ≡ place) × (k ≡ kept)) ⊎ ((i : ℕ) × (slice_get kept.attached i ≡ Some (first_id + p)) × IsJoined kept.life k)
+  which p k made inside = relived.which old.users sound.attached id kept did.made top ids (in_last kept.attached id) (in_front kept.attached id) (in_either kept.attached id) p k made inside
+
+  users_now : (p : ℕ) (k : Kept) → slice_get new.users p ≡ Some (Some k) → Was rests (relived.life_again Dormant) old.users ids p k
+  users_now p k made = relived.users_now old.users new.users Dormant ids did.users p k made
 
   has_before : (p n : ℕ) (head : Head) (h : Handle) → Has new.users p n head h → Has old.users p n head h
-  has_before p n head h has = elim (users_now p has.kept has.made) [
-    | inl it ↦ record {
-      kept = kept;
-      made = ap (slice_get old.users) it.0 ∙ its_users.0;
-      head' = ap (λ (k : Kept). at_number k.heads n) (sym it.1) ∙ has.head';
-      handle = ap (λ (k : Kept). handle_at k.handles n) (sym it.1) ∙ has.handle;
-    }
-    | inr other ↦ record { kept = has.kept; made = other.1; head' = has.head'; handle = has.handle }
-  ]
+  has_before p n head h has = relived.has_before old.users new.users Dormant ids did.users p n head h has
+
+  user_then : (n : ℕ) (k : Kept) → user_of old.users n ≡ Some k
+      → (v : Kept) × (user_of new.users n ≡ Some v) × (v.heads ≡ k.heads) × (v.attached ≡ k.attached) × (v.handles ≡ k.handles) × (((is_in ids n ≡ true) × (v ≡ rests k)) ⊎ ((is_in ids n ≡ false) × (v ≡ k)))
+  user_then n k is = relived.user_then old.users new.users Dormant ids did.users n k is
 
   -- ---- blocks
 
-  own : (n : ℕ) (h : Handle) → handle_at kept.handles n ≡ Some h → (head : Head) × Has old.users place n head h
-  own n h found = has_any old sound place kept its_users.0 n h found
+  family_get : (p n : ℕ) (head : Head) (h : Handle) (b : Block) → Has old.users p n head h → In p ≡ true → get old.memory.slots h ≡ Some b → get new.memory.slots h ≡ Some (let_go b)
+  family_get p n head h b has inside live =
+      let i = among old.users ids (first_id + p) n has.kept h inside (user_there old.users p has.kept has.made) has.handle in
+      ap (λ (t : Slots). get t h) slots_are ∙ all_here let_go let_go_again old.memory.slots (handles_of_all (kept_outlines old.users) ids) h b i.0 live i.1
 
-  own_get : (n : ℕ) (h : Handle) (b : Block) → handle_at kept.handles n ≡ Some h → get old.memory.slots h ≡ Some b → get new.memory.slots h ≡ Some (let_go b)
-  own_get n h b found live =
-      let i = handle_in kept.handles n h found in
-      ap (λ (t : Slots). get t h) slots_are ∙ all_here let_go let_go_again old.memory.slots kept.handles h b i.0 live i.2
-
-  other_get : (p n : ℕ) (head : Head) (h : Handle) → Has old.users p n head h → p ≢ place → get new.memory.slots h ≡ get old.memory.slots h
-  other_get p n head h has ne = ap (λ (t : Slots). get t h) slots_are ∙ all_apart let_go let_go_again old.memory.slots kept.handles h (λ i k found same.
-      let one = own (i + 1) k (ap (handle_at kept.handles) (more i) ∙ ap (option_and_then (λ (x : Option Handle). x)) found) in
-      ne (sound.once p place n (i + 1) head one.0 h k has one.1 same).0)
-    where
-      more : (i : ℕ) → i + 1 ≡ suc i
-      more i = omega arith
+  other_get : (p n : ℕ) (head : Head) (h : Handle) → Has old.users p n head h → In p ≡ false → get new.memory.slots h ≡ get old.memory.slots h
+  other_get p n head h has outside = ap (λ (t : Slots). get t h) slots_are ∙ all_apart let_go let_go_again old.memory.slots (handles_of_all (kept_outlines old.users) ids) h (λ i k found same.
+      let it = from_among old.users ids i k found in
+      let there = made_at old.users it.0 it.1 it.4 in
+      let one = has_any old sound (it.0 - first_id) it.1 there.0 it.2 k it.5 in
+      let both = sound.once p (it.0 - first_id) n it.2 head one.0 h k has one.1 same in
+      let its_id : first_id + p ≡ it.0 = omega (arith, both.0, there.1) in
+      let clash : false ≡ true = sym outside ∙ ap (is_in ids) its_id ∙ it.3 in cc)
 
   -- ---- bytes
 
@@ -138,30 +120,27 @@ module _ (old new : Loaded) (id : ℕ) (sound : IsSound old.memory old.users) (d
   plain_bytes p n g k has plain = did.renewed.stay k.slot (λ m f j le fhead fhandle table same.
       let other : Has old.users place m f j = record { kept = kept; made = its_users.0; head' = fhead; handle = fhandle } in
       let both = sound.once place p m n f g j k other has same in
-      let kept_same : has.kept ≡ kept = kept_is_one has.kept kept (sym has.made ∙ ap (slice_get old.users) (sym both.0) ∙ its_users.0) in
+      let kept_same : has.kept ≡ kept = kept_one p has.kept has.made (sym both.0) in
       let heads : Some g ≡ Some f = sym has.head' ∙ ap (λ (x : Kept). at_number x.heads n) kept_same ∙ ap (at_number kept.heads) (sym both.1) ∙ fhead in
       let clash : true ≡ false = sym table ∙ ap is_table (sym (same_Some g f heads)) ∙ plain (sym both.0) in absurd cc)
-    where
-      kept_is_one : (a b : Kept) → Some (Some a) ≡ Some (Some b) → a ≡ b
-      kept_is_one a b e = cc
 
   sizes : (h : Handle) → IsSome (there_at (presence new.memory.slots (Some h))) → length (bytes_at new.memory h.slot) ≡ length (bytes_at old.memory h.slot)
   sizes h there = ap length (bytes_middle h there) ∙ did.renewed.sizes h.slot
-
-  -- ---- what is true of every loader
 
   room_now : (h : Handle) (b : Block) (size : ℕ) → get new.memory.slots h ≡ Some b → IsSome b.at → size ≤ length (bytes_at old.memory h.slot) → size ≤ length (bytes_at new.memory h.slot)
   room_now h b size live there room =
       let present : IsSome (there_at (presence new.memory.slots (Some h))) = subst (λ (o : Option Block). IsSome (there_at (lies_in h o))) (sym live) (there_block h b there) in
       omega (arith, room, sizes h present)
 
+  by_in : (p : ℕ) → (In p ≡ true) ⊎ (In p ≡ false)
+  by_in p = decide (In p)
+
   each_before : (p n : ℕ) (head : Head) (h : Handle) → Has old.users p n head h → IsOf new.memory (first_id + p) head h
   each_before p n head h has =
       let of' = sound.each p n head h has in
-      elim (cases_eq p place) [
-        | inl eq ↦
-            let found : handle_at kept.handles n ≡ Some h = ap (λ (k : Kept). handle_at k.handles n) (sym (kept_one has.kept kept (sym has.made ∙ ap (slice_get old.users) eq ∙ its_users.0))) ∙ has.handle in
-            let live = own_get n h of'.block found of'.live in
+      elim (by_in p) [
+        | inl inside ↦
+            let live = family_get p n head h of'.block has inside of'.live in
             record {
               block = let_go of'.block;
               live = live;
@@ -170,110 +149,12 @@ module _ (old new : Loaded) (id : ℕ) (sound : IsSound old.memory old.users) (d
               want = omega (arith, of'.want, ap (λ w. w.size) (let_go_want of'.block));
               room = λ there. room_now h (let_go of'.block) head.length live there (of'.room (subst (λ (o : Option ℕ). IsSome o) (let_go_at of'.block) there));
             }
-        | inr ne ↦
-            let live = other_get p n head h has ne ∙ of'.live in
-            record {
-              block = of'.block;
-              live = live;
-              user = of'.user;
-              form = of'.form;
-              want = of'.want;
-              room = λ there. room_now h of'.block head.length live there (of'.room there);
-            }
+        | inr outside ↦
+            let live = other_get p n head h has outside ∙ of'.live in
+            record { block = of'.block; live = live; user = of'.user; form = of'.form; want = of'.want; room = λ there. room_now h of'.block head.length live there (of'.room there) }
       ]
-    where
-      kept_one : (a b : Kept) → Some (Some a) ≡ Some (Some b) → a ≡ b
-      kept_one a b e = cc
 
-  statics_now : (p : ℕ) (k : Kept) (n : ℕ) (head : Head) → slice_get new.users p ≡ Some (Some k) → k.life ≡ Running → at_number k.heads n ≡ Some head → is_static head ≡ true
-      → is_active (presence_at new.memory.slots k.handles n) ≡ true
-  statics_now p k n head made runs found static = elim (users_now p k made) [
-    | inl it ↦ (let clash : Dormant ≡ Running = ap (λ (x : Kept). x.life) (sym it.1) ∙ runs in absurd cc)
-    | inr other ↦ go (handle_at k.handles n) refl other.0 other.1 (sound.statics p k n head other.1 runs found static)
-  ]
-    where
-      go : (o : Option Handle) → handle_at k.handles n ≡ o → p ≢ place → slice_get old.users p ≡ Some (Some k) → is_active (presence old.memory.slots o) ≡ true → is_active (presence_at new.memory.slots k.handles n) ≡ true
-      go None e ne made' active = absurd cc
-      go (Some h) e ne made' active =
-          let has : Has old.users p n head h = record { kept = k; made = made'; head' = found; handle = e } in
-          ap (λ (o : Option Handle). is_active (presence new.memory.slots o)) e ∙ ap (λ (o : Option Block). is_active (lies_in h o)) (other_get p n head h has ne) ∙ active
-
-  has_now : (p n : ℕ) (head : Head) (h : Handle) → Has old.users p n head h → Has new.users p n head h
-  has_now p n head h has = elim (cases_eq p place) [
-    | inl eq ↦
-        let same : has.kept ≡ kept = kept_one has.kept kept (sym has.made ∙ ap (slice_get old.users) eq ∙ its_users.0) in
-        let inside = slice_get_within old.users place (Some kept) its_users.0 in
-        record {
-          kept = rests;
-          made = ap (λ (us : List (Option Kept)). slice_get us p) did.users ∙ ap (slice_get (slice_set old.users place (Some rests))) eq ∙ set_at old.users place (Some rests) inside;
-          head' = ap (λ (k : Kept). at_number k.heads n) (sym same) ∙ has.head';
-          handle = ap (λ (k : Kept). handle_at k.handles n) (sym same) ∙ has.handle;
-        }
-    | inr ne ↦ record {
-      kept = has.kept;
-      made = ap (λ (us : List (Option Kept)). slice_get us p) did.users ∙ set_apart old.users place p (Some rests) ne ∙ has.made;
-      head' = has.head';
-      handle = has.handle;
-    }
-  ]
-    where
-      kept_one : (a b : Kept) → Some (Some a) ≡ Some (Some b) → a ≡ b
-      kept_one a b e = cc
-
-  lengths_now : (p : ℕ) (k : Kept) → slice_get new.users p ≡ Some (Some k) → (length k.handles ≡ length k.heads) × (length k.heads < 2 ^ 16)
-  lengths_now p k made = elim (users_now p k made) [
-    | inl it ↦ subst (λ (x : Kept). (length x.handles ≡ length x.heads) × (length x.heads < 2 ^ 16)) (sym it.1) (sound.lengths place kept its_users.0, sound.short place kept its_users.0)
-    | inr other ↦ (sound.lengths p k other.1, sound.short p k other.1)
-  ]
-
-  only_now : (slot : ℕ) (b : Block) → block_in (slot_at new.memory.slots slot) ≡ Some b → b.user ≢ 0
-      → (p : ℕ) × (n : ℕ) × (head : Head) × (h : Handle) × Has new.users p n head h × (h.slot ≡ slot)
-  only_now slot b found user =
-      let was = all_in let_go let_go_again let_go_user old.memory.slots kept.handles slot b (sym (ap (λ (t : Slots). block_in (slot_at t slot)) slots_are) ∙ found) in
-      let it = sound.only slot was.0 was.1 (λ e. user (sym was.2 ∙ e)) in
-      (it.0, it.1, it.2, it.3, has_now it.0 it.1 it.2 it.3 it.4, it.5)
-
-  rests_now : (p : ℕ) (k : Kept) (n : ℕ) → slice_get new.users p ≡ Some (Some k) → k.life ≡ Dormant → is_active (presence_at new.memory.slots k.handles n) ≡ false
-  rests_now p k n made life = elim (users_now p k made) [
-    | inl it ↦ ap (λ (x : Kept). is_active (presence_at new.memory.slots x.handles n)) it.1 ∙ its_own (handle_at kept.handles n) refl
-    | inr other ↦ go (handle_at k.handles n) refl other.0 other.1 (sound.rests p k n other.1 life)
-  ]
-    where
-      by_place : (p : Presence) → active_at p ≡ None → is_active p ≡ false
-      by_place Absent e = refl
-      by_place (Purged h) e = refl
-      by_place (Idle h a) e = refl
-      by_place (Active h a) e = absurd cc
-
-      its_own : (o : Option Handle) → handle_at kept.handles n ≡ o → is_active (presence_at new.memory.slots kept.handles n) ≡ false
-      its_own None e = ap (λ (o : Option Handle). is_active (presence new.memory.slots o)) e
-      its_own (Some h) e =
-          let one' = own n h e in
-          let of' = sound.each place n one'.0 h one'.1 in
-          ap (λ (o : Option Handle). is_active (presence new.memory.slots o)) e ∙ ap (λ (o : Option Block). is_active (lies_in h o)) (own_get n h of'.block e of'.live)
-          ∙ by_place (lies_at h (let_go of'.block).at (let_go of'.block).locked) (let_go_active_at h of'.block)
-
-      go : (o : Option Handle) → handle_at k.handles n ≡ o → p ≢ place → slice_get old.users p ≡ Some (Some k) → is_active (presence old.memory.slots o) ≡ false → is_active (presence_at new.memory.slots k.handles n) ≡ false
-      go None e ne made' still = ap (λ (o : Option Handle). is_active (presence new.memory.slots o)) e
-      go (Some h) e ne made' still =
-          let one' = has_any old sound p k made' n h e in
-          ap (λ (o : Option Handle). is_active (presence new.memory.slots o)) e ∙ ap (λ (o : Option Block). is_active (lies_in h o)) (other_get p n one'.0 h one'.1 ne) ∙ still
-
-  pub bare_now : AreBare new.users
-  bare_now = subst AreBare (sym did.users) (bare_set old.users sound.bare id rests (sound.bare place kept its_users.0))
-
-  at_most : (heads : List Head) (n : ℕ) (g : Head) → at_number heads n ≡ Some g → n ≤ length heads
-  at_most heads zero g e = omega arith
-  at_most heads (suc m) g e = let inside = slice_get_within heads m g e in omega (arith, inside)
-
-  heads_stay : (p : ℕ) (now was : Kept) → slice_get new.users p ≡ Some (Some now) → slice_get old.users p ≡ Some (Some was) → now.heads ≡ was.heads
-  heads_stay p now was made before = elim (users_now p now made) [
-    | inl it ↦ ap (λ (x : Kept). x.heads) it.1 ∙ ap (λ (x : Kept). x.heads) (kept_one kept was (sym its_users.0 ∙ ap (slice_get old.users) (sym it.0) ∙ before))
-    | inr other ↦ ap (λ (x : Kept). x.heads) (kept_one now was (sym other.1 ∙ before))
-  ]
-    where
-      kept_one : (a b : Kept) → Some (Some a) ≡ Some (Some b) → a ≡ b
-      kept_one a b e = cc
+  -- ---- where the segments are
 
   lies_alike : (h : Handle) (at : Option ℕ) (one other : Bool) → there_at (lies_at h at one) ≡ there_at (lies_at h at other)
   lies_alike h None one other = refl
@@ -282,173 +163,367 @@ module _ (old new : Loaded) (id : ℕ) (sound : IsSound old.memory old.users) (d
   lies_alike h (Some a) false true = refl
   lies_alike h (Some a) false false = refl
 
-  -- where each segment is stays
-  place_same : (p n : ℕ) (g : Head) (j : Handle) → Has old.users p n g j → there_at (presence new.memory.slots (Some j)) ≡ there_at (presence old.memory.slots (Some j))
-  place_same p n g j has = elim (cases_eq p place) [
-    | inl eq ↦
-        (let of' = sound.each p n g j has in
-        let found : handle_at kept.handles n ≡ Some j = ap (λ (k : Kept). handle_at k.handles n) (sym (kept_one has.kept kept (sym has.made ∙ ap (slice_get old.users) eq ∙ its_users.0))) ∙ has.handle in
-        ap (λ (o : Option Block). there_at (lies_in j o)) (own_get n j of'.block found of'.live)
-        ∙ ap (λ (at : Option ℕ). there_at (lies_at j at (let_go of'.block).locked)) (let_go_at of'.block)
-        ∙ lies_alike j of'.block.at (let_go of'.block).locked of'.block.locked
-        ∙ sym (ap (λ (o : Option Block). there_at (lies_in j o)) of'.live))
-    | inr ne ↦ ap (λ (o : Option Block). there_at (lies_in j o)) (other_get p n g j has ne)
-  ]
-    where
-      kept_one : (a b : Kept) → Some (Some a) ≡ Some (Some b) → a ≡ b
-      kept_one a b e = cc
+  module _ (p : ℕ) (k : Kept) (made : slice_get old.users p ≡ Some (Some k)) where
+    own : (n : ℕ) (h : Handle) → handle_at k.handles n ≡ Some h → (head : Head) × Has old.users p n head h
+    own n h found = has_any old sound p k made n h found
 
-  calls_now : (p n k : ℕ) (g : Head) (j : Handle) → Has new.users p n g j → is_table g ≡ true → IsSome (there_at (presence new.memory.slots (Some j))) → k < load.entry_count g.length
-      → IsCall new.users (first_id + p) (load.target_at (bytes_at new.memory j.slot) k)
+    other_same : In p ≡ false → (n : ℕ) (o : Option Handle) → handle_at k.handles n ≡ o → presence new.memory.slots o ≡ presence old.memory.slots o
+    other_same outside n None e = refl
+    other_same outside n (Some h) e = let one = own n h e in ap (lies_in h) (other_get p n one.0 h one.1 outside)
+
+    there_same : In p ≡ true → (n : ℕ) (o : Option Handle) → handle_at k.handles n ≡ o → there_at (presence new.memory.slots o) ≡ there_at (presence old.memory.slots o)
+    there_same inside n None e = refl
+    there_same inside n (Some h) e =
+        let one = own n h e in
+        let of' = sound.each p n one.0 h one.1 in
+        ap (λ (o : Option Block). there_at (lies_in h o)) (family_get p n one.0 h of'.block one.1 inside of'.live)
+        ∙ ap (λ (at : Option ℕ). there_at (lies_at h at (let_go of'.block).locked)) (let_go_at of'.block)
+        ∙ lies_alike h of'.block.at (let_go of'.block).locked of'.block.locked
+        ∙ sym (ap (λ (o : Option Block). there_at (lies_in h o)) of'.live)
+
+    there_now : In p ≡ true → (n : ℕ) → there_at (presence_at new.memory.slots k.handles n) ≡ there_at (presence_at old.memory.slots k.handles n)
+    there_now inside n = there_same inside n (handle_at k.handles n) refl
+
+    none_active : In p ≡ true → (n : ℕ) (o : Option Handle) → handle_at k.handles n ≡ o → active_at (presence new.memory.slots o) ≡ None
+    none_active inside n None e = refl
+    none_active inside n (Some h) e =
+        let one = own n h e in
+        let of' = sound.each p n one.0 h one.1 in
+        ap (λ (o : Option Block). active_at (lies_in h o)) (family_get p n one.0 h of'.block one.1 inside of'.live) ∙ let_go_active_at h of'.block
+
+  by_place : (p : Presence) → active_at p ≡ None → is_active p ≡ false
+  by_place Absent e = refl
+  by_place (Purged h) e = refl
+  by_place (Idle h a) e = refl
+  by_place (Active h a) e = absurd cc
+
+  -- ---- what is true of every loader
+
+  attached_now : AreAttached new.users
+  attached_now = relived.attached_now old.users new.users Dormant ids did.users sound.attached
+      (relived.together old.users sound.attached id kept did.made top ids (in_last kept.attached id) (in_front kept.attached id) (in_either kept.attached id))
+
+  has_now : (p n : ℕ) (head : Head) (h : Handle) → Has old.users p n head h → Has new.users p n head h
+  has_now p n head h has = relived.has_now old.users new.users Dormant ids did.users p n head h has
+
+  statics_now : (p : ℕ) (k : Kept) (n : ℕ) (head : Head) → slice_get new.users p ≡ Some (Some k) → k.life ≡ Running → at_number k.heads n ≡ Some head → is_static head ≡ true
+      → is_active (presence_at new.memory.slots k.handles n) ≡ true
+  statics_now p k n head made runs found static = go (users_now p k made)
+    where
+      go : Was rests (relived.life_again Dormant) old.users ids p k → is_active (presence_at new.memory.slots k.handles n) ≡ true
+      go w = elim w.is [
+        | inl inside ↦ (let clash : Dormant ≡ Running = ap (λ (x : Kept). x.life) (sym inside.1) ∙ runs in absurd cc)
+        | inr outside ↦
+            (let made' : slice_get old.users p ≡ Some (Some k) = w.made ∙ ap (λ (x : Kept). Some (Some x)) (sym outside.1) in
+            let before = sound.statics p k n head made' runs found static in
+            ap is_active (other_same p k made' outside.0 n (handle_at k.handles n) refl) ∙ before)
+      ]
+
+  rests_now : (p : ℕ) (k : Kept) (n : ℕ) → slice_get new.users p ≡ Some (Some k) → k.life ≡ Dormant → is_active (presence_at new.memory.slots k.handles n) ≡ false
+  rests_now p k n made life = go (users_now p k made)
+    where
+      go : Was rests (relived.life_again Dormant) old.users ids p k → is_active (presence_at new.memory.slots k.handles n) ≡ false
+      go w = elim w.is [
+        | inl inside ↦
+            ap (λ (x : Kept). is_active (presence_at new.memory.slots x.handles n)) inside.1
+            ∙ by_place (presence_at new.memory.slots w.was.handles n) (none_active p w.was w.made inside.0 n (handle_at w.was.handles n) refl)
+        | inr outside ↦
+            (let made' : slice_get old.users p ≡ Some (Some k) = w.made ∙ ap (λ (x : Kept). Some (Some x)) (sym outside.1) in
+            ap is_active (other_same p k made' outside.0 n (handle_at k.handles n) refl) ∙ sound.rests p k n made' life)
+      ]
+
+  only_now : (slot : ℕ) (b : Block) → block_in (slot_at new.memory.slots slot) ≡ Some b → b.user ≢ 0
+      → (p : ℕ) × (n : ℕ) × (head : Head) × (h : Handle) × Has new.users p n head h × (h.slot ≡ slot)
+  only_now slot b found user =
+      let was = all_in let_go let_go_again let_go_user old.memory.slots (handles_of_all (kept_outlines old.users) ids) slot b (sym (ap (λ (t : Slots). block_in (slot_at t slot)) slots_are) ∙ found) in
+      let it = sound.only slot was.0 was.1 (λ e. user (sym was.2 ∙ e)) in
+      (it.0, it.1, it.2, it.3, has_now it.0 it.1 it.2 it.3 it.4, it.5)
+
+  was_there : (p n : ℕ) (g : Head) (j : Handle) → Has old.users p n g j → IsSome (there_at (presence new.memory.slots (Some j))) → IsSome (there_at (presence old.memory.slots (Some j)))
+  was_there p n g j has there = elim (by_in p) [
+    | inl inside ↦
+        (let same = there_same p has.kept has.made inside n (Some j) has.handle in subst (λ (o : Option ℕ). IsSome o) same there)
+    | inr outside ↦ subst (λ (x : Presence). IsSome (there_at x)) (other_same p has.kept has.made outside n (Some j) has.handle) there
+  ]
+
+  calls_now : (p n k : ℕ) (g : Head) (j : Handle) → Has new.users p n g j → is_table g ≡ true → IsSome (there_at (presence new.memory.slots (Some j))) → k < entry_count g.length
+      → IsCall new.users (first_id + p) (target_at (bytes_at new.memory j.slot) k)
   calls_now p n k g j has' table there inside =
       let has = has_before p n g j has' in
-      let was : IsSome (there_at (presence old.memory.slots (Some j))) = subst (λ (o : Option ℕ). IsSome o) (place_same p n g j has) there in
-      let call = bare_call old.users new.users sound.bare (first_id + p) has.kept has'.kept (user_there old.users p has.kept has.made) (user_there new.users p has'.kept has'.made)
-      (heads_stay p has'.kept has.kept has'.made has.made) (load.target_at (bytes_at old.memory j.slot) k) (sound.calls p n k g j has table was inside) in
+      let was = was_there p n g j has there in
+      let before = relived.call_now old.users new.users Dormant ids did.users (first_id + p) (target_at (bytes_at old.memory j.slot) k) (sound.calls p n k g j has table was inside) in
       elim (cases_eq p place) [
         | inl eq ↦
-            let user = kept_one has.kept kept (sym has.made ∙ ap (slice_get old.users) eq ∙ its_users.0) in
+            let user = kept_one p has.kept has.made eq in
             let ghead : at_number kept.heads n ≡ Some g = ap (λ (x : Kept). at_number x.heads n) (sym user) ∙ has.head' in
             let ghandle : handle_at kept.handles n ≡ Some j = ap (λ (x : Kept). handle_at x.handles n) (sym user) ∙ has.handle in
             let follows = did.renewed.follow n g j (at_most kept.heads n g ghead) ghead ghandle table was in
-            let room = room_there old sound p n g j has was in
+            let of' = sound.each p n g j has in
+            let room = of'.room (block_at j of'.block of'.live was) in
             subst (λ (t : Target). IsCall new.users (first_id + p) t)
-            (sym (ap (λ (bs : List ℕ). load.target_at bs k) (bytes_middle j there ∙ follows) ∙ target_stays None None k (load.entry_count g.length) (bytes_at old.memory j.slot) (omega (arith, inside, room)))) call
-        | inr ne ↦ subst (λ (bs : List ℕ). IsCall new.users (first_id + p) (load.target_at bs k)) (sym (bytes_middle j there ∙ plain_bytes p n g j has (λ e. absurd (ne e)))) call
+            (sym (ap (λ (bs : List ℕ). target_at bs k) (bytes_middle j there ∙ follows) ∙ target_stays None None k (entry_count g.length) (bytes_at old.memory j.slot) (omega (arith, inside, room))))
+            before
+        | inr ne ↦ subst (λ (bs : List ℕ). IsCall new.users (first_id + p) (target_at bs k)) (sym (bytes_middle j there ∙ plain_bytes p n g j has (λ e. absurd (ne e)))) before
       ]
     where
-      kept_one : (a b : Kept) → Some (Some a) ≡ Some (Some b) → a ≡ b
-      kept_one a b e = cc
+      block_at : (j : Handle) (b : Block) → get old.memory.slots j ≡ Some b → IsSome (there_at (presence old.memory.slots (Some j))) → IsSome b.at
+      block_at j b live there = go b.at b.locked (subst (λ (o : Option Block). IsSome (there_at (lies_in j o))) live there)
+        where
+          go : (at : Option ℕ) (locked : Bool) → IsSome (there_at (lies_at j at locked)) → IsSome at
+          go None locked e = absurd cc
+          go (Some a) locked e = refl
 
   pub kept_sound : IsSound new.memory new.users
   kept_sound = record {
-    few = omega (arith, sound.few, ap (λ (us : List (Option Kept)). length us) did.users, length_set old.users place (Some rests));
-    lengths = λ p k made. (lengths_now p k made).0;
-    short = λ p k made. (lengths_now p k made).1;
+    few = omega (arith, sound.few, ap length did.users, length_all rests old.users ids);
+    lengths = λ p k made. let w = relived.users_now old.users new.users Dormant ids did.users p k made in let same = relived.same_but old.users new.users Dormant ids did.users p k made in omega (arith, sound.lengths p w.was w.made, ap length same.0, ap length same.1);
+    short = λ p k made. let w = relived.users_now old.users new.users Dormant ids did.users p k made in let same = relived.same_but old.users new.users Dormant ids did.users p k made in omega (arith, sound.short p w.was w.made, ap length same.1);
     statics = statics_now;
     rests = rests_now;
     each = λ p n head h has. each_before p n head h (has_before p n head h has);
     once = λ p q n m head second h k one two same. sound.once p q n m head second h k (has_before p n head h one) (has_before q m second k two) same;
     only = only_now;
-    bare = bare_now;
-    attached = bare_attached new.users bare_now;
+    attached = attached_now;
     calls = calls_now;
   }
 
   -- ---- agreement
 
-  there_same : (n : ℕ) (o : Option Handle) → handle_at kept.handles n ≡ o → there_at (presence new.memory.slots o) ≡ there_at (presence old.memory.slots o)
-  there_same n None e = refl
-  there_same n (Some h) e =
-      let one' = own n h e in
-      let of' = sound.each place n one'.0 h one'.1 in
-      ap (λ (o : Option Block). there_at (lies_in h o)) (own_get n h of'.block e of'.live)
-      ∙ ap (λ (at : Option ℕ). there_at (lies_at h at (let_go of'.block).locked)) (let_go_at of'.block)
-      ∙ lies_alike h of'.block.at (let_go of'.block).locked of'.block.locked
-      ∙ sym (ap (λ (o : Option Block). there_at (lies_in h o)) of'.live)
+  -- no segment of the family is active
+  far_none : (f n : ℕ) → far_of new.memory.slots (kept_outlines new.users) id f n ≡ None
+  far_none f n = go (attached_at (kept_outlines new.users) id f) refl
+    where
+      its_new : (v : Kept) × (user_of new.users id ≡ Some v) × (v.heads ≡ kept.heads) × (v.attached ≡ kept.attached) × (v.handles ≡ kept.handles) × (((is_in ids id ≡ true) × (v ≡ rests kept)) ⊎ ((is_in ids id ≡ false) × (v ≡ kept)))
+      its_new = user_then id kept did.made
 
-  there_now : (n : ℕ) → there_at (presence_at new.memory.slots kept.handles n) ≡ there_at (presence_at old.memory.slots kept.handles n)
-  there_now n = there_same n (handle_at kept.handles n) refl
+      row : (m : ℕ) → slice_get kept.attached (f - 2) ≡ Some m → active_at (presence_at new.memory.slots (handles_in (kept_outlines new.users) m) n) ≡ None
+      row m is =
+          let one = sound.attached.each place (f - 2) m kept its_users.0 is in
+          let there = made_at old.users m one.0 one.1 in
+          let now = user_then m one.0 one.1 in
+          let same : now.0.handles ≡ one.0.handles = now.4 in
+          let inside : In (m - first_id) ≡ true = ap (is_in ids) there.1 ∙ in_front kept.attached id (f - 2) m is in
+          let its : handles_in (kept_outlines new.users) m ≡ one.0.handles = rw (user_is outline new.users m, now.1) same in
+          ap (λ (hs : List (Option Handle)). active_at (presence_at new.memory.slots hs n)) its ∙ none_active (m - first_id) one.0 there.0 inside n (handle_at one.0.handles n) refl
 
-  none_active : (n : ℕ) (o : Option Handle) → handle_at kept.handles n ≡ o → active_at (presence new.memory.slots o) ≡ None
-  none_active n None e = refl
-  none_active n (Some h) e =
-      let one' = own n h e in
-      let of' = sound.each place n one'.0 h one'.1 in
-      ap (λ (o : Option Block). active_at (lies_in h o)) (own_get n h of'.block e of'.live) ∙ let_go_active_at h of'.block
+      is_row : attached_at (kept_outlines new.users) id f ≡ slice_get kept.attached (f - 2)
+      is_row = rw (user_is outline new.users id, its_new.1) (ap (λ (ns : List ℕ). slice_get ns (f - 2)) its_new.3)
+
+      go : (o : Option ℕ) → attached_at (kept_outlines new.users) id f ≡ o → option_and_then (λ (other : ℕ). active_at (presence_at new.memory.slots (handles_in (kept_outlines new.users) other) n)) o ≡ None
+      go None e = refl
+      go (Some m) e = row m (sym is_row ∙ e)
+
+  -- an attached user has none itself
+  far_alone : (p : ℕ) (k : Kept) → slice_get old.users p ≡ Some (Some k) → k.attached ≡ [] → (f n : ℕ) → far_of new.memory.slots (kept_outlines new.users) (first_id + p) f n ≡ None
+  far_alone p k made alone f n =
+      let now = user_then (first_id + p) k (user_there old.users p k made) in
+      let row : attached_at (kept_outlines new.users) (first_id + p) f ≡ None = rw (user_is outline new.users (first_id + p), now.1) (ap (λ (ns : List ℕ). slice_get ns (f - 2)) (now.3 ∙ alone)) in
+      rw row refl
+
+  -- those of any other user are where they were
+  far_other : (p : ℕ) (k : Kept) → slice_get old.users p ≡ Some (Some k) → In p ≡ false → (f n : ℕ)
+      → far_of new.memory.slots (kept_outlines new.users) (first_id + p) f n ≡ far_of old.memory.slots (kept_outlines old.users) (first_id + p) f n
+  far_other p k made outside f n = rw (row_new, row_old) (go (slice_get k.attached (f - 2)) refl)
+    where
+      now : (v : Kept) × (user_of new.users (first_id + p) ≡ Some v) × (v.heads ≡ k.heads) × (v.attached ≡ k.attached) × (v.handles ≡ k.handles) × (((is_in ids (first_id + p) ≡ true) × (v ≡ rests k)) ⊎ ((is_in ids (first_id + p) ≡ false) × (v ≡ k)))
+      now = user_then (first_id + p) k (user_there old.users p k made)
+
+      row_new : attached_at (kept_outlines new.users) (first_id + p) f ≡ slice_get k.attached (f - 2)
+      row_new = rw (user_is outline new.users (first_id + p), now.1) (ap (λ (ns : List ℕ). slice_get ns (f - 2)) now.3)
+
+      row_old : attached_at (kept_outlines old.users) (first_id + p) f ≡ slice_get k.attached (f - 2)
+      row_old = rw (user_is outline old.users (first_id + p), user_there old.users p k made) refl
+
+      back : f - 2 + 2 - 2 ≡ f - 2
+      back = omega arith
+
+      other : (m : ℕ) → slice_get k.attached (f - 2) ≡ Some m
+          → active_at (presence_at new.memory.slots (handles_in (kept_outlines new.users) m) n) ≡ active_at (presence_at old.memory.slots (handles_in (kept_outlines old.users) m) n)
+      other m is =
+          let one = sound.attached.each p (f - 2) m k made is in
+          let there = made_at old.users m one.0 one.1 in
+          let then' = user_then m one.0 one.1 in
+          let same : then'.0.handles ≡ one.0.handles = then'.4 in
+          let its : handles_in (kept_outlines new.users) m ≡ one.0.handles = rw (user_is outline new.users m, then'.1) same in
+          let was : handles_in (kept_outlines old.users) m ≡ one.0.handles = rw (user_is outline old.users m, one.1) refl in
+          rw (its, was) (ap active_at (other_same (m - first_id) one.0 there.0 (out (m - first_id) m there.1 is) n (handle_at one.0.handles n) refl))
+        where
+          out : (q m : ℕ) → first_id + q ≡ m → slice_get k.attached (f - 2) ≡ Some m → In q ≡ false
+          out q m at is = elim (by_in q) [
+            | inr out' ↦ out'
+            | inl within ↦ elim (in_either kept.attached id m (ap (is_in ids) (sym at) ∙ within)) [
+              | inl last ↦ absurd (top (first_id + p) f (row_old ∙ is ∙ ap (λ (x : ℕ). Some x) last))
+              | inr row ↦
+                  (let both = sound.attached.once p place (f - 2) row.0 m k kept made its_users.0 is row.1 in
+                  let clash : false ≡ true = sym outside ∙ ap In both.0 ∙ place_in in absurd cc)
+            ]
+          ]
+
+      go : (o : Option ℕ) → slice_get k.attached (f - 2) ≡ o
+          → option_and_then (λ (m : ℕ). active_at (presence_at new.memory.slots (handles_in (kept_outlines new.users) m) n)) o
+          ≡ option_and_then (λ (m : ℕ). active_at (presence_at old.memory.slots (handles_in (kept_outlines old.users) m) n)) o
+      go None e = refl
+      go (Some m) e = other m e
 
   module _ (held : FileMap) (state : Machine) (agrees : Agrees held old state) where
+    -- a user of the family agrees, dormant
+    module _ (p : ℕ) (k : Kept) (user : User) (made : slice_get old.users p ≡ Some (Some k)) (inside : In p ≡ true)
+        (was : UserAgrees held old.memory (far_in old (first_id + p)) (first_id + p) k user) where
+      heads_at : (n : ℕ) (s : Segment) → segment_at was.segments n ≡ Some s → at_number k.heads n ≡ Some (head_of s)
+      heads_at n s found = ap (λ (hs : List Head). at_number hs n) was.heads ∙ head_at was.segments n s found
+
+      here_or_plain : (n : ℕ) (s : Segment) → segment_at was.segments n ≡ Some s → load.is_table s ≡ true → (p ≡ place)
+      here_or_plain n s found table = elim (which p k made inside) [
+        | inl here ↦ here.0
+        | inr row ↦
+            (let clash : true ≡ false = sym table ∙ row.2.plain n (head_of s) (heads_at n s found) in absurd cc)
+      ]
+
+      far_now : (f n : ℕ) → far_of new.memory.slots (kept_outlines new.users) (first_id + p) f n ≡ None
+      far_now f n = elim (which p k made inside) [
+        | inl here ↦ (let at : first_id + p ≡ id = omega (arith, here.0, its_users.1) in ap (λ (q : ℕ). far_of new.memory.slots (kept_outlines new.users) q f n) at ∙ far_none f n)
+        | inr row ↦ far_alone p k made row.2.alone f n
+      ]
+
+      becomes : (n : ℕ) (s : Segment) (j : Handle) → segment_at was.segments n ≡ Some s → handle_at k.handles n ≡ Some j → IsSome (there_at (presence_at new.memory.slots k.handles n))
+          → Becomes (setting_with (far_in old (first_id + p)) (first_id + p) old.memory.slots k.handles) (setting_with (far_in new (first_id + p)) (first_id + p) new.memory.slots k.handles) None None old.memory new.memory k user (state_of.rests user) n s j
+      becomes n s j found has present =
+          let present' : IsSome (there_at (presence new.memory.slots (Some j))) = subst (λ (o : Option Handle). IsSome (there_at (presence new.memory.slots o))) has present in
+          let before : IsSome (there_at (presence_at old.memory.slots k.handles n)) = rw (← there_now p k made inside n) present in
+          let before' : IsSome (there_at (presence old.memory.slots (Some j))) = subst (λ (o : Option Handle). IsSome (there_at (presence old.memory.slots o))) has before in
+          elim (decide (load.is_table s)) [
+            | inl table ↦
+                let same : k ≡ kept = kept_one p k made (here_or_plain n s found table) in
+                let fhead : at_number kept.heads n ≡ Some (head_of s) = ap (λ (x : Kept). at_number x.heads n) (sym same) ∙ heads_at n s found in
+                let fhandle : handle_at kept.handles n ≡ Some j = ap (λ (x : Kept). handle_at x.handles n) (sym same) ∙ has in
+                Turns table has before (bytes_middle j present' ∙ did.renewed.follow n (head_of s) j (at_most kept.heads n (head_of s) fhead) fhead fhandle table before')
+            | inr plain ↦ Stays plain has before (ap (λ (o : Option ℕ). unwrap_or o 0) (there_now p k made inside n)) refl (bytes_middle j present'
+                ∙ plain_bytes p n (head_of s) j (record { kept = k; made = made; head' = heads_at n s found; handle = has }) (λ e. plain))
+          ]
+
+      turned : Turned old.memory new.memory (far_in old (first_id + p)) (far_in new (first_id + p)) (first_id + p) None None k (rests k) user (state_of.rests user) was.segments
+      turned = record {
+        same = ap (λ (o : Outline). let new : Outline = record o { life = Dormant } in new) was.same;
+        path = refl;
+        heads = refl;
+        count = refl;
+        unpoked = was.unpoked;
+        statics = λ runs n s found static. absurd cc;
+        were = λ there n s found static. rw (← there_now p k made inside n) (there n s found static);
+        places = λ there n s found static. ap (λ (o : Option ℕ). unwrap_or o 0) (there_now p k made inside n);
+        chosen = λ n s found dynamic' kept' c. none_active p k made inside n (handle_at k.handles n) refl;
+        far_chosen = λ f n above c. far_now f n;
+        far_others = λ f n above c. absurd cc;
+        fits = λ n s found c some. absurd cc;
+        others = λ n s found dynamic' kept' c. absurd cc;
+        each = λ there n s j found has present. becomes n s j found has present;
+      }
+
+      family_agrees : UserAgrees held new.memory (far_in new (first_id + p)) (first_id + p) (rests k) (state_of.rests user)
+      family_agrees = turned_agrees held old.memory new.memory (far_in old (first_id + p)) (far_in new (first_id + p)) (first_id + p) None None k (rests k) user (state_of.rests user) was
+          (entries_lead held old state agrees sound (first_id + p) k (user_there old.users p k made) None None (λ t above far c some. absurd cc) was.segments was.holds) (sound.short p k made) turned
+
+    -- every other user agrees still
+    others_agree : (p : ℕ) (k : Kept) (user : User) → slice_get old.users p ≡ Some (Some k) → In p ≡ false
+        → UserAgrees held old.memory (far_in old (first_id + p)) (first_id + p) k user → UserAgrees held new.memory (far_in new (first_id + p)) (first_id + p) k user
+    others_agree p k user made outside was = agrees_still held old.memory new.memory (far_in old (first_id + p)) (far_in new (first_id + p)) (first_id + p) k user was (λ n j found.
+        let one = has_any old sound p k made n j found in
+        Same (other_get p n one.0 j one.1 outside) (λ there. bytes_middle j there ∙ plain_bytes p n one.0 j one.1 (λ e. let clash : false ≡ true = sym outside ∙ ap In e ∙ place_in in absurd cc)))
+        (λ f n above. far_other p k made outside f n)
+
+    -- ---- the next state
+
     is : IsKept held old state agrees id kept
     is = kept_is held old state agrees id kept did.made
 
-    abbrev user : User
-    user = is.user
+    rests_outline : Outline → Outline
+    rests_outline o = record o { life = Dormant }
 
-    abbrev user' : User
-    user' = record is.user { life = Dormant }
-
-    heads_at : (n : ℕ) (s : Segment) → segment_at is.does_agree.segments n ≡ Some s → at_number kept.heads n ≡ Some (head_of s)
-    heads_at n s found = ap (λ (hs : List Head). at_number hs n) is.does_agree.heads ∙ head_at is.does_agree.segments n s found
-
-    becomes : (n : ℕ) (s : Segment) (k : Handle) → segment_at is.does_agree.segments n ≡ Some s → handle_at kept.handles n ≡ Some k → IsSome (there_at (presence_at new.memory.slots kept.handles n))
-        → Becomes (setting_with (far_in old id) id old.memory.slots kept.handles) (setting_with (far_in new id) id new.memory.slots kept.handles) None None old.memory new.memory kept is.user user' n s k
-    becomes n s k found has present =
-        let present' : IsSome (there_at (presence new.memory.slots (Some k))) = subst (λ (o : Option Handle). IsSome (there_at (presence new.memory.slots o))) has present in
-        let before : IsSome (there_at (presence_at old.memory.slots kept.handles n)) = rw (← there_now n) present in
-        let before' : IsSome (there_at (presence old.memory.slots (Some k))) = subst (λ (o : Option Handle). IsSome (there_at (presence old.memory.slots o))) has before in
-        elim (decide (load.is_table s)) [
-          | inl table ↦ Turns table has before (bytes_middle k present'
-              ∙ did.renewed.follow n (head_of s) k (at_most kept.heads n (head_of s) (heads_at n s found)) (heads_at n s found) has table before')
-          | inr plain ↦ Stays plain has before (ap (λ (o : Option ℕ). unwrap_or o 0) (there_now n)) refl (bytes_middle k present'
-              ∙ plain_bytes place n (head_of s) k (record { kept = kept; made = its_users.0; head' = heads_at n s found; handle = has }) (λ e. plain))
-        ]
-
-    turned : Turned old.memory new.memory (far_in old id) (far_in new id) id None None kept rests is.user user' is.does_agree.segments
-    turned = record {
-      same = ap (λ (o : Outline). let new : Outline = record o { life = Dormant } in new) is.does_agree.same;
-      path = refl;
-      heads = refl;
-      count = refl;
-      unpoked = is.does_agree.unpoked;
-      statics = λ runs n s found static. absurd cc;
-      were = λ there n s found static. rw (← there_now n) (there n s found static);
-      places = λ there n s found static. ap (λ (o : Option ℕ). unwrap_or o 0) (there_now n);
-      chosen = λ n s found dynamic' kept' c. none_active n (handle_at kept.handles n) refl;
-      far_chosen = λ f n above c. bare_far new.users bare_now new.memory.slots id f n;
-      far_others = λ f n above c. absurd cc;
-      fits = λ n s found c some. absurd cc;
-      others = λ n s found dynamic' kept' c. absurd cc;
-      each = λ there n s k found has present. becomes n s k found has present;
+    abbrev next_of : List ℕ → Machine
+    next_of family = record {
+      banks = state.banks;
+      slots = changed_all let_go state.slots (handles_of_all (outlines state.users) family);
+      users = with_all state_of.rests state.users family;
     }
 
-    user_agrees : UserAgrees held new.memory (far_in new id) id rests user'
-    user_agrees = turned_agrees held old.memory new.memory (far_in old id) (far_in new id) id None None kept rests is.user user' is.does_agree
-        (λ n s found table. own_leads held kept.path is.does_agree.segments is.does_agree.holds n s found table) (sound.short place kept its_users.0) turned
-
-    abbrev next : Machine
-    next = kept_state state id is.user
-
-    others_agree : (p : ℕ) (k : Kept) (u : User) → slice_get old.users p ≡ Some (Some k) → p ≢ place → UserAgrees held old.memory (far_in old (first_id + p)) (first_id + p) k u → UserAgrees held new.memory (far_in new (first_id + p)) (first_id + p) k u
-    others_agree p k u made ne was = bare_still held old new sound.bare bare_now (first_id + p) k u was (λ n j found.
-        let one = has_any old sound p k made n j found in
-        Same (other_get p n one.0 j one.1 ne) (λ there. bytes_middle j there ∙ plain_bytes p n one.0 j one.1 (λ e. absurd (ne e))))
-
-    state_users : (slice_get state.users place ≡ Some (Some is.user))
-    state_users = (made_at state.users id is.user is.made).0
-
-    agrees_next : Agrees held new next
-    agrees_next = record {
+    agrees_of : Agrees held new (next_of ids)
+    unfolding rests_outline
+    agrees_of = record {
       banks = did.idled.bytes.banks ∙ did.renewed.banks ∙ agrees.banks;
-      slots = slots_are ∙ ap (λ (t : Slots). changed_all let_go t kept.handles) agrees.slots ∙ ap (λ (o : Outline). changed_all let_go state.slots o.handles) is.does_agree.same;
-      users = ap (map (option_map outline)) did.users ∙ set_map (option_map outline) old.users place (Some rests) ∙ ap (λ us. slice_set us place (Some (outline rests))) agrees.users
-          ∙ ap (λ (o : Outline). slice_set (map (option_map outline_of) state.users) place (Some o)) turned.same ∙ sym (set_map (option_map outline_of) state.users place (Some user'));
-      attached = bare_attached new.users bare_now;
-      entries = bare_entries held new.users;
-      each = λ p k u made made'. elim (users_now p k made) [
-        | inl it ↦
-            let inside = slice_get_within state.users place (Some is.user) state_users in
-            let user_same : u ≡ user' = user_one u user' (sym made' ∙ ap (slice_get (slice_set state.users place (Some user'))) it.0 ∙ set_at state.users place (Some user') inside) in
-            let id_is : id ≡ first_id + p = omega (arith, its_users.1, it.0) in
-            subst (λ (n : ℕ). UserAgrees held new.memory (far_in new n) n k u) id_is
-            (subst (λ (x : User). UserAgrees held new.memory (far_in new id) id k x) (sym user_same) (subst (λ (x : Kept). UserAgrees held new.memory (far_in new id) id x user') (sym it.1) user_agrees))
-        | inr other ↦ others_agree p k u other.1 other.0 (agrees.each p k u other.1 (sym (set_apart state.users place p (Some user') other.0) ∙ made'))
-      ];
+      slots = slots_are ∙ ap (λ (t : Slots). changed_all let_go t (handles_of_all (kept_outlines old.users) ids)) agrees.slots ∙ ap (λ (os : List (Option Outline)). changed_all let_go state.slots (handles_of_all os ids)) agrees.users;
+      users = ap kept_outlines did.users ∙ map_all outline rests rests_outline (λ k. refl) old.users ids ∙ ap (λ (os : List (Option Outline)). with_all rests_outline os ids) agrees.users
+          ∙ sym (map_all outline_of state_of.rests rests_outline (λ u. refl) state.users ids);
+      attached = attached_now;
+      entries = relived.entries_now old.users new.users Dormant ids did.users held agrees.entries;
+      each = λ p k user made made'. each_agrees p k user (users_now p k made) (with_all_get state_of.rests (λ u. refl) ids state.users p user made');
     }
       where
-        user_one : (a b : User) → Some (Some a) ≡ Some (Some b) → a ≡ b
-        user_one a b e = cc
+        each_agrees : (p : ℕ) (k : Kept) (user : User) → Was rests (relived.life_again Dormant) old.users ids p k → Was state_of.rests (λ u. refl) state.users ids p user
+            → UserAgrees held new.memory (far_in new (first_id + p)) (first_id + p) k user
+        each_agrees p k user w v = elim w.is [
+          | inl inside ↦ elim v.is [
+            | inl inside' ↦
+                subst (λ (x : Kept). UserAgrees held new.memory (far_in new (first_id + p)) (first_id + p) x user) (sym inside.1)
+                (subst (λ (x : User). UserAgrees held new.memory (far_in new (first_id + p)) (first_id + p) (rests w.was) x) (sym inside'.1)
+                (family_agrees p w.was v.was w.made inside.0 (agrees.each p w.was v.was w.made v.made)))
+            | inr outside' ↦ (let clash : true ≡ false = sym inside.0 ∙ outside'.0 in absurd cc)
+          ]
+          | inr outside ↦ elim v.is [
+            | inl inside' ↦ (let clash : true ≡ false = sym inside'.0 ∙ outside.0 in absurd cc)
+            | inr outside' ↦
+                subst (λ (x : Kept). UserAgrees held new.memory (far_in new (first_id + p)) (first_id + p) x user) (sym outside.1)
+                (subst (λ (x : User). UserAgrees held new.memory (far_in new (first_id + p)) (first_id + p) w.was x) (sym outside'.1)
+                (others_agree p w.was v.was w.made outside.0 (agrees.each p w.was v.was w.made v.made)))
+          ]
+        ]
 
-    pub keep_met : shut_down_refusal (seen_by old id) true ≡ None → Met Purges held state (ShutDown id true) Okay new
+    agrees_next : Agrees held new (kept_state state id is.user)
+    agrees_next = subst (λ (ns : List ℕ). Agrees held new (next_of (family id ns))) (ap (λ (o : Outline). o.attached) is.does_agree.same) agrees_of
+
+    pub keep_met : shut_down_refusal (is_attached (kept_outlines old.users) id) (seen_by old id) true ≡ None → Met Purges held state (ShutDown id true) Okay new
     keep_met passes = (
-      next,
-      does held old state agrees id (λ seen. shut_down_refusal seen true) Okay next _ passes is.user is.made (refl, refl),
+      kept_state state id is.user,
+      does held old state agrees id (λ seen. shut_down_refusal (is_attached (outlines state.users) id) seen true) Okay (kept_state state id is.user) _
+          (ap (λ (os : List (Option Outline)). shut_down_refusal (is_attached os id) (seen_by old id) true) (sym agrees.users) ∙ passes) is.user is.made (refl, refl),
       agrees_next,
     )
+
+-- ---- the refusal
+
+-- one that passes is attached to no user
+pub alone_of : (attached : Bool) (user : Option Seen) (keep : Bool) → shut_down_refusal attached user keep ≡ None → attached ≡ false
+unfolding shut_down_refusal
+alone_of true None keep none = absurd cc
+alone_of true (Some seen) keep none = absurd cc
+alone_of false user keep none = refl
+
+-- an attached user is refused as if there were none
+pub alone_stops : (attached : Bool) (user : Option Seen) (keep : Bool) (fault : LoaderFault) → fault ≡ NoUser → attached ≡ true → shut_down_refusal attached user keep ≡ Some fault
+unfolding shut_down_refusal
+alone_stops attached None keep fault is own = ap (λ (f : LoaderFault). Some f) (sym is)
+alone_stops attached (Some seen) keep fault is own = rw own (ap (λ (f : LoaderFault). Some f) (sym is))
+
+pub keep_stops : (attached : Bool) (user : Option Seen) (fault : LoaderFault) → attached ≡ false → StopsRunning user fault → shut_down_refusal attached user true ≡ Some fault
+unfolding shut_down_refusal
+keep_stops attached user fault own stops = rw own (stops (λ seen. None))
+
+pub keep_passes : (attached : Bool) (user : Option Seen) (seen : Seen) → attached ≡ false → PassesRunning user seen → shut_down_refusal attached user true ≡ None
+unfolding shut_down_refusal
+keep_passes attached user seen own runs = rw own (runs (λ seen. None))
+
+pub drop_none : (attached : Bool) (user : Option Seen) → user ≡ None → shut_down_refusal attached user false ≡ Some NoUser
+unfolding shut_down_refusal
+drop_none attached user is = rw is refl
+
+pub drop_passes : (attached : Bool) (user : Option Seen) (seen : Seen) → attached ≡ false → user ≡ Some seen → shut_down_refusal attached user false ≡ None
+unfolding shut_down_refusal
+drop_passes attached user seen own is = rw (is, own) refl
 
 -- ---- as it is done
 
 pub has_kept : (old last : Loaded) (id : ℕ) (k : Kept) (middle : Memory) (count : ℕ) → user_of old.users id ≡ Some k → k.life ≡ Running → count ≡ length k.heads
-    → AreRenewed k.heads k.handles None None old.memory middle count → AreIdled k.handles middle last.memory → last.users ≡ with_user old.users id (Some (record k { life = Dormant })) → HasKept old id last
+    → AreRenewed k.heads k.handles None None old.memory middle count → AreIdled (handles_of_all (kept_outlines old.users) (family id k.attached)) middle last.memory
+    → last.users ≡ with_all rests old.users (family id k.attached) → HasKept old id last
 has_kept old last id k middle count made runs long renewed idled users = record {
   kept = k;
   made = made;

@@ -1,11 +1,11 @@
--- A user that is restarted in place.
-use Rattle.std.proofs.Common.{◌≡◌, ◌≢◌, ◌⊎◌, inl, inr, ℕ, zero, suc, Bool, true, false, cond, ◌==◌, ◌+◌, ◌-◌, ◌^◌, ◌<◌, ◌≤◌, List, [], ◌∷◌, length, map, Option, Some, None, IsSome, refl, sym, ap, subst, ◌∙◌, arith}
-use Rattle.std.specs.Prelude.{slice_get, slice_set, option_map, unwrap_or, Contains}
-use Rattle.std.specs.Option.{option_map_or}
+-- A user that is restarted in place, with those that are attached to it.
+use Rattle.std.proofs.Common.{◌≡◌, ◌≢◌, ◌⊎◌, inl, inr, ℕ, zero, suc, Bool, true, false, cond, ◌==◌, ◌||◌, ◌+◌, ◌-◌, ◌<◌, ◌≤◌, List, [], ◌∷◌, length, map, Option, Some, None, IsSome, refl, sym, ap, subst, ◌∙◌, arith}
+use Rattle.std.specs.Prelude.{slice_get, slice_set, option_map, unwrap_or, Contains, not, ◌&&◌}
+use Rattle.std.specs.Option.{option_map_or, option_and_then}
 use Rattle.std.proofs.lemmas.Bool.{cases_eq, and_parts}
 use Rattle.std.proofs.lemmas.Option.{same_Some, slice_get_within}
 use Rattle.omf_format.specs.File.{Segment, segment_at}
-use Rattle.omf_format.specs.Header.{is_dynamic}
+use Rattle.omf_format.specs.Header.{is_dynamic, is_skipped}
 use Rattle.omf_io.specs.Counts.{IsFront}
 use Rattle.omf_io.specs.Files.{FileMap}
 use Rattle.load_meaning.specs.LoadTable as load
@@ -18,26 +18,29 @@ use Rattle.iigs_meaning.specs.Memory.{Memory, bytes_at}
 use Rattle.loader_machine.specs.declared.seen.Head.{Head}
 use Rattle.loader_machine.specs.declared.seen.Life.TheVariants.{Running, Dormant}
 use Rattle.loader_machine.specs.Heads.{head_of, at_number, is_static, is_table}
-use Rattle.loader_machine.specs.State.{Held, User, Machine, fresh, absent, no_pokes, first_id, user_of, handles_of, held_at}
+use Rattle.loader_machine.specs.State.{Held, User, Machine, fresh, absent, no_pokes, first_id, user_of, with_user, with_all, handles_of, held_at, attached_at, handles_in, Outline, outline_of}
+use Rattle.loader_machine.specs.State as state_of
 use Rattle.loader_machine.specs.declared.seen.Presence.{Presence}
 use Rattle.loader_machine.specs.declared.seen.Presence.TheVariants.{Absent, Purged, Idle, Active}
 use Rattle.loader_machine.specs.Presences.{handle_at, presence, presence_at, there_at, active_at, is_active, is_there, lies_in, lies_at}
-use Rattle.loader_machine.specs.Stands.{Setting, setting_with, stands}
+use Rattle.loader_machine.specs.Stands.{Setting, setting, setting_with, far_of, stands}
 use Rattle.loader_machine.specs.laws.StandsLaws.{AreAlike, stands_alike}
-use Rattle.loader_machine.specs.Steps.{active_block, changed_all, are_there, static_handles, is_read_again, read_again, with_both}
-use Rattle.loader_agrees.specs.Agrees.{Kept, Loaded, Outline, outline, outline_of, IsSegments, AreThere, far_in, UserAgrees, AreBare, Agrees, IsCall, IsOf, Has, IsSound}
+use Rattle.loader_machine.specs.Steps.{active_block, changed_all, are_there, static_handles, is_read_again, read_again}
+use Rattle.loader_agrees.specs.Agrees.{Kept, Loaded, outline, kept_outlines, IsSegments, AreThere, far_in, IsJoined, AreAttached, UserAgrees, Agrees, IsCall, IsOf, Has, IsSound}
 use Rattle.loader_agrees.specs.laws.Begun.{decide}
-use Rattle.loader_agrees.specs.laws.Frame.{Same}
-use Rattle.loader_agrees.specs.laws.Lists.{set_map, set_at, set_apart, length_set}
+use Rattle.loader_agrees.specs.laws.Frame.{Same, agrees_still}
+use Rattle.loader_agrees.specs.laws.Lists.{set_map, set_at, set_apart}
 use Rattle.loader_agrees.specs.laws.Reads.{head_at}
-use Rattle.loader_agrees.specs.laws.Seeing.{made_at, IsKept, kept_is, has_any}
+use Rattle.loader_agrees.specs.laws.Seeing.{made_at, user_is, IsKept, kept_is, has_any}
 use Rattle.loader_agrees.specs.laws.Stay as stay
-use Rattle.loader_agrees.specs.laws.Bare.{bare_attached, bare_both, bare_still, bare_set, bare_stands, bare_entries, bare_call}
-use Rattle.loader_agrees.specs.laws.BegunRows.{user_there}
+use Rattle.loader_agrees.specs.laws.RowUsers.{user_there}
 use Rattle.sys_loader.specs.declared.answers.Started.{Started}
+use Rattle.sys_loader.specs.Lives.{with_life}
 use Rattle.sys_loader.specs.Restarting.{AreReread, HasResumed}
 use Rattle.sys_loader.proofs.Shifting.{there_block}
 use Rattle.sys_loader.proofs.ChangedAll.{all_here, all_apart, all_in}
+use Rattle.sys_loader.proofs.Relived as relived
+use Rattle.sys_loader.proofs.Together.{is_in, in_row, in_rows, Was, with_all_get, map_all, length_all}
 
 -- ---- static segments and their handles
 
@@ -154,12 +157,20 @@ pub quiet_reread : (segments : List Segment) (id : ℕ) (kept : Kept) (old new :
 quiet_reread segments id kept old new reread = record { banks = reread.banks; slots = reread.slots; sizes = reread.sizes }
 
 module _ (old new : Loaded) (id : ℕ) (kept : Kept) (started : Started) (sound : IsSound old.memory old.users) (made : user_of old.users id ≡ Some kept)
+    (rests : kept.life ≡ Dormant) (top : (q f : ℕ) → attached_at (kept_outlines old.users) q f ≡ Some id → ⊥)
     (whole : are_there old.memory.slots kept.heads kept.handles 1 ≡ true) (middle : Memory) (quiet : IsQuiet old.memory middle) (did : HasResumed middle old.users id kept started new) where
   abbrev place : ℕ
   place = id - first_id
 
   abbrev runs : Kept
-  runs = record kept { life = Running }
+  runs = with_life Running kept
+
+  -- it and those that are attached to it
+  abbrev ids : List ℕ
+  ids = id ∷ kept.attached
+
+  abbrev In : ℕ → Bool
+  In p = is_in ids (first_id + p)
 
   abbrev statics : List (Option Handle)
   statics = static_handles kept.heads kept.handles 1
@@ -173,45 +184,36 @@ module _ (old new : Loaded) (id : ℕ) (kept : Kept) (started : Started) (sound 
   kept_one : (a b : Kept) → Some (Some a) ≡ Some (Some b) → a ≡ b
   kept_one a b e = cc
 
-  -- a user is as before, or it is the one that runs
-  users_now : (p : ℕ) (k : Kept) → slice_get new.users p ≡ Some (Some k) → ((p ≡ place) × (k ≡ runs)) ⊎ ((p ≢ place) × (slice_get old.users p ≡ Some (Some k)))
-  users_now p k made' = elim (cases_eq p place) [
-    | inl eq ↦
-        let inside = slice_get_within old.users place (Some kept) its_users.0 in
-        let now : slice_get new.users p ≡ Some (Some runs) = ap (λ (us : List (Option Kept)). slice_get us p) did.users' ∙ ap (slice_get (slice_set old.users place (Some runs))) eq ∙ set_at old.users place (Some runs) inside in
-        inl (eq, kept_one k runs (sym made' ∙ now))
-    | inr ne ↦ inr (ne, sym (set_apart old.users place p (Some runs) ne) ∙ ap (λ (us : List (Option Kept)). slice_get us p) (sym did.users') ∙ made')
+  are : new.users ≡ with_all (with_life Running) old.users ids
+  are = did.users' ∙ sym (ap (λ (o : Option Kept). with_all (with_life Running) (option_map_or (λ (u : Kept). with_user old.users id (Some (with_life Running u))) o old.users) kept.attached) made)
+
+  has_id : is_in ids id ≡ true
+  has_id = let test : (id == id) ≡ true = grind arith in rw test refl
+
+  has_rows : (i n : ℕ) → slice_get kept.attached i ≡ Some n → is_in ids n ≡ true
+  has_rows i n is = go (id == n) (in_row kept.attached i n is)
+    where
+      go : (b : Bool) → is_in kept.attached n ≡ true → (b || is_in kept.attached n) ≡ true
+      go true e = refl
+      go false e = e
+
+  either : (n : ℕ) → is_in ids n ≡ true → (n ≡ id) ⊎ ((i : ℕ) × (slice_get kept.attached i ≡ Some n))
+  either n inside = elim (cases_eq id n) [
+    | inl eq ↦ inl (sym eq)
+    | inr ne ↦ (let test : (id == n) ≡ false = grind arith in inr (in_rows kept.attached n (rw test at inside)))
   ]
+
+  which : (p : ℕ) (k : Kept) → slice_get old.users p ≡ Some (Some k) → In p ≡ true → ((p ≡ place) × (k ≡ kept)) ⊎ ((i : ℕ) × (slice_get kept.attached i ≡ Some (first_id + p)) × IsJoined kept.life k)
+  which p k made' inside = relived.which old.users sound.attached id kept made top ids has_id has_rows either p k made' inside
+
+  place_in : In place ≡ true
+  place_in = ap (is_in ids) its_users.1 ∙ has_id
+
+  users_now : (p : ℕ) (k : Kept) → slice_get new.users p ≡ Some (Some k) → Was (with_life Running) (relived.life_again Running) old.users ids p k
+  users_now p k made' = relived.users_now old.users new.users Running ids are p k made'
 
   has_before : (p n : ℕ) (head : Head) (h : Handle) → Has new.users p n head h → Has old.users p n head h
-  has_before p n head h has = elim (users_now p has.kept has.made) [
-    | inl it ↦ record {
-      kept = kept;
-      made = ap (slice_get old.users) it.0 ∙ its_users.0;
-      head' = ap (λ (k : Kept). at_number k.heads n) (sym it.1) ∙ has.head';
-      handle = ap (λ (k : Kept). handle_at k.handles n) (sym it.1) ∙ has.handle;
-    }
-    | inr other ↦ record { kept = has.kept; made = other.1; head' = has.head'; handle = has.handle }
-  ]
-
-  has_now : (p n : ℕ) (head : Head) (h : Handle) → Has old.users p n head h → Has new.users p n head h
-  has_now p n head h has = elim (cases_eq p place) [
-    | inl eq ↦
-        let same : has.kept ≡ kept = kept_one has.kept kept (sym has.made ∙ ap (slice_get old.users) eq ∙ its_users.0) in
-        let inside = slice_get_within old.users place (Some kept) its_users.0 in
-        record {
-          kept = runs;
-          made = ap (λ (us : List (Option Kept)). slice_get us p) did.users' ∙ ap (slice_get (slice_set old.users place (Some runs))) eq ∙ set_at old.users place (Some runs) inside;
-          head' = ap (λ (k : Kept). at_number k.heads n) (sym same) ∙ has.head';
-          handle = ap (λ (k : Kept). handle_at k.handles n) (sym same) ∙ has.handle;
-        }
-    | inr ne ↦ record {
-      kept = has.kept;
-      made = ap (λ (us : List (Option Kept)). slice_get us p) did.users' ∙ set_apart old.users place p (Some runs) ne ∙ has.made;
-      head' = has.head';
-      handle = has.handle;
-    }
-  ]
+  has_before p n head h has = relived.has_before old.users new.users Running ids are p n head h has
 
   abbrev own : (n : ℕ) (head : Head) (h : Handle) → at_number kept.heads n ≡ Some head → handle_at kept.handles n ≡ Some h → Has old.users place n head h
   own n head h found has = record { kept = kept; made = its_users.0; head' = found; handle = has }
@@ -311,53 +313,56 @@ module _ (old new : Loaded) (id : ℕ) (kept : Kept) (started : Started) (sound 
           ap (λ (o : Option Handle). is_active (presence new.memory.slots o)) e
           ∙ ap (λ (o : Option Block). is_active (lies_in h o)) (static_get n head h of'.block found static e of'.live) ∙ active_here h of'.block.at some
 
+  -- the segments of any other user are as before
+  other_same : (p : ℕ) (k : Kept) → slice_get old.users p ≡ Some (Some k) → p ≢ place → (n : ℕ) (o : Option Handle) → handle_at k.handles n ≡ o → presence new.memory.slots o ≡ presence old.memory.slots o
+  other_same p k made' ne n None e = refl
+  other_same p k made' ne n (Some h) e = let one = has_any old sound p k made' n h e in ap (lies_in h) (apart_get p n one.0 h one.1 (λ eq. absurd (ne eq)))
+
+  none_static : (d s : Bool) → d ≡ true → (not d && not s) ≡ true → ⊥
+  none_static true s e e' = cc
+  none_static false s e e' = cc
+
   statics_now : (p : ℕ) (k : Kept) (n : ℕ) (head : Head) → slice_get new.users p ≡ Some (Some k) → k.life ≡ Running → at_number k.heads n ≡ Some head → is_static head ≡ true
       → is_active (presence_at new.memory.slots k.handles n) ≡ true
-  statics_now p k n head made' life found static = elim (users_now p k made') [
-    | inl it ↦ subst (λ (x : Kept). is_active (presence_at new.memory.slots x.handles n) ≡ true) (sym it.1) (static_active n head (ap (λ (x : Kept). at_number x.heads n) (sym it.1) ∙ found) static)
-    | inr other ↦ go (handle_at k.handles n) refl other.0 other.1 (sound.statics p k n head other.1 life found static)
-  ]
+  statics_now p k n head made' life found static = go (users_now p k made')
     where
-      go : (o : Option Handle) → handle_at k.handles n ≡ o → p ≢ place → slice_get old.users p ≡ Some (Some k) → is_active (presence old.memory.slots o) ≡ true → is_active (presence_at new.memory.slots k.handles n) ≡ true
-      go None e ne made'' active = absurd cc
-      go (Some h) e ne made'' active =
-          let has : Has old.users p n head h = record { kept = k; made = made''; head' = found; handle = e } in
-          ap (λ (o : Option Handle). is_active (presence new.memory.slots o)) e ∙ ap (λ (o : Option Block). is_active (lies_in h o)) (apart_get p n head h has (λ eq. absurd (ne eq))) ∙ active
+      go : Was (with_life Running) (relived.life_again Running) old.users ids p k → is_active (presence_at new.memory.slots k.handles n) ≡ true
+      go w = elim w.is [
+        | inl inside ↦ elim (which p w.was w.made inside.0) [
+          | inl here ↦
+              let it : k ≡ runs = inside.1 ∙ ap (with_life Running) here.1 in
+              subst (λ (x : Kept). is_active (presence_at new.memory.slots x.handles n) ≡ true) (sym it) (static_active n head (ap (λ (x : Kept). at_number x.heads n) (sym it) ∙ found) static)
+          | inr row ↦
+              let kind = row.2.dynamic n head (ap (λ (x : Kept). at_number x.heads n) (sym inside.1) ∙ found) in
+              absurd (none_static (is_dynamic head.kind) (is_skipped head.kind) kind.0 static)
+        ]
+        | inr outside ↦
+            let made'' : slice_get old.users p ≡ Some (Some k) = w.made ∙ ap (λ (x : Kept). Some (Some x)) (sym outside.1) in
+            let ne : p ≢ place = λ eq. (let clash : false ≡ true = sym outside.0 ∙ ap In eq ∙ place_in in absurd cc) in
+            ap is_active (other_same p k made'' ne n (handle_at k.handles n) refl) ∙ sound.statics p k n head made'' life found static
+      ]
 
   rests_now : (p : ℕ) (k : Kept) (n : ℕ) → slice_get new.users p ≡ Some (Some k) → k.life ≡ Dormant → is_active (presence_at new.memory.slots k.handles n) ≡ false
-  rests_now p k n made' life = elim (users_now p k made') [
-    | inl it ↦ (let clash : Running ≡ Dormant = ap (λ (x : Kept). x.life) (sym it.1) ∙ life in absurd cc)
-    | inr other ↦ go (handle_at k.handles n) refl other.0 other.1 (sound.rests p k n other.1 life)
-  ]
+  rests_now p k n made' life = go (users_now p k made')
     where
-      go : (o : Option Handle) → handle_at k.handles n ≡ o → p ≢ place → slice_get old.users p ≡ Some (Some k) → is_active (presence old.memory.slots o) ≡ false → is_active (presence_at new.memory.slots k.handles n) ≡ false
-      go None e ne made'' rests = ap (λ (o : Option Handle). is_active (presence new.memory.slots o)) e
-      go (Some h) e ne made'' rests =
-          let one = has_any old sound p k made'' n h e in
-          ap (λ (o : Option Handle). is_active (presence new.memory.slots o)) e
-          ∙ ap (λ (o : Option Block). is_active (lies_in h o)) (apart_get p n one.0 h one.1 (λ eq. absurd (ne eq))) ∙ rests
-
-  lengths_now : (p : ℕ) (k : Kept) → slice_get new.users p ≡ Some (Some k) → (length k.handles ≡ length k.heads) × (length k.heads < 2 ^ 16)
-  lengths_now p k made' = elim (users_now p k made') [
-    | inl it ↦ subst (λ (x : Kept). (length x.handles ≡ length x.heads) × (length x.heads < 2 ^ 16)) (sym it.1) (sound.lengths place kept its_users.0, sound.short place kept its_users.0)
-    | inr other ↦ (sound.lengths p k other.1, sound.short p k other.1)
-  ]
+      go : Was (with_life Running) (relived.life_again Running) old.users ids p k → is_active (presence_at new.memory.slots k.handles n) ≡ false
+      go w = elim w.is [
+        | inl inside ↦ (let clash : Running ≡ Dormant = ap (λ (x : Kept). x.life) (sym inside.1) ∙ life in absurd cc)
+        | inr outside ↦
+            let made'' : slice_get old.users p ≡ Some (Some k) = w.made ∙ ap (λ (x : Kept). Some (Some x)) (sym outside.1) in
+            let ne : p ≢ place = λ eq. (let clash : false ≡ true = sym outside.0 ∙ ap In eq ∙ place_in in absurd cc) in
+            ap is_active (other_same p k made'' ne n (handle_at k.handles n) refl) ∙ sound.rests p k n made'' life
+      ]
 
   only_now : (slot : ℕ) (b : Block) → block_in (slot_at new.memory.slots slot) ≡ Some b → b.user ≢ 0
       → (p : ℕ) × (n : ℕ) × (head : Head) × (h : Handle) × Has new.users p n head h × (h.slot ≡ slot)
   only_now slot b found user =
       let was = all_in active_block again_is (λ x. refl) old.memory.slots (static_handles kept.heads kept.handles 1) slot b (sym (ap (λ (t : Slots). block_in (slot_at t slot)) slots_are) ∙ found) in
       let it = sound.only slot was.0 was.1 (λ e. user (sym was.2 ∙ e)) in
-      (it.0, it.1, it.2, it.3, has_now it.0 it.1 it.2 it.3 it.4, it.5)
+      (it.0, it.1, it.2, it.3, relived.has_now old.users new.users Running ids are it.0 it.1 it.2 it.3 it.4, it.5)
 
-  pub bare_now : AreBare new.users
-  bare_now = subst AreBare (sym did.users') (bare_set old.users sound.bare id runs (sound.bare place kept its_users.0))
-
-  heads_stay : (p : ℕ) (now was : Kept) → slice_get new.users p ≡ Some (Some now) → slice_get old.users p ≡ Some (Some was) → now.heads ≡ was.heads
-  heads_stay p now was made' before = elim (users_now p now made') [
-    | inl it ↦ ap (λ (x : Kept). x.heads) it.1 ∙ ap (λ (x : Kept). x.heads) (kept_one kept was (sym its_users.0 ∙ ap (slice_get old.users) (sym it.0) ∙ before))
-    | inr other ↦ ap (λ (x : Kept). x.heads) (kept_one now was (sym other.1 ∙ before))
-  ]
+  attached_now : AreAttached new.users
+  attached_now = relived.attached_now old.users new.users Running ids are sound.attached (relived.together old.users sound.attached id kept made top ids has_id has_rows either)
 
   -- where each segment is stays
   place_same : (p n : ℕ) (g : Head) (j : Handle) → Has old.users p n g j → there_at (presence new.memory.slots (Some j)) ≡ there_at (presence old.memory.slots (Some j))
@@ -385,23 +390,69 @@ module _ (old new : Loaded) (id : ℕ) (kept : Kept) (started : Started) (sound 
       let has = has_before p n g j has' in
       let was : IsSome (there_at (presence old.memory.slots (Some j))) = subst (λ (o : Option ℕ). IsSome o) (place_same p n g j has) there in
       subst (λ (bs : List ℕ). IsCall new.users (first_id + p) (load.target_at bs k)) (sym (bytes_middle j there))
-      (bare_call old.users new.users sound.bare (first_id + p) has.kept has'.kept (user_there old.users p has.kept has.made) (user_there new.users p has'.kept has'.made)
-      (heads_stay p has'.kept has.kept has'.made has.made) (load.target_at (bytes_at middle j.slot) k) (calls p n k g j has table was inside))
+      (relived.call_now old.users new.users Running ids are (first_id + p) (load.target_at (bytes_at middle j.slot) k) (calls p n k g j has table was inside))
 
   pub resumed_sound : AreCalls → IsSound new.memory new.users
   resumed_sound calls = record {
-    few = omega (arith, sound.few, ap (λ (us : List (Option Kept)). length us) did.users', length_set old.users place (Some runs));
-    lengths = λ p k made'. (lengths_now p k made').0;
-    short = λ p k made'. (lengths_now p k made').1;
+    few = omega (arith, sound.few, ap (λ (us : List (Option Kept)). length us) are, length_all (with_life Running) old.users ids);
+    lengths = λ p k made'. let w = relived.users_now old.users new.users Running ids are p k made' in let same = relived.same_but old.users new.users Running ids are p k made' in omega (arith, sound.lengths p w.was w.made, ap length same.0, ap length same.1);
+    short = λ p k made'. let w = relived.users_now old.users new.users Running ids are p k made' in let same = relived.same_but old.users new.users Running ids are p k made' in omega (arith, sound.short p w.was w.made, ap length same.1);
     statics = statics_now;
     rests = rests_now;
     each = λ p n head h has. each_before p n head h (has_before p n head h has);
     once = λ p q n m head second h k one two same. sound.once p q n m head second h k (has_before p n head h one) (has_before q m second k two) same;
     only = only_now;
-    bare = bare_now;
-    attached = bare_attached new.users bare_now;
+    attached = attached_now;
     calls = calls_now calls;
   }
+
+  -- ---- attached segments
+
+  by_place : (p : Presence) → is_active p ≡ false → active_at p ≡ None
+  by_place Absent e = refl
+  by_place (Purged h) e = refl
+  by_place (Idle h a) e = refl
+  by_place (Active h a) e = absurd cc
+
+  is_row : (p : ℕ) (k : Kept) (f : ℕ) → slice_get old.users p ≡ Some (Some k) → attached_at (kept_outlines old.users) (first_id + p) f ≡ slice_get k.attached (f - 2)
+  is_row p k f made' = rw (user_is outline old.users (first_id + p), user_there old.users p k made') refl
+
+  -- they are where they were
+  far_same : (p : ℕ) (k : Kept) → slice_get old.users p ≡ Some (Some k) → (f n : ℕ) → far_of new.memory.slots (kept_outlines new.users) (first_id + p) f n ≡ far_of old.memory.slots (kept_outlines old.users) (first_id + p) f n
+  far_same p k made' f n =
+      let now = relived.user_then old.users new.users Running ids are (first_id + p) k (user_there old.users p k made') in
+      let row : attached_at (kept_outlines new.users) (first_id + p) f ≡ slice_get k.attached (f - 2) = rw (user_is outline new.users (first_id + p), now.1) (ap (λ (ns : List ℕ). slice_get ns (f - 2)) now.3) in
+      rw (row, is_row p k f made') (go (slice_get k.attached (f - 2)) refl)
+    where
+      other : (m : ℕ) → slice_get k.attached (f - 2) ≡ Some m
+          → active_at (presence_at new.memory.slots (handles_in (kept_outlines new.users) m) n) ≡ active_at (presence_at old.memory.slots (handles_in (kept_outlines old.users) m) n)
+      other m is =
+          let one = sound.attached.each p (f - 2) m k made' is in
+          let there = made_at old.users m one.0 one.1 in
+          let then' = relived.user_then old.users new.users Running ids are m one.0 one.1 in
+          let ne : m - first_id ≢ place = λ eq. top (first_id + p) f (is_row p k f made' ∙ is ∙ ap (λ (x : ℕ). Some x) (omega (arith, eq, there.1, its_users.1))) in
+          let its : handles_in (kept_outlines new.users) m ≡ one.0.handles = rw (user_is outline new.users m, then'.1) then'.4 in
+          let was : handles_in (kept_outlines old.users) m ≡ one.0.handles = rw (user_is outline old.users m, one.1) refl in
+          rw (its, was) (ap active_at (other_same (m - first_id) one.0 there.0 ne n (handle_at one.0.handles n) refl))
+
+      go : (o : Option ℕ) → slice_get k.attached (f - 2) ≡ o
+          → option_and_then (λ (m : ℕ). active_at (presence_at new.memory.slots (handles_in (kept_outlines new.users) m) n)) o
+          ≡ option_and_then (λ (m : ℕ). active_at (presence_at old.memory.slots (handles_in (kept_outlines old.users) m) n)) o
+      go None e = refl
+      go (Some m) e = other m e
+
+  -- and none of those of the user is active
+  far_none : (f n : ℕ) → far_of old.memory.slots (kept_outlines old.users) id f n ≡ None
+  far_none f n = subst (λ (q : ℕ). far_of old.memory.slots (kept_outlines old.users) q f n ≡ None) its_users.1 (rw (is_row place kept f its_users.0) (go (slice_get kept.attached (f - 2)) refl))
+    where
+      go : (o : Option ℕ) → slice_get kept.attached (f - 2) ≡ o → option_and_then (λ (m : ℕ). active_at (presence_at old.memory.slots (handles_in (kept_outlines old.users) m) n)) o ≡ None
+      go None e = refl
+      go (Some m) e =
+          let one = sound.attached.each place (f - 2) m kept its_users.0 e in
+          let there = made_at old.users m one.0 one.1 in
+          let was : handles_in (kept_outlines old.users) m ≡ one.0.handles = rw (user_is outline old.users m, one.1) refl in
+          ap (λ (hs : List (Option Handle)). active_at (presence_at old.memory.slots hs n)) was
+          ∙ by_place (presence_at old.memory.slots one.0.handles n) (sound.rests (m - first_id) one.0 n there.0 (one.2.same ∙ rests))
 
   -- ---- agreement
 
@@ -467,8 +518,23 @@ module _ (old new : Loaded) (id : ℕ) (kept : Kept) (started : Started) (sound 
     not_static : (s : Segment) → is_dynamic s.fields.kind ≡ true → is_static (head_of s) ≡ false
     not_static s dynamic = rw dynamic refl
 
-    far_same : (file m : ℕ) → 2 ≤ file → a.target file m ≡ b.target file m
-    far_same file m above = let other : (file == 1) ≡ false = grind arith in rw other (sym (bare_both old new sound.bare bare_now id file m))
+    its_far : (f m : ℕ) → far_of old.memory.slots (kept_outlines old.users) id f m ≡ far_of new.memory.slots (kept_outlines new.users) id f m
+    its_far f m = subst (λ (q : ℕ). far_of old.memory.slots (kept_outlines old.users) q f m ≡ far_of new.memory.slots (kept_outlines new.users) q f m) its_users.1 (sym (far_same place kept its_users.0 f m))
+
+    far_both : (file m : ℕ) → 2 ≤ file → a.target file m ≡ b.target file m
+    far_both file m above = let other : (file == 1) ≡ false = grind arith in rw other (its_far file m)
+
+    -- a fresh segment stands where no attached segment is active
+    alone_stands : (n : ℕ) (s : Segment) → segment_at is.does_agree.segments n ≡ Some s → stands (setting id old.memory.slots kept.handles) no_pokes s ≡ stands a no_pokes s
+    alone_stands n s found =
+        let front : AreAlike is.does_agree.segments n s (setting id old.memory.slots kept.handles) a = record {
+          id = refl;
+          own = refl;
+          static = λ m t found' static. refl;
+          target = λ table m t found' dynamic loaded. refl;
+          far = λ table file m above. (let other : (file == 1) ≡ false = grind arith in rw other (sym (far_none file m)));
+        } in
+        stands_alike is.does_agree.segments n s (loadable_has is.does_agree.holds.file is.does_agree.segments is.does_agree.holds.loadable n s found) (setting id old.memory.slots kept.handles) a front no_pokes
 
     alike : (n : ℕ) (s : Segment) → AreAlike is.does_agree.segments n s a b
     alike n s = record {
@@ -476,11 +542,11 @@ module _ (old new : Loaded) (id : ℕ) (kept : Kept) (started : Started) (sound 
       own = ap (λ (o : Option ℕ). unwrap_or o 0) (sym (there_now n));
       static = λ m t found static. ap (λ (o : Option ℕ). unwrap_or o 0) (sym (there_now m));
       target = λ table m t found dynamic kept'. ap active_at (sym (dynamic_now m (head_of t) (heads_at m t found) (not_static t dynamic)));
-      far = λ table file m above. far_same file m above;
+      far = λ table file m above. far_both file m above;
     }
 
     alike_stands : (n : ℕ) (s : Segment) (pokes : Rattle.loader_machine.specs.State.Pokes) → segment_at is.does_agree.segments n ≡ Some s → stands a pokes s ≡ stands b pokes s
-    alike_stands n s pokes found = stands_alike is.does_agree.segments n s (loadable_has is.does_agree.holds.file is.does_agree.segments is.does_agree.holds.taken.loadable n s found) a b (alike n s) pokes
+    alike_stands n s pokes found = stands_alike is.does_agree.segments n s (loadable_has is.does_agree.holds.file is.does_agree.segments is.does_agree.holds.loadable n s found) a b (alike n s) pokes
 
     pokes_now : (n : ℕ) (s : Segment) → segment_at is.does_agree.segments n ≡ Some s → held_at user' n ≡ cond (is_read_again (head_of s)) (fresh (held_at user n).handle) (held_at user n)
     pokes_now zero s found = absurd cc
@@ -494,8 +560,7 @@ module _ (old new : Loaded) (id : ℕ) (kept : Kept) (started : Started) (sound 
           | inl again ↦
               let front = reread.begins n s h (subst (λ (ss : List Segment). segment_at ss n ≡ Some s) same_segments found) again has in
               let pokes : (held_at user' n).pokes ≡ no_pokes = ap (λ (x : Held). x.pokes) (pokes_now n s found) ∙ ap (λ (t : Bool). (cond t (fresh (held_at user n).handle) (held_at user n)).pokes) again in
-              let front' = subst (λ (bs : List ℕ). IsFront bs (bytes_at middle h.slot)) (bare_stands old.users sound.bare old.memory.slots id kept.handles is.does_agree.segments n s
-              (loadable_has is.does_agree.holds.file is.does_agree.segments is.does_agree.holds.taken.loadable n s found) no_pokes) front in
+              let front' = subst (λ (bs : List ℕ). IsFront bs (bytes_at middle h.slot)) (alone_stands n s found) front in
               rw (pokes, ← alike_stands n s no_pokes found, bytes_middle h present') front'
           | inr plain ↦
               let before : IsSome (there_at (presence_at old.memory.slots kept.handles n)) = rw (← there_now n) present in
@@ -529,41 +594,124 @@ module _ (old new : Loaded) (id : ℕ) (kept : Kept) (started : Started) (sound 
       begins = λ there n s h found has present. begins (λ m t found' static. was_there m (head_of t) (heads_at m t found') static) n s h found has present;
     }
 
+    -- the others agree still, and those that are attached run
     others_agree : (p : ℕ) (k : Kept) (u : User) → slice_get old.users p ≡ Some (Some k) → p ≢ place → UserAgrees held old.memory (far_in old (first_id + p)) (first_id + p) k u → UserAgrees held new.memory (far_in new (first_id + p)) (first_id + p) k u
-    others_agree p k u made' ne was = bare_still held old new sound.bare bare_now (first_id + p) k u was (λ n j found.
+    others_agree p k u made' ne was = agrees_still held old.memory new.memory (far_in old (first_id + p)) (far_in new (first_id + p)) (first_id + p) k u was
+        (λ n j found.
         let one = has_any old sound p k made' n j found in
         Same (apart_get p n one.0 j one.1 (λ e. absurd (ne e))) (λ there. bytes_middle j there ∙ plain_bytes p n one.0 j one.1 (λ e. absurd (ne e))))
+        (λ f n above. far_same p k made' f n)
+
+    row_agrees : (p : ℕ) (k : Kept) (u : User) → slice_get old.users p ≡ Some (Some k) → p ≢ place → IsJoined kept.life k → UserAgrees held old.memory (far_in old (first_id + p)) (first_id + p) k u
+        → UserAgrees held new.memory (far_in new (first_id + p)) (first_id + p) (with_life Running k) (state_of.runs_again u)
+    row_agrees p k u made' ne joined was =
+        let still = others_agree p k u made' ne was in
+        record {
+          same = ap (λ (o : Outline). let new_o : Outline = record o { life = Running } in new_o) still.same;
+          segments = still.segments;
+          holds = still.holds;
+          heads = still.heads;
+          count = still.count;
+          unpoked = still.unpoked;
+          statics = λ life n s found static.
+              absurd (none_static (is_dynamic (head_of s).kind) (is_skipped (head_of s).kind)
+              (joined.dynamic n (head_of s) (ap (λ (hs : List Head). at_number hs n) still.heads ∙ head_at still.segments n s found)).0 static);
+          begins = still.begins;
+        }
 
     state_users : slice_get state.users place ≡ Some (Some is.user)
     state_users = (made_at state.users id is.user is.made).0
-
-    abbrev pub next : Machine
-    next = with_both state id (changed_all active_block state.slots (static_handles (map head_of is.does_agree.segments) (handles_of is.user) 1)) (Some (record is.user { life = Running; segments = read_again (map head_of is.does_agree.segments) is.user.segments }))
 
     next_slots : new.memory.slots ≡ changed_all active_block state.slots (static_handles (map head_of is.does_agree.segments) (handles_of is.user) 1)
     next_slots = slots_are ∙ ap (λ (t : Slots). changed_all active_block t (static_handles kept.heads kept.handles 1)) agrees.slots
         ∙ ap (λ (hs : List Head). changed_all active_block state.slots (static_handles hs kept.handles 1)) is.does_agree.heads
         ∙ ap (λ (o : Outline). changed_all active_block state.slots (static_handles (map head_of is.does_agree.segments) o.handles 1)) is.does_agree.same
 
-    pub resumed_agrees : Agrees held new (with_both state id (changed_all active_block state.slots (static_handles (map head_of (kept_is held old state agrees id kept made).does_agree.segments) (handles_of (kept_is held old state agrees id kept made).user) 1))
-        (Some (record (kept_is held old state agrees id kept made).user { life = Running; segments = read_again (map head_of (kept_is held old state agrees id kept made).does_agree.segments) (kept_is held old state agrees id kept made).user.segments })))
-    resumed_agrees = record {
+    runs_outline : Outline → Outline
+    runs_outline o = record o { life = Running }
+
+    mid_users : map (option_map outline) (with_user old.users id (Some runs)) ≡ map (option_map outline_of) (with_user state.users id (Some user'))
+    mid_users = set_map (option_map outline) old.users place (Some runs) ∙ ap (λ us. slice_set us place (Some (outline runs))) agrees.users
+        ∙ ap (λ (o : Outline). slice_set (map (option_map outline_of) state.users) place (Some o)) outlines ∙ sym (set_map (option_map outline_of) state.users place (Some user'))
+
+    abbrev next_of : List ℕ → Machine
+    next_of rows = record {
+      banks = state.banks;
+      slots = changed_all active_block state.slots (static_handles (map head_of is.does_agree.segments) (handles_of is.user) 1);
+      users = with_all state_of.runs_again (with_user state.users id (Some user')) rows;
+    }
+
+    user_one : (a b : User) → Some (Some a) ≡ Some (Some b) → a ≡ b
+    user_one a b e = cc
+
+    agrees_of : Agrees held new (next_of kept.attached)
+    unfolding runs_outline
+    agrees_of = record {
       banks = did.bytes.banks ∙ reread.banks ∙ agrees.banks;
       slots = next_slots;
-      users = ap (map (option_map outline)) did.users' ∙ set_map (option_map outline) old.users place (Some runs) ∙ ap (λ us. slice_set us place (Some (outline runs))) agrees.users
-          ∙ ap (λ (o : Outline). slice_set (map (option_map outline_of) state.users) place (Some o)) outlines ∙ sym (set_map (option_map outline_of) state.users place (Some user'));
-      attached = bare_attached new.users bare_now;
-      entries = bare_entries held new.users;
-      each = λ p k u made' made''. elim (users_now p k made') [
-        | inl it ↦
-            let inside = slice_get_within state.users place (Some is.user) state_users in
-            let user_same : u ≡ user' = user_one u user' (sym made'' ∙ ap (slice_get (slice_set state.users place (Some user'))) it.0 ∙ set_at state.users place (Some user') inside) in
-            let id_is : id ≡ first_id + p = omega (arith, its_users.1, it.0) in
-            subst (λ (n : ℕ). UserAgrees held new.memory (far_in new n) n k u) id_is
-            (subst (λ (x : User). UserAgrees held new.memory (far_in new id) id k x) (sym user_same) (subst (λ (x : Kept). UserAgrees held new.memory (far_in new id) id x user') (sym it.1) user_agrees))
-        | inr other ↦ others_agree p k u other.1 other.0 (agrees.each p k u other.1 (sym (set_apart state.users place p (Some user') other.0) ∙ made''))
-      ];
+      users = ap (map (option_map outline)) did.users' ∙ map_all outline (with_life Running) runs_outline (λ k. refl) (with_user old.users id (Some runs)) kept.attached
+          ∙ ap (λ (us : List (Option Outline)). with_all runs_outline us kept.attached) mid_users ∙ sym (map_all outline_of state_of.runs_again runs_outline (λ u. refl) (with_user state.users id (Some user')) kept.attached);
+      attached = attached_now;
+      entries = relived.entries_now old.users new.users Running ids are held agrees.entries;
+      each = λ p k u made' made''. each_agrees p k u (users_now p k made') (with_all_get state_of.runs_again (λ x. refl) kept.attached (with_user state.users id (Some user')) p u made'');
     }
       where
-        user_one : (a b : User) → Some (Some a) ≡ Some (Some b) → a ≡ b
-        user_one a b e = cc
+        out_rows : (p : ℕ) → In p ≡ false → (p ≢ place) × (is_in kept.attached (first_id + p) ≡ false)
+        out_rows p out = (
+          (λ eq. let clash : false ≡ true = sym out ∙ ap In eq ∙ place_in in absurd cc),
+          go (id == first_id + p) out,
+        )
+          where
+            go : (b : Bool) → (b || is_in kept.attached (first_id + p)) ≡ false → is_in kept.attached (first_id + p) ≡ false
+            go true e = absurd cc
+            go false e = e
+
+        each_agrees : (p : ℕ) (k : Kept) (u : User) → Was (with_life Running) (relived.life_again Running) old.users ids p k → Was state_of.runs_again (λ x. refl) (with_user state.users id (Some user')) kept.attached p u
+            → UserAgrees held new.memory (far_in new (first_id + p)) (first_id + p) k u
+        each_agrees p k u w v = elim (cases_eq p place) [
+          | inl eq ↦
+              let inside = slice_get_within state.users place (Some is.user) state_users in
+              let mid : v.was ≡ user' = user_one v.was user' (sym v.made ∙ ap (slice_get (slice_set state.users place (Some user'))) eq ∙ set_at state.users place (Some user') inside) in
+              let user_same : u ≡ user' = elim v.is [ inl l ↦ l.1 ∙ ap state_of.runs_again mid | inr l ↦ l.1 ∙ mid ] in
+              let was : w.was ≡ kept = kept_one w.was kept (sym w.made ∙ ap (slice_get old.users) eq ∙ its_users.0) in
+              let k_same : k ≡ runs = elim w.is [
+                | inl l ↦ l.1 ∙ ap (with_life Running) was
+                | inr l ↦ (let clash : false ≡ true = sym l.0 ∙ ap In eq ∙ place_in in absurd cc)
+              ] in
+              let id_is : id ≡ first_id + p = omega (arith, its_users.1, eq) in
+              subst (λ (n : ℕ). UserAgrees held new.memory (far_in new n) n k u) id_is
+              (subst (λ (x : User). UserAgrees held new.memory (far_in new id) id k x) (sym user_same) (subst (λ (x : Kept). UserAgrees held new.memory (far_in new id) id x user') (sym k_same) user_agrees))
+          | inr ne ↦
+              let made' : slice_get state.users p ≡ Some (Some v.was) = sym (set_apart state.users place p (Some user') ne) ∙ v.made in
+              let before = agrees.each p w.was v.was w.made made' in
+              elim w.is [
+                | inl inside ↦ elim (which p w.was w.made inside.0) [
+                  | inl here ↦ absurd (ne here.0)
+                  | inr row ↦
+                      let user_same : u ≡ state_of.runs_again v.was = elim v.is [
+                        | inl l ↦ l.1
+                        | inr l ↦ (let clash : true ≡ false = sym (in_row kept.attached row.0 (first_id + p) row.1) ∙ l.0 in absurd cc)
+                      ] in
+                      subst (λ (x : User). UserAgrees held new.memory (far_in new (first_id + p)) (first_id + p) k x) (sym user_same)
+                      (subst (λ (x : Kept). UserAgrees held new.memory (far_in new (first_id + p)) (first_id + p) x (state_of.runs_again v.was)) (sym inside.1) (row_agrees p w.was v.was w.made ne row.2 before))
+                ]
+                | inr outside ↦
+                    let user_same : u ≡ v.was = elim v.is [
+                      | inl l ↦ (let clash : true ≡ false = sym l.0 ∙ (out_rows p outside.0).1 in absurd cc)
+                      | inr l ↦ l.1
+                    ] in
+                    subst (λ (x : User). UserAgrees held new.memory (far_in new (first_id + p)) (first_id + p) k x) (sym user_same)
+                    (subst (λ (x : Kept). UserAgrees held new.memory (far_in new (first_id + p)) (first_id + p) x v.was) (sym outside.1) (others_agree p w.was v.was w.made ne before))
+              ]
+        ]
+
+    abbrev pub next : Machine
+    next = record {
+      banks = state.banks;
+      slots = changed_all active_block state.slots (static_handles (map head_of (kept_is held old state agrees id kept made).does_agree.segments) (handles_of (kept_is held old state agrees id kept made).user) 1);
+      users = with_all state_of.runs_again (with_user state.users id (Some (record (kept_is held old state agrees id kept made).user { life = Running; segments = read_again (map head_of (kept_is held old state agrees id kept made).does_agree.segments) (kept_is held old state agrees id kept made).user.segments })))
+          (kept_is held old state agrees id kept made).user.attached;
+    }
+
+    pub resumed_agrees : Agrees held new next
+    resumed_agrees = subst (λ (rows : List ℕ). Agrees held new (next_of rows)) (ap (λ (o : Outline). o.attached) is.does_agree.same) agrees_of

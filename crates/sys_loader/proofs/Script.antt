@@ -1,5 +1,5 @@
 -- Calls on the script's own blocks, by their answers.
-use Rattle.std.proofs.Common.{◌≡◌, ◌≢◌, inl, inr, ℕ, Bool, length, ◌+◌, ◌≤◌, Option, Some, None, IsSomeAnd, refl, sym, ap, subst, ◌∙◌, arith}
+use Rattle.std.proofs.Common.{◌≡◌, ◌≢◌, inl, inr, ℕ, Bool, false, length, ◌+◌, ◌≤◌, Option, Some, None, IsSomeAnd, refl, sym, ap, subst, ◌∙◌, arith}
 use Rattle.std.specs.Prelude.{option_map, IfOk, IfErr, OnErr, Result, Ok, Err}
 use Rattle.std.proofs.lemmas.Option.{same_Some}
 use Rattle.omf_io.specs.Files.{FileMap}
@@ -42,13 +42,13 @@ if_err (Err e) P Q p f = f e p
 -- ---- alloc
 
 pub alloc_sound : (old : Loaded) (want : Want) (locked : Bool) (level : ℕ) (result : Result Handle PlaceFault) (new : Memory) → IsSound old.memory old.users
-    → IfOk result (λ h. IsPlaced Purges old.memory want 0 locked level h new) → OnErr result (new ≡ old.memory) → IsSound new old.users
+    → IfOk result (λ h. IsPlaced Purges old.memory want 0 locked level false h new) → OnErr result (new ≡ old.memory) → IsSound new old.users
 alloc_sound old want locked level (Ok h) new sound placed err =
     sound_kept old new sound (placed_kept old sound want 0 locked level h new placed) (placed_only old sound want 0 locked level h new placed refl)
 alloc_sound old want locked level (Err fault) new sound placed err = subst (λ (m : Memory). IsSound m old.users) (sym err) sound
 
 module _ (old new : Loaded) (sound : IsSound old.memory old.users) (want : Want) (locked : Bool) (level : ℕ) where
-  pub alloc_meets : (h : Handle) → IsPlaced Purges old.memory want 0 locked level h new.memory × (new.users ≡ old.users) → (held : FileMap) (state : Machine) → Agrees held old state
+  pub alloc_meets : (h : Handle) → IsPlaced Purges old.memory want 0 locked level false h new.memory × (new.users ≡ old.users) → (held : FileMap) (state : Machine) → Agrees held old state
       → (address : ℕ) × IsSomeAnd (get new.memory.slots h) (λ block. block.at ≡ Some address) × Met Purges held state (Alloc want locked level) (Placed h address) new
   alloc_meets h did held state agrees =
       let puts = did.0.puts in

@@ -15,9 +15,7 @@ use Rattle.load_meaning.specs.Cells.{segment_bytes}
 use Rattle.load_meaning.specs.laws.CellLaws.{loadable_has, length-segment_bytes}
 use Rattle.load_meaning.specs.Table.{table_bytes, file_entry}
 use Rattle.load_meaning.specs.LoadTable.{is_table, targets_of}
-use Rattle.load_meaning.specs.Loadable.{IsSoundSegment, IsOwnTarget}
-use Rattle.loader_machine.specs.Taken.{IsTaken}
-use Rattle.loader_machine.specs.laws.TakenLaws.{own_targets}
+use Rattle.load_meaning.specs.Loadable.{IsSoundSegment, IsTarget, IsLoadable}
 use Rattle.omf_cells.specs.Load.{table_targets}
 use Rattle.omf_cells.specs.Places.{address_in}
 use Rattle.iigs_meaning.specs.declared.handles.Handle.{Handle}
@@ -40,8 +38,8 @@ use Rattle.sys_loader.proofs.Written.{handles_of}
 
 -- ---- a load file's segments
 
-pub are_sound : (file : List ℕ) (segments : List Segment) → IsTaken file segments → AreSound segments
-are_sound file segments taken number s is = loadable_has file segments taken.loadable number s is
+pub are_sound : (file : List ℕ) (segments : List Segment) → IsLoadable file segments → AreSound segments
+are_sound file segments taken number s is = loadable_has file segments taken number s is
 
 some_and : {A : Type 0} (o : Option A) (P : A → Type 0) → IsSomeAnd o P → (x : A) × (o ≡ Some x) × P x
 some_and None P is = absurd is
@@ -147,23 +145,24 @@ spread_other (g ∷ heads) (h ∷ hs) (suc k) head is other = elim (decide (is_s
 dynamic_other : (head : Head) → is_dynamic head.kind ≡ true → is_static head ≡ false
 dynamic_other head dynamic = rw dynamic refl
 
-module _ (file : List ℕ) (segments : List Segment) (taken : IsTaken file segments) (hs : List Handle) (slots : Slots) (user : ℕ) where
+module _ (file : List ℕ) (segments : List Segment) (taken : IsLoadable file segments) (hs : List Handle) (slots : Slots) (user : ℕ) where
   not_there : (number : ℕ) (s : Segment) → segment_at segments number ≡ Some s → is_dynamic s.fields.kind ≡ true → handle_at (spread_handles segments hs) number ≡ None
   not_there zero s is dynamic = refl
   not_there (suc k) s is dynamic =
       let head : slice_get (map head_of segments) k ≡ Some (head_of s) = number_map head_of segments (suc k) ∙ ap (option_map head_of) is in
       ap (option_and_then (λ (o : Option Handle). o)) (spread_other (map head_of segments) hs k (head_of s) head (dynamic_other (head_of s) dynamic))
 
-  none_active : (t : Target) → IsOwnTarget segments t → target_with nowhere slots (spread_handles segments hs) t.file t.segment ≡ None
-  none_active t is =
+  none_active : (t : Target) → IsTarget segments t → target_with nowhere slots (spread_handles segments hs) t.file t.segment ≡ None
+  none_active t (inl is) =
       let none : presence_at slots (spread_handles segments hs) t.segment ≡ presence slots None = ap (presence slots) (not_there t.segment is.segment' is.is is.dynamic) in
       go (t.file == 1) (ap active_at none)
     where
       go : (b : Bool) → active_at (presence_at slots (spread_handles segments hs) t.segment) ≡ None → cond b (active_at (presence_at slots (spread_handles segments hs) t.segment)) None ≡ None
       go true e = e
       go false e = refl
+  none_active t (inr is) = let above : 2 ≤ t.file = is.beyond in let other : (t.file == 1) ≡ false = grind arith in rw other refl
 
-  all_none : (ts : List Target) → AllByRecursion (IsOwnTarget segments) ts → AllByRecursion (λ t. target_with nowhere slots (spread_handles segments hs) t.file t.segment ≡ None) ts
+  all_none : (ts : List Target) → AllByRecursion (IsTarget segments) ts → AllByRecursion (λ t. target_with nowhere slots (spread_handles segments hs) t.file t.segment ≡ None) ts
   all_none [] all = tt
   all_none (t ∷ ts) all = (none_active t all.0, all_none ts all.1)
 
@@ -172,5 +171,5 @@ module _ (file : List ℕ) (segments : List Segment) (taken : IsTaken file segme
   is_setting kept same = record {
     id = refl;
     place = λ n. address_is slots kept n ∙ ap (λ (handles : List (Option Handle)). machine.place_in slots handles n) same;
-    targets = λ number s is table. all_none (targets_of s) (own_targets segments taken.alone (targets_of s) ((loadable_has file segments taken.loadable number s is).table table).targets);
+    targets = λ number s is table. all_none (targets_of s) ((loadable_has file segments taken number s is).table table).targets;
   }

@@ -22,17 +22,15 @@ use Rattle.loader_machine.specs.declared.seen.Life.TheVariants.{Running, Dormant
 use Rattle.loader_machine.specs.Heads.{head_of, at_number, is_static, is_table}
 use Rattle.loader_machine.specs.State.{User, Machine, Outline, first_id, user_of, attached_at, handles_in}
 use Rattle.loader_machine.specs.declared.seen.Presence.{Presence}
-use Rattle.loader_machine.specs.Found.{HoldsLoad}
 use Rattle.loader_machine.specs.Presences.{handle_at, presence, presence_at, there_at, active_at, is_active, lies_in, lies_at}
 use Rattle.loader_machine.specs.Stands.{Far, setting_with, far_of}
-use Rattle.load_meaning.specs.LoadTable.{targets_of, target_at, entry_count}
+use Rattle.load_meaning.specs.LoadTable.{target_at, entry_count}
 use Rattle.load_meaning.specs.Table.{entry_start}
-use Rattle.std.specs.List.{AllByRecursion}
 use Rattle.loader_machine.specs.Steps.{changed, with_slots}
-use Rattle.loader_agrees.specs.Agrees.{Kept, Loaded, outline, kept_outlines, UserAgrees, EntriesLead, AreAttached, AreBare, IsCall, Agrees, IsSegments, IsOf, Has, IsSound}
-use Rattle.loader_agrees.specs.laws.Bare.{bare_row}
+use Rattle.loader_agrees.specs.Agrees.{Kept, Loaded, outline, kept_outlines, UserAgrees, LeadsFar, EntriesLead, AreAttached, IsCall, Agrees, IsSegments, IsOf, Has, IsSound}
 use Rattle.loader_agrees.specs.laws.Begun.{decide}
 use Rattle.loader_agrees.specs.laws.Frame.{Same, agrees_still}
+use Rattle.loader_agrees.specs.laws.Leading.{Leading, Its, Holder}
 use Rattle.loader_agrees.specs.laws.Reads.{head_at}
 use Rattle.loader_agrees.specs.laws.Seeing.{made_at, user_is, IsKept, kept_is, has_any}
 use Rattle.loader_agrees.specs.laws.Slotted.{slot_apart, slot_set}
@@ -40,7 +38,8 @@ use Rattle.loader_agrees.specs.laws.Stay.{is_there}
 use Rattle.sys_loader.specs.Renewing.{is_chosen, renewed}
 use Rattle.sys_loader.proofs.Lead.{target_stays as target_kept}
 use Rattle.sys_loader.specs.Lives.{HasShifted}
-use Rattle.sys_loader.proofs.Turned.{Becomes, Stays, Turns, Turned, Leads, turned_agrees}
+use Rattle.sys_loader.proofs.Turned.{Becomes, Stays, Turns, Turned, turned_agrees}
+use Rattle.sys_loader.proofs.Leads.{entries_lead}
 
 -- ---- slots in which a live handle's block is another
 
@@ -114,17 +113,6 @@ room_there loader sound p n g j has there =
     go : (at : Option ℕ) (locked : Bool) → IsSome (there_at (lies_at j at locked)) → IsSome at
     go None locked e = absurd cc
     go (Some a) locked e = refl
-
--- the tables of this user lead to the segments of the user of an ID, under this file number: its own under 1, or those of the user to which
--- it is attached
-pub data Leading (users : List (Option Kept)) (id owner file : ℕ) : Type 0 where
-  Its : owner ≡ id → file ≡ 1 → ((q f : ℕ) → attached_at (kept_outlines users) q f ≡ Some id → ⊥) → Leading users id owner file
-  Holder : 2 ≤ file → owner ≢ id → attached_at (kept_outlines users) owner file ≡ Some id → ((f : ℕ) → attached_at (kept_outlines users) id f ≡ None)
-      → ((q f : ℕ) → 2 ≤ f → attached_at (kept_outlines users) q f ≡ Some id → (q ≡ owner) × (f ≡ file)) → Leading users id owner file
-
--- where none has attached users, the tables of a user lead to its own segments
-pub own_leading : (users : List (Option Kept)) → AreBare users → (id : ℕ) → Leading users id id 1
-own_leading users bare id = Its refl refl (λ q f found. let clash : None ≡ Some id = sym (bare_row users bare q f) ∙ found in cc)
 
 module _ (old new : Loaded) (id number owner file : ℕ) (kept lead : Kept) (h : Handle) (change : Block → Block) (address : Option ℕ) (head : Head)
     (sound : IsSound old.memory old.users) (leading : Leading old.users id owner file) (lead_made : user_of old.users owner ≡ Some lead)
@@ -349,7 +337,7 @@ module _ (old new : Loaded) (id number owner file : ℕ) (kept lead : Kept) (h :
 
   -- it is sound still
   pub shifted_sound : kept.life ≡ Running → IsSound new.memory old.users
-  shifted_sound runs = record { few = sound.few; lengths = sound.lengths; short = sound.short; statics = statics_now; rests = rests_now runs; each = each_now; once = sound.once; only = only_now; bare = sound.bare; attached = sound.attached; calls = calls_now }
+  shifted_sound runs = record { few = sound.few; lengths = sound.lengths; short = sound.short; statics = statics_now; rests = rests_now runs; each = each_now; once = sound.once; only = only_now; attached = sound.attached; calls = calls_now }
 
   -- ---- agreement
 
@@ -408,8 +396,7 @@ module _ (old new : Loaded) (id number owner file : ℕ) (kept lead : Kept) (h :
           | inr ne ↦ rw (user_is outline old.users other) (user other (user_of old.users other) refl ne)
         ]
 
-    module _ (held : FileMap) (state : Machine) (agrees : Agrees held old state) (fits : IsSome address → head.length < 2 ^ 32)
-        (leads : (path : List ℕ) (segments : List Segment) → HoldsLoad held path segments → (n : ℕ) (s : Segment) → segment_at segments n ≡ Some s → load.is_table s ≡ true → AllByRecursion (Leads segments) (targets_of s)) where
+    module _ (held : FileMap) (state : Machine) (agrees : Agrees held old state) (fits : IsSome address → head.length < 2 ^ 32) where
       is : IsKept held old state agrees id kept
       is = kept_is held old state agrees id kept made
 
@@ -494,7 +481,8 @@ module _ (old new : Loaded) (id number owner file : ℕ) (kept lead : Kept) (h :
       -- the user whose segment it is agrees still
       user_agrees : UserAgrees held new.memory (far_new id) id kept is.user
       user_agrees = turned_agrees held old.memory new.memory (far_old id) (far_new id) id (Some (1, number)) address kept kept is.user is.user is.does_agree
-          (λ n s found table. leads kept.path is.does_agree.segments is.does_agree.holds n s found table) (sound.short place kept its_users.0) turned
+          (entries_lead held old state agrees sound id kept made (Some (1, number)) address (λ t above far c some. absurd (omega (arith, above, (chosen_file 1 t.file t.segment number c).0))) is.does_agree.segments is.does_agree.holds)
+          (sound.short place kept its_users.0) turned
 
       module _ (above : 2 ≤ file) (ne : owner ≢ id) (there : attached_at outs owner file ≡ Some id)
           (only : (q f : ℕ) → 2 ≤ f → attached_at outs q f ≡ Some id → (q ≡ owner) × (f ≡ file)) where
@@ -548,10 +536,19 @@ module _ (old new : Loaded) (id number owner file : ℕ) (kept lead : Kept) (h :
           each = λ there' n s k found has present. lead_becomes n s k found has present;
         }
 
+        -- an entry that names the segment has an offset in it
+        offset_fits : (t : Target) → 2 ≤ t.file → LeadsFar old.users owner t → is_chosen (Some (file, number)) t.file t.segment ≡ true → IsSome address → t.offset < 2 ^ 32
+        offset_fits t above' far c some =
+            let both = chosen_file file t.file t.segment number c in
+            let same : far.other ≡ id = same_Some far.other id (sym far.named ∙ ap (attached_at outs owner) both.0 ∙ there) in
+            let user : far.kept ≡ kept = same_Some far.kept kept (sym far.made ∙ ap (user_of old.users) same ∙ made) in
+            let its_head : far.head ≡ head = same_Some far.head head (sym far.head' ∙ ap (λ (x : Kept). at_number x.heads t.segment) user ∙ ap (at_number kept.heads) both.1 ∙ head') in
+            omega (arith, far.inside, ap (λ (g : Head). g.length) its_head, fits some)
+
         -- so does the user whose tables lead to it
         lead_agrees : UserAgrees held new.memory (far_new owner) owner lead its.user
         lead_agrees = turned_agrees held old.memory new.memory (far_old owner) (far_new owner) owner (Some (file, number)) address lead lead its.user its.user its.does_agree
-            (λ n s found table. leads lead.path its.does_agree.segments its.does_agree.holds n s found table) (sound.short lead_place lead lead_users.0) lead_turned
+            (entries_lead held old state agrees sound owner lead lead_made (Some (file, number)) address offset_fits its.does_agree.segments its.does_agree.holds) (sound.short lead_place lead lead_users.0) lead_turned
 
       -- and every other
       others_agree : (p : ℕ) (k : Kept) (user : User) → slice_get old.users p ≡ Some (Some k) → p ≢ place → p ≢ lead_place → ((f n : ℕ) → 2 ≤ f → far_new (first_id + p) f n ≡ far_old (first_id + p) f n)

@@ -10,7 +10,7 @@ use Rattle.load_meaning.specs.declared.table.Target.{Target}
 use Rattle.load_meaning.specs.laws.CellLaws.{loadable_has}
 use Rattle.load_meaning.specs.LoadTable.{is_table, entry_count, targets_of}
 use Rattle.load_meaning.specs.Table.{table_bytes}
-use Rattle.load_meaning.specs.Loadable.{IsSoundSegment, IsOwnTarget}
+use Rattle.load_meaning.specs.Loadable.{IsSoundSegment}
 use Rattle.iigs_meaning.specs.declared.handles.Handle.{Handle}
 use Rattle.iigs_meaning.specs.Memory.{Memory, bytes_at}
 use Rattle.loader_machine.specs.declared.seen.Life.TheVariants.{Running}
@@ -18,12 +18,12 @@ use Rattle.loader_machine.specs.Heads.{head_of, is_static}
 use Rattle.loader_machine.specs.State.{User, no_pokes, held_at}
 use Rattle.loader_machine.specs.Presences.{handle_at, presence_at, there_at, active_at, is_active}
 use Rattle.loader_machine.specs.Stands.{Far, Setting, setting_with, place_in, entry_for, stands}
-use Rattle.loader_machine.specs.laws.TakenLaws.{own_targets}
 use Rattle.loader_machine.specs.laws.StandsLaws.{AreAlike, stands_alike}
 use Rattle.loader_machine.specs.Found.{HoldsLoad}
 use Rattle.loader_agrees.specs.Agrees.{Kept, outline, outline_of, AreThere, UserAgrees}
 use Rattle.loader_agrees.specs.laws.EntryReads.{table_stands, targets_count, number_within}
 use Rattle.sys_loader.specs.Renewing.{Choice, is_chosen, renewed}
+use Rattle.sys_loader.proofs.Leads.{Leads, Own, Other}
 use Rattle.sys_loader.proofs.Renewed.{Follows, renewed_stands}
 
 -- what becomes of a user's segment that is there afterwards
@@ -63,22 +63,8 @@ pub record Turned (old new : Memory) (far now : Far) (id : ℕ) (only : Choice) 
       → handle_at kept'.handles number ≡ Some h → IsSome (there_at (presence_at new.slots kept'.handles number))
       → Becomes (setting_with far id old.slots kept.handles) (setting_with now id new.slots kept'.handles) only address old new kept user user' number s h
 
--- an entry of a table leads to a segment of the file itself, or to one of another file
-pub data Leads (segments : List Segment) (t : Target) : Type 0 where
-  Own : IsOwnTarget segments t → Leads segments t
-  Other : 2 ≤ t.file → t.file < 2 ^ 16 → t.segment < 2 ^ 16 → t.offset < 2 ^ 32 → Leads segments t
-
--- where the file has no pathname segment each leads to the file itself
-pub own_leads : (held : FileMap) (path : List ℕ) (segments : List Segment) → HoldsLoad held path segments → (number : ℕ) (s : Segment) → segment_at segments number ≡ Some s → is_table s ≡ true
-    → AllByRecursion (Leads segments) (targets_of s)
-own_leads held path segments holds number s is table = go (targets_of s) (own_targets segments holds.taken.alone (targets_of s) ((loadable_has holds.file segments holds.taken.loadable number s is).table table).targets)
-  where
-    go : (ts : List Target) → AllByRecursion (IsOwnTarget segments) ts → AllByRecursion (Leads segments) ts
-    go [] all = tt
-    go (t ∷ ts) all = (Own all.0, go ts all.1)
-
 module _ (held : FileMap) (old new : Memory) (far now : Far) (id : ℕ) (only : Choice) (address : Option ℕ) (kept kept' : Kept) (user user' : User) (agrees : UserAgrees held old far id kept user)
-    (lead : (number : ℕ) (s : Segment) → segment_at agrees.segments number ≡ Some s → is_table s ≡ true → AllByRecursion (Leads agrees.segments) (targets_of s))
+    (lead : (number : ℕ) (s : Segment) → segment_at agrees.segments number ≡ Some s → is_table s ≡ true → AllByRecursion (Leads only address agrees.segments) (targets_of s))
     (short : length kept.heads < 2 ^ 16) (turned : Turned old new far now id only address kept kept' user user' agrees.segments) where
   abbrev a : Setting
   a = setting_with far id old.slots kept.handles
@@ -90,9 +76,9 @@ module _ (held : FileMap) (old new : Memory) (far now : Far) (id : ℕ) (only : 
   few = omega (arith, short, ap length agrees.heads, length-map agrees.segments head_of)
 
   sound : (number : ℕ) (s : Segment) → segment_at agrees.segments number ≡ Some s → IsSoundSegment agrees.segments number s
-  sound = loadable_has agrees.holds.file agrees.segments agrees.holds.taken.loadable
+  sound = loadable_has agrees.holds.file agrees.segments agrees.holds.loadable
 
-  follows : (t : Target) → Leads agrees.segments t → Follows only address a b t
+  follows : (t : Target) → Leads only address agrees.segments t → Follows only address a b t
   follows t (Own is) = record {
     file = omega (arith, is.file');
     segment = omega (arith, few, number_within agrees.segments t.segment is.segment' is.is);
@@ -103,7 +89,7 @@ module _ (held : FileMap) (old new : Memory) (far now : Far) (id : ℕ) (only : 
   follows t (Other above file segment offset) = record {
     file = file;
     segment = segment;
-    offset = λ chosen some. offset;
+    offset = λ chosen some. offset chosen some;
     chosen = λ c. one (t.file == 1) (grind arith) (turned.far_chosen t.file t.segment above c);
     others = λ c. two (t.file == 1) (grind arith) (turned.far_others t.file t.segment above c);
   }
@@ -117,7 +103,7 @@ module _ (held : FileMap) (old new : Memory) (far now : Far) (id : ℕ) (only : 
       two true is same = absurd cc
       two false is same = same
 
-  all_follow : (ts : List Target) → AllByRecursion (Leads agrees.segments) ts → AllByRecursion (Follows only address a b) ts
+  all_follow : (ts : List Target) → AllByRecursion (Leads only address agrees.segments) ts → AllByRecursion (Follows only address a b) ts
   all_follow [] all = tt
   all_follow (t ∷ ts) all = (follows t all.0, all_follow ts all.1)
 

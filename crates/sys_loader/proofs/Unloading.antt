@@ -1,7 +1,6 @@
 -- A segment that is let go.
-use Rattle.std.proofs.Common.{◌≡◌, inl, inr, ℕ, Bool, true, false, length, Option, Some, None, IsSome, refl, sym, ap, subst, ◌∙◌}
+use Rattle.std.proofs.Common.{◌≡◌, inr, ℕ, Bool, true, false, length, Option, Some, None, IsSome, refl, sym, ap, subst, ◌∙◌}
 use Rattle.std.specs.Prelude.{slice_get, Result, Ok, Err}
-use Rattle.std.proofs.lemmas.Option.{same_Some}
 use Rattle.omf_io.specs.Files.{FileMap}
 use Rattle.omf_format.specs.Header.{is_dynamic}
 use Rattle.iigs_meaning.specs.declared.handles.Handle.{Handle}
@@ -12,20 +11,20 @@ use Rattle.iigs_meaning.specs.Memory.{Memory, Changes}
 use Rattle.loader_machine.specs.declared.faults.LoaderFault.{LoaderFault}
 use Rattle.loader_machine.specs.declared.faults.LoaderFault.TheVariants.{Static, NotActive}
 use Rattle.loader_machine.specs.declared.seen.Head.{Head}
-use Rattle.loader_machine.specs.State.{Seen, Machine, user_of, handles_of}
+use Rattle.loader_machine.specs.State.{Seen, Machine, user_of, handles_of, led_by}
 use Rattle.loader_machine.specs.Presences.{handle_at, presence, there_at, active_at, is_active, lies_at}
 use Rattle.loader_machine.specs.Refusals.{Refuse, of_user, of_running, of_segment, of_dynamic, of_active, unload_refusal}
 use Rattle.loader_machine.specs.Commands.{Okay, Refused, UnloadSegment}
 use Rattle.loader_machine.specs.Steps.{changed, idled, idle_block, with_slots}
-use Rattle.loader_agrees.specs.Agrees.{Kept, Loaded, Outline, seen_by, Agrees, Has, IsSound, Met}
+use Rattle.loader_agrees.specs.Agrees.{Kept, Loaded, Outline, kept_outlines, seen_by, Agrees, Has, IsSound, Met}
 use Rattle.loader_agrees.specs.laws.Checks.{PassesRunning, StopsRunning, PassesSegment, StopsSegment}
 use Rattle.loader_agrees.specs.laws.Checking.{active_none, active_passes}
 use Rattle.loader_agrees.specs.laws.Seeing.{IsKept, kept_is, refuses, does, has_any}
+use Rattle.loader_agrees.specs.laws.Leading.{IsLed, is_led}
 use Rattle.sys_loader.specs.Replies.{done_reply}
-use Rattle.sys_loader.specs.Renewing.{AreRoomy, AreRenewed}
+use Rattle.sys_loader.specs.Renewing.{Choice, AreRoomy, AreRenewed}
 use Rattle.sys_loader.specs.Lives.{CanUnload, HasUnloaded, DidUnload}
-use Rattle.sys_loader.proofs.Shifting.{IsTurn, own_leading, shifted_sound, shifted_agrees}
-use Rattle.sys_loader.proofs.Turned.{own_leads}
+use Rattle.sys_loader.proofs.Shifting.{IsTurn, shifted_sound, shifted_agrees}
 
 -- ---- the refusal, check by check
 
@@ -80,8 +79,17 @@ none_active h block = go block.at
     go (Some a) = refl
 
 module _ (old new : Loaded) (id number : ℕ) (sound : IsSound old.memory old.users) (did : HasUnloaded old id number new) where
+  abbrev owner : ℕ
+  owner = (led_by (kept_outlines old.users) id).0
+
+  abbrev file : ℕ
+  file = (led_by (kept_outlines old.users) id).1
+
+  led : IsLed old.users id did.can.is.kept owner file
+  led = is_led old.users id did.can.is.kept sound.attached did.can.is.made
+
   pub unloaded_sound : IsSound new.memory old.users
-  unloaded_sound = shifted_sound old new id number id 1 did.can.is.kept did.can.is.kept did.h idle_block None did.can.is.head sound (own_leading old.users sound.bare id) did.can.is.made (inl refl) did.can.is.made did.can.is.head' did.can.is.handle did.can.dynamic idles did.shifted did.can.is.runs
+  unloaded_sound = shifted_sound old new id number owner file did.can.is.kept did.turned.lead did.h idle_block None did.can.is.head sound led.leading did.turned.leads led.alone did.can.is.made did.can.is.head' did.can.is.handle did.can.dynamic idles did.turned.shifted did.can.is.runs
 
   module _ (held : FileMap) (state : Machine) (agrees : Agrees held old state) where
     is : IsKept held old state agrees id did.can.is.kept
@@ -98,8 +106,8 @@ module _ (old new : Loaded) (id number : ℕ) (sound : IsSound old.memory old.us
 
     agrees_next : Agrees held new next
     agrees_next = subst (λ (t : Slots). Agrees held new (with_slots state t)) slots_same
-        (shifted_agrees old new id number id 1 did.can.is.kept did.can.is.kept did.h idle_block None did.can.is.head sound (own_leading old.users sound.bare id) did.can.is.made (inl refl) did.can.is.made did.can.is.head' did.can.is.handle did.can.dynamic idles did.shifted
-        (none_active did.h did.shifted.changes.block) held state agrees (λ some. absurd cc) (own_leads held))
+        (shifted_agrees old new id number owner file did.can.is.kept did.turned.lead did.h idle_block None did.can.is.head sound led.leading did.turned.leads led.alone did.can.is.made did.can.is.head' did.can.is.handle did.can.dynamic idles did.turned.shifted
+        (none_active did.h did.turned.shifted.changes.block) held state agrees (λ some. absurd cc))
 
     unload_met : Met Purges held state (UnloadSegment id number) Okay new
     unload_met = (
@@ -139,20 +147,23 @@ roomy old place kept sound made = record {
 
 -- ---- as it is done
 
-module _ (old : Loaded) (id number : ℕ) (h : Handle) (can : CanUnload old id number h) (kept : Kept) (made : user_of old.users id ≡ Some kept) where
-  same_kept : kept ≡ can.is.kept
-  same_kept = same_Some kept can.is.kept (sym made ∙ can.is.made)
+module _ (old : Loaded) (id number : ℕ) (h : Handle) (can : CanUnload old id number h) (lead : Kept) (leads : user_of old.users (led_by (kept_outlines old.users) id).0 ≡ Some lead) where
+  abbrev choice : Choice
+  choice = Some ((led_by (kept_outlines old.users) id).1, number)
 
-  pub has_unloaded : (middle new : Memory) (last : Loaded) (count : ℕ) → count ≡ length kept.heads → AreRenewed kept.heads kept.handles (Some (1, number)) None old.memory middle count → Changes middle h idle_block new
+  pub has_unloaded : (middle new : Memory) (last : Loaded) (count : ℕ) → count ≡ length lead.heads → AreRenewed lead.heads lead.handles choice None old.memory middle count → Changes middle h idle_block new
       → last.memory ≡ new → last.users ≡ old.users → HasUnloaded old id number last
   has_unloaded middle new last count long renewed changes memory users = record {
     h = h;
     can = can;
-    shifted = record {
-      middle = middle;
-      renewed = subst (λ (k : Kept). AreRenewed k.heads k.handles (Some (1, number)) None old.memory middle (length k.heads)) same_kept
-          (subst (AreRenewed kept.heads kept.handles (Some (1, number)) None old.memory middle) long renewed);
-      changes = subst (Changes middle h idle_block) (sym memory) changes;
-      users = users;
+    turned = record {
+      lead = lead;
+      leads = leads;
+      shifted = record {
+        middle = middle;
+        renewed = subst (AreRenewed lead.heads lead.handles choice None old.memory middle) long renewed;
+        changes = subst (Changes middle h idle_block) (sym memory) changes;
+        users = users;
+      };
     };
   }

@@ -4,7 +4,6 @@ use Rattle.std.specs.Prelude.{IsSomeAnd, IfOk, IfErr, OnErr}
 use Rattle.std.proofs.lemmas.Option.{same_Some}
 use Rattle.omf_format.specs.File.{Segment}
 use Rattle.omf_io.specs.Files.{FileMap, IsRead}
-use Rattle.loader_machine.specs.Taken.{IsTaken}
 use Rattle.iigs_meaning.specs.declared.handles.Handle.{Handle}
 use Rattle.iigs_meaning.specs.declared.wants.Block.{Block}
 use Rattle.iigs_meaning.specs.Slots.{get}
@@ -15,14 +14,15 @@ use Rattle.loader_machine.specs.declared.seen.Head.{Head}
 use Rattle.loader_machine.specs.declared.seen.Presence.{Presence}
 use Rattle.loader_machine.specs.declared.seen.Presence.TheVariants.{Idle}
 use Rattle.loader_machine.specs.Heads.{head_of}
-use Rattle.loader_machine.specs.State.{first_id, user_of}
+use Rattle.loader_machine.specs.State.{first_id, user_of, is_attached, led_by}
 use Rattle.loader_machine.specs.Presences.{presence, lies_in, lies_at}
 use Rattle.loader_machine.specs.Steps.{active_block}
 use Rattle.loader_machine.specs.Needs.{is_read}
-use Rattle.loader_agrees.specs.Agrees.{Kept, Loaded, Has, IsSound}
+use Rattle.loader_agrees.specs.Agrees.{Kept, Loaded, kept_outlines, Has, IsSound}
 use Rattle.loader_agrees.specs.laws.Seeing.{made_at}
 use Rattle.sys_loader.specs.Renewing.{AreRenewed}
-use Rattle.sys_loader.specs.Lives.{HasShifted}
+use Rattle.sys_loader.specs.Calls.{IsReadAs}
+use Rattle.sys_loader.specs.Lives.{HasTurned}
 use Rattle.sys_loader.specs.Activating.{IsChanged, CanLoad, IsBringRefusal, HasCome, HasComeFrom, IsComeRefusal, CantCome, DidCome}
 
 -- ---- a loader, and its fields
@@ -41,14 +41,19 @@ one_presence old now handle p same is = subst (λ (l : Loaded). presence l.memor
 
 -- ---- a segment that wakes
 
-module _ (old : Loaded) (id number : ℕ) (h : Handle) (address : ℕ) (k : Kept) where
-  pub has_woken : (middle new : Memory) (last : Loaded) (count : ℕ) → count ≡ length k.heads → AreRenewed k.heads k.handles (Some (1, number)) (Some address) old.memory middle count → Changes middle h active_block new
-      → last.memory ≡ new → last.users ≡ old.users → HasShifted old k (1, number) h active_block (Some address) last
+module _ (old : Loaded) (id number : ℕ) (h : Handle) (address : ℕ) (lead : Kept) (leads : user_of old.users (led_by (kept_outlines old.users) id).0 ≡ Some lead) where
+  pub has_woken : (middle new : Memory) (last : Loaded) (count : ℕ) → count ≡ length lead.heads
+      → AreRenewed lead.heads lead.handles (Some ((led_by (kept_outlines old.users) id).1, number)) (Some address) old.memory middle count → Changes middle h active_block new
+      → last.memory ≡ new → last.users ≡ old.users → HasTurned old id number h active_block (Some address) last
   has_woken middle new last count long renewed changes memory users = record {
-    middle = middle;
-    renewed = subst (AreRenewed k.heads k.handles (Some (1, number)) (Some address) old.memory middle) long renewed;
-    changes = subst (Changes middle h active_block) (sym memory) changes;
-    users = users;
+    lead = lead;
+    leads = leads;
+    shifted = record {
+      middle = middle;
+      renewed = subst (AreRenewed lead.heads lead.handles (Some ((led_by (kept_outlines old.users) id).1, number)) (Some address) old.memory middle) long renewed;
+      changes = subst (Changes middle h active_block) (sym memory) changes;
+      users = users;
+    };
   }
 
 -- an idle block is there, also once the tables follow
@@ -80,21 +85,21 @@ gone_empty old id number head handle sound can gone k is =
 
 -- ---- a segment of a file
 
-module _ (file : List ℕ) (old : Loaded) (id number : ℕ) (k : Kept) (head : Head) (handle : Option Handle) (segments : List Segment) (taken : IsTaken file segments) where
+module _ (file : List ℕ) (old : Loaded) (id number : ℕ) (k : Kept) (head : Head) (handle : Option Handle) (segments : List Segment) (taken : IsReadAs (is_attached (kept_outlines old.users) id) file segments) where
   pub come_from : (new : Loaded) (r : Result ℕ LoaderFault) → map head_of segments ≡ k.heads → IfOk r (λ address. HasCome old id number k head handle segments address new)
       → IfOk r (λ address. HasComeFrom file old id number k head handle address new)
   come_from new (Ok address) same did = (segments, taken, same, did)
   come_from new (Err why) same did = tt
 
-  pub brings_none : (r : Result ℕ LoaderFault) → map head_of segments ≡ k.heads → IfErr r (IsBringRefusal old.memory head handle number) → IfErr r (IsComeRefusal file old number k head handle)
+  pub brings_none : (r : Result ℕ LoaderFault) → map head_of segments ≡ k.heads → IfErr r (IsBringRefusal old.memory head handle number) → IfErr r (IsComeRefusal file old id number k head handle)
   brings_none (Ok address) same none = tt
   brings_none (Err why) same none = inr (segments, taken, inr (same, none))
 
-  pub file_changed : (why : LoaderFault) → IsChanged k.heads (map head_of segments) why → IsComeRefusal file old number k head handle why
+  pub file_changed : (why : LoaderFault) → IsChanged k.heads (map head_of segments) why → IsComeRefusal file old id number k head handle why
   file_changed why is = inr (segments, taken, inl is)
 
 pub did_come : (held : Option FileMap) (old new : Loaded) (id number : ℕ) (k : Kept) (head : Head) (handle : Option Handle) (file : List ℕ) (r : Result ℕ LoaderFault) (before now : ℕ) → IsRead held k.path file → now ≡ before
-    → IfOk r (λ address. HasComeFrom file old id number k head handle address new) → IfErr r (IsComeRefusal file old number k head handle) → OnErr r (new ≡ old)
+    → IfOk r (λ address. HasComeFrom file old id number k head handle address new) → IfErr r (IsComeRefusal file old id number k head handle) → OnErr r (new ≡ old)
     → DidCome held old id number k head handle r new before now
 did_come held old new id number k head handle file (Ok address) before now is_read same come none kept = ((file, is_read, come), same)
 did_come held old new id number k head handle file (Err why) before now is_read same come none kept = (CantCome file is_read none same, kept)

@@ -5,7 +5,6 @@ use Rattle.omf_format.specs.Header.{is_dynamic}
 use Rattle.omf_format.specs.File.{Segment, segment_at}
 use Rattle.omf_io.specs.Counts.{IsFront}
 use Rattle.omf_io.specs.Files.{FileMap, IsRead, IsUnread}
-use Rattle.loader_machine.specs.Taken.{IsTaken}
 use Rattle.iigs_meaning.specs.declared.handles.Handle.{Handle}
 use Rattle.iigs_meaning.specs.Slots.{new_handle}
 use Rattle.iigs_meaning.specs.Puts.{Purges, LacksRoom}
@@ -18,16 +17,16 @@ use Rattle.loader_machine.specs.declared.seen.Life.TheVariants.{Running}
 use Rattle.loader_machine.specs.declared.seen.Presence.{Presence}
 use Rattle.loader_machine.specs.declared.seen.Presence.TheVariants.{Absent, Purged, Idle, Active}
 use Rattle.loader_machine.specs.Heads.{head_of, at_number, want_of}
-use Rattle.loader_machine.specs.State.{no_pokes, user_of, with_user}
+use Rattle.loader_machine.specs.State.{no_pokes, user_of, with_user, is_attached, led_by}
 use Rattle.loader_machine.specs.Presences.{handle_at, presence, presence_at}
 use Rattle.loader_machine.specs.Stands.{setting, stands}
 use Rattle.loader_machine.specs.Refusals.{load_segment_refusal}
 use Rattle.loader_machine.specs.Steps.{active_block}
 use Rattle.loader_machine.specs.Needs.{is_read}
-use Rattle.loader_agrees.specs.Agrees.{Kept, Loaded, seen_by}
-use Rattle.sys_loader.specs.Calls.{IsBadFile}
+use Rattle.loader_agrees.specs.Agrees.{Kept, Loaded, kept_outlines, seen_by}
+use Rattle.sys_loader.specs.Calls.{IsReadAs, IsBadFile}
 use Rattle.sys_loader.specs.Renewing.{AreRenewed}
-use Rattle.sys_loader.specs.Lives.{with_bytes, HasShifted}
+use Rattle.sys_loader.specs.Lives.{with_bytes, HasTurned}
 
 -- ---- a file that has changed
 
@@ -83,7 +82,7 @@ pub record CanLoad (loader : Loaded) (id number : ℕ) (head : Head) (handle : O
 
 -- its block is placed, locked with level 0: under a new handle, or anew under the one that it has
 abbrev pub IsBrought : Memory → ℕ → Head → Option Handle → Handle → ℕ → Memory → Type 0
-IsBrought old id head None h address new = (is : IsPlaced Purges old (want_of head) id true 0 h new) × (is.puts.address ≡ address)
+IsBrought old id head None h address new = (is : IsPlaced Purges old (want_of head) id true 0 false h new) × (is.puts.address ≡ address)
 IsBrought old id head (Some k) h address new =
     (k ≡ h) × (middle : Memory) × (is : IsReplaced Purges old h (want_of head) middle) × (is.puts.address ≡ address) × Changes middle h active_block new
 
@@ -97,8 +96,8 @@ IsBringRefusal memory head (Some h) number why = (why ≡ fault.NoRoom number) �
 abbrev pub with_handle : Kept → ℕ → Handle → Kept
 with_handle kept number h = record kept { handles = slice_set kept.handles (number - 1) (Some h) }
 
--- The block of a segment of these is placed and begins with what stands in it, and the entries of the user's tables for it lead to
--- it; nothing else is written.
+-- The block of a segment of these is placed and begins with what stands in it, and the entries for it in the tables of the user that
+-- leads to it follow, by file and number; nothing else is written.
 pub record HasCome (old : Loaded) (id number : ℕ) (kept : Kept) (head : Head) (handle : Option Handle) (segments : List Segment) (address : ℕ) (new : Loaded) : Type 0 where
   pub h : Handle
   pub placed : Memory
@@ -106,33 +105,36 @@ pub record HasCome (old : Loaded) (id number : ℕ) (kept : Kept) (head : Head) 
   pub content : List ℕ
   pub same : length content ≡ length (bytes_at placed h.slot)
   pub begins : (s : Segment) → segment_at segments number ≡ Some s → IsFront (stands (setting id placed.slots (with_handle kept number h).handles) no_pokes s) content
-  pub renewed : AreRenewed kept.heads kept.handles (Some (1, number)) (Some address) (with_bytes placed h.slot content) new.memory (length kept.heads)
+  pub lead : Kept
+  pub leads : user_of old.users (led_by (kept_outlines old.users) id).0 ≡ Some lead
+  pub renewed : AreRenewed lead.heads lead.handles (Some ((led_by (kept_outlines old.users) id).1, number)) (Some address) (with_bytes placed h.slot content) new.memory
+      (length lead.heads)
   pub users : new.users ≡ with_user old.users id (Some (with_handle kept number h))
 
--- why a segment of a file that was read doesn't come: the file isn't taken, or not the one that was loaded, or there is no handle or
+-- why a segment of a file that was read doesn't come: the file isn't loaded, or not the one that was loaded, or there is no handle or
 -- room; or memory ran out
-abbrev pub IsComeRefusal : List ℕ → Loaded → ℕ → Kept → Head → Option Handle → LoaderFault → Type 0
-IsComeRefusal file old number kept head handle why = IsBadFile file why
-    ⊎ ((segments : List Segment) × IsTaken file segments × (IsChanged kept.heads (map head_of segments) why
+abbrev pub IsComeRefusal : List ℕ → Loaded → ℕ → ℕ → Kept → Head → Option Handle → LoaderFault → Type 0
+IsComeRefusal file old id number kept head handle why = IsBadFile (is_attached (kept_outlines old.users) id) file why
+    ⊎ ((segments : List Segment) × IsReadAs (is_attached (kept_outlines old.users) id) file segments × (IsChanged kept.heads (map head_of segments) why
     ⊎ ((map head_of segments ≡ kept.heads) × IsBringRefusal old.memory head handle number why)))
 
 -- a segment of a file that was read has come
 abbrev pub HasComeFrom : List ℕ → Loaded → ℕ → ℕ → Kept → Head → Option Handle → ℕ → Loaded → Type 0
 HasComeFrom file old id number kept head handle address new =
-    (segments : List Segment) × IsTaken file segments × (map head_of segments ≡ kept.heads) × HasCome old id number kept head handle segments address new
+    (segments : List Segment) × IsReadAs (is_attached (kept_outlines old.users) id) file segments × (map head_of segments ≡ kept.heads) × HasCome old id number kept head handle segments address new
 
 -- why a segment of the file at a user's path doesn't come: the read is refused, memory ran out, or the file that was read gives none
-pub data IsReadRefusal (held : Option FileMap) (old : Loaded) (number : ℕ) (kept : Kept) (head : Head) (handle : Option Handle) (before now : ℕ) (why : LoaderFault) : Type 0 where
-  CantRead : IsUnread held kept.path before now → why ≡ fault.CannotRead → IsReadRefusal held old number kept head handle before now why
-  LacksMemory : why ≡ fault.Memory → now ≡ before → IsReadRefusal held old number kept head handle before now why
-  CantCome : (file : List ℕ) → IsRead held kept.path file → IsComeRefusal file old number kept head handle why → now ≡ before
-      → IsReadRefusal held old number kept head handle before now why
+pub data IsReadRefusal (held : Option FileMap) (old : Loaded) (id number : ℕ) (kept : Kept) (head : Head) (handle : Option Handle) (before now : ℕ) (why : LoaderFault) : Type 0 where
+  CantRead : IsUnread held kept.path before now → why ≡ fault.CannotRead → IsReadRefusal held old id number kept head handle before now why
+  LacksMemory : why ≡ fault.Memory → now ≡ before → IsReadRefusal held old id number kept head handle before now why
+  CantCome : (file : List ℕ) → IsRead held kept.path file → IsComeRefusal file old id number kept head handle why → now ≡ before
+      → IsReadRefusal held old id number kept head handle before now why
 
 -- what came of reading the file at a user's path: its segment has come, or none has and all stays
 abbrev pub DidCome : Option FileMap → Loaded → ℕ → ℕ → Kept → Head → Option Handle → Result ℕ LoaderFault → Loaded → ℕ → ℕ → Type 0
 DidCome held old id number kept head handle (Ok address) new before now =
     ((file : List ℕ) × IsRead held kept.path file × HasComeFrom file old id number kept head handle address new) × (now ≡ before)
-DidCome held old id number kept head handle (Err why) new before now = IsReadRefusal held old number kept head handle before now why × (new ≡ old)
+DidCome held old id number kept head handle (Err why) new before now = IsReadRefusal held old id number kept head handle before now why × (new ≡ old)
 
 -- ---- the whole call
 
@@ -144,7 +146,7 @@ segment_reads loader id number = option_map_or (λ kept. is_read (presence_at lo
 abbrev pub HasActivated : Option FileMap → Loaded → ℕ → ℕ → Kept → Head → Option Handle → Presence → Result ℕ LoaderFault → Loaded → ℕ → ℕ → Type 0
 HasActivated held old id number kept head handle (Active h at) result new before now = (result ≡ Ok at) × (new ≡ old) × (now ≡ before)
 HasActivated held old id number kept head handle (Idle h at) result new before now =
-    (result ≡ Ok at) × HasShifted old kept (1, number) h active_block (Some at) new × (now ≡ before)
+    (result ≡ Ok at) × HasTurned old id number h active_block (Some at) new × (now ≡ before)
 HasActivated held old id number kept head handle (Purged h) result new before now = DidCome held old id number kept head handle result new before now
 HasActivated held old id number kept head handle Absent result new before now = DidCome held old id number kept head handle result new before now
 

@@ -9,7 +9,7 @@ use Rattle.load_meaning.specs.Table.{entry_place}
 use Rattle.load_meaning.specs.LoadTable.{is_table, targets_of}
 use Rattle.loader_machine.specs.declared.faults.LoaderFault.{LoaderFault}
 use Rattle.loader_machine.specs.declared.faults.LoaderFault.TheVariants.{CannotRead, NoHandle, NoRoom, Memory}
-use Rattle.loader_machine.specs.State.{Machine, held_at}
+use Rattle.loader_machine.specs.State.{Machine, held_at, outlines, named_by}
 use Rattle.sys_loader.specs.declared.answers.Entered.{Entered}
 use Rattle.sys_loader.specs.Naming.{HasAddress}
 
@@ -25,8 +25,9 @@ pub record HasCall (held : FileMap) (state : Machine) (id number at : ℕ) (targ
   pub is_table : is_table address.t ≡ true
   pub entry : slice_get (targets_of address.t) k ≡ Some target
 
--- The target's segment of the user is entered at the target's offset; or its file can't be read, or there is no handle or no room
--- for it, or memory ran out.
-abbrev pub EntersTarget : ℕ → Target → Result Entered LoaderFault → Type 0
-EntersTarget id target (Ok place) = (place.user ≡ id) × (place.segment ≡ target.segment) × (place.offset ≡ target.offset)
-EntersTarget id target (Err why) = (why ≡ CannotRead) ⊎ (why ≡ NoHandle) ⊎ (why ≡ NoRoom target.segment) ⊎ (why ≡ Memory)
+-- The target's segment, of the user that the target names, is entered at the target's offset; or its file can't be read, or there is no
+-- handle or no room for it, or memory ran out.
+abbrev pub EntersTarget : Machine → ℕ → Target → Result Entered LoaderFault → Type 0
+EntersTarget state id target (Ok place) =
+    (named_by (outlines state.users) id target.file ≡ Some place.user) × (place.segment ≡ target.segment) × (place.offset ≡ target.offset)
+EntersTarget state id target (Err why) = (why ≡ CannotRead) ⊎ (why ≡ NoHandle) ⊎ (why ≡ NoRoom target.segment) ⊎ (why ≡ Memory)

@@ -1,10 +1,12 @@
 -- What a load does, whether the store tells its files or not.
-use Rattle.std.specs.Prelude.{◌≡◌, ◌≢◌, ◌⊎◌, ℕ, ◌+◌, ◌<◌, ◌≤◌, All, List, length, map, string_bytes, Option, Some, Result, Ok, Err, slice_get}
+use Rattle.std.specs.Prelude.{◌≡◌, ◌≢◌, ◌⊎◌, ℕ, ◌+◌, ◌^◌, ◌<◌, ◌≤◌, Bool, true, false, All, List, [], ◌∷◌, length, map, Option, Some, None, Result, Ok, Err, slice_get}
 use Rattle.omf_format.specs.File.{Segment, segment_at}
-use Rattle.omf_io.specs.Counts.{IsFront}
-use Rattle.omf_io.specs.Files.{FileMap, IsRead, IsUnread}
+use Rattle.omf_io.specs.Counts.{IsFront, risen}
+use Rattle.omf_io.specs.Files.{FileMap, StoreSeen, IsRead, IsUnread}
 use Rattle.load_meaning.specs.declared.load.LoadFault.{LoadFault}
-use Rattle.loader_machine.specs.Taken.{IsTaken, IsFirstRefusal}
+use Rattle.load_meaning.specs.Pathnames.{most_paths, paths_of}
+use Rattle.load_meaning.specs.Loadable.{IsLoadable, IsFirstLoadFault}
+use Rattle.load_meaning.specs.Runtime.{IsRuntime, IsFirstRuntimeFault}
 use Rattle.iigs_meaning.specs.declared.handles.Handle.{Handle}
 use Rattle.iigs_meaning.specs.declared.faults.PlaceFault.TheVariants as place
 use Rattle.iigs_meaning.specs.Fits.{IsWant}
@@ -17,9 +19,10 @@ use Rattle.loader_machine.specs.Heads.{head_of, wants_of, number_of}
 use Rattle.loader_machine.specs.State.{no_pokes, first_id, max_users}
 use Rattle.loader_machine.specs.Presences.{handle_at}
 use Rattle.loader_machine.specs.Stands.{setting, stands}
-use Rattle.loader_machine.specs.Steps.{spread}
-use Rattle.loader_agrees.specs.Agrees.{Loaded}
-use Rattle.loader_agrees.specs.Acts.{HasBegun}
+use Rattle.loader_machine.specs.Found.{Joined, Stops, Joins, joined_behind}
+use Rattle.loader_machine.specs.Steps.{spread, lost_refusal}
+use Rattle.loader_agrees.specs.Agrees.{Kept, Loaded}
+use Rattle.loader_agrees.specs.Acts.{HasBegun, joined_kept, joined_kepts}
 use Rattle.sys_loader.specs.declared.answers.Started.{Started}
 use Rattle.sys_loader.specs.declared.plan.Plan.{Plan}
 
@@ -31,46 +34,84 @@ IsBeginRefusal memory id heads why =
     ((why ≡ fault.NoHandle) × IsPlaceAllRefusal Purges memory.banks id memory.slots (wants_of heads) place.NoHandle)
     ⊎ ((i : ℕ) × (why ≡ fault.NoRoom (number_of 1 heads i)) × IsPlaceAllRefusal Purges memory.banks id memory.slots (wants_of heads) (place.NoRoom i))
 
--- the file isn't taken, for this first fault, or its pathname segment where it has none; or memory ran out
-abbrev pub IsBadFile : List ℕ → LoaderFault → Type 0
-IsBadFile file why = (why ≡ fault.Memory) ⊎ ((bad : LoadFault) × IsFirstRefusal file bad × (why ≡ fault.BadFile bad))
+-- a file that is read: a load file of these segments; that of an attached user is a run-time library file
+abbrev pub IsReadAs : Bool → List ℕ → List Segment → Type 0
+IsReadAs true file segments = IsRuntime file segments
+IsReadAs false file segments = IsLoadable file segments
 
--- a program of a file has begun
-abbrev pub HasStartedFrom : List ℕ → Loaded → List ℕ → Started → Loaded → Type 0
-HasStartedFrom file old path started new = (segments : List Segment) × IsTaken file segments × HasBegun old path segments started.user started.entry new
+-- the first fault of a file as that
+abbrev pub IsFaultAs : Bool → List ℕ → LoadFault → Type 0
+IsFaultAs true file fault = IsFirstRuntimeFault file fault
+IsFaultAs false file fault = IsFirstLoadFault file fault
 
--- why none has: the file isn't taken, or else the program doesn't begin; or memory ran out
-abbrev pub IsStartRefusal : List ℕ → Loaded → LoaderFault → Type 0
-IsStartRefusal file old why = IsBadFile file why
-    ⊎ ((segments : List Segment) × IsTaken file segments × IsBeginRefusal old.memory (first_id + length old.users) (map head_of segments) why)
+-- the file isn't loaded, for this first fault; or memory ran out
+abbrev pub IsBadFile : Bool → List ℕ → LoaderFault → Type 0
+IsBadFile attached file why = (why ≡ fault.Memory) ⊎ ((bad : LoadFault) × IsFaultAs attached file bad × (why ≡ fault.BadFile bad))
+
+-- ---- the files of rows
+
+-- What comes of reading the files of these rows, one by one: the call stops at a read that is refused, or at a file that is no run-time
+-- library file; or all are. The count of the store's faults rises only with a read that is refused.
+abbrev pub AreRowsRead : Option FileMap → List (List ℕ) → ℕ → ℕ → Joined → Type 0
+AreRowsRead held [] before now joined = (joined ≡ Joins []) × (now ≡ before)
+AreRowsRead held (path ∷ paths) before now joined =
+    (IsUnread held path before now × (joined ≡ Stops 1 fault.CannotRead))
+    ⊎ ((file : List ℕ) × IsRead held path file
+    × (((bad : LoadFault) × IsFirstRuntimeFault file bad × (joined ≡ Stops 1 (fault.BadFile bad)) × (now ≡ before))
+    ⊎ ((segments : List Segment) × IsRuntime file segments × (rest : Joined) × AreRowsRead held paths before now rest × (joined ≡ joined_behind segments rest))))
 
 -- ---- a load
 
--- a program of the file that was read has begun
-pub record HasStarted (held : Option FileMap) (old : Loaded) (path : List ℕ) (started : Started) (new : Loaded) : Type 0 where
+-- a file that was read, for which users can be made
+pub record IsFileRead (held : Option FileMap) (old : Loaded) (path : List ℕ) (segments : List Segment) : Type 0 where
   pub few : length old.users < max_users
   pub file : List ℕ
   pub is_read : IsRead held path file
-  pub from : HasStartedFrom file old path started new
+  pub loadable : IsLoadable file segments
 
--- why a load refuses: 255 users were made; the read of the file was refused; or the file that was read starts no program. The
--- count of the store's faults rises only with the read.
-pub data IsLoadRefusal (held : Option FileMap) (old : Loaded) (path : List ℕ) (before now : ℕ) (why : LoaderFault) : Type 0 where
-  IsFull : max_users ≤ length old.users → why ≡ fault.TooManyUsers → now ≡ before → IsLoadRefusal held old path before now why
-  CantRead : length old.users < max_users → IsUnread held path before now → why ≡ fault.CannotRead → IsLoadRefusal held old path before now why
-  LacksMemory : length old.users < max_users → why ≡ fault.Memory → now ≡ before → IsLoadRefusal held old path before now why
-  CantStart : length old.users < max_users → (file : List ℕ) → IsRead held path file → IsStartRefusal file old why → now ≡ before → IsLoadRefusal held old path before now why
+-- the program of a file has begun, with a user more for each row
+pub record HasStarted (held : Option FileMap) (old : Loaded) (path : List ℕ) (segments : List Segment) (started : Started) (new : Loaded) (before now rows : ℕ) : Type 0 where
+  pub all : List (List Segment)
+  pub read : AreRowsRead held (paths_of segments) before now (Joins all)
+  pub none : lost_refusal (map (map head_of) all) segments ≡ None
+  pub begun : HasBegun old path segments all started.user started.entry new
+  pub rows' : rows ≡ length all
 
--- what a load did
-abbrev pub HasLoaded : Option FileMap → Loaded → List ℕ → Result Started LoaderFault → Loaded → ℕ → ℕ → Type 0
-HasLoaded held old path (Ok started) new before now = HasStarted held old path started new × (now ≡ before)
-HasLoaded held old path (Err why) new before now = IsLoadRefusal held old path before now why × (new ≡ old)
+-- Why a program of a load file of these segments doesn't begin: there are too many rows; the reads of their files stop; an entry of the
+-- table leads nowhere; or there are too few slots, or no room. Or memory ran out. The files of so many rows were read.
+pub data IsRowsRefusal (held : Option FileMap) (old : Loaded) (segments : List Segment) (before now rows : ℕ) (why : LoaderFault) : Type 0 where
+  IsCrowded : max_users < length old.users + 1 + length (paths_of segments) → why ≡ fault.TooManyUsers → now ≡ before → rows ≡ 0
+      → IsRowsRefusal held old segments before now rows why
+  RowStops : length old.users + 1 + length (paths_of segments) ≤ max_users → AreRowsRead held (paths_of segments) before now (Stops rows why)
+      → IsRowsRefusal held old segments before now rows why
+  IsLost : length old.users + 1 + length (paths_of segments) ≤ max_users → (all : List (List Segment)) → AreRowsRead held (paths_of segments) before now (Joins all)
+      → lost_refusal (map (map head_of) all) segments ≡ Some why → rows ≡ length all → IsRowsRefusal held old segments before now rows why
+  CantBegin : length old.users + 1 + length (paths_of segments) ≤ max_users → (all : List (List Segment)) → AreRowsRead held (paths_of segments) before now (Joins all)
+      → lost_refusal (map (map head_of) all) segments ≡ None → IsBeginRefusal old.memory (first_id + length old.users) (map head_of segments) why
+      → rows ≡ length all → IsRowsRefusal held old segments before now rows why
+  RowsLackMemory : why ≡ fault.Memory → now ≡ before → rows ≤ most_paths → IsRowsRefusal held old segments before now rows why
+
+-- Why a load refuses: 255 users were made; the read of the file is refused; it is no load file; or its program doesn't begin. Or memory
+-- ran out. So many files were read.
+pub data IsLoadRefusal (held : Option FileMap) (old : Loaded) (path : List ℕ) (before now reads : ℕ) (why : LoaderFault) : Type 0 where
+  IsFull : max_users ≤ length old.users → why ≡ fault.TooManyUsers → now ≡ before → reads ≡ 0 → IsLoadRefusal held old path before now reads why
+  CantRead : length old.users < max_users → IsUnread held path before now → why ≡ fault.CannotRead → reads ≡ 1 → IsLoadRefusal held old path before now reads why
+  LacksMemory : length old.users < max_users → why ≡ fault.Memory → now ≡ before → reads ≡ 1 → IsLoadRefusal held old path before now reads why
+  IsBad : length old.users < max_users → (file : List ℕ) → IsRead held path file → (bad : LoadFault) → IsFirstLoadFault file bad → why ≡ fault.BadFile bad → now ≡ before → reads ≡ 1
+      → IsLoadRefusal held old path before now reads why
+  CantStart : (segments : List Segment) → IsFileRead held old path segments → (rows : ℕ) → IsRowsRefusal held old segments before now rows why → reads ≡ 1 + rows
+      → IsLoadRefusal held old path before now reads why
+
+-- what a load did, and how many files it read
+abbrev pub HasLoaded : Option FileMap → Loaded → List ℕ → Result Started LoaderFault → Loaded → ℕ → ℕ → ℕ → Type 0
+HasLoaded held old path (Ok started) new before now reads = (segments : List Segment) × IsFileRead held old path segments × (rows : ℕ)
+    × HasStarted held old path segments started new before now rows × (reads ≡ 1 + rows)
+HasLoaded held old path (Err why) new before now reads = IsLoadRefusal held old path before now reads why × (new ≡ old)
 
 -- ---- on the way; no public clause cites the rest
 
 -- what a program needs beside its blocks
-pub record IsPlan (path : List ℕ) (segments : List Segment) (plan : Plan) : Type 0 where
-  pub path' : string_bytes plan.path ≡ path
+pub record IsPlan (segments : List Segment) (plan : Plan) : Type 0 where
   pub heads : map (λ s. s.head) plan.segments.items ≡ map head_of segments
   pub wants' : plan.wants.items ≡ wants_of (map head_of segments)
   pub are : All IsWant plan.wants.items
@@ -89,3 +130,42 @@ pub record IsSettled (segments : List Segment) (user : ℕ) (hs : List Handle) (
       → IsFront (stands (setting user old.slots (spread_handles segments hs)) no_pokes s) (bytes_at new h.slot)
   pub stay : (place : ℕ) → ((i : ℕ) (h : Handle) → slice_get hs i ≡ Some h → h.slot ≢ place) → bytes_at new place ≡ bytes_at old place
   pub sizes : (place : ℕ) → length (bytes_at new place) ≡ length (bytes_at old place)
+
+-- ---- rows, on the way
+
+-- the user of a row, whose file was read
+abbrev pub HasJoined : Option FileMap → List ℕ → Kept → Type 0
+HasJoined held path user = (file : List ℕ) × (segments : List Segment) × IsRead held path file × IsRuntime file segments × (length segments < 2 ^ 16)
+    × (user ≡ joined_kept path (map head_of segments))
+
+-- why there is none
+abbrev pub JoinStops : Option FileMap → List ℕ → ℕ → ℕ → LoaderFault → Type 0
+JoinStops held path before now why = ((why ≡ fault.CannotRead) × IsUnread held path before now)
+    ⊎ (((file : List ℕ) × (bad : LoadFault) × IsRead held path file × IsFirstRuntimeFault file bad × (why ≡ fault.BadFile bad) × (now ≡ before))
+    ⊎ ((why ≡ fault.Memory) × (now ≡ before)))
+
+-- the users of rows
+pub record AreJoinedUsers (paths : List (List ℕ)) (all : List (List Segment)) (users : List Kept) : Type 0 where
+  pub long : length all ≡ length paths
+  pub shorts : (j : ℕ) (other : List Segment) → slice_get all j ≡ Some other → length other < 2 ^ 16
+  pub runtimes : (j : ℕ) (other : List Segment) → slice_get all j ≡ Some other → (file : List ℕ) × IsRuntime file other
+  pub users' : map (λ k. Some k) users ≡ joined_kepts paths all
+
+-- the reads of the files of rows stop, or memory ran out
+abbrev pub RowsStop : Option FileMap → List (List ℕ) → StoreSeen → StoreSeen → LoaderFault → Type 0
+RowsStop held paths before now why =
+    ((rows : ℕ) × AreRowsRead held paths before.faults now.faults (Stops rows why) × (now.asked ≡ risen rows before.asked))
+    ⊎ ((why ≡ fault.Memory) × (now.faults ≡ before.faults) × (rows : ℕ) × (rows ≤ length paths) × (now.asked ≡ risen rows before.asked))
+
+-- a load of a load file, once it was read
+abbrev pub HasLoadedRows : Option FileMap → Loaded → List ℕ → List Segment → Result Started LoaderFault → Loaded → ℕ → ℕ → ℕ → Type 0
+HasLoadedRows held old path segments (Ok started) new before now rows = HasStarted held old path segments started new before now rows
+HasLoadedRows held old path segments (Err why) new before now rows = IsRowsRefusal held old segments before now rows why × (new ≡ old)
+
+-- a load of a file that was read
+abbrev pub HasLoadedFile : Option FileMap → Loaded → List ℕ → List ℕ → Result Started LoaderFault → Loaded → ℕ → ℕ → ℕ → Type 0
+HasLoadedFile held old path file (Ok started) new before now rows =
+    (segments : List Segment) × IsLoadable file segments × HasStarted held old path segments started new before now rows
+HasLoadedFile held old path file (Err why) new before now rows = ((new ≡ old) × (((why ≡ fault.Memory) × (now ≡ before) × (rows ≡ 0))
+    ⊎ (((bad : LoadFault) × IsFirstLoadFault file bad × (why ≡ fault.BadFile bad) × (now ≡ before) × (rows ≡ 0))
+    ⊎ ((segments : List Segment) × IsLoadable file segments × IsRowsRefusal held old segments before now rows why))))

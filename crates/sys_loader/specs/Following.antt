@@ -13,7 +13,8 @@ use Rattle.loader_machine.specs.Refusals.{bytes_refusal, load_segment_refusal}
 use Rattle.loader_machine.specs.Steps.{no_jsl, address_of}
 use Rattle.loader_machine.specs.Commands.{Reply, Refused}
 use Rattle.loader_machine.specs.Commands as commands
-use Rattle.loader_agrees.specs.Agrees.{Loaded, seen_by}
+use Rattle.loader_machine.specs.State.{named_by}
+use Rattle.loader_agrees.specs.Agrees.{Loaded, kept_outlines, seen_by}
 use Rattle.loader_agrees.specs.Acts.{HasLent, LiesIn}
 use Rattle.sys_loader.specs.declared.answers.Entered.{Entered}
 use Rattle.sys_loader.specs.declared.jsl.Reached.{Reached}
@@ -61,16 +62,16 @@ pub record EntersPlace (loader : Loaded) (id number at : ℕ) (place : Entered) 
   pub leads : LeadsTo loader id number at place
   pub plain : is_table leads.lies.is.head ≡ false
 
--- the JSL leads to an entry of a user's table, and the entry to an offset in a segment that can be made active
-pub record CallsEntry (loader : Loaded) (id number at owner segment offset : ℕ) : Type 0 where
+-- the JSL leads to an entry of a user's table, and the entry to an offset in a segment of this user, which can be made active
+pub record CallsEntry (loader : Loaded) (id number at other segment offset : ℕ) : Type 0 where
   pub place : Entered
   pub leads : LeadsTo loader id number at place
-  pub its : place.user ≡ owner
   pub target : Target
   pub entry : IsEntry loader place target
+  pub named : named_by (kept_outlines loader.users) place.user target.file ≡ Some other
   pub segment' : target.segment ≡ segment
   pub offset' : target.offset ≡ offset
-  pub passes : load_segment_refusal (seen_by loader owner) segment ≡ None
+  pub passes : load_segment_refusal (seen_by loader other) segment ≡ None
 
 -- what a call answers where a user's segment was made active at an address, or wasn't
 abbrev pub entered_at : ℕ → ℕ → ℕ → Result ℕ LoaderFault → Result Entered LoaderFault
@@ -79,17 +80,17 @@ entered_at user segment offset (Err why) = Err why
 
 -- a file is read: the JSL leads to an entry for a segment that isn't there
 pub record JslReads (loader : Loaded) (id number at : ℕ) : Type 0 where
-  pub owner : ℕ
+  pub other : ℕ
   pub segment : ℕ
   pub offset : ℕ
-  pub calls : CallsEntry loader id number at owner segment offset
-  pub reads : segment_reads loader owner segment ≡ true
+  pub calls : CallsEntry loader id number at other segment offset
+  pub reads : segment_reads loader other segment ≡ true
 
 -- none is: the call is refused before; the JSL leads to a place; or to an entry for a segment that is there
 pub data JslReadsNone (loader : Loaded) (id number at : ℕ) : Type 0 where
   IsRefused : (why : LoaderFault) → IsJslRefusal loader id number at why → JslReadsNone loader id number at
   IsPlace : (place : Entered) → EntersPlace loader id number at place → JslReadsNone loader id number at
-  IsThere : (owner segment offset : ℕ) → CallsEntry loader id number at owner segment offset → segment_reads loader owner segment ≡ false
+  IsThere : (other segment offset : ℕ) → CallsEntry loader id number at other segment offset → segment_reads loader other segment ≡ false
       → JslReadsNone loader id number at
 
 -- a count of reads is one more where a file is read, and else as before
@@ -101,12 +102,12 @@ HasAsked loader id number at before now = (JslReads loader id number at × (now 
 pub data DidJsl (held : Option FileMap) (old : Loaded) (id number at : ℕ) (result : Result Entered LoaderFault) (new : Loaded) (before now : ℕ) : Type 0 where
   Stops : (why : LoaderFault) → IsJslRefusal old id number at why → result ≡ Err why → new ≡ old → now ≡ before → DidJsl held old id number at result new before now
   Leads : (place : Entered) → EntersPlace old id number at place → result ≡ Ok place → new ≡ old → now ≡ before → DidJsl held old id number at result new before now
-  Calls : (owner segment offset : ℕ) → CallsEntry old id number at owner segment offset → (made : Result ℕ LoaderFault)
-      → DidActivate held old owner segment made new before now → result ≡ entered_at owner segment offset made → DidJsl held old id number at result new before now
+  Calls : (other segment offset : ℕ) → CallsEntry old id number at other segment offset → (made : Result ℕ LoaderFault)
+      → DidActivate held old other segment made new before now → result ≡ entered_at other segment offset made → DidJsl held old id number at result new before now
 
 -- ---- on the way; no public clause cites the rest
 
 -- where a JSL leads
 abbrev pub HasReached : Loaded → ℕ → ℕ → ℕ → Reached → Type 0
 HasReached loader id number at (reached.Place place) = EntersPlace loader id number at place
-HasReached loader id number at (reached.Entry owner segment offset) = CallsEntry loader id number at owner segment offset
+HasReached loader id number at (reached.Entry other segment offset) = CallsEntry loader id number at other segment offset

@@ -1,18 +1,18 @@
 -- What calls on the segments of users do, whatever files there are.
-use Rattle.std.specs.Prelude.{◌≡◌, ℕ, ◌+◌, ◌≤◌, Bool, true, false, List, [], length, Option, Some, None, slice_set, Result, Ok, Err}
+use Rattle.std.specs.Prelude.{◌≡◌, ℕ, ◌+◌, ◌≤◌, Bool, true, false, List, [], length, Option, Some, None, IsSome, slice_get, slice_set, Result, Ok, Err}
 use Rattle.omf_format.specs.Header.{is_dynamic}
 use Rattle.iigs_meaning.specs.declared.handles.Handle.{Handle}
 use Rattle.iigs_meaning.specs.declared.wants.Block.{Block}
-use Rattle.iigs_meaning.specs.Puts.{without_user}
 use Rattle.iigs_meaning.specs.Memory.{Memory, KeepsBut, IsPurged, Changes, bytes_at}
 use Rattle.loader_machine.specs.declared.faults.LoaderFault.{LoaderFault}
 use Rattle.loader_machine.specs.Heads.{is_table}
 use Rattle.loader_machine.specs.Refusals.{purge_refusal, poke_refusal, unload_refusal, shut_down_refusal}
 use Rattle.loader_machine.specs.Commands.{Reply, Counted, Refused}
+use Rattle.loader_machine.specs.declared.seen.Life.{Life}
 use Rattle.loader_machine.specs.declared.seen.Life.TheVariants.{Running, Dormant}
-use Rattle.loader_machine.specs.State.{user_of, with_user}
-use Rattle.loader_machine.specs.Steps.{idle_block, let_go, changed_all}
-use Rattle.loader_agrees.specs.Agrees.{Kept, Loaded, seen_by}
+use Rattle.loader_machine.specs.State.{user_of, led_by, is_attached, family, handles_of_all, with_all, without_all}
+use Rattle.loader_machine.specs.Steps.{idle_block, let_go, changed_all, without_users}
+use Rattle.loader_agrees.specs.Agrees.{Kept, Loaded, kept_outlines, seen_by}
 use Rattle.loader_agrees.specs.Acts.{IsActive}
 use Rattle.sys_loader.specs.Renewing.{AreRenewed}
 
@@ -65,6 +65,12 @@ pub record HasShifted (old : Loaded) (lead : Kept) (choice : ℕ × ℕ) (h : Ha
   pub changes : Changes middle h change new.memory
   pub users : new.users ≡ old.users
 
+-- the user's segment wakes or idles, and the entries for it follow in the tables of the user that leads to it
+pub record HasTurned (old : Loaded) (id number : ℕ) (h : Handle) (change : Block → Block) (address : Option ℕ) (new : Loaded) : Type 0 where
+  pub lead : Kept
+  pub leads : user_of old.users (led_by (kept_outlines old.users) id).0 ≡ Some lead
+  pub shifted : HasShifted old lead ((led_by (kept_outlines old.users) id).1, number) h change address new
+
 -- ---- unload
 
 -- an active dynamic segment can be let go
@@ -77,7 +83,7 @@ pub record CanUnload (loader : Loaded) (id number : ℕ) (h : Handle) : Type 0 w
 pub record HasUnloaded (old : Loaded) (id number : ℕ) (new : Loaded) : Type 0 where
   pub h : Handle
   pub can : CanUnload old id number h
-  pub shifted : HasShifted old can.is.kept (1, number) h idle_block None new
+  pub turned : HasTurned old id number h idle_block None new
 
 -- what an unload did: the segment is let go, or the call is refused and all stays
 abbrev pub DidUnload : Loaded → ℕ → ℕ → Result (Unit {0}) LoaderFault → Loaded → Type 0
@@ -86,31 +92,43 @@ DidUnload old id number (Err fault) new = (unload_refusal old.memory.slots (seen
 
 -- ---- shutdown
 
--- the user's handles are released, and it is gone
+-- the user with this life
+abbrev pub with_life : Life → Kept → Kept
+with_life life kept = record kept { life = life }
+
+-- the users that are attached to the user of an ID are there
+abbrev pub HasItsUsers : List (Option Kept) → ℕ → Type 0
+HasItsUsers users id = (kept : Kept) (place n : ℕ) → user_of users id ≡ Some kept → slice_get kept.attached place ≡ Some n → IsSome (user_of users n)
+
+-- all handles of these users were released, and nothing is written
+pub record AreReleased (ids : List ℕ) (old new : Memory) : Type 0 where
+  pub slots : new.slots ≡ without_users old.slots ids
+  pub bytes : KeepsBut old new []
+
+-- the handles of the user and of those attached to it are released, and they are gone
 pub record HasDropped (old : Loaded) (id : ℕ) (new : Loaded) : Type 0 where
   pub kept : Kept
   pub made : user_of old.users id ≡ Some kept
-  pub slots : new.memory.slots ≡ without_user old.memory.slots id
-  pub bytes : KeepsBut old.memory new.memory []
-  pub users : new.users ≡ with_user old.users id None
+  pub released : AreReleased (family id kept.attached) old.memory new.memory
+  pub users : new.users ≡ without_all old.users (family id kept.attached)
 
 -- the active ones of these segments are idle, and nothing is written
 pub record AreIdled (handles : List (Option Handle)) (old new : Memory) : Type 0 where
   pub slots : new.slots ≡ changed_all let_go old.slots handles
   pub bytes : KeepsBut old new []
 
--- the user's tables call the loader, its active segments are idle, and it is dormant
+-- the user's tables call the loader, its active segments and those of the users attached to it are idle, and they are dormant
 pub record HasKept (old : Loaded) (id : ℕ) (new : Loaded) : Type 0 where
   pub kept : Kept
   pub made : user_of old.users id ≡ Some kept
   pub runs : kept.life ≡ Running
   pub middle : Memory
   pub renewed : AreRenewed kept.heads kept.handles None None old.memory middle (length kept.heads)
-  pub idled : AreIdled kept.handles middle new.memory
-  pub users : new.users ≡ with_user old.users id (Some (record kept { life = Dormant }))
+  pub idled : AreIdled (handles_of_all (kept_outlines old.users) (family id kept.attached)) middle new.memory
+  pub users : new.users ≡ with_all (with_life Dormant) old.users (family id kept.attached)
 
 -- what a shutdown did: the user is kept or dropped, or the call is refused and all stays
 abbrev pub DidShutDown : Loaded → ℕ → Bool → Result (Unit {0}) LoaderFault → Loaded → Type 0
-DidShutDown old id true (Ok done) new = HasKept old id new × (shut_down_refusal (seen_by old id) true ≡ None)
-DidShutDown old id false (Ok done) new = HasDropped old id new
-DidShutDown old id keep (Err fault) new = (shut_down_refusal (seen_by old id) keep ≡ Some fault) × (new ≡ old)
+DidShutDown old id true (Ok done) new = HasKept old id new × (shut_down_refusal (is_attached (kept_outlines old.users) id) (seen_by old id) true ≡ None)
+DidShutDown old id false (Ok done) new = HasDropped old id new × (shut_down_refusal (is_attached (kept_outlines old.users) id) (seen_by old id) false ≡ None)
+DidShutDown old id keep (Err fault) new = (shut_down_refusal (is_attached (kept_outlines old.users) id) (seen_by old id) keep ≡ Some fault) × (new ≡ old)

@@ -4,7 +4,10 @@ use Rattle.std.specs.Option.{option_map_or}
 use Rattle.omf_format.specs.File.{Segment, segment_at}
 use Rattle.omf_io.specs.Counts.{IsFront}
 use Rattle.omf_io.specs.Files.{FileMap, IsRead, IsUnread}
-use Rattle.loader_machine.specs.Taken.{IsTaken}
+use Rattle.load_meaning.specs.declared.load.LoadFault.{LoadFault}
+use Rattle.load_meaning.specs.declared.load.LoadCause.TheVariants as cause
+use Rattle.load_meaning.specs.Table.{entry_start}
+use Rattle.load_meaning.specs.Loadable.{IsLoadable}
 use Rattle.iigs_meaning.specs.declared.handles.Handle.{Handle}
 use Rattle.iigs_meaning.specs.Puts.{without_user}
 use Rattle.iigs_meaning.specs.Memory.{Memory, KeepsBut, bytes_at}
@@ -13,22 +16,24 @@ use Rattle.loader_machine.specs.declared.faults.LoaderFault.TheVariants as fault
 use Rattle.loader_machine.specs.declared.seen.Head.{Head}
 use Rattle.loader_machine.specs.declared.seen.Life.TheVariants.{Running, Dormant}
 use Rattle.loader_machine.specs.Heads.{head_of, at_number, is_static}
-use Rattle.loader_machine.specs.State.{no_pokes, user_of, with_user}
+use Rattle.loader_machine.specs.State.{no_pokes, user_of, with_user, with_all, is_attached}
 use Rattle.loader_machine.specs.Presences.{handle_at}
 use Rattle.loader_machine.specs.Stands.{setting, stands}
 use Rattle.loader_machine.specs.Refusals.{restart_refusal}
-use Rattle.loader_machine.specs.Steps.{active_block, changed_all, are_there, static_handles, is_read_again, entry_of}
+use Rattle.loader_machine.specs.Steps.{active_block, changed_all, are_there, static_handles, is_read_again, entry_of, lost_refusal}
 use Rattle.loader_machine.specs.Needs.{some_read_again}
-use Rattle.loader_agrees.specs.Agrees.{Kept, Loaded, seen_by}
+use Rattle.loader_agrees.specs.Agrees.{Kept, Loaded, kept_outlines, seen_by}
 use Rattle.loader_agrees.specs.Acts.{HasPlaced, started_kept}
 use Rattle.sys_loader.specs.declared.answers.Started.{Started}
 use Rattle.sys_loader.specs.declared.user.Segment as users
+use Rattle.sys_loader.specs.declared.user.User.{User}
 use Rattle.sys_loader.specs.Calls.{IsBadFile, IsBeginRefusal}
 use Rattle.sys_loader.specs.Activating.{IsChanged}
+use Rattle.sys_loader.specs.Lives.{with_life}
 
 -- a dormant user
 pub record CanRestart (loader : Loaded) (id : ℕ) (kept : Kept) : Type 0 where
-  pub passes : restart_refusal (seen_by loader id) ≡ None
+  pub passes : restart_refusal (is_attached (kept_outlines loader.users) id) (seen_by loader id) ≡ None
   pub made : user_of loader.users id ≡ Some kept
   pub rests : kept.life ≡ Dormant
 
@@ -39,6 +44,27 @@ is_whole loader kept = are_there loader.memory.slots kept.heads kept.handles 1
 -- the file of the user of an ID has to be read: not all its static segments are there, or one is read again at each restart
 abbrev pub restart_reads : Loaded → ℕ → Bool
 restart_reads loader id = option_map_or (λ kept. not (is_whole loader kept) || some_read_again kept.heads) (user_of loader.users id) false
+
+-- ---- entries for other files
+
+-- the headers of the files of users that are made, and of those with these IDs
+abbrev pub new_heads : List User → List (List Head)
+new_heads joined = map (λ user. map (λ s. s.head) user.segments.items) joined
+
+abbrev pub heads_in : List (Option Kept) → ℕ → List Head
+heads_in users id = option_map_or (λ kept. kept.heads) (user_of users id) []
+
+abbrev pub kept_heads : List (Option Kept) → List ℕ → List (List Head)
+kept_heads users ids = map (heads_in users) ids
+
+-- the fault of the entry at a place of a table
+abbrev pub lost_entry : ℕ → ℕ → LoadFault
+lost_entry number place = record { cause = cause.NoSuchTarget; segment = number; at = entry_start place }
+
+-- the file isn't the one that was loaded: an entry for another file leads to no segment of an attached user, or its headers differ
+abbrev pub IsOtherFile : List (Option Kept) → Kept → List Segment → LoaderFault → Type 0
+IsOtherFile users kept segments why = (lost_refusal (kept_heads users kept.attached) segments ≡ Some why)
+    ⊎ ((lost_refusal (kept_heads users kept.attached) segments ≡ None) × IsChanged kept.heads (map head_of segments) why)
 
 -- ---- in place
 
@@ -52,12 +78,12 @@ pub record AreReread (segments : List Segment) (id : ℕ) (kept : Kept) (old new
       → h.slot ≢ slot) → bytes_at new slot ≡ bytes_at old slot
   pub sizes : (slot : ℕ) → length (bytes_at new slot) ≡ length (bytes_at old slot)
 
--- from this memory on, the static segments are active, and the user runs
+-- from this memory on, the static segments are active, and the user runs with those attached to it
 pub record HasResumed (old : Memory) (users : List (Option Kept)) (id : ℕ) (kept : Kept) (started : Started) (new : Loaded) : Type 0 where
   pub user : started.user ≡ id
   pub slots : new.memory.slots ≡ changed_all active_block old.slots (static_handles kept.heads kept.handles 1)
   pub bytes : KeepsBut old new.memory []
-  pub users' : new.users ≡ with_user users id (Some (record kept { life = Running }))
+  pub users' : new.users ≡ with_all (with_life Running) (with_user users id (Some (record kept { life = Running }))) kept.attached
   pub entry : started.entry ≡ entry_of id new.memory.slots kept.heads kept.handles
 
 -- ---- in new blocks
@@ -66,35 +92,36 @@ pub record HasResumed (old : Memory) (users : List (Option Kept)) (id : ℕ) (ke
 abbrev pub released_memory : Memory → ℕ → Memory
 released_memory memory id = record { banks = memory.banks; slots = without_user memory.slots id; bytes = memory.bytes }
 
--- the user's handles are released, and its file begins as at a load, under the same ID
+-- the user's handles are released, and its file begins as at a load, under the same ID; those attached to it run
 pub record HasBegunAnew (old : Loaded) (id : ℕ) (kept : Kept) (segments : List Segment) (started : Started) (new : Loaded) : Type 0 where
   pub user : started.user ≡ id
   pub placed : HasPlaced (released_memory old.memory id) kept.path segments id started.entry new.memory
-  pub users' : new.users ≡ with_user old.users id (Some (started_kept kept.path (map head_of segments) placed.handles))
+  pub users' : new.users ≡ with_all (with_life Running)
+      (with_user old.users id (Some (record (started_kept kept.path (map head_of segments) placed.handles) { attached = kept.attached }))) kept.attached
 
 -- ---- the whole call
 
 -- The user runs again: all its static segments are there, and none is read again; or some are; or not all are there.
 pub data HasRestarted (held : Option FileMap) (old : Loaded) (id : ℕ) (kept : Kept) (started : Started) (new : Loaded) : Type 0 where
   InPlace : is_whole old kept ≡ true → some_read_again kept.heads ≡ false → HasResumed old.memory old.users id kept started new → HasRestarted held old id kept started new
-  Reread : is_whole old kept ≡ true → some_read_again kept.heads ≡ true → (file : List ℕ) → IsRead held kept.path file → (segments : List Segment) → IsTaken file segments
-      → map head_of segments ≡ kept.heads → (middle : Memory) → AreReread segments id kept old.memory middle → HasResumed middle old.users id kept started new
+  Reread : is_whole old kept ≡ true → some_read_again kept.heads ≡ true → (file : List ℕ) → IsRead held kept.path file → (segments : List Segment) → IsLoadable file segments
+      → lost_refusal (kept_heads old.users kept.attached) segments ≡ None → map head_of segments ≡ kept.heads → (middle : Memory) → AreReread segments id kept old.memory middle → HasResumed middle old.users id kept started new
       → HasRestarted held old id kept started new
-  Anew : is_whole old kept ≡ false → (file : List ℕ) → IsRead held kept.path file → (segments : List Segment) → IsTaken file segments
-      → map head_of segments ≡ kept.heads → HasBegunAnew old id kept segments started new → HasRestarted held old id kept started new
+  Anew : is_whole old kept ≡ false → (file : List ℕ) → IsRead held kept.path file → (segments : List Segment) → IsLoadable file segments
+      → lost_refusal (kept_heads old.users kept.attached) segments ≡ None → map head_of segments ≡ kept.heads → HasBegunAnew old id kept segments started new → HasRestarted held old id kept started new
 
--- why a file that was read restarts no program: it isn't taken, or not the one that was loaded; or its static segments lack
+-- why a file that was read restarts no program: it isn't loaded, or not the one that was loaded before; or its static segments lack
 -- slots or room once all handles of the user are released; or memory ran out
 abbrev pub IsAgainRefusal : List ℕ → Loaded → ℕ → Kept → LoaderFault → Type 0
-IsAgainRefusal file old id kept why = IsBadFile file why
-    ⊎ ((segments : List Segment) × IsTaken file segments × (IsChanged kept.heads (map head_of segments) why
+IsAgainRefusal file old id kept why = IsBadFile false file why
+    ⊎ ((segments : List Segment) × IsLoadable file segments × (IsOtherFile old.users kept segments why
     ⊎ ((map head_of segments ≡ kept.heads) × (is_whole old kept ≡ false) × IsBeginRefusal (released_memory old.memory id) id kept.heads why)))
 
 -- why a program doesn't restart
 pub data IsRestartRefusal (held : Option FileMap) (old : Loaded) (id : ℕ) (before now : ℕ) (why : LoaderFault) : Type 0 where
-  IsStopped : restart_refusal (seen_by old id) ≡ Some why → now ≡ before → IsRestartRefusal held old id before now why
+  IsStopped : restart_refusal (is_attached (kept_outlines old.users) id) (seen_by old id) ≡ Some why → now ≡ before → IsRestartRefusal held old id before now why
   CantRead : (kept : Kept) → CanRestart old id kept → restart_reads old id ≡ true → IsUnread held kept.path before now → why ≡ fault.CannotRead → IsRestartRefusal held old id before now why
-  LacksMemory : restart_refusal (seen_by old id) ≡ None → restart_reads old id ≡ true → why ≡ fault.Memory → now ≡ before → IsRestartRefusal held old id before now why
+  LacksMemory : restart_refusal (is_attached (kept_outlines old.users) id) (seen_by old id) ≡ None → restart_reads old id ≡ true → why ≡ fault.Memory → now ≡ before → IsRestartRefusal held old id before now why
   CantRestart : (kept : Kept) → CanRestart old id kept → restart_reads old id ≡ true → (file : List ℕ) → IsRead held kept.path file → IsAgainRefusal file old id kept why → now ≡ before
       → IsRestartRefusal held old id before now why
 
@@ -119,10 +146,12 @@ pub record AreActivated (handles : List (Option Handle)) (old new : Memory) : Ty
 
 -- a user was restarted in place from a file that was read
 abbrev pub HasReloaded : List ℕ → Loaded → ℕ → Kept → Started → Loaded → Type 0
-HasReloaded file old id kept started new = (segments : List Segment) × IsTaken file segments × (map head_of segments ≡ kept.heads)
+HasReloaded file old id kept started new = (segments : List Segment) × IsLoadable file segments
+    × (lost_refusal (kept_heads old.users kept.attached) segments ≡ None) × (map head_of segments ≡ kept.heads)
     × (middle : Memory) × AreReread segments id kept old.memory middle × HasResumed middle old.users id kept started new
 
 -- a user began anew from a file that was read
 abbrev pub HasBegunFrom : List ℕ → Loaded → ℕ → Kept → Started → Loaded → Type 0
-HasBegunFrom file old id kept started new = (segments : List Segment) × IsTaken file segments × (map head_of segments ≡ kept.heads)
+HasBegunFrom file old id kept started new = (segments : List Segment) × IsLoadable file segments
+    × (lost_refusal (kept_heads old.users kept.attached) segments ≡ None) × (map head_of segments ≡ kept.heads)
     × HasBegunAnew old id kept segments started new

@@ -1,5 +1,5 @@
 -- How the loader's Rust values are seen.
-use Rattle.std.specs.Prelude.{List, [], map, option_map, Option, string_bytes}
+use Rattle.std.specs.Prelude.{List, map, option_map, Option, string_bytes}
 use Rattle.iigs_meaning.specs.Memory.{Memory}
 use Rattle.loader_agrees.specs.Agrees.{Kept, Loaded}
 use Rattle.sys_loader.specs.declared.user.User.{User}
@@ -10,7 +10,7 @@ kept user = record {
   life = user.life;
   handles = map (λ s. s.handle) user.segments.items;
   heads = map (λ s. s.head) user.segments.items;
-  attached = [];
+  attached = user.attached.items;
 }
 
 abbrev pub loaded : Memory → List (Option User) → Loaded

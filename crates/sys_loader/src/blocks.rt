@@ -62,7 +62,7 @@ impl Loader {
     // Places a block for the script under a new handle.
     fn put_block(&mut self, want: &Want, locked: bool, level: u8) -> Result<Handle, LoaderFault>
         requires want { IsWant want.now }
-        ensures placed { IfOk result (λ h. IsPlaced Purges self.old.memory want.now 0 locked level h self.new.memory × (self.new.users ≡ self.old.users)) }
+        ensures placed { IfOk result (λ h. IsPlaced Purges self.old.memory want.now 0 locked level false h self.new.memory × (self.new.users ≡ self.old.users)) }
         ensures refused { IfErr result (IsAllocRefusal self.old.memory want.now) }
         ensures err { OnErr result (self.new ≡ self.old) }
     {
@@ -106,7 +106,7 @@ impl Loader {
             → Met Purges held state (Alloc want.now locked level) (Refused fault) self.new) }
 
         // And so much is true of it over any files.
-        ensures placed { IfOk result (λ h. IsPlaced Purges self.old.memory want.now 0 locked level h self.new.memory × (self.new.users ≡ self.old.users)) }
+        ensures placed { IfOk result (λ h. IsPlaced Purges self.old.memory want.now 0 locked level false h self.new.memory × (self.new.users ≡ self.old.users)) }
         ensures refused { IfErr result (IsAllocRefusal self.old.memory want.now) }
         ensures err { OnErr result (self.new ≡ self.old) }
     {

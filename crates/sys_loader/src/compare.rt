@@ -1,7 +1,7 @@
 //! Whether a file is the one that was loaded.
 
 ghost use Rattle.std.specs.Prelude.{◌≡◌, ◌≢◌, ◌<◌, ◌^◌, ℕ, List, map, length, true, false, IfOk, IfErr};
-ghost use Rattle.loader_machine.specs.Taken.{IsTaken};
+ghost use Rattle.load_meaning.specs.Loadable.{IsLoadable};
 ghost use Rattle.loader_machine.specs.Heads.{head_of};
 ghost use Rattle.sys_loader.specs.Activating as activating;
 ghost use Rattle.sys_loader.specs.Activating.{IsChanged};
@@ -58,7 +58,7 @@ fn is_same(one: &Head, other: &Head) -> bool
 
 /// Compares a load file with what is kept of the one that was loaded, segment by segment and then by their number.
 pub fn compare(load: &LoadFile<'_>, segments: &Vec<Segment>) -> Result<(), LoaderFault>
-    requires taken { (file : List ℕ) × IsTaken file load.now }
+    requires taken { (file : List ℕ) × IsLoadable file load.now }
     requires kept { length segments.now.items < 2 ^ 16 }
     ensures same { IfOk result (λ _. map head_of load.now ≡ map (λ s. s.head) segments.now.items) }
     ensures changed { IfErr result (IsChanged (map (λ s. s.head) segments.now.items) (map head_of load.now)) }

@@ -3,7 +3,7 @@
 ghost use Rattle.std.specs.Prelude.{◌≡◌, ◌-◌, ◌<◌, ◌≤◌, ◌^◌, ℕ, List, Option, Some, None, IsSome, IsSomeAnd, length, map, true, false, IfOk, IfErr, OnErr};
 ghost use Rattle.omf_io.specs.Counts.{one_more};
 ghost use Rattle.omf_io.specs.Files.{FileMap};
-ghost use Rattle.loader_machine.specs.Taken.{IsTaken};
+ghost use Rattle.load_meaning.specs.Loadable.{IsLoadable};
 ghost use Rattle.iigs_meaning.specs.Slots.{get};
 ghost use Rattle.iigs_meaning.specs.Puts.{Purges};
 ghost use Rattle.loader_machine.specs.Heads.{head_of};
@@ -14,17 +14,17 @@ ghost use Rattle.loader_machine.specs.Needs.{is_read};
 ghost use Rattle.loader_machine.specs.Commands.{LoadSegment, MadeActive};
 ghost use Rattle.loader_machine.specs.Refusals.{load_segment_refusal};
 ghost use Rattle.loader_agrees.specs.Agrees.{Kept, Agrees, Meets, ReadsNeeded, seen_by};
-ghost use Rattle.sys_loader.specs.Lives.{HasShifted};
+ghost use Rattle.sys_loader.specs.Lives.{HasTurned};
 ghost use Rattle.sys_loader.specs.Replies.{activation_reply};
 ghost use Rattle.sys_loader.specs.Activating.{segment_reads, CanLoad, IsBrought, IsBringRefusal, HasCome, HasComeFrom, IsComeRefusal, DidCome, DidActivate};
 
 use crate::compare::compare;
 use crate::fill::fill_block;
 use crate::head::{is_dynamic, want_of};
-use crate::load::take_load;
 use crate::loader::Loader;
 use crate::memory::presence;
 use crate::place::{place_of, set_places};
+use crate::reading::load_of;
 use crate::renew::renew_tables;
 use crate::turn::activate;
 use crate::user::Segment;
@@ -131,18 +131,19 @@ impl Loader {
         Ok(segment)
     }
 
-    // An idle segment wakes: its entries lead to it, and its block is locked.
+    // An idle segment wakes: the entries for it lead to it, and its block is locked.
     fn wake(&mut self, user: u16, number: u16, h: Handle, address: u32)
         requires can { (head : Head) × CanLoad self.old user number head (Some h) }
         requires idle { presences.presence self.old.memory.slots (Some h) ≡ Presence.Idle h address }
-        ensures { (k : Kept) → user_of self.old.users user ≡ Some k → HasShifted self.old k (1, number) h active_block (Some address) self.new }
+        ensures { HasTurned self.old user number h active_block (Some address) self.new }
     {
         self.is_sound();
-        let found = user_in(&self.users, user);
+        let (owner, file) = self.led_by(user);
+        let lead = user_in(&self.users, owner);
         renew_tables(
             &mut self.banks,
-            &found.segments,
-            Some((1, number)),
+            &lead.segments,
+            Some((file, number)),
             Some(address),
         );
         activate(&mut self.banks, h);
@@ -157,7 +158,7 @@ impl Loader {
         number: u16,
         segment: &Segment,
     ) -> Result<u32, LoaderFault>
-        requires taken { (file : List ℕ) × IsTaken file load.now }
+        requires taken { (file : List ℕ) × IsLoadable file load.now }
         requires room { length places ≡ length load.now }
         requires can { CanLoad self.old user number segment.now.head segment.now.handle }
         requires gone { is_read (presences.presence self.old.memory.slots segment.now.handle) ≡ true }
@@ -168,6 +169,7 @@ impl Loader {
         ensures err { OnErr result (self.new ≡ self.old) }
     {
         self.is_sound();
+        let (owner, file) = self.led_by(user);
         let h = match place_segment(&mut self.banks, user, number, segment) {
             Ok(h) => h,
             Err(fault) => return Err(fault),
@@ -185,10 +187,11 @@ impl Loader {
             &places,
             user,
         );
+        let lead = user_in(&self.users, owner);
         renew_tables(
             &mut self.banks,
-            &found.segments,
-            Some((1, number)),
+            &lead.segments,
+            Some((file, number)),
             Some(address),
         );
         set_handle(&mut self.users, user, number, h);
@@ -209,11 +212,11 @@ impl Loader {
         ensures come { (k : Kept) → user_of self.old.users user ≡ Some k
             → IfOk result (λ address. HasComeFrom file.now self.old user number k segment.now.head segment.now.handle address self.new) }
         ensures refused { (k : Kept) → user_of self.old.users user ≡ Some k
-            → IfErr result (IsComeRefusal file.now self.old number k segment.now.head segment.now.handle) }
+            → IfErr result (IsComeRefusal file.now self.old user number k segment.now.head segment.now.handle) }
         ensures err { OnErr result (self.new ≡ self.old) }
     {
         self.is_sound();
-        let load = match take_load(self.alloc, file) {
+        let load = match load_of(self.alloc, file, self.is_attached(user)) {
             Ok(load) => load,
             Err(fault) => return Err(fault),
         };
@@ -288,7 +291,8 @@ impl Loader {
 
     /// Makes a dynamic segment of a user that runs active, and tells its address. An idle one becomes active as it is, with its
     /// pokes; one that isn't there is read again from the file at the user's path, which must be the one that was loaded, and
-    /// placed. The entries of the user's jump table for it lead to it then. An active or idle segment takes no memory.
+    /// placed. The entries for it, of the user's jump table or of that of the user to which it is attached, lead to it then. An active or
+    /// idle segment takes no memory.
     pub fn load_segment<F: Files>(
         &mut self,
         files: &mut F,
@@ -308,7 +312,7 @@ impl Loader {
         ensures meets { (held : FileMap) (state : Machine) → (F.seen files.old).held ≡ Some held → Agrees held self.old state
             → Meets Purges held state (LoadSegment user segment) (activation_reply (MadeActive segment) result) self.new (F.seen files.old).faults (F.seen files.new).faults }
         ensures needed { (held : FileMap) (state : Machine) → (F.seen files.old).held ≡ Some held → Agrees held self.old state
-            → ReadsNeeded held state (LoadSegment user segment) (F.seen files.old).asked (F.seen files.new).asked }
+            → ReadsNeeded held state (LoadSegment user segment) 0 (F.seen files.old).asked (F.seen files.new).asked }
 
         // And so much is true of it over any files.
         ensures did { DidActivate (F.seen files.old).held self.old user segment result self.new (F.seen files.old).faults (F.seen files.new).faults }

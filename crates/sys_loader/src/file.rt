@@ -4,6 +4,7 @@ ghost use Rattle.std.specs.Prelude.{◌≡◌, length, map, IfOk};
 ghost use Rattle.omf_format.specs.Header.{Fields};
 ghost use Rattle.omf_header.specs.View.{fields};
 ghost use Rattle.loader_machine.specs.Heads.{head_of};
+ghost use Rattle.loader_agrees.specs.Acts.{no_handle_of};
 ghost use Rattle.sys_loader.specs.Filling.{head_in};
 
 use crate::user::Segment;
@@ -28,7 +29,8 @@ pub fn head_from(header: &Header) -> Head
 
 /// The segments of a load file, none of which has a handle.
 pub fn segments_of(alloc: Global, load: &LoadFile<'_>) -> Result<Vec<Segment>, AllocError>
-    ensures { IfOk result (λ segments. map (λ s. s.head) segments.items ≡ map head_of load.now) }
+    ensures heads { IfOk result (λ segments. map (λ s. s.head) segments.items ≡ map head_of load.now) }
+    ensures handles { IfOk result (λ segments. map (λ s. s.handle) segments.items ≡ map no_handle_of (map (λ s. s.head) segments.items)) }
 {
     let mut segments = Vec::new(alloc);
     'places: for place in 0..load.count() {

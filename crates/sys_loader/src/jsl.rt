@@ -7,13 +7,13 @@ ghost use Rattle.load_meaning.specs.declared.table.Target.{Target};
 ghost use Rattle.iigs_meaning.specs.Puts.{Purges};
 ghost use Rattle.iigs_meaning.specs.Slots.{get};
 ghost use Rattle.iigs_meaning.specs.Memory.{bytes_at};
-ghost use Rattle.loader_machine.specs.State.{Machine};
+ghost use Rattle.loader_machine.specs.State.{Machine, named_by};
 ghost use Rattle.loader_machine.specs.Heads.{at_number};
 ghost use Rattle.loader_machine.specs.Presences.{handle_at};
 ghost use Rattle.loader_machine.specs.Steps.{no_jsl, address_of};
 ghost use Rattle.loader_machine.specs.Commands as commands;
 ghost use Rattle.loader_machine.specs.Refusals.{load_segment_refusal};
-ghost use Rattle.loader_agrees.specs.Agrees.{Agrees, Meets, ReadsNeeded, seen_by};
+ghost use Rattle.loader_agrees.specs.Agrees.{Agrees, Meets, ReadsNeeded, kept_outlines, seen_by};
 ghost use Rattle.loader_agrees.specs.Acts.{LiesIn};
 ghost use Rattle.sys_loader.specs.View.{kept};
 ghost use Rattle.sys_loader.specs.Activating.{segment_reads, DidActivate};
@@ -36,7 +36,7 @@ use omf_io::Files;
 /// The code of a JSL.
 const JSL: u8 = 0x22;
 
-/// Where a JSL leads: to a place in a segment, or through the entry of a user's jump table to an offset in one.
+/// Where a JSL leads: to a place in a segment, or through the entry of a jump table to an offset in one.
 #[derive(Clone, Copy)]
 pub enum Reached {
     Place(Entered),
@@ -86,6 +86,17 @@ fn segment_in(user: &User, number: u16) -> Segment
 }
 
 impl Loader {
+    // The user whose segment an entry of a user's table names by its file number.
+    fn named_by(&self, user: u16, file: u16) -> u16
+        requires { IsSome (named_by (kept_outlines self.now.users) user file) }
+        ensures { named_by (kept_outlines self.now.users) user file ≡ Some result }
+    {
+        if file == 1 {
+            return user;
+        }
+        user_in(&self.users, user).attached[usize::from(file).saturating_sub(2)]
+    }
+
     // The place to which the JSL at an offset leads.
     fn jsl_place(&self, user: u16, segment: u16, at: u32) -> Result<Entered, LoaderFault>
         ensures leads { IfOk result (LeadsTo self.now user segment at) }
@@ -123,7 +134,7 @@ impl Loader {
         };
         let target = target_at(block_of(&self.banks, found.handle), k);
         Ok(Reached::Entry {
-            user: place.user,
+            user: self.named_by(place.user, target.file),
             segment: target.segment,
             offset: target.offset,
         })
@@ -201,16 +212,17 @@ impl Loader {
         match reached {
             Reached::Place(place) => Ok(place),
             Reached::Entry {
-                user: owner,
+                user: other,
                 segment: number,
                 offset,
-            } => self.enter(files, owner, number, offset),
+            } => self.enter(files, other, number, offset),
         }
     }
 
     /// Follows the JSL at an offset of an active segment of a user that runs. It enters the active segment in which its address
-    /// lies. In a jump table the address must be the code of an entry: the entry's segment of the table's user is made active as by
-    /// `load_segment`, and entered at the entry's offset. Where that segment is active or idle, no memory is taken.
+    /// lies. In a jump table the address must be the code of an entry: the entry's segment, of the table's user or of the attached
+    /// user of the entry's file, is made active as by `load_segment`, and entered at the entry's offset. Where that segment is active
+    /// or idle, no memory is taken.
     pub fn jsl<F: Files>(
         &mut self,
         files: &mut F,
@@ -221,18 +233,18 @@ impl Loader {
         ensures held { (F.seen files.new).held ≡ (F.seen files.old).held }
         ensures never_falls { (F.seen files.old).faults ≤ (F.seen files.new).faults }
 
-        // The file of the table's user is read once where the entry's segment can be made active and isn't there, and else not at all.
+        // The file of the user that the entry names is read once where the entry's segment isn't there, and else not at all.
         ensures asked { HasAsked self.old user segment at (F.seen files.old).asked (F.seen files.new).asked }
 
         // Over files that are told, and with which the loader agrees, it is the machine's step, and reads what that needs.
         ensures meets { (held : FileMap) (state : Machine) → (F.seen files.old).held ≡ Some held → Agrees held self.old state
             → Meets Purges held state (commands.Jsl user segment at) (jsl_reply result) self.new (F.seen files.old).faults (F.seen files.new).faults }
         ensures needed { (held : FileMap) (state : Machine) → (F.seen files.old).held ≡ Some held → Agrees held self.old state
-            → ReadsNeeded held state (commands.Jsl user segment at) (F.seen files.old).asked (F.seen files.new).asked }
+            → ReadsNeeded held state (commands.Jsl user segment at) 0 (F.seen files.old).asked (F.seen files.new).asked }
 
         // A JSL to the code of an entry enters where the entry leads, or is refused for want of the file, a handle, room or memory.
         ensures enters { (held : FileMap) (state : Machine) → (F.seen files.old).held ≡ Some held → Agrees held self.old state
-            → (target : Target) → HasCall held state user segment at target → EntersTarget user target result }
+            → (target : Target) → HasCall held state user segment at target → EntersTarget state user target result }
 
         // And so much is true of it over any files.
         ensures did { DidJsl (F.seen files.old).held self.old user segment at result self.new (F.seen files.old).faults (F.seen files.new).faults }

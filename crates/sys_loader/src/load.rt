@@ -1,33 +1,40 @@
 //! Programs that are loaded.
 
-ghost use Rattle.std.specs.Prelude.{◌≡◌, ◌⊎◌, ◌+◌, ◌<◌, ◌≤◌, ◌^◌, ℕ, List, map, length, All, Some, false, IfOk, IfErr, OnOk, OnErr};
-ghost use Rattle.omf_io.specs.Counts.{one_more};
+ghost use Rattle.std.specs.Prelude.{◌≡◌, ◌⊎◌, ◌+◌, ◌++◌, ◌<◌, ◌≤◌, ◌^◌, ℕ, List, map, option_map, length, slice_get, string_bytes, vec_capacity, All, Some, None, false, IfOk, IfErr, OnOk, OnErr};
+ghost use Rattle.omf_format.specs.File as omf;
+ghost use Rattle.omf_io.specs.Counts.{one_more, risen};
 ghost use Rattle.omf_io.specs.Files.{FileMap};
-ghost use Rattle.loader_machine.specs.Taken.{IsTaken};
+ghost use Rattle.load_meaning.specs.Pathnames.{paths_of};
+ghost use Rattle.load_meaning.specs.Loadable.{IsLoadable};
 ghost use Rattle.iigs_meaning.specs.Fits.{IsWant};
 ghost use Rattle.iigs_meaning.specs.Puts.{Purges};
 ghost use Rattle.iigs_meaning.specs.Memory.{Memory, AreAllPlaced};
 ghost use Rattle.loader_machine.specs.Heads.{head_of, wants_of};
+ghost use Rattle.loader_machine.specs.Found.{Joins};
+ghost use Rattle.loader_machine.specs.State as state;
 ghost use Rattle.loader_machine.specs.State.{Machine, first_id, max_users};
-ghost use Rattle.loader_machine.specs.Steps.{spread};
+ghost use Rattle.loader_machine.specs.Steps.{spread, lost_refusal};
 ghost use Rattle.loader_machine.specs.Commands.{Load};
-ghost use Rattle.loader_agrees.specs.Agrees.{Agrees, Meets, ReadsNeeded};
-ghost use Rattle.loader_agrees.specs.Acts.{HasBegun};
-ghost use Rattle.omf_cells.specs.Load.{IsRefused};
-ghost use Rattle.sys_loader.specs.Calls.{IsPlan, IsSettled, IsBadFile, IsBeginRefusal, IsStartRefusal, HasStartedFrom, HasLoaded};
+ghost use Rattle.loader_agrees.specs.Agrees.{Agrees, Meets, MeetsReads};
+ghost use Rattle.loader_agrees.specs.Acts.{HasBegun, joined_kept};
+ghost use Rattle.sys_loader.specs.View.{kept};
+ghost use Rattle.sys_loader.specs.Calls.{IsPlan, IsSettled, IsBeginRefusal, AreRowsRead, HasJoined, JoinStops, AreJoinedUsers, RowsStop, HasLoadedRows, HasLoadedFile, HasLoaded};
 ghost use Rattle.sys_loader.specs.Replies.{load_reply};
 
 use crate::answers::Started;
+use crate::file::segments_of;
 use crate::fill::fill_all;
 use crate::loader::{FIRST_ID, Loader, MAX_USERS};
+use crate::lost::lost;
 use crate::place::{deal, entry_of, number_of, set_places};
 use crate::plan::{Plan, plan_of};
+use crate::reading::{load_of, read_file, runtime_load};
 use crate::user::{Segment, User};
 use iigs_meaning::{Handle, PlaceFault, Want};
 use iigs_memory::Banks;
 use loader_machine::{Life, LoaderFault};
-use omf_cells::{LoadCause, LoadFault, LoadFile, Places, read_load};
-use omf_io::{Files, ReadFault};
+use omf_cells::{LoadFile, Places};
+use omf_io::Files;
 use std::alloc::{AllocError, Global};
 
 /// Places blocks for all static segments, in order, or none.
@@ -65,7 +72,7 @@ pub fn settle(
     places: &mut Places,
     user: u16,
 )
-    requires taken { (file : List ℕ) × IsTaken file load.now }
+    requires taken { (file : List ℕ) × IsLoadable file load.now }
     requires short { length load.now < 2 ^ 16 }
     requires heads { map (λ s. s.head) segments.old.items ≡ map head_of load.now }
     requires room { length places.old ≡ length segments.old.items }
@@ -79,41 +86,9 @@ pub fn settle(
     fill_all(banks, load, segments, places, user);
 }
 
-/// What the loader says of a load file's fault.
-fn bad_file(fault: LoadFault) -> LoaderFault
-    ensures told { (file : List ℕ) → IsRefused fault file → IsBadFile file result }
-    ensures memory { result ≡ LoaderFault.Memory → fault.cause ≡ LoadCause.Memory }
-    ensures other { (result ≡ LoaderFault.Memory) ⊎ (result ≡ LoaderFault.BadFile fault) }
-{
-    match fault.cause {
-        LoadCause::Memory => LoaderFault::Memory,
-        _ => LoaderFault::BadFile(fault),
-    }
-}
-
-/// The load file, if the loader takes it. One with a pathname segment is refused: run-time library files aren't loaded yet.
-pub fn take_load<'a>(alloc: Global, file: &'a [u8]) -> Result<LoadFile<'a>, LoaderFault>
-    requires { length file.now < 2 ^ 32 }
-    ensures taken { IfOk result (λ load. IsTaken file.now load) }
-    ensures refused { IfErr result (IsBadFile file.now) }
-{
-    let load = match read_load(alloc, file) {
-        Ok(load) => load,
-        Err(fault) => return Err(bad_file(fault)),
-    };
-    match load.pathnames() {
-        Some(segment) => Err(LoaderFault::BadFile(LoadFault {
-            cause: LoadCause::Unsupported,
-            segment,
-            at: 0,
-        })),
-        None => Ok(load),
-    }
-}
-
 /// How many segments a load file has: the number of the last one.
 pub fn count_of(load: &LoadFile<'_>) -> u16
-    requires taken { (file : List ℕ) × IsTaken file load.now }
+    requires taken { (file : List ℕ) × IsLoadable file load.now }
     ensures { result ≡ length load.now }
 {
     match load.header(load.count()) {
@@ -122,19 +97,131 @@ pub fn count_of(load: &LoadFile<'_>) -> u16
     }
 }
 
+/// A user that is attached to another: none of its segments is there.
+fn joined(alloc: Global, load: &LoadFile<'_>, path: &str) -> Result<User, AllocError>
+    ensures { IfOk result (λ user. kept user ≡ joined_kept path.now (map head_of load.now)) }
+{
+    let path = String::from_str(alloc, path)?;
+    let segments = segments_of(alloc, load)?;
+    Ok(User {
+        path,
+        life: Life::Running,
+        segments,
+        attached: Vec::new(alloc),
+    })
+}
+
+/// The path of a row.
+fn path_of<'a>(load: &LoadFile<'a>, place: u32) -> &'a str
+    requires loadable { (file : List ℕ) × IsLoadable file load.now }
+    requires inside { place < length (paths_of load.now) }
+    ensures { slice_get (paths_of load.now) place ≡ Some result.now }
+{
+    let path = match load.path(place) {
+        Some(path) => path,
+        None => unreachable!(),
+    };
+    match str::from_utf8(path) {
+        Ok(path) => path,
+        Err(_) => unreachable!(),
+    }
+}
+
+/// The user of a row, whose file is read.
+fn join<F: Files>(alloc: Global, files: &mut F, path: &str) -> Result<User, LoaderFault>
+    ensures held { (F.seen files.new).held ≡ (F.seen files.old).held }
+    ensures never_falls { (F.seen files.old).faults ≤ (F.seen files.new).faults }
+    ensures asked { (F.seen files.new).asked ≡ one_more (F.seen files.old).asked }
+    ensures joins { IfOk result (λ user. HasJoined (F.seen files.old).held path.now (kept user) × ((F.seen files.new).faults ≡ (F.seen files.old).faults)) }
+    ensures stops { IfErr result (JoinStops (F.seen files.old).held path.now (F.seen files.old).faults (F.seen files.new).faults) }
+{
+    let bytes = match read_file(alloc, files, path) {
+        Ok(bytes) => bytes,
+        Err(fault) => return Err(fault),
+    };
+    let load = match runtime_load(alloc, &bytes) {
+        Ok(load) => load,
+        Err(fault) => return Err(fault),
+    };
+    let _count = count_of(&load);
+    match joined(alloc, &load, path) {
+        Ok(user) => Ok(user),
+        Err(AllocError) => Err(LoaderFault::Memory),
+    }
+}
+
+/// The users of all rows, whose files are read in order.
+fn join_all<F: Files>(
+    alloc: Global,
+    files: &mut F,
+    load: &LoadFile<'_>,
+) -> Result<Vec<User>, LoaderFault>
+    requires { (file : List ℕ) × IsLoadable file load.now }
+    ensures held { (F.seen files.new).held ≡ (F.seen files.old).held }
+    ensures never_falls { (F.seen files.old).faults ≤ (F.seen files.new).faults }
+    ensures joins { IfOk result (λ users. (all : List (List omf.Segment)) × AreRowsRead (F.seen files.old).held (paths_of load.now) (F.seen files.old).faults (F.seen files.new).faults (Joins all)
+        × AreJoinedUsers (paths_of load.now) all (map kept users.items) × ((F.seen files.new).asked ≡ risen (length all) (F.seen files.old).asked)) }
+    ensures stops { IfErr result (RowsStop (F.seen files.old).held (paths_of load.now) (F.seen files.old) (F.seen files.new)) }
+{
+    let mut users = Vec::new(alloc);
+    'rows: for place in 0..load.paths() {
+        let user = match join(alloc, files, path_of(load, place)) {
+            Ok(user) => user,
+            Err(fault) => return Err(fault),
+        };
+        match users.push(user) {
+            Ok(()) => {}
+            Err(_) => return Err(LoaderFault::Memory),
+        }
+    }
+    Ok(users)
+}
+
+/// So many IDs from one on.
+fn ids_from(alloc: Global, id: u16, count: usize) -> Result<Vec<u16>, AllocError>
+    requires { id + count < 2 ^ 16 }
+    ensures { IfOk result (λ ids. ids.items ≡ state.ids_from id count) }
+{
+    let mut ids = Vec::new(alloc);
+    'ids: for place in 0..count {
+        ids.push(id + place as u16)?;
+    }
+    Ok(ids)
+}
+
+/// Users that are put behind others, for which there is room.
+fn push_all(users: &mut Vec<Option<User>>, joined: Vec<User>)
+    requires { length users.old.items + length joined.items ≤ vec_capacity users.old }
+    ensures pushed { map (option_map kept) users.new.items ≡ map (option_map kept) users.old.items ++ map (λ k. Some k) (map kept joined.items) }
+    ensures room { vec_capacity users.new ≡ vec_capacity users.old }
+{
+    'joined: for user in joined {
+        users.push_reserved(Some(user));
+    }
+}
+
 impl Loader {
-    // A program of a load file begins.
-    fn start(&mut self, load: &LoadFile<'_>, plan: Plan) -> Result<Started, LoaderFault>
-        requires few { length self.old.users < max_users }
-        requires taken { (file : List ℕ) × IsTaken file load.now }
+    // A program of a load file begins, with the users of its rows behind it.
+    fn start(
+        &mut self,
+        load: &LoadFile<'_>,
+        plan: Plan,
+        path: String,
+        joined: Vec<User>,
+        attached: Vec<u16>,
+    ) -> Result<Started, LoaderFault>
+        requires few { length self.old.users + 1 + length joined.items ≤ max_users }
+        requires loadable { (file : List ℕ) × IsLoadable file load.now }
         requires short { length load.now < 2 ^ 16 }
-        requires plan { (path : List ℕ) × IsPlan path load.now plan }
-        ensures begun { (path : List ℕ) → IsPlan path load.now plan → IfOk result (λ started. HasBegun self.old path load.now started.user started.entry self.new) }
+        requires plan { IsPlan load.now plan }
+        requires users { (all : List (List omf.Segment)) × AreJoinedUsers (paths_of load.now) all (map kept joined.items) × (lost_refusal (map (map head_of) all) load.now ≡ None) }
+        requires attached { attached.items ≡ state.ids_from (first_id + length self.old.users + 1) (length (paths_of load.now)) }
+        ensures begun { (all : List (List omf.Segment)) → AreJoinedUsers (paths_of load.now) all (map kept joined.items)
+            → IfOk result (λ started. HasBegun self.old (string_bytes path) load.now all started.user started.entry self.new) }
         ensures refused { IfErr result (IsBeginRefusal self.old.memory (first_id + length self.old.users) (map head_of load.now)) }
         ensures err { OnErr result (self.new ≡ self.old) }
     {
         let Plan {
-            path,
             mut segments,
             wants,
             mut handles,
@@ -164,28 +251,91 @@ impl Loader {
             path,
             life: Life::Running,
             segments,
+            attached,
         }));
+        push_all(&mut self.users, joined);
         Ok(Started { user, entry })
     }
 
-    // A program of a file begins, if it is a load file that the loader takes.
-    fn begin(&mut self, file: &[u8], path: &str) -> Result<Started, LoaderFault>
-        requires few { length self.old.users < max_users }
-        requires short { length file.now < 2 ^ 32 }
-        ensures started { IfOk result (λ started. HasStartedFrom file.now self.old path.now started self.new) }
-        ensures refused { IfErr result (IsStartRefusal file.now self.old) }
+    // The same, once what it takes is made.
+    fn plan_and_start(
+        &mut self,
+        load: &LoadFile<'_>,
+        path: &str,
+        joined: Vec<User>,
+    ) -> Result<Started, LoaderFault>
+        requires few { length self.old.users + 1 + length joined.items ≤ max_users }
+        requires loadable { (file : List ℕ) × IsLoadable file load.now }
+        requires users { (all : List (List omf.Segment)) × AreJoinedUsers (paths_of load.now) all (map kept joined.items) × (lost_refusal (map (map head_of) all) load.now ≡ None) }
+        ensures begun { (all : List (List omf.Segment)) → AreJoinedUsers (paths_of load.now) all (map kept joined.items)
+            → IfOk result (λ started. HasBegun self.old path.now load.now all started.user started.entry self.new) }
+        ensures refused { IfErr result (λ why. (why ≡ LoaderFault.Memory) ⊎ IsBeginRefusal self.old.memory (first_id + length self.old.users) (map head_of load.now) why) }
         ensures err { OnErr result (self.new ≡ self.old) }
     {
-        let load = match take_load(self.alloc, file) {
-            Ok(load) => load,
-            Err(fault) => return Err(fault),
+        let _count = count_of(load);
+        let first = FIRST_ID + self.users.len() as u16 + 1;
+        let attached = match ids_from(self.alloc, first, joined.len()) {
+            Ok(attached) => attached,
+            Err(AllocError) => return Err(LoaderFault::Memory),
         };
-        let _count = count_of(&load);
-        let plan = match plan_of(self.alloc, &load, path) {
+        let plan = match plan_of(self.alloc, load) {
             Ok(plan) => plan,
             Err(AllocError) => return Err(LoaderFault::Memory),
         };
-        self.start(&load, plan)
+        let path = match String::from_str(self.alloc, path) {
+            Ok(path) => path,
+            Err(AllocError) => return Err(LoaderFault::Memory),
+        };
+        self.start(load, plan, path, joined, attached)
+    }
+
+    // A program of a load file begins, once the files of its rows are read.
+    fn join_and_start<F: Files>(
+        &mut self,
+        files: &mut F,
+        load: &LoadFile<'_>,
+        path: &str,
+    ) -> Result<Started, LoaderFault>
+        requires few { length self.old.users < max_users }
+        requires loadable { (file : List ℕ) × IsLoadable file load.now }
+        ensures held { (F.seen files.new).held ≡ (F.seen files.old).held }
+        ensures never_falls { (F.seen files.old).faults ≤ (F.seen files.new).faults }
+        ensures loaded { (more : ℕ) × HasLoadedRows (F.seen files.old).held self.old path.now load.now result self.new (F.seen files.old).faults (F.seen files.new).faults more
+            × ((F.seen files.new).asked ≡ risen more (F.seen files.old).asked) }
+    {
+        if self.users.len() + 1 + load.paths() as usize > MAX_USERS {
+            return Err(LoaderFault::TooManyUsers);
+        }
+        let joined = match join_all(self.alloc, files, load) {
+            Ok(joined) => joined,
+            Err(fault) => return Err(fault),
+        };
+        match lost(load, &joined) {
+            Some(fault) => return Err(LoaderFault::BadFile(fault)),
+            None => {}
+        }
+        self.plan_and_start(load, path, joined)
+    }
+
+    // A program of a file begins, if it is a load file.
+    fn begin<F: Files>(
+        &mut self,
+        files: &mut F,
+        file: &[u8],
+        path: &str,
+    ) -> Result<Started, LoaderFault>
+        requires few { length self.old.users < max_users }
+        requires short { length file.now < 2 ^ 32 }
+        ensures held { (F.seen files.new).held ≡ (F.seen files.old).held }
+        ensures never_falls { (F.seen files.old).faults ≤ (F.seen files.new).faults }
+        ensures loaded { (more : ℕ) × HasLoadedFile (F.seen files.old).held self.old path.now file.now result self.new (F.seen files.old).faults (F.seen files.new).faults more
+            × ((F.seen files.new).asked ≡ risen more (F.seen files.old).asked) }
+    {
+        let load = match load_of(self.alloc, file, false) {
+            Ok(load) => load,
+            Err(fault) => return Err(fault),
+        };
+        self.join_and_start(files, &load, path)
     }
 
     // A program of the file at a path begins.
@@ -196,40 +346,36 @@ impl Loader {
     ) -> Result<Started, LoaderFault>
         ensures held { (F.seen files.new).held ≡ (F.seen files.old).held }
         ensures never_falls { (F.seen files.old).faults ≤ (F.seen files.new).faults }
-        ensures asked { length self.old.users < max_users → (F.seen files.new).asked ≡ one_more (F.seen files.old).asked }
-        ensures unasked { max_users ≤ length self.old.users → (F.seen files.new).asked ≡ (F.seen files.old).asked }
-        ensures loaded { HasLoaded (F.seen files.old).held self.old path.now result self.new (F.seen files.old).faults (F.seen files.new).faults }
+        ensures loaded { (reads : ℕ) × HasLoaded (F.seen files.old).held self.old path.now result self.new (F.seen files.old).faults (F.seen files.new).faults reads
+            × ((F.seen files.new).asked ≡ risen reads (F.seen files.old).asked) }
     {
         if self.users.len() >= MAX_USERS {
             return Err(LoaderFault::TooManyUsers);
         }
-        let bytes = match files.read(self.alloc, path) {
+        let bytes = match read_file(self.alloc, files, path) {
             Ok(bytes) => bytes,
-            Err(ReadFault::Absent) => return Err(LoaderFault::CannotRead),
-            Err(ReadFault::TooLong) => return Err(LoaderFault::CannotRead),
-            Err(ReadFault::Failed) => return Err(LoaderFault::CannotRead),
-            Err(ReadFault::Memory) => return Err(LoaderFault::Memory),
+            Err(fault) => return Err(fault),
         };
-        self.begin(&bytes, path)
+        self.begin(files, &bytes, path)
     }
 
-    /// Loads a program: the static segments of a load file are placed, all or none, and are active then. The file is read
-    /// once, and not at all where 255 users were made. A file with a pathname segment is refused as unsupported, at the number of
-    /// that segment and place 0.
+    /// Loads a program: the static segments of a load file are placed, all or none, and are active then. The files of its rows are
+    /// read behind it, in order, before anything is placed: each is a run-time library file, and a user of its own that is attached to
+    /// the program, none of whose segments is there. No file is read where 255 users were made, and no row's where there is no place
+    /// for its user.
     pub fn load<F: Files>(&mut self, files: &mut F, path: &str) -> Result<Started, LoaderFault>
         ensures held { (F.seen files.new).held ≡ (F.seen files.old).held }
         ensures never_falls { (F.seen files.old).faults ≤ (F.seen files.new).faults }
-        ensures asked { length self.old.users < max_users → (F.seen files.new).asked ≡ one_more (F.seen files.old).asked }
-        ensures unasked { max_users ≤ length self.old.users → (F.seen files.new).asked ≡ (F.seen files.old).asked }
 
         // Over files that are told, and with which the loader agrees, it is the machine's step, and reads what that needs.
         ensures meets { (held : FileMap) (state : Machine) → (F.seen files.old).held ≡ Some held → Agrees held self.old state
             → Meets Purges held state (Load path.now) (load_reply result) self.new (F.seen files.old).faults (F.seen files.new).faults }
         ensures needed { (held : FileMap) (state : Machine) → (F.seen files.old).held ≡ Some held → Agrees held self.old state
-            → ReadsNeeded held state (Load path.now) (F.seen files.old).asked (F.seen files.new).asked }
+            → MeetsReads Purges held state (Load path.now) (load_reply result) self.new (F.seen files.old) (F.seen files.new) }
 
-        // And so much is true of it over any files.
-        ensures loaded { HasLoaded (F.seen files.old).held self.old path.now result self.new (F.seen files.old).faults (F.seen files.new).faults }
+        // And so much is true of it over any files, with how many of them were read.
+        ensures loaded { (reads : ℕ) × HasLoaded (F.seen files.old).held self.old path.now result self.new (F.seen files.old).faults (F.seen files.new).faults reads
+            × ((F.seen files.new).asked ≡ risen reads (F.seen files.old).asked) }
     {
         self.is_sound();
         self.read_and_begin(files, path)

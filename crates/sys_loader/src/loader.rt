@@ -8,11 +8,11 @@ ghost use Rattle.iigs_meaning.specs.Puts.{Purges};
 ghost use Rattle.iigs_meaning.specs.Slots.{slot_at};
 ghost use Rattle.iigs_meaning.specs.Fits.{HoldsByte};
 ghost use Rattle.iigs_meaning.specs.Blocks.{AreApart};
-ghost use Rattle.loader_machine.specs.State.{user_of, Machine, empty_of};
+ghost use Rattle.loader_machine.specs.State.{user_of, is_attached, led_by, Machine, empty_of};
 ghost use Rattle.loader_machine.specs.Refusals.{bytes_refusal, info_refusal};
 ghost use Rattle.loader_machine.specs.Commands as commands;
 ghost use Rattle.loader_machine.specs.Commands.{Bytes, Shown, Refused};
-ghost use Rattle.loader_agrees.specs.Agrees.{Loaded, seen_in, seen_by, IsSound, Agrees, Met};
+ghost use Rattle.loader_agrees.specs.Agrees.{Loaded, kept_outlines, seen_in, seen_by, IsSound, Agrees, Met};
 ghost use Rattle.loader_agrees.specs.Acts.{CanRead, HasLent, HasTold, LiesIn};
 ghost use Rattle.loader_agrees.specs.laws.Checks.{PassesRunning, StopsRunning};
 ghost use Rattle.sys_loader.specs.View.{kept};
@@ -23,6 +23,7 @@ use crate::answers::{Entered, Info};
 use crate::lying::{owner_of, search_owner};
 use crate::memory::{active, presence, slice};
 use crate::user::User;
+use crate::users::holder_of;
 use iigs_meaning::{BanksFault, BlockFault, Handle};
 use iigs_memory::Banks;
 use loader_machine::{Life, LoaderFault};
@@ -114,6 +115,28 @@ impl Loader {
             Some(Some(user)) => Some(user),
             Some(None) => None,
             None => None,
+        }
+    }
+
+    // The user whose tables lead to the segments of the user of an ID, and the file number by which they do.
+    pub(crate) fn led_by(&self, id: u16) -> (u16, u16)
+        ensures { result ≡ led_by (kept_outlines self.now.users) id }
+    {
+        self.is_sound();
+        match holder_of(&self.users, id) {
+            Some(lead) => lead,
+            None => (id, 1),
+        }
+    }
+
+    // The user of an ID is attached to another.
+    pub(crate) fn is_attached(&self, id: u16) -> bool
+        ensures { result ≡ is_attached (kept_outlines self.now.users) id }
+    {
+        self.is_sound();
+        match holder_of(&self.users, id) {
+            Some(_) => true,
+            None => false,
         }
     }
 

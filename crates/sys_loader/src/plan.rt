@@ -13,7 +13,6 @@ use std::alloc::{AllocError, Global};
 /// What a program needs beside its blocks.
 #[derive(Drop)]
 pub struct Plan {
-    pub path: String,
     /// The segments, none of which has a handle.
     pub segments: Vec<Segment>,
     /// What the static ones ask of their places, in order.
@@ -35,10 +34,9 @@ fn no_handles(alloc: Global, count: usize) -> Result<Vec<Handle>, AllocError>
 }
 
 /// What a program of this load file needs.
-pub fn plan_of(alloc: Global, load: &LoadFile<'_>, path: &str) -> Result<Plan, AllocError>
-    ensures { IfOk result (IsPlan path.now load.now) }
+pub fn plan_of(alloc: Global, load: &LoadFile<'_>) -> Result<Plan, AllocError>
+    ensures { IfOk result (IsPlan load.now) }
 {
-    let path = String::from_str(alloc, path)?;
     let segments = segments_of(alloc, load)?;
     let wants = wants_of(alloc, &segments)?;
     let handles = no_handles(alloc, wants.len())?;
@@ -47,7 +45,6 @@ pub fn plan_of(alloc: Global, load: &LoadFile<'_>, path: &str) -> Result<Plan, A
         Err(PlacesFault::Memory) => return Err(AllocError),
     };
     Ok(Plan {
-        path,
         segments,
         wants,
         handles,

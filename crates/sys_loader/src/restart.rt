@@ -3,24 +3,25 @@
 ghost use Rattle.std.specs.Prelude.{◌≡◌, ◌<◌, ◌≤◌, ◌^◌, ℕ, List, Option, Some, None, IsSome, length, map, true, false, not, ◌&&◌, ◌||◌, All, IfOk, IfErr, OnOk, OnErr};
 ghost use Rattle.omf_io.specs.Counts.{one_more};
 ghost use Rattle.omf_io.specs.Files.{FileMap};
-ghost use Rattle.loader_machine.specs.Taken.{IsTaken};
+ghost use Rattle.load_meaning.specs.Loadable.{IsLoadable};
 ghost use Rattle.iigs_meaning.specs.Fits.{IsWant};
 ghost use Rattle.iigs_meaning.specs.Puts.{Purges};
 ghost use Rattle.iigs_meaning.specs.Memory.{AreAllPlaced};
 ghost use Rattle.loader_machine.specs.Heads.{head_of, wants_of};
 ghost use Rattle.loader_machine.specs.Heads as heads;
-ghost use Rattle.loader_machine.specs.State.{Machine, user_of};
+ghost use Rattle.loader_machine.specs.State.{Machine, user_of, is_attached};
 ghost use Rattle.loader_machine.specs.Presences as presences;
 ghost use Rattle.loader_machine.specs.Refusals.{restart_refusal};
 ghost use Rattle.loader_machine.specs.Steps as steps;
+ghost use Rattle.loader_machine.specs.Steps.{lost_refusal};
 ghost use Rattle.loader_machine.specs.Needs as needs;
 ghost use Rattle.loader_machine.specs.Commands.{Restart};
-ghost use Rattle.loader_agrees.specs.Agrees.{Kept, Agrees, Meets, ReadsNeeded, seen_by};
+ghost use Rattle.loader_agrees.specs.Agrees.{Kept, Agrees, Meets, ReadsNeeded, kept_outlines, seen_by};
 ghost use Rattle.sys_loader.specs.View.{kept};
 ghost use Rattle.sys_loader.specs.Filling.{AreSound, AreReady, AreFilled};
 ghost use Rattle.sys_loader.specs.Calls.{IsPlan, IsBeginRefusal};
 ghost use Rattle.sys_loader.specs.Replies.{load_reply};
-ghost use Rattle.sys_loader.specs.Restarting.{CanRestart, is_whole, restart_reads, HasResumed, released_memory, HasBegunAnew, IsAgainRefusal, DidRestart, AreActivated, HasReloaded, HasBegunFrom};
+ghost use Rattle.sys_loader.specs.Restarting.{CanRestart, is_whole, restart_reads, HasResumed, released_memory, HasBegunAnew, IsAgainRefusal, DidRestart, AreActivated, HasReloaded, HasBegunFrom, IsOtherFile, kept_heads};
 ghost use Rattle.sys_loader.specs.Restarting as restarting;
 
 use crate::answers::Started;
@@ -28,14 +29,16 @@ use crate::compare::compare;
 use crate::dynamic::places_of;
 use crate::fill::fill_block;
 use crate::head::{is_read_again, is_static};
-use crate::load::{count_of, settle, take_load};
+use crate::load::{count_of, settle};
 use crate::loader::Loader;
+use crate::lost::lost_in;
 use crate::memory::presence;
 use crate::place::{entry_of, number_of, set_places};
 use crate::plan::{Plan, plan_of};
+use crate::reading::load_of;
 use crate::turn::activate;
 use crate::user::{Segment, User};
-use crate::users::{set_life, set_user, user_in};
+use crate::users::{set_life, set_lives, set_segments, user_in};
 use iigs_meaning::{Handle, PlaceFault, Want};
 use iigs_memory::Banks;
 use loader_machine::{Life, LoaderFault, Presence};
@@ -178,11 +181,15 @@ fn place_all_anew(
 }
 
 impl Loader {
-    // Whether the ID has a user that is dormant.
+    // Whether the ID has a user that is dormant, which is attached to none.
     fn dormant(&self, user: u16) -> Result<&User, LoaderFault>
         ensures ok { IfOk result (λ found. CanRestart self.now user (kept found.now)) }
-        ensures err { IfErr result (λ fault. restart_refusal (seen_by self.now user) ≡ Some fault) }
+        ensures err { IfErr result (λ fault. restart_refusal (is_attached (kept_outlines self.now.users) user) (seen_by self.now user) ≡ Some fault) }
     {
+        match self.unattached(user) {
+            Ok(()) => {}
+            Err(fault) => return Err(fault),
+        }
         match self.user(user) {
             Some(found) => match found.life {
                 Life::Running => Err(LoaderFault::Running),
@@ -192,9 +199,9 @@ impl Loader {
         }
     }
 
-    // The static segments of a user, all of which are there, become active, and it runs.
+    // The static segments of a user, all of which are there, become active, and it runs, with those attached to it.
     fn resume(&mut self, user: u16) -> Started
-        requires made { IsSome (user_of self.old.users user) }
+        requires can { (k : Kept) × CanRestart self.old user k }
         requires whole { (k : Kept) → user_of self.old.users user ≡ Some k → is_whole self.old k ≡ true }
         ensures { (k : Kept) → user_of self.old.users user ≡ Some k → HasResumed self.old.memory self.old.users user k result self.new }
     {
@@ -203,23 +210,45 @@ impl Loader {
         activate_all(&mut self.banks, &found.segments);
         let entry = entry_of(&self.banks, &found.segments);
         set_life(&mut self.users, user, Life::Running);
+        set_lives(&mut self.users, user, Life::Running);
         Started { user, entry }
     }
 
     // The same of a dormant user once its segments that are read again are as this load file has them.
     fn resume_from(&mut self, load: &LoadFile<'_>, mut places: Places, user: u16) -> Started
-        requires taken { (file : List ℕ) × IsTaken file load.now }
+        requires taken { (file : List ℕ) × IsLoadable file load.now }
         requires room { length places ≡ length load.now }
         requires can { (k : Kept) × CanRestart self.old user k }
         requires whole { (k : Kept) → user_of self.old.users user ≡ Some k → is_whole self.old k ≡ true }
-        requires same { (k : Kept) → user_of self.old.users user ≡ Some k → map head_of load.now ≡ k.heads }
-        ensures { (file : List ℕ) (k : Kept) → IsTaken file load.now → user_of self.old.users user ≡ Some k → HasReloaded file self.old user k result self.new }
+        requires same { (k : Kept) → user_of self.old.users user ≡ Some k
+            → (lost_refusal (kept_heads self.old.users k.attached) load.now ≡ None) × (map head_of load.now ≡ k.heads) }
+        ensures { (file : List ℕ) (k : Kept) → IsLoadable file load.now → user_of self.old.users user ≡ Some k → HasReloaded file self.old user k result self.new }
     {
         self.is_sound();
         let found = user_in(&self.users, user);
         set_places(&self.banks, &found.segments, &mut places);
         fill_again(&mut self.banks, load, &found.segments, &places, user);
         self.resume(user)
+    }
+
+    // The file is the one that was loaded, by its headers, and each entry for another file leads to a segment of an attached user.
+    fn is_same_file(&self, load: &LoadFile<'_>, user: u16) -> Result<(), LoaderFault>
+        requires loadable { (file : List ℕ) × IsLoadable file load.now }
+        requires made { IsSome (user_of self.now.users user) }
+        ensures same { (k : Kept) → user_of self.now.users user ≡ Some k
+            → IfOk result (λ _. (lost_refusal (kept_heads self.now.users k.attached) load.now ≡ None) × (map head_of load.now ≡ k.heads)) }
+        ensures other { (k : Kept) → user_of self.now.users user ≡ Some k → IfErr result (IsOtherFile self.now.users k load.now) }
+    {
+        self.is_sound();
+        let found = user_in(&self.users, user);
+        match lost_in(load, &self.users, &found.attached) {
+            Some(fault) => return Err(LoaderFault::BadFile(fault)),
+            None => {}
+        }
+        match compare(load, &found.segments) {
+            Ok(()) => Ok(()),
+            Err(fault) => Err(fault),
+        }
     }
 
     // The same once they are as a file that was read has them, if it is the one that was loaded.
@@ -232,7 +261,7 @@ impl Loader {
         ensures err { OnErr result (self.new ≡ self.old) }
     {
         self.is_sound();
-        let load = match take_load(self.alloc, file) {
+        let load = match load_of(self.alloc, file, false) {
             Ok(load) => load,
             Err(fault) => return Err(fault),
         };
@@ -241,31 +270,31 @@ impl Loader {
             Ok(places) => places,
             Err(fault) => return Err(fault),
         };
-        let found = user_in(&self.users, user);
-        match compare(&load, &found.segments) {
+        match self.is_same_file(&load, user) {
             Ok(()) => {}
             Err(fault) => return Err(fault),
         }
         Ok(self.resume_from(&load, places, user))
     }
 
-    // A program begins again in new blocks.
+    // A program begins again in new blocks, and those attached to it run.
     fn begin_anew(
         &mut self,
         load: &LoadFile<'_>,
         plan: Plan,
         user: u16,
     ) -> Result<Started, LoaderFault>
-        requires made { IsSome (user_of self.old.users user) }
-        requires taken { (file : List ℕ) × IsTaken file load.now }
+        requires can { (k : Kept) × CanRestart self.old user k }
+        requires taken { (file : List ℕ) × IsLoadable file load.now }
+        requires same { (k : Kept) → user_of self.old.users user ≡ Some k
+            → (lost_refusal (kept_heads self.old.users k.attached) load.now ≡ None) × (map head_of load.now ≡ k.heads) }
         requires short { length load.now < 2 ^ 16 }
-        requires plan { (k : Kept) → user_of self.old.users user ≡ Some k → IsPlan k.path load.now plan }
+        requires plan { IsPlan load.now plan }
         ensures begun { (k : Kept) → user_of self.old.users user ≡ Some k → IfOk result (λ started. HasBegunAnew self.old user k load.now started self.new) }
         ensures refused { IfErr result (IsBeginRefusal (released_memory self.old.memory user) user (map head_of load.now)) }
         ensures err { OnErr result (self.new ≡ self.old) }
     {
         let Plan {
-            path,
             mut segments,
             wants,
             mut handles,
@@ -290,39 +319,31 @@ impl Loader {
             user,
         );
         let entry = entry_of(&self.banks, &segments);
-        set_user(
-            &mut self.users,
-            user,
-            User {
-                path,
-                life: Life::Running,
-                segments,
-            },
-        );
+        set_segments(&mut self.users, user, segments);
+        set_lives(&mut self.users, user, Life::Running);
         Ok(Started { user, entry })
     }
 
     // The same of a file that was read, if it is the one that was loaded.
     fn start_anew(&mut self, file: &[u8], user: u16) -> Result<Started, LoaderFault>
         requires short { length file.now < 2 ^ 32 }
-        requires made { IsSome (user_of self.old.users user) }
+        requires can { (k : Kept) × CanRestart self.old user k }
         requires gone { (k : Kept) → user_of self.old.users user ≡ Some k → is_whole self.old k ≡ false }
         ensures begun { (k : Kept) → user_of self.old.users user ≡ Some k → IfOk result (λ started. HasBegunFrom file.now self.old user k started self.new) }
         ensures refused { (k : Kept) → user_of self.old.users user ≡ Some k → IfErr result (IsAgainRefusal file.now self.old user k) }
         ensures err { OnErr result (self.new ≡ self.old) }
     {
         self.is_sound();
-        let load = match take_load(self.alloc, file) {
+        let load = match load_of(self.alloc, file, false) {
             Ok(load) => load,
             Err(fault) => return Err(fault),
         };
         let _count = count_of(&load);
-        let found = user_in(&self.users, user);
-        match compare(&load, &found.segments) {
+        match self.is_same_file(&load, user) {
             Ok(()) => {}
             Err(fault) => return Err(fault),
         }
-        let plan = match plan_of(self.alloc, &load, &found.path) {
+        let plan = match plan_of(self.alloc, &load) {
             Ok(plan) => plan,
             Err(AllocError) => return Err(LoaderFault::Memory),
         };
@@ -363,10 +384,10 @@ impl Loader {
     fn restart_user<F: Files>(&mut self, files: &mut F, user: u16) -> Result<Started, LoaderFault>
         ensures held { (F.seen files.new).held ≡ (F.seen files.old).held }
         ensures never_falls { (F.seen files.old).faults ≤ (F.seen files.new).faults }
-        ensures asked { restart_refusal (seen_by self.old user) ≡ None → restart_reads self.old user ≡ true
+        ensures asked { restart_refusal (is_attached (kept_outlines self.old.users) user) (seen_by self.old user) ≡ None → restart_reads self.old user ≡ true
             → (F.seen files.new).asked ≡ one_more (F.seen files.old).asked }
         ensures unasked { restart_reads self.old user ≡ false → (F.seen files.new).asked ≡ (F.seen files.old).asked }
-        ensures refused_unasked { IsSome (restart_refusal (seen_by self.old user)) → (F.seen files.new).asked ≡ (F.seen files.old).asked }
+        ensures refused_unasked { IsSome (restart_refusal (is_attached (kept_outlines self.old.users) user) (seen_by self.old user)) → (F.seen files.new).asked ≡ (F.seen files.old).asked }
         ensures did { DidRestart (F.seen files.old).held self.old user result self.new (F.seen files.old).faults (F.seen files.new).faults }
     {
         let found = match self.dormant(user) {
@@ -381,7 +402,8 @@ impl Loader {
         }
     }
 
-    /// Restarts a dormant user. Where all its static segments are there it runs in place: they become active, with their pokes, but
+    /// Restarts a dormant user, and with it the users that are attached to it, whose segments stay as they are; one of these can't be
+    /// restarted by itself. Where all its static segments are there it runs in place: they become active, with their pokes, but
     /// those with the reload attribute are read again; idle dynamic ones stay idle. Else all its handles are released, and its file,
     /// which must be the one that was loaded, begins as at a load, under the same ID.
     pub fn restart<F: Files>(&mut self, files: &mut F, user: u16) -> Result<Started, LoaderFault>
@@ -389,16 +411,16 @@ impl Loader {
         ensures never_falls { (F.seen files.old).faults ≤ (F.seen files.new).faults }
 
         // The file is read once where the user is dormant, and a static segment isn't there or is read again, and else not at all.
-        ensures asked { restart_refusal (seen_by self.old user) ≡ None → restart_reads self.old user ≡ true
+        ensures asked { restart_refusal (is_attached (kept_outlines self.old.users) user) (seen_by self.old user) ≡ None → restart_reads self.old user ≡ true
             → (F.seen files.new).asked ≡ one_more (F.seen files.old).asked }
         ensures unasked { restart_reads self.old user ≡ false → (F.seen files.new).asked ≡ (F.seen files.old).asked }
-        ensures refused_unasked { IsSome (restart_refusal (seen_by self.old user)) → (F.seen files.new).asked ≡ (F.seen files.old).asked }
+        ensures refused_unasked { IsSome (restart_refusal (is_attached (kept_outlines self.old.users) user) (seen_by self.old user)) → (F.seen files.new).asked ≡ (F.seen files.old).asked }
 
         // Over files that are told, and with which the loader agrees, it is the machine's step, and reads what that needs.
         ensures meets { (held : FileMap) (state : Machine) → (F.seen files.old).held ≡ Some held → Agrees held self.old state
             → Meets Purges held state (Restart user) (load_reply result) self.new (F.seen files.old).faults (F.seen files.new).faults }
         ensures needed { (held : FileMap) (state : Machine) → (F.seen files.old).held ≡ Some held → Agrees held self.old state
-            → ReadsNeeded held state (Restart user) (F.seen files.old).asked (F.seen files.new).asked }
+            → ReadsNeeded held state (Restart user) 0 (F.seen files.old).asked (F.seen files.new).asked }
 
         // And so much is true of it over any files.
         ensures did { DidRestart (F.seen files.old).held self.old user result self.new (F.seen files.old).faults (F.seen files.new).faults }

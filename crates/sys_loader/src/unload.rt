@@ -51,14 +51,15 @@ impl Loader {
             Ok(h) => h,
             Err(fault) => return Err(fault),
         };
-        let found = user_in(&self.users, user);
-        renew_tables(&mut self.banks, &found.segments, Some((1, segment)), None);
+        let (owner, file) = self.led_by(user);
+        let lead = user_in(&self.users, owner);
+        renew_tables(&mut self.banks, &lead.segments, Some((file, segment)), None);
         idle(&mut self.banks, h);
         Ok(())
     }
 
-    /// Lets an active dynamic segment of a user that runs go: it is idle then, and can be purged. The entries of the user's jump
-    /// table for it call the loader again. It takes no memory.
+    /// Lets an active dynamic segment of a user that runs go: it is idle then, and can be purged. The entries for it, of the user's
+    /// jump table or of that of the user to which it is attached, call the loader again. It takes no memory.
     pub fn unload_segment(&mut self, user: u16, segment: u16) -> Result<(), LoaderFault>
         // Over files with which the loader agrees, it is the machine's step.
         ensures meets { (held : FileMap) (state : Machine) → Agrees held self.old state

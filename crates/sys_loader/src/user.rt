@@ -27,6 +27,8 @@ pub struct User {
     pub life: Life,
     /// In the order of the file.
     pub segments: Vec<Segment>,
+    /// The IDs of the users that are attached to it, in the order of its file's rows.
+    pub attached: Vec<u16>,
 }
 
 impl User {

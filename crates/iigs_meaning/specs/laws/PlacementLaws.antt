@@ -28,7 +28,7 @@ purges_once = record {
 }
 
 -- a property that no least number has, no number has
-no_number : (P : ℕ → Type 0) → ((n : ℕ) → P n → ((fewer : ℕ) → fewer < n → ¬ P fewer) → ⊥) → (limit n : ℕ) → n < limit → ¬ P n
+pub no_number : (P : ℕ → Type 0) → ((n : ℕ) → P n → ((fewer : ℕ) → fewer < n → ¬ P fewer) → ⊥) → (limit n : ℕ) → n < limit → ¬ P n
 no_number P none zero n less here = omega arith
 no_number P none (suc limit) n less here = none n here (λ fewer lower. no_number P none limit fewer (omega arith))
 

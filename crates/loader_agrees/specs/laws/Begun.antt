@@ -1,10 +1,10 @@
 -- A loader after a program was loaded.
-use Rattle.std.proofs.Common.{◌≡◌, ◌⊎◌, inl, inr, ℕ, zero, suc, Bool, true, false, cond, ◌==◌, ◌+◌, ◌<◌, ◌≤◌, List, [], ◌∷◌, ◌++◌, length, map, Option, Some, None, IsSome, nat_lt, refl, sym, ap, subst, ◌∙◌, arith}
+use Rattle.std.proofs.Common.{◌≡◌, ◌⊎◌, inl, inr, ℕ, zero, suc, Bool, true, false, cond, ◌==◌, ◌+◌, ◌<◌, ◌≤◌, List, [], ◌∷◌, length, map, Option, Some, None, IsSome, nat_lt, refl, sym, ap, subst, ◌∙◌, arith}
 use Rattle.std.specs.Prelude.{slice_get, slice_set, option_map, position, not, ◌&&◌}
 use Rattle.std.specs.List.{prefix_len}
 use Rattle.std.specs.Option.{option_map_or, option_and_then}
-use Rattle.std.proofs.lemmas.Option.{same_Some, slice_get_within}
-use Rattle.std.proofs.lemmas.List.{get_or-set_same, length-map, length-append}
+use Rattle.std.proofs.lemmas.Option.{same_Some}
+use Rattle.std.proofs.lemmas.List.{get_or-set_same, length-map}
 use Rattle.std.proofs.lemmas.List.Quantifiers.{position-Some}
 use Rattle.std.proofs.lemmas.Bool.Decides.{nat_tests}
 use Rattle.omf_format.specs.File.{Segment, segment_at}
@@ -32,7 +32,7 @@ use Rattle.loader_machine.specs.laws.StandsLaws.{AreAlike, stands_alike}
 use Rattle.load_meaning.specs.laws.CellLaws.{loadable_has}
 use Rattle.loader_agrees.specs.Agrees.{Kept, Loaded, UserAgrees, IsSound}
 use Rattle.loader_agrees.specs.laws.Frame.{Keeps, Same, Gone, agrees_still}
-use Rattle.loader_agrees.specs.Acts.{HasPlaced, IsAdded, HasBegun, started_kept}
+use Rattle.loader_agrees.specs.Acts.{HasPlaced, started_kept}
 use Rattle.loader_agrees.specs.laws.Lists.{number_map}
 use Rattle.loader_agrees.specs.laws.Seeing.{has_any}
 use Rattle.loader_agrees.specs.laws.Stay.{Stays, placement_keeps, all_stay, slot_map}
@@ -114,22 +114,22 @@ locked_stays old new h block stays is locked = elim (stays block is) [
 ]
 
 -- a new handle's block
-pub puts_here : (banks : List ℕ) (slots next : Slots) (want : Want) (user : ℕ) (locked : Bool) (level : ℕ) (h : Handle) → (puts : Puts Purges banks slots want user locked level h next)
-    → get next h ≡ Some (placed want puts.address user locked level)
+pub puts_here : (banks : List ℕ) (slots next : Slots) (want : Want) (user : ℕ) (locked : Bool) (level : ℕ) (h : Handle) → (puts : Puts Purges banks slots want user locked level false h next)
+    → get next h ≡ Some (placed want puts.address user locked level false)
 puts_here banks slots next want user locked level h puts =
-    ap (λ (t : Slots). get t h) (puts.next_is ∙ ap (λ (room : Slots). after_take room (placed want puts.address user locked level)) puts.makes.room_is)
-    ∙ put_here slots puts.makes.count (placed want puts.address user locked level) h puts.handle
+    ap (λ (t : Slots). get t h) (puts.next_is ∙ ap (λ (room : Slots). after_take room (placed want puts.address user locked level false)) puts.makes.room_is)
+    ∙ put_here slots puts.makes.count (placed want puts.address user locked level false) h puts.handle
 
 -- each new handle is of a block of its want, locked with level 0
 pub all_placed : (banks : List ℕ) (user : ℕ) (slots last : Slots) (wants : List Want) (hs : List Handle) → PutsAll Purges banks user slots wants hs last → (i : ℕ) (h : Handle) → slice_get hs i ≡ Some h
-    → (want : Want) × (address : ℕ) × (slice_get wants i ≡ Some want) × (get last h ≡ Some (placed want address user true 0))
+    → (want : Want) × (address : ℕ) × (slice_get wants i ≡ Some want) × (get last h ≡ Some (placed want address user true 0 false))
 all_placed banks user slots last [] [] all i h is = absurd cc
 all_placed banks user slots last [] (k ∷ hs) all i h is = absurd all
 all_placed banks user slots last (want ∷ wants) [] all i h is = absurd all
 all_placed banks user slots last (want ∷ wants) (k ∷ hs) all zero h is =
     let handle : k ≡ h = same_Some k h is in
     let puts = all.1 in
-    let value = placed want puts.address user true 0 in
+    let value = placed want puts.address user true 0 false in
     let here = puts_here banks slots all.0 want user true 0 k puts in
     let there = locked_stays all.0 last k value (all_stay banks user all.0 last wants hs k all.2) here refl in
     (want, puts.address, refl, ap (get last) (sym handle) ∙ there)
@@ -199,12 +199,6 @@ spread_static (g ∷ heads) (h ∷ hs) long (suc k) f is static = elim (decide (
   | inr other ↦ one_passed g heads h hs k other (spread_static heads (h ∷ hs) (long ∙ wants_pass g heads other) k f is static)
 ]
 
-pub slice_push : {X : Type 0} (xs : List X) (x : X) (k : ℕ) (y : X) → slice_get (xs ++ x ∷ []) k ≡ Some y → (slice_get xs k ≡ Some y) ⊎ ((k ≡ length xs) × (y ≡ x))
-slice_push [] x zero y is = inr (refl, cc)
-slice_push [] x (suc k) y is = absurd cc
-slice_push (z ∷ xs) x zero y is = inl is
-slice_push (z ∷ xs) x (suc k) y is = elim (slice_push xs x k y is) [ inl was ↦ inl was | inr last ↦ inr (ap (λ (n : ℕ). suc n) last.0, last.1) ]
-
 -- ---- agreement
 
 -- a user more may be made
@@ -220,45 +214,6 @@ begun_keeps old new path segments id entry begun h live = elim (placement_keeps 
       (λ there. begun.stay h live ∙ bytes (subst (λ (t : Slots). IsSome (there_at (presence t (Some h)))) begun.slots there))
   | Gone block was can gone ↦ Gone block was can (ap (λ (t : Slots). get t h) begun.slots ∙ gone)
 ]
-
--- what a load placed, and the user that it added
-abbrev pub as_placed : (old new : Loaded) (path : List ℕ) (segments : List Segment) (id : ℕ) (entry : Option ℕ) → HasBegun old path segments id entry new → HasPlaced old.memory path segments id entry new.memory
-as_placed old new path segments id entry begun = record {
-  short = begun.short;
-  handles = begun.handles;
-  middle = begun.middle;
-  placed = begun.placed;
-  banks = begun.banks;
-  slots = begun.slots;
-  entry_is = begun.entry_is;
-  stay = begun.stay;
-  begins = begun.begins;
-  sizes = begun.sizes;
-}
-
-push_old : {X : Type 0} (xs : List X) (x y : X) (k : ℕ) → slice_get xs k ≡ Some y → slice_get (xs ++ x ∷ []) k ≡ Some y
-push_old [] x y k is = absurd cc
-push_old (z ∷ xs) x y zero is = is
-push_old (z ∷ xs) x y (suc k) is = push_old xs x y k is
-
-push_new : {X : Type 0} (xs : List X) (x : X) → slice_get (xs ++ x ∷ []) (length xs) ≡ Some x
-push_new [] x = refl
-push_new (z ∷ xs) x = push_new xs x
-
-pub as_added : (old new : Loaded) (path : List ℕ) (segments : List Segment) (id : ℕ) (entry : Option ℕ) → (begun : HasBegun old path segments id entry new)
-    → IsAdded old.users (length old.users) (started_kept path (map head_of segments) begun.handles) new.users
-as_added old new path segments id entry begun = subst (IsAdded old.users (length old.users) its) (sym begun.users) (record {
-  few = omega (arith, begun.few, length-append old.users (Some its ∷ []));
-  here = push_new old.users (Some its);
-  which = λ p k made. elim (slice_push old.users (Some its) p (Some k) made) [
-    | inl was ↦ let within = slice_get_within old.users p (Some k) was in inl ((λ e. omega (arith, e, within)), was)
-    | inr last ↦ inr (last.0, same_Some k its last.1)
-  ];
-  stay = λ p k was. push_old old.users (Some its) (Some k) p was;
-})
-  where
-    its : Kept
-    its = started_kept path (map head_of segments) begun.handles
 
 module _ (held : FileMap) (old new : Loaded) (path : List ℕ) (segments : List Segment) (id : ℕ) (entry : Option ℕ) (sound : IsSound old.memory old.users)
     (begun : HasPlaced old.memory path segments id entry new.memory) (holds : HoldsLoad held path segments) (ids : List ℕ) where
@@ -302,7 +257,7 @@ module _ (held : FileMap) (old new : Loaded) (path : List ℕ) (segments : List 
           target = λ table m t is dynamic loaded. refl;
           far = λ table file m above. far_none file m above;
         } in
-        let same = stands_alike segments n s (loadable_has holds.file segments holds.taken.loadable n s found) (setting id new.memory.slots kept.handles) (setting_with far id new.memory.slots kept.handles) alike no_pokes in
+        let same = stands_alike segments n s (loadable_has holds.file segments holds.loadable n s found) (setting id new.memory.slots kept.handles) (setting_with far id new.memory.slots kept.handles) alike no_pokes in
         rw (no_poke n, ← same) (begun.begins n s h found has);
   }
     where

@@ -15,21 +15,16 @@ use Rattle.iigs_meaning.specs.Memory.{bytes_at}
 use Rattle.loader_machine.specs.declared.seen.Head.{Head}
 use Rattle.loader_machine.specs.declared.seen.Life.TheVariants.{Running, Dormant}
 use Rattle.loader_machine.specs.Heads.{head_of, at_number, is_static, is_stack, is_table, stack_want, plain_want, want_of, wants_of}
-use Rattle.loader_machine.specs.State.{Held, first_id, user_of}
+use Rattle.loader_machine.specs.State.{Held, first_id}
 use Rattle.loader_machine.specs.Presences.{handle_at, presence, presence_at, is_active}
-use Rattle.loader_machine.specs.Stands.{setting}
-use Rattle.loader_machine.specs.Taken.{IsTaken}
 use Rattle.loader_machine.specs.Steps.{spread}
-use Rattle.loader_agrees.specs.Agrees.{Kept, Loaded, AreBare, AreAttached, IsCall, IsOf, Has, IsSound}
-use Rattle.loader_agrees.specs.laws.Joining.{attached_more, call_stays}
-use Rattle.loader_agrees.specs.laws.BegunRows.{user_there}
-use Rattle.loader_agrees.specs.laws.EntryReads.{own_call}
-use Rattle.loader_agrees.specs.laws.Reads.{headed}
+use Rattle.loader_agrees.specs.Agrees.{Kept, Loaded, AreAttached, IsCall, IsOf, Has, IsSound}
+use Rattle.loader_agrees.specs.laws.Joining.{call_stays}
 use Rattle.load_meaning.specs.LoadTable.{target_at, entry_count}
-use Rattle.loader_agrees.specs.Acts.{HasPlaced, IsAdded, HasBegun, started_kept}
+use Rattle.loader_agrees.specs.Acts.{HasPlaced, IsAdded, started_kept}
 use Rattle.loader_agrees.specs.laws.Stay.{put_stays, put_apart, still_live}
 use Rattle.loader_agrees.specs.laws.Slotted.{in_put}
-use Rattle.loader_agrees.specs.laws.Begun.{puts_here, all_placed, all_active, all_length, spread_length, spread_static, decide, begun_keeps, as_placed, as_added}
+use Rattle.loader_agrees.specs.laws.Begun.{puts_here, all_placed, all_active, all_length, spread_length, spread_static, decide, begun_keeps}
 use Rattle.loader_agrees.specs.laws.Keeping.{AllKept, of_kept, statics_kept, rests_kept, calls_kept}
 
 -- ---- handles of one placement
@@ -48,7 +43,7 @@ rest_apart banks user slots last (want ∷ wants) (x ∷ hs) all h live (suc j) 
 abbrev pub AreDistinct : List Handle → Type 0
 AreDistinct hs = (i j : ℕ) (h k : Handle) → slice_get hs i ≡ Some h → slice_get hs j ≡ Some k → h.slot ≡ k.slot → i ≡ j
 
-new_live : (banks : List ℕ) (user : ℕ) (slots next : Slots) (want : Want) (h : Handle) → Puts Purges banks slots want user true 0 h next → IsSome (get next h)
+new_live : (banks : List ℕ) (user : ℕ) (slots next : Slots) (want : Want) (h : Handle) → Puts Purges banks slots want user true 0 false h next → IsSome (get next h)
 new_live banks user slots next want h puts = rw (puts_here banks slots next want user true 0 h puts) refl
 
 pub all_distinct : (banks : List ℕ) (user : ℕ) (slots last : Slots) (wants : List Want) (hs : List Handle) → PutsAll Purges banks user slots wants hs last → AreDistinct hs
@@ -190,7 +185,7 @@ want_size head = elim (decide (is_stack head)) [ inl stack ↦ rw stack (grind a
 
 module _ (old new : Loaded) (path : List ℕ) (segments : List Segment) (id : ℕ) (entry : Option ℕ) (sound : IsSound old.memory old.users) (begun : HasPlaced old.memory path segments id entry new.memory)
     (ids : List ℕ) (its_place : ℕ) (id_is : id ≡ first_id + its_place) (added : IsAdded old.users its_place (record (started_kept path (map head_of segments) begun.handles) { attached = ids }) new.users)
-    (bare : AreBare new.users) (attached : AreAttached new.users)
+    (attached : AreAttached new.users)
     (its_calls : (number k : ℕ) (head : Head) (h : Handle) → at_number (map head_of segments) number ≡ Some head → handle_at (started_kept path (map head_of segments) begun.handles).handles number ≡ Some h
     → is_table head ≡ true → k < entry_count head.length → IsCall new.users id (target_at (bytes_at new.memory h.slot) k)) where
   abbrev heads : List Head
@@ -247,8 +242,8 @@ module _ (old new : Loaded) (path : List ℕ) (segments : List Segment) (id : �
       let want : there.0 ≡ want_of head = same_Some there.0 (want_of head) (sym there.2 ∙ one.2) in
       let zeros : bytes_at begun.middle h.slot ≡ replicate (want_of head).size 0 = begun.placed.zeros one.0 (want_of head) h one.2 one.1 in
       record {
-        block = placed (want_of head) there.1 id true 0;
-        live = ap (λ (t : Slots). get t h) begun.slots ∙ there.3 ∙ ap (λ (w : Want). Some (placed w there.1 id true 0)) want;
+        block = placed (want_of head) there.1 id true 0 false;
+        live = ap (λ (t : Slots). get t h) begun.slots ∙ there.3 ∙ ap (λ (w : Want). Some (placed w there.1 id true 0 false)) want;
         user = refl;
         form = inl (refl, refl);
         want = want_size head;
@@ -344,7 +339,6 @@ module _ (old new : Loaded) (path : List ℕ) (segments : List Segment) (id : �
     each = each;
     once = once;
     only = only;
-    bare = bare;
     attached = attached;
     calls = λ place number k head h has table there inside. elim (which place has.kept has.made) [
       | inl was ↦ call_stays old.users new.users added.stay (first_id + place) _
@@ -353,37 +347,3 @@ module _ (old new : Loaded) (path : List ℕ) (segments : List Segment) (id : �
           (its_calls number k head h (its_head place number head h has last.1) (its_handle place number head h has last.1) table inside)
     ];
   }
-
-module _ (old new : Loaded) (path : List ℕ) (segments : List Segment) (id : ℕ) (entry : Option ℕ) (sound : IsSound old.memory old.users) (begun : HasBegun old path segments id entry new)
-    (file : List ℕ) (taken : IsTaken file segments) where
-  abbrev begun_user : Kept
-  begun_user = started_kept path (map head_of segments) begun.handles
-
-  its_added : IsAdded old.users (length old.users) begun_user new.users
-  its_added = as_added old new path segments id entry begun
-
-  begun_made : user_of new.users id ≡ Some begun_user
-  begun_made = subst (λ (n : ℕ). user_of new.users n ≡ Some begun_user) (sym begun.id_is) (user_there new.users (length old.users) begun_user its_added.here)
-
-  bare_now : AreBare new.users
-  bare_now place kept made = elim (its_added.which place kept made) [
-    | inl was ↦ sound.bare place kept was.1
-    | inr here ↦ ap (λ (k : Kept). k.attached) here.1
-  ]
-
-  attached_now : AreAttached new.users
-  attached_now = attached_more old.users new.users its_added.stay (λ place kept made. elim (its_added.which place kept made) [
-    | inl was ↦ inl was.1
-    | inr here ↦ inr (ap (λ (k : Kept). k.attached) here.1)
-  ]) sound.attached
-
-  calls_begun : (number k : ℕ) (head : Head) (h : Handle) → at_number (map head_of segments) number ≡ Some head → handle_at begun_user.handles number ≡ Some h → is_table head ≡ true → k < entry_count head.length
-      → IsCall new.users id (target_at (bytes_at new.memory h.slot) k)
-  calls_begun number k head h head' handle table inside =
-      let s = headed segments number head head' in
-      own_call file segments taken begun.short new.users id begun_user begun_made refl (setting id new.memory.slots begun_user.handles) number k s.0 (bytes_at new.memory h.slot) s.1
-      (ap is_table s.2 ∙ table) (begun.begins number s.0 h s.1 handle) (omega (arith, inside, ap (λ (x : Head). entry_count x.length) s.2))
-
-  -- after a load the loader is sound
-  pub sound_begun : IsSound new.memory new.users
-  sound_begun = sound_placed old new path segments id entry sound (as_placed old new path segments id entry begun) [] (length old.users) begun.id_is its_added bare_now attached_now calls_begun

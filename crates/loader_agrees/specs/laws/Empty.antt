@@ -28,7 +28,6 @@ sound_empty memory new = record {
   each = λ place number head h has. let made = has.made in absurd cc;
   once = λ place other number n head second h k has has' same. let made = has.made in absurd cc;
   only = λ slot block is user. absurd (no_block memory.slots slot block new is);
-  bare = λ place kept made. absurd cc;
-  attached = record { each = λ place i n kept made is. absurd cc; once = λ place other i j n one two made made' is is'. absurd cc };
+  attached = record { few = λ place kept made. absurd cc; each = λ place i n kept made is. absurd cc; once = λ place other i j n one two made made' is is'. absurd cc };
   calls = λ place number k head h has table there inside. let made = has.made in absurd cc;
 }

@@ -1,5 +1,5 @@
 -- The entries of a jump table in memory, as they are read.
-use Rattle.std.proofs.Common.{◌≡◌, ℕ, zero, suc, Bool, true, cond, ◌+◌, ◌^◌, ◌<◌, ◌≤◌, List, [], ◌∷◌, ◌++◌, length, map, Option, Some, refl, sym, ap, subst, ◌∙◌, arith}
+use Rattle.std.proofs.Common.{◌≡◌, inl, inr, ℕ, zero, suc, Bool, true, cond, ◌+◌, ◌^◌, ◌<◌, ◌≤◌, List, [], ◌∷◌, ◌++◌, length, map, Option, Some, refl, sym, ap, subst, ◌∙◌, arith}
 use Rattle.std.specs.Prelude.{slice_get}
 use Rattle.std.specs.List.{AllByRecursion}
 use Rattle.std.proofs.lemmas.Option.{same_Some, slice_get_within}
@@ -12,16 +12,14 @@ use Rattle.load_meaning.specs.declared.table.Entry.{Entry}
 use Rattle.load_meaning.specs.Cells.{byte_of, cells, segment_bytes}
 use Rattle.load_meaning.specs.Table.{entry_start, table_bytes}
 use Rattle.load_meaning.specs.LoadTable.{is_table, entry_count, target_at, targets_of}
-use Rattle.load_meaning.specs.Loadable.{IsSoundSegment, IsOwnTarget}
+use Rattle.load_meaning.specs.Loadable.{IsLoadable, IsSoundSegment, IsOwnTarget, IsTarget}
 use Rattle.load_meaning.specs.laws.LoadTableLaws.{length-targets_from}
 use Rattle.load_meaning.specs.laws.CellLaws.{loadable_has}
 use Rattle.loader_machine.specs.declared.seen.Head.{Head}
 use Rattle.loader_machine.specs.Heads.{head_of, at_number}
 use Rattle.loader_machine.specs.State.{no_pokes, user_of, named_by}
 use Rattle.loader_machine.specs.Stands.{Setting, entry_for, entries_bytes, read_bytes, stands}
-use Rattle.loader_machine.specs.Taken.{IsTaken}
 use Rattle.loader_machine.specs.laws.PokeLaws.{over_none}
-use Rattle.loader_machine.specs.laws.TakenLaws.{own_targets}
 use Rattle.loader_agrees.specs.Agrees.{Kept, kept_outlines, IsCall}
 use Rattle.loader_agrees.specs.laws.EntryBytes.{file_is, segment_is, offset_is}
 use Rattle.loader_agrees.specs.laws.Lists.{get_inside}
@@ -82,45 +80,55 @@ number_within segments (suc k) s is = let within = slice_get_within segments k s
 
 -- ---- the segment to which an entry of a new user's table leads
 
-module _ (file : List ℕ) (segments : List Segment) (taken : IsTaken file segments) (short : length segments < 2 ^ 16) (users : List (Option Kept)) (id : ℕ) (kept : Kept)
+pub get_all : {X : Type 0} (P : X → Type 0) (xs : List X) (n : ℕ) (x : X) → slice_get xs n ≡ Some x → AllByRecursion P xs → P x
+get_all P [] n x found all = absurd cc
+get_all P (y ∷ xs) zero x found all = subst P (same_Some y x found) all.0
+get_all P (y ∷ xs) (suc n) x found all = get_all P xs n x found all.1
+
+module _ (file : List ℕ) (segments : List Segment) (loadable : IsLoadable file segments) (short : length segments < 2 ^ 16) (users : List (Option Kept)) (id : ℕ) (kept : Kept)
     (made : user_of users id ≡ Some kept) (heads : kept.heads ≡ map head_of segments) (at : Setting) (number k : ℕ) (s : Segment) (bytes : List ℕ) (is : segment_at segments number ≡ Some s) (table : is_table s ≡ true)
-    (front : IsFront (stands at no_pokes s) bytes) (inside : k < entry_count s.fields.length) where
+    (front : IsFront (stands at no_pokes s) bytes) (inside : k < entry_count s.fields.length)
+    (far : (t : Target) → slice_get (targets_of s) k ≡ Some t → 2 ≤ t.file → IsCall users id t × (t.file < 2 ^ 16) × (t.segment < 2 ^ 16)) where
   sound : IsSoundSegment segments number s
-  sound = loadable_has file segments taken.loadable number s is
+  sound = loadable_has file segments loadable number s is
 
   its_target : (t : Target) × (slice_get (targets_of s) k ≡ Some t)
   its_target = get_inside (targets_of s) k (omega (arith, inside, targets_count s))
 
-  own : IsOwnTarget segments its_target.0
-  own = go (targets_of s) k its_target.0 its_target.1 (own_targets segments taken.alone (targets_of s) (sound.table table).targets)
-    where
-      go : (ts : List Target) (n : ℕ) (t : Target) → slice_get ts n ≡ Some t → AllByRecursion (IsOwnTarget segments) ts → IsOwnTarget segments t
-      go [] n t found all = absurd cc
-      go (x ∷ ts) zero t found all = subst (IsOwnTarget segments) (same_Some x t found) all.0
-      go (x ∷ ts) (suc n) t found all = go ts n t found all.1
-
   table_front : IsFront (table_bytes (map (entry_for at) (targets_of s))) bytes
   table_front = subst (λ (l : List ℕ). IsFront l bytes) (table_stands s at table) front
 
-  file_one : (target_at bytes k).file ≡ 1
+  -- it is read as it stands in the file
+  call_read : (t : Target) → slice_get (targets_of s) k ≡ Some t → IsCall users id t → t.file < 2 ^ 16 → t.segment < 2 ^ 16 → IsCall users id (target_at bytes k)
   unfolding target_at
-  file_one = file_read at (targets_of s) bytes table_front k its_target.0 its_target.1 (omega (arith, own.file')) ∙ own.file'
+  call_read t found call file_fits segment_fits = record {
+    other = call.other;
+    named = ap (named_by (kept_outlines users) id) (file_read at (targets_of s) bytes table_front k t found (omega (arith, file_fits))) ∙ call.named;
+    kept = call.kept;
+    made = call.made;
+    head = call.head;
+    head' = ap (at_number call.kept.heads) (segment_read at (targets_of s) bytes table_front k t found (omega (arith, segment_fits))) ∙ call.head';
+    dynamic = call.dynamic;
+    loaded = call.loaded;
+  }
 
-  segment_same : (target_at bytes k).segment ≡ its_target.0.segment
-  unfolding target_at
-  segment_same = segment_read at (targets_of s) bytes table_front k its_target.0 its_target.1 (omega (arith, short, number_within segments its_target.0.segment own.segment' own.is))
-
-  its_head : at_number kept.heads its_target.0.segment ≡ Some (head_of own.segment')
-  its_head = ap (λ (hs : List Head). at_number hs its_target.0.segment) heads ∙ head_at segments its_target.0.segment own.segment' own.is
-
-  pub own_call : IsCall users id (target_at bytes k)
-  own_call = record {
+  -- an entry for file 1 leads to a segment of the user
+  own_call : (t : Target) → IsOwnTarget segments t → IsCall users id t
+  own_call t own = record {
     other = id;
-    named = ap (λ (n : ℕ). named_by (kept_outlines users) id n) file_one;
+    named = ap (λ (n : ℕ). named_by (kept_outlines users) id n) own.file';
     kept = kept;
     made = made;
     head = head_of own.segment';
-    head' = ap (at_number kept.heads) segment_same ∙ its_head;
+    head' = ap (λ (hs : List Head). at_number hs t.segment) heads ∙ head_at segments t.segment own.segment' own.is;
     dynamic = own.dynamic;
     loaded = own.kept;
   }
+
+  by_target : (t : Target) → slice_get (targets_of s) k ≡ Some t → IsTarget segments t → IsCall users id (target_at bytes k)
+  by_target t found (inl own) =
+      call_read t found (own_call t own) (omega (arith, own.file')) (omega (arith, short, number_within segments t.segment own.segment' own.is))
+  by_target t found (inr other) = let call = far t found other.beyond in call_read t found call.0 call.1 call.2
+
+  pub its_call : IsCall users id (target_at bytes k)
+  its_call = by_target its_target.0 its_target.1 (get_all (IsTarget segments) (targets_of s) k its_target.0 its_target.1 (sound.table table).targets)

@@ -121,6 +121,6 @@ module _ (held : FileMap) (old new : Memory) (far now : Far) (id : ℕ) (kept : 
           target = λ table n t is' dynamic kept'. target_stays old new kept.handles stay n (handle_at kept.handles n) refl;
           far = λ table file n above. far_target file n above;
         } in
-        let same = stands_alike agrees.segments number s (loadable_has agrees.holds.file agrees.segments agrees.holds.taken.loadable number s is) (setting_with now id new.slots kept.handles) (setting_with far id old.slots kept.handles) alike (held_at user number).pokes in
+        let same = stands_alike agrees.segments number s (loadable_has agrees.holds.file agrees.segments agrees.holds.loadable number s is) (setting_with now id new.slots kept.handles) (setting_with far id old.slots kept.handles) alike (held_at user number).pokes in
         rw (same, bytes) (agrees.begins (were_there there) number s h is has before);
   }

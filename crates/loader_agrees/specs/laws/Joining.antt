@@ -1,11 +1,32 @@
 -- Users that are made before they have anything in memory: a place for a user, and those that are to be attached to it behind it.
-use Rattle.std.proofs.Common.{◌≡◌, ◌⊎◌, inl, inr, ℕ, Bool, true, false, cond, ◌==◌, ◌-◌, List, [], Option, Some, None, nat_lt, refl, sym, ap, subst, ◌∙◌}
+use Rattle.std.proofs.Common.{◌≡◌, ◌⊎◌, inl, inr, ℕ, Bool, true, false, cond, ◌==◌, ◌+◌, ◌-◌, ◌^◌, ◌<◌, ◌≤◌, List, [], length, Option, Some, None, nat_lt, refl, sym, ap, subst, ◌∙◌, arith}
 use Rattle.std.specs.Prelude.{slice_get, option_map}
 use Rattle.std.specs.Option.{option_and_then}
+use Rattle.load_meaning.specs.Pathnames.{most_paths}
 use Rattle.load_meaning.specs.declared.table.Target.{Target}
-use Rattle.loader_machine.specs.State.{first_id, user_of, named_by, attached_at}
-use Rattle.loader_agrees.specs.Agrees.{Kept, Outline, outline, kept_outlines, AreAttached, IsCall}
+use Rattle.iigs_meaning.specs.declared.handles.Handle.{Handle}
+use Rattle.iigs_meaning.specs.Memory.{Memory}
+use Rattle.loader_machine.specs.declared.seen.Head.{Head}
+use Rattle.loader_machine.specs.declared.seen.Life.TheVariants.{Running, Dormant}
+use Rattle.loader_machine.specs.Heads.{at_number, is_static}
+use Rattle.loader_machine.specs.State.{first_id, max_users, user_of, named_by, attached_at}
+use Rattle.loader_machine.specs.Presences.{handle_at}
+use Rattle.loader_agrees.specs.Agrees.{Kept, Outline, outline, kept_outlines, AreAttached, IsCall, Has, IsSound}
 use Rattle.loader_agrees.specs.laws.Seeing.{user_is}
+
+-- a user without a handle, none of whose segments is static, to which nothing is attached
+pub record IsQuiet (kept : Kept) : Type 0 where
+  pub lengths : length kept.handles ≡ length kept.heads
+  pub short : length kept.heads < 2 ^ 16
+  pub runs : kept.life ≡ Running
+  pub none : (number : ℕ) (h : Handle) → handle_at kept.handles number ≡ Some h → ⊥
+  pub dynamic : (number : ℕ) (head : Head) → at_number kept.heads number ≡ Some head → is_static head ≡ true → ⊥
+  pub alone : kept.attached ≡ []
+
+-- users of whom the old ones are there as they were, and the others are quiet
+pub record AreMore (old new : List (Option Kept)) : Type 0 where
+  pub stay : (place : ℕ) (kept : Kept) → slice_get old place ≡ Some (Some kept) → slice_get new place ≡ Some (Some kept)
+  pub which : (place : ℕ) (kept : Kept) → slice_get new place ≡ Some (Some kept) → (slice_get old place ≡ Some (Some kept)) ⊎ IsQuiet kept
 
 module _ (old new : List (Option Kept)) (stay : (place : ℕ) (kept : Kept) → slice_get old place ≡ Some (Some kept) → slice_get new place ≡ Some (Some kept)) where
   -- an old user is there under its ID
@@ -49,6 +70,10 @@ module _ (old new : List (Option Kept)) (stay : (place : ℕ) (kept : Kept) → 
   -- users to which nothing is attached may come
   pub attached_more : ((place : ℕ) (kept : Kept) → slice_get new place ≡ Some (Some kept) → (slice_get old place ≡ Some (Some kept)) ⊎ (kept.attached ≡ [])) → AreAttached old → AreAttached new
   attached_more which attached = record {
+    few = λ place kept made. elim (which place kept made) [
+      | inl was ↦ attached.few place kept was
+      | inr alone ↦ subst (λ (ids : List ℕ). length ids ≤ most_paths) (sym alone) (omega arith)
+    ];
     each = λ place i n kept made is. elim (which place kept made) [
       | inl was ↦ let one = attached.each place i n kept was is in (one.0, user_stays n one.0 one.1, one.2)
       | inr alone ↦ absurd (nothing kept i n alone is)
@@ -64,3 +89,35 @@ module _ (old new : List (Option Kept)) (stay : (place : ℕ) (kept : Kept) → 
     where
       nothing : (kept : Kept) (i n : ℕ) → kept.attached ≡ [] → slice_get kept.attached i ≡ Some n → ⊥
       nothing kept i n alone is = let none : slice_get {X = ℕ} [] i ≡ Some n = subst (λ (ids : List ℕ). slice_get ids i ≡ Some n) alone is in cc
+
+module _ (old new : List (Option Kept)) (more : AreMore old new) where
+  -- with them the loader is sound, where they aren't too many
+  pub sound_more : (memory : Memory) → IsSound memory old → length new ≤ max_users → IsSound memory new
+  sound_more memory sound few = record {
+    few = few;
+    lengths = λ place kept made. elim (more.which place kept made) [ inl was ↦ sound.lengths place kept was | inr quiet ↦ quiet.lengths ];
+    short = λ place kept made. elim (more.which place kept made) [ inl was ↦ sound.short place kept was | inr quiet ↦ quiet.short ];
+    statics = λ place kept number head made runs has static. elim (more.which place kept made) [
+      | inl was ↦ sound.statics place kept number head was runs has static
+      | inr quiet ↦ absurd (quiet.dynamic number head has static)
+    ];
+    rests = λ place kept number made life. elim (more.which place kept made) [
+      | inl was ↦ sound.rests place kept number was life
+      | inr quiet ↦ (let clash : Running ≡ Dormant = sym quiet.runs ∙ life in absurd cc)
+    ];
+    each = λ place number head h has. sound.each place number head h (was place number head h has);
+    once = λ place other number n head second h k has has' same.
+        sound.once place other number n head second h k (was place number head h has) (was other n second k has') same;
+    only = λ slot block is user. let one = sound.only slot block is user in (one.0, one.1, one.2, one.3, lift one.0 one.1 one.2 one.3 one.4, one.5);
+    attached = attached_more old new more.stay (λ place kept made. elim (more.which place kept made) [ inl was ↦ inl was | inr quiet ↦ inr quiet.alone ]) sound.attached;
+    calls = λ place number k head h has table there inside. call_stays old new more.stay (first_id + place) _ (sound.calls place number k head h (was place number head h has) table there inside);
+  }
+    where
+      was : (place number : ℕ) (head : Head) (h : Handle) → Has new place number head h → Has old place number head h
+      was place number head h has = elim (more.which place has.kept has.made) [
+        | inl made ↦ record { kept = has.kept; made = made; head' = has.head'; handle = has.handle }
+        | inr quiet ↦ absurd (quiet.none number h has.handle)
+      ]
+
+      lift : (place number : ℕ) (head : Head) (h : Handle) → Has old place number head h → Has new place number head h
+      lift place number head h has = record { kept = has.kept; made = more.stay place has.kept has.made; head' = has.head'; handle = has.handle }

@@ -115,7 +115,6 @@ module _ (old : Loaded) (new : Memory) (sound : IsSound old.memory old.users) (k
     rests = rests_kept;
     each = λ place number head h has. of_kept old.memory new (first_id + place) head h (sound.each place number head h has) (kept place number head h has);
     once = sound.once;
-    bare = sound.bare;
     attached = sound.attached;
     calls = calls_kept;
     only = λ slot block is user. let was = only slot block is user in sound.only slot was.0 was.1 was.2;

@@ -105,7 +105,7 @@ module _ (held : FileMap) (loader : Loaded) (state : Machine) (agrees : Agrees h
 
     pub stands_size : length (stands (setting_with (far_in loader id) id loader.memory.slots is.kept.handles) (held_at user number).pokes its_segment.0) ≡ is.head.length
     stands_size = stands_long one.does_agree.segments number its_segment.0 (setting_with (far_in loader id) id loader.memory.slots is.kept.handles) (held_at user number).pokes
-        (loadable_has one.does_agree.holds.file one.does_agree.segments one.does_agree.holds.taken.loadable number its_segment.0 its_segment.1)
+        (loadable_has one.does_agree.holds.file one.does_agree.segments one.does_agree.holds.loadable number its_segment.0 its_segment.1)
         ∙ ap (λ (head : Head). head.length) its_segment.2
 
     abbrev pub at_there : (address offset : ℕ) → is.address + offset ≡ address → offset < is.head.length → IsAt held state address id number offset

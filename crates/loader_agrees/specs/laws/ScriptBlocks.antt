@@ -60,7 +60,7 @@ module _ (old : Loaded) (sound : IsSound old.memory old.users) where
       | inr was ↦ (b, was, user)
     ]
 
-  module _ (want : Want) (user : ℕ) (locked : Bool) (level : ℕ) (h : Handle) (new : Memory) (placed' : IsPlaced Purges old.memory want user locked level h new) where
+  module _ (want : Want) (user : ℕ) (locked : Bool) (level : ℕ) (h : Handle) (new : Memory) (placed' : IsPlaced Purges old.memory want user locked level false h new) where
     -- where a block is placed under a new handle, all users' blocks are kept
     pub placed_kept : AllKept old new
     placed_kept place number head k has =
@@ -91,10 +91,10 @@ released_none generation b is = go (generation == 255) is
 
 module _ (held : FileMap) (old new : Loaded) (state : Machine) (sound : IsSound old.memory old.users) (agrees : Agrees held old state) (users : new.users ≡ old.users) where
   -- a block is placed for the script
-  pub alloc_met : (want : Want) (locked : Bool) (level : ℕ) (h : Handle) → (is : IsPlaced Purges old.memory want 0 locked level h new.memory)
+  pub alloc_met : (want : Want) (locked : Bool) (level : ℕ) (h : Handle) → (is : IsPlaced Purges old.memory want 0 locked level false h new.memory)
       → Met Purges held state (Alloc want locked level) (Placed h is.puts.address) new
   alloc_met want locked level h is =
-      let puts : Puts Purges state.banks state.slots want 0 locked level h new.memory.slots = record {
+      let puts : Puts Purges state.banks state.slots want 0 locked level false h new.memory.slots = record {
         address = is.puts.address;
         room = is.puts.room;
         makes = subst (λ (t : Slots). Purges state.banks t want is.puts.address is.puts.room) agrees.slots

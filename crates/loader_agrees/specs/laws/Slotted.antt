@@ -89,15 +89,15 @@ lowest_is slots h place is low = go (lowest_free slots) low is
     go (Some p) e is = cc
 
 -- a block among slots in which one was put is the new one, or was there before, of the same user
-pub in_put : (banks : List ℕ) (slots next : Slots) (want : Want) (user : ℕ) (locked : Bool) (level : ℕ) (h : Handle) → (puts : Puts Purges banks slots want user locked level h next)
+pub in_put : (banks : List ℕ) (slots next : Slots) (want : Want) (user : ℕ) (locked : Bool) (level : ℕ) (h : Handle) → (puts : Puts Purges banks slots want user locked level false h next)
     → (n : ℕ) (block : Block) → block_in (slot_at next n) ≡ Some block
-    → ((n ≡ h.slot) × (block ≡ placed want puts.address user locked level)) ⊎ ((was : Block) × (block_in (slot_at slots n) ≡ Some was) × (was.user ≡ block.user))
+    → ((n ≡ h.slot) × (block ≡ placed want puts.address user locked level false)) ⊎ ((was : Block) × (block_in (slot_at slots n) ≡ Some was) × (was.user ≡ block.user))
 unfolding emptied
 in_put banks slots next want user locked level h puts n block is =
     go (lowest_free puts.room) refl (sym (ap (λ (t : Slots). block_in (slot_at t n)) puts.next_is) ∙ is)
   where
     value : Block
-    value = placed want puts.address user locked level
+    value = placed want puts.address user locked level false
 
     old : block_in (slot_at puts.room n) ≡ Some block → (was : Block) × (block_in (slot_at slots n) ≡ Some was) × (was.user ≡ block.user)
     old e = in_emptied (is_gone slots puts.makes.count) (slot_at slots n) block

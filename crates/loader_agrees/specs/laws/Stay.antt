@@ -114,12 +114,12 @@ new_apart slots k h is some same = go (lowest_free slots) refl is
 
 -- ---- one placement
 
-module _ (banks : List ℕ) (slots next : Slots) (want : Want) (user : ℕ) (locked : Bool) (level : ℕ) (k : Handle) (puts : Puts Purges banks slots want user locked level k next) where
+module _ (banks : List ℕ) (slots next : Slots) (want : Want) (user : ℕ) (locked : Bool) (level : ℕ) (k : Handle) (puts : Puts Purges banks slots want user locked level false k next) where
   abbrev count : ℕ
   count = puts.makes.count
 
   abbrev value : Block
-  value = placed want puts.address user locked level
+  value = placed want puts.address user locked level false
 
   next_is : next ≡ after_take (emptied slots count) value
   next_is = puts.next_is ∙ ap (λ (room : Slots). after_take room value) puts.makes.room_is

@@ -1,11 +1,15 @@
 -- A command has one reply and one next state, where the blocks lie apart and no handle stands twice.
-use Rattle.std.proofs.Common.{◌≡◌, ℕ, Bool, true, false, cond, ◌==◌, ◌+◌, ◌^◌, ◌<◌, ◌≤◌, List, [], ◌∷◌, ◌++◌, length, map, take, drop, Option, Some, None, IsSome, refl, sym, ap, subst, ◌∙◌, arith}
+use Rattle.std.proofs.Common.{◌≡◌, ℕ, Bool, true, false, cond, ◌==◌, ◌+◌, ◌^◌, ◌<◌, ◌≤◌, List, [], ◌∷◌, length, map, take, drop, Option, Some, None, IsSome, refl, sym, ap, subst, ◌∙◌, arith}
 use Rattle.std.proofs.lemmas.Option.{same_Some}
 use Rattle.omf_format.specs.File.{Segment, segment_at}
 use Rattle.omf_io.specs.Files.{FileMap}
 use Rattle.load_meaning.specs.declared.load.LoadFault.{LoadFault}
 use Rattle.load_meaning.specs.declared.table.Target.{Target}
+use Rattle.load_meaning.specs.Pathnames.{paths_of}
+use Rattle.load_meaning.specs.Runtime.{runtime_fault, IsRuntime, IsFirstRuntimeFault, OfLoading, OfKind}
 use Rattle.load_meaning.specs.LoadTable.{targets_of}
+use Rattle.load_meaning.specs.Loadable.{IsLoadable, IsFirstLoadFault}
+use Rattle.load_meaning.specs.laws.LoadableLaws.{loadable_same, loadable_sound, first_fault_same}
 use Rattle.iigs_meaning.specs.declared.handles.Handle.{Handle}
 use Rattle.iigs_meaning.specs.declared.wants.Want.{Want}
 use Rattle.iigs_meaning.specs.declared.wants.Block.{Block}
@@ -15,16 +19,14 @@ use Rattle.iigs_meaning.specs.Blocks.{AreApart, state_of}
 use Rattle.iigs_meaning.specs.Puts.{MakesRoom, IsOnce, without_user}
 use Rattle.iigs_meaning.specs.Room.{IsRoom}
 use Rattle.loader_machine.specs.Heads.{Head, head_of, is_table, want_of, wants_of}
-use Rattle.loader_machine.specs.State.{User, Machine, Seen, fresh, held_at, first_id, user_of, with_user, handles_of}
+use Rattle.loader_machine.specs.State.{User, Machine, Seen, fresh, held_at, first_id, user_of, handles_of}
 use Rattle.loader_machine.specs.Presences.{Presence, Absent, Purged, Idle, Active, presence, presence_at, handle_at, lies_in, lies_at}
 use Rattle.loader_machine.specs.Stands.{stands}
-use Rattle.loader_machine.specs.Taken.{IsTaken, IsFirstRefusal}
-use Rattle.loader_machine.specs.Found.{HoldsFile, HoldsLoad, HoldsFault, Found, Unread, Bad, Good, IsFound}
+use Rattle.loader_machine.specs.Found.{HoldsFile, HoldsLoad, HoldsFault, HoldsRuntime, HoldsRuntimeFault, Found, Unread, Bad, Good, IsFound, IsRowFound, Joined, Stops, Joins, JoinsFound, AreJoined, joined_behind}
 use Rattle.loader_machine.specs.Commands.{Command, Banks, Load, LoadSegment, UnloadSegment, Jsl, ShutDown, Restart, Purge, Poke, Bytes, Where, Info, Alloc, Free, Lock, Unlock, Level, StateOf, Room, Reply, Entered, Shown, SegmentIs, Placed, BlockIs, RoomIs}
-use Rattle.loader_machine.specs.Refusals.{Refuse, load_refusal, purge_refusal, free_refusal, change_refusal, state_refusal}
-use Rattle.loader_machine.specs.Steps.{seen_of, Sees, IsSeen, Decides, Does, Either, with_slots, with_both, with_segment, active_block, changed, Put, NoSlots, Lacks, PutIn, Lands, Begins, LoadsFound, StepsLoad, Outcome, OutOfSlots, OutOfRoom, Made, ComesAnew, ComesFirst, Activates, Answers, MakesActive, StandsIn, setting_in, IsAt, Place, Nowhere, In, IsLocated, place_reply, EntersEntry, EntersSegment, Enters, target_at_code, address_of, no_jsl, StepsJsl, StepsShutDown, are_there, RestartsInPlace, StepsRestart, StepsAlloc, StepsChange, Steps}
+use Rattle.loader_machine.specs.Refusals.{Refuse, load_refusal, rows_refusal, purge_refusal, free_refusal, change_refusal, state_refusal}
+use Rattle.loader_machine.specs.Steps.{seen_of, Sees, IsSeen, Decides, Does, Either, with_slots, with_both, with_segment, active_block, changed, Put, NoSlots, Lacks, PutIn, Lands, Begins, lost_refusal, LoadsJoined, LoadsFound, StepsLoad, begun_users, again_users, setting_in, Outcome, OutOfSlots, OutOfRoom, Made, ComesAnew, ComesFirst, Activates, Answers, MakesActive, StandsIn, IsAt, Place, Nowhere, In, IsLocated, place_reply, EntersEntry, EntersSegment, Enters, target_at_code, address_of, no_jsl, StepsJsl, StepsShutDown, are_there, RestartsInPlace, StepsRestart, StepsAlloc, StepsChange, Steps}
 use Rattle.loader_machine.specs.Steps.StepsAlloc.{IsPlaced, HasNoHandle, HasNoRoom}
-use Rattle.loader_machine.specs.laws.TakenLaws.{taken_same, taken_sound, first_refusal_same}
 use Rattle.loader_machine.specs.laws.PutLaws.{counts_once, puts_once, anew_once, put_once}
 
 abbrev pub AreSame : Reply → Reply → Machine → Machine → Type 0
@@ -46,17 +48,17 @@ one_file held path a b p q = same_Some a b (sym p.0 ∙ q.0)
 pub one_load : (held : FileMap) (path : List ℕ) (a b : List Segment) → HoldsLoad held path a → HoldsLoad held path b → a ≡ b
 one_load held path a b p q =
     let file = one_file held path p.file q.file p.is_held q.is_held in
-    taken_same q.file a b (subst (λ (f : List ℕ). IsTaken f a) file p.taken) q.taken
+    loadable_same q.file a b (subst (λ (f : List ℕ). IsLoadable f a) file p.loadable) q.loadable
 
 one_fault : (held : FileMap) (path : List ℕ) (a b : LoadFault) → HoldsFault held path a → HoldsFault held path b → a ≡ b
 one_fault held path a b p q =
     let file = one_file held path p.file q.file p.is_held q.is_held in
-    first_refusal_same q.file a b (subst (λ (f : List ℕ). IsFirstRefusal f a) file p.first) q.first
+    first_fault_same q.file a b (subst (λ (f : List ℕ). IsFirstLoadFault f a) file p.first) q.first
 
 no_fault : (held : FileMap) (path : List ℕ) (segments : List Segment) (fault : LoadFault) → HoldsLoad held path segments → HoldsFault held path fault → ⊥
 no_fault held path segments fault p q =
     let file = one_file held path p.file q.file p.is_held q.is_held in
-    taken_sound q.file segments fault (subst (λ (f : List ℕ). IsTaken f segments) file p.taken) q.first
+    loadable_sound q.file segments fault (subst (λ (f : List ℕ). IsLoadable f segments) file p.loadable) q.first
 
 pub found_once : (held : FileMap) (path : List ℕ) (a b : Found) → IsFound held path a → IsFound held path b → a ≡ b
 found_once held path Unread Unread p q = refl
@@ -68,6 +70,57 @@ found_once held path (Bad fault) (Good segments) p q = absurd (no_fault held pat
 found_once held path (Good segments) Unread p q = absurd (q p.file p.is_held)
 found_once held path (Good segments) (Bad fault) p q = absurd (no_fault held path segments fault p q)
 found_once held path (Good a) (Good b) p q = ap (λ (ss : List Segment). Good ss) (one_load held path a b p q)
+
+-- ---- rows
+
+one_runtime : (held : FileMap) (path : List ℕ) (a b : List Segment) → HoldsRuntime held path a → HoldsRuntime held path b → a ≡ b
+one_runtime held path a b p q =
+    let file = one_file held path p.file q.file p.is_held q.is_held in
+    loadable_same q.file a b (subst (λ (f : List ℕ). IsLoadable f a) file p.runtime.loadable) q.runtime.loadable
+
+some_fault : (file : List ℕ) (a b : LoadFault) → IsFirstRuntimeFault file a → IsFirstRuntimeFault file b → a ≡ b
+some_fault file a b (OfLoading p) (OfLoading q) = first_fault_same file a b p q
+some_fault file a b (OfLoading p) (OfKind segments is e) = absurd (loadable_sound file segments a is p)
+some_fault file a b (OfKind segments is e) (OfLoading q) = absurd (loadable_sound file segments b is q)
+some_fault file a b (OfKind segments is e) (OfKind others is' e') =
+    same_Some a b (sym e ∙ ap (runtime_fault) (loadable_same file segments others is is') ∙ e')
+
+one_row_fault : (held : FileMap) (path : List ℕ) (a b : LoadFault) → HoldsRuntimeFault held path a → HoldsRuntimeFault held path b → a ≡ b
+one_row_fault held path a b p q =
+    let file = one_file held path p.file q.file p.is_held q.is_held in
+    some_fault q.file a b (subst (λ (f : List ℕ). IsFirstRuntimeFault f a) file p.first) q.first
+
+sound_row : (file : List ℕ) (segments : List Segment) (fault : LoadFault) → IsRuntime file segments → IsFirstRuntimeFault file fault → ⊥
+sound_row file segments fault is (OfLoading p) = loadable_sound file segments fault is.loadable p
+sound_row file segments fault is (OfKind others other e) =
+    let clash : None ≡ Some fault = sym is.dynamic ∙ ap (runtime_fault) (loadable_same file segments others is.loadable other) ∙ e in cc
+
+no_row_fault : (held : FileMap) (path : List ℕ) (segments : List Segment) (fault : LoadFault) → HoldsRuntime held path segments → HoldsRuntimeFault held path fault → ⊥
+no_row_fault held path segments fault p q =
+    let file = one_file held path p.file q.file p.is_held q.is_held in
+    sound_row q.file segments fault (subst (λ (f : List ℕ). IsRuntime f segments) file p.runtime) q.first
+
+row_once : (held : FileMap) (path : List ℕ) (a b : Found) → IsRowFound held path a → IsRowFound held path b → a ≡ b
+row_once held path Unread Unread p q = refl
+row_once held path Unread (Bad fault) p q = absurd (p q.file q.is_held)
+row_once held path Unread (Good segments) p q = absurd (p q.file q.is_held)
+row_once held path (Bad fault) Unread p q = absurd (q p.file p.is_held)
+row_once held path (Bad a) (Bad b) p q = ap (λ (f : LoadFault). Bad f) (one_row_fault held path a b p q)
+row_once held path (Bad fault) (Good segments) p q = absurd (no_row_fault held path segments fault q p)
+row_once held path (Good segments) Unread p q = absurd (q p.file p.is_held)
+row_once held path (Good segments) (Bad fault) p q = absurd (no_row_fault held path segments fault p q)
+row_once held path (Good a) (Good b) p q = ap (λ (ss : List Segment). Good ss) (one_runtime held path a b p q)
+
+joins_same : (found : Found) (Rest : Joined → Type 0) → ((x y : Joined) → Rest x → Rest y → x ≡ y) → (a b : Joined) → JoinsFound found Rest a → JoinsFound found Rest b → a ≡ b
+joins_same Unread Rest one a b x y = x ∙ sym y
+joins_same (Bad fault) Rest one a b x y = x ∙ sym y
+joins_same (Good segments) Rest one a b x y = x.2 ∙ ap (joined_behind segments) (one x.0 y.0 x.1 y.1) ∙ sym y.2
+
+-- the files of rows come to one thing
+pub joined_once : (held : FileMap) (paths : List (List ℕ)) (a b : Joined) → AreJoined held paths a → AreJoined held paths b → a ≡ b
+joined_once held [] a b p q = p ∙ sym q
+joined_once held (path ∷ paths) a b p q = joins_same q.0 (AreJoined held paths) (joined_once held paths) a b
+    (subst (λ (f : Found). JoinsFound f (AreJoined held paths) a) (row_once held path p.0 q.0 p.1 q.1) p.2) q.2
 
 module _ (held : FileMap) (state : Machine) where
   module _ (id : ℕ) (p q : Sees held state id) where
@@ -195,16 +248,23 @@ module _ (held : FileMap) (state : Machine) where
 
     -- ---- load
 
-    loads_once : (path : List ℕ) (found : Found) (one other : Reply) (next last : Machine) → LoadsFound Makes state path found one next → LoadsFound Makes state path found other last → AreSame one other next last
+    joins_once : (path : List ℕ) (segments : List Segment) (joined : Joined) (one other : Reply) (next last : Machine) → LoadsJoined Makes state path segments joined one next
+        → LoadsJoined Makes state path segments joined other last → AreSame one other next last
+    joins_once path segments (Stops reads why) one other next last p q = (p.0 ∙ sym q.0, p.1 ∙ sym q.1)
+    joins_once path segments (Joins all) one other next last p q = decided (lost_refusal (map (map head_of) all) segments) one other next last _ _
+        (λ x y. begins_once state.slots path (first_id + length state.users) segments (begun_users state (paths_of segments) all) one other next last x y) p q
+
+    loads_once : (path : List ℕ) (found : Found) (one other : Reply) (next last : Machine) → LoadsFound Makes held state path found one next → LoadsFound Makes held state path found other last → AreSame one other next last
     loads_once path Unread one other next last p q = (p.0 ∙ sym q.0, p.1 ∙ sym q.1)
     loads_once path (Bad fault) one other next last p q = (p.0 ∙ sym q.0, p.1 ∙ sym q.1)
-    loads_once path (Good segments) one other next last p q =
-        begins_once state.slots path (first_id + length state.users) segments (λ (user : User). state.users ++ Some user ∷ []) one other next last p q
+    loads_once path (Good segments) one other next last p q = decided (rows_refusal (length state.users) (length (paths_of segments))) one other next last _ _
+        (λ x y. joins_once path segments y.0 one other next last
+        (subst (λ (j : Joined). LoadsJoined Makes state path segments j one next) (joined_once held (paths_of segments) x.0 y.0 x.1 y.1) x.2) y.2) p q
 
     load_once : (path : List ℕ) (one other : Reply) (next last : Machine) → StepsLoad Makes held state path one next → StepsLoad Makes held state path other last → AreSame one other next last
     load_once path one other next last p q =
-        decided (load_refusal (length state.users)) one other next last ((found : Found) × IsFound held path found × LoadsFound Makes state path found one next) ((found : Found) × IsFound held path found × LoadsFound Makes state path found other last)
-        (λ x y. loads_once path y.0 one other next last (subst (λ (f : Found). LoadsFound Makes state path f one next) (found_once held path x.0 y.0 x.1 y.1) x.2) y.2) p q
+        decided (load_refusal (length state.users)) one other next last ((found : Found) × IsFound held path found × LoadsFound Makes held state path found one next) ((found : Found) × IsFound held path found × LoadsFound Makes held state path found other last)
+        (λ x y. loads_once path y.0 one other next last (subst (λ (f : Found). LoadsFound Makes held state path f one next) (found_once held path x.0 y.0 x.1 y.1) x.2) y.2) p q
 
     -- ---- activation
 
@@ -276,18 +336,18 @@ module _ (held : FileMap) (state : Machine) where
         let segments = segments_same id p.sees q.sees in
         let Is : User → List Segment → Reply → Machine → Type 0 = λ (u : User) (ss : List Segment) (r : Reply) (m : Machine).
         Either (are_there state.slots (map head_of ss) (handles_of u) 1) (RestartsInPlace state id u (map head_of ss) r m)
-        (Begins Makes state (without_user state.slots id) u.path id ss (λ (user : User). with_user state.users id (Some user)) r m) in
+        (Begins Makes state (without_user state.slots id) u.path id ss (again_users state id u) r m) in
         go (are_there state.slots (map head_of q.sees.segments) (handles_of q.sees.user) 1)
         (subst (λ (ss : List Segment). Is q.sees.user ss one next) segments (subst (λ (u : User). Is u p.sees.segments one next) user p.is)) q.is
       where
         go : (b : Bool)
             → Either b (RestartsInPlace state id q.sees.user (map head_of q.sees.segments) one next)
-            (Begins Makes state (without_user state.slots id) q.sees.user.path id q.sees.segments (λ (user : User). with_user state.users id (Some user)) one next)
+            (Begins Makes state (without_user state.slots id) q.sees.user.path id q.sees.segments (again_users state id q.sees.user) one next)
             → Either b (RestartsInPlace state id q.sees.user (map head_of q.sees.segments) other last)
-            (Begins Makes state (without_user state.slots id) q.sees.user.path id q.sees.segments (λ (user : User). with_user state.users id (Some user)) other last)
+            (Begins Makes state (without_user state.slots id) q.sees.user.path id q.sees.segments (again_users state id q.sees.user) other last)
             → AreSame one other next last
         go true x y = (x.0 ∙ sym y.0, x.1 ∙ sym y.1)
-        go false x y = begins_once (without_user state.slots id) q.sees.user.path id q.sees.segments (λ (user : User). with_user state.users id (Some user)) one other next last x y
+        go false x y = begins_once (without_user state.slots id) q.sees.user.path id q.sees.segments (again_users state id q.sees.user) one other next last x y
 
     shut_down_once : (id : ℕ) (keep : Bool) (user : User) (next last : Machine) → StepsShutDown state id keep user next → StepsShutDown state id keep user last → next ≡ last
     shut_down_once id true user next last p q = p ∙ sym q
@@ -335,7 +395,10 @@ module _ (held : FileMap) (state : Machine) where
     module _ (apart : IsApartState held state) where
       entry_once : (id : ℕ) (t : Option Target) (one other : Reply) (next last : Machine) → EntersEntry Makes held state id t one next → EntersEntry Makes held state id t other last → AreSame one other next last
       entry_once id None one other next last p q = (p.0 ∙ sym q.0, p.1 ∙ sym q.1)
-      entry_once id (Some t) one other next last p q = active_once id t.segment (λ address. Entered id t.segment t.offset (address + t.offset)) one other next last p q
+      entry_once id (Some t) one other next last p q =
+          let same : p.0 ≡ q.0 = same_Some p.0 q.0 (sym p.1 ∙ q.1) in
+          active_once q.0 t.segment (λ address. Entered q.0 t.segment t.offset (address + t.offset)) one other next last
+          (subst (λ (n : ℕ). MakesActive Makes held state n t.segment (λ address. Entered n t.segment t.offset (address + t.offset)) one next) same p.2) q.2
 
       enters_once : (address : ℕ) (place : Place) (one other : Reply) (next last : Machine) → Enters Makes held state address place one next → Enters Makes held state address place other last → AreSame one other next last
       enters_once address Nowhere one other next last p q = (p.0 ∙ sym q.0, p.1 ∙ sym q.1)

@@ -1,5 +1,5 @@
 -- Blocks are put in one way at most, where room is made in one way.
-use Rattle.std.proofs.Common.{◌≡◌, ℕ, zero, suc, Bool, true, ◌<◌, ◌≤◌, List, [], ◌∷◌, Some, refl, sym, ap, subst, ◌∙◌, arith, inl, inr}
+use Rattle.std.proofs.Common.{◌≡◌, ℕ, zero, suc, Bool, true, false, ◌<◌, ◌≤◌, List, [], ◌∷◌, Some, refl, sym, ap, subst, ◌∙◌, arith, inl, inr}
 use Rattle.std.specs.Prelude.{slice_get, take}
 use Rattle.std.proofs.lemmas.Option.{same_Some}
 use Rattle.std.proofs.lemmas.Bool.{cases_lt}
@@ -24,12 +24,12 @@ counts_once P _ _ _ (no_more limit p one has) (no_more _ q two has') = counts_on
 module _ (Makes : MakesRoom) (makes : IsOnce Makes) (banks : List ℕ) where
   -- under a new handle
   module _ (user : ℕ) (locked : Bool) (level : ℕ) where
-    pub puts_once : (slots : Slots) (want : Want) (h k : Handle) (x y : Slots) → (p : Puts Makes banks slots want user locked level h x) → (q : Puts Makes banks slots want user locked level k y)
+    pub puts_once : (slots : Slots) (want : Want) (h k : Handle) (x y : Slots) → (p : Puts Makes banks slots want user locked level false h x) → (q : Puts Makes banks slots want user locked level false k y)
         → (h ≡ k) × (x ≡ y) × (p.address ≡ q.address)
     puts_once slots want h k x y p q =
         let same = makes.room banks slots want p.address q.address p.room q.room p.makes q.makes in (
           same_Some h k (sym p.handle ∙ q.handle),
-          p.next_is ∙ ap (λ (r : Slots). after_take r (placed want p.address user locked level)) same.1 ∙ ap (λ (n : ℕ). after_take q.room (placed want n user locked level)) same.0 ∙ sym q.next_is,
+          p.next_is ∙ ap (λ (r : Slots). after_take r (placed want p.address user locked level false)) same.1 ∙ ap (λ (n : ℕ). after_take q.room (placed want n user locked level false)) same.0 ∙ sym q.next_is,
           same.0,
         )
 
@@ -40,9 +40,9 @@ module _ (Makes : MakesRoom) (makes : IsOnce Makes) (banks : List ℕ) where
       let same = makes.room banks slots want p.address q.address p.room q.room p.makes q.makes in
       let block = same_Some p.block q.block (sym p.was ∙ q.was) in (
         p.next_is
-            ∙ ap (λ (r : Slots). with_value r h (placed want p.address p.block.user p.block.locked p.block.level)) same.1
-            ∙ ap (λ (n : ℕ). with_value q.room h (placed want n p.block.user p.block.locked p.block.level)) same.0
-            ∙ ap (λ (b : Block). with_value q.room h (placed want q.address b.user b.locked b.level)) block
+            ∙ ap (λ (r : Slots). with_value r h (placed want p.address p.block.user p.block.locked p.block.level false)) same.1
+            ∙ ap (λ (n : ℕ). with_value q.room h (placed want n p.block.user p.block.locked p.block.level false)) same.0
+            ∙ ap (λ (b : Block). with_value q.room h (placed want q.address b.user b.locked b.level false)) block
             ∙ sym q.next_is,
         same.0,
       )

@@ -18,6 +18,6 @@ pub returns-clause-laid : goal.returns-clause-laid
 returns-clause-laid c = record {
   order = rw c.drop_mark.ensures.items (IsNonDecreasingBy-filter (λ (m : Mark). m.at) (λ m. not (m.slot == c.args.slot)) c.args.layout.now.marks.items c.requires.laid.order);
   few = omega (arith, c.drop_mark.new.marks.ok, c.drop_mark.ensures.few, c.args.layout.now.marks.ok, c.requires.laid.few);
-  cover = rw c.deref.ensures.value at c.join_marks.ensures.cover;
+  cover = λ joined. rw c.deref.ensures.value at c.join_marks.ensures.cover;
   room = (omega (arith, c.requires.laid.room.0, c.drop_mark.ensures.capacity), omega (arith, c.requires.laid.room.1, c.join_marks.ensures.capacity));
 }

@@ -7,12 +7,12 @@ use Rattle.iigs_places.proofs.search.find.Goals as goal
 pub least_among-requires : goal.least_among-requires
 least_among-requires c = record {
   want = c.requires.want;
-  order = rw c.deref.ensures.value c.requires.laid.laid.cover.are.order;
-  ends = rw c.deref.ensures.value c.requires.laid.laid.cover.are.ends;
+  order = rw c.deref.ensures.value (c.requires.laid.laid.cover c.requires.joined).are.order;
+  ends = rw c.deref.ensures.value (c.requires.laid.laid.cover c.requires.joined).are.ends;
 }
 
 pub returns-in-Some-clause-found : goal.returns-in-Some-clause-found
-returns-in-Some-clause-found c = quick_found c.args.table.now c.args.layout.now.marks.items c.requires.laid.have c.args.layout.now.runs.items c.requires.laid.laid.cover
+returns-in-Some-clause-found c = quick_found c.args.table.now c.args.layout.now.marks.items c.requires.laid.have c.args.layout.now.runs.items (c.requires.laid.laid.cover c.requires.joined)
     c.args.map.now c.args.want.now c.requires.want c.in-Some.at (rw c.deref.ensures.value at c.in-Some.ensures)
 
 pub fewest-requires-clause-ends : goal.fewest-requires-clause-ends

@@ -1,5 +1,6 @@
-use Rattle.std.proofs.Common.{◌≡◌, ◌∙◌, sym, refl, None, arith}
+use Rattle.std.proofs.Common.{◌≡◌, ◌∙◌, sym, refl, None, false, arith}
 use Rattle.iigs_meaning.specs.laws.PlacementLaws.{lacks_room}
+use Rattle.iigs_places.proofs.Marked.{marks_sized}
 use Rattle.iigs_places.proofs.Puts.{arranged_reput, free_limit, is_none}
 use Rattle.iigs_places.proofs.Quick.{reput_done, have_reput}
 use Rattle.iigs_places.proofs.table.replace_block.Goals as goal
@@ -21,10 +22,13 @@ lay_put-requires-clause-bounded c = (arranged_reput c.args.map.now c.args.table.
 pub lay_put-requires-clause-more : goal.lay_put-requires-clause-more
 lay_put-requires-clause-more c none =
     let empty : c.in-Ok.block.now.at ≡ None = is_none c.in-Ok.block.now.at (sym c.is_some.ensures ∙ c.if-is_some.false) in
-    rw (c.set.ensures, c.empty_below.ensures)
-    (have_reput c.args.table.now c.in-Some.found.limit none c.args.layout.now.marks.items c.requires.laid.have c.args.want.now c.in-Some.found.at c.in-Ok.block.now.user c.in-Ok.block.now.locked c.in-Ok.block.now.level c.args.h c.in-Ok.block.now (sym c.in-Ok.ensures) empty)
+    rw (c.set.ensures, c.empty_below.ensures, c.join.ensures.marks)
+    (have_reput c.args.table.now c.in-Some.found.limit none c.args.layout.now.marks.items c.requires.laid.have c.args.want.now c.in-Some.found.at c.in-Ok.block.now.user c.in-Ok.block.now.locked c.in-Ok.block.now.level false c.args.h c.in-Ok.block.now (sym c.in-Ok.ensures) empty)
 
 pub returns-clause-arranged : goal.returns-clause-arranged
 returns-clause-arranged c = arranged_reput c.args.map.now c.args.table.now c.set.new.table c.args.h c.args.want.now c.in-Some.found.at c.requires.arranged c.requires.want
     (reput_done c.args.map.now c.args.table.now c.args.want.now c.in-Some.found c.in-Some.ensures.found c.args.h c.in-Ok.block.now c.set.new.table (sym c.in-Ok.ensures)
     (is_none c.in-Ok.block.now.at (sym c.is_some.ensures ∙ c.if-is_some.false)) (rw c.empty_below.ensures at c.set.ensures))
+
+pub join-requires-clause-sized : goal.join-requires-clause-sized
+join-requires-clause-sized c = marks_sized c.args.table.now c.args.layout.now.marks.items c.requires.arranged.bounded c.requires.laid.have

@@ -1,5 +1,5 @@
 use Rattle.orca_macro.specs.Files.{texts_of_files}
-use Rattle.orca_asm.proofs.Assembling.{answered}
+use Rattle.orca_asm.proofs.Sources.{answered}
 use Rattle.orca_asm.proofs.source.assemble.Goals as goal
 
 pub returns-in-Err-clause-refused : goal.returns-in-Err-clause-refused

@@ -1,4 +1,4 @@
-use Rattle.orca_asm.proofs.Assembling.{expansion_fault}
+use Rattle.orca_asm.proofs.Sources.{expansion_fault}
 use Rattle.orca_asm.proofs.source.macro_fault.Goals as goal
 
 pub returns-clause-told : goal.returns-clause-told

@@ -1,7 +1,7 @@
 use Rattle.std.proofs.Common.{ap, sym, ◌∙◌, arith}
 use Rattle.macro_meaning.specs.Definition.{model_of}
 use Rattle.orca_text.specs.View.{line}
-use Rattle.orca_macro.specs.DefinitionView.{model}
+use Rattle.orca_symbols.specs.ModelView.{model}
 use Rattle.orca_macro.proofs.Scans.{judged_good, judged_bad}
 use Rattle.orca_macro.proofs.definitions.closed.Goals as goal
 

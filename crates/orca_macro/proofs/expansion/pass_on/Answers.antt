@@ -2,7 +2,7 @@ use Rattle.std.proofs.Common.{refl}
 use Rattle.macro_meaning.specs.Deed as meaning
 use Rattle.macro_meaning.specs.Visit.{given_by, move_of, setting_of}
 use Rattle.orca_text.specs.View.{line}
-use Rattle.orca_macro.specs.View.{texts_of}
+use Rattle.orca_symbols.specs.View.{texts_of}
 use Rattle.orca_macro.proofs.Given.{given_line, moves_on}
 use Rattle.orca_macro.proofs.Runs.{visit_is}
 use Rattle.orca_macro.proofs.expansion.pass_on.Goals as goal

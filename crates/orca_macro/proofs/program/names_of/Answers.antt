@@ -1,10 +1,10 @@
 use Rattle.std.proofs.Common.{◌≤◌, ◌+◌, map, length, arith}
 use Rattle.std.proofs.lemmas.List.{length-map}
-use Rattle.orca_macro.specs.Held.{held}
+use Rattle.orca_symbols.specs.Held.{held}
 use Rattle.orca_macro.specs.Parts.{definition}
 use Rattle.orca_macro.proofs.Firsts.{no_first, next_name}
-use Rattle.orca_macro.proofs.Maps.{empty_held}
-use Rattle.orca_macro.proofs.Parted.{get_inside}
+use Rattle.orca_symbols.proofs.Maps.{empty_held}
+use Rattle.orca_symbols.proofs.Parted.{get_inside}
 use Rattle.orca_macro.proofs.program.names_of.Goals as goal
 
 pub definitions-init : goal.definitions-init

@@ -1,4 +1,4 @@
-use Rattle.orca_macro.specs.Stacks.{frame}
+use Rattle.orca_symbols.specs.Frame.{frame}
 use Rattle.orca_macro.proofs.Moves.{branch_goes}
 use Rattle.orca_macro.proofs.visits.branch.Goals as goal
 

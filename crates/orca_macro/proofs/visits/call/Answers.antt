@@ -1,8 +1,8 @@
 use Rattle.std.proofs.Common.{sym, ap, ◌∙◌, ◌+◌, ◌∷◌}
-use Rattle.orca_macro.specs.declared.frames.Scope.{Scope}
+use Rattle.orca_symbols.specs.declared.frames.Scope.{Scope}
 use Rattle.macro_meaning.specs.Visit.{move_of}
-use Rattle.orca_macro.specs.Stacks.{frame, stack_of}
-use Rattle.orca_macro.specs.View.{symbols_of, texts_of}
+use Rattle.orca_symbols.specs.Frame.{frame, stack_of}
+use Rattle.orca_symbols.specs.View.{symbols_of, texts_of}
 use Rattle.orca_macro.proofs.Moves.{call_deep, called}
 use Rattle.orca_macro.proofs.visits.call.Goals as goal
 

@@ -1,7 +1,7 @@
 use Rattle.macro_meaning.specs.Deed as deeds
 use Rattle.macro_meaning.specs.Visit.{after, move_of}
-use Rattle.orca_macro.specs.Stacks.{frame, stack_of}
-use Rattle.orca_macro.specs.View.{symbols_of, texts_of}
+use Rattle.orca_symbols.specs.Frame.{frame, stack_of}
+use Rattle.orca_symbols.specs.View.{symbols_of, texts_of}
 use Rattle.orca_macro.proofs.Moves.{declared_stands}
 use Rattle.orca_macro.proofs.visits.declared.Goals as goal
 

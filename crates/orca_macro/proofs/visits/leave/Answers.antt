@@ -1,4 +1,4 @@
-use Rattle.orca_macro.specs.Stacks.{frame, stack_of}
+use Rattle.orca_symbols.specs.Frame.{frame, stack_of}
 use Rattle.orca_macro.proofs.Moves.{left_goes}
 use Rattle.orca_macro.proofs.visits.leave.Goals as goal
 

@@ -1,6 +1,7 @@
 use Rattle.std.proofs.Common.{◌++◌, ◌∷◌, [], subst}
 use Rattle.macro_meaning.specs.Visit.{Move}
-use Rattle.orca_macro.specs.Stacks.{frame, stack_of, MovesTo}
+use Rattle.orca_symbols.specs.Frame.{frame, stack_of}
+use Rattle.orca_macro.specs.Stacks.{MovesTo}
 use Rattle.orca_macro.proofs.Moves.{onward_goes, onward_ends}
 use Rattle.orca_macro.proofs.visits.onward.Goals as goal
 

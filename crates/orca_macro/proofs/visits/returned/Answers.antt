@@ -1,4 +1,4 @@
-use Rattle.orca_macro.specs.Stacks.{frame, stack_of}
+use Rattle.orca_symbols.specs.Frame.{frame, stack_of}
 use Rattle.orca_macro.proofs.Returns.{comes_back, goes_further}
 use Rattle.orca_macro.proofs.visits.returned.Goals as goal
 

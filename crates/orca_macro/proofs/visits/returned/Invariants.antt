@@ -1,6 +1,7 @@
 use Rattle.std.proofs.Common.{ℕ, List, Option, length}
 use Rattle.macro_meaning.specs.Visit.{Visit}
-use Rattle.orca_macro.specs.Stacks.{Stacks, stack_of}
+use Rattle.orca_symbols.specs.Frame.{stack_of}
+use Rattle.orca_macro.specs.Stacks.{Stacks}
 use Rattle.orca_macro.proofs.Returns.{ComesTo}
 use Rattle.orca_macro.proofs.visits.returned.Given as goal
 

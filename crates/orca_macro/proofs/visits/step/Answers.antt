@@ -2,8 +2,8 @@ use Rattle.std.proofs.Common.{sym, ap, ◌∙◌}
 use Rattle.macro_meaning.specs.Deed as deeds
 use Rattle.macro_meaning.specs.Visit.{after, move_of}
 use Rattle.orca_macro.specs.DeedView.{deed}
-use Rattle.orca_macro.specs.Stacks.{frame, stack_of}
-use Rattle.orca_macro.specs.View.{texts_of}
+use Rattle.orca_symbols.specs.Frame.{frame, stack_of}
+use Rattle.orca_symbols.specs.View.{texts_of}
 use Rattle.orca_macro.proofs.Moves.{at_deed, counted_stands}
 use Rattle.orca_macro.proofs.visits.step.Goals as goal
 

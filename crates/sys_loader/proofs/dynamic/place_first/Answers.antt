@@ -1,4 +1,4 @@
-use Rattle.std.proofs.Common.{inl, inr, true, refl, subst}
+use Rattle.std.proofs.Common.{inl, inr, true, false, refl, subst}
 use Rattle.iigs_meaning.specs.declared.wants.Want.{Want}
 use Rattle.iigs_meaning.specs.Puts.{Purges, LacksRoom}
 use Rattle.iigs_meaning.specs.Memory.{IsPlaced}
@@ -6,7 +6,7 @@ use Rattle.sys_loader.proofs.dynamic.place_first.Goals as goal
 
 pub returns-in-Ok-clause-brought : goal.returns-in-Ok-clause-brought
 returns-in-Ok-clause-brought c =
-    let placed = subst (λ (w : Want). IsPlaced Purges c.args.banks.now w c.args.user true 0 c.in-Ok.h c.place.new.self) c.want_of.ensures.is c.in-Ok.ensures.placed in
+    let placed = subst (λ (w : Want). IsPlaced Purges c.args.banks.now w c.args.user true 0 false c.in-Ok.h c.place.new.self) c.want_of.ensures.is c.in-Ok.ensures.placed in
     (placed.puts.address, (placed, refl))
 
 pub returns-in-Err-NoHandle-clause-refused : goal.returns-in-Err-NoHandle-clause-refused

@@ -6,7 +6,7 @@ use Rattle.iigs_places.proofs.places.Places.purge_user.Goals as goal
 pub invariant_of-self : goal.invariant_of-self
 invariant_of-self c = rw c.purge_user-count.ensures.after (
   arranged_map (can_purge_of c.args.user) c.self.inside.map c.self.inside.table c.self.invariant.0,
-  rw c.purge_user-count.ensures.after at c.lay_all.ensures,
+  rw c.purge_user-count.ensures.after at c.lay_all.ensures.laid,
   c.self.invariant.2,
   c.self.invariant.3,
 )

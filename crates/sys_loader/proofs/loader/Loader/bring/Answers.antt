@@ -11,6 +11,7 @@ use Rattle.loader_agrees.specs.laws.Seeing.{made_at}
 use Rattle.sys_loader.specs.View.{kept, loaded}
 use Rattle.sys_loader.specs.Filling.{HasHead, IsWritten}
 use Rattle.sys_loader.specs.Activating.{HasCome}
+use Rattle.sys_loader.proofs.Leading.{led_pair, lead_some, lead_is, renewed_by}
 use Rattle.sys_loader.proofs.Settling.{are_sound}
 use Rattle.sys_loader.proofs.Waking.{can_load, one_kept, gone_empty}
 use Rattle.sys_loader.proofs.Came.{dynamic_plain, came_sound}
@@ -89,6 +90,13 @@ fill_block-requires-clause-fits c =
     let brought = c.in-Ok.ensures.brought in
     block_fits old c.args.user c.args.number c.self.invariant.0 s.head s.handle can c.in-Ok.h brought.0 c.place_segment.new.banks brought.1
 
+pub user_in-lead-requires : goal.user_in-lead-requires
+user_in-lead-requires c =
+    let old = loaded c.self.inside.banks c.self.inside.users.items in
+    let s = c.args.segment.now in
+    let can = can_load old c.args.self.now c.args.user c.args.number s.head s.handle c.self.view_is c.requires.can in
+    lead_some old c.args.user c.led_by-owner.result (led_pair old c.args.self.now c.args.user c.led_by-owner.result c.self.view_is c.led_by-owner.ensures) can.kept c.self.invariant.0 can.made
+
 pub renew_tables-requires : goal.renew_tables-requires
 renew_tables-requires c =
     let old = loaded c.self.inside.banks c.self.inside.users.items in
@@ -99,7 +107,8 @@ renew_tables-requires c =
     record {
       ready = roomy_filled old c.args.user c.args.number c.self.invariant.0 s.head s.handle can c.in-Ok.h brought.0 c.place_segment.new.banks brought.1 (kept found) c.user_in-found.ensures
           c.args.load.now c.set.new.self c.fill_block.new.banks
-          (subst (λ (n : ℕ). IsWritten c.args.load.now n c.args.user c.set.new.self c.place_segment.new.banks c.in-Ok.h c.fill_block.new.banks) c.from-2.ensures c.fill_block.ensures);
+          (subst (λ (n : ℕ). IsWritten c.args.load.now n c.args.user c.set.new.self c.place_segment.new.banks c.in-Ok.h c.fill_block.new.banks) c.from-2.ensures c.fill_block.ensures)
+          c.led_by-owner.result.0 (kept c.user_in-lead.result.now) c.user_in-lead.ensures;
     }
 
 pub set_handle-requires : goal.set_handle-requires
@@ -121,11 +130,15 @@ invariant_of-self-2 c =
     let items = c.user_in-found.result.now.segments.items in
     let k = kept c.user_in-found.result.now in
     let can = can_load old c.args.self.now c.args.user c.args.number s.head s.handle c.self.view_is c.requires.can in
+    let lead_items = c.user_in-lead.result.now.segments.items in
+    let lead = kept c.user_in-lead.result.now in
+    let pair = led_pair old c.args.self.now c.args.user c.led_by-owner.result c.self.view_is c.led_by-owner.ensures in
     let same : k ≡ can.kept = same_Some k can.kept (sym c.user_in-found.ensures ∙ can.made) in
     let made = subst (λ (l : Loaded). user_of l.users c.args.user ≡ Some k) c.self.view_is c.user_in-found.ensures in
     let did = has_come old c.args.user c.args.number c.self.invariant.0 s.head s.handle can c.in-Ok.h c.place_segment.new.banks c.in-Ok.ensures.brought c.place_of-address.result c.place_of-address.ensures
-    k c.user_in-found.ensures last items c.requires.taken.0 c.args.load.now c.set_places.new.places c.set.new.self c.from.result c.from-2.result c.fill_block.new.banks c.renew_tables.new.banks refl refl
-    c.requires.taken.1 (c.requires.same k made) c.set_places.ensures c.from.ensures c.set.ensures c.from-2.ensures c.fill_block.ensures c.renew_tables.ensures refl (c.set_handle.ensures.set k c.user_in-found.ensures) in (
+    k c.user_in-found.ensures last items c.requires.taken.0 c.args.load.now c.set_places.new.places c.set.new.self c.from.result c.from-2.result c.fill_block.new.banks c.renew_tables.new.banks
+    (length lead_items) lead (lead_is old c.args.user c.led_by-owner.result pair lead c.user_in-lead.ensures) (sym (length-map lead_items (λ s. s.head))) refl
+    c.requires.taken.1 (c.requires.same k made) c.set_places.ensures c.from.ensures c.set.ensures c.from-2.ensures c.fill_block.ensures (renewed_by old c.args.user c.led_by-owner.result pair lead.heads lead.handles c.args.number (length lead_items) (Some c.place_of-address.result) c.fill_block.new.banks c.renew_tables.new.banks c.renew_tables.ensures) refl (c.set_handle.ensures.set k c.user_in-found.ensures) in (
       came_sound old last c.args.user c.args.number s.head s.handle c.args.load.now c.place_of-address.result c.self.invariant.0 can
           (ap (λ (l : Loaded). is_read (presence l.memory.slots s.handle)) c.self.view_is ∙ c.requires.gone)
           (dynamic_plain c.requires.taken.0 c.args.load.now c.requires.taken.1 c.args.number s.head
@@ -143,9 +156,13 @@ returns-clause-come c = λ k made.
     let items = c.user_in-found.result.now.segments.items in
     let can = can_load old c.args.self.now c.args.user c.args.number s.head s.handle c.self.view_is c.requires.can in
     let same = one_kept old c.args.self.now c.args.user found k c.self.view_is c.user_in-found.ensures made in
+    let lead_items = c.user_in-lead.result.now.segments.items in
+    let lead = kept c.user_in-lead.result.now in
+    let pair = led_pair old c.args.self.now c.args.user c.led_by-owner.result c.self.view_is c.led_by-owner.ensures in
     let made_found = subst (λ (l : Loaded). user_of l.users c.args.user ≡ Some found) c.self.view_is c.user_in-found.ensures in
     let did = has_come old c.args.user c.args.number c.self.invariant.0 s.head s.handle can c.in-Ok.h c.place_segment.new.banks c.in-Ok.ensures.brought c.place_of-address.result c.place_of-address.ensures
-    found c.user_in-found.ensures last items c.requires.taken.0 c.args.load.now c.set_places.new.places c.set.new.self c.from.result c.from-2.result c.fill_block.new.banks c.renew_tables.new.banks refl refl
-    c.requires.taken.1 (c.requires.same found made_found) c.set_places.ensures c.from.ensures c.set.ensures c.from-2.ensures c.fill_block.ensures c.renew_tables.ensures refl (c.set_handle.ensures.set found c.user_in-found.ensures) in
+    found c.user_in-found.ensures last items c.requires.taken.0 c.args.load.now c.set_places.new.places c.set.new.self c.from.result c.from-2.result c.fill_block.new.banks c.renew_tables.new.banks
+    (length lead_items) lead (lead_is old c.args.user c.led_by-owner.result pair lead c.user_in-lead.ensures) (sym (length-map lead_items (λ s. s.head))) refl
+    c.requires.taken.1 (c.requires.same found made_found) c.set_places.ensures c.from.ensures c.set.ensures c.from-2.ensures c.fill_block.ensures (renewed_by old c.args.user c.led_by-owner.result pair lead.heads lead.handles c.args.number (length lead_items) (Some c.place_of-address.result) c.fill_block.new.banks c.renew_tables.new.banks c.renew_tables.ensures) refl (c.set_handle.ensures.set found c.user_in-found.ensures) in
     subst (λ (l : Loaded). HasCome l c.args.user c.args.number k s.head s.handle c.args.load.now c.place_of-address.result last) c.self.view_is
     (subst (λ (x : Kept). HasCome old c.args.user c.args.number x s.head s.handle c.args.load.now c.place_of-address.result last) same did)

@@ -1,4 +1,4 @@
-use Rattle.std.proofs.Common.{◌≡◌, ◌-◌, map, Some, IsSome, inl, refl, sym, ap, subst, ◌∙◌, arith}
+use Rattle.std.proofs.Common.{◌≡◌, ◌-◌, Bool, map, Some, IsSome, inl, refl, sym, ap, subst, ◌∙◌, arith}
 use Rattle.std.proofs.lemmas.List.{length-map}
 use Rattle.loader_machine.specs.Heads.{head_of}
 use Rattle.loader_machine.specs.State.{first_id, user_of}
@@ -7,10 +7,12 @@ use Rattle.loader_agrees.specs.laws.Seeing.{made_at}
 use Rattle.sys_loader.specs.View.{kept, loaded}
 use Rattle.sys_loader.specs.Activating.{IsChanged}
 use Rattle.sys_loader.proofs.Waking.{one_kept, come_from, brings_none, file_changed}
+use Rattle.sys_loader.specs.Calls.{IsReadAs, IsBadFile}
+use Rattle.sys_loader.proofs.ReadAs.{as_loadable}
 use Rattle.sys_loader.proofs.loader.Loader.come.Goals as goal
 
 pub returns-in-Err-clause-refused : goal.returns-in-Err-clause-refused
-returns-in-Err-clause-refused c = λ k made. inl c.in-Err.ensures.refused
+returns-in-Err-clause-refused c = λ k made. inl (subst (λ (b : Bool). IsBadFile b c.args.file.now c.in-Err.fault) c.is_attached.ensures c.in-Err.ensures.refused)
 
 pub returns-in-Err-places_of-clause-refused : goal.returns-in-Err-places_of-clause-refused
 returns-in-Err-places_of-clause-refused c = λ k made. inl (inl c.in-Err-places_of.ensures.err)
@@ -25,7 +27,7 @@ compare-requires c =
     let found = c.user_in-found.result.now in
     let made = subst (λ (l : Loaded). user_of l.users c.args.user ≡ Some (kept found)) c.self.view_is c.user_in-found.ensures in
     record {
-      taken = (c.args.file.now, c.in-Ok.ensures.taken);
+      taken = (c.args.file.now, as_loadable c.is_attached.result c.args.file.now c.in-Ok.load c.in-Ok.ensures.loaded);
       kept = omega (arith, length-map found.segments.items (λ s. s.head), c.is_sound.ensures.short (c.args.user - first_id) (kept found) (made_at c.args.self.now.users c.args.user (kept found) made).0);
     }
 
@@ -33,12 +35,12 @@ pub returns-in-Err-compare-clause-refused : goal.returns-in-Err-compare-clause-r
 returns-in-Err-compare-clause-refused c = λ k made.
     let same = one_kept (loaded c.self.inside.banks c.self.inside.users.items) c.args.self.now c.args.user (kept c.user_in-found.result.now) k c.self.view_is c.user_in-found.ensures made in
     let s = c.args.segment.now in
-    file_changed c.args.file.now c.args.self.now c.args.user c.args.number k s.head s.handle c.in-Ok.load c.in-Ok.ensures.taken c.in-Err-compare.fault
+    file_changed c.args.file.now c.args.self.now c.args.user c.args.number k s.head s.handle c.in-Ok.load (subst (λ (b : Bool). IsReadAs b c.args.file.now c.in-Ok.load) c.is_attached.ensures c.in-Ok.ensures.loaded) c.in-Err-compare.fault
     (subst (λ (x : Kept). IsChanged x.heads (map head_of c.in-Ok.load) c.in-Err-compare.fault) same c.in-Err-compare.ensures.changed)
 
 pub bring-requires : goal.bring-requires
 bring-requires c = record {
-  taken = (c.args.file.now, c.in-Ok.ensures.taken);
+  taken = (c.args.file.now, as_loadable c.is_attached.result c.args.file.now c.in-Ok.load c.in-Ok.ensures.loaded);
   room = c.in-Ok-places_of.ensures.ok;
   can = c.requires.can;
   gone = c.requires.gone;
@@ -52,11 +54,11 @@ returns-clause-come c = λ k made.
     let same = c.in-Ok-compare.ensures.same
     ∙ ap (λ (x : Kept). x.heads) (one_kept (loaded c.self.inside.banks c.self.inside.users.items) c.args.self.now c.args.user (kept c.user_in-found.result.now) k c.self.view_is c.user_in-found.ensures made) in
     let s = c.args.segment.now in
-    come_from c.args.file.now c.args.self.now c.args.user c.args.number k s.head s.handle c.in-Ok.load c.in-Ok.ensures.taken c.bring.new.self c.bring.result same (c.bring.ensures.come k made)
+    come_from c.args.file.now c.args.self.now c.args.user c.args.number k s.head s.handle c.in-Ok.load (subst (λ (b : Bool). IsReadAs b c.args.file.now c.in-Ok.load) c.is_attached.ensures c.in-Ok.ensures.loaded) c.bring.new.self c.bring.result same (c.bring.ensures.come k made)
 
 pub returns-clause-refused : goal.returns-clause-refused
 returns-clause-refused c = λ k made.
     let same = c.in-Ok-compare.ensures.same
     ∙ ap (λ (x : Kept). x.heads) (one_kept (loaded c.self.inside.banks c.self.inside.users.items) c.args.self.now c.args.user (kept c.user_in-found.result.now) k c.self.view_is c.user_in-found.ensures made) in
     let s = c.args.segment.now in
-    brings_none c.args.file.now c.args.self.now c.args.user c.args.number k s.head s.handle c.in-Ok.load c.in-Ok.ensures.taken c.bring.result same c.bring.ensures.refused
+    brings_none c.args.file.now c.args.self.now c.args.user c.args.number k s.head s.handle c.in-Ok.load (subst (λ (b : Bool). IsReadAs b c.args.file.now c.in-Ok.load) c.is_attached.ensures c.in-Ok.ensures.loaded) c.bring.result same c.bring.ensures.refused

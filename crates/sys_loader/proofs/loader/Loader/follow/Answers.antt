@@ -25,14 +25,14 @@ returns-in-Entry-clause-asked g c =
     let asked = (g.F.Files.seen c.args.files.now).asked in
     let asked' = (g.F.Files.seen c.enter.new.files).asked in
     let reached = subst (HasReached c.args.self.now c.args.user c.args.segment c.args.at) c.in-Entry.is c.in-Ok.ensures.reached in
-    let there = subst (λ (l : Loaded). HasReached l c.args.user c.args.segment c.args.at (Entry c.in-Entry.owner c.in-Entry.number c.in-Entry.offset)) (sym c.reach.ensures.same) reached in
+    let there = subst (λ (l : Loaded). HasReached l c.args.user c.args.segment c.args.at (Entry c.in-Entry.other c.in-Entry.number c.in-Entry.offset)) (sym c.reach.ensures.same) reached in
     subst (λ (l : Loaded). HasAsked l c.args.user c.args.segment c.args.at asked asked') c.reach.ensures.same
-    (has_asked c.reach.new.self c.args.user c.args.segment c.args.at c.in-Entry.owner c.in-Entry.number c.in-Entry.offset there
+    (has_asked c.reach.new.self c.args.user c.args.segment c.args.at c.in-Entry.other c.in-Entry.number c.in-Entry.offset there
     asked asked' c.enter.ensures.asked c.enter.ensures.unasked)
 
 pub returns-in-Entry-clause-did : goal.returns-in-Entry-clause-did
 returns-in-Entry-clause-did g c =
     let made = c.enter.ensures.did in
-    let activated = subst (λ (l : Loaded). DidActivate (g.F.Files.seen c.args.files.now).held l c.in-Entry.owner c.in-Entry.number made.0 c.enter.new.self
+    let activated = subst (λ (l : Loaded). DidActivate (g.F.Files.seen c.args.files.now).held l c.in-Entry.other c.in-Entry.number made.0 c.enter.new.self
     (g.F.Files.seen c.args.files.now).faults (g.F.Files.seen c.enter.new.files).faults) c.reach.ensures.same made.1 in
-    Calls c.in-Entry.owner c.in-Entry.number c.in-Entry.offset (subst (HasReached c.args.self.now c.args.user c.args.segment c.args.at) c.in-Entry.is c.in-Ok.ensures.reached) made.0 activated made.2
+    Calls c.in-Entry.other c.in-Entry.number c.in-Entry.offset (subst (HasReached c.args.self.now c.args.user c.args.segment c.args.at) c.in-Entry.is c.in-Ok.ensures.reached) made.0 activated made.2

@@ -1,0 +1,11 @@
+pub mod Settled
+pub mod Moved
+pub mod Carrying
+pub mod Making
+pub mod Compacted
+pub mod Placing
+pub mod Still
+pub mod Searching
+pub mod Several
+pub mod AllPlaced
+pub mod Planning

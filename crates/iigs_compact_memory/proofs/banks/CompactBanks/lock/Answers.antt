@@ -1,0 +1,12 @@
+use Rattle.std.proofs.Common.{true, refl}
+use Rattle.iigs_meaning.specs.declared.wants.Block.{Block}
+use Rattle.iigs_compact_memory.proofs.Settled.{settled_changes, same_banks}
+use Rattle.iigs_compact_memory.proofs.banks.CompactBanks.lock.Goals as goal
+
+pub invariant_of-self : goal.invariant_of-self
+invariant_of-self c = (
+  settled_changes c.self.inside.banks c.lock.new.self c.args.h (λ (block : Block). record block { locked = true }) (λ b. (refl, refl)) c.self.invariant.0 c.lock.result c.lock.ensures.changed c.lock.ensures.err,
+  same_banks c.self.inside.banks c.lock.new.self c.args.h (λ (block : Block). record block { locked = true }) c.self.inside.plan.banks c.self.invariant.1 c.lock.result c.lock.ensures.changed c.lock.ensures.err,
+  same_banks c.self.inside.banks c.lock.new.self c.args.h (λ (block : Block). record block { locked = true }) c.self.inside.trial.banks c.self.invariant.2 c.lock.result c.lock.ensures.changed c.lock.ensures.err,
+  c.self.invariant.3,
+)

@@ -1,0 +1,7 @@
+use Rattle.std.proofs.Common.{arith}
+use Rattle.iigs_compact_memory.proofs.Making.{none_past}
+use Rattle.iigs_compact_memory.proofs.bound.bound.Goals as goal
+
+pub returns-then-not-fits_still-clause-none : goal.returns-then-not-fits_still-clause-none
+returns-then-not-fits_still-clause-none c = none_past c.args.places.now.banks c.args.places.now.slots c.args.want.now c.purgeable-enough.result c.purgeable-enough.ensures.value
+    (λ count less. c.fits_still.ensures.no c.if-not-fits_still.true count (omega (arith, less)))

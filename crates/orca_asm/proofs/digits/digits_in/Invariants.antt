@@ -1,9 +1,0 @@
-use Rattle.std.proofs.Common.{length}
-use Rattle.orca_asm.proofs.Packed.{FoundLeft}
-use Rattle.orca_asm.proofs.digits.digits_in.Given as goal
-
-abbrev pub invariant-bytes : goal.invariant-bytes
-invariant-bytes l = FoundLeft l.base l.text l.out.items l.left
-
-abbrev pub decreases-bytes : goal.decreases-bytes
-decreases-bytes l = length l.left

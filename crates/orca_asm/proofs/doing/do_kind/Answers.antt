@@ -1,9 +1,0 @@
-use Rattle.orca_asm.specs.NamesView.{constants}
-use Rattle.orca_asm.proofs.Lefts.{kind_left}
-use Rattle.orca_asm.proofs.Segments.{then_if}
-use Rattle.orca_asm.proofs.doing.do_kind.Goals as goal
-
-pub returns : goal.returns
-returns c =
-    then_if c.kinding.result (λ done leaves state line shows. kind_left state line (constants c.known.result) c.args.label c.args.text.now c.in_ok-number.number done c.kinding.new.kept c.in_ok-number.ensures (c.known.ensures state shows) (leaves state shows))
-    c.kinding.ensures

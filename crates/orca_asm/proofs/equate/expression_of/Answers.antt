@@ -1,8 +1,0 @@
-use Rattle.orca_asm.proofs.Equates.{tree_fine}
-use Rattle.orca_asm.proofs.Segments.{then_if}
-use Rattle.orca_asm.proofs.equate.expression_of.Goals as goal
-
-pub returns-in-Written-clause-fine : goal.returns-in-Written-clause-fine
-returns-in-Written-clause-fine c =
-    let fine = rw c.in-Written.is at c.requires in
-    then_if c.ended.result (λ v k. tree_fine fine.0 v.items fine.1 fine.2 (k fine.0 fine.3)) c.ended.ensures

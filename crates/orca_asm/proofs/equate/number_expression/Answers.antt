@@ -1,7 +1,0 @@
-use Rattle.omf_format.specs.Expression.{Leaf, Constant}
-use Rattle.orca_asm.proofs.Equates.{number_fine}
-use Rattle.orca_asm.proofs.Segments.{then_if}
-use Rattle.orca_asm.proofs.equate.number_expression.Goals as goal
-
-pub returns-clause-fine : goal.returns-clause-fine
-returns-clause-fine c = then_if c.ended.result (λ v k. number_fine c.args.n v.items c.ranges.n.fits (k (Leaf (Constant c.args.n)) c.in_ok-text.ensures)) c.ended.ensures

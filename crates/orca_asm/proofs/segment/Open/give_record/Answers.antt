@@ -1,8 +1,0 @@
-use Rattle.omf_records.specs.View.{view}
-use Rattle.orca_asm.specs.StateView.{labelled}
-use Rattle.orca_asm.proofs.Segments.{then_ok, marked_one}
-use Rattle.orca_asm.proofs.segment.Open.give_record.Goals as goal
-
-pub returns-clause-segment : goal.returns-clause-segment
-returns-clause-segment c =
-    then_ok c.put.result (λ k s shows. marked_one c.args.label.now 0x4E c.args.size (view c.args.rec.now) s c.args.self.now c.put.new.self shows c.requires.size (k (labelled c.args.label.now 0x4E c.args.size s) (c.in_ok-mark.ensures.segment s shows))) c.put.ensures.segment

@@ -1,6 +1,0 @@
-use Rattle.orca_asm.proofs.Lefts.{entry_left}
-use Rattle.orca_asm.proofs.Segments.{then_if}
-use Rattle.orca_asm.proofs.step.do_entry.Goals as goal
-
-pub returns : goal.returns
-returns c = then_if c.entering.result (λ done leaves state l text shows. entry_left state l c.args.label text done c.entering.new.kept (leaves state shows)) c.entering.ensures

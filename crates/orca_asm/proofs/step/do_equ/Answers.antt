@@ -1,6 +1,0 @@
-use Rattle.orca_asm.proofs.Segments.{then_if}
-use Rattle.orca_asm.proofs.StepLaws.{equ_left}
-use Rattle.orca_asm.proofs.step.do_equ.Goals as goal
-
-pub returns : goal.returns
-returns c = then_if c.do_equate.result (λ done is state l shows. equ_left state l c.args.label c.args.text.now done c.do_equate.new.kept (is state shows)) c.do_equate.ensures

@@ -1,7 +1,0 @@
-use Rattle.std.proofs.Common.{Some, ap, ◌∙◌}
-use Rattle.orca_meaning.specs.Line.{part}
-use Rattle.orca_asm.proofs.StepLaws.{instruct_is}
-use Rattle.orca_asm.proofs.step.do_operation.Goals as goal
-
-pub do_instruct-requires-clause-mnemonic : goal.do_instruct-requires-clause-mnemonic
-do_instruct-requires-clause-mnemonic c = instruct_is (part c.args.of.now.text c.args.of.now.operation) c.in-Instruct.mnemonic (c.requires.is ∙ ap Some c.in-Instruct.is)

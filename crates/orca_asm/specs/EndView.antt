@@ -1,8 +1,0 @@
--- The header of a segment that ends.
-use Rattle.omf_format.specs.Header.{Fields}
-use Rattle.orca_asm.specs.declared.segment.Open.{Open}
-use Rattle.orca_asm.specs.StateView.{header_view}
-
--- LENGTH is the number of its cells
-abbrev pub ended_header : Open → Fields
-ended_header o = record (header_view o) { length = o.body.cells }

@@ -1,5 +1,0 @@
-use Rattle.orca_macro.specs.View.{values}
-use Rattle.orca_macro.proofs.condition.number.Goals as goal
-
-pub returns-in-Some : goal.returns-in-Some
-returns-in-Some c = (rw c.in-Some.is at c.short_value.ensures).is (values c.args.of)

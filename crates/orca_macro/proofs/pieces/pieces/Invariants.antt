@@ -1,9 +1,0 @@
-use Rattle.std.proofs.Common.{◌≡◌, ◌≤◌, ◌++◌, length}
-use Rattle.macro_meaning.specs.Pieces.{pieces}
-use Rattle.orca_macro.proofs.pieces.pieces.Given as goal
-
-abbrev pub invariant-pieces : goal.invariant-pieces
-invariant-pieces l = (l.found.items ++ pieces l.separator l.left ≡ pieces l.separator l.text) × (length l.left ≤ length l.text)
-
-abbrev pub decreases-pieces : goal.decreases-pieces
-decreases-pieces l = length l.left

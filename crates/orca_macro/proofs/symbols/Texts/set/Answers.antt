@@ -1,6 +1,0 @@
-use Rattle.orca_macro.specs.View.{shared_text}
-use Rattle.orca_macro.proofs.Maps.{named}
-use Rattle.orca_macro.proofs.symbols.Texts.set.Goals as goal
-
-pub returns-in-Ok : goal.returns-in-Ok
-returns-in-Ok c = named shared_text c.args.name.now c.args.value c.args.self.now.map c.put.new.map c.in-Ok.ensures.ok

@@ -1,0 +1,54 @@
+-- Bytes that are kept as long as a file may have them.
+use Rattle.std.proofs.Common.{◌≡◌, ℕ, ◌<◌, ◌≤◌, Bool, true, false, cond, leb, List, [], ◌++◌, length, Some, None, refl, sym, ap, ◌∙◌, arith}
+use Rattle.std.proofs.lemmas.Bool.{leb-true, leb-false, le-leb}
+use Rattle.std.proofs.lemmas.List.{length-append}
+use Rattle.asm_meaning.specs.Object.{most_bytes}
+use Rattle.orca_object.specs.TextView.{limited}
+
+pub limited_nothing : limited [] ≡ Some []
+limited_nothing = refl
+
+is_limited : (text : List ℕ) → length text ≤ most_bytes → limited text ≡ Some text
+is_limited text few = by_size (leb (length text) most_bytes) (le-leb (length text) most_bytes few)
+  where
+    by_size : (b : Bool) → b ≡ true → cond b (Some text) None ≡ Some text
+    by_size true e = refl
+    by_size false e = absurd cc
+
+pub is_too_long : (text : List ℕ) → most_bytes < length text → limited text ≡ None
+is_too_long text many = by_size (leb (length text) most_bytes) refl
+  where
+    by_size : (b : Bool) → leb (length text) most_bytes ≡ b → cond b (Some text) None ≡ None
+    by_size true e = absurd (omega (arith, leb-true (length text) most_bytes e, many))
+    by_size false e = refl
+
+-- what was limited was too long, or the text itself
+pub long_text : (text : List ℕ) → None ≡ limited text → most_bytes < length text
+long_text text e = by_size (leb (length text) most_bytes) refl e
+  where
+    by_size : (b : Bool) → leb (length text) most_bytes ≡ b → None ≡ cond b (Some text) None → most_bytes < length text
+    by_size true is e = absurd cc
+    by_size false is e = leb-false (length text) most_bytes is
+
+pub same_text : (text bytes : List ℕ) → Some bytes ≡ limited text → text ≡ bytes
+same_text text bytes e = by_size (leb (length text) most_bytes) e
+  where
+    by_size : (b : Bool) → Some bytes ≡ cond b (Some text) None → text ≡ bytes
+    by_size true e = same text bytes e
+      where
+        same : (x y : List ℕ) → Some y ≡ Some x → x ≡ y
+        same x y e = cc
+    by_size false e = absurd cc
+
+pub stays_long : (text more : List ℕ) → None ≡ limited text → None ≡ limited (text ++ more)
+stays_long text more e = sym (is_too_long (text ++ more) (omega (arith, length-append text more, long_text text e)))
+
+pub grows_long : (text bytes new more : List ℕ) → Some bytes ≡ limited text → new ≡ bytes ++ more → most_bytes < length new → None ≡ limited (text ++ more)
+grows_long text bytes new more e put many =
+    let same : new ≡ text ++ more = put ∙ ap (λ (l : List ℕ). l ++ more) (sym (same_text text bytes e)) in
+    sym (ap limited (sym same) ∙ is_too_long new many)
+
+pub grows : (text bytes new more : List ℕ) → Some bytes ≡ limited text → new ≡ bytes ++ more → length new ≤ most_bytes → Some new ≡ limited (text ++ more)
+grows text bytes new more e put few =
+    let same : new ≡ text ++ more = put ∙ ap (λ (l : List ℕ). l ++ more) (sym (same_text text bytes e)) in
+    sym (ap limited (sym same) ∙ is_limited new few)

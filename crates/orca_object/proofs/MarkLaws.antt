@@ -1,0 +1,94 @@
+-- Statements of instructions and DC, with their labels.
+use Rattle.std.proofs.Common.{◌≡◌, ℕ, ◌≤◌, min, Bool, true, cond, List, length, Option, Some, None, Result, Ok, Err, refl, sym, ap, subst, ◌∙◌, arith}
+use Rattle.std.proofs.lemmas.Bool.{lt-ltb}
+use Rattle.std.specs.Option.{option_map}
+use Rattle.omf_format.specs.Field.{◌>>=◌}
+use Rattle.omf_format.specs.Record.{Record}
+use Rattle.orca_meaning.specs.declared.mnemonics.Mnemonic.{Mnemonic}
+use Rattle.orca_meaning.specs.Line.{Line}
+use Rattle.orca_meaning.specs.Operand.{Meaning}
+use Rattle.asm_meaning.specs.declared.directives.Class.{Class}
+use Rattle.asm_meaning.specs.declared.directives.Class.TheVariants as classes
+use Rattle.asm_meaning.specs.declared.directives.Directive.TheVariants as directives
+use Rattle.asm_meaning.specs.declared.directives.Operation.TheVariants.{Instruct, Direct}
+use Rattle.asm_meaning.specs.declared.faults.AsmCause.{AsmCause}
+use Rattle.asm_meaning.specs.declared.faults.AsmCause.TheVariants.{BadOperand, BadNumber, SegmentTooLong}
+use Rattle.asm_meaning.specs.Answer.{Answer}
+use Rattle.asm_meaning.specs.laws.AmountLaws.{AreSmall}
+use Rattle.asm_meaning.specs.Constant.{Constants}
+use Rattle.asm_meaning.specs.Elements.{list_pieces}
+use Rattle.asm_meaning.specs.laws.GivenLaws.{instruction_plain, list_plain}
+use Rattle.asm_meaning.specs.Instruction.{Widths, instruction}
+use Rattle.asm_meaning.specs.laws.LabelProofs.{lengths_add}
+use Rattle.asm_meaning.specs.laws.PieceLaws.{ArePlainPieces}
+use Rattle.asm_meaning.specs.Pieces.{Piece, length_at, records_of}
+use Rattle.asm_meaning.specs.State.{State, Segment, cells_of, marked, in_segment, within_length, greatest_length, is_too_long}
+use Rattle.asm_meaning.specs.Statement.{IsDone, IsOperandOf, Good, Bad, Large, constants_of, marking}
+use Rattle.orca_object.specs.declared.given.Given.{Given}
+use Rattle.orca_object.specs.declared.state.Kept.{Kept}
+use Rattle.orca_object.specs.declared.state.Open.{Open}
+use Rattle.orca_object.specs.GivenBy.{IsByInstruction, IsByList}
+use Rattle.orca_object.specs.GivenView.{given_pieces, given_answer}
+use Rattle.orca_object.specs.MarkView.{giving, IsPlainAnswer}
+use Rattle.orca_object.specs.StateView.{Leaves, IsLeft, ShowsOption}
+
+greatest-le : (c : Class) → greatest_length c ≤ 0xFFFFFF
+greatest-le classes.Code = omega arith
+greatest-le classes.PrivateCode = omega arith
+greatest-le classes.Data = omega arith
+greatest-le classes.PrivateData = omega arith
+
+abbrev too_long : Answer State
+too_long = Err SegmentTooLong
+
+-- a statement with 16,777,216 cells or more is too long in any segment
+pub given_too_long : (state : State) (k : Option Open) (o : Open) (label : List ℕ) (form size : ℕ) (records : List Record) → ShowsOption state.segment k → k ≡ Some o
+    → ((at : ℕ) → size ≡ min (length_at at records) 0x1000000) → 0x1000000 ≤ size → within_length (in_segment (marked label form records) state) ≡ too_long
+given_too_long state k o label form size records shown is cells many =
+    ap (λ (b : Bool). cond b too_long (Ok (in_segment (marked label form records) state))) (by_segment state.segment (subst (ShowsOption state.segment) is shown))
+  where
+    by_segment : (found : Option Segment) → ShowsOption found (Some o) → is_too_long (option_map (marked label form records) found) ≡ true
+    by_segment None shows = absurd shows
+    by_segment (Some s) shows = lt-ltb (greatest_length s.class) (cells_of (marked label form records s)) (omega (arith, greatest-le s.class, lengths_add label form records s, cells (cells_of s), many))
+
+abbrev pieces_ok : List Piece → Answer (List Piece)
+pieces_ok pieces = Ok pieces
+
+no_fault : (pieces : List Piece) (cause : AsmCause) → pieces_ok pieces ≡ Err cause → ⊥
+no_fault pieces cause e = absurd cc
+
+-- what they give can be written
+pub constants_plain : (cs : Constants) (msb : Bool) (text : List ℕ) (given : Result Given AsmCause) → AreSmall cs → length text ≤ 255 → IsByList cs msb text (given_answer given) → IsPlainAnswer given
+constants_plain cs msb text (Ok g) small short by = list_plain cs msb text by.found (given_pieces g) small short by.is (sym by.gives)
+constants_plain cs msb text (Err cause) small short by = tt
+
+pub instruct_plain : (cs : Constants) (widths : Widths) (m : Mnemonic) (text : List ℕ) (given : Result Given AsmCause) → AreSmall cs → length text ≤ 255 → IsByInstruction cs widths m text (given_answer given) → IsPlainAnswer given
+instruct_plain cs widths m text (Ok g) small short by = by_operand by.operand by.is by.gives
+  where
+    by_operand : (operand : Answer Meaning) → IsOperandOf m text operand → pieces_ok (given_pieces g) ≡ (operand >>= instruction cs widths m) → ArePlainPieces (given_pieces g)
+    by_operand operand (Good meaning good e) gives =
+        instruction_plain cs widths m text meaning (given_pieces g) small short good (sym (gives ∙ ap (λ (o : Answer Meaning). o >>= instruction cs widths m) e))
+    by_operand operand (Bad none e) gives = absurd (no_fault (given_pieces g) BadOperand (gives ∙ ap (λ (o : Answer Meaning). o >>= instruction cs widths m) e))
+    by_operand operand (Large large e) gives = absurd (no_fault (given_pieces g) BadNumber (gives ∙ ap (λ (o : Answer Meaning). o >>= instruction cs widths m) e))
+instruct_plain cs widths m text (Err cause) small short by = tt
+
+-- what they leave, as the definition says it
+pub constants_left : {U : Type 0} (state : State) (line : Line) (cs : Constants) (msb : Bool) (label : Answer (List ℕ)) (text : List ℕ) (given : Result Given AsmCause) (done : Result U AsmCause) (k : Kept) → IsByList cs msb text (given_answer given)
+    → cs ≡ constants_of state → msb ≡ state.msb → Leaves done k (giving state 0x4E label given) → IsLeft state line (Direct directives.Constants) label text done k
+unfolding IsDone
+constants_left state line cs msb label text given done k by same same_msb leaves = record {
+  left = marking state 0x4E label (list_pieces (constants_of state) state.msb by.found >>= λ pieces. Ok (records_of pieces));
+  is = (by.found, by.is, refl);
+  leaves = subst (λ (a : Answer (List Piece)). Leaves done k (marking state 0x4E label (a >>= λ pieces. Ok (records_of pieces))))
+      (by.gives ∙ ap (λ (c : Constants). list_pieces c msb by.found) same ∙ ap (λ (b : Bool). list_pieces (constants_of state) b by.found) same_msb) leaves;
+}
+
+pub instruct_left : {U : Type 0} (state : State) (line : Line) (cs : Constants) (widths : Widths) (m : Mnemonic) (label : Answer (List ℕ)) (text : List ℕ) (given : Result Given AsmCause) (done : Result U AsmCause) (k : Kept)
+    → IsByInstruction cs widths m text (given_answer given) → cs ≡ constants_of state → widths ≡ state.widths → Leaves done k (giving state 0x4D label given) → IsLeft state line (Instruct m) label text done k
+unfolding IsDone
+instruct_left state line cs widths m label text given done k by same same_widths leaves = record {
+  left = marking state 0x4D label (by.operand >>= instruction (constants_of state) state.widths m >>= λ pieces. Ok (records_of pieces));
+  is = (by.operand, by.is, refl);
+  leaves = subst (λ (a : Answer (List Piece)). Leaves done k (marking state 0x4D label (a >>= λ pieces. Ok (records_of pieces))))
+      (by.gives ∙ ap (λ (c : Constants). by.operand >>= instruction c widths m) same ∙ ap (λ (w : Widths). by.operand >>= instruction (constants_of state) w m) same_widths) leaves;
+}

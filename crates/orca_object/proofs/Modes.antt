@@ -1,0 +1,30 @@
+-- The modes that a mnemonic offers.
+use Rattle.std.proofs.Common.{◌≡◌, ℕ, Bool, true, cond, List, [], ◌∷◌, Some, Ok, sym, ap, ◌∙◌}
+use Rattle.std.specs.Prelude.{find}
+use Rattle.orca_meaning.specs.declared.forms.Prefix.{Prefix}
+use Rattle.orca_meaning.specs.declared.mnemonics.Mnemonic.{Mnemonic}
+use Rattle.orca_meaning.specs.declared.modes.Mode.{Mode}
+use Rattle.asm_meaning.specs.Answer.{Answer}
+use Rattle.asm_meaning.specs.Instruction.{Widths, Kind, kind_of, operand_bytes, holds, or_fault, mode_of_number}
+use Rattle.orca_object.specs.ModeView.{number_test}
+
+same : (x y : Mode) → Some x ≡ Some y → x ≡ y
+same x y e = cc
+
+-- where the first one passes a test, it is the first that does
+first_found : (test : Mode → Bool) (first : Mode) (modes : List Mode) → find (λ m. true) modes ≡ Some first → test first ≡ true → find test modes ≡ Some first
+first_found test first [] found passes = absurd cc
+first_found test first (x ∷ modes) found passes =
+    let one : x ≡ first = same x first found in
+    ap (λ (b : Bool). cond b (Some x) (find test modes)) (ap test one ∙ passes) ∙ found
+
+abbrev chosen : Mode → Answer Mode
+chosen mode = Ok mode
+
+-- the first mode that is offered holds the number
+pub first_holds : (w : Widths) (m : Mnemonic) (p : Prefix) (n : ℕ) (first : Mode) (modes : List Mode) (k : Kind) (width : ℕ) (b : Bool) → find (λ x. true) modes ≡ Some first → k ≡ kind_of first
+    → width ≡ operand_bytes w m first → b ≡ holds p k width n → b ≡ true → chosen first ≡ mode_of_number w m p n modes
+first_holds w m p n first modes k width b found kind_is width_is is passes =
+    let test : number_test w m p n first ≡ true =
+    sym (is ∙ ap (λ (x : Kind). holds p x width n) kind_is ∙ ap (λ (x : ℕ). holds p (kind_of first) x n) width_is) ∙ passes in
+    sym (ap or_fault (first_found (number_test w m p n) first modes found test))

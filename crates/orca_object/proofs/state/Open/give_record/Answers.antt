@@ -1,0 +1,9 @@
+use Rattle.omf_records.specs.View.{view}
+use Rattle.orca_object.specs.StateView.{labelled}
+use Rattle.orca_object.proofs.After.{then_ok}
+use Rattle.orca_object.proofs.OpenLaws.{marked_one}
+use Rattle.orca_object.proofs.state.Open.give_record.Goals as goal
+
+pub returns-clause-segment : goal.returns-clause-segment
+returns-clause-segment c =
+    then_ok c.put.result (λ k s shows. marked_one c.args.label.now 0x4E c.args.size (view c.args.rec.now) s c.args.self.now c.put.new.self shows c.requires.size (k (labelled c.args.label.now 0x4E c.args.size s) (c.in_ok-mark.ensures.segment s shows))) c.put.ensures.segment

@@ -1,0 +1,38 @@
+-- What directives leave, by the number that their operand is.
+use Rattle.std.specs.Prelude.{ℕ, ◌≤◌, length, List, [], ◌∷◌, Result, Ok, Err}
+use Rattle.omf_format.specs.Field.{◌>>=◌}
+use Rattle.omf_format.specs.Record.{Record, Space, Using}
+use Rattle.asm_meaning.specs.declared.faults.AsmCause.{AsmCause}
+use Rattle.asm_meaning.specs.Answer.{Answer, both}
+use Rattle.asm_meaning.specs.State.{State, in_segment, marked}
+use Rattle.asm_meaning.specs.Statement.{marking, alignment_in, aligned, distance_in, moved, listed_kind, with_kind}
+use Rattle.orca_object.specs.declared.state.Content.{Content}
+use Rattle.orca_object.specs.ContentView.{content_records, IsContent}
+
+abbrev pub content_answer : Result Content AsmCause → Answer (List Record)
+content_answer (Ok content) = Ok (content_records content)
+content_answer (Err cause) = Err cause
+
+abbrev pub IsContentAnswer : Result Content AsmCause → Type 0
+IsContentAnswer (Ok content) = IsContent content
+IsContentAnswer (Err cause) = Unit {0}
+
+-- a name that isn't empty
+abbrev pub IsSome : Answer (List ℕ) → Type 0
+IsSome (Ok name) = 1 ≤ length name
+IsSome (Err cause) = Unit {0}
+
+abbrev pub using_by : State → Answer (List ℕ) → Answer (List ℕ) → Answer State
+using_by state label found = marking state 0x4E label (found >>= λ name. Ok (Using name ∷ []))
+
+abbrev pub spaced_by : State → Answer (List ℕ) → Answer ℕ → Answer State
+spaced_by state label number = both label number >>= λ (name, n). Ok (in_segment (marked name 0x4E (Space n ∷ [])) state)
+
+abbrev pub aligned_by : State → Answer (List ℕ) → Answer ℕ → Answer State
+aligned_by state label number = both label (number >>= alignment_in state) >>= λ (name, n). Ok (aligned state state.segment name n)
+
+abbrev pub moved_by : State → Answer (List ℕ) → Answer ℕ → Answer State
+moved_by state label number = both label (number >>= distance_in state.segment) >>= λ (name, n). Ok (moved state state.segment name n)
+
+abbrev pub kinded_by : State → Answer (List ℕ) → Answer ℕ → Answer State
+kinded_by state label number = both label (number >>= listed_kind) >>= λ (name, n). Ok (in_segment (λ s. with_kind n (marked name 0x4E [] s)) state)

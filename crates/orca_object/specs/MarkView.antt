@@ -1,0 +1,18 @@
+-- A statement that gives pieces, with its label.
+use Rattle.std.specs.Prelude.{ℕ, List, Result, Ok, Err}
+use Rattle.omf_format.specs.Field.{◌>>=◌}
+use Rattle.asm_meaning.specs.declared.faults.AsmCause.{AsmCause}
+use Rattle.asm_meaning.specs.Answer.{Answer}
+use Rattle.asm_meaning.specs.laws.PieceLaws.{ArePlainPieces}
+use Rattle.asm_meaning.specs.Pieces.{records_of}
+use Rattle.asm_meaning.specs.State.{State}
+use Rattle.asm_meaning.specs.Statement.{marking}
+use Rattle.orca_object.specs.declared.given.Given.{Given}
+use Rattle.orca_object.specs.GivenView.{given_pieces, given_answer}
+
+abbrev pub giving : State → ℕ → Answer (List ℕ) → Result Given AsmCause → Answer State
+giving state form label given = marking state form label (given_answer given >>= λ pieces. Ok (records_of pieces))
+
+abbrev pub IsPlainAnswer : Result Given AsmCause → Type 0
+IsPlainAnswer (Ok given) = ArePlainPieces (given_pieces given)
+IsPlainAnswer (Err cause) = Unit {0}

@@ -1,0 +1,99 @@
+-- How what lines leave is kept: the bytes of records in place of records, and maps in place of the names and constants.
+use Rattle.std.specs.Prelude.{◌≡◌, ℕ, ◌+◌, ◌%◌, ◌≤◌, List, ◌++◌, length, Option, Some, None, Result, Ok, Err}
+use Rattle.omf_format.specs.Header.{Fields}
+use Rattle.omf_format.specs.Record.{Record}
+use Rattle.asm_meaning.specs.Answer.{Answer}
+use Rattle.asm_meaning.specs.declared.faults.AsmCause.{AsmCause}
+use Rattle.asm_meaning.specs.Object.{records_text, object_text}
+use Rattle.asm_meaning.specs.Pieces.{place_behind}
+use Rattle.omf_format.specs.Field.{◌>>=◌}
+use Rattle.orca_meaning.specs.Line.{Line}
+use Rattle.asm_meaning.specs.declared.directives.Operation.{Operation}
+use Rattle.asm_meaning.specs.State.{Segment, State, bank_size_of, with_label, local_of, within_length}
+use Rattle.asm_meaning.specs.Statement.{IsDone}
+use Rattle.orca_object.specs.declared.state.Open.{Open}
+use Rattle.orca_object.specs.declared.state.Kept.{Kept}
+use Rattle.orca_object.specs.ModeView.{widths}
+use Rattle.orca_object.specs.NamesView.{names_of, outside_of}
+use Rattle.orca_object.specs.TextView.{limited, kept_text}
+use Rattle.orca_object.specs.BodyView.{ShowsBody}
+
+-- the header that a segment has so far
+abbrev pub header_view : Open → Fields
+header_view o = record {
+  byte_count = 0;
+  res_spc = 0;
+  length = 0;
+  lab_len = 0;
+  version = 2;
+  bank_size = bank_size_of o.class;
+  kind = o.kind;
+  org = o.org;
+  align = o.align;
+  seg_num = o.number;
+  entry = 0;
+  disp_name = 0;
+  disp_data = 0;
+  load_name = o.load_name;
+  name = o.name;
+}
+
+-- a segment that hasn't ended is kept so
+pub record ShowsSegment (s : Segment) (o : Open) : Type 0 where
+  pub file : o.file ≡ s.begun.file
+  pub line : o.line ≡ s.begun.number
+  pub class : o.class ≡ s.class
+  pub header : s.header ≡ header_view o
+  pub names : names_of o.names ≡ s.names
+  pub body : ShowsBody s.body o.body
+
+abbrev pub ShowsOption : Option Segment → Option Open → Type 0
+ShowsOption None None = Unit {0}
+ShowsOption None (Some o) = ⊥
+ShowsOption (Some s) None = ⊥
+ShowsOption (Some s) (Some o) = ShowsSegment s o
+
+-- what lines leave is kept so
+pub record ShowsState (state : State) (k : Kept) : Type 0 where
+  pub widths : widths k.widths ≡ state.widths
+  pub msb : k.msb ≡ state.msb
+  pub outside : outside_of k.outside ≡ state.outside
+  pub org : k.org ≡ state.org
+  pub align : k.align ≡ state.align
+  pub front : kept_text k.front ≡ limited (records_text state.front)
+  pub waiting : place_behind 0 state.front ≡ 0
+  pub segment : ShowsOption state.segment k.segment
+  pub number : k.number ≡ (length state.ended + 1) % 0x10000
+  pub object : kept_text k.object ≡ limited (object_text state.ended)
+
+-- the open segment has so few cells
+abbrev pub IsShortOption : Option Open → Type 0
+IsShortOption None = Unit {0}
+IsShortOption (Some o) = o.body.cells ≤ 0xFFFFFF
+
+-- ---- changes of a segment
+
+-- one more name
+abbrev pub named : List ℕ → Option ℕ → Segment → Segment
+named label value s = record s { names = with_label label value s.names }
+
+-- more records
+abbrev pub with_records : List Record → Segment → Segment
+with_records contents s = record s { body = s.body ++ contents }
+
+-- a label, with its LOCAL
+abbrev pub labelled : List ℕ → ℕ → ℕ → Segment → Segment
+labelled label form size s = with_records (local_of label form size) (named label None s)
+
+-- ---- answers
+
+-- a statement leaves this, or has this fault, which may be that its segment is then too long
+abbrev pub Leaves : {U : Type 0} → Result U AsmCause → Kept → Answer State → Type 0
+Leaves (Ok done) k answer = (next : State) × (answer ≡ Ok next) × ShowsState next k
+Leaves (Err cause) k answer = (answer >>= within_length) ≡ Err cause
+
+-- what an operation leaves
+pub record IsLeft {U : Type 0} (state : State) (line : Line) (operation : Operation) (label : Answer (List ℕ)) (text : List ℕ) (done : Result U AsmCause) (k : Kept) : Type 0 where
+  pub left : Answer State
+  pub is : IsDone state line operation label text left
+  pub leaves : Leaves done k left

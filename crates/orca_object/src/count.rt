@@ -1,0 +1,87 @@
+//! How often an element of DC stands (ORCA/M reference manual, "Declare Constant").
+
+ghost use Rattle.std.specs.Prelude.{◌≡◌, ◌≤◌, ◌∷◌, List, ℕ, length, true, false, Some, None, Ok, Err, IfOk, IfSome, IfNone, MatchOption};
+ghost use Rattle.omf_format.specs.Expression.{AreTerms, Tree};
+ghost use Rattle.orca_meaning.specs.declared.operators.Operands.TheVariants.{Labels};
+ghost use Rattle.orca_meaning.specs.Formula.{MeansAt};
+ghost use Rattle.orca_meaning.specs.Token.{digits_at};
+ghost use Rattle.asm_meaning.specs.Elements.{Repeat, IsRepeatAt, in_range};
+ghost use Rattle.orca_object.specs.DcView.{IsKeptOf, IsComputed, IsCounted, HasCount, ranged};
+ghost use Rattle.orca_object.specs.NamesView.{constants};
+
+use crate::element::{behind_parenthesis, in_range};
+use crate::names::Known;
+use crate::numbers::number_of;
+use asm_meaning::AsmCause;
+use orca_text::{Operands, behind_byte, digits_at, formula_at};
+use std::alloc::{AllocError, Global};
+
+/// A count, which is 1 to 65,535.
+fn ranged(n: Result<u32, AsmCause>) -> Result<u32, AsmCause>
+    ensures { result ≡ ranged n }
+{
+    match n {
+        Ok(n) => in_range(n),
+        Err(cause) => Err(cause),
+    }
+}
+
+/// The count that a formula in parentheses is, behind the first of them.
+fn computed_count<'a>(
+    alloc: Global,
+    known: Known<'_>,
+    behind: &'a [u8],
+) -> Result<Option<(Result<u32, AsmCause>, &'a [u8])>, AllocError>
+    requires { length behind.now ≤ 255 }
+    ensures found { IfOk result (λ found. IfSome found (λ x. IsComputed (constants known.entry) behind.now x.0 x.1.now)) }
+    ensures none { IfOk result (λ found. IfNone found ((tree : Tree) (rest : List ℕ) → MeansAt Labels behind.now tree (0x29 ∷ rest) → ⊥)) }
+{
+    let Some(found) = formula_at(alloc, Operands::Labels, behind)? else {
+        return Ok(None);
+    };
+    let Some(rest) = behind_byte(found.rest, b')') else {
+        return Ok(None);
+    };
+    let n = number_of(alloc, known, &found.formula, found.large)?;
+    Ok(Some((ranged(n), rest)))
+}
+
+/// The count that decimal digits are.
+fn digits_count(text: &[u8]) -> Option<(Result<u32, AsmCause>, &[u8])>
+    ensures { MatchOption result (digits_at 10 text.now ≡ None) (λ x. IsCounted text.now x.0 x.1.now) }
+{
+    match digits_at(10, text) {
+        Some((found, rest)) => Some((count_by(found), rest)),
+        None => None,
+    }
+}
+
+/// A count of digits, of which none is too large a number.
+fn count_by(found: Option<u32>) -> Result<u32, AsmCause>
+    ensures { result ≡ Rattle.orca_object.specs.DcView.count_by found }
+{
+    match found {
+        Some(n) => in_range(n),
+        None => Err(AsmCause::BadNumber),
+    }
+}
+
+/// How often an element stands, which is said at the front of a text, and what stands behind that.
+pub(crate) fn count_at<'a>(
+    alloc: Global,
+    known: Known<'_>,
+    text: &'a [u8],
+) -> Result<Option<(Result<u32, AsmCause>, &'a [u8])>, AllocError>
+    requires { length text.now ≤ 255 }
+    ensures found { IfOk result (λ found. IfSome found (λ x. HasCount (constants known.entry) text.now x.0 x.1.now)) }
+    ensures none { IfOk result (λ found. IfNone found ((repeat : Repeat) (rest : List ℕ) → IsRepeatAt text.now repeat rest → ⊥)) }
+{
+    if let Some(behind) = behind_parenthesis(text) {
+        let found = computed_count(alloc, known, behind)?;
+        return Ok(found);
+    }
+    if let Some((answer, rest)) = digits_count(text) {
+        return Ok(Some((answer, rest)));
+    }
+    Ok(Some((Ok(1), text)))
+}

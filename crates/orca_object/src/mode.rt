@@ -1,0 +1,403 @@
+//! Which addressing mode an operand has (WDC 65C816 data sheet, addressing modes).
+
+ghost use Rattle.std.specs.Prelude.{◌≡◌, ◌+◌, ◌-◌, ◌^◌, ◌≤◌, ◌<◌, ◌==◌, ◌&&◌, true, map, filter, find, length, nat_lt, nat_le, ◌/◌, Some, None, Ok, Err};
+ghost use Rattle.orca_meaning.specs.Length.{length_of};
+ghost use Rattle.orca_meaning.specs.Operation.{has_mode};
+ghost use Rattle.asm_meaning.specs.Instruction.{operand_bytes, modes_of, kind_of, is_address, is_value, is_asked, offered, value_shift, is_bare, fits_value, holds, or_fault, or_first, mode_of_number, mode_of_tree, shift_in, is_distance};
+ghost use Rattle.orca_object.specs.ModeView.{widths, kind, offered_test, number_test, two_test};
+
+use asm_meaning::AsmCause;
+use orca_meaning::{Form, Mnemonic, Mode, Prefix};
+
+/// The widths of the registers.
+#[derive(Clone, Copy)]
+pub(crate) struct Widths {
+    /// The accumulator has 16 bits.
+    pub(crate) long_a: bool,
+    /// The index registers have 16 bits.
+    pub(crate) long_i: bool,
+}
+
+/// What an operand is in the instruction.
+#[derive(Clone, Copy)]
+pub(crate) enum Kind {
+    /// Nothing.
+    Missing,
+    /// A value.
+    Value,
+    /// An address or a stack offset of so many bytes.
+    Address(u8),
+    /// A distance of so many bytes.
+    Distance(u8),
+    /// Two banks.
+    Banks,
+    /// A signature.
+    Sign,
+}
+
+/// How many bytes the operand of an instruction has.
+#[tactic(auto, unfolding(asm_meaning::specs::Instruction::operand_bytes, orca_meaning::specs::Length::length_of))]
+#[inline(always)]
+pub(crate) fn operand_bytes(of: Widths, mnemonic: Mnemonic, mode: Mode) -> u8
+    ensures value { result ≡ operand_bytes (widths of) mnemonic mode }
+    ensures few { result ≤ 3 }
+{
+    match mode {
+        Mode::Implied | Mode::Accumulator => 0,
+        Mode::Immediate => immediate_bytes(of, mnemonic),
+        Mode::Direct
+        | Mode::DirectX
+        | Mode::DirectY
+        | Mode::DirectIndirect
+        | Mode::DirectIndirectY
+        | Mode::DirectXIndirect
+        | Mode::DirectLong
+        | Mode::DirectLongY
+        | Mode::Stack
+        | Mode::StackIndirectY
+        | Mode::Relative8
+        | Mode::Signature => 1,
+        Mode::Absolute
+        | Mode::AbsoluteX
+        | Mode::AbsoluteY
+        | Mode::AbsoluteIndirect
+        | Mode::AbsoluteXIndirect
+        | Mode::AbsoluteLongIndirect
+        | Mode::Relative16
+        | Mode::Move => 2,
+        Mode::Long | Mode::LongX => 3,
+    }
+}
+
+/// How many bytes an immediate operand has.
+#[tactic(auto, unfolding(orca_meaning::specs::Length::length_of, orca_meaning::specs::Length::has_long_operand))]
+fn immediate_bytes(of: Widths, mnemonic: Mnemonic) -> u8
+    ensures value { result ≡ length_of mnemonic Mode.Immediate of.long_a of.long_i - 1 }
+    ensures few { result ≤ 2 }
+{
+    let long = match mnemonic {
+        Mnemonic::Ora
+        | Mnemonic::And
+        | Mnemonic::Eor
+        | Mnemonic::Adc
+        | Mnemonic::Bit
+        | Mnemonic::Lda
+        | Mnemonic::Cmp
+        | Mnemonic::Sbc => of.long_a,
+        Mnemonic::Ldx | Mnemonic::Ldy | Mnemonic::Cpx | Mnemonic::Cpy => of.long_i,
+        _ => false,
+    };
+    if long { 2 } else { 1 }
+}
+
+/// The modes of a form, the narrowest address first.
+#[tactic(auto, unfolding(asm_meaning::specs::Instruction::modes_of))]
+fn modes_of(form: Form) -> &'static [Mode]
+    ensures { result.now ≡ modes_of form }
+{
+    match form {
+        Form::Nothing => &[Mode::Implied, Mode::Accumulator, Mode::Signature],
+        Form::Accumulator => &[Mode::Accumulator],
+        Form::Immediate => &[Mode::Immediate, Mode::Signature],
+        Form::Plain => &[
+            Mode::Relative8,
+            Mode::Relative16,
+            Mode::Signature,
+            Mode::Direct,
+            Mode::Absolute,
+            Mode::Long,
+        ],
+        Form::IndexX => &[Mode::DirectX, Mode::AbsoluteX, Mode::LongX],
+        Form::IndexY => &[Mode::DirectY, Mode::AbsoluteY],
+        Form::IndexS => &[Mode::Stack],
+        Form::Paren => &[Mode::DirectIndirect, Mode::AbsoluteIndirect],
+        Form::ParenY => &[Mode::DirectIndirectY],
+        Form::ParenX => &[Mode::DirectXIndirect, Mode::AbsoluteXIndirect],
+        Form::ParenSY => &[Mode::StackIndirectY],
+        Form::Bracket => &[Mode::DirectLong, Mode::AbsoluteLongIndirect],
+        Form::BracketY => &[Mode::DirectLongY],
+        Form::Pair => &[Mode::Move],
+        Form::Other => &[],
+    }
+}
+
+/// What an operand in a mode is.
+#[tactic(auto, unfolding(asm_meaning::specs::Instruction::kind_of))]
+#[inline(always)]
+pub(crate) fn kind_of(mode: Mode) -> Kind
+    ensures { kind result ≡ kind_of mode }
+{
+    match mode {
+        Mode::Implied | Mode::Accumulator => Kind::Missing,
+        Mode::Immediate => Kind::Value,
+        Mode::Direct
+        | Mode::DirectX
+        | Mode::DirectY
+        | Mode::DirectIndirect
+        | Mode::DirectIndirectY
+        | Mode::DirectXIndirect
+        | Mode::DirectLong
+        | Mode::DirectLongY
+        | Mode::Stack
+        | Mode::StackIndirectY => Kind::Address(1),
+        Mode::Absolute
+        | Mode::AbsoluteX
+        | Mode::AbsoluteY
+        | Mode::AbsoluteIndirect
+        | Mode::AbsoluteXIndirect
+        | Mode::AbsoluteLongIndirect => Kind::Address(2),
+        Mode::Long | Mode::LongX => Kind::Address(3),
+        Mode::Relative8 => Kind::Distance(1),
+        Mode::Relative16 => Kind::Distance(2),
+        Mode::Move => Kind::Banks,
+        Mode::Signature => Kind::Sign,
+    }
+}
+
+/// Whether the operand is an address of so many bytes.
+#[inline(always)]
+fn is_address(of: Kind, bytes: u8) -> bool
+    ensures { result ≡ is_address bytes (kind of) }
+{
+    match of {
+        Kind::Address(n) => n == bytes,
+        Kind::Missing | Kind::Value | Kind::Distance(_) | Kind::Banks | Kind::Sign => false,
+    }
+}
+
+/// Whether the operand is a value.
+#[inline(always)]
+fn is_value(of: Kind) -> bool
+    ensures { result ≡ is_value (kind of) }
+{
+    match of {
+        Kind::Value => true,
+        Kind::Missing | Kind::Address(_) | Kind::Distance(_) | Kind::Banks | Kind::Sign => false,
+    }
+}
+
+/// Whether the operand is the distance of a branch.
+#[inline(always)]
+pub(crate) fn is_distance(of: Kind) -> bool
+    ensures { result ≡ is_distance (kind of) }
+{
+    match of {
+        Kind::Distance(_) => true,
+        Kind::Missing | Kind::Value | Kind::Address(_) | Kind::Banks | Kind::Sign => false,
+    }
+}
+
+/// Whether a prefix lets such an operand stand.
+#[inline(always)]
+fn is_asked(prefix: Prefix, of: Kind) -> bool
+    ensures { result ≡ is_asked prefix (kind of) }
+{
+    match prefix {
+        Prefix::Bare => true,
+        Prefix::Less => is_value(of) || is_address(of, 1),
+        Prefix::Bar => is_address(of, 2),
+        Prefix::Greater => is_value(of) || is_address(of, 3),
+        Prefix::Caret => is_value(of),
+    }
+}
+
+/// Whether a mnemonic has a mode that the prefix doesn't rule out.
+#[inline(always)]
+fn is_offered(mnemonic: Mnemonic, prefix: Prefix, mode: Mode) -> bool
+    ensures { result ≡ (has_mode mnemonic mode && is_asked prefix (kind_of mode)) }
+{
+    is_asked(prefix, kind_of(mode)) && w65_encode::opcode(mnemonic, mode).is_some()
+}
+
+/// By how much an immediate operand is shifted to the right.
+#[inline(always)]
+fn value_shift(prefix: Prefix) -> u8
+    ensures value { result ≡ value_shift prefix }
+    ensures few { result ≤ 16 }
+{
+    match prefix {
+        Prefix::Bare => 0,
+        Prefix::Less => 0,
+        Prefix::Bar => 0,
+        Prefix::Greater => 8,
+        Prefix::Caret => 16,
+    }
+}
+
+/// By how much an operand is shifted to the right: a value alone is.
+#[inline(always)]
+pub(crate) fn shift_in(of: Kind, prefix: Prefix) -> u8
+    ensures value { result ≡ shift_in (kind of) prefix }
+    ensures few { result ≤ 16 }
+{
+    match of {
+        Kind::Value => value_shift(prefix),
+        Kind::Missing | Kind::Address(_) | Kind::Distance(_) | Kind::Banks | Kind::Sign => 0,
+    }
+}
+
+/// Whether a number fits so many bytes as an unsigned one.
+#[inline(always)]
+fn fits(n: u32, width: u8) -> bool
+    requires { width ≤ 3 }
+    ensures { result ≡ nat_lt n (256 ^ width) }
+{
+    match width {
+        0 => n < 1,
+        1 => n < 0x100,
+        2 => n < 0x1_0000,
+        _ => n < 0x100_0000,
+    }
+}
+
+/// Whether a number is one in two's complement of so many bytes that is below 0.
+fn is_negative(n: u32, width: u8) -> bool
+    requires { width ≤ 3 }
+    ensures { result ≡ nat_le (2 ^ 32 - 256 ^ width / 2) n }
+{
+    match width {
+        0 => false,
+        1 => n >= 0xFFFF_FF80,
+        2 => n >= 0xFFFF_8000,
+        _ => n >= 0xFF80_0000,
+    }
+}
+
+/// Whether no prefix stands there.
+fn is_bare(prefix: Prefix) -> bool
+    ensures { result ≡ is_bare prefix }
+{
+    match prefix {
+        Prefix::Bare => true,
+        Prefix::Less => false,
+        Prefix::Bar => false,
+        Prefix::Greater => false,
+        Prefix::Caret => false,
+    }
+}
+
+/// Whether a value fits so many bytes.
+#[inline(always)]
+fn fits_value(prefix: Prefix, width: u8, n: u32) -> bool
+    requires { width ≤ 3 }
+    ensures { result ≡ fits_value prefix width n }
+{
+    if is_bare(prefix) {
+        return fits(n, width) || is_negative(n, width);
+    }
+    true
+}
+
+/// Whether the operand can be this number in so many bytes.
+#[inline(always)]
+fn holds(prefix: Prefix, of: Kind, width: u8, n: u32) -> bool
+    requires { width ≤ 3 }
+    ensures { result ≡ holds prefix (kind of) width n }
+{
+    match of {
+        Kind::Missing => false,
+        Kind::Value => fits_value(prefix, width, n),
+        Kind::Address(_) => fits(n, width),
+        Kind::Distance(_) => true,
+        Kind::Banks => n < 256,
+        Kind::Sign => fits(n, width),
+    }
+}
+
+/// The first of these modes that is offered and can have the number.
+#[inline(always)]
+fn first_holding(
+    of: Widths,
+    mnemonic: Mnemonic,
+    prefix: Prefix,
+    modes: &[Mode],
+    n: u32,
+) -> Option<Mode>
+    ensures { result ≡ find (number_test (widths of) mnemonic prefix n) (filter (offered_test mnemonic prefix) modes.now) }
+{
+    let mut left = modes;
+    'modes: while let Some((mode, behind)) = left.split_first() {
+        if is_offered(mnemonic, prefix, *mode) {
+            let width = operand_bytes(of, mnemonic, *mode);
+            if holds(prefix, kind_of(*mode), width, n) {
+                return Some(*mode);
+            }
+        }
+        left = behind;
+    }
+    None
+}
+
+/// The first of these modes that is offered.
+#[inline(always)]
+fn first_offered(mnemonic: Mnemonic, prefix: Prefix, modes: &[Mode]) -> Option<Mode>
+    ensures { result ≡ find (λ m. true) (filter (offered_test mnemonic prefix) modes.now) }
+{
+    let mut left = modes;
+    'modes: while let Some((mode, behind)) = left.split_first() {
+        if is_offered(mnemonic, prefix, *mode) {
+            return Some(*mode);
+        }
+        left = behind;
+    }
+    None
+}
+
+/// The first of these modes that is offered and has an address of two bytes.
+#[inline(always)]
+fn first_of_two(mnemonic: Mnemonic, prefix: Prefix, modes: &[Mode]) -> Option<Mode>
+    ensures { result ≡ find two_test (filter (offered_test mnemonic prefix) modes.now) }
+{
+    let mut left = modes;
+    'modes: while let Some((mode, behind)) = left.split_first() {
+        if is_address(kind_of(*mode), 2) {
+            if is_offered(mnemonic, prefix, *mode) {
+                return Some(*mode);
+            }
+        }
+        left = behind;
+    }
+    None
+}
+
+/// The first mode that a mnemonic offers for a form and a prefix, or BadMode.
+#[tactic(auto, unfolding(asm_meaning::specs::Instruction::offered))]
+pub(crate) fn first_mode(mnemonic: Mnemonic, form: Form, prefix: Prefix) -> Option<Mode>
+    ensures { result ≡ find (λ m. true) (offered mnemonic form prefix) }
+{
+    first_offered(mnemonic, prefix, modes_of(form))
+}
+
+/// The mode of an operand that is this number, where the first one that is offered is this.
+#[tactic(auto, unfolding(asm_meaning::specs::Instruction::offered))]
+pub(crate) fn mode_of_number(
+    of: Widths,
+    mnemonic: Mnemonic,
+    form: Form,
+    prefix: Prefix,
+    first: Mode,
+    n: u32,
+) -> Result<Mode, AsmCause>
+    requires { find (λ m. true) (offered mnemonic form prefix) ≡ Some first }
+    ensures { result ≡ mode_of_number (widths of) mnemonic prefix n (offered mnemonic form prefix) }
+{
+    let width = operand_bytes(of, mnemonic, first);
+    if holds(prefix, kind_of(first), width, n) {
+        return Ok(first);
+    }
+    match first_holding(of, mnemonic, prefix, modes_of(form), n) {
+        Some(mode) => Ok(mode),
+        None => Err(AsmCause::DoesNotFit),
+    }
+}
+
+/// The mode of an operand that is no constant, where the first one that is offered is this.
+#[tactic(auto, unfolding(asm_meaning::specs::Instruction::offered))]
+pub(crate) fn mode_of_tree(mnemonic: Mnemonic, form: Form, prefix: Prefix, first: Mode) -> Mode
+    ensures { result ≡ or_first first (find two_test (offered mnemonic form prefix)) }
+{
+    match first_of_two(mnemonic, prefix, modes_of(form)) {
+        Some(mode) => mode,
+        None => first,
+    }
+}

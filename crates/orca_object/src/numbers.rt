@@ -1,0 +1,145 @@
+//! Formulas where numbers are wanted: those of DC's types I and A, and counts (ORCA/M reference manual, "Declare Constant").
+
+ghost use Rattle.std.specs.Prelude.{◌≡◌, ◌≤◌, ◌++◌, [], List, ℕ, length, map, true, false, Some, None, Ok, Err, IfOk, IfSome, IfNone};
+ghost use Rattle.byteorder.specs.Endian.{little_bytes};
+ghost use Rattle.omf_format.specs.Expression.{AreTerms, Tree};
+ghost use Rattle.orca_text.specs.View.{term};
+ghost use Rattle.asm_meaning.specs.Constant as meaning;
+ghost use Rattle.asm_meaning.specs.Elements.{number_piece, numbered};
+ghost use Rattle.asm_meaning.specs.Formulas.{AreFormulas, number_of};
+ghost use Rattle.orca_object.specs.AmountView.{amount_view, kept_view, kept_of, kept_answer};
+ghost use Rattle.orca_object.specs.DcView.{IsKeptOf, HasNumbers, piece_answer};
+ghost use Rattle.orca_object.specs.JudgedView.{judged_amount, needed_kept};
+ghost use Rattle.orca_object.specs.NamesView.{constants};
+ghost use Rattle.orca_object.specs.PieceView.{piece, pieces_answer};
+
+use crate::amount::{Amount, amount_of};
+use crate::causes::{gather, gathered};
+use crate::names::Known;
+use crate::piece::{Piece, ended, number_bytes};
+use asm_meaning::AsmCause;
+use orca_text::{Formula, Operands, behind_byte, formula_at, is_too_deep};
+use std::alloc::{AllocError, Global};
+
+/// What a formula amounts to, unless it is too deep or has a number that is too large.
+fn judged_amount(
+    alloc: Global,
+    known: Known<'_>,
+    formula: &Formula,
+    large: bool,
+) -> Result<Result<Amount, AsmCause>, AllocError>
+    requires { large ≡ false → AreTerms 0 formula.now }
+    ensures { IfOk result (λ answer. (tree : Tree) → IsKeptOf formula.now large tree → amount_view answer ≡ kept_answer 0 (judged_amount (constants known.entry) tree)) }
+{
+    if is_too_deep(1, formula) {
+        return Ok(Err(AsmCause::BadOperand));
+    }
+    if large {
+        return Ok(Err(AsmCause::BadNumber));
+    }
+    let answer = amount_of(alloc, known, 0, formula.terms())?;
+    Ok(answer)
+}
+
+/// The number of an amount that has to be one.
+fn needed(amount: Amount) -> Result<u32, AsmCause>
+    ensures { result ≡ needed_kept (kept_view amount) }
+{
+    match amount {
+        Amount::Known(n) => Ok(n),
+        Amount::Written(_text) => Err(AsmCause::UnknownConstant),
+    }
+}
+
+/// The number that a formula is, which has to be a constant.
+pub(crate) fn number_of(
+    alloc: Global,
+    known: Known<'_>,
+    formula: &Formula,
+    large: bool,
+) -> Result<Result<u32, AsmCause>, AllocError>
+    requires { large ≡ false → AreTerms 0 formula.now }
+    ensures { IfOk result (λ answer. (tree : Tree) → IsKeptOf formula.now large tree → answer ≡ number_of (constants known.entry) tree) }
+{
+    let answer = judged_amount(alloc, known, formula, large)?;
+    match answer {
+        Ok(amount) => Ok(needed(amount)),
+        Err(cause) => Ok(Err(cause)),
+    }
+}
+
+/// A number of so many bytes, of which a constant is cut to them.
+fn number_piece(alloc: Global, width: u8, amount: Amount) -> Result<Piece, AllocError>
+    requires { width ≤ 4 }
+    ensures { IfOk result (λ p. (meant : meaning.Amount) → kept_view amount ≡ kept_of 0 meant → piece p ≡ number_piece width meant) }
+{
+    match amount {
+        Amount::Known(n) => {
+            let bytes = number_bytes(alloc, width, n)?;
+            Ok(Piece::Bytes(bytes))
+        }
+        Amount::Written(text) => {
+            let expr = ended(text, 0)?;
+            Ok(Piece::Formula {
+                code: 0xEB,
+                count: width,
+                n: 0,
+                expr,
+            })
+        }
+    }
+}
+
+/// What a formula gives where numbers of so many bytes are wanted.
+fn numbered(
+    alloc: Global,
+    known: Known<'_>,
+    width: u8,
+    formula: &Formula,
+    large: bool,
+) -> Result<Result<Piece, AsmCause>, AllocError>
+    requires width { width ≤ 4 }
+    requires fine { large ≡ false → AreTerms 0 formula.now }
+    ensures { IfOk result (λ answer. (tree : Tree) → IsKeptOf formula.now large tree → piece_answer answer ≡ numbered (constants known.entry) width tree) }
+{
+    let answer = judged_amount(alloc, known, formula, large)?;
+    match answer {
+        Ok(amount) => {
+            let piece = number_piece(alloc, width, amount)?;
+            Ok(Ok(piece))
+        }
+        Err(cause) => Ok(Err(cause)),
+    }
+}
+
+/// What the formulas give that commas part in a text, numbers of so many bytes.
+pub(crate) fn numbers_in(
+    alloc: Global,
+    known: Known<'_>,
+    width: u8,
+    text: &[u8],
+) -> Result<Option<Result<Vec<Piece>, AsmCause>>, AllocError>
+    requires width { width ≤ 4 }
+    requires short { length text.now ≤ 255 }
+    ensures found { IfOk result (λ found. IfSome found (λ answer. HasNumbers (constants known.entry) width text.now (pieces_answer answer))) }
+    ensures none { IfOk result (λ found. IfNone found ((trees : List Tree) → AreFormulas text.now trees → ⊥)) }
+{
+    let mut out = Vec::new(alloc);
+    let mut fault = None;
+    let mut left = text;
+    'formulas: loop {
+        let Some(found) = formula_at(alloc, Operands::Labels, left)? else {
+            return Ok(None);
+        };
+        let answer = numbered(alloc, known, width, &found.formula, found.large)?;
+        gather(&mut out, &mut fault, answer)?;
+        let rest = found.rest;
+        if rest.is_empty() {
+            return Ok(Some(gathered(fault, out)));
+        }
+        let Some(behind) = behind_byte(rest, b',') else {
+            return Ok(None);
+        };
+        left = behind;
+    }
+}

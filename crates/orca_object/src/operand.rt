@@ -1,0 +1,50 @@
+//! Names in operands and labels (ORCA/M reference manual, "Assembler directives").
+
+ghost use Rattle.std.specs.Prelude.{◌≡◌, ◌≤◌, length, Some, None, IfOk, MatchOption};
+ghost use Rattle.orca_meaning.specs.Characters.{is_name};
+ghost use Rattle.asm_meaning.specs.Statement.{behind_here, name_of};
+ghost use Rattle.orca_object.specs.OperandView.{name_answer};
+
+use asm_meaning::AsmCause;
+use omf_base::Name;
+use orca_text::{folded, is_name_start, name_len};
+use std::alloc::{AllocError, Global};
+
+/// Whether a text is a name.
+#[tactic(auto, unfolding(orca_meaning::specs::Characters::is_name), using(crate::proofs::Labels::all_name_bytes))]
+pub(crate) fn is_name(text: &[u8]) -> bool
+    ensures { result ≡ is_name text.now }
+{
+    let Some((first, behind)) = text.split_first() else {
+        return false;
+    };
+    is_name_start(*first) && name_len(behind) == behind.len()
+}
+
+/// What stands behind `*+` at the front, with which ORG moves the location counter.
+pub(crate) fn behind_here(text: &[u8]) -> Option<&[u8]>
+    ensures { MatchOption result (behind_here text.now ≡ None) (λ behind. behind_here text.now ≡ Some behind.now) }
+{
+    let Some((first, others)) = text.split_first() else {
+        return None;
+    };
+    let Some((second, behind)) = others.split_first() else {
+        return None;
+    };
+    if *first == b'*' && *second == b'+' {
+        return Some(behind);
+    }
+    None
+}
+
+/// A name in upper case.
+pub(crate) fn name_of(alloc: Global, text: &[u8]) -> Result<Result<Name, AsmCause>, AllocError>
+    requires { length text.now ≤ 255 }
+    ensures { IfOk result (λ answer. name_answer answer ≡ name_of text.now) }
+{
+    if is_name(text) {
+        let name = folded(alloc, text)?;
+        return Ok(Ok(name));
+    }
+    Ok(Err(AsmCause::BadOperand))
+}

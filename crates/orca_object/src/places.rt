@@ -1,0 +1,184 @@
+//! ALIGN and ORG (ORCA/M reference manual, "ALIGN" and "ORG"; GS/OS Reference, appendix F).
+
+ghost use Rattle.std.specs.Prelude.{◌≡◌, ◌≤◌, IfOk, length};
+ghost use Rattle.omf_format.specs.Header.{alignment_of};
+ghost use Rattle.orca_meaning.specs.Line.{Line};
+ghost use Rattle.asm_meaning.specs.State.{State};
+ghost use Rattle.orca_object.specs.StateView.{ShowsState, IsShortOption, Leaves, IsLeft};
+ghost use Rattle.orca_object.specs.DoneView.{aligned_by, moved_by};
+ghost use Rattle.asm_meaning.specs.declared.directives.Operation.TheVariants.{Direct};
+ghost use Rattle.asm_meaning.specs.declared.directives.Directive.TheVariants as directives;
+ghost use Rattle.orca_object.specs.DoingView.{HasDistance};
+
+use crate::amount::number_in;
+use crate::causes::both;
+use crate::operand::behind_here;
+use crate::state::{Content, Kept};
+use asm_meaning::AsmCause;
+use omf_base::Name;
+use std::alloc::{AllocError, Global};
+
+/// Of what the address of a segment with this ALIGN is a multiple.
+fn alignment_of(align: u32) -> u32
+    ensures { result ≡ alignment_of align }
+{
+    match align {
+        0 => 1,
+        1..=0x100 => 0x100,
+        _ => 0x10000,
+    }
+}
+
+impl Kept {
+    ghost use Rattle.std.specs.Prelude.{◌≡◌, ◌≤◌, length, OnOk, IfOk};
+    ghost use Rattle.asm_meaning.specs.State.{State};
+    ghost use Rattle.asm_meaning.specs.Statement.{alignment_in, aligned, distance_in, moved};
+    ghost use Rattle.orca_object.specs.StateView.{ShowsState, IsShortOption};
+    ghost use Rattle.orca_object.specs.ActView.{IsNear};
+
+    /// An alignment: a power of two up to $10000, and in a segment up to its own.
+    fn alignment(&self, n: u32) -> Result<u32, AsmCause>
+        ensures value { (state : State) → ShowsState state self.now → result ≡ alignment_in state n }
+        ensures some { IfOk result (λ n. 1 ≤ n) }
+    {
+        let most = match &self.segment {
+            Some(open) => alignment_of(open.align),
+            None => 0x10000,
+        };
+        if n.is_power_of_two() && n <= most {
+            return Ok(n);
+        }
+        Err(AsmCause::BadOperand)
+    }
+
+    /// ALIGN.
+    fn align(&mut self, alloc: Global, label: &[u8], n: u32) -> Result<(), AllocError>
+        requires label { length label.now ≤ 255 }
+        requires some { 1 ≤ n }
+        requires short { IsShortOption self.old.segment }
+        ensures { OnOk result ((state : State) → ShowsState state self.old → ShowsState (aligned state state.segment label.now n) self.new) }
+    {
+        if let Some(open) = &mut self.segment {
+            open.give(alloc, label, Content::Align(n))?;
+            return Ok(());
+        }
+        self.align = n;
+        Ok(())
+    }
+
+    /// A distance of ORG: in a segment one below $80000000.
+    fn distance(&self, n: u32) -> Result<u32, AsmCause>
+        ensures value { (state : State) → ShowsState state self.now → result ≡ distance_in state.segment n }
+        ensures near { IfOk result (IsNear self.now.segment) }
+    {
+        if self.segment.is_some() && n >= 0x8000_0000 {
+            return Err(AsmCause::BadOperand);
+        }
+        Ok(n)
+    }
+
+    /// ORG.
+    fn org(&mut self, alloc: Global, label: &[u8], n: u32) -> Result<(), AllocError>
+        requires label { length label.now ≤ 255 }
+        requires near { IsNear self.old.segment n }
+        requires short { IsShortOption self.old.segment }
+        ensures { OnOk result ((state : State) → ShowsState state self.old → ShowsState (moved state state.segment label.now n) self.new) }
+    {
+        if let Some(open) = &mut self.segment {
+            open.give(alloc, label, Content::Org(n))?;
+            return Ok(());
+        }
+        self.org = n;
+        Ok(())
+    }
+}
+
+/// ALIGN, by its number.
+fn aligning(
+    alloc: Global,
+    kept: &mut Kept,
+    label: Result<Name, AsmCause>,
+    number: Result<u32, AsmCause>,
+) -> Result<Result<(), AsmCause>, AllocError>
+    requires { IsShortOption kept.old.segment }
+    ensures { IfOk result (λ done. (state : State) → ShowsState state kept.old → Leaves done kept.new (aligned_by state label number)) }
+{
+    let step = match number {
+        Ok(n) => kept.alignment(n),
+        Err(cause) => Err(cause),
+    };
+    match both(label, step) {
+        Ok((name, n)) => {
+            kept.align(alloc, name.bytes(), n)?;
+            Ok(Ok(()))
+        }
+        Err(cause) => Ok(Err(cause)),
+    }
+}
+
+/// ALIGN.
+pub(crate) fn do_align(
+    alloc: Global,
+    kept: &mut Kept,
+    label: Result<Name, AsmCause>,
+    text: &[u8],
+) -> Result<Result<(), AsmCause>, AllocError>
+    requires text { length text.now ≤ 255 }
+    requires short { IsShortOption kept.old.segment }
+    ensures { IfOk result (λ done. (state : State) (line : Line) → ShowsState state kept.old → IsLeft state line (Direct directives.Align) label text.now done kept.new) }
+{
+    let number = number_in(alloc, kept.known(), text)?;
+    aligning(alloc, kept, label, number)
+}
+
+/// The number of ORG: in a segment it stands behind `*+`.
+fn distance_in(alloc: Global, kept: &Kept, text: &[u8]) -> Result<Result<u32, AsmCause>, AllocError>
+    requires { length text.now ≤ 255 }
+    ensures { IfOk result (λ number. (state : State) → ShowsState state kept.now → HasDistance state text.now number) }
+{
+    if kept.segment.is_none() {
+        return number_in(alloc, kept.known(), text);
+    }
+    match behind_here(text) {
+        Some(behind) => number_in(alloc, kept.known(), behind),
+        None => Ok(Err(AsmCause::BadOperand)),
+    }
+}
+
+/// ORG, by its number.
+fn moving(
+    alloc: Global,
+    kept: &mut Kept,
+    label: Result<Name, AsmCause>,
+    number: Result<u32, AsmCause>,
+) -> Result<Result<(), AsmCause>, AllocError>
+    requires { IsShortOption kept.old.segment }
+    ensures { IfOk result (λ done. (state : State) → ShowsState state kept.old → Leaves done kept.new (moved_by state label number)) }
+{
+    let distance = match number {
+        Ok(n) => kept.distance(n),
+        Err(cause) => Err(cause),
+    };
+    match both(label, distance) {
+        Ok((name, n)) => {
+            kept.org(alloc, name.bytes(), n)?;
+            Ok(Ok(()))
+        }
+        Err(cause) => Ok(Err(cause)),
+    }
+}
+
+/// ORG.
+pub(crate) fn do_org(
+    alloc: Global,
+    kept: &mut Kept,
+    label: Result<Name, AsmCause>,
+    text: &[u8],
+) -> Result<Result<(), AsmCause>, AllocError>
+    requires text { length text.now ≤ 255 }
+    requires short { IsShortOption kept.old.segment }
+    ensures { IfOk result (λ done. (state : State) (line : Line) → ShowsState state kept.old → IsLeft state line (Direct directives.Org) label text.now done kept.new) }
+{
+    let number = distance_in(alloc, kept, text)?;
+    moving(alloc, kept, label, number)
+}

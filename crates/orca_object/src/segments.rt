@@ -1,0 +1,383 @@
+//! START and its kin, END, ENTRY, USING and KIND (ORCA/M reference manual, "Assembler directives"; GS/OS Reference, appendix F,
+//! "Segment header").
+
+ghost use Rattle.std.specs.Prelude.{◌≡◌, true, ◌≤◌, ◌-◌, ◌++◌, length, replicate, IfOk, List, ℕ};
+ghost use Rattle.omf_format.specs.Header.{is_listed, form_of, IsWritable};
+ghost use Rattle.asm_meaning.specs.State.{kind_of, bank_size_of, State};
+ghost use Rattle.omf_header.specs.View.{fields};
+ghost use Rattle.orca_object.specs.EndView.{ended_header};
+ghost use Rattle.orca_meaning.specs.Characters.{folded};
+ghost use Rattle.asm_meaning.specs.Statement.{load_name_of, listed_kind, entering};
+ghost use Rattle.orca_meaning.specs.Line.{Line};
+ghost use Rattle.asm_meaning.specs.declared.directives.Operation.TheVariants.{Direct};
+ghost use Rattle.asm_meaning.specs.declared.directives.Directive.TheVariants as directives;
+ghost use Rattle.orca_object.specs.StateView.{ShowsState, IsShortOption, IsLeft, Leaves};
+ghost use Rattle.orca_object.specs.DoneView.{IsSome, kinded_by, using_by};
+ghost use Rattle.orca_object.specs.DoingView.{ending};
+
+use crate::amount::number_in;
+use crate::causes::{both, earlier};
+use crate::data::given;
+use crate::names::Names;
+use crate::object::put_segment;
+use crate::operand::{is_name, name_of};
+use crate::state::{Content, Kept, Open};
+use crate::text::{Body, Text};
+use asm_meaning::{AsmCause, Class};
+use omf_base::Name;
+use omf_header::{Header, Kind};
+use omf_records::Rec;
+use std::alloc::{AllocError, Global};
+use std::mem;
+
+/// KIND of a class.
+fn kind_of(class: Class) -> u16
+    ensures kind { result ≡ kind_of class }
+    ensures listed { is_listed (form_of result) ≡ true }
+{
+    match class {
+        Class::Code => 0x0000,
+        Class::PrivateCode => 0x4000,
+        Class::Data => 0x0001,
+        Class::PrivateData => 0x4001,
+    }
+}
+
+/// BANKSIZE of a class.
+fn bank_size_of(class: Class) -> u32
+    ensures value { result ≡ bank_size_of class }
+    ensures small { result ≤ 0x10000 }
+{
+    match class {
+        Class::Code | Class::PrivateCode => 0x10000,
+        Class::Data | Class::PrivateData => 0,
+    }
+}
+
+/// The header of a segment that ends.
+fn header_of(segment: Open) -> (Header, Text)
+    requires { segment.body.cells ≤ 0xFFFFFF }
+    ensures header { fields result.0 ≡ ended_header segment }
+    ensures writable { IsWritable (fields result.0) }
+    ensures text { result.1 ≡ segment.body.text }
+{
+    let load_name = segment.load_name;
+    let header = Header {
+        byte_count: 0,
+        res_spc: 0,
+        length: segment.body.cells as u32,
+        lab_len: 0,
+        version: 2,
+        bank_size: bank_size_of(segment.class),
+        kind: Kind { bits: segment.kind },
+        org: segment.org,
+        align: segment.align,
+        seg_num: segment.number,
+        entry: 0,
+        disp_name: 0,
+        disp_data: 0,
+        load_name,
+        name: segment.name,
+    };
+    (header, segment.body.text)
+}
+
+/// The bytes of a LOADNAME.
+const SIZE: usize = 10;
+
+/// A text in upper case, and spaces up to ten bytes.
+fn padded(text: &[u8]) -> [u8; 10]
+    requires { length text.now ≤ 10 }
+    ensures { result ≡ folded text.now ++ replicate (10 - length text.now) 0x20 }
+{
+    let mut name = [b' '; SIZE];
+    'bytes: for i in 0..text.len() {
+        name[i] = text[i].to_ascii_uppercase();
+    }
+    name
+}
+
+/// A name of at most ten bytes, with spaces up to ten; no operand is ten spaces.
+#[tactic(auto, unfolding(asm_meaning::specs::Statement::load_name_of))]
+fn load_name_of(text: &[u8]) -> Result<[u8; 10], AsmCause>
+    ensures { result ≡ load_name_of text.now }
+{
+    if text.is_empty() {
+        return Ok([b' '; SIZE]);
+    }
+    if is_name(text) && text.len() <= SIZE {
+        return Ok(padded(text));
+    }
+    Err(AsmCause::BadOperand)
+}
+
+/// Whether a type of segments is one that is listed.
+fn is_listed(form: u32) -> bool
+    ensures { result ≡ is_listed form }
+{
+    matches!(form, 0x00 | 0x01 | 0x02 | 0x04 | 0x08 | 0x10 | 0x12)
+}
+
+/// KIND has two bytes, and its type is one that is listed.
+fn listed_kind(n: u32) -> Result<u16, AsmCause>
+    ensures kind { result ≡ listed_kind n }
+    ensures listed { IfOk result (λ kind. is_listed (form_of kind) ≡ true) }
+{
+    if !is_listed(n % 32) {
+        return Err(AsmCause::BadOperand);
+    }
+    if n > 0xFFFF {
+        return Err(AsmCause::DoesNotFit);
+    }
+    Ok(n as u16)
+}
+
+impl Kept {
+    ghost use Rattle.std.specs.Prelude.{◌≡◌, ◌≤◌, ◌∷◌, [], length, OnOk, true, None};
+    ghost use Rattle.orca_meaning.specs.Line.{Line};
+    ghost use Rattle.omf_format.specs.Record.{End, Label};
+    ghost use Rattle.asm_meaning.specs.State.{State, in_segment, marked, begun, closed, grown};
+    ghost use Rattle.orca_object.specs.StateView.{ShowsState, IsShortOption};
+    ghost use Rattle.omf_format.specs.Header.{is_listed, form_of};
+    ghost use Rattle.asm_meaning.specs.Statement.{with_kind};
+
+    /// START and its kin.
+    fn begin(
+        &mut self,
+        alloc: Global,
+        file: u32,
+        line: u32,
+        class: Class,
+        name: Name,
+        load_name: [u8; 10],
+    ) -> Result<(), AllocError>
+        ensures { OnOk result ((state : State) (l : Line) → ShowsState state self.old → file ≡ l.file → line ≡ l.number → ShowsState (begun state l class name load_name) self.new) }
+    {
+        let mut names = Names::new(alloc);
+        names.set(alloc, name.bytes(), None)?;
+        let front = mem::replace(&mut self.front, Text::new(alloc));
+        let pending = Vec::new(alloc);
+        let open = Open {
+            file,
+            line,
+            class,
+            kind: kind_of(class),
+            org: self.org,
+            align: self.align,
+            number: self.number,
+            load_name,
+            name,
+            names,
+            body: Body {
+                text: front,
+                cells: 0,
+            },
+            pending,
+        };
+        self.segment = Some(open);
+        self.org = 0;
+        self.align = 0;
+        Ok(())
+    }
+
+    /// END.
+    fn end(&mut self, alloc: Global, label: &[u8]) -> Result<(), AllocError>
+        requires label { length label.now ≤ 255 }
+        requires short { IsShortOption self.old.segment }
+        ensures { OnOk result ((state : State) → ShowsState state self.old → ShowsState (closed (in_segment (marked label.now 0x4E (End ∷ [])) state)) self.new) }
+    {
+        let mut open = match mem::replace(&mut self.segment, None) {
+            Some(open) => open,
+            None => return Ok(()),
+        };
+        open.give_record(alloc, label, &Rec::End, 0)?;
+        let (header, text) = header_of(open);
+        put_segment(alloc, &mut self.object, &header, &text)?;
+        self.number = ((u32::from(self.number) + 1) % 0x10000) as u16;
+        Ok(())
+    }
+
+    /// KIND.
+    fn kind(&mut self, alloc: Global, label: &[u8], n: u16) -> Result<(), AllocError>
+        requires label { length label.now ≤ 255 }
+        requires listed { is_listed (form_of n) ≡ true }
+        requires short { IsShortOption self.old.segment }
+        ensures { OnOk result ((state : State) → ShowsState state self.old → ShowsState (in_segment (λ s. with_kind n (marked label.now 0x4E [] s)) state) self.new) }
+    {
+        if let Some(open) = &mut self.segment {
+            open.give(alloc, label, Content::Nothing)?;
+            open.kind = n;
+            return Ok(());
+        }
+        Ok(())
+    }
+
+    /// ENTRY.
+    fn entry(&mut self, alloc: Global, label: &[u8]) -> Result<(), AllocError>
+        requires some { 1 ≤ length label.now }
+        requires label { length label.now ≤ 255 }
+        requires short { IsShortOption self.old.segment }
+        ensures { OnOk result ((state : State) → ShowsState state self.old → ShowsState (in_segment (grown label.now None (Label true label.now 0 0x4E 0 ∷ []) []) state) self.new) }
+    {
+        let global = Rec::Label {
+            global: true,
+            name: label,
+            length: 0,
+            form: 0x4E,
+            private: 0,
+        };
+        if let Some(open) = &mut self.segment {
+            open.name_record(alloc, label, None, &global)?;
+            return Ok(());
+        }
+        Ok(())
+    }
+}
+
+/// START and its kin.
+pub(crate) fn do_begin(
+    alloc: Global,
+    kept: &mut Kept,
+    file: u32,
+    number: u32,
+    class: Class,
+    label: Result<Name, AsmCause>,
+    text: &[u8],
+) -> Result<Result<(), AsmCause>, AllocError>
+    requires text { length text.now ≤ 255 }
+    ensures { IfOk result (λ done. (state : State) (line : Line) → ShowsState state kept.old → file ≡ line.file → number ≡ line.number → IsLeft state line (Direct (directives.Begin class)) label text.now done kept.new) }
+{
+    match load_name_of(text) {
+        Ok(load_name) => match label {
+            Ok(name) => {
+                kept.begin(alloc, file, number, class, name, load_name)?;
+                Ok(Ok(()))
+            }
+            Err(cause) => Ok(Err(cause)),
+        },
+        Err(other) => match label {
+            Ok(_name) => Ok(Err(other)),
+            Err(cause) => Ok(Err(earlier(cause, other))),
+        },
+    }
+}
+
+/// END.
+pub(crate) fn do_end(
+    alloc: Global,
+    kept: &mut Kept,
+    label: Result<Name, AsmCause>,
+) -> Result<Result<(), AsmCause>, AllocError>
+    requires { IsShortOption kept.old.segment }
+    ensures { IfOk result (λ done. (state : State) → ShowsState state kept.old → Leaves done kept.new (ending state label)) }
+{
+    match label {
+        Ok(name) => {
+            kept.end(alloc, name.bytes())?;
+            Ok(Ok(()))
+        }
+        Err(cause) => Ok(Err(cause)),
+    }
+}
+
+/// ENTRY.
+fn entering(
+    alloc: Global,
+    kept: &mut Kept,
+    label: Result<Name, AsmCause>,
+) -> Result<Result<(), AsmCause>, AllocError>
+    requires some { IsSome label }
+    requires short { IsShortOption kept.old.segment }
+    ensures { IfOk result (λ done. (state : State) → ShowsState state kept.old → Leaves done kept.new (entering state label)) }
+{
+    match label {
+        Ok(name) => {
+            kept.entry(alloc, name.bytes())?;
+            Ok(Ok(()))
+        }
+        Err(cause) => Ok(Err(cause)),
+    }
+}
+
+/// ENTRY.
+pub(crate) fn do_entry(
+    alloc: Global,
+    kept: &mut Kept,
+    label: Result<Name, AsmCause>,
+) -> Result<Result<(), AsmCause>, AllocError>
+    requires some { IsSome label }
+    requires short { IsShortOption kept.old.segment }
+    ensures { IfOk result (λ done. (state : State) (l : Line) (text : List ℕ) → ShowsState state kept.old → IsLeft state l (Direct directives.Entry) label text done kept.new) }
+{
+    entering(alloc, kept, label)
+}
+
+/// USING, by the name of its operand.
+fn using(
+    alloc: Global,
+    kept: &mut Kept,
+    label: Result<Name, AsmCause>,
+    found: Result<Name, AsmCause>,
+) -> Result<Result<(), AsmCause>, AllocError>
+    requires found { IsSome found }
+    requires short { IsShortOption kept.old.segment }
+    ensures { IfOk result (λ done. (state : State) → ShowsState state kept.old → Leaves done kept.new (using_by state label found)) }
+{
+    match found {
+        Ok(name) => given(alloc, kept, label, Ok(Content::Using(name.bytes()))),
+        Err(cause) => given(alloc, kept, label, Err(cause)),
+    }
+}
+
+/// USING.
+pub(crate) fn do_using(
+    alloc: Global,
+    kept: &mut Kept,
+    label: Result<Name, AsmCause>,
+    text: &[u8],
+) -> Result<Result<(), AsmCause>, AllocError>
+    requires text { length text.now ≤ 255 }
+    requires short { IsShortOption kept.old.segment }
+    ensures { IfOk result (λ done. (state : State) (line : Line) → ShowsState state kept.old → IsLeft state line (Direct directives.Using) label text.now done kept.new) }
+{
+    let found = name_of(alloc, text)?;
+    using(alloc, kept, label, found)
+}
+
+/// KIND, by its number.
+fn kinding(
+    alloc: Global,
+    kept: &mut Kept,
+    label: Result<Name, AsmCause>,
+    number: Result<u32, AsmCause>,
+) -> Result<Result<(), AsmCause>, AllocError>
+    requires { IsShortOption kept.old.segment }
+    ensures { IfOk result (λ done. (state : State) → ShowsState state kept.old → Leaves done kept.new (kinded_by state label number)) }
+{
+    let kind = match number {
+        Ok(n) => listed_kind(n),
+        Err(cause) => Err(cause),
+    };
+    match both(label, kind) {
+        Ok((name, n)) => {
+            kept.kind(alloc, name.bytes(), n)?;
+            Ok(Ok(()))
+        }
+        Err(cause) => Ok(Err(cause)),
+    }
+}
+
+/// KIND.
+pub(crate) fn do_kind(
+    alloc: Global,
+    kept: &mut Kept,
+    label: Result<Name, AsmCause>,
+    text: &[u8],
+) -> Result<Result<(), AsmCause>, AllocError>
+    requires text { length text.now ≤ 255 }
+    requires short { IsShortOption kept.old.segment }
+    ensures { IfOk result (λ done. (state : State) (line : Line) → ShowsState state kept.old → IsLeft state line (Direct directives.Kind) label text.now done kept.new) }
+{
+    let number = number_in(alloc, kept.known(), text)?;
+    kinding(alloc, kept, label, number)
+}

@@ -1,0 +1,100 @@
+//! What the operands of instructions and of DC give (WDC 65C816 data sheet, addressing modes; ORCA/M reference manual, "Declare
+//! Constant").
+
+ghost use Rattle.std.specs.Prelude.{◌≡◌, ◌≤◌, List, ℕ, length, Some, None, IfOk, IfSome, IfNone};
+ghost use Rattle.orca_meaning.specs.Line.{LiesIn};
+ghost use Rattle.orca_text.specs.OperandView.{line_mnemonic, line_operand};
+ghost use Rattle.asm_meaning.specs.Elements.{Element, AreElements};
+ghost use Rattle.orca_object.specs.GivenBy.{IsByInstruction, IsByList, HasElements};
+ghost use Rattle.orca_object.specs.GivenView.{given_answer, parts_answer};
+ghost use Rattle.orca_object.specs.ModeView.{widths};
+ghost use Rattle.orca_object.specs.NamesView.{constants};
+
+use crate::causes::{gather, gathered};
+use crate::dc::element_at;
+use crate::given::{Given, Part};
+use crate::instruct::instruct;
+use crate::mode::Widths;
+use crate::names::Known;
+use asm_meaning::AsmCause;
+use orca_text::{Mnemonic, SourceLine, TextCause, behind_byte, read_operand};
+use std::alloc::{AllocError, Global};
+
+/// What an instruction's line gives, or the first fault of its operand.
+pub(crate) fn instruction_given(
+    alloc: Global,
+    known: Known<'_>,
+    of: Widths,
+    mnemonic: Mnemonic,
+    line: &SourceLine,
+) -> Result<Result<Given, AsmCause>, AllocError>
+    requires operation { LiesIn line.now.text line.now.operation }
+    requires operand { LiesIn line.now.text line.now.operand }
+    requires mnemonic { line_mnemonic line.now ≡ Some mnemonic }
+    ensures { IfOk result (λ answer. IsByInstruction (constants known.entry) (widths of) mnemonic (line_operand line.now) (given_answer answer)) }
+{
+    let _text = line.part(line.operand);
+    match read_operand(alloc, line) {
+        Ok(operand) => {
+            let answer = instruct(alloc, known, of, mnemonic, &operand)?;
+            Ok(answer)
+        }
+        Err(fault) => match fault.cause {
+            TextCause::BadOperand => Ok(Err(AsmCause::BadOperand)),
+            TextCause::BadNumber => Ok(Err(AsmCause::BadNumber)),
+            TextCause::LineTooLong => unreachable!(),
+            TextCause::TooManyLines => unreachable!(),
+            TextCause::Memory => Err(AllocError),
+        },
+    }
+}
+
+/// What the elements of DC give that commas part in a text.
+fn parts_in(
+    alloc: Global,
+    known: Known<'_>,
+    msb: bool,
+    text: &[u8],
+) -> Result<Option<Result<Vec<Part>, AsmCause>>, AllocError>
+    requires { length text.now ≤ 255 }
+    ensures found { IfOk result (λ found. IfSome found (λ answer. HasElements (constants known.entry) msb text.now (parts_answer answer))) }
+    ensures none { IfOk result (λ found. IfNone found ((elements : List Element) → AreElements text.now elements → ⊥)) }
+{
+    let mut out = Vec::new(alloc);
+    let mut fault = None;
+    let mut left = text;
+    'elements: loop {
+        let found = element_at(alloc, known, msb, left)?;
+        let Some((answer, rest)) = found else {
+            return Ok(None);
+        };
+        gather(&mut out, &mut fault, answer)?;
+        if rest.is_empty() {
+            return Ok(Some(gathered(fault, out)));
+        }
+        let Some(behind) = behind_byte(rest, b',') else {
+            return Ok(None);
+        };
+        left = behind;
+    }
+}
+
+/// What the operand of DC gives, or its first fault.
+pub(crate) fn constants_given(
+    alloc: Global,
+    known: Known<'_>,
+    msb: bool,
+    text: &[u8],
+) -> Result<Result<Given, AsmCause>, AllocError>
+    requires { length text.now ≤ 255 }
+    ensures { IfOk result (λ answer. IsByList (constants known.entry) msb text.now (given_answer answer)) }
+{
+    let found = parts_in(alloc, known, msb, text)?;
+    match found {
+        Some(answer) => match answer {
+            Ok(parts) => Ok(Ok(Given::Parts(parts))),
+            Err(cause) => Ok(Err(cause)),
+        },
+        None => Ok(Err(AsmCause::BadOperand)),
+    }
+}

@@ -1,0 +1,213 @@
+//! What lines leave, one behind another, and the object at their end (ORCA/M reference manual, "The assembly language
+//! statement").
+
+ghost use Rattle.std.specs.Prelude.{◌≡◌, ◌≤◌, [], List, length, true, false, Some, IfOk, OnOk, Err};
+ghost use Rattle.orca_meaning.specs.Line.{Line, LiesIn, HaveFields, part};
+ghost use Rattle.orca_text.specs.OperandView.{line_operand};
+ghost use Rattle.orca_text.specs.View.{line};
+ghost use Rattle.asm_meaning.specs.declared.directives.Operation.TheVariants.{Direct};
+ghost use Rattle.asm_meaning.specs.Operations.{operation_of};
+ghost use Rattle.asm_meaning.specs.State.{State};
+ghost use Rattle.asm_meaning.specs.Statement.{needs_label, is_misplaced};
+ghost use Rattle.orca_object.specs.DoneView.{IsSome};
+ghost use Rattle.orca_object.specs.StateView.{ShowsState, IsShortOption, IsLeft};
+ghost use Rattle.orca_object.specs.StepView.{Steps, IsPlacedAs};
+ghost use Rattle.orca_object.specs.AssembleView.{HasStepped, IsLast, IsAssembled};
+
+use crate::data::{do_constants, do_instruct, do_space, rest};
+use crate::equates::{do_equ, do_gequ};
+use crate::operation::{begins_segment, label_of, needs_segment, operation_of};
+use crate::places::{do_align, do_org};
+use crate::segments::{do_begin, do_end, do_entry, do_kind, do_using};
+use crate::state::Kept;
+use crate::switches::turning;
+use asm_meaning::{AsmCause, AsmFault, Directive, Operation};
+use omf_base::Name;
+use orca_text::{Lines, SourceLine};
+use std::alloc::{AllocError, Global};
+
+/// A directive that needs no label.
+fn do_unlabelled(
+    alloc: Global,
+    kept: &mut Kept,
+    directive: Directive,
+    label: Result<Name, AsmCause>,
+    text: &[u8],
+) -> Result<Result<(), AsmCause>, AllocError>
+    requires unlabelled { needs_label (Direct directive) ≡ false }
+    requires text { length text.now ≤ 255 }
+    requires short { IsShortOption kept.old.segment }
+    ensures { IfOk result (λ done. (state : State) (l : Line) → ShowsState state kept.old → IsLeft state l (Direct directive) label text.now done kept.new) }
+{
+    match directive {
+        Directive::End => do_end(alloc, kept, label),
+        Directive::Using => do_using(alloc, kept, label, text),
+        Directive::Constants => do_constants(alloc, kept, label, text),
+        Directive::Space => do_space(alloc, kept, label, text),
+        Directive::Align => do_align(alloc, kept, label, text),
+        Directive::Org => do_org(alloc, kept, label, text),
+        Directive::Kind => do_kind(alloc, kept, label, text),
+        Directive::Turn(switch) => turning(alloc, kept, switch, label, text),
+        Directive::Nothing => rest(alloc, kept, label),
+        Directive::Ignored => rest(alloc, kept, label),
+        Directive::Begin(_) | Directive::Entry | Directive::Equ | Directive::Gequ => unreachable!(),
+    }
+}
+
+/// What an operation leaves, before the segment's length is judged.
+fn do_operation(
+    alloc: Global,
+    kept: &mut Kept,
+    operation: Operation,
+    label: Result<Name, AsmCause>,
+    of: &SourceLine,
+) -> Result<Result<(), AsmCause>, AllocError>
+    requires operation { LiesIn of.now.text of.now.operation }
+    requires operand { LiesIn of.now.text of.now.operand }
+    requires is { operation_of (part of.now.text of.now.operation) ≡ Some operation }
+    requires some { needs_label operation ≡ true → IsSome label }
+    requires short { IsShortOption kept.old.segment }
+    ensures { IfOk result (λ done. (state : State) → ShowsState state kept.old → IsLeft state (line of.now) operation label (line_operand of.now) done kept.new) }
+{
+    let text = of.part(of.operand);
+    match operation {
+        Operation::Instruct(mnemonic) => do_instruct(alloc, kept, mnemonic, label, of),
+        Operation::Direct(Directive::Begin(class)) => {
+            do_begin(alloc, kept, of.file, of.line, class, label, text)
+        }
+        Operation::Direct(Directive::Entry) => do_entry(alloc, kept, label),
+        Operation::Direct(Directive::Equ) => do_equ(alloc, kept, label, text),
+        Operation::Direct(Directive::Gequ) => do_gequ(alloc, kept, label, text),
+        Operation::Direct(other) => do_unlabelled(alloc, kept, other, label, text),
+    }
+}
+
+/// Whether a statement stands on the wrong side.
+#[inline(always)]
+fn is_misplaced(kept: &Kept, operation: Operation, label: &[u8], operand: &[u8]) -> bool
+    ensures { (state : State) → ShowsState state kept.now → result ≡ is_misplaced state.segment operation label.now operand.now }
+{
+    match &kept.segment {
+        Some(_) => begins_segment(operation),
+        None => needs_segment(operation, label, operand),
+    }
+}
+
+/// What an operation leaves, unless the segment is too long then.
+#[inline(always)]
+fn finish(
+    alloc: Global,
+    kept: &mut Kept,
+    operation: Operation,
+    label: Result<Name, AsmCause>,
+    of: &SourceLine,
+) -> Result<Result<(), AsmCause>, AllocError>
+    requires operation { LiesIn of.now.text of.now.operation }
+    requires operand { LiesIn of.now.text of.now.operand }
+    requires is { operation_of (part of.now.text of.now.operation) ≡ Some operation }
+    requires some { needs_label operation ≡ true → IsSome label }
+    requires short { IsShortOption kept.old.segment }
+    ensures placed { IfOk result (λ done. (state : State) → ShowsState state kept.old → IsPlacedAs state (line of.now) operation label (line_operand of.now) done kept.new) }
+    ensures short { IfOk result (λ done. OnOk done (IsShortOption kept.new.segment)) }
+{
+    let done = do_operation(alloc, kept, operation, label, of)?;
+    match done {
+        Ok(()) => {
+            if kept.is_too_long() {
+                return Ok(Err(AsmCause::SegmentTooLong));
+            }
+            Ok(Ok(()))
+        }
+        Err(cause) => Ok(Err(cause)),
+    }
+}
+
+/// What a line leaves, or its first fault.
+fn step(alloc: Global, kept: &mut Kept, of: &SourceLine) -> Result<Result<(), AsmCause>, AllocError>
+    requires fields { HaveFields of.now.text (line of.now).fields }
+    requires short { IsShortOption kept.old.segment }
+    ensures step { IfOk result (λ done. (state : State) → ShowsState state kept.old → Steps state (line of.now) done kept.new) }
+    ensures short { IfOk result (λ done. OnOk done (IsShortOption kept.new.segment)) }
+{
+    let Some(operation) = operation_of(of.part(of.operation)) else {
+        return Ok(Err(AsmCause::UnknownOperation));
+    };
+    let text = of.part(of.label);
+    if is_misplaced(kept, operation, text, of.part(of.operand)) {
+        return Ok(Err(AsmCause::OutsideSegment));
+    }
+    let label = label_of(alloc, kept, operation, text)?;
+    finish(alloc, kept, operation, label, of)
+}
+
+/// A fault at a line.
+fn fault_at(of: &SourceLine, cause: AsmCause) -> AsmFault
+    ensures { result ≡ record { cause = cause; file = of.now.file; line = of.now.line } }
+{
+    AsmFault {
+        cause,
+        file: of.file,
+        line: of.line,
+    }
+}
+
+/// What lines leave, or the fault of the first that has one.
+fn step_all(alloc: Global, lines: &Lines) -> Result<Result<Kept, AsmFault>, AllocError>
+    ensures { IfOk result (HasStepped lines.now) }
+{
+    let mut kept = Kept::new(alloc);
+    let mut place: u32 = 0;
+    let count = lines.count();
+    'lines: while place < count {
+        let line = match lines.get(place) {
+            Some(line) => line,
+            None => unreachable!(),
+        };
+        match step(alloc, &mut kept, line)? {
+            Ok(()) => {}
+            Err(cause) => return Ok(Err(fault_at(line, cause))),
+        }
+        place += 1;
+    }
+    Ok(Ok(kept))
+}
+
+/// The object that lines have left: the first of their faults is that a segment has no END, then that it is too long.
+fn object_of(kept: Kept) -> Result<Vec<u8>, AsmFault>
+    ensures { (state : State) → ShowsState state kept → IsLast state result }
+{
+    if let Some(open) = &kept.segment {
+        return Err(AsmFault {
+            cause: AsmCause::Unclosed,
+            file: open.file,
+            line: open.line,
+        });
+    }
+    if kept.object.long {
+        return Err(AsmFault {
+            cause: AsmCause::TooLong,
+            file: 0,
+            line: 0,
+        });
+    }
+    Ok(kept.object.bytes)
+}
+
+/// The object that lines have left, or the fault of the first that has one.
+fn answered(stepped: Result<Kept, AsmFault>) -> Result<Vec<u8>, AsmFault>
+    ensures assembled { (lines : List Line) → HasStepped lines stepped → IsAssembled lines result }
+    ensures fault { (fault : AsmFault) → stepped ≡ Err fault → result ≡ Err fault }
+{
+    match stepped {
+        Ok(kept) => object_of(kept),
+        Err(fault) => Err(fault),
+    }
+}
+
+/// The object of expanded lines, or the first fault of theirs.
+pub fn assembled(alloc: Global, lines: &Lines) -> Result<Result<Vec<u8>, AsmFault>, AllocError>
+    ensures { IfOk result (IsAssembled lines.now) }
+{
+    let stepped = step_all(alloc, lines)?;
+    Ok(answered(stepped))
+}

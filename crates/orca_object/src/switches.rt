@@ -1,0 +1,73 @@
+//! LONGA, LONGI and MSB (ORCA/M reference manual, "Assembler directives").
+
+ghost use Rattle.std.specs.Prelude.{◌≡◌, IfOk};
+ghost use Rattle.asm_meaning.specs.Statement.{switch_of, turning};
+ghost use Rattle.asm_meaning.specs.State.{State};
+ghost use Rattle.orca_object.specs.StateView.{ShowsState, IsShortOption, Leaves};
+
+use crate::causes::both;
+use crate::state::{Content, Kept};
+use asm_meaning::{AsmCause, Switch};
+use omf_base::Name;
+use orca_text::is_spelled;
+use std::alloc::{AllocError, Global};
+
+/// ON or OFF, in upper or lower case.
+fn switch_of(text: &[u8]) -> Result<bool, AsmCause>
+    ensures { result ≡ switch_of text.now }
+{
+    if is_spelled(text, b"ON") {
+        return Ok(true);
+    }
+    if is_spelled(text, b"OFF") {
+        return Ok(false);
+    }
+    Err(AsmCause::BadOperand)
+}
+
+impl Kept {
+    ghost use Rattle.std.specs.Prelude.{◌≤◌, [], length, OnOk};
+    ghost use Rattle.asm_meaning.specs.State.{State, in_segment, marked, turned};
+    ghost use Rattle.orca_object.specs.StateView.{ShowsState, IsShortOption};
+
+    /// LONGA, LONGI and MSB, with a label.
+    fn turn(
+        &mut self,
+        alloc: Global,
+        label: &[u8],
+        switch: Switch,
+        on: bool,
+    ) -> Result<(), AllocError>
+        requires label { length label.now ≤ 255 }
+        requires short { IsShortOption self.old.segment }
+        ensures { OnOk result ((state : State) → ShowsState state self.old → ShowsState (turned switch on (in_segment (marked label.now 0x4E []) state)) self.new) }
+    {
+        self.give(alloc, label, Content::Nothing)?;
+        match switch {
+            Switch::LongA => self.widths.long_a = on,
+            Switch::LongI => self.widths.long_i = on,
+            Switch::Msb => self.msb = on,
+        }
+        Ok(())
+    }
+}
+
+/// LONGA, LONGI and MSB.
+pub(crate) fn turning(
+    alloc: Global,
+    kept: &mut Kept,
+    switch: Switch,
+    label: Result<Name, AsmCause>,
+    text: &[u8],
+) -> Result<Result<(), AsmCause>, AllocError>
+    requires short { IsShortOption kept.old.segment }
+    ensures { IfOk result (λ done. (state : State) → ShowsState state kept.old → Leaves done kept.new (turning state switch label text.now)) }
+{
+    match both(label, switch_of(text)) {
+        Ok((name, on)) => {
+            kept.turn(alloc, name.bytes(), switch, on)?;
+            Ok(Ok(()))
+        }
+        Err(cause) => Ok(Err(cause)),
+    }
+}

@@ -1,0 +1,169 @@
+//! The bytes of records, as far as a file may have them, and how many cells they give (GS/OS Reference, appendix F, "Segment
+//! body").
+
+ghost use Rattle.std.specs.Prelude.{◌≡◌, ◌∷◌};
+ghost use Rattle.byteorder.specs.Endian.{little_bytes};
+
+use crate::few::Few;
+use omf_records::{Rec, put_record};
+use std::alloc::{AllocError, Global};
+
+/// The most bytes that a file has.
+pub(crate) const MAX_FILE: usize = 16_777_216;
+
+/// Bytes, which are kept as long as they are no more than a file may have.
+#[derive(Drop)]
+pub(crate) struct Text {
+    pub(crate) bytes: Vec<u8>,
+    /// There were more, and none are kept.
+    pub(crate) long: bool,
+}
+
+/// CONST of an opcode, and what stands before the expression of a distance.
+#[inline(always)]
+fn with_distance(opcode: u8, code: u8, count: u8, n: u32) -> [u8; 8]
+    ensures { result ≡ 1 ∷ opcode ∷ code ∷ count ∷ little_bytes 4 n }
+{
+    let [a, b, c, d] = n.to_le_bytes();
+    [1, opcode, code, count, a, b, c, d]
+}
+
+impl Text {
+    ghost use Rattle.std.specs.Prelude.{◌≡◌, ◌++◌, ◌∷◌, [], List, ℕ, None, OnOk};
+    ghost use Rattle.omf_format.specs.Field.{written_layout};
+    ghost use Rattle.omf_format.specs.Record.{Const, Formula, spelling, IsRecord};
+    ghost use Rattle.omf_records.specs.View.{view};
+    ghost use Rattle.asm_meaning.specs.Object.{records_text};
+    ghost use Rattle.asm_meaning.specs.Pieces.{constant_records};
+    ghost use Rattle.orca_object.specs.FewView.{few_bytes};
+    ghost use Rattle.orca_object.specs.TextView.{limited, kept_text};
+
+    /// None.
+    #[tactic(auto, using(crate::proofs::Limited::limited_nothing))]
+    pub(crate) fn new(alloc: Global) -> Text
+        ensures { kept_text result ≡ limited [] }
+    {
+        Text {
+            bytes: Vec::new(alloc),
+            long: false,
+        }
+    }
+
+    /// Appends a record.
+    #[tactic(auto, using(crate::proofs::Limited::stays_long, crate::proofs::Limited::grows_long, crate::proofs::Limited::grows))]
+    pub(crate) fn put(&mut self, rec: &Rec) -> Result<(), AllocError>
+        requires { IsRecord written_layout (view rec.now) }
+        ensures { OnOk result ((text : List ℕ) → kept_text self.old ≡ limited text → kept_text self.new ≡ limited (text ++ spelling written_layout (view rec.now))) }
+    {
+        if self.long {
+            return Ok(());
+        }
+        match put_record(&mut self.bytes, rec) {
+            Ok(()) => {}
+            Err(_) => return Err(AllocError),
+        }
+        if self.bytes.len() > MAX_FILE {
+            self.bytes.clear();
+            self.long = true;
+            return Ok(());
+        }
+        Ok(())
+    }
+
+    /// Appends bytes.
+    #[tactic(auto, using(crate::proofs::Limited::stays_long, crate::proofs::Limited::grows_long, crate::proofs::Limited::grows))]
+    #[inline(always)]
+    pub(crate) fn append(&mut self, bytes: &[u8]) -> Result<(), AllocError>
+        ensures { OnOk result ((text : List ℕ) → kept_text self.old ≡ limited text → kept_text self.new ≡ limited (text ++ bytes.now)) }
+    {
+        if self.long {
+            return Ok(());
+        }
+        self.bytes.extend_from_slice(bytes)?;
+        if self.bytes.len() > MAX_FILE {
+            self.bytes.clear();
+            self.long = true;
+            return Ok(());
+        }
+        Ok(())
+    }
+
+    /// Appends CONST of few bytes.
+    #[tactic(auto, using(crate::proofs::FewLaws::few_record))]
+    pub(crate) fn put_few(&mut self, few: Few) -> Result<(), AllocError>
+        ensures { OnOk result ((text : List ℕ) → kept_text self.old ≡ limited text → kept_text self.new ≡ limited (text ++ records_text (constant_records (few_bytes few)))) }
+    {
+        let record = [few.count, few.first, few.second, few.third, few.fourth];
+        self.append(&record[..few.count as usize + 1])
+    }
+
+    /// Appends CONST of an opcode, and the record of its operand: its code, its count of bytes, its distance, and the
+    /// expression's bytes.
+    pub(crate) fn put_operand(
+        &mut self,
+        opcode: u8,
+        code: u8,
+        count: u8,
+        n: u32,
+        expr: &[u8],
+    ) -> Result<(), AllocError>
+        ensures { OnOk result ((text : List ℕ) → kept_text self.old ≡ limited text → kept_text self.new ≡ limited (text ++ records_text (Const (opcode ∷ []) ∷ Formula code count n expr.now ∷ []))) }
+    {
+        if code == 0xEE {
+            self.append(&with_distance(opcode, code, count, n))?;
+            return self.append(expr);
+        }
+        self.append(&[1, opcode, code, count])?;
+        self.append(expr)
+    }
+
+    /// Keeps nothing any more: there are more bytes than a file may have.
+    pub(crate) fn give_up(&mut self)
+        ensures { kept_text self.new ≡ None }
+    {
+        self.bytes.clear();
+        self.long = true;
+    }
+}
+
+/// The bytes of records, and how many cells they give.
+#[derive(Drop)]
+pub(crate) struct Body {
+    pub(crate) text: Text,
+    pub(crate) cells: u64,
+}
+
+impl Body {
+    ghost use Rattle.std.specs.Prelude.{◌≡◌, ◌+◌, ◌<◌, ◌^◌, ◌++◌, ◌∷◌, [], List, OnOk};
+    ghost use Rattle.omf_format.specs.Field.{written_layout};
+    ghost use Rattle.omf_format.specs.Record.{Record, IsRecord};
+    ghost use Rattle.omf_records.specs.View.{view};
+    ghost use Rattle.link_meaning.specs.Sizes.{size_at};
+    ghost use Rattle.orca_object.specs.BodyView.{ShowsBody};
+
+    /// No records.
+    #[tactic(auto, using(crate::proofs::Bodies::no_records))]
+    pub(crate) fn new(alloc: Global) -> Body
+        ensures body { ShowsBody [] result }
+        ensures cells { result.cells ≡ 0 }
+    {
+        Body {
+            text: Text::new(alloc),
+            cells: 0,
+        }
+    }
+
+    /// One more record, which gives so many cells.
+    #[tactic(auto, using(crate::proofs::Bodies::one_more))]
+    pub(crate) fn put(&mut self, rec: &Rec, size: u64) -> Result<(), AllocError>
+        requires record { IsRecord written_layout (view rec.now) }
+        requires size { size ≡ size_at self.old.cells (view rec.now) }
+        requires room { self.old.cells + size < 2 ^ 64 }
+        ensures body { OnOk result ((records : List Record) → ShowsBody records self.old → ShowsBody (records ++ view rec.now ∷ []) self.new) }
+        ensures cells { OnOk result (self.new.cells ≡ self.old.cells + size) }
+    {
+        self.text.put(rec)?;
+        self.cells += size;
+        Ok(())
+    }
+}

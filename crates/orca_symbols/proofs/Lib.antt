@@ -1,0 +1,15 @@
+pub mod CountName
+pub mod Maps
+pub mod Parted
+pub mod Fronts
+pub mod Signed
+pub mod Terms
+pub mod Models
+pub mod Numbers
+pub mod Binds
+pub mod Cuts
+pub mod Letters
+pub mod Shorts
+pub mod WholeName
+pub mod Templates
+pub mod Renewals

@@ -1,0 +1,181 @@
+-- Pieces from the front on, and quotes that close.
+use Rattle.std.proofs.Common.{◌≡◌, ℕ, zero, suc, ◌+◌, ◌<◌, ◌≤◌, Bool, true, false, cond, eqb, ltb, List, [], ◌∷◌, ◌++◌, length, take, drop, Option, Some, None, refl, sym, ap, subst, ◌∙◌, append_assoc, append-nil, length-drop, arith}
+use Rattle.std.specs.Prelude.{position, slice_get}
+use Rattle.std.specs.List.{position_or_len}
+use Rattle.orca_meaning.specs.Quotes.{quote_behind}
+use Rattle.macro_meaning.specs.Pieces.{parts, open_behind, with_byte, pieces_from, pieces, closed_at, quoted, appended, joined}
+use Rattle.orca_symbols.specs.Piece.{piece_len, AreNotTwo}
+
+-- ---- elements from a place on
+
+pub drop_next : {A : Type 0} (l : List A) (i : ℕ) (x : A) → slice_get l i ≡ Some x → drop i l ≡ x ∷ drop (i + 1) l
+drop_next {A = A} [] i x is = absurd cc
+drop_next {A = A} (y ∷ l) zero x is = let same : y ≡ x = cc in ap (λ (z : A). z ∷ l) same
+drop_next {A = A} (y ∷ l) (suc i) x is = let more : suc i + 1 ≡ suc (i + 1) = omega arith in rw more (drop_next l i x is)
+
+pub drop_all : {A : Type 0} (l : List A) (i : ℕ) → length l ≤ i → drop i l ≡ []
+drop_all [] zero end = refl
+drop_all [] (suc i) end = refl
+drop_all (y ∷ l) zero end = absurd (omega (arith, end))
+drop_all (y ∷ l) (suc i) end = drop_all l i (omega (arith, end))
+
+-- the first piece, and the pieces of what stands behind its separator
+after_first : ℕ → List ℕ → List (List ℕ)
+after_first separator [] = []
+after_first separator (byte ∷ behind) = pieces separator behind
+
+front : (separator : ℕ) (quote : Option ℕ) (count : ℕ) (text : List ℕ)
+    → pieces_from separator quote count text ≡ take (piece_len separator quote count text) text ∷ after_first separator (drop (piece_len separator quote count text) text)
+unfolding pieces_from piece_len after_first
+front separator quote count [] = refl
+front separator quote count (byte ∷ behind) = by_test (parts separator quote count byte) (front separator (quote_behind quote byte) (open_behind quote count byte) behind)
+  where
+    n : ℕ
+    n = piece_len separator (quote_behind quote byte) (open_behind quote count byte) behind
+
+    more : (k : ℕ) → k ≡ suc n → pieces_from separator (quote_behind quote byte) (open_behind quote count byte) behind ≡ take n behind ∷ after_first separator (drop n behind)
+        → with_byte byte (pieces_from separator (quote_behind quote byte) (open_behind quote count byte) behind) ≡ take k (byte ∷ behind) ∷ after_first separator (drop k (byte ∷ behind))
+    more k e is = rw e (ap (with_byte byte) is)
+
+    by_test : (b : Bool) → pieces_from separator (quote_behind quote byte) (open_behind quote count byte) behind ≡ take n behind ∷ after_first separator (drop n behind)
+        → cond b ([] ∷ pieces separator behind) (with_byte byte (pieces_from separator (quote_behind quote byte) (open_behind quote count byte) behind))
+        ≡ take (cond b 0 (n + 1)) (byte ∷ behind) ∷ after_first separator (drop (cond b 0 (n + 1)) (byte ∷ behind))
+    by_test true is = refl
+    by_test false is = more (n + 1) (omega arith) is
+
+-- what was found, and the pieces of what is left
+pub last_piece : (separator : ℕ) (text left : List ℕ) (old new : List (List ℕ)) (p : List ℕ) (k : ℕ) → old ++ pieces separator left ≡ pieces separator text
+    → k ≡ piece_len separator None 0 left → p ≡ take k left → length (drop k left) ≡ 0 → new ≡ old ++ p ∷ [] → new ≡ pieces separator text
+unfolding after_first
+last_piece separator text left old new p k is k_is p_is end push =
+    push ∙ ap (λ (l : List (List ℕ)). old ++ l) (sym whole) ∙ is
+  where
+    none : (l : List ℕ) → length l ≡ 0 → after_first separator l ≡ []
+    none [] e = refl
+    none (x ∷ l) e = absurd (omega (arith, e))
+
+    whole : pieces separator left ≡ p ∷ []
+    whole = front separator None 0 left ∙ ap (λ (j : ℕ). take j left ∷ after_first separator (drop j left)) (sym k_is) ∙ ap (λ (l : List (List ℕ)). take k left ∷ l) (none (drop k left) end) ∙ ap (λ (l : List ℕ). l ∷ []) (sym p_is)
+
+pub next_piece : (separator : ℕ) (text left others : List ℕ) (byte : ℕ) (old new : List (List ℕ)) (p : List ℕ) (k : ℕ) → old ++ pieces separator left ≡ pieces separator text
+    → k ≡ piece_len separator None 0 left → p ≡ take k left → drop k left ≡ byte ∷ others → new ≡ old ++ p ∷ [] → new ++ pieces separator others ≡ pieces separator text
+unfolding after_first
+next_piece separator text left others byte old new p k is k_is p_is rest push =
+    ap (λ (l : List (List ℕ)). l ++ pieces separator others) push
+    ∙ append_assoc old (p ∷ []) (pieces separator others) ∙ ap (λ (l : List (List ℕ)). old ++ l) (sym whole) ∙ is
+  where
+    whole : pieces separator left ≡ p ∷ pieces separator others
+    whole = front separator None 0 left ∙ ap (λ (j : ℕ). take j left ∷ after_first separator (drop j left)) (sym k_is) ∙ ap (λ (l : List ℕ). take k left ∷ after_first separator l) rest ∙ ap (λ (l : List ℕ). l ∷ pieces separator others) (sym p_is)
+
+-- ---- quotes
+
+by_found : (b : Bool) (n i : ℕ) → cond b (Some n) None ≡ Some i → (b ≡ true) × (n ≡ i)
+by_found true n i e = (refl, cc)
+by_found false n i e = absurd cc
+
+none_found : (b : Bool) (n : ℕ) → cond b (Some n) None ≡ None → b ≡ false
+none_found true n e = absurd cc
+none_found false n e = refl
+
+-- the quote stands at a place
+pub closes : (quote : ℕ) (behind text others : List ℕ) (close : ℕ) → position (λ b. eqb b quote) behind ≡ Some close → text ≡ take close behind → others ≡ drop (close + 1) behind
+    → closed_at quote behind ≡ Some (text, others)
+unfolding closed_at
+closes quote behind text others close at text_is rest_is =
+    let n = position_or_len (λ b. eqb b quote) behind in
+    let found = by_found (ltb n (length behind)) n close at in
+    rw found.0 (ap (λ (t : List ℕ). Some (t, drop (n + 1) behind)) (ap (λ (k : ℕ). take k behind) found.1 ∙ sym text_is)
+    ∙ ap (λ (r : List ℕ). Some (text, r)) (ap (λ (k : ℕ). drop (k + 1) behind) found.1 ∙ sym rest_is))
+
+pub never_closes : (quote : ℕ) (behind : List ℕ) → position (λ b. eqb b quote) behind ≡ None → closed_at quote behind ≡ None
+unfolding closed_at
+never_closes quote behind none = rw (none_found (ltb (position_or_len (λ b. eqb b quote) behind) (length behind)) (position_or_len (λ b. eqb b quote) behind) none) refl
+
+-- ---- joined texts
+
+pub join_start : (pieces out : List (List ℕ)) (first : List ℕ) → first ≡ [] → appended (Some first) (joined (drop 0 pieces)) ≡ joined pieces
+join_start pieces out first e = ap (λ (o : List ℕ). appended (Some o) (joined pieces)) e ∙ same (joined pieces)
+  where
+    same : (rest : Option (List ℕ)) → appended (Some []) rest ≡ rest
+    same None = refl
+    same (Some text) = refl
+
+pub join_next : (pieces : List (List ℕ)) (at : ℕ) (piece text old new : List ℕ) (whole : Option (List ℕ)) → slice_get pieces at ≡ Some piece → quoted piece ≡ Some text → new ≡ old ++ text
+    → appended (Some old) (joined (drop at pieces)) ≡ whole → appended (Some new) (joined (drop (at + 1) pieces)) ≡ whole
+unfolding joined
+join_next pieces at piece text old new whole is found push so =
+    ap (λ (n : List ℕ). appended (Some n) (joined (drop (at + 1) pieces))) push ∙ more old text (joined (drop (at + 1) pieces))
+    ∙ ap (λ (t : Option (List ℕ)). appended (Some old) (appended t (joined (drop (at + 1) pieces)))) (sym found)
+    ∙ ap (λ (l : List (List ℕ)). appended (Some old) (joined l)) (sym (drop_next pieces at piece is)) ∙ so
+  where
+    more : (a b : List ℕ) (rest : Option (List ℕ)) → appended (Some (a ++ b)) rest ≡ appended (Some a) (appended (Some b) rest)
+    more a b None = refl
+    more a b (Some t) = ap (λ (t : List ℕ). Some t) (append_assoc a b t)
+
+pub join_none : (pieces : List (List ℕ)) (at : ℕ) (piece old : List ℕ) (whole : Option (List ℕ)) → slice_get pieces at ≡ Some piece → quoted piece ≡ None
+    → appended (Some old) (joined (drop at pieces)) ≡ whole → whole ≡ None
+unfolding joined
+join_none pieces at piece old whole is none so =
+    sym so ∙ ap (λ (l : List (List ℕ)). appended (Some old) (joined l)) (drop_next pieces at piece is) ∙ ap (λ (t : Option (List ℕ)). appended (Some old) (appended t (joined (drop (at + 1) pieces)))) none
+
+pub join_end : (pieces : List (List ℕ)) (at : ℕ) (out : List ℕ) (whole : Option (List ℕ)) → length pieces ≤ at → appended (Some out) (joined (drop at pieces)) ≡ whole → whole ≡ Some out
+unfolding joined
+join_end pieces at out whole end so =
+    sym so ∙ ap (λ (l : List (List ℕ)). appended (Some out) (joined l)) (drop_all pieces at end) ∙ ap (λ (t : List ℕ). Some t) (append-nil out)
+
+-- a place at which something stands
+pub get_inside : {A : Type 0} (l : List A) (i : ℕ) (x : A) → slice_get l i ≡ Some x → i + 1 ≤ length l
+get_inside [] i x is = absurd cc
+get_inside (y ∷ l) zero x is = omega arith
+get_inside (y ∷ l) (suc i) x is = omega (arith, get_inside l i x is)
+
+-- ---- two pieces
+
+take_all : (l : List ℕ) (i : ℕ) → length l ≤ i → take i l ≡ l
+take_all [] zero end = refl
+take_all [] (suc i) end = refl
+take_all (y ∷ l) zero end = absurd (omega (arith, end))
+take_all (y ∷ l) (suc i) end = ap (λ (r : List ℕ). y ∷ r) (take_all l i (omega (arith, end)))
+
+first_piece : (separator k : ℕ) (text : List ℕ) → k ≡ piece_len separator None 0 text → pieces separator text ≡ take k text ∷ after_first separator (drop k text)
+first_piece separator k text k_is = front separator None 0 text ∙ ap (λ (j : ℕ). take j text ∷ after_first separator (drop j text)) (sym k_is)
+
+pub and_more : (separator : ℕ) (text first second : List ℕ) (byte k : ℕ) → k ≡ piece_len separator None 0 text → first ≡ take k text → drop k text ≡ byte ∷ second
+    → pieces separator text ≡ first ∷ pieces separator second
+unfolding after_first
+and_more separator text first second byte k k_is first_is rest =
+    first_piece separator k text k_is ∙ ap (λ (l : List ℕ). take k text ∷ after_first separator l) rest ∙ ap (λ (l : List ℕ). l ∷ pieces separator second) (sym first_is)
+
+pub two_are : (separator : ℕ) (text first second : List ℕ) (byte k j : ℕ) → k ≡ piece_len separator None 0 text → first ≡ take k text → drop k text ≡ byte ∷ second
+    → j ≡ piece_len separator None 0 second → length second ≤ j → pieces separator text ≡ first ∷ second ∷ []
+unfolding after_first
+two_are separator text first second byte k j k_is first_is rest j_is all =
+    let single : pieces separator second ≡ second ∷ [] =
+    first_piece separator j second j_is ∙ ap (λ (l : List ℕ). take j second ∷ after_first separator l) (drop_all second j all) ∙ ap (λ (l : List ℕ). l ∷ []) (take_all second j all) in
+    and_more separator text first second byte k k_is first_is rest ∙ ap (λ (l : List (List ℕ)). first ∷ l) single
+
+pub alone : (separator : ℕ) (text first : List ℕ) (k : ℕ) → k ≡ piece_len separator None 0 text → first ≡ take k text → length (drop k text) ≡ 0 → pieces separator text ≡ first ∷ []
+unfolding after_first
+alone separator text first k k_is first_is none =
+    first_piece separator k text k_is ∙ ap (λ (l : List ℕ). take k text ∷ after_first separator l) (nothing (drop k text) none) ∙ ap (λ (l : List ℕ). l ∷ []) (sym first_is)
+  where
+    nothing : (l : List ℕ) → length l ≡ 0 → l ≡ []
+    nothing [] e = refl
+    nothing (x ∷ l) e = absurd (omega (arith, e))
+
+pub one_alone : (separator : ℕ) (text : List ℕ) (k : ℕ) → k ≡ piece_len separator None 0 text → length (drop k text) ≡ 0 → AreNotTwo (pieces separator text)
+one_alone separator text k k_is none = subst AreNotTwo (sym (alone separator text (take k text) k k_is refl none)) tt
+
+pub three_are : (separator : ℕ) (text first second : List ℕ) (byte k j : ℕ) → k ≡ piece_len separator None 0 text → first ≡ take k text → drop k text ≡ byte ∷ second
+    → j ≡ piece_len separator None 0 second → j < length second → AreNotTwo (pieces separator text)
+unfolding after_first
+three_are separator text first second byte k j k_is first_is rest j_is less = by_rest (drop j second) refl
+  where
+    by_rest : (l : List ℕ) → drop j second ≡ l → AreNotTwo (pieces separator text)
+    by_rest [] e = absurd (omega (arith, less, length-drop j second, ap length e))
+    by_rest (b ∷ others) e =
+        let whole : pieces separator text ≡ first ∷ take j second ∷ take (piece_len separator None 0 others) others ∷ after_first separator (drop (piece_len separator None 0 others) others) =
+        and_more separator text first second byte k k_is first_is rest
+        ∙ ap (λ (l : List (List ℕ)). first ∷ l) (first_piece separator j second j_is ∙ ap (λ (l : List ℕ). take j second ∷ after_first separator l) e)
+        ∙ ap (λ (l : List (List ℕ)). first ∷ take j second ∷ l) (front separator None 0 others) in
+        subst AreNotTwo (sym whole) tt

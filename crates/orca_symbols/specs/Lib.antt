@@ -1,0 +1,13 @@
+pub mod Held
+pub mod View
+pub mod Piece
+pub mod ModelView
+pub mod Calling
+pub mod Frame
+pub mod Changes
+pub mod Plain
+pub mod Letters
+pub mod Short
+pub mod Template
+pub mod Words
+pub mod Kept

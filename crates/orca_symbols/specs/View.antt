@@ -1,0 +1,36 @@
+-- How pieces, symbols and their values are seen.
+use Rattle.std.specs.Prelude.{ℕ, List}
+use Rattle.std.specs.Option.{option_map}
+use Rattle.macro_meaning.specs.declared.statements.Kind.{Kind}
+use Rattle.macro_meaning.specs.Symbol as meaning
+use Rattle.macro_meaning.specs.Substitution as place
+use Rattle.orca_symbols.specs.declared.substitution.Naming.{Naming}
+use Rattle.orca_symbols.specs.declared.substitution.Naming.TheVariants.{Replaced, Named, Declared}
+use Rattle.orca_symbols.specs.declared.symbols.Symbol.{Symbol}
+use Rattle.orca_symbols.specs.declared.symbols.Symbol.TheVariants.{Own, Common}
+use Rattle.orca_symbols.specs.declared.symbols.SharedText.{SharedText}
+use Rattle.orca_symbols.specs.declared.symbols.Symbols.{Symbols}
+use Rattle.orca_symbols.specs.declared.symbols.Texts.{Texts}
+use Rattle.orca_symbols.specs.declared.symbols.Values.{Values}
+use Rattle.orca_symbols.specs.Held.{held}
+
+abbrev pub symbol : Symbol → meaning.Symbol
+symbol (Own kind text) = meaning.Own kind text
+symbol (Common kind) = meaning.Common kind
+
+abbrev pub shared_text : SharedText → Kind × List ℕ
+shared_text shared = (shared.kind, shared.text)
+
+abbrev pub symbols_of : Symbols → meaning.Symbols
+symbols_of symbols name = option_map symbol (held symbols.map name)
+
+abbrev pub texts_of : Texts → meaning.SharedTexts
+texts_of texts name = option_map shared_text (held texts.map name)
+
+abbrev pub values : Values → meaning.Values
+values of = record { symbols = symbols_of of.symbols.now; texts = texts_of of.texts.now; calls = of.calls.now }
+
+abbrev pub naming : Naming → place.Naming
+naming Replaced = place.Replaced
+naming Named = place.Named
+naming Declared = place.Declared

@@ -1,0 +1,287 @@
+//! Conditions and the numbers of conditional assembly (ORCA/M reference manual, "Conditional assembly expressions").
+
+ghost use Rattle.std.specs.Prelude.{◌≡◌, ◌≤◌, ◌++◌, ◌∷◌, [], ◌==◌, not, List, ℕ, length, Some, None, Ok, Err, is_some, IfOk, IfErr, IfSome, IfNone, OnOk, MatchOption};
+ghost use Rattle.std.specs.List.{list_all};
+ghost use Rattle.omf_format.specs.Expression.{AreTerms, terms_text, Tree, Spells};
+ghost use Rattle.omf_format.specs.Value.{value, truth, apply_two};
+ghost use Rattle.omf_format.specs.declared.value.Value.TheVariants as Value;
+ghost use Rattle.orca_meaning.specs.Formula.{operator_code};
+ghost use Rattle.macro_meaning.specs.Condition.{attribute, attribute_of, environment, is_declared, number_of, IsNumber, IsCondition, comparison_at, same_as, compared_with, comparison};
+ghost use Rattle.macro_meaning.specs.Symbol.{text_of};
+ghost use Rattle.omf_expr.specs.View.{view};
+ghost use Rattle.orca_symbols.specs.Short.{HasNumber};
+ghost use Rattle.orca_symbols.specs.View.{values};
+ghost use Rattle.orca_text.specs.View.{term};
+
+use crate::operands::{quoted, quoted_at};
+use crate::symbols::{Values, text_of};
+use macro_meaning::MacroCause;
+use omf_expr::{Env, Expr, Term, Value, ValueFault, evaluate, put_term};
+use orca_meaning::Operator;
+use orca_text::{
+    Formula, FormulaTerm, Operands, ShortFormula, formula_at, is_too_deep, short_formula,
+};
+use std::alloc::{AllocError, Global};
+
+/// 1 for what is true, and 0 for what isn't.
+fn truth(holds: bool) -> u32
+    ensures { result ≡ truth holds }
+{
+    if holds { 1 } else { 0 }
+}
+
+/// What a formula asks of a symbol's text.
+fn attribute(code: u8, text: &[u8]) -> u32
+    requires { length text.now ≤ 255 }
+    ensures { result ≡ attribute code text.now }
+{
+    if code == 0x84 {
+        return text.len() as u32;
+    }
+    truth(!text.is_empty())
+}
+
+impl<'a> Env for Values<'a> {
+    ghost use Rattle.macro_meaning.specs.Condition.{environment};
+    ghost use Rattle.orca_symbols.specs.View.{values};
+
+    ghost meaning = { λ of. environment (values of) };
+
+    fn label(&self, _: &[u8], _: bool) -> Option<Value> {
+        None
+    }
+
+    fn attribute(&self, term: u8, name: &[u8]) -> Option<u32> {
+        match text_of(*self, name) {
+            Some(text) => Some(attribute(term, text)),
+            None => None,
+        }
+    }
+
+    fn location(&self) -> Value {
+        Value::Fixed(0)
+    }
+
+    fn start(&self) -> Value {
+        Value::Fixed(0)
+    }
+}
+
+/// Whether the symbols of which a formula asks are declared.
+fn are_declared(of: Values<'_>, terms: &[FormulaTerm]) -> bool
+    ensures { result ≡ list_all (is_declared (values of.entry)) (Rattle.std.specs.Prelude.map term terms.now) }
+{
+    let mut left = terms;
+    'terms: while let Some((first, others)) = left.split_first() {
+        match first {
+            FormulaTerm::Named(_, name) => {
+                if text_of(of, name.bytes()).is_none() {
+                    return false;
+                }
+            }
+            FormulaTerm::Operator(_)
+            | FormulaTerm::Location
+            | FormulaTerm::Constant(_)
+            | FormulaTerm::Offset(_) => {}
+        }
+        left = others;
+    }
+    true
+}
+
+/// A term as one of an expression.
+fn as_term(of: &FormulaTerm) -> Term<'_>
+    ensures { view result ≡ term of.now }
+{
+    match of {
+        FormulaTerm::Operator(code) => Term::Operator(*code),
+        FormulaTerm::Location => Term::Location,
+        FormulaTerm::Constant(n) => Term::Constant(*n),
+        FormulaTerm::Named(code, name) => Term::Named(*code, name.bytes()),
+        FormulaTerm::Offset(n) => Term::Offset(*n),
+    }
+}
+
+/// The bytes of an expression with these terms.
+#[tactic(auto, using(crate::proofs::Terms::term_put, crate::proofs::Terms::terms_end))]
+fn expression(alloc: Global, terms: &[FormulaTerm]) -> Result<Vec<u8>, AllocError>
+    requires { AreTerms 0 (Rattle.std.specs.Prelude.map term terms.now) }
+    ensures { IfOk result (λ v. v.items ≡ terms_text 0 (Rattle.std.specs.Prelude.map term terms.now) ++ 0x00 ∷ []) }
+{
+    let mut out = Vec::with_capacity(alloc, 6 * terms.len() + 1)?;
+    let mut left = terms;
+    'terms: while let Some((first, others)) = left.split_first() {
+        match put_term(&mut out, &as_term(first)) {
+            Ok(()) => {}
+            Err(_) => return Err(AllocError),
+        }
+        left = others;
+    }
+    out.push(0)?;
+    Ok(out)
+}
+
+/// A value as a number.
+fn number_of(value: Result<Value, ValueFault>) -> Result<u32, MacroCause>
+    ensures { result ≡ number_of value }
+{
+    match value {
+        Ok(Value::Fixed(n)) => Ok(n),
+        Ok(Value::At { .. }) => Err(MacroCause::BadSetting),
+        Err(_) => Err(MacroCause::BadSetting),
+    }
+}
+
+/// The value of a formula with numbers that fit, and at most 64 pending values.
+fn value_of(
+    alloc: Global,
+    of: Values<'_>,
+    formula: &Formula,
+) -> Result<Result<u32, MacroCause>, AllocError>
+    requires { AreTerms 0 formula.now }
+    ensures { IfOk result (λ answer. (tree : Tree) → Spells 0 (terms_text 0 formula.now ++ 0x00 ∷ []) tree → answer ≡ number_of (value (environment (values of.entry)) 0 0 tree)) }
+{
+    let bytes = expression(alloc, formula.terms())?;
+    match Expr::of(bytes.as_slice(), 0) {
+        Ok(expr) => Ok(number_of(evaluate(&expr, &of))),
+        Err(_) => Ok(Err(MacroCause::BadSetting)),
+    }
+}
+
+/// What an operator makes of two numbers. None says nothing.
+#[tactic(auto, unfolding(omf_format::specs::Value::apply_two, omf_format::specs::Value::number_of_two, omf_format::specs::Value::arithmetic, omf_format::specs::Value::comparison))]
+fn joined_numbers(operator: Operator, a: u32, b: u32) -> Option<u32>
+    ensures { IfSome result (λ n. apply_two (operator_code operator) (Value.Fixed a) (Value.Fixed b) ≡ Ok (Value.Fixed n)) }
+{
+    match operator {
+        Operator::Add => Some(a.wrapping_add(b)),
+        Operator::Subtract => Some(a.wrapping_sub(b)),
+        Operator::Multiply => Some(a.wrapping_mul(b)),
+        Operator::Less => Some(truth(a.cast_signed() < b.cast_signed())),
+        Operator::Greater => Some(truth(a.cast_signed() > b.cast_signed())),
+        Operator::LessOrEqual => Some(truth(a.cast_signed() <= b.cast_signed())),
+        Operator::GreaterOrEqual => Some(truth(a.cast_signed() >= b.cast_signed())),
+        Operator::Equal => Some(truth(a == b)),
+        Operator::NotEqual => Some(truth(a != b)),
+        Operator::Divide | Operator::Shift | Operator::And | Operator::Or | Operator::Eor => None,
+    }
+}
+
+/// The value of a text that is a number, or two or three with operators between them. None says nothing.
+#[tactic(auto, using(crate::proofs::Shorts::one_number, crate::proofs::Shorts::two_numbers, crate::proofs::Shorts::three_numbers))]
+#[inline(always)]
+fn short_value(text: &[u8]) -> Option<u32>
+    ensures { IfSome result (λ n. HasNumber text.now n) }
+{
+    match short_formula(text) {
+        Some(ShortFormula::One(n)) => Some(n),
+        Some(ShortFormula::Two(operator, a, b)) => joined_numbers(operator, a, b),
+        Some(ShortFormula::Three(operator, a, second, b, c)) => match joined_numbers(second, b, c) {
+            Some(n) => joined_numbers(operator, a, n),
+            None => None,
+        },
+        None => None,
+    }
+}
+
+/// The value of the formula that a text of at most 255 bytes is, or what is wrong with it.
+#[inline(always)]
+pub fn number(
+    alloc: Global,
+    of: Values<'_>,
+    text: &[u8],
+) -> Result<Result<u32, MacroCause>, AllocError>
+    requires { length text.now ≤ 255 }
+    ensures { IfOk result (λ answer. IsNumber (values of.entry) text.now answer) }
+{
+    match short_value(text) {
+        Some(n) => Ok(Ok(n)),
+        None => long_number(alloc, of, text),
+    }
+}
+
+/// The same, of any formula.
+fn long_number(
+    alloc: Global,
+    of: Values<'_>,
+    text: &[u8],
+) -> Result<Result<u32, MacroCause>, AllocError>
+    requires { length text.now ≤ 255 }
+    ensures { IfOk result (λ answer. IsNumber (values of.entry) text.now answer) }
+{
+    let Some(found) = formula_at(alloc, Operands::Symbols, text)? else {
+        return Ok(Err(MacroCause::BadSetting));
+    };
+    if !found.rest.is_empty() {
+        return Ok(Err(MacroCause::BadSetting));
+    }
+    if !are_declared(of, found.formula.terms()) {
+        return Ok(Err(MacroCause::NoSuchSymbol));
+    }
+    if found.large {
+        return Ok(Err(MacroCause::BadSetting));
+    }
+    if is_too_deep(1, &found.formula) {
+        return Ok(Err(MacroCause::BadSetting));
+    }
+    value_of(alloc, of, &found.formula)
+}
+
+/// The comparison at the front: whether it asks for equal texts, and what stands behind it.
+fn comparison_at(text: &[u8]) -> Option<(bool, &[u8])>
+    ensures { MatchOption result (comparison_at text.now ≡ None) (λ x. comparison_at text.now ≡ Some (x.0, x.1.now)) }
+{
+    let Some((first, behind)) = text.split_first() else {
+        return None;
+    };
+    if *first == b'=' {
+        return Some((true, behind));
+    }
+    let Some((second, rest)) = behind.split_first() else {
+        return None;
+    };
+    if *first == b'<' && *second == b'>' {
+        return Some((false, rest));
+    }
+    None
+}
+
+/// Whether a text compared with the text in quotes that stands there is as is asked.
+fn compared_with(a: &[u8], behind: &[u8]) -> Option<bool>
+    ensures { result ≡ compared_with a.now (comparison_at behind.now) }
+{
+    let Some((equal, rest)) = comparison_at(behind) else {
+        return None;
+    };
+    match quoted(rest) {
+        Some(b) => Some((a == b) == equal),
+        None => None,
+    }
+}
+
+/// Whether a comparison of two texts in quotes holds, where the text is one.
+#[tactic(auto, unfolding(macro_meaning::specs::Condition::comparison))]
+fn comparison(text: &[u8]) -> Option<bool>
+    ensures { result ≡ comparison text.now }
+{
+    match quoted_at(text) {
+        Some((a, behind)) => compared_with(a, behind),
+        None => None,
+    }
+}
+
+/// The value of a condition of at most 255 bytes: a comparison of two texts, or a formula.
+#[inline(always)]
+pub fn condition(
+    alloc: Global,
+    of: Values<'_>,
+    text: &[u8],
+) -> Result<Result<u32, MacroCause>, AllocError>
+    requires { length text.now ≤ 255 }
+    ensures { IfOk result (λ answer. IsCondition (values of.entry) text.now answer) }
+{
+    match comparison(text) {
+        Some(holds) => Ok(Ok(truth(holds))),
+        None => number(alloc, of, text),
+    }
+}

@@ -1,0 +1,216 @@
+//! Texts parted by commas or plus signs, and texts in quotes.
+
+ghost use Rattle.std.specs.Prelude.{◌≡◌, ◌≤◌, ◌<◌, ◌+◌, ◌^◌, ◌∷◌, [], List, ℕ, map, length, take, drop, position, nat_eq, slice_get, Some, None, IfOk, IfSome, MatchOption, option_copied};
+ghost use Rattle.macro_meaning.specs.Pieces.{open_behind, parts, pieces, closed_at, quoted_at, quoted, joined, appended};
+ghost use Rattle.orca_symbols.specs.Piece.{piece_len, more_pieces, AreNotTwo};
+
+use orca_text::quote_behind;
+use std::alloc::{AllocError, Global};
+use std::marker::Model;
+
+/// A part of a text, of at most 255 bytes. Contracts see its bytes.
+#[derive(Drop)]
+pub struct Piece<'a> {
+    bytes: &'a [u8],
+}
+
+impl<'a> Model for Piece<'a> {
+    ghost use Rattle.std.specs.Prelude.{◌≤◌, ℕ, List, length};
+
+    ghost Value = { List ℕ };
+
+    ghost view = { λ piece. piece.bytes.now };
+
+    ghost invariant = { λ piece. length piece.bytes.now ≤ 255 };
+}
+
+impl<'a> Piece<'a> {
+    fn of(bytes: &'a [u8]) -> Piece<'a>
+        requires { length bytes.now ≤ 255 }
+        ensures { result ≡ bytes.now }
+    {
+        Piece { bytes }
+    }
+
+    /// Its bytes.
+    pub fn bytes(&self) -> &'a [u8]
+        ensures value { result.now ≡ self.now }
+        ensures short { length result.now ≤ 255 }
+    {
+        self.bytes
+    }
+}
+
+/// The piece at a place.
+pub(crate) fn piece_at<'a, 'b>(pieces: &'b [Piece<'a>], at: usize) -> Option<&'b Piece<'a>>
+    ensures { MatchOption result (length pieces.now ≤ at) (λ piece. slice_get pieces.now at ≡ Some piece.now) }
+{
+    pieces.get(at)
+}
+
+/// How many parentheses are open behind a byte.
+fn open_behind(quote: Option<u8>, count: usize, byte: u8) -> usize
+    requires { count + 1 < 2 ^ 63 }
+    ensures value { result ≡ open_behind quote count byte }
+    ensures most { result ≤ count + 1 }
+{
+    if quote.is_some() {
+        return count;
+    }
+    match byte {
+        b'(' => count + 1,
+        b')' => count.saturating_sub(1),
+        _ => count,
+    }
+}
+
+/// How many bytes stand before the first separator outside quotes and parentheses.
+#[tactic(auto, unfolding(crate::specs::Piece::piece_len))]
+fn piece_len(separator: u8, text: &[u8]) -> usize
+    requires { length text.now ≤ 255 }
+    ensures value { result ≡ piece_len separator None 0 text.now }
+    ensures bound { result ≤ length text.now }
+{
+    let mut quote = None;
+    let mut open: usize = 0;
+    let mut count: usize = 0;
+    let mut left = text;
+    'bytes: while let Some((byte, behind)) = left.split_first() {
+        if quote.is_none() && open == 0 && *byte == separator {
+            return count;
+        }
+        open = open_behind(quote, open, *byte);
+        quote = quote_behind(quote, *byte);
+        count += 1;
+        left = behind;
+    }
+    count
+}
+
+/// The pieces between the separators outside quotes and parentheses.
+#[tactic(auto, using(crate::proofs::Parted::last_piece, crate::proofs::Parted::next_piece))]
+pub fn pieces<'a>(
+    alloc: Global,
+    separator: u8,
+    text: &'a [u8],
+) -> Result<Vec<Piece<'a>>, AllocError>
+    requires { length text.now ≤ 255 }
+    ensures { IfOk result (λ v. v.items ≡ pieces separator text.now) }
+{
+    let mut found = Vec::new(alloc);
+    let mut left = text;
+    'pieces: loop {
+        let (piece, behind) = left.split_at(piece_len(separator, left));
+        found.push(Piece::of(piece))?;
+        let Some((_, others)) = behind.split_first() else {
+            return Ok(found);
+        };
+        left = others;
+    }
+}
+
+/// The first piece, and the text behind its separator, if there is one.
+#[tactic(auto, using(crate::proofs::Parted::and_more, crate::proofs::Parted::alone))]
+pub(crate) fn first_piece(separator: u8, text: &[u8]) -> (&[u8], Option<&[u8]>)
+    requires { length text.now ≤ 255 }
+    ensures short { length result.0.now ≤ 255 }
+    ensures behind { IfSome result.1 (λ rest. length rest.now < length text.now) }
+    ensures pieces { pieces separator text.now ≡ result.0.now ∷ more_pieces separator (option_copied result.1) }
+{
+    let (first, behind) = text.split_at(piece_len(separator, text));
+    match behind.split_first() {
+        Some((_, rest)) => (first, Some(rest)),
+        None => (first, None),
+    }
+}
+
+/// The two pieces of a text with just one separator outside quotes and parentheses.
+#[tactic(auto, using(crate::proofs::Parted::two_are, crate::proofs::Parted::one_alone, crate::proofs::Parted::three_are))]
+pub fn two_pieces(separator: u8, text: &[u8]) -> Option<(&[u8], &[u8])>
+    requires { length text.now ≤ 255 }
+    ensures bound { IfSome result (λ x. (length x.0.now ≤ 255) × (length x.1.now ≤ 255)) }
+    ensures pieces { MatchOption result (AreNotTwo (pieces separator text.now)) (λ x. pieces separator text.now ≡ x.0.now ∷ x.1.now ∷ []) }
+{
+    let (first, behind) = text.split_at(piece_len(separator, text));
+    let Some((_, second)) = behind.split_first() else {
+        return None;
+    };
+    if piece_len(separator, second) < second.len() {
+        return None;
+    }
+    Some((first, second))
+}
+
+/// Where the first quote of this kind stands.
+fn closing(quote: u8, behind: &[u8]) -> Option<usize>
+    ensures bound { IfSome result (λ i. i < length behind.now) }
+    ensures value { result ≡ position (λ byte. nat_eq byte quote) behind.now }
+{
+    behind.iter().position(|byte| *byte == quote)
+}
+
+/// The text up to the closing quote, and what stands behind that.
+#[tactic(auto, unfolding(macro_meaning::specs::Pieces::closed_at), using(crate::proofs::Parted::closes, crate::proofs::Parted::never_closes))]
+fn closed_at(quote: u8, behind: &[u8]) -> Option<(&[u8], &[u8])>
+    ensures bound { IfSome result (λ x. length x.0.now ≤ length behind.now) }
+    ensures text { MatchOption result (closed_at quote behind.now ≡ None) (λ x. closed_at quote behind.now ≡ Some (x.0.now, x.1.now)) }
+{
+    let Some(close) = closing(quote, behind) else {
+        return None;
+    };
+    let (text, _) = behind.split_at(close);
+    match behind.get(close + 1..) {
+        Some(others) => Some((text, others)),
+        None => unreachable!(),
+    }
+}
+
+/// The text in quotes at the front, and what stands behind it.
+#[tactic(auto, unfolding(macro_meaning::specs::Pieces::quoted_at))]
+pub(crate) fn quoted_at(text: &[u8]) -> Option<(&[u8], &[u8])>
+    ensures bound { IfSome result (λ x. length x.0.now ≤ length text.now) }
+    ensures text { MatchOption result (quoted_at text.now ≡ None) (λ x. quoted_at text.now ≡ Some (x.0.now, x.1.now)) }
+{
+    let Some((quote, behind)) = text.split_first() else {
+        return None;
+    };
+    if *quote == b'\'' || *quote == b'"' {
+        return closed_at(*quote, behind);
+    }
+    None
+}
+
+/// The text in quotes that this is.
+pub fn quoted(text: &[u8]) -> Option<&[u8]>
+    ensures bound { IfSome result (λ x. length x.now ≤ length text.now) }
+    ensures text { MatchOption result (quoted text.now ≡ None) (λ x. quoted text.now ≡ Some x.now) }
+{
+    match quoted_at(text) {
+        Some((inside, rest)) => {
+            if rest.is_empty() {
+                return Some(inside);
+            }
+            None
+        }
+        None => None,
+    }
+}
+
+/// Texts in quotes, joined.
+#[tactic(auto, using(crate::proofs::Parted::join_start, crate::proofs::Parted::join_next, crate::proofs::Parted::join_none, crate::proofs::Parted::join_end))]
+pub fn joined(alloc: Global, pieces: &[Piece<'_>]) -> Result<Option<Vec<u8>>, AllocError>
+    ensures { IfOk result (λ found. MatchOption found (joined pieces.now ≡ None) (λ v. joined pieces.now ≡ Some v.items)) }
+{
+    let mut out = Vec::new(alloc);
+    let mut at = 0;
+    'pieces: loop {
+        let Some(piece) = piece_at(pieces, at) else {
+            return Ok(Some(out));
+        };
+        let Some(text) = quoted(piece.bytes()) else {
+            return Ok(None);
+        };
+        out.extend_from_slice(text)?;
+        at += 1;
+    }
+}

@@ -1,0 +1,37 @@
+//! The sequence symbol in column 1 of a line (ORCA/M reference manual, "Sequence symbols").
+
+ghost use Rattle.std.specs.Prelude.{◌≡◌, ◌==◌, ◌≤◌, length, take};
+ghost use Rattle.macro_meaning.specs.Deed.{cut};
+ghost use Rattle.macro_meaning.specs.Substitution.{first_passes};
+
+use crate::names::is_sequence;
+use orca_text::label_in;
+
+/// Whether a dot stands at the front.
+#[inline(always)]
+pub fn begins_dot(text: &[u8]) -> bool
+    ensures { result ≡ first_passes (λ byte. byte == 0x2E) text.now }
+{
+    match text.split_first() {
+        Some((byte, _)) => *byte == b'.',
+        None => false,
+    }
+}
+
+/// The line behind a sequence symbol in column 1.
+#[tactic(auto, unfolding(macro_meaning::specs::Deed::cut), using(crate::proofs::Cuts::cut_none))]
+pub fn cut(text: &[u8]) -> &[u8]
+    requires { length text.now ≤ 255 }
+    ensures value { result.now ≡ cut text.now }
+    ensures bound { length result.now ≤ length text.now }
+{
+    if !begins_dot(text) {
+        return text;
+    }
+    let label = label_in(text);
+    if is_sequence(label) {
+        let (_, behind) = text.split_at(label.len());
+        return behind;
+    }
+    text
+}

@@ -1,0 +1,199 @@
+//! Lines that are parted once into what is copied and the symbols whose texts come between (ORCA/M reference manual, "Symbolic parameters").
+
+ghost use Rattle.std.specs.Prelude.{◌≡◌, ◌≤◌, ◌+◌, [], List, ℕ, length, take, Option, Some, None, IsTrue, false, IfOk, IfSome, OnOk, MatchOption};
+ghost use Rattle.macro_meaning.specs.Substitution.{in_place, with_front, name_length};
+ghost use Rattle.macro_meaning.specs.Symbol.{text_of};
+ghost use Rattle.orca_meaning.specs.Characters as characters;
+ghost use Rattle.orca_meaning.specs.Line.{HaveFields};
+ghost use Rattle.orca_symbols.specs.Template.{HasParts, BeginWith, followed, part_text, placed, more_of, with_more, join};
+ghost use Rattle.orca_symbols.specs.View.{naming, values};
+ghost use Rattle.orca_text.specs.View.{line};
+
+use crate::names::statement_of;
+use crate::substitution::{
+    Naming, begins_letter, begins_name, copy_plain, naming_at, taken_length,
+};
+use crate::symbols::{Values, text_of};
+use crate::text::name;
+use omf_base::Name;
+use orca_text::{SourceLine, folded, name_len};
+use std::alloc::{AllocError, Global};
+
+/// A part of a line.
+#[derive(Drop)]
+pub enum Part {
+    /// These bytes.
+    Plain(Name),
+    /// The text of this symbol.
+    Put(Name),
+    /// Nothing, but the symbol must be declared.
+    Need(Name),
+}
+
+/// What comes in place of an `&`.
+#[derive(Drop)]
+pub(crate) enum Place {
+    /// It stays.
+    Ampersand,
+    /// The text of this symbol, and so many of the bytes behind it go with it.
+    Text(Name, usize),
+    /// It stays, but the symbol must be declared.
+    Asked(Name),
+}
+
+/// The name at the front, in upper case.
+fn front_name(alloc: Global, behind: &[u8]) -> Result<Name, AllocError>
+    requires { length behind.now ≤ 255 }
+    ensures { IfOk result (λ name. name ≡ characters.folded (take (name_length behind.now) behind.now)) }
+{
+    let (bytes, _) = behind.split_at(name_len(behind));
+    folded(alloc, bytes)
+}
+
+/// What comes in place of an `&` before these bytes.
+#[tactic(auto, using(crate::proofs::Templates::ampersand, crate::proofs::Templates::not_letter, crate::proofs::Templates::not_name, crate::proofs::Templates::text, crate::proofs::Templates::asked))]
+fn place_of(alloc: Global, at: Naming, behind: &[u8]) -> Result<Place, AllocError>
+    requires { length behind.now ≤ 255 }
+    ensures place { IfOk result (λ p. (text_of : List ℕ → Option (List ℕ)) → in_place text_of (naming at) behind.now ≡ with_more (more_of p) (placed text_of p)) }
+    ensures bound { IfOk result (λ p. more_of p ≤ length behind.now) }
+{
+    match at {
+        Naming::Replaced => {
+            if !begins_letter(behind) {
+                return Ok(Place::Ampersand);
+            }
+            let name = front_name(alloc, behind)?;
+            Ok(Place::Text(name, taken_length(behind)))
+        }
+        Naming::Named => {
+            if !begins_name(behind) {
+                return Ok(Place::Ampersand);
+            }
+            let name = front_name(alloc, behind)?;
+            Ok(Place::Asked(name))
+        }
+        Naming::Declared => Ok(Place::Ampersand),
+    }
+}
+
+/// Puts bytes that are copied behind the parts.
+#[tactic(auto, using(crate::proofs::Templates::closed_empty, crate::proofs::Templates::closed_some))]
+fn close(alloc: Global, parts: &mut Vec<Part>, run: &[u8]) -> Result<(), AllocError>
+    requires { length run.now ≤ 255 }
+    ensures { OnOk result ((text_of : List ℕ → Option (List ℕ)) (tail : Option (List ℕ)) → followed text_of parts.new.items tail ≡ followed text_of parts.old.items (with_front run.now tail)) }
+{
+    if run.is_empty() {
+        return Ok(());
+    }
+    let bytes = name(alloc, run)?;
+    parts.push(Part::Plain(bytes))?;
+    Ok(())
+}
+
+/// Puts what comes in place of an `&` behind the parts: how many of the bytes behind it go with it.
+#[tactic(auto, using(crate::proofs::Templates::adds_ampersand, crate::proofs::Templates::adds_text, crate::proofs::Templates::adds_asked))]
+fn add(
+    alloc: Global,
+    parts: &mut Vec<Part>,
+    run: &mut Vec<u8>,
+    place: Place,
+) -> Result<usize, AllocError>
+    requires { length run.old.items ≤ 255 }
+    ensures more { IfOk result (λ more. more ≡ more_of place) }
+    ensures short { IfOk result (λ more. length run.new.items ≤ length run.old.items + 1) }
+    ensures parts { IfOk result (λ more. (text_of : List ℕ → Option (List ℕ)) (tail : Option (List ℕ))
+        → followed text_of parts.new.items (with_front run.new.items tail) ≡ followed text_of parts.old.items (with_front run.old.items (join (placed text_of place) tail))) }
+{
+    match place {
+        Place::Ampersand => {
+            run.push(b'&')?;
+            Ok(0)
+        }
+        Place::Text(name, more) => {
+            close(alloc, parts, run.as_slice())?;
+            parts.push(Part::Put(name))?;
+            run.clear();
+            Ok(more)
+        }
+        Place::Asked(name) => {
+            parts.push(Part::Need(name))?;
+            run.push(b'&')?;
+            Ok(0)
+        }
+    }
+}
+
+/// The parts of a line.
+pub fn parts_of(alloc: Global, of: &SourceLine) -> Result<Vec<Part>, AllocError>
+    requires { HaveFields of.now.text (line of.now).fields }
+    ensures { IfOk result (λ parts. HasParts (line of.now) parts.items) }
+{
+    let text = of.text.bytes();
+    let statement = statement_of(of.part(of.operation));
+    let mut parts = Vec::new(alloc);
+    let mut run = Vec::new(alloc);
+    let mut left = text;
+    'runs: loop {
+        let rest = copy_plain(&mut run, left)?;
+        let Some((_, behind)) = rest.split_first() else {
+            close(alloc, &mut parts, run.as_slice())?;
+            return Ok(parts);
+        };
+        let at = (text.len() - rest.len()) as u32;
+        let place = place_of(alloc, naming_at(of, statement, at), behind)?;
+        let more = add(alloc, &mut parts, &mut run, place)?;
+        let (_, others) = behind.split_at(more);
+        left = others;
+    }
+}
+
+/// The bytes with which all begins that comes of parts.
+#[tactic(auto, using(crate::proofs::Templates::needs_more, crate::proofs::Templates::begins_plain))]
+pub fn plain_front(parts: &[Part]) -> Option<&[u8]>
+    ensures short { IfSome result (λ front. length front.now ≤ 255) }
+    ensures front { IfSome result (λ front. BeginWith parts.now front.now) }
+{
+    let mut left = parts;
+    'parts: while let Some((first, others)) = left.split_first() {
+        match first {
+            Part::Plain(bytes) => return Some(bytes.bytes()),
+            Part::Need(_) => left = others,
+            Part::Put(_) => return None,
+        }
+    }
+    None
+}
+
+/// What comes of a part, if its symbol is declared.
+fn part_text<'a>(of: Values<'a>, part: &'a Part) -> Option<&'a [u8]>
+    ensures { MatchOption result (part_text (text_of (values of.entry)) part.now ≡ None) (λ t. part_text (text_of (values of.entry)) part.now ≡ Some t.now) }
+{
+    match part {
+        Part::Plain(bytes) => Some(bytes.bytes()),
+        Part::Put(name) => text_of(of, name.bytes()),
+        Part::Need(name) => match text_of(of, name.bytes()) {
+            Some(_) => Some(b""),
+            None => None,
+        },
+    }
+}
+
+/// Puts what comes of parts into a buffer, whose own bytes are gone: whether all their symbols are declared.
+#[tactic(auto, using(crate::proofs::Templates::fill_start, crate::proofs::Templates::fill_next, crate::proofs::Templates::fill_empty, crate::proofs::Templates::fill_none, crate::proofs::Templates::fill_end))]
+pub fn fill(of: Values<'_>, parts: &[Part], out: &mut Vec<u8>) -> Result<bool, AllocError>
+    ensures text { IfOk result (λ found. IsTrue found → followed (text_of (values of.entry)) parts.now (Some []) ≡ Some out.new.items) }
+    ensures missing { IfOk result (λ found. found ≡ false → followed (text_of (values of.entry)) parts.now (Some []) ≡ None) }
+{
+    out.clear();
+    let mut left = parts;
+    'parts: while let Some((first, behind)) = left.split_first() {
+        let Some(text) = part_text(of, first) else {
+            return Ok(false);
+        };
+        if !text.is_empty() {
+            out.extend_from_slice(text)?;
+        }
+        left = behind;
+    }
+    Ok(true)
+}

@@ -1,0 +1,91 @@
+//! Short texts that are kept: few bytes stand in the value itself, and more of them in memory.
+
+ghost use Rattle.std.specs.Prelude.{◌≡◌, ◌≤◌, length, IfOk};
+
+use arrayvec::ArrayVec;
+use omf_base::{Name, NameFault};
+use std::alloc::{AllocError, Global};
+use std::marker::Model;
+
+/// How many bytes stand in the value itself.
+const FEW: usize = 16;
+
+/// Bytes, of which there are at most 255.
+pub(crate) fn name(alloc: Global, bytes: &[u8]) -> Result<Name, AllocError>
+    requires { length bytes.now ≤ 255 }
+    ensures { IfOk result (λ n. n ≡ bytes.now) }
+{
+    match Name::of(alloc, bytes) {
+        Ok(name) => Ok(name),
+        Err(NameFault::TooLong) => unreachable!(),
+        Err(NameFault::Memory) => Err(AllocError),
+    }
+}
+
+/// Where the bytes of a text stand.
+#[derive(Drop)]
+enum Kept {
+    /// In the value itself.
+    Few(ArrayVec<u8, FEW>),
+    /// In memory.
+    Many(Name),
+}
+
+/// At most 255 bytes. Contracts see them.
+#[derive(Drop)]
+pub struct Text {
+    kept: Kept,
+}
+
+impl Model for Text {
+    ghost use Rattle.std.specs.Prelude.{◌≤◌, ℕ, List, length};
+    ghost use Rattle.orca_symbols.specs.Kept.{kept_bytes};
+
+    ghost Value = { List ℕ };
+
+    ghost view = { λ text. kept_bytes text.kept };
+
+    ghost invariant = { λ text. length (kept_bytes text.kept) ≤ 255 };
+}
+
+impl Text {
+    /// A copy of bytes. A few of them take no memory.
+    pub fn of(alloc: Global, bytes: &[u8]) -> Result<Text, AllocError>
+        requires { length bytes.now ≤ 255 }
+        ensures { IfOk result (λ text. text ≡ bytes.now) }
+    {
+        let mut few = ArrayVec::new();
+        match few.try_extend_from_slice(bytes) {
+            Ok(()) => Ok(Text {
+                kept: Kept::Few(few),
+            }),
+            Err(_) => {
+                let many = name(alloc, bytes)?;
+                Ok(Text {
+                    kept: Kept::Many(many),
+                })
+            }
+        }
+    }
+
+    /// The text whose bytes these are. It takes no memory.
+    pub fn from_vec(bytes: Vec<u8>) -> Text
+        requires { length bytes.items ≤ 255 }
+        ensures { result ≡ bytes.items }
+    {
+        Text {
+            kept: Kept::Many(Name::from_vec(bytes)),
+        }
+    }
+
+    /// Its bytes.
+    pub fn bytes(&self) -> &[u8]
+        ensures value { result.now ≡ self.now }
+        ensures short { length result.now ≤ 255 }
+    {
+        match &self.kept {
+            Kept::Few(few) => few.as_slice(),
+            Kept::Many(many) => many.bytes(),
+        }
+    }
+}

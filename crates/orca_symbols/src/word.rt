@@ -1,0 +1,124 @@
+//! Short texts that are lent where they stand as they are wanted, and kept else.
+
+ghost use Rattle.std.specs.Prelude.{◌≡◌, ◌≤◌, length, IfOk, IsTrue};
+ghost use Rattle.macro_meaning.specs.Statements.{whole, symbol_name, sequence_name, target_name};
+ghost use Rattle.orca_meaning.specs.Characters as characters;
+ghost use Rattle.orca_meaning.specs.Token.{name_at};
+
+use crate::names::is_name;
+use crate::substitution::is_folded;
+use omf_base::Name;
+use orca_text::{behind_byte, folded};
+use std::alloc::{AllocError, Global};
+use std::marker::Model;
+
+/// At most 255 bytes. Contracts see them.
+#[derive(Drop)]
+pub struct Word<'a> {
+    own: Option<Name>,
+    lent: &'a [u8],
+}
+
+impl<'a> Model for Word<'a> {
+    ghost use Rattle.std.specs.Prelude.{◌≤◌, ℕ, List, length};
+    ghost use Rattle.orca_symbols.specs.Words.{word_of};
+
+    ghost Value = { List ℕ };
+
+    ghost view = { λ word. word_of word.own word.lent.now };
+
+    ghost invariant = { λ word. length (word_of word.own word.lent.now) ≤ 255 };
+}
+
+impl<'a> Word<'a> {
+    /// Bytes that are lent.
+    pub fn lent(lent: &'a [u8]) -> Word<'a>
+        requires { length lent.now ≤ 255 }
+        ensures { result ≡ lent.now }
+    {
+        Word { own: None, lent }
+    }
+
+    fn own(name: Name) -> Word<'a>
+        ensures { result ≡ name }
+    {
+        Word {
+            own: Some(name),
+            lent: &[],
+        }
+    }
+
+    /// Its bytes.
+    pub fn bytes(&self) -> &[u8]
+        ensures value { result.now ≡ self.now }
+        ensures short { length result.now ≤ 255 }
+    {
+        match &self.own {
+            Some(name) => name.bytes(),
+            None => self.lent,
+        }
+    }
+}
+
+/// Bytes in upper case.
+fn folded_word<'a>(alloc: Global, bytes: &'a [u8]) -> Result<Word<'a>, AllocError>
+    requires { length bytes.now ≤ 255 }
+    ensures { IfOk result (λ word. word ≡ characters.folded bytes.now) }
+{
+    if is_folded(bytes) {
+        return Ok(Word::lent(bytes));
+    }
+    let name = folded(alloc, bytes)?;
+    Ok(Word::own(name))
+}
+
+/// The name that a text is, in upper case.
+#[tactic(auto, using(crate::proofs::WholeName::some_name, crate::proofs::WholeName::none_name))]
+#[inline(always)]
+fn whole_word<'a>(alloc: Global, text: &'a [u8]) -> Result<Option<Word<'a>>, AllocError>
+    requires { length text.now ≤ 255 }
+    ensures { IfOk result (λ word. word ≡ whole (name_at text.now)) }
+{
+    if is_name(text) {
+        let word = folded_word(alloc, text)?;
+        return Ok(Some(word));
+    }
+    Ok(None)
+}
+
+/// The name of a symbol, where the text is `&NAME` and nothing else.
+#[tactic(auto, unfolding(orca_meaning::specs::Token::symbol_at))]
+#[inline(always)]
+pub fn symbol_word<'a>(alloc: Global, text: &'a [u8]) -> Result<Option<Word<'a>>, AllocError>
+    requires { length text.now ≤ 255 }
+    ensures { IfOk result (λ word. word ≡ symbol_name text.now) }
+{
+    match behind_byte(text, b'&') {
+        Some(behind) => whole_word(alloc, behind),
+        None => Ok(None),
+    }
+}
+
+/// The name of a sequence symbol, where the text is `.NAME` and nothing else.
+#[inline(always)]
+fn sequence_word<'a>(alloc: Global, text: &'a [u8]) -> Result<Option<Word<'a>>, AllocError>
+    requires { length text.now ≤ 255 }
+    ensures { IfOk result (λ word. word ≡ sequence_name text.now) }
+{
+    match behind_byte(text, b'.') {
+        Some(behind) => whole_word(alloc, behind),
+        None => Ok(None),
+    }
+}
+
+/// Where a branch goes: a sequence symbol, maybe behind a `^`.
+#[inline(always)]
+pub fn target_word<'a>(alloc: Global, text: &'a [u8]) -> Result<Option<Word<'a>>, AllocError>
+    requires { length text.now ≤ 255 }
+    ensures { IfOk result (λ word. word ≡ target_name text.now) }
+{
+    match behind_byte(text, b'^') {
+        Some(behind) => sequence_word(alloc, behind),
+        None => sequence_word(alloc, text),
+    }
+}

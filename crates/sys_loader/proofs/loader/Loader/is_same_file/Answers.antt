@@ -1,0 +1,53 @@
+use Rattle.std.proofs.Common.{◌≡◌, inl, inr, ◌-◌, Some, None, refl, sym, ap, subst, ◌∙◌}
+use Rattle.std.specs.Option.{option_map}
+use Rattle.std.proofs.lemmas.Option.{same_Some}
+use Rattle.loader_machine.specs.declared.faults.LoaderFault.TheVariants as fault
+use Rattle.loader_machine.specs.State.{first_id, user_of}
+use Rattle.loader_machine.specs.Steps.{lost_refusal}
+use Rattle.loader_agrees.specs.Agrees.{Kept, Loaded}
+use Rattle.loader_agrees.specs.laws.Seeing.{made_at}
+use Rattle.sys_loader.specs.View.{kept, loaded}
+use Rattle.sys_loader.specs.Restarting.{kept_heads, IsOtherFile}
+use Rattle.sys_loader.proofs.Losing.{refusal_of}
+use Rattle.sys_loader.proofs.Reloading.{its_short}
+use Rattle.sys_loader.proofs.loader.Loader.is_same_file.Goals as goal
+
+pub lost_in-requires : goal.lost_in-requires
+lost_in-requires c = λ place n is.
+    let old = loaded c.self.inside.banks c.self.inside.users.items in
+    let k = kept c.user_in-found.result.now in
+    let one = c.self.invariant.0.attached.each (c.args.user - first_id) place n k (made_at old.users c.args.user k c.user_in-found.ensures).0 is in
+    rw one.1 refl
+
+pub returns-in-Some-clause-other : goal.returns-in-Some-clause-other
+returns-in-Some-clause-other c k made =
+    let found = kept c.user_in-found.result.now in
+    let same : found ≡ k = same_Some found k (sym c.user_in-found.ensures ∙ ap (λ (l : Loaded). user_of l.users c.args.user) c.self.view_is ∙ made) in
+    let lost : lost_refusal (kept_heads (loaded c.self.inside.banks c.self.inside.users.items).users found.attached) c.args.load.now ≡ Some (fault.BadFile c.in-Some.fault) =
+    refusal_of (kept_heads (loaded c.self.inside.banks c.self.inside.users.items).users found.attached) c.args.load.now c.lost_in.result c.lost_in.ensures ∙ ap (option_map fault.BadFile) c.in-Some.is in
+    inl (ap (λ (l : Loaded). lost_refusal (kept_heads l.users k.attached) c.args.load.now) (sym c.self.view_is)
+    ∙ ap (λ (x : Kept). lost_refusal (kept_heads (loaded c.self.inside.banks c.self.inside.users.items).users x.attached) c.args.load.now) (sym same) ∙ lost)
+
+pub compare-requires-clause-kept : goal.compare-requires-clause-kept
+compare-requires-clause-kept c =
+    its_short (loaded c.self.inside.banks c.self.inside.users.items) c.args.user c.user_in-found.result.now c.self.invariant.0 c.user_in-found.ensures
+
+pub returns-in-Ok-clause-same : goal.returns-in-Ok-clause-same
+returns-in-Ok-clause-same c k made =
+    let found = kept c.user_in-found.result.now in
+    let same : found ≡ k = same_Some found k (sym c.user_in-found.ensures ∙ ap (λ (l : Loaded). user_of l.users c.args.user) c.self.view_is ∙ made) in
+    let none : lost_refusal (kept_heads (loaded c.self.inside.banks c.self.inside.users.items).users found.attached) c.args.load.now ≡ None =
+    refusal_of (kept_heads (loaded c.self.inside.banks c.self.inside.users.items).users found.attached) c.args.load.now c.lost_in.result c.lost_in.ensures ∙ ap (option_map fault.BadFile) c.in-None.is in (
+      ap (λ (l : Loaded). lost_refusal (kept_heads l.users k.attached) c.args.load.now) (sym c.self.view_is)
+          ∙ ap (λ (x : Kept). lost_refusal (kept_heads (loaded c.self.inside.banks c.self.inside.users.items).users x.attached) c.args.load.now) (sym same) ∙ none,
+      c.in-Ok.ensures.same ∙ ap (λ (x : Kept). x.heads) same,
+    )
+
+pub returns-in-Err-clause-other : goal.returns-in-Err-clause-other
+returns-in-Err-clause-other c k made =
+    let found = kept c.user_in-found.result.now in
+    let same : found ≡ k = same_Some found k (sym c.user_in-found.ensures ∙ ap (λ (l : Loaded). user_of l.users c.args.user) c.self.view_is ∙ made) in
+    let none : lost_refusal (kept_heads (loaded c.self.inside.banks c.self.inside.users.items).users found.attached) c.args.load.now ≡ None =
+    refusal_of (kept_heads (loaded c.self.inside.banks c.self.inside.users.items).users found.attached) c.args.load.now c.lost_in.result c.lost_in.ensures ∙ ap (option_map fault.BadFile) c.in-None.is in
+    subst (λ (l : Loaded). IsOtherFile l.users k c.args.load.now c.in-Err.fault) c.self.view_is
+    (subst (λ (x : Kept). IsOtherFile (loaded c.self.inside.banks c.self.inside.users.items).users x c.args.load.now c.in-Err.fault) same (inr (none, c.in-Err.ensures.changed)))
