@@ -9,21 +9,20 @@ ghost use Rattle.iigs_meaning.specs.Fits.{IsWant};
 ghost use Rattle.loader_machine.specs.Heads.{some_if};
 ghost use Rattle.loader_machine.specs.Script.{is_word, alloc_want, IsCommand, AreCommands};
 ghost use Rattle.sys_loader.specs.Replies.{done_reply};
-ghost use Rattle.loader_script.specs.View as view;
-ghost use Rattle.loader_script.specs.View.{IsRefused};
+ghost use Rattle.script_text.specs.View as view;
+ghost use Rattle.script_text.specs.View.{IsRefused};
 ghost use Rattle.loader_script.specs.Run.{HasRunScript};
 ghost use Rattle.loader_script.specs.Running.{HasPrinted, IsLineOf, HasLine, HasAnswered, HasFinished, IsFirstLoader, IsNotRun};
 
-use crate::command::{BankList, Command};
 use crate::replies::{
     active_line, counted_line, entered_line, info_line, okay_line, placed_line, refusal_line,
     room_line, shown_line, started_line, state_line, where_line,
 };
-use crate::script::{Script, read_script};
 use iigs_meaning::{BanksFault, Handle, Want};
 use loader_machine::{LoaderFault, ScriptCause, ScriptFault};
 use omf_base::{Line, LineFault, Name};
 use omf_io::{Files, Sink, SinkFault};
+use script_text::{BankList, Command, Script, read_script};
 use std::alloc::{AllocError, Global};
 use std::str;
 use sys_loader::Loader;
