@@ -1,4 +1,3 @@
-pub mod Readings
 pub mod Runs
 pub mod Completes
 pub mod Once
@@ -9,4 +8,3 @@ pub mod Sources
 mod Forms
 pub mod Begins
 mod Stressing
-mod Numbers
