@@ -14,10 +14,10 @@ use Rattle.load_meaning.specs.laws.WrittenTableLaws.{length-table_bytes}
 use Rattle.link_meaning.specs.Member.{RuntimeFile}
 use Rattle.link_meaning.specs.LinkWritten.{byte_under, patches_of_cells, table_images, path_images}
 use Rattle.omf_cells.specs.WrittenParts.{seen}
-use Rattle.link_emit.specs.Holding.{Holding}
-use Rattle.link_emit.specs.Contents.{HoldsCells}
+use Rattle.link_content.specs.Holding.{Holding}
+use Rattle.link_content.specs.Contents.{HoldsCells}
 use Rattle.link_emit.specs.Images.{with_space, image_in, images_behind, IsReady}
-use Rattle.link_emit.proofs.ContentLaws.{bytes_under, bytes_patches}
+use Rattle.link_content.proofs.ContentLaws.{bytes_under, bytes_patches}
 use Rattle.link_emit.proofs.ImageLaws.{image}
 
 pub no_text : file_text [] ≡ []

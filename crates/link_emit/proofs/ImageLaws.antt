@@ -16,7 +16,7 @@ use Rattle.load_meaning.specs.laws.StoredLaws.{zeros-le, cells_size}
 use Rattle.load_meaning.specs.WrittenFile.{Image, image_records, image_body, image_text, file_text}
 use Rattle.omf_header.specs.View.{fields}
 use Rattle.omf_header.specs.declared.header.Header.{Header}
-use Rattle.link_emit.specs.Holding.{Holding}
+use Rattle.link_content.specs.Holding.{Holding}
 use Rattle.link_emit.specs.Images.{with_space, spelled, image_in, images_in, left_from, IsReady, AreReady}
 
 pub zeros_fit : (content : List ℕ) (patches : List Patch) → AreWritten (length content) 0 patches → zeros_behind (written_cells content patches) ≤ length content
@@ -138,10 +138,6 @@ ready_size (h ∷ headers) [] (suc k) ready less le = not_empty (drop k headers)
     not_empty (h ∷ l) ready some = ready
 ready_size (h ∷ headers) (c ∷ contents) zero ready less le = omega (arith, le)
 ready_size (h ∷ headers) (c ∷ contents) (suc k) ready less le = ready_size headers contents k ready (omega (arith, less)) (omega (arith, le))
-
-pub on_ok : {A E : Type 0} → (r : Result A E) (P Q : Type 0) → (P → Q) → OnOk r P → OnOk r Q
-on_ok (Ok x) P Q f p = f p
-on_ok (Err e) P Q f p = p
 
 -- ---- a header is written into the room before a body
 

@@ -1,14 +1,8 @@
 pub mod Coming
-pub mod FitLaws
-pub mod ContentLaws
-pub mod ContentBytes
 pub mod ImageLaws
-pub mod OutsideLengths
-pub mod PutLaws
 pub mod FileLaws
 pub mod PathLaws
 pub mod LoadLaws
-pub mod RecordLaws
 pub mod AllFound
 pub mod SlotLaws
 pub mod SeatLaws
@@ -22,4 +16,3 @@ pub mod WalkedLaws
 pub mod CircularLaws
 pub mod ExportLaws
 pub mod EmitLaws
-pub mod ZerosBehind

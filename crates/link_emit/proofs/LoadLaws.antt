@@ -26,8 +26,8 @@ use Rattle.link_meaning.specs.laws.ReadMembers.{IsRead, members_read, HasHeader,
 use Rattle.link_meaning.specs.laws.LinkWrittenLaws.{few_loads, short_loads, short_length, load_header_fits, in_at}
 use Rattle.link_meaning.specs.laws.ValueFits.{all_sound}
 use Rattle.omf_cells.specs.WrittenParts.{seen}
-use Rattle.link_emit.specs.Holding.{Holding}
-use Rattle.link_emit.specs.Contents.{HoldsCells}
+use Rattle.link_content.specs.Holding.{Holding}
+use Rattle.link_content.specs.Contents.{HoldsCells}
 use Rattle.link_emit.specs.Images.{image_in, images_in, images_behind, IsReady, AreReady, HoldLinked, AreLoads}
 
 -- ---- the file

@@ -18,14 +18,14 @@ use Rattle.link_meaning.specs.laws.PlaceFits.{behind-le, in_parts}
 use Rattle.link_meaning.specs.laws.ReadMembers.{read_size, read_some}
 use Rattle.link_meaning.specs.laws.LinkedRuns.{item}
 use Rattle.link_meaning.specs.laws.LinkedWalk.{state_of, own_items, member_state, cells_of_member, none_before, made_more}
-use Rattle.link_emit.specs.Holding.{Holding}
-use Rattle.link_emit.specs.declared.fit.Load.{Load}
-use Rattle.link_emit.specs.declared.record.Site.{Site}
+use Rattle.link_content.specs.Holding.{Holding}
+use Rattle.link_content.specs.declared.fit.Load.{Load}
+use Rattle.link_content.specs.declared.record.Site.{Site}
 use Rattle.link_emit.specs.declared.seat.Seat.{Seat}
 use Rattle.link_resolve.specs.OfFiles.{IsOfFiles}
-use Rattle.link_emit.specs.Contents.{HoldsCells}
-use Rattle.link_emit.specs.Fits.{told_load}
-use Rattle.link_emit.specs.Records.{StandsAt, PutsMade}
+use Rattle.link_content.specs.Contents.{HoldsCells}
+use Rattle.link_content.specs.Fits.{told_load}
+use Rattle.link_content.specs.Records.{StandsAt, PutsMade}
 use Rattle.link_emit.specs.Walks.{Begins, cells_there, behind, Puts, Unmade, StandsBehind, PutsMember}
 use Rattle.link_emit.proofs.FileFacts.{read_of, body_within, end_of}
 use Rattle.link_emit.proofs.LocatedLaws.{one_located, located-more, behind-append, items-more, made-more, state-more, state-there}

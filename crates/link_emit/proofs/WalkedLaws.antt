@@ -26,9 +26,9 @@ use Rattle.link_meaning.specs.laws.LinkedWalk.{state_of, linked_behind, own_item
 use Rattle.link_meaning.specs.EmitFaults.{HasValueFault}
 use Rattle.link_meaning.specs.laws.EmitFaultLaws.{made_none, fine_failed}
 use Rattle.link_meaning.specs.laws.PlaceFits.{in_parts, name_there}
-use Rattle.link_emit.specs.Holding.{Holding}
+use Rattle.link_content.specs.Holding.{Holding}
 use Rattle.link_emit.specs.declared.seat.Seat.{Seat}
-use Rattle.link_emit.specs.Contents.{HoldsCells}
+use Rattle.link_content.specs.Contents.{HoldsCells}
 use Rattle.link_emit.specs.Images.{HoldLinked}
 use Rattle.link_resolve.specs.Linked.{member_at}
 use Rattle.link_emit.specs.Seats.{IsSeat, SeatOf}

@@ -15,8 +15,8 @@ use Rattle.link_meaning.specs.LinkValues.{Told}
 use Rattle.link_meaning.specs.LinkedCells.{linked}
 use Rattle.link_meaning.specs.LinkWritten.{exports, exports_for, table_images, path_images}
 use Rattle.omf_cells.specs.WrittenParts.{seen}
-use Rattle.link_emit.specs.Holding.{Holding}
-use Rattle.link_emit.specs.Contents.{HoldsCells}
+use Rattle.link_content.specs.Holding.{Holding}
+use Rattle.link_content.specs.Contents.{HoldsCells}
 
 -- the fields with so many zeros behind the body
 abbrev pub with_space : Fields → ℕ → Fields

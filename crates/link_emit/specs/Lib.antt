@@ -1,10 +1,4 @@
-pub mod Holding
-pub mod Fits
-pub mod Contents
 pub mod Images
-pub mod Puts
-pub mod Plain
-pub mod Records
 pub mod Slots
 pub mod Answers
 pub mod Seats

@@ -14,16 +14,16 @@ ghost use Rattle.link_meaning.specs.Layout.{load_headers};
 ghost use Rattle.link_meaning.specs.LinkValues.{found_value};
 ghost use Rattle.link_meaning.specs.LinkWritten.{export_at, exports, exports_for};
 ghost use Rattle.link_resolve.specs.Outside.{all_found};
-ghost use Rattle.link_emit.specs.Fits.{told_load};
+ghost use Rattle.link_content.specs.Fits.{told_load};
 ghost use Rattle.link_emit.specs.Slots.{AreOnce, AreSlots, rows_of};
 ghost use Rattle.link_emit.specs.Seats.{AreKnown};
 ghost use Rattle.link_emit.specs.Images.{spelled};
 ghost use Rattle.link_emit.specs.Walks.{IsWhole};
 ghost use Rattle.link_emit.specs.Exported.{is_public, seen_name, IsSeen, DefinesSeen, entry_with, IsExported, StandsBefore};
 
-use crate::fit::{Load, length_of};
 use crate::slots::{Slot, label_of};
 use crate::walk::Whole;
+use link_content::{Load, length_of};
 use link_meaning::LinkForm;
 use link_resolve::next_record;
 use omf_format::Value;

@@ -10,14 +10,14 @@ ghost use Rattle.link_meaning.specs.LinkValues.{Told};
 ghost use Rattle.link_meaning.specs.LinkedCells.{targets};
 ghost use Rattle.link_meaning.specs.LinkWritten.{table_images, written_file};
 ghost use Rattle.link_meaning.specs.EmitFaults.{most_bytes};
-ghost use Rattle.link_emit.specs.Contents.{HoldsCells};
+ghost use Rattle.link_content.specs.Contents.{HoldsCells};
 ghost use Rattle.link_resolve.specs.OfFiles.{IsOfFiles};
 ghost use Rattle.link_emit.specs.Images.{AreReady, AreLoads, images_behind, linked_exports};
 
-use crate::content::Content;
 use crate::image::{ImageFault, put_image, put_images};
 use crate::pathnames::put_pathnames;
 use jump_table::Table;
+use link_content::Content;
 use link_resolve::Program;
 use omf_base::{Name, NameFault};
 use omf_header::{Header, Kind};

@@ -9,7 +9,7 @@ ghost use Rattle.omf_cells.specs.WrittenParts.{seen};
 ghost use Rattle.omf_format.specs.Record.{Record};
 ghost use Rattle.link_emit.specs.Images.{with_space, spelled, image_in, images_in, IsReady, AreReady};
 
-use crate::content::{Content, Place};
+use link_content::{Content, Place};
 use omf_base::{Name, NameFault};
 use omf_cells::{BodyFault, put_body, put_plain_body};
 use omf_header::{Header, WriteHeaderFault, write_header};

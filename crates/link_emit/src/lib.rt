@@ -3,20 +3,15 @@
 #![tactic(auto)]
 
 mod circular;
-mod content;
 mod emitting;
 mod equates;
 mod exports;
 mod file;
-mod fit;
 mod image;
 mod leads;
 mod linking;
 mod meets;
 mod pathnames;
-mod plain;
-mod put;
-mod record;
 mod seat;
 mod slots;
 mod value;

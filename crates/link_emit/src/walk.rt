@@ -11,16 +11,14 @@ ghost use Rattle.link_meaning.specs.LinkedCells.{Item, bank_of};
 ghost use Rattle.link_resolve.specs.Uses.{HasSpelling};
 ghost use Rattle.link_emit.specs.Slots.{rows_of};
 ghost use Rattle.link_emit.specs.Seats.{IsSeat};
-ghost use Rattle.link_emit.specs.Records.{IsWorth};
+ghost use Rattle.link_content.specs.Records.{IsWorth};
 ghost use Rattle.link_emit.specs.Walks.{IsWhole, Begins, HasBegun, Puts, StandsBehind, HasStood, PutsMember, Unmade, IsToldAt, IsWalkedTo, IsValueRefused};
 
-use crate::content::Content;
-use crate::fit::Load;
-use crate::record::{Site, put_record};
 use crate::seat::{Seat, seat_of};
 use crate::slots::Slot;
 use crate::value::value_in;
 use jump_table::Table;
+use link_content::{Content, Load, Site, put_record};
 use link_meaning::{LinkCause, LinkFault};
 use link_resolve::{Program, memory_fault, next_record, size_at};
 use omf_base::Spot;
@@ -69,7 +67,7 @@ fn value_of(whole: &Whole, seat: Seat, location: u32, rec: &Rec) -> Result<Value
     }
 }
 
-ghost use Rattle.link_emit.specs.Fits.{told_load};
+ghost use Rattle.link_content.specs.Fits.{told_load};
 
 /// BANKSIZE of the load segment with this number.
 fn bank_of(loads: &[Load], number: u16) -> u32

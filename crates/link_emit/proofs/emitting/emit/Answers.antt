@@ -3,7 +3,7 @@ use Rattle.link_resolve.specs.Outside.{all_found}
 use Rattle.link_emit.specs.declared.image.ImageFault.{ImageFault}
 use Rattle.link_emit.specs.Answers.{IsEmitRefused}
 use Rattle.link_emit.specs.Equates.{AreValues}
-use Rattle.link_emit.specs.Fits.{told_load}
+use Rattle.link_content.specs.Fits.{told_load}
 use Rattle.link_emit.specs.Images.{AreReady, AreLoads}
 use Rattle.link_emit.specs.Slots.{rows_of}
 use Rattle.link_emit.proofs.FileFacts.{few_of}

@@ -1,6 +1,6 @@
 use Rattle.std.proofs.Common.{◌≡◌, map, take}
 use Rattle.omf_header.specs.View.{fields}
-use Rattle.link_emit.specs.Fits.{told_load}
+use Rattle.link_content.specs.Fits.{told_load}
 use Rattle.link_emit.proofs.emitting.loads_of.Given as goal
 
 abbrev pub invariant-headers : goal.invariant-headers

@@ -7,7 +7,7 @@ use Rattle.link_resolve.specs.Outside.{all_found}
 use Rattle.link_emit.specs.Images.{spelled}
 use Rattle.link_emit.specs.Slots.{rows_of}
 use Rattle.link_emit.proofs.AllFound.{outer_at}
-use Rattle.link_emit.proofs.ImageLaws.{on_ok}
+use Rattle.link_resolve.proofs.OnOks.{on_ok}
 use Rattle.link_emit.proofs.ExportLaws.{export_public, export_other, exported_more}
 use Rattle.link_emit.proofs.exports.put_seen.Goals as goal
 

@@ -3,9 +3,9 @@ use Rattle.load_meaning.specs.Cells.{Patch}
 use Rattle.load_meaning.specs.WrittenBody.{AreWritten, zeros_behind, written_cells, body_text}
 use Rattle.omf_cells.specs.Joined.{joined}
 use Rattle.omf_cells.specs.WrittenParts.{seen}
-use Rattle.link_emit.specs.declared.content.Place.{Place}
-use Rattle.link_emit.specs.Contents.{IsPlaced}
-use Rattle.link_emit.proofs.ZerosBehind.{behind_by, behind_own}
+use Rattle.link_content.specs.declared.content.Place.{Place}
+use Rattle.link_content.specs.Contents.{IsPlaced}
+use Rattle.link_content.proofs.ZerosBehind.{behind_by, behind_own}
 use Rattle.link_emit.proofs.image.put_content.Goals as goal
 
 pub overflow_add-result : goal.overflow_add-result

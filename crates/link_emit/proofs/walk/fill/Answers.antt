@@ -3,7 +3,7 @@ use Rattle.std.proofs.lemmas.List.{length-map}
 use Rattle.load_meaning.specs.declared.table.Target.{Target}
 use Rattle.link_resolve.specs.Outside.{all_found}
 use Rattle.link_meaning.specs.Layout.{load_headers}
-use Rattle.link_emit.specs.Fits.{told_load}
+use Rattle.link_content.specs.Fits.{told_load}
 use Rattle.link_emit.specs.Slots.{rows_of}
 use Rattle.link_emit.specs.Walks.{IsWalkedTo, AreEmpty}
 use Rattle.link_emit.proofs.LoadLaws.{loads_size}

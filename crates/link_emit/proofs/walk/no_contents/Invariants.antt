@@ -1,6 +1,6 @@
 use Rattle.std.proofs.Common.{[], ◌-◌, ◌≤◌, length}
 use Rattle.std.specs.List.{AllByRecursion}
-use Rattle.link_emit.specs.Contents.{HoldsCells}
+use Rattle.link_content.specs.Contents.{HoldsCells}
 use Rattle.link_emit.proofs.walk.no_contents.Given as goal
 
 abbrev pub invariant-loads : goal.invariant-loads
