@@ -6,5 +6,6 @@ pub mod Linking
 mod Passing
 pub mod Sources
 mod Forms
+pub mod ReadBack
 pub mod Begins
 mod Stressing
