@@ -25,7 +25,7 @@ use Rattle.iigs_meaning.specs.Memory.{Memory, IsThere, AreAllPlaced}
 use Rattle.loader_machine.specs.Presences.{presence, lies_in, lies_at, there_at}
 use Rattle.loader_agrees.specs.laws.Frame.{Keeps, Same, Gone}
 
--- a live handle's block is as it was, or it was purgeable and is empty
+-- a live handle's block that isn't movable is as it was, or it was purgeable and is empty
 abbrev pub Stays : Slots → Slots → Handle → Type 0
 Stays old new h = (block : Block) → get old h ≡ Some block → block.movable ≡ false
     → (get new h ≡ Some block) ⊎ ((can_purge block ≡ true) × (get new h ≡ Some (record block { at = None })))
@@ -35,6 +35,12 @@ pub data IsReached (block : Block) (now : Option Block) : Type 0 where
   Kept : now ≡ Some block → IsReached block now
   Purged : can_purge block ≡ true → now ≡ Some (record block { at = None }) → IsReached block now
   Moved : can_move block ≡ true → (address : ℕ) → now ≡ Some (moved_to address block) → IsReached block now
+
+-- so it has a block
+pub reached_block : (block : Block) (now : Option Block) → IsReached block now → (b : Block) × (now ≡ Some b)
+reached_block block now (Kept e) = (block, e)
+reached_block block now (Purged can e) = (record block { at = None }, e)
+reached_block block now (Moved can address e) = (moved_to address block, e)
 
 -- ---- room
 
@@ -174,11 +180,7 @@ module _ (banks : List ℕ) (slots next : Slots) (want : Want) (user : ℕ) (loc
     where
       go : (o : Option Block) → get slots h ≡ o → IsSome o → IsSome (get next h)
       go None e is = absurd cc
-      go (Some block) e is = elim (put_reaches h block e) [
-        | Kept e' ↦ rw e' refl
-        | Purged can e' ↦ rw e' refl
-        | Moved can address e' ↦ rw e' refl
-      ]
+      go (Some block) e is = rw ((reached_block block (get next h) (put_reaches h block e)).1) refl
 
   pub put_apart : (h : Handle) → IsSome (get slots h) → h.slot ≢ k.slot
   put_apart h some = new_apart slots k h puts.handle some
