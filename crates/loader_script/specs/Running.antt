@@ -33,7 +33,7 @@ pub record IsAnswer (command : Command) (old : Loaded) (reply : Reply) (new : Lo
   pub told : ToldOr before.held
       ((reads : ℕ) × MayRead command reply reads × (now.faults ≡ risen (unread (reply ∷ [])) before.faults) × (now.asked ≡ risen reads before.asked))
       (λ files. (state : Machine) → Agrees files old state → (others : ℕ) × (reads : ℕ) × (next : Machine) × IsAnswered files state command reply others next
-      × IsReadFor files state command reads × Agrees files new next × (now.faults ≡ risen others before.faults) × (now.asked ≡ risen reads before.asked))
+      × IsReadFor files state command others reads × Agrees files new next × (now.faults ≡ risen others before.faults) × (now.asked ≡ risen reads before.asked))
   pub store : now ≡ record before { faults = now.faults; asked = now.asked }
   pub unanswered : IsUnanswered command before now
 
