@@ -73,6 +73,15 @@ module _ (old new : Loaded) (sound : IsSound old.memory old.users) (want : Want)
 
 -- ---- compact
 
+locked_cant : (b : Block) → b.locked ≡ true → can_move b ≡ true → ⊥
+unfolding can_move
+locked_cant b locked can = go (is_some b.at && b.movable) b.locked locked can
+  where
+    go : (x y : Bool) → y ≡ true → (x && not y) ≡ true → ⊥
+    go true true e e' = cc
+    go true false e e' = cc
+    go false y e e' = cc
+
 -- a block stays where it is locked, or a user's
 pub others_stay : (old : Loaded) (new : Memory) → IsSound old.memory old.users → IsSlid old.memory new → OthersStay old.memory new
 others_stay old new sound slid place block here stays =
@@ -84,15 +93,6 @@ others_stay old new sound slid place block here stays =
           let one : of'.block ≡ block = same_Some of'.block block (sym (live_block old.memory.slots its.3 of'.block of'.live) ∙ ap (λ (n : ℕ). block_in (slot_at old.memory.slots n)) its.5 ∙ here) in
           cant_move block (sym (ap (λ (b : Block). b.movable) one) ∙ of'.fixed)
     ]))
-  where
-    locked_cant : (b : Block) → b.locked ≡ true → can_move b ≡ true → ⊥
-    unfolding can_move
-    locked_cant b locked can = go (is_some b.at && b.movable) b.locked locked can
-      where
-        go : (x y : Bool) → y ≡ true → (x && not y) ≡ true → ⊥
-        go true true e e' = cc
-        go true false e e' = cc
-        go false y e e' = cc
 
 pub slid_sound : (old : Loaded) (new : Memory) → IsSound old.memory old.users → IsSlid old.memory new → IsSound new old.users
 slid_sound old new sound slid = sound_kept old new sound (slid_kept old sound new slid) (slid_only old sound new slid)
