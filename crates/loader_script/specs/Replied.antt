@@ -79,8 +79,8 @@ abbrev pub ReadsAtMost : ℕ → StoreSeen → StoreSeen → Type 0
 ReadsAtMost most before now = (reads : ℕ) × (reads ≤ most) × (now.asked ≡ risen reads before.asked)
     × OnceAtMost before.faults now.faults × (now ≡ record before { faults = now.faults; asked = now.asked })
 
--- a command has no reply, since memory ran out in it: a load may have read its file and those of its rows, another command that reads
--- one file, once, and no other command reads one
+-- a command has no reply, since memory ran out in it: a load may have read its file and those of its rows, a segment that is made
+-- active, a JSL and a restart one file, and no other command any
 abbrev pub IsUnanswered : Command → StoreSeen → StoreSeen → Type 0
 IsUnanswered (Load path) before now = ReadsAtMost most_reads before now
 IsUnanswered (LoadSegment user segment) before now = ReadsAtMost 1 before now

@@ -28,7 +28,7 @@ HasPrinted (Err CannotPrint) text before now = FailsToPrint text before now
 HasPrinted (Err Memory) text before now = now ≡ before
 
 -- the loader answers a command: over files that are told as the machine does, or by `cannot read` where the count is one more; and
--- it reads what the command needs
+-- it reads what the command needs, up to a read that fails
 pub record IsAnswer (command : Command) (old : Loaded) (reply : Reply) (new : Loaded) (before now : StoreSeen) : Type 0 where
   pub told : ToldOr before.held
       ((reads : ℕ) × MayRead command reply reads × (now.faults ≡ risen (unread (reply ∷ [])) before.faults) × (now.asked ≡ risen reads before.asked))
