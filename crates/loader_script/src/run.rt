@@ -7,7 +7,7 @@ ghost use Rattle.omf_io.specs.Outside.{outside};
 ghost use Rattle.loader_machine.specs.Commands as machine;
 ghost use Rattle.iigs_meaning.specs.Slots.{get};
 ghost use Rattle.loader_machine.specs.Heads.{some_if};
-ghost use Rattle.loader_machine.specs.Alloc.{alloc_want, is_movable};
+ghost use Rattle.loader_machine.specs.Alloc.{alloc_want, level_in, is_movable};
 ghost use Rattle.loader_machine.specs.Script.{is_word, IsCommand, AreCommands};
 ghost use Rattle.sys_loader.specs.Replies.{done_reply};
 ghost use Rattle.loader_script.specs.View as view;
@@ -272,6 +272,13 @@ fn has(attr: u16, bit: u16) -> bool
     attr & bit != 0
 }
 
+/// The purge level in ATTR.
+fn level_in(attr: u16) -> u8
+    ensures { result ≡ level_in attr }
+{
+    (attr / 0x100 % 4) as u8
+}
+
 /// Whether a block is movable that is asked for so.
 fn is_movable(attr: u16) -> bool
     ensures { result ≡ is_movable attr }
@@ -291,8 +298,7 @@ fn alloc_block(
     ensures { (store : StoreSeen) → HasLine result (machine.Alloc size attr address) loader.old loader.new store store }
 {
     let want = alloc_want(size, attr, address);
-    let level = (attr / 0x100 % 4) as u8;
-    match loader.alloc(&want, has(attr, 0x8000), level, is_movable(attr)) {
+    match loader.alloc(&want, has(attr, 0x8000), level_in(attr), is_movable(attr)) {
         Ok(handle) => placed_line(alloc, handle, address_of(loader, handle)),
         Err(fault) => refusal_line(alloc, fault),
     }
