@@ -1,14 +1,15 @@
-use Rattle.std.proofs.Common.{refl}
+use Rattle.std.proofs.Common.{refl, sym, ◌∙◌}
 use Rattle.loader_machine.specs.Commands as commands
 use Rattle.loader_machine.specs.laws.AllocLaws.{alloc_is_want, movable_asks_no_place}
 use Rattle.loader_script.proofs.Transcripts.{idle_line, refusal_text, alloc_safe, alloc_there, alloc_at, alloc_asked}
 use Rattle.loader_script.proofs.run.alloc_block.Goals as goal
 
-pub alloc-requires-want : goal.alloc-requires-want
-alloc-requires-want c = alloc_is_want c.args.size c.args.attr c.args.address c.args.requires
+pub alloc-requires-clause-want : goal.alloc-requires-clause-want
+alloc-requires-clause-want c = rw c.alloc_want.ensures (alloc_is_want c.args.size c.args.attr c.args.address c.requires)
 
-pub alloc-requires-no_place : goal.alloc-requires-no_place
-alloc-requires-no_place c is = movable_asks_no_place c.args.size c.args.attr c.args.address is
+pub alloc-requires-clause-no_place : goal.alloc-requires-clause-no_place
+alloc-requires-clause-no_place c movable =
+    rw c.alloc_want.ensures (movable_asks_no_place c.args.size c.args.attr c.args.address (sym c.is_movable.ensures ∙ movable))
 
 pub address_of-requires : goal.address_of-requires
 address_of-requires c =
