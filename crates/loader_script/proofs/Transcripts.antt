@@ -1,5 +1,5 @@
 -- Replies to a script's commands, one more at a time.
-use Rattle.std.proofs.Common.{◌≡◌, ◌≢◌, inl, inr, ℕ, zero, suc, true, false, cond, ◌+◌, ◌<◌, ◌≤◌, List, [], ◌∷◌, ◌++◌, length, length-append, map, Bool, Option, Some, None, Result, Ok, Err, refl, sym, ap, subst, ◌∙◌, arith, append_assoc}
+use Rattle.std.proofs.Common.{◌≡◌, ◌≢◌, inl, inr, ℕ, zero, suc, true, false, cond, ◌+◌, ◌≤◌, List, [], ◌∷◌, ◌++◌, length, length-append, Bool, Option, Some, None, Result, Ok, Err, refl, sym, ap, subst, ◌∙◌, arith, append_assoc}
 use Rattle.std.specs.Prelude.{◌==◌, nat_le, IsSome, IsSomeAnd, IfOk, IfErr, OnErr}
 use Rattle.std.specs.Option.{option_map}
 use Rattle.std.proofs.lemmas.Option.{same_Some}
@@ -17,30 +17,29 @@ use Rattle.iigs_meaning.specs.declared.wants.Want.{Want}
 use Rattle.iigs_meaning.specs.declared.wants.Block.{Block}
 use Rattle.iigs_meaning.specs.Slots.{get}
 use Rattle.iigs_meaning.specs.Fits.{Slots}
-use Rattle.iigs_meaning.specs.Puts.{Purges}
+use Rattle.loader_machine.specs.Rule.{RoomRule}
 use Rattle.iigs_meaning.specs.Memory.{Memory, IsPlaced}
 use Rattle.loader_machine.specs.declared.seen.Head.{Head}
 use Rattle.loader_machine.specs.declared.faults.LoaderFault.{LoaderFault}
 use Rattle.loader_machine.specs.declared.faults.LoaderFault.TheVariants as faults
-use Rattle.loader_machine.specs.Heads.{head_of, at_number, is_table}
-use Rattle.loader_machine.specs.State.{Machine, Seen, empty_of, first_id, max_users, is_running}
+use Rattle.loader_machine.specs.Heads.{at_number, is_table}
+use Rattle.loader_machine.specs.State.{Machine, Seen, empty_of, is_running, is_attached}
 use Rattle.loader_machine.specs.Presences.{presence_at, is_active}
+use Rattle.loader_machine.specs.Alloc.{alloc_want, is_locked, level_in, is_movable}
 use Rattle.loader_machine.specs.Commands as commands
 use Rattle.loader_machine.specs.Commands.{Command, Load, LoadSegment, Jsl, Restart, Reply}
-use Rattle.loader_machine.specs.Needs.{IsReadFor}
-use Rattle.loader_machine.specs.Refusals.{Refuse, of_user, of_running, of_head, of_live, of_there, bytes_refusal, info_refusal, poke_refusal, unload_refusal, load_segment_refusal, restart_refusal, shut_down_refusal, purge_refusal, free_refusal, change_refusal, state_refusal}
+use Rattle.loader_machine.specs.Needs.{Needs, NeedsBehind, IsReadFor, path_if}
+use Rattle.loader_machine.specs.Refusals.{Refuse, of_user, of_running, of_head, of_own, of_live, of_there, bytes_refusal, info_refusal, poke_refusal, unload_refusal, load_segment_refusal, restart_refusal, shut_down_refusal, purge_refusal, free_refusal, change_refusal, state_refusal}
 use Rattle.loader_machine.specs.Transcript.{IsAnswered, AreAnswered}
 use Rattle.loader_machine.specs.Replies.{reply_line, replies_text}
-use Rattle.sys_loader.specs.declared.answers.Started.{Started}
-use Rattle.sys_loader.specs.Calls.{IsBeginRefusal, IsStartRefusal, IsLoadRefusal, IsFull, CantRead, LacksMemory, CantStart, HasLoaded}
 use Rattle.sys_loader.specs.declared.answers.Entered.{Entered}
-use Rattle.sys_loader.specs.Replies.{load_reply, done_reply, where_reply, IsAllocRefusal}
+use Rattle.sys_loader.specs.Replies.{done_reply, where_reply, IsAllocRefusal}
 use Rattle.loader_agrees.specs.laws.Begun.{puts_here}
 use Rattle.sys_loader.specs.Lives.{DidPoke, DidUnload, DidShutDown}
-use Rattle.loader_agrees.specs.Agrees.{Loaded, seen_by, Agrees, Met, Meets, ReadsNeeded}
+use Rattle.loader_agrees.specs.Agrees.{Loaded, kept_outlines, seen_by, Agrees, Met, MetAlloc, Meets, ReadsNeeded, MeetsReads}
 use Rattle.loader_script.specs.declared.run.Stop.{Stop}
 use Rattle.loader_script.specs.declared.run.Stop.TheVariants as stop
-use Rattle.loader_script.specs.Replied.{is_unread, is_unread_fault, is_full_fault, unread, MayRead, MayReadAll, AreReplies, OnceAtMost, ReadsOnceAtMost, IsUnanswered}
+use Rattle.loader_script.specs.Replied.{is_unread, is_unread_fault, unread, MayRead, MayReadAll, AreReplies, OnceAtMost, ReadsAtMost, IsUnanswered}
 use Rattle.loader_script.specs.Running.{HasPrinted, IsLineOf, HasLine, IsAnswer, HasAnswered}
 
 -- ---- counts
@@ -66,11 +65,11 @@ may_read-push (c ∷ commands) (r ∷ replies) command reply reads here same all
 
 -- one command more
 answered-push : (files : FileMap) (state : Machine) (commands : List Command) (replies : List Reply) (others reads : ℕ) (last : Machine) (command : Command) (reply : Reply) (here read : ℕ) (next : Machine)
-    → AreAnswered files state commands replies others reads last → IsAnswered files last command reply here next → IsReadFor files last command read
+    → AreAnswered files state commands replies others reads last → IsAnswered files last command reply here next → IsReadFor files last command here read
     → AreAnswered files state (commands ++ command ∷ []) (replies ++ reply ∷ []) (others + here) (reads + read) next
 answered-push files state [] [] others reads last command reply here read next run one needs =
     let at : IsAnswered files state command reply here next = subst (λ (s : Machine). IsAnswered files s command reply here next) run.2 one in
-    let needs' : IsReadFor files state command read = subst (λ (s : Machine). IsReadFor files s command read) run.2 needs in
+    let needs' : IsReadFor files state command here read = subst (λ (s : Machine). IsReadFor files s command here read) run.2 needs in
     (here, 0, read, 0, next, at, needs', (refl, refl, refl), omega (arith, run.0), omega (arith, run.1))
 answered-push files state [] (r ∷ replies) others reads last command reply here read next run one needs = absurd run
 answered-push files state (c ∷ commands) [] others reads last command reply here read next run one needs = absurd run
@@ -127,7 +126,7 @@ abbrev pub OneTold : Command → Reply → Loaded → Loaded → StoreSeen → S
 OneTold command reply old new before now held = ToldOr held
     ((reads : ℕ) × MayRead command reply reads × (now.faults ≡ risen (unread (reply ∷ [])) before.faults) × (now.asked ≡ risen reads before.asked))
     (λ files. (state : Machine) → Agrees files old state → (others : ℕ) × (reads : ℕ) × (next : Machine) × IsAnswered files state command reply others next
-    × IsReadFor files state command reads × Agrees files new next × (now.faults ≡ risen others before.faults) × (now.asked ≡ risen reads before.asked))
+    × IsReadFor files state command others reads × Agrees files new next × (now.faults ≡ risen others before.faults) × (now.asked ≡ risen reads before.asked))
 
 -- and of all answers
 abbrev pub AllTold : (FileMap → Machine → Type 0) → List Command → List Reply → StoreSeen → StoreSeen → Option FileMap → Type 0
@@ -153,16 +152,16 @@ idle_may (Jsl user segment at) reply none = absurd cc
 idle_may (Restart user) reply none = absurd cc
 idle_may _ reply none = refl
 
-pub idle_reads : (files : FileMap) (state : Machine) (command : Command) → is_reader command ≡ false → IsReadFor files state command 0
+pub idle_reads : (files : FileMap) (state : Machine) (command : Command) → is_reader command ≡ false → IsReadFor files state command 0 0
 idle_reads files state (Load path) none = absurd cc
 idle_reads files state (LoadSegment user segment) none = absurd cc
 idle_reads files state (Jsl user segment at) none = absurd cc
 idle_reads files state (Restart user) none = absurd cc
-idle_reads files state _ none = ([], refl, refl)
+idle_reads files state _ none = ([], refl, inl (refl, [], 0, (refl, refl), refl))
 
 -- a command that reads no file is answered as by the machine
 pub idle_answer : (store : StoreSeen) (command : Command) (old new : Loaded) (reply : Reply) → is_unread reply ≡ false → is_reader command ≡ false → IsUnanswered command store store
-    → ((files : FileMap) (state : Machine) → Agrees files old state → Met Purges files state command reply new) → IsAnswer command old reply new store store
+    → ((files : FileMap) (state : Machine) → Agrees files old state → Met RoomRule files state command reply new) → IsAnswer command old reply new store store
 idle_answer store command old new reply other none idle meets = record { told = go store.held; store = refl; unanswered = idle }
   where
     go : (h : Option FileMap) → OneTold command reply old new store store h
@@ -171,7 +170,7 @@ idle_answer store command old new reply other none idle meets = record { told = 
 
 -- and so is its line
 pub idle_line : (line : Result (List ℕ) LineFault) (store : StoreSeen) (command : Command) (old new : Loaded) (reply : Reply) → IfOk line (λ text. text ≡ reply_line reply) → is_unread reply ≡ false
-    → is_reader command ≡ false → IsUnanswered command store store → ((files : FileMap) (state : Machine) → Agrees files old state → Met Purges files state command reply new)
+    → is_reader command ≡ false → IsUnanswered command store store → ((files : FileMap) (state : Machine) → Agrees files old state → Met RoomRule files state command reply new)
     → HasLine line command old new store store
 idle_line (Ok text) store command old new reply is other none idle meets = (reply, idle_answer store command old new reply other none idle meets, is)
 idle_line (Err short) store command old new reply is other none idle meets = idle
@@ -197,18 +196,28 @@ okay_text (Ok text) is = ((λ same. absurd cc), is)
 okay_text (Err short) is = tt
 
 -- a block that was just placed is there
-pub alloc_there : (old new : Memory) (want : Want) (locked : Bool) (level : ℕ) (h : Handle) → IsPlaced Purges old want 0 locked level false h new → IsSomeAnd (get new.slots h) (λ block. IsSome block.at)
-alloc_there old new want locked level h is = rw (puts_here old.banks old.slots new.slots want 0 locked level h is.puts) refl
+pub alloc_there : (old new : Memory) (want : Want) (locked : Bool) (level : ℕ) (movable : Bool) (h : Handle) → IsPlaced RoomRule old want 0 locked level movable h new → IsSomeAnd (get new.slots h) (λ block. IsSome block.at)
+alloc_there old new want locked level movable h is = rw (puts_here old.banks old.slots new.slots want 0 locked level movable h is.puts) refl
 
--- and its address is that of the reply
-pub alloc_at : (files : FileMap) (state : Machine) (new : Loaded) (want : Want) (locked : Bool) (level : ℕ) (h : Handle) (address : ℕ) → IsSomeAnd (get new.memory.slots h) (λ block. block.at ≡ Some address)
-    → ((other : ℕ) × IsSomeAnd (get new.memory.slots h) (λ block. block.at ≡ Some other) × Met Purges files state (commands.Alloc want locked level) (commands.Placed h other) new)
-    → Met Purges files state (commands.Alloc want locked level) (commands.Placed h address) new
-alloc_at files state new want locked level h address is met = subst (λ (n : ℕ). Met Purges files state (commands.Alloc want locked level) (commands.Placed h n) new) (same (get new.memory.slots h) met.1 is) met.2
-  where
-    same : (o : Option Block) → IsSomeAnd o (λ block. block.at ≡ Some met.0) → IsSomeAnd o (λ block. block.at ≡ Some address) → met.0 ≡ address
-    same None p q = absurd p
-    same (Some block) p q = same_Some met.0 address (sym p ∙ q)
+module _ (files : FileMap) (state : Machine) (new : Loaded) (want : Want) (locked : Bool) (level : ℕ) (movable : Bool) where
+  -- and its address is that of the reply
+  pub alloc_at : (h : Handle) (address : ℕ) → IsSomeAnd (get new.memory.slots h) (λ block. block.at ≡ Some address)
+      → ((other : ℕ) × IsSomeAnd (get new.memory.slots h) (λ block. block.at ≡ Some other) × MetAlloc RoomRule files state want locked level movable (commands.Placed h other) new)
+      → MetAlloc RoomRule files state want locked level movable (commands.Placed h address) new
+  alloc_at h address is met = subst (λ (n : ℕ). MetAlloc RoomRule files state want locked level movable (commands.Placed h n) new) (same (get new.memory.slots h) met.1 is) met.2
+    where
+      same : (o : Option Block) → IsSomeAnd o (λ block. block.at ≡ Some met.0) → IsSomeAnd o (λ block. block.at ≡ Some address) → met.0 ≡ address
+      same None p q = absurd p
+      same (Some block) p q = same_Some met.0 address (sym p ∙ q)
+
+  -- the command asks for just this
+  pub alloc_asked : (size attributes address : ℕ) (reply : Reply) → want ≡ alloc_want size attributes address → locked ≡ is_locked attributes → level ≡ level_in attributes
+      → movable ≡ is_movable attributes → MetAlloc RoomRule files state want locked level movable reply new → Met RoomRule files state (commands.Alloc size attributes address) reply new
+  alloc_asked size attributes address reply e e' e2 e3 met =
+      subst (λ (w : Want). MetAlloc RoomRule files state w (is_locked attributes) (level_in attributes) (is_movable attributes) reply new) e
+      (subst (λ (b : Bool). MetAlloc RoomRule files state want b (level_in attributes) (is_movable attributes) reply new) e'
+      (subst (λ (n : ℕ). MetAlloc RoomRule files state want locked n (is_movable attributes) reply new) e2
+      (subst (λ (b : Bool). MetAlloc RoomRule files state want locked level b reply new) e3 met)))
 
 pub where_safe : (o : Option Entered) → is_unread (where_reply o) ≡ false
 where_safe None = refl
@@ -280,14 +289,18 @@ segment_safe user number = safe_user user _ (λ seen.
     safe_if (is_dynamic head.kind) None (Some faults.Static) safe_none (safe_some faults.Static refl)))
     (safe_some faults.NotRunning refl))
 
-pub restart_safe : (user : Option Seen) → Safe (restart_refusal user)
-unfolding restart_refusal
-restart_safe user = safe_user user _ (λ seen. safe_if (is_running seen.life) (Some faults.Running) None (safe_some faults.Running refl) safe_none)
+safe_own : (attached : Bool) (rest : Refuse) → Safe rest → Safe (of_own attached rest)
+safe_own attached rest p = safe_if attached (Some faults.NoUser) rest (safe_some faults.NoUser refl) p
 
-pub shut_down_safe : (user : Option Seen) (keep : Bool) → Safe (shut_down_refusal user keep)
+pub restart_safe : (attached : Bool) (user : Option Seen) → Safe (restart_refusal attached user)
+unfolding restart_refusal
+restart_safe attached user = safe_user user _ (λ seen.
+    safe_own attached _ (safe_if (is_running seen.life) (Some faults.Running) None (safe_some faults.Running refl) safe_none))
+
+pub shut_down_safe : (attached : Bool) (user : Option Seen) (keep : Bool) → Safe (shut_down_refusal attached user keep)
 unfolding shut_down_refusal
-shut_down_safe user keep = safe_user user _ (λ seen.
-    safe_if keep (of_running seen None) None (safe_if (is_running seen.life) None (Some faults.NotRunning) safe_none (safe_some faults.NotRunning refl)) safe_none)
+shut_down_safe attached user keep = safe_user user _ (λ seen.
+    safe_own attached _ (safe_if keep (of_running seen None) None (safe_if (is_running seen.life) None (Some faults.NotRunning) safe_none (safe_some faults.NotRunning refl)) safe_none))
 
 pub purge_safe : (user : Option Seen) (id : ℕ) → Safe (purge_refusal user id)
 unfolding purge_refusal
@@ -304,7 +317,8 @@ pub unload_why : (old new : Loaded) (id number : ℕ) (done : Result (Unit {0}) 
 unload_why old new id number (Ok done) did = tt
 unload_why old new id number (Err why) did = did.0
 
-pub shut_down_why : (old new : Loaded) (id : ℕ) (keep : Bool) (done : Result (Unit {0}) LoaderFault) → DidShutDown old id keep done new → IfErr done (λ why. shut_down_refusal (seen_by old id) keep ≡ Some why)
+pub shut_down_why : (old new : Loaded) (id : ℕ) (keep : Bool) (done : Result (Unit {0}) LoaderFault) → DidShutDown old id keep done new
+    → IfErr done (λ why. shut_down_refusal (is_attached (kept_outlines old.users) id) (seen_by old id) keep ≡ Some why)
 shut_down_why old new id keep (Ok done) did = tt
 shut_down_why old new id true (Err why) did = did.0
 shut_down_why old new id false (Err why) did = did.0
@@ -353,50 +367,82 @@ unread_once (Some files) path before now (inr (inr rose)) = inr rose
 abbrev Counted : Reply → ℕ → ℕ → Type 0
 Counted reply before now = now ≡ risen (unread (reply ∷ [])) before
 
--- a command that may read a file is answered
-module _ (command : Command) (old new : Loaded) (before now : StoreSeen) (held : now.held ≡ before.held) (as_unanswered : ReadsOnceAtMost before now → IsUnanswered command before now)
-    (needed : (files : FileMap) (state : Machine) → before.held ≡ Some files → Agrees files old state → ReadsNeeded files state command before.asked now.asked) where
+-- ---- reads that fail
+
+few_as : (a b : List (List ℕ)) → a ≡ b → length b ≤ 1 → length a ≤ 1
+few_as a b is few = subst (λ (l : List (List ℕ)). length l ≤ 1) (sym is) few
+
+one_if : (paths : List (List ℕ)) (r : Refuse) (needed : Bool) (path : List ℕ) → paths ≡ path_if r needed path → length paths ≤ 1
+one_if paths (Some why) needed path is = few_as paths [] is (omega arith)
+one_if paths None true path is = few_as paths (path ∷ []) is (omega arith)
+one_if paths None false path is = few_as paths [] is (omega arith)
+
+-- no command needs two files, but for those of rows
+one_needed : (files : FileMap) (state : Machine) (command : Command) (paths : List (List ℕ)) → Needs files state command paths → length paths ≤ 1
+one_needed files state (Load path) paths is = one_if paths _ true path is
+one_needed files state (LoadSegment user segment) paths (inl none) = few_as paths [] none.1 (omega arith)
+one_needed files state (LoadSegment user segment) paths (inr its) = one_if paths _ _ _ its.1
+one_needed files state (Jsl user segment at) paths (inl its) = one_if paths None _ _ its.5
+one_needed files state (Jsl user segment at) paths (inr none) = few_as paths [] none.1 (omega arith)
+one_needed files state (Restart user) paths (inl none) = few_as paths [] none.1 (omega arith)
+one_needed files state (Restart user) paths (inr its) = one_if paths _ _ _ its.1
+one_needed files state _ paths is = few_as paths [] is (omega arith)
+
+-- where no file is needed behind the first, as many are read where a read fails
+failed_reads : (files : FileMap) (state : Machine) (command : Command) (before now : ℕ) → ((rows : List (List ℕ)) (behind : ℕ) → NeedsBehind files state command rows behind → behind ≡ 0)
+    → ReadsNeeded files state command 0 before now → ReadsNeeded files state command 1 before now
+failed_reads files state command before now none (reads, (first, needs, inl its), count) =
+    let few = one_needed files state command first needs in
+    let all : reads ≡ length first = omega (arith, its.4, none its.1 its.2 its.3) in
+    (reads, (first, needs, inr (omega (arith, all), omega (arith, all), few)), count)
+failed_reads files state command before now none (reads, (first, needs, inr its), count) = (reads, (first, needs, inr (its.0, its.1, omega (arith, its.2))), count)
+
+-- a command that reads one file at most meets the machine, and reads what that needs
+pub meets_reads : (files : FileMap) (state : Machine) (command : Command) (reply : Reply) (new : Loaded) (before now : StoreSeen)
+    → ((rows : List (List ℕ)) (behind : ℕ) → NeedsBehind files state command rows behind → behind ≡ 0) → ReadsNeeded files state command 0 before.asked now.asked
+    → Meets RoomRule files state command reply new before.faults now.faults → MeetsReads RoomRule files state command reply new before now
+meets_reads files state command reply new before now none reads (inl met) = inl (met.0, met.1, reads)
+meets_reads files state command reply new before now none reads (inr (inl cannot)) =
+    inr (inl (cannot.0, cannot.1, cannot.2, cannot.3, cannot.4, cannot.5, failed_reads files state command before.asked now.asked none reads))
+meets_reads files state command reply new before now none reads (inr (inr short)) =
+    inr (inr (short.0, short.1, short.2, failed_reads files state command before.asked now.asked none reads))
+
+-- ---- a command that may read files is answered
+
+module _ (command : Command) (most : ℕ) (old new : Loaded) (before now : StoreSeen) (held : now.held ≡ before.held) (as_unanswered : ReadsAtMost most before now → IsUnanswered command before now) where
   store_is : now ≡ record before { faults = now.faults; asked = now.asked }
   store_is = ap (λ (h : Option FileMap). record { held = h; faults = now.faults; asked = now.asked }) held
 
   -- over files that are told: the machine's reply, or `cannot read`
-  told_answer : (files : FileMap) (state : Machine) (reply : Reply) → reply ≢ commands.Refused faults.Memory → Meets Purges files state command reply new before.faults now.faults
-      → ReadsNeeded files state command before.asked now.asked
-      → (others : ℕ) × (reads : ℕ) × (next : Machine) × IsAnswered files state command reply others next × IsReadFor files state command reads × Agrees files new next
+  told_answer : (files : FileMap) (state : Machine) (reply : Reply) → reply ≢ commands.Refused faults.Memory → MeetsReads RoomRule files state command reply new before now
+      → (others : ℕ) × (reads : ℕ) × (next : Machine) × IsAnswered files state command reply others next × IsReadFor files state command others reads × Agrees files new next
       × (now.faults ≡ risen others before.faults) × (now.asked ≡ risen reads before.asked)
-  told_answer files state reply other (inl met) reads = (0, reads.0, met.0.0, inl (met.0.1, refl), reads.1, met.0.2, met.1, reads.2)
-  told_answer files state reply other (inr (inl cannot)) reads = (1, reads.0, state, inr (cannot.0, cannot.1, cannot.2, cannot.3, refl, refl), reads.1, cannot.4, cannot.5, reads.2)
-  told_answer files state reply other (inr (inr short)) reads = absurd (other short.0)
+  told_answer files state reply other (inl (met, same, reads)) = (0, reads.0, met.0, inl (met.1, refl), reads.1, met.2, same, reads.2)
+  told_answer files state reply other (inr (inl (is, paths, needs, some, agrees, rose, reads))) = (1, reads.0, state, inr (is, paths, needs, some, refl, refl), reads.1, agrees, rose, reads.2)
+  told_answer files state reply other (inr (inr short)) = absurd (other short.0)
 
-  pub read_answer : (reply : Reply) (n : ℕ) → MayRead command reply n → now.asked ≡ risen n before.asked → OnceAtMost before.asked now.asked → OnceAtMost before.faults now.faults → reply ≢ commands.Refused faults.Memory
-      → (before.held ≡ None → Counted reply before.faults now.faults)
-      → ((files : FileMap) (state : Machine) → before.held ≡ Some files → Agrees files old state → Meets Purges files state command reply new before.faults now.faults)
-      → IsAnswer command old reply new before now
-  read_answer reply n may is once faults_once other untold meets = record {
+  -- the machine's answer, or none for want of memory
+  abbrev Meets' : Reply → Type 0
+  Meets' reply = (files : FileMap) (state : Machine) → before.held ≡ Some files → Agrees files old state → MeetsReads RoomRule files state command reply new before now
+
+  pub read_answer : (reply : Reply) (n : ℕ) → n ≤ most → MayRead command reply n → now.asked ≡ risen n before.asked → OnceAtMost before.faults now.faults → reply ≢ commands.Refused faults.Memory
+      → (before.held ≡ None → Counted reply before.faults now.faults) → Meets' reply → IsAnswer command old reply new before now
+  read_answer reply n few may is faults_once other untold meets = record {
     told = go before.held refl;
     store = store_is;
-    unanswered = as_unanswered (faults_once, once, store_is);
+    unanswered = as_unanswered (n, few, is, faults_once, store_is);
   }
     where
       go : (h : Option FileMap) → before.held ≡ h → OneTold command reply old new before now h
       go None none = (n, may, untold none, is)
-      go (Some files) told = λ state agrees. told_answer files state reply other (meets files state told agrees) (needed files state told agrees)
+      go (Some files) told = λ state agrees. told_answer files state reply other (meets files state told agrees)
 
   -- its line, or none
-  pub read_line : (line : Result (List ℕ) LineFault) (reply : Reply) (n : ℕ) → IfOk line (λ text. (reply ≢ commands.Refused faults.Memory) × (text ≡ reply_line reply)) → MayRead command reply n
-      → now.asked ≡ risen n before.asked → OnceAtMost before.asked now.asked → OnceAtMost before.faults now.faults → (before.held ≡ None → Counted reply before.faults now.faults)
-      → ((files : FileMap) (state : Machine) → before.held ≡ Some files → Agrees files old state → Meets Purges files state command reply new before.faults now.faults)
-      → HasLine line command old new before now
-  read_line (Ok text) reply n is may asked once faults_once untold meets = (reply, read_answer reply n may asked once faults_once is.0 untold meets, is.1)
-  read_line (Err short) reply n is may asked once faults_once untold meets = as_unanswered (faults_once, once, store_is)
-
-  -- the same where it reads once at most
-  pub once_line : (line : Result (List ℕ) LineFault) (reply : Reply) → IfOk line (λ text. (reply ≢ commands.Refused faults.Memory) × (text ≡ reply_line reply)) → ((n : ℕ) → n ≤ 1 → MayRead command reply n)
-      → OnceAtMost before.asked now.asked → OnceAtMost before.faults now.faults → (before.held ≡ None → Counted reply before.faults now.faults)
-      → ((files : FileMap) (state : Machine) → before.held ≡ Some files → Agrees files old state → Meets Purges files state command reply new before.faults now.faults)
-      → HasLine line command old new before now
-  once_line line reply is may (inl same) faults_once untold meets = read_line line reply 0 is (may 0 (omega arith)) same (inl same) faults_once untold meets
-  once_line line reply is may (inr more) faults_once untold meets = read_line line reply 1 is (may 1 (omega arith)) more (inr more) faults_once untold meets
+  pub read_line : (line : Result (List ℕ) LineFault) (reply : Reply) (n : ℕ) → n ≤ most → IfOk line (λ text. (reply ≢ commands.Refused faults.Memory) × (text ≡ reply_line reply))
+      → MayRead command reply n → now.asked ≡ risen n before.asked → OnceAtMost before.faults now.faults
+      → (before.held ≡ None → Counted reply before.faults now.faults) → Meets' reply → HasLine line command old new before now
+  read_line (Ok text) reply n few is may asked faults_once untold meets = (reply, read_answer reply n few may asked faults_once is.0 untold meets, is.1)
+  read_line (Err short) reply n few is may asked faults_once untold meets = as_unanswered (n, few, asked, faults_once, store_is)
 
 -- a reply that is no refusal
 pub good_text : (line : Result (List ℕ) LineFault) (reply : Reply) → reply ≢ commands.Refused faults.Memory → IfOk line (λ text. text ≡ reply_line reply)
@@ -412,60 +458,6 @@ bad_text (Ok text) why is = ((λ same. is.0 (fault_same why same)), is.1)
     fault_same : (f : LoaderFault) → commands.Refused f ≡ commands.Refused faults.Memory → f ≡ faults.Memory
     fault_same f e = cc
 bad_text (Err short) why is = tt
-
--- ---- load
-
-module _ (old new : Loaded) (path : List ℕ) (before now : StoreSeen) (held : now.held ≡ before.held)
-    (asked : length old.users < max_users → now.asked ≡ one_more before.asked) (unasked : max_users ≤ length old.users → now.asked ≡ before.asked)
-    (needed : (files : FileMap) (state : Machine) → before.held ≡ Some files → Agrees files old state → ReadsNeeded files state (Load path) before.asked now.asked) where
-  abbrev Meets' : Reply → Type 0
-  Meets' reply = (files : FileMap) (state : Machine) → before.held ≡ Some files → Agrees files old state → Meets Purges files state (Load path) reply new before.faults now.faults
-
-  -- a load that gave a program
-  pub load_started : (line : Result (List ℕ) LineFault) (started : Started) → IfOk line (λ text. text ≡ reply_line (load_reply (Ok started))) → HasLoaded before.held old path (Ok started) new before.faults now.faults
-      → Meets' (load_reply (Ok started)) → HasLine line (Load path) old new before now
-  load_started line started text done meets =
-      read_line (Load path) old new before now held (λ once. once) needed line (load_reply (Ok started)) 1 (good_text line (load_reply (Ok started)) (λ same. absurd cc) text) refl (asked done.0.few)
-      (inr (asked done.0.few)) (inl done.1) (λ none. done.1) meets
-
-  -- why it refuses, but for want of memory
-  begin_safe : (memory : Memory) (id : ℕ) (heads : List Head) (why : LoaderFault) → IsBeginRefusal memory id heads why → (is_unread_fault why ≡ false) × (is_full_fault why ≡ false)
-  begin_safe memory id heads why (inl full) = (ap is_unread_fault full.0, ap is_full_fault full.0)
-  begin_safe memory id heads why (inr room) = (ap is_unread_fault room.1, ap is_full_fault room.1)
-
-  start_safe : (file : List ℕ) (why : LoaderFault) → IsStartRefusal file old why → (is_unread_fault why ≡ false) × (is_full_fault why ≡ false)
-  start_safe file why (inl (inl short)) = (ap is_unread_fault short, ap is_full_fault short)
-  start_safe file why (inl (inr bad)) = (ap is_unread_fault bad.2, ap is_full_fault bad.2)
-  start_safe file why (inr none) = begin_safe old.memory (first_id + length old.users) (map head_of none.0) why none.2
-
-  refused_line : (line : Result (List ℕ) LineFault) (why : LoaderFault) (n : ℕ) → IfOk line (λ text. (why ≢ faults.Memory) × (text ≡ reply_line (commands.Refused why)))
-      → n ≡ cond (is_full_fault why) 0 1 → now.asked ≡ risen n before.asked → OnceAtMost before.asked now.asked → OnceAtMost before.faults now.faults
-      → (before.held ≡ None → Counted (commands.Refused why) before.faults now.faults) → Meets' (commands.Refused why) → HasLine line (Load path) old new before now
-  refused_line line why n is times asked' once faults_once untold meets =
-      read_line (Load path) old new before now held (λ o. o) needed line (commands.Refused why) n (bad_text line why is) times asked' once faults_once untold meets
-
-  abbrev unread_of : LoaderFault → ℕ
-  unread_of f = unread (commands.Refused f ∷ [])
-
-  -- a load that was refused
-  load_refusal_line : (line : Result (List ℕ) LineFault) (why : LoaderFault) → IfOk line (λ text. (why ≢ faults.Memory) × (text ≡ reply_line (commands.Refused why)))
-      → IsLoadRefusal before.held old path before.faults now.faults why → Meets' (commands.Refused why) → HasLine line (Load path) old new before now
-  load_refusal_line line why is (IsFull full why_is same) meets =
-      refused_line line why 0 is (sym (ap (λ (f : LoaderFault). cond (is_full_fault f) 0 1) why_is)) (unasked full) (inl (unasked full)) (inl same)
-      (λ none. same ∙ ap (λ (f : LoaderFault). risen (unread_of f) before.faults) (sym why_is)) meets
-  load_refusal_line line why is (CantRead few cause why_is) meets =
-      refused_line line why 1 is (sym (ap (λ (f : LoaderFault). cond (is_full_fault f) 0 1) why_is)) (asked few) (inr (asked few)) (unread_once before.held path before.faults now.faults cause)
-      (λ none. unread_untold before.held path before.faults now.faults none cause ∙ ap (λ (f : LoaderFault). risen (unread_of f) before.faults) (sym why_is)) meets
-  load_refusal_line line why is (LacksMemory few why_is same) meets =
-      refused_line line why 1 is (sym (ap (λ (f : LoaderFault). cond (is_full_fault f) 0 1) why_is)) (asked few) (inr (asked few)) (inl same)
-      (λ none. same ∙ ap (λ (f : LoaderFault). risen (unread_of f) before.faults) (sym why_is)) meets
-  load_refusal_line line why is (CantStart few file is_read none same) meets =
-      let safe = start_safe file why none in
-      refused_line line why 1 is (rw safe.1 refl) (asked few) (inr (asked few)) (inl same) (λ untold. rw safe.0 same) meets
-
-  pub load_refused : (line : Result (List ℕ) LineFault) (why : LoaderFault) → IfOk line (λ text. (why ≢ faults.Memory) × (text ≡ reply_line (commands.Refused why)))
-      → HasLoaded before.held old path (Err why) new before.faults now.faults → Meets' (load_reply (Err why)) → HasLine line (Load path) old new before now
-  load_refused line why is done meets = load_refusal_line line why is done.0 meets
 
 -- ---- all commands
 

@@ -16,7 +16,7 @@ use Rattle.loader_script.specs.declared.run.Stop.TheVariants as stop
 use Rattle.loader_script.specs.Replied.{AreReplies, IsUnanswered}
 use Rattle.loader_script.specs.Run.{HandsOut, HasRunAll, StopsShort}
 use Rattle.loader_script.specs.Running.{HasPrinted, IsAnswer, IsFirstLoader, HasAnswered, IsUnderWay, HasFinished}
-use Rattle.loader_script.proofs.Transcripts.{OneTold, AllTold, answered, more_replied, forget, printed_more, with_text-none}
+use Rattle.loader_script.proofs.Transcripts.{OneTold, AllTold, idle_reads, answered, more_replied, forget, printed_more, with_text-none}
 
 -- what stands for the loader before there is one
 abbrev pub no_loader : Loaded
@@ -29,7 +29,7 @@ agrees_yet files = record {
   banks = refl;
   slots = refl;
   users = refl;
-  attached = record { each = λ place i n kept made is. absurd cc; once = λ place other i j n one two made made' is is'. absurd cc };
+  attached = record { few = λ place kept made. absurd cc; each = λ place i n kept made is. absurd cc; once = λ place other i j n one two made made' is is'. absurd cc };
   entries = λ place number k kept segments s t made holds is table found above. absurd cc;
   each = λ place kept user is made. absurd cc;
 }
@@ -51,7 +51,7 @@ first_answer store (Banks banks) loader is = record { told = go store.held; stor
   where
     go : (h : Option FileMap) → OneTold (Banks banks) step.Okay no_loader loader store store h
     go None = (0, refl, refl, refl)
-    go (Some files) = λ state agrees. (0, 0, empty_of banks, inl ((refl, refl), refl), ([], refl, refl), is files, refl, refl)
+    go (Some files) = λ state agrees. (0, 0, empty_of banks, inl ((refl, refl), refl), idle_reads files state (Banks banks) refl, is files, refl, refl)
 first_answer store _ loader is = absurd is
 
 pub first_answered : (store : StoreSeen) (sink new_sink : SinkSeen) (command : Command) (loader : Loaded) (result : Result (Unit {0}) Stop) → IsFirstLoader command loader

@@ -1,7 +1,8 @@
 -- The replies to a script's commands, and how they go with what is seen of the store.
-use Rattle.std.specs.Prelude.{◌≡◌, ◌⊎◌, ℕ, Bool, true, false, ◌+◌, ◌≤◌, List, [], ◌∷◌, length, count_by, if◌then◌else◌}
+use Rattle.std.specs.Prelude.{◌≡◌, ◌⊎◌, ℕ, Bool, true, false, ◌+◌, ◌≤◌, List, [], ◌∷◌, length, count_by}
 use Rattle.omf_io.specs.Counts.{one_more, risen, ToldOr}
 use Rattle.omf_io.specs.Files.{FileMap, StoreSeen}
+use Rattle.load_meaning.specs.Pathnames.{most_paths}
 use Rattle.loader_machine.specs.declared.faults.LoaderFault.{LoaderFault}
 use Rattle.loader_machine.specs.declared.faults.LoaderFault.TheVariants.{TooManyUsers, CannotRead}
 use Rattle.loader_machine.specs.State.{Machine, empty_of}
@@ -30,10 +31,20 @@ abbrev pub is_full : Reply → Bool
 is_full (Refused fault) = is_full_fault fault
 is_full _ = false
 
--- How often a command with this reply may have read a file: a load once, unless 255 users were made; a segment that is made active,
--- a JSL and a restart once at most; no other command.
+-- a load reads its file and those of its rows at most
+abbrev pub most_reads : ℕ
+most_reads = 1 + most_paths
+
+-- How many files a load may have read, by whether it is refused for the count of users: none where 255 were made, and the file alone
+-- where its rows make too many; and else the file, and then up to 16 of rows.
+abbrev pub LoadMayRead : Bool → ℕ → Type 0
+LoadMayRead true reads = reads ≤ 1
+LoadMayRead false reads = (1 ≤ reads) × (reads ≤ most_reads)
+
+-- How many files a command with this reply may have read: a load some; a segment that is made active, a JSL and a restart one at most;
+-- no other command any.
 abbrev pub MayRead : Command → Reply → ℕ → Type 0
-MayRead (Load path) reply reads = reads ≡ (if is_full reply then 0 else 1)
+MayRead (Load path) reply reads = LoadMayRead (is_full reply) reads
 MayRead (LoadSegment user segment) reply reads = reads ≤ 1
 MayRead (Jsl user segment at) reply reads = reads ≤ 1
 MayRead (Restart user) reply reads = reads ≤ 1
@@ -48,9 +59,9 @@ MayReadAll (command ∷ commands) (reply ∷ replies) reads =
 
 -- These are replies to the commands, from the empty state on. Over files that are told they are the machine's, but that a
 -- command which reads may be answered by `cannot read` in the place of its reply; the count of faults is one more for each of
--- these, that of reads one more for each file that a command needs, and `P` holds of the state to which the replies lead. Over
--- files that aren't told the count of faults is one more for each `cannot read`, and so many reads may have been. All else of the
--- store is as before.
+-- these, that of reads one more for each file that a command needs, up to a read that fails, and `P` holds of the state to which the
+-- replies lead. Over files that aren't told the count of faults is one more for each `cannot read`, and so many reads may have been.
+-- All else of the store is as before.
 pub record AreReplies (P : FileMap → Machine → Type 0) (commands : List Command) (replies : List Reply) (before now : StoreSeen) : Type 0 where
   pub one_each : length replies ≡ length commands
   pub told : ToldOr before.held
@@ -63,15 +74,16 @@ pub record AreReplies (P : FileMap → Machine → Type 0) (commands : List Comm
 abbrev pub OnceAtMost : ℕ → ℕ → Type 0
 OnceAtMost before now = (now ≡ before) ⊎ (now ≡ one_more before)
 
--- a file was read once at most, and nothing else was done to the store
-abbrev pub ReadsOnceAtMost : StoreSeen → StoreSeen → Type 0
-ReadsOnceAtMost before now =
-    OnceAtMost before.faults now.faults × OnceAtMost before.asked now.asked × (now ≡ record before { faults = now.faults; asked = now.asked })
+-- so many files were read at most, one read of them failed at most, and nothing else was done to the store
+abbrev pub ReadsAtMost : ℕ → StoreSeen → StoreSeen → Type 0
+ReadsAtMost most before now = (reads : ℕ) × (reads ≤ most) × (now.asked ≡ risen reads before.asked)
+    × OnceAtMost before.faults now.faults × (now ≡ record before { faults = now.faults; asked = now.asked })
 
--- a command has no reply, since memory ran out in it: one that reads may have read its file, once, and no other command reads one
+-- a command has no reply, since memory ran out in it: a load may have read its file and those of its rows, a segment that is made
+-- active, a JSL and a restart one file, and no other command any
 abbrev pub IsUnanswered : Command → StoreSeen → StoreSeen → Type 0
-IsUnanswered (Load path) before now = ReadsOnceAtMost before now
-IsUnanswered (LoadSegment user segment) before now = ReadsOnceAtMost before now
-IsUnanswered (Jsl user segment at) before now = ReadsOnceAtMost before now
-IsUnanswered (Restart user) before now = ReadsOnceAtMost before now
+IsUnanswered (Load path) before now = ReadsAtMost most_reads before now
+IsUnanswered (LoadSegment user segment) before now = ReadsAtMost 1 before now
+IsUnanswered (Jsl user segment at) before now = ReadsAtMost 1 before now
+IsUnanswered (Restart user) before now = ReadsAtMost 1 before now
 IsUnanswered _ before now = now ≡ before

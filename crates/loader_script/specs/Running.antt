@@ -28,12 +28,12 @@ HasPrinted (Err CannotPrint) text before now = FailsToPrint text before now
 HasPrinted (Err Memory) text before now = now ≡ before
 
 -- the loader answers a command: over files that are told as the machine does, or by `cannot read` where the count is one more; and
--- it reads what the command needs
+-- it reads what the command needs, up to a read that fails
 pub record IsAnswer (command : Command) (old : Loaded) (reply : Reply) (new : Loaded) (before now : StoreSeen) : Type 0 where
   pub told : ToldOr before.held
       ((reads : ℕ) × MayRead command reply reads × (now.faults ≡ risen (unread (reply ∷ [])) before.faults) × (now.asked ≡ risen reads before.asked))
       (λ files. (state : Machine) → Agrees files old state → (others : ℕ) × (reads : ℕ) × (next : Machine) × IsAnswered files state command reply others next
-      × IsReadFor files state command reads × Agrees files new next × (now.faults ≡ risen others before.faults) × (now.asked ≡ risen reads before.asked))
+      × IsReadFor files state command others reads × Agrees files new next × (now.faults ≡ risen others before.faults) × (now.asked ≡ risen reads before.asked))
   pub store : now ≡ record before { faults = now.faults; asked = now.asked }
   pub unanswered : IsUnanswered command before now
 

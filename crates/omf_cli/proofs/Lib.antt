@@ -7,6 +7,7 @@ pub mod Linking
 mod Passing
 pub mod Sources
 mod Forms
+pub mod ReadBack
 pub mod Begins
 mod Stressing
 mod Numbers

@@ -2,12 +2,11 @@
 use Rattle.std.specs.Prelude.{◌≡◌, ℕ, List, Some, Result, Ok, Err}
 use Rattle.std.specs.List.{AllByRecursion}
 use Rattle.std.specs.FinMap.{get}
-use Rattle.omf_format.specs.Number.{IsBytes}
 use Rattle.omf_io.specs.Files.{FileMap}
-use Rattle.link_meaning.specs.LinkFaults.{plain}
+use Rattle.link_meaning.specs.LinkFaults.{Given, HasBytes}
 use Rattle.link_meaning.specs.EmitFaults.{IsLinkedTo}
 use Rattle.link_meaning.specs.LinkLoadable.{NamesNoSkipped}
-use Rattle.iigs_meaning.specs.Puts.{Purges}
+use Rattle.loader_machine.specs.Rule.{RoomRule}
 use Rattle.loader_machine.specs.declared.faults.LoaderFault.{LoaderFault}
 use Rattle.loader_machine.specs.declared.faults.LoaderFault.TheVariants.{TooManyUsers, CannotRead, NoHandle, NoRoom, Memory}
 use Rattle.loader_machine.specs.State.{Machine}
@@ -30,9 +29,14 @@ abbrev pub BeginsOrLacks : Result Started LoaderFault → Type 0
 BeginsOrLacks (Ok started) = Unit {0}
 BeginsOrLacks (Err why) = LiesOutside why
 
--- Where a path holds a file that the linker wrote without run-time library files, and no part of it and no entry of its jump table names a skipped segment, a load
--- of that path is answered by its program, or refused for a reason outside the file.
+-- at the path of each run-time library file that was given, which is the path of its row, stands that very file
+abbrev pub HoldsLibraries : FileMap → Given → Type 0
+HoldsLibraries held given = AllByRecursion (λ file. get held file.0 ≡ Some file.1) given.runtimes
+
+-- Where a path holds a file that the linker wrote, no part of it and no entry of its jump table for the file itself names a skipped
+-- segment, and the run-time library files with which it was linked stand at the paths of its rows, a load of that path is answered by
+-- its program, or refused for a reason outside the file.
 abbrev pub LinkedFilesBegin : Type 0
-LinkedFilesBegin = (files : List (List ℕ)) (output : List ℕ) → AllByRecursion IsBytes files → (is : IsLinkedTo (plain files) output) → NamesNoSkipped is.list is.table
-    → (held : FileMap) (path : List ℕ) → get held path ≡ Some output
-    → (state : Machine) (result : Result Started LoaderFault) (new : Loaded) (before now : ℕ) → Meets Purges held state (Load path) (load_reply result) new before now → BeginsOrLacks result
+LinkedFilesBegin = (given : Given) (output : List ℕ) → HasBytes given → (is : IsLinkedTo given output) → NamesNoSkipped is.list is.table
+    → (held : FileMap) (path : List ℕ) → get held path ≡ Some output → HoldsLibraries held given
+    → (state : Machine) (result : Result Started LoaderFault) (new : Loaded) (before now : ℕ) → Meets RoomRule held state (Load path) (load_reply result) new before now → BeginsOrLacks result

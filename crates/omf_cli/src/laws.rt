@@ -21,12 +21,11 @@ pub fn inputs_are_asked_for_once()
 {}
 
 /// A load of a file that the linker wrote, in which nothing names a skipped segment, is answered by its program, or refused for
-/// a reason outside the file: 255 users, a read that failed, no handle, no room, or no memory.
+/// a reason outside the file: 255 users, a read that failed, no handle, no room, or no memory. The run-time library files with
+/// which it was linked have to stand at the paths of its rows.
 pub fn linked_files_begin()
     ensures { LinkedFilesBegin }
-{
-    linked_files_are_loaded();
-}
+{}
 
 /// The headline: a source has one object, which is a file; files have one load file, or one first fault; the load file stands for the
 /// linked cells, and its load begins a program; a command has one reply; a file has one listing.

@@ -187,7 +187,7 @@ impl Loader {
         }
     }
 
-    /// Locks a block of the script, so that no placement purges it.
+    /// Locks a block of the script, so that no placement purges or moves it.
     pub fn lock(&mut self, h: Handle) -> Result<(), LoaderFault>
         // Over files with which the loader agrees, it is the machine's step.
         ensures meets { (held : FileMap) (state : Machine) → Agrees held self.old state → Met RoomRule held state (Lock h) (done_reply result) self.new }

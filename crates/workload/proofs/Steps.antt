@@ -6,15 +6,15 @@ use Rattle.std.proofs.lemmas.List.{map-append}
 use Rattle.std.proofs.lemmas.List.Sums.{sum_by-append}
 use Rattle.omf_io.specs.Counts.{one_more}
 use Rattle.omf_io.specs.Files.{FileMap}
-use Rattle.iigs_meaning.specs.Puts.{Purges}
+use Rattle.loader_machine.specs.Rule.{RoomRule}
 use Rattle.loader_machine.specs.declared.faults.LoaderFault.{LoaderFault}
 use Rattle.loader_machine.specs.declared.faults.LoaderFault.TheVariants as faults
 use Rattle.loader_machine.specs.State.{Machine, first_id, empty_of}
 use Rattle.loader_machine.specs.Commands.{Command, Load, Jsl, Reply}
 use Rattle.loader_machine.specs.Commands as commands
-use Rattle.loader_machine.specs.Needs.{Needs, IsReadFor}
+use Rattle.loader_machine.specs.Needs.{Needs, NeedsBehind, IsReadFor}
 use Rattle.loader_machine.specs.Transcript.{IsAnswered, AreAnswered}
-use Rattle.loader_agrees.specs.Agrees.{Loaded, Agrees, Met, Meets, ReadsNeeded}
+use Rattle.loader_agrees.specs.Agrees.{Loaded, Agrees, Met, Meets, MeetsReads, ReadsNeeded}
 use Rattle.workload.specs.declared.rounds.Outcome.{Outcome}
 use Rattle.workload.specs.declared.rounds.Outcome.TheVariants.{Refused as Fails}
 use Rattle.workload.specs.declared.rounds.Counts.{Counts}
@@ -26,68 +26,90 @@ use Rattle.workload.specs.Answering.{outcome_of, counted, IsStep, HasDone, AreDo
 
 -- ---- one call
 
+-- a call that needs no file reads none
+pub none_read : (held : FileMap) (state : Machine) (command : Command) → Needs held state command [] → NeedsBehind held state command [] 0 → IsReadFor held state command 0 0
+none_read held state command none behind = ([], none, inl (refl, [], 0, behind, refl))
+
 -- a call that reads no file
-pub quiet_step : (held : FileMap) (state : Machine) (command : Command) (reply : Reply) (outcome : Outcome) (new : Loaded) → Needs held state command [] → outcome ≡ outcome_of reply
-    → Met Purges held state command reply new → IsStep held state command outcome new
+pub quiet_step : (held : FileMap) (state : Machine) (command : Command) (reply : Reply) (outcome : Outcome) (new : Loaded) → IsReadFor held state command 0 0 → outcome ≡ outcome_of reply
+    → Met RoomRule held state command reply new → IsStep held state command outcome new
 quiet_step held state command reply outcome new none is met = record {
   reply = reply;
   reads = 0;
   next = met.0;
   answered = inl (met.1, refl);
-  read = ([], none, refl);
+  read = none;
   agrees = met.2;
   comes = is;
 }
 
--- a call that may read: its store never fails, and memory didn't run out
-pub reading_step : (held : FileMap) (state : Machine) (command : Command) (reply : Reply) (outcome : Outcome) (new : Loaded) (before now : ℕ) → reply ≢ commands.Refused faults.Memory → outcome ≡ outcome_of reply
-    → Meets Purges held state command reply new 0 0 → ReadsNeeded held state command before now → IsStep held state command outcome new
-reading_step held state command reply outcome new before now other is (inl met) reads = record {
-  reply = reply;
-  reads = reads.0;
-  next = met.0.0;
-  answered = inl (met.0.1, refl);
-  read = reads.1;
-  agrees = met.0.2;
-  comes = is;
-}
-reading_step held state command reply outcome new before now other is (inr (inl cannot)) reads = absurd (never cannot.5)
-  where
-    never : 0 ≡ one_more 0 → ⊥
-    never e = cc
-reading_step held state command reply outcome new before now other is (inr (inr short)) reads = absurd (other short.0)
-
 -- such a call was done
-pub quiet_done : (command : Command) (reply : Reply) (outcome : Outcome) (old new : Loaded) → ((held : FileMap) (state : Machine) → Needs held state command []) → outcome ≡ outcome_of reply
-    → ((held : FileMap) (state : Machine) → Agrees held old state → Met Purges held state command reply new) → (held : FileMap) → HasDone held command outcome old new
+pub quiet_done : (command : Command) (reply : Reply) (outcome : Outcome) (old new : Loaded) → ((held : FileMap) (state : Machine) → IsReadFor held state command 0 0) → outcome ≡ outcome_of reply
+    → ((held : FileMap) (state : Machine) → Agrees held old state → Met RoomRule held state command reply new) → (held : FileMap) → HasDone held command outcome old new
 quiet_done command reply outcome old new none is meets held = λ state agrees. quiet_step held state command reply outcome new (none held state) is (meets held state agrees)
 
 -- or refused
-pub quiet_refused : (command : Command) (fault : LoaderFault) (E : Type 0) (result : Result Outcome E) (old new : Loaded) → ((held : FileMap) (state : Machine) → Needs held state command [])
-    → IfOk result (λ outcome. outcome ≡ Fails) → ((held : FileMap) (state : Machine) → Agrees held old state → Met Purges held state command (commands.Refused fault) new)
+pub quiet_refused : (command : Command) (fault : LoaderFault) (E : Type 0) (result : Result Outcome E) (old new : Loaded) → ((held : FileMap) (state : Machine) → IsReadFor held state command 0 0)
+    → IfOk result (λ outcome. outcome ≡ Fails) → ((held : FileMap) (state : Machine) → Agrees held old state → Met RoomRule held state command (commands.Refused fault) new)
     → IfOk result (λ outcome. (held : FileMap) → HasDone held command outcome old new)
 quiet_refused command fault E (Ok outcome) old new none is meets = quiet_done command (commands.Refused fault) outcome old new none is meets
 quiet_refused command fault E (Err short) old new none is meets = tt
 
--- a call that may read was done, over a store that tells its files and never fails
+-- ---- a call that may read, over a store that tells its files and never fails
+
 module _ (command : Command) (old new : Loaded) (before now : Held) where
-  abbrev Steps' : Reply → Type 0
-  Steps' reply = (held : FileMap) (state : Machine) → (seen before).held ≡ Some held → Agrees held old state → Meets Purges held state command reply new 0 0
+  -- it is answered as by the machine, and reads what that needs
+  abbrev Reading' : Reply → Type 0
+  Reading' reply = (held : FileMap) (state : Machine) → (seen before).held ≡ Some held → Agrees held old state
+      → Met RoomRule held state command reply new × ReadsNeeded held state command 0 before.asked now.asked
 
-  abbrev Reads' : Type 0
-  Reads' = (held : FileMap) (state : Machine) → (seen before).held ≡ Some held → Agrees held old state → ReadsNeeded held state command before.asked now.asked
+  never : 0 ≡ one_more 0 → ⊥
+  never e = cc
 
-  pub reading_done : (reply : Reply) (outcome : Outcome) → reply ≢ commands.Refused faults.Memory → outcome ≡ outcome_of reply → Steps' reply → Reads' → HasDone before.files command outcome old new
-  reading_done reply outcome other is meets needed = λ state agrees.
-      reading_step before.files state command reply outcome new before.asked now.asked other is (meets before.files state refl agrees) (needed before.files state refl agrees)
+  -- it reads one file at most, and memory didn't run out
+  pub by_meets : (reply : Reply) → reply ≢ commands.Refused faults.Memory
+      → ((held : FileMap) (state : Machine) → (seen before).held ≡ Some held → Agrees held old state → Meets RoomRule held state command reply new 0 0)
+      → ((held : FileMap) (state : Machine) → (seen before).held ≡ Some held → Agrees held old state → ReadsNeeded held state command 0 before.asked now.asked) → Reading' reply
+  by_meets reply other meets needed = λ held state told agrees. (by_case held state (meets held state told agrees), needed held state told agrees)
+    where
+      by_case : (held : FileMap) (state : Machine) → Meets RoomRule held state command reply new 0 0 → Met RoomRule held state command reply new
+      by_case held state (inl met) = met.0
+      by_case held state (inr (inl cannot)) = absurd (never cannot.5)
+      by_case held state (inr (inr short)) = absurd (other short.0)
 
+  -- it may read several
+  pub by_reads : (reply : Reply) → reply ≢ commands.Refused faults.Memory
+      → ((held : FileMap) (state : Machine) → (seen before).held ≡ Some held → Agrees held old state → MeetsReads RoomRule held state command reply new (seen before) (seen now)) → Reading' reply
+  by_reads reply other meets = λ held state told agrees. by_case held state (meets held state told agrees)
+    where
+      by_case : (held : FileMap) (state : Machine) → MeetsReads RoomRule held state command reply new (seen before) (seen now)
+          → Met RoomRule held state command reply new × ReadsNeeded held state command 0 before.asked now.asked
+      by_case held state (inl met) = (met.0, met.2)
+      by_case held state (inr (inl cannot)) = absurd (never cannot.5)
+      by_case held state (inr (inr short)) = absurd (other short.0)
+
+  -- it was done
+  pub reading_done : (reply : Reply) (outcome : Outcome) → outcome ≡ outcome_of reply → Reading' reply → HasDone before.files command outcome old new
+  reading_done reply outcome is reads = λ state agrees.
+      let both = reads before.files state refl agrees in
+      record {
+        reply = reply;
+        reads = both.1.0;
+        next = both.0.0;
+        answered = inl (both.0.1, refl);
+        read = both.1.1;
+        agrees = both.0.2;
+        comes = is;
+      }
+
+  -- or refused
   pub reading_refused : (fault : LoaderFault) (E : Type 0) (result : Result Outcome E) → OnOk result (fault ≢ faults.Memory) → IfOk result (λ outcome. outcome ≡ Fails)
-      → Steps' (commands.Refused fault) → Reads' → IfOk result (λ outcome. HasDone before.files command outcome old new)
-  reading_refused fault E (Ok outcome) other is meets needed = reading_done (commands.Refused fault) outcome (λ same. other (same_fault fault same)) is meets needed
+      → ((commands.Refused fault ≢ commands.Refused faults.Memory) → Reading' (commands.Refused fault)) → IfOk result (λ outcome. HasDone before.files command outcome old new)
+  reading_refused fault E (Ok outcome) other is reads = reading_done (commands.Refused fault) outcome is (reads (λ same. other (same_fault fault same)))
     where
       same_fault : (f : LoaderFault) → commands.Refused f ≡ commands.Refused faults.Memory → f ≡ faults.Memory
       same_fault f e = cc
-  reading_refused fault E (Err short) other is meets needed = tt
+  reading_refused fault E (Err short) other is reads = tt
 
 -- ---- one call more
 
@@ -95,10 +117,10 @@ no_others : (here later : ℕ) → 0 ≡ here + later → (here ≡ 0) × (later
 no_others here later e = (omega (arith, e), omega (arith, e))
 
 pub answered_more : (held : FileMap) (state mid last : Machine) (commands : List Command) (replies : List Reply) (reads : ℕ) (command : Command) (reply : Reply) (read : ℕ)
-    → AreAnswered held state commands replies 0 reads mid → IsAnswered held mid command reply 0 last → IsReadFor held mid command read
+    → AreAnswered held state commands replies 0 reads mid → IsAnswered held mid command reply 0 last → IsReadFor held mid command 0 read
     → AreAnswered held state (commands ++ command ∷ []) (replies ++ reply ∷ []) 0 (reads + read) last
 answered_more held state mid last [] [] reads command reply read (none, no_reads, same) is for =
-    (0, 0, read, 0, last, subst (λ (s : Machine). IsAnswered held s command reply 0 last) same is, subst (λ (s : Machine). IsReadFor held s command read) same for, (refl, refl, refl), refl, omega (arith, no_reads))
+    (0, 0, read, 0, last, subst (λ (s : Machine). IsAnswered held s command reply 0 last) same is, subst (λ (s : Machine). IsReadFor held s command 0 read) same for, (refl, refl, refl), refl, omega (arith, no_reads))
 answered_more held state mid last [] (other ∷ replies) reads command reply read are is for = absurd are
 answered_more held state mid last (first ∷ commands) [] reads command reply read are is for = absurd are
 answered_more held state mid last (first ∷ commands) (other ∷ replies) reads command reply read (here, later, r, rs, next, one, its, rest, sum, sums) is for =

@@ -31,7 +31,7 @@ pub record IsStep (held : FileMap) (state : Machine) (command : Command) (outcom
   pub reads : ℕ
   pub next : Machine
   pub answered : IsAnswered held state command reply 0 next
-  pub read : IsReadFor held state command reads
+  pub read : IsReadFor held state command 0 reads
   pub agrees : Agrees held loader next
   pub comes : outcome ≡ outcome_of reply
 

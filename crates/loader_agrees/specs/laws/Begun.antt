@@ -1,6 +1,6 @@
 -- A loader after a program was loaded.
 use Rattle.std.proofs.Common.{◌≡◌, ◌⊎◌, inl, inr, ℕ, zero, suc, Bool, true, false, cond, ◌==◌, ◌+◌, ◌<◌, ◌≤◌, List, [], ◌∷◌, length, map, Option, Some, None, IsSome, nat_lt, refl, sym, ap, subst, ◌∙◌, arith}
-use Rattle.std.specs.Prelude.{slice_get, slice_set, option_map, position, not, ◌&&◌}
+use Rattle.std.specs.Prelude.{slice_get, slice_set, option_map, not, ◌&&◌}
 use Rattle.std.specs.List.{prefix_len}
 use Rattle.std.specs.Option.{option_map_or, option_and_then}
 use Rattle.std.proofs.lemmas.Option.{same_Some}

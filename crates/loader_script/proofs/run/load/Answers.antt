@@ -1,14 +1,14 @@
-use Rattle.loader_script.proofs.Transcripts.{load_started, load_refused}
+use Rattle.loader_script.proofs.Loads.{load_started, load_refused}
 use Rattle.loader_script.proofs.run.load.Goals as goal
 
 pub returns-in-Ok : goal.returns-in-Ok
 returns-in-Ok g c =
     rw (← c.path_of.ensures)
-    (load_started c.args.loader.now c.load.new.self c.path_of.result.now (g.F.Files.seen c.args.files.now) (g.F.Files.seen c.load.new.files) c.load.ensures.held c.load.ensures.asked c.load.ensures.unasked c.load.ensures.needed
-    c.started_line.result c.in-Ok.started c.started_line.ensures c.in-Ok.ensures.loaded c.in-Ok.ensures.meets)
+    (load_started c.args.loader.now c.load.new.self c.path_of.result.now (g.F.Files.seen c.args.files.now) (g.F.Files.seen c.load.new.files) c.load.ensures.held
+    c.started_line.result c.in-Ok.started c.started_line.ensures c.in-Ok.ensures.loaded c.in-Ok.ensures.needed)
 
 pub returns-in-Err : goal.returns-in-Err
 returns-in-Err g c =
     rw (← c.path_of.ensures)
-    (load_refused c.args.loader.now c.load.new.self c.path_of.result.now (g.F.Files.seen c.args.files.now) (g.F.Files.seen c.load.new.files) c.load.ensures.held c.load.ensures.asked c.load.ensures.unasked c.load.ensures.needed
-    c.refusal_line.result c.in-Err.fault c.refusal_line.ensures c.in-Err.ensures.loaded c.in-Err.ensures.meets)
+    (load_refused c.args.loader.now c.load.new.self c.path_of.result.now (g.F.Files.seen c.args.files.now) (g.F.Files.seen c.load.new.files) c.load.ensures.held
+    c.refusal_line.result c.in-Err.fault c.refusal_line.ensures c.in-Err.ensures.loaded c.in-Err.ensures.needed)
