@@ -17,8 +17,8 @@ ghost use Rattle.loader_script.specs.Running.{HasPrinted, IsLineOf, HasLine, Has
 
 use crate::command::{BankList, Command};
 use crate::replies::{
-    active_line, counted_line, entered_line, info_line, moved_line, okay_line, placed_line, refusal_line,
-    room_line, shown_line, started_line, state_line, where_line,
+    active_line, counted_line, entered_line, info_line, moved_line, okay_line, placed_line,
+    refusal_line, room_line, shown_line, started_line, state_line, where_line,
 };
 use crate::script::{Script, read_script};
 use iigs_meaning::{BanksFault, Handle, Want};

@@ -14,8 +14,8 @@ ghost use Rattle.sys_loader.specs.Filling.{own_entry, HasHead, AreSound, IsFille
 
 use crate::head::is_table;
 use crate::user;
-use iigs_meaning::Handle;
 use iigs_compact_memory::CompactBanks;
+use iigs_meaning::Handle;
 use jump_table::put_entry;
 use loader_machine::Head;
 use omf_cells::{LoadFile, Places, patch_into};

@@ -9,8 +9,8 @@ ghost use Rattle.sys_loader.specs.declared.user.User as declared;
 use crate::loader::FIRST_ID;
 use crate::memory::presence;
 use crate::user::{Segment, User};
-use iigs_meaning::{BlockFault, Handle};
 use iigs_compact_memory::CompactBanks;
+use iigs_meaning::{BlockFault, Handle};
 use loader_machine::{Life, Presence};
 
 /// The offset at which an address lies in a segment, where that is active under a handle.

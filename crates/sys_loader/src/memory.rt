@@ -3,8 +3,8 @@
 ghost use Rattle.std.specs.Prelude.{◌≡◌, ◌+◌, ◌≤◌, ℕ, length, take, drop, Some, false, IfOk, IfErr};
 ghost use Rattle.loader_machine.specs.Presences as presences;
 
-use iigs_meaning::{BlockFault, Handle};
 use iigs_compact_memory::CompactBanks;
+use iigs_meaning::{BlockFault, Handle};
 use loader_machine::{LoaderFault, Presence};
 
 /// Whether and where a handle's block is.

@@ -15,8 +15,8 @@ ghost use Rattle.sys_loader.specs.Lives.{with_bytes, CanPoke, DidPoke};
 use crate::head::is_table;
 use crate::loader::Loader;
 use crate::memory::active;
-use iigs_meaning::Handle;
 use iigs_compact_memory::CompactBanks;
+use iigs_meaning::Handle;
 use loader_machine::LoaderFault;
 
 /// Writes a byte of a block that is there.

@@ -10,8 +10,8 @@ ghost use Rattle.sys_loader.specs.Renewing.{is_chosen, code_for, renewed_at, ren
 use crate::head::is_table;
 use crate::memory::presence;
 use crate::user::Segment;
-use iigs_meaning::Handle;
 use iigs_compact_memory::CompactBanks;
+use iigs_meaning::Handle;
 use jump_table::{entry_count, set_loaded, set_unloaded};
 use loader_machine::Presence;
 use omf_base::number;
@@ -79,7 +79,12 @@ fn renew_block(
 }
 
 /// The entries of a table follow, if it is there.
-fn renew_table(banks: &mut CompactBanks, table: &Segment, only: Option<(u16, u16)>, place: Option<u32>)
+fn renew_table(
+    banks: &mut CompactBanks,
+    table: &Segment,
+    only: Option<(u16, u16)>,
+    place: Option<u32>,
+)
     requires room { (h : Handle) → table.now.handle ≡ Some h → IsSome (presences.there_at (presences.presence banks.old.slots (Some h)))
         → table.now.head.length ≤ length (bytes_at banks.old h.slot) }
     ensures { IsRenewed only place table.now.handle table.now.head.length banks.old banks.new }

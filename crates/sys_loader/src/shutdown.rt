@@ -19,8 +19,8 @@ use crate::renew::renew_tables;
 use crate::turn::idle;
 use crate::user::{Segment, User};
 use crate::users::{attached_count, attached_in, remove, set_life, set_lives, user_in};
-use iigs_meaning::PlaceFault;
 use iigs_compact_memory::CompactBanks;
+use iigs_meaning::PlaceFault;
 use loader_machine::{Life, LoaderFault, Presence};
 
 /// Releases all handles of a user.

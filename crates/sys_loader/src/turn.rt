@@ -5,8 +5,8 @@ ghost use Rattle.iigs_meaning.specs.Slots.{get};
 ghost use Rattle.iigs_meaning.specs.Memory.{Changes};
 ghost use Rattle.loader_machine.specs.Steps.{active_block, idle_block};
 
-use iigs_meaning::{BlockFault, Handle};
 use iigs_compact_memory::CompactBanks;
+use iigs_meaning::{BlockFault, Handle};
 
 /// The purge level of an active segment: it is never purged.
 const ACTIVE: u8 = 0;
