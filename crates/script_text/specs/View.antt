@@ -3,13 +3,12 @@ use Rattle.std.specs.Prelude.{◌≡◌, ℕ, List, Result, Ok, Err}
 use Rattle.loader_machine.specs.declared.script.ScriptCause.{ScriptCause}
 use Rattle.loader_machine.specs.declared.script.ScriptCause.TheVariants.{TooManyLines, BadWord, UnknownCommand, BanksFirst, WrongCount, BadNumber, BankTwice, Memory}
 use Rattle.loader_machine.specs.declared.script.ScriptFault.{ScriptFault}
-use Rattle.omf_format.specs.Header.{has_attribute}
 use Rattle.loader_machine.specs.Commands as machine
-use Rattle.loader_machine.specs.Script.{alloc_want, level_in, IsFirstBadLine}
+use Rattle.loader_machine.specs.Script.{IsFirstBadLine}
 use Rattle.script_text.specs.declared.command.Command.{Command}
 use Rattle.script_text.specs.declared.command.Command.TheVariants as declared
 
--- a command with its list and its path as their bytes, and what is asked of a block
+-- a command with its list and its path as their bytes
 abbrev pub command : Command → machine.Command
 command (declared.Banks list) = machine.Banks list
 command (declared.Load path) = machine.Load path
@@ -23,13 +22,14 @@ command (declared.Poke user segment at byte) = machine.Poke user segment at byte
 command (declared.Bytes user segment at size) = machine.Bytes user segment at size
 command (declared.Where address) = machine.Where address
 command (declared.Info user segment) = machine.Info user segment
-command (declared.Alloc size attr address) = machine.Alloc (alloc_want size attr address) (has_attribute 0x8000 attr) (level_in attr)
+command (declared.Alloc size attr address) = machine.Alloc size attr address
 command (declared.Free h) = machine.Free h
 command (declared.Lock h) = machine.Lock h
 command (declared.Unlock h) = machine.Unlock h
 command (declared.Level h level) = machine.Level h level
 command (declared.Handle h) = machine.StateOf h
 command declared.Room = machine.Room
+command declared.Compact = machine.Compact
 
 -- a cause is this answer, unless memory ran out
 abbrev pub IsCause : {A : Type 0} → ScriptCause → Result A ScriptCause → Type 0

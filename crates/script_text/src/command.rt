@@ -133,4 +133,6 @@ pub enum Command {
     },
     /// The free bytes to be counted.
     Room,
+    /// The movable blocks to be slid down.
+    Compact,
 }

@@ -3,7 +3,8 @@
 ghost use Rattle.std.specs.Prelude.{◌≡◌, ◌≢◌, ◌==◌, ◌&&◌, ◌<◌, false, ◌≤◌, ◌∷◌, [], true, length, IfOk, IfErr, IfSome, MatchOption, bytes_eq, codes};
 ghost use Rattle.std.specs.List.{list_all, list_any};
 ghost use Rattle.loader_machine.specs.Commands as machine;
-ghost use Rattle.loader_machine.specs.Script.{words_of, is_word, stands_twice, banks_of, load_of, are_jsl_numbers, jsl_of, is_manner, shut_down_of, are_poke_numbers, poke_of, bytes_of, are_bytes_numbers, is_attributes, are_alloc_numbers, alloc_of, room_of, one_number, two_numbers, given_by, handle_of, words_command, named, is_in_turn, is_number, number_of, command_of, line_command};
+ghost use Rattle.loader_machine.specs.Alloc.{is_attributes};
+ghost use Rattle.loader_machine.specs.Script.{words_of, is_word, stands_twice, banks_of, load_of, are_jsl_numbers, jsl_of, is_manner, shut_down_of, are_poke_numbers, poke_of, bytes_of, are_bytes_numbers, are_alloc_numbers, alloc_of, room_of, compact_of, one_number, two_numbers, given_by, handle_of, words_command, named, is_in_turn, is_number, number_of, command_of, line_command};
 ghost use Rattle.script_text.specs.Words.{bank_numbers, IsHandleIn};
 ghost use Rattle.script_text.specs.View.{command, IsRead};
 
@@ -520,6 +521,17 @@ fn room(words: &mut Words) -> Result<Command, ScriptCause>
     }
 }
 
+/// `compact`
+#[tactic(auto, unfolding(loader_machine::specs::Script::compact_of))]
+fn compact(words: &mut Words) -> Result<Command, ScriptCause>
+    ensures { IsRead command result (compact_of words.old) }
+{
+    match words.next() {
+        Some(_) => Err(ScriptCause::WrongCount),
+        None => Ok(Command::Compact),
+    }
+}
+
 /// The command that the words behind its name give.
 #[tactic(auto, unfolding(loader_machine::specs::Script::words_command))]
 fn words_command(
@@ -550,6 +562,7 @@ fn words_command(
         CommandName::Level => level(words),
         CommandName::Handle => state(words),
         CommandName::Room => room(words),
+        CommandName::Compact => compact(words),
     }
 }
 
@@ -621,6 +634,9 @@ fn named(word: &[u8]) -> Option<CommandName>
     }
     if is_name(word, "room") {
         return Some(CommandName::Room);
+    }
+    if is_name(word, "compact") {
+        return Some(CommandName::Compact);
     }
     None
 }
