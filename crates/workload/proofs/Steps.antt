@@ -145,6 +145,7 @@ entered_more counts (commands.SegmentIs presence size kind) = omega arith
 entered_more counts (commands.Placed handle address) = omega arith
 entered_more counts (commands.BlockIs state) = omega arith
 entered_more counts (commands.RoomIs count) = omega arith
+entered_more counts (commands.Moved count) = omega arith
 
 refused_more : (counts : Counts) (reply : Reply) → (counted (outcome_of reply) counts).refused ≡ counts.refused + count_by is_refused (reply ∷ [])
 refused_more counts (commands.Entered user segment offset address) = omega arith
@@ -160,6 +161,7 @@ refused_more counts (commands.SegmentIs presence size kind) = omega arith
 refused_more counts (commands.Placed handle address) = omega arith
 refused_more counts (commands.BlockIs state) = omega arith
 refused_more counts (commands.RoomIs count) = omega arith
+refused_more counts (commands.Moved count) = omega arith
 
 pub done_more : (held : FileMap) (commands : List Command) (counts new : Counts) (old loader : Loaded) (command : Command) (outcome : Outcome) → AreDone held commands counts old
     → HasDone held command outcome old loader → new ≡ counted outcome counts → AreDone held (commands ++ command ∷ []) new loader
