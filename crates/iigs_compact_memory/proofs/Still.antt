@@ -26,27 +26,27 @@ use Rattle.iigs_places.proofs.Changed.{live_block, live_in}
 use Rattle.iigs_places.proofs.Sliding.{set_is, one_start}
 use Rattle.iigs_places.proofs.Stays.{slot_at-map}
 use Rattle.iigs_compact_memory.specs.Needs.{NoneAfter}
-use Rattle.iigs_compact_memory.specs.Still.{sorted, LeavesStill}
+use Rattle.iigs_compact_memory.specs.Still.{marked_still, LeavesStill}
 
 -- ---- one slot
 
--- the slot with its block sorted
-abbrev pub sorted_in : Slot Block → Slot Block
-sorted_in slot = option_map_or (λ block. holding slot (sorted block)) (block_in slot) slot
+-- the slot with its block marked
+abbrev pub marked_in : Slot Block → Slot Block
+marked_in slot = option_map_or (λ block. holding slot (marked_still block)) (block_in slot) slot
 
-held_sorted : (slot : Slot Block) (block : Block) → block_in slot ≡ Some block → holding slot (sorted block) ≡ sorted_in slot
-held_sorted slot block is = rw is refl
+held_marked : (slot : Slot Block) (block : Block) → block_in slot ≡ Some block → holding slot (marked_still block) ≡ marked_in slot
+held_marked slot block is = rw is refl
 
-address_sorted : (slot : Slot Block) → address_in (sorted_in slot) ≡ address_in slot
-address_sorted slot = go slot.generation slot.content
+address_marked : (slot : Slot Block) → address_in (marked_in slot) ≡ address_in slot
+address_marked slot = go slot.generation slot.content
   where
-    go : (generation : ℕ) (content : Content Block) → address_in (sorted_in (record { generation = generation; content = content })) ≡ address_in (record { generation = generation; content = content })
+    go : (generation : ℕ) (content : Content Block) → address_in (marked_in (record { generation = generation; content = content })) ≡ address_in (record { generation = generation; content = content })
     go generation Free = refl
     go generation Retired = refl
     go generation (Used block) = refl
 
 -- a byte that is left once the purgeable blocks are purged is one of a block that doesn't move
-still_in : (slot : Slot Block) (address : ℕ) → HoldsByte address (emptied_where (can_purge_of 0) (sorted_in slot)) → (mover slot ≡ None) × HoldsByte address slot
+still_in : (slot : Slot Block) (address : ℕ) → HoldsByte address (emptied_where (can_purge_of 0) (marked_in slot)) → (mover slot ≡ None) × HoldsByte address slot
 unfolding can_move can_purge
 still_in slot address = go slot.generation slot.content
   where
@@ -56,17 +56,17 @@ still_in slot address = go slot.generation slot.content
     stays true true true e = refl
     stays true true false e = e
 
-    used : (generation : ℕ) (block : Block) (b : Bool) → can_purge_of 0 (sorted block) ≡ b
-        → HoldsByte address (cond b (record { generation = generation; content = Used (record (sorted block) { at = None }) }) (record { generation = generation; content = Used (sorted block) }))
+    used : (generation : ℕ) (block : Block) (b : Bool) → can_purge_of 0 (marked_still block) ≡ b
+        → HoldsByte address (cond b (record { generation = generation; content = Used (record (marked_still block) { at = None }) }) (record { generation = generation; content = Used (marked_still block) }))
         → (cond (can_move block) (Some block) None ≡ None) × HoldsByte address (record { generation = generation; content = Used block })
     used generation block true e holds = absurd holds
     used generation block false e holds = (rw (stays (is_some block.at) block.movable block.locked e) refl, holds)
 
-    go : (generation : ℕ) (content : Content Block) → HoldsByte address (emptied_where (can_purge_of 0) (sorted_in (record { generation = generation; content = content })))
+    go : (generation : ℕ) (content : Content Block) → HoldsByte address (emptied_where (can_purge_of 0) (marked_in (record { generation = generation; content = content })))
         → (mover (record { generation = generation; content = content }) ≡ None) × HoldsByte address (record { generation = generation; content = content })
     go generation Free holds = absurd holds
     go generation Retired holds = absurd holds
-    go generation (Used block) holds = used generation block (can_purge_of 0 (sorted block)) refl holds
+    go generation (Used block) holds = used generation block (can_purge_of 0 (marked_still block)) refl holds
 
 -- without a block that is there it has no byte
 none_held : (slot : Slot Block) (address : ℕ) → address_in slot ≡ None → HoldsByte address (emptied_where (can_purge_of 0) slot) → ⊥
@@ -98,19 +98,19 @@ lower n m le ne = elim (cases_lt m n) [
   | inr ge ↦ absurd (ne (omega (arith, le, ge)))
 ]
 
--- ---- the blocks below an address are sorted
+-- ---- the blocks below an address are marked
 
-abbrev pub sorted_to : ℕ → Slot Block → Slot Block
-sorted_to limit slot = if lies_below limit slot then sorted_in slot else slot
+abbrev pub marked_to : ℕ → Slot Block → Slot Block
+marked_to limit slot = if lies_below limit slot then marked_in slot else slot
 
-abbrev pub AreSorted : Slots → Slots → ℕ → Type 0
-AreSorted old now limit = (place : ℕ) → slot_at now place ≡ sorted_to limit (slot_at old place)
+abbrev pub AreMarked : Slots → Slots → ℕ → Type 0
+AreMarked old now limit = (place : ℕ) → slot_at now place ≡ marked_to limit (slot_at old place)
 
-address_to : (limit : ℕ) (slot : Slot Block) → address_in (sorted_to limit slot) ≡ address_in slot
+address_to : (limit : ℕ) (slot : Slot Block) → address_in (marked_to limit slot) ≡ address_in slot
 address_to limit slot = go (lies_below limit slot)
   where
-    go : (b : Bool) → address_in (cond b (sorted_in slot) slot) ≡ address_in slot
-    go true = address_sorted slot
+    go : (b : Bool) → address_in (cond b (marked_in slot) slot) ≡ address_in slot
+    go true = address_marked slot
     go false = refl
 
 below : (limit : ℕ) (slot : Slot Block) (at : ℕ) → address_in slot ≡ Some at → at < limit → lies_below limit slot ≡ true
@@ -128,14 +128,14 @@ not_below limit slot at is le = rw is (go at le)
 never_below : (limit : ℕ) (slot : Slot Block) → address_in slot ≡ None → lies_below limit slot ≡ false
 never_below limit slot is = rw is refl
 
-pub sorted_none : (old : Slots) → AreSorted old old 0
-sorted_none old place = go (address_in (slot_at old place)) refl
+pub marked_none : (old : Slots) → AreMarked old old 0
+marked_none old place = go (address_in (slot_at old place)) refl
   where
-    go : (o : Option ℕ) → address_in (slot_at old place) ≡ o → slot_at old place ≡ sorted_to 0 (slot_at old place)
+    go : (o : Option ℕ) → address_in (slot_at old place) ≡ o → slot_at old place ≡ marked_to 0 (slot_at old place)
     go None is = rw (never_below 0 (slot_at old place) is) refl
     go (Some at) is = rw (not_below 0 (slot_at old place) at is (omega arith)) refl
 
-module _ (banks : List ℕ) (old now : Slots) (arranged : IsArranged banks now) (limit : ℕ) (are : AreSorted old now limit) (put : Put) (first : IsFirstPut now limit put) where
+module _ (banks : List ℕ) (old now : Slots) (arranged : IsArranged banks now) (limit : ℕ) (are : AreMarked old now limit) (put : Put) (first : IsFirstPut now limit put) where
   its : (block : Block) × (get now put.handle ≡ Some block) × (block.at ≡ Some put.at)
   its = go (get now put.handle) refl first.there
     where
@@ -159,7 +159,7 @@ module _ (banks : List ℕ) (old now : Slots) (arranged : IsArranged banks now) 
   put_old = sym (ap address_in (are put.handle.slot) ∙ address_to limit (slot_at old put.handle.slot)) ∙ at_now
 
   still : slot_at now put.handle.slot ≡ slot_at old put.handle.slot
-  still = are put.handle.slot ∙ ap (λ (b : Bool). cond b (sorted_in (slot_at old put.handle.slot)) (slot_at old put.handle.slot)) (not_below limit (slot_at old put.handle.slot) put.at put_old first.from)
+  still = are put.handle.slot ∙ ap (λ (b : Bool). cond b (marked_in (slot_at old put.handle.slot)) (slot_at old put.handle.slot)) (not_below limit (slot_at old put.handle.slot) put.at put_old first.from)
 
   one_place : (place : ℕ) → address_in (slot_at now place) ≡ Some put.at → place ≡ put.handle.slot
   one_place place is =
@@ -167,22 +167,22 @@ module _ (banks : List ℕ) (old now : Slots) (arranged : IsArranged banks now) 
       let f = begins (slot_at now put.handle.slot) put.at at_now in
       one_start banks now arranged place put.handle.slot e.0 f.0 e.1 f.1 (e.2 ∙ sym f.2)
 
-  -- one more is sorted
-  pub sorted_more : (next : Slots) → IsSomeAnd (get now put.handle) (λ block. next ≡ with_value now put.handle (sorted block)) → AreSorted old next (suc put.at)
-  sorted_more next is place = elim (cases_eq place put.handle.slot) [
-    | inl same ↦ subst (λ (n : ℕ). slot_at next n ≡ sorted_to (suc put.at) (slot_at old n)) (sym same) here
-    | inr ne ↦ ap (λ (s : Slots). slot_at s place) next_is ∙ get_or-set_other now put.handle.slot place (holding (slot_at now put.handle.slot) (sorted its.0)) new_slot ne ∙ are place ∙ other ne (address_in (slot_at old place)) refl
+  -- one more is marked
+  pub marked_more : (next : Slots) → IsSomeAnd (get now put.handle) (λ block. next ≡ with_value now put.handle (marked_still block)) → AreMarked old next (suc put.at)
+  marked_more next is place = elim (cases_eq place put.handle.slot) [
+    | inl same ↦ subst (λ (n : ℕ). slot_at next n ≡ marked_to (suc put.at) (slot_at old n)) (sym same) here
+    | inr ne ↦ ap (λ (s : Slots). slot_at s place) next_is ∙ get_or-set_other now put.handle.slot place (holding (slot_at now put.handle.slot) (marked_still its.0)) new_slot ne ∙ are place ∙ other ne (address_in (slot_at old place)) refl
   ]
     where
-      next_is : next ≡ slice_set now put.handle.slot (holding (slot_at now put.handle.slot) (sorted its.0))
-      next_is = subst (λ (o : Option Block). IsSomeAnd o (λ block. next ≡ with_value now put.handle (sorted block))) its.1 is ∙ set_is now put.handle its.0 its.1 (sorted its.0)
+      next_is : next ≡ slice_set now put.handle.slot (holding (slot_at now put.handle.slot) (marked_still its.0))
+      next_is = subst (λ (o : Option Block). IsSomeAnd o (λ block. next ≡ with_value now put.handle (marked_still block))) its.1 is ∙ set_is now put.handle its.0 its.1 (marked_still its.0)
 
-      here : slot_at next put.handle.slot ≡ sorted_to (suc put.at) (slot_at old put.handle.slot)
-      here = ap (λ (s : Slots). slot_at s put.handle.slot) next_is ∙ get_or-set_same now put.handle.slot (holding (slot_at now put.handle.slot) (sorted its.0)) new_slot (live_in now put.handle first_live)
-          ∙ held_sorted (slot_at now put.handle.slot) its.0 there_now ∙ ap sorted_in still
-          ∙ sym (ap (λ (b : Bool). cond b (sorted_in (slot_at old put.handle.slot)) (slot_at old put.handle.slot)) (below (suc put.at) (slot_at old put.handle.slot) put.at put_old (omega arith)))
+      here : slot_at next put.handle.slot ≡ marked_to (suc put.at) (slot_at old put.handle.slot)
+      here = ap (λ (s : Slots). slot_at s put.handle.slot) next_is ∙ get_or-set_same now put.handle.slot (holding (slot_at now put.handle.slot) (marked_still its.0)) new_slot (live_in now put.handle first_live)
+          ∙ held_marked (slot_at now put.handle.slot) its.0 there_now ∙ ap marked_in still
+          ∙ sym (ap (λ (b : Bool). cond b (marked_in (slot_at old put.handle.slot)) (slot_at old put.handle.slot)) (below (suc put.at) (slot_at old put.handle.slot) put.at put_old (omega arith)))
 
-      other : place ≢ put.handle.slot → (o : Option ℕ) → address_in (slot_at old place) ≡ o → sorted_to limit (slot_at old place) ≡ sorted_to (suc put.at) (slot_at old place)
+      other : place ≢ put.handle.slot → (o : Option ℕ) → address_in (slot_at old place) ≡ o → marked_to limit (slot_at old place) ≡ marked_to (suc put.at) (slot_at old place)
       other ne None is' = rw (never_below limit (slot_at old place) is', never_below (suc put.at) (slot_at old place) is') refl
       other ne (Some at) is' = elim (cases_lt at limit) [
         | inl early ↦ rw (below limit (slot_at old place) at is' early, below (suc put.at) (slot_at old place) at is' (omega (arith, early, first.from))) refl
@@ -193,18 +193,18 @@ module _ (banks : List ℕ) (old now : Slots) (arranged : IsArranged banks now) 
             rw (not_below limit (slot_at old place) at is' late, not_below (suc put.at) (slot_at old place) at is' (omega (arith, above))) refl
       ]
 
--- what a block that is sorted leaves of places
-pub sorted_step : (now next : Arrangement) (h : Handle) → IsSomeAnd (get now.slots h) (λ block. next ≡ record now { slots = with_value now.slots h (sorted block) })
-    → IsSomeAnd (get now.slots h) (λ block. next.slots ≡ with_value now.slots h (sorted block)) × (next.banks ≡ now.banks)
-sorted_step now next h = go (get now.slots h)
+-- what a block that is marked leaves of places
+pub marked_step : (now next : Arrangement) (h : Handle) → IsSomeAnd (get now.slots h) (λ block. next ≡ record now { slots = with_value now.slots h (marked_still block) })
+    → IsSomeAnd (get now.slots h) (λ block. next.slots ≡ with_value now.slots h (marked_still block)) × (next.banks ≡ now.banks)
+marked_step now next h = go (get now.slots h)
   where
-    go : (o : Option Block) → IsSomeAnd o (λ block. next ≡ record now { slots = with_value now.slots h (sorted block) })
-        → IsSomeAnd o (λ block. next.slots ≡ with_value now.slots h (sorted block)) × (next.banks ≡ now.banks)
+    go : (o : Option Block) → IsSomeAnd o (λ block. next ≡ record now { slots = with_value now.slots h (marked_still block) })
+        → IsSomeAnd o (λ block. next.slots ≡ with_value now.slots h (marked_still block)) × (next.banks ≡ now.banks)
     go None is = absurd is
     go (Some block) is = (ap (λ (a : Arrangement). a.slots) is, ap (λ (a : Arrangement). a.banks) is)
 
--- once all are sorted, and the purgeable ones purged, those are left that stay
-pub left_still : (old now : Slots) (limit : ℕ) → AreSorted old now limit → ((place at : ℕ) → address_in (slot_at now place) ≡ Some at → at < limit) → LeavesStill old (map (emptied_where (can_purge_of 0)) now)
+-- once all are marked, and the purgeable ones purged, those are left that stay
+pub left_still : (old now : Slots) (limit : ℕ) → AreMarked old now limit → ((place at : ℕ) → address_in (slot_at now place) ≡ Some at → at < limit) → LeavesStill old (map (emptied_where (can_purge_of 0)) now)
 left_still old now limit are all place address holds = go (address_in (slot_at old place)) refl
   where
     there : HoldsByte address (emptied_where (can_purge_of 0) (slot_at now place))
@@ -212,11 +212,11 @@ left_still old now limit are all place address holds = go (address_in (slot_at o
 
     go : (o : Option ℕ) → address_in (slot_at old place) ≡ o → (mover (slot_at old place) ≡ None) × HoldsByte address (slot_at old place)
     go None is =
-        let same : slot_at now place ≡ slot_at old place = are place ∙ ap (λ (b : Bool). cond b (sorted_in (slot_at old place)) (slot_at old place)) (never_below limit (slot_at old place) is) in
+        let same : slot_at now place ≡ slot_at old place = are place ∙ ap (λ (b : Bool). cond b (marked_in (slot_at old place)) (slot_at old place)) (never_below limit (slot_at old place) is) in
         absurd (none_held (slot_at old place) address is (subst (λ (s : Slot Block). HoldsByte address (emptied_where (can_purge_of 0) s)) same there))
     go (Some at) is =
         let less : at < limit = all place at (ap address_in (are place) ∙ address_to limit (slot_at old place) ∙ is) in
-        let same : slot_at now place ≡ sorted_in (slot_at old place) = are place ∙ ap (λ (b : Bool). cond b (sorted_in (slot_at old place)) (slot_at old place)) (below limit (slot_at old place) at is less) in
+        let same : slot_at now place ≡ marked_in (slot_at old place) = are place ∙ ap (λ (b : Bool). cond b (marked_in (slot_at old place)) (slot_at old place)) (below limit (slot_at old place) at is less) in
         still_in (slot_at old place) address (subst (λ (s : Slot Block). HoldsByte address (emptied_where (can_purge_of 0) s)) same there)
 
 -- ---- no room

@@ -6,8 +6,8 @@ use Rattle.iigs_meaning.specs.Fits.{Slots, HoldsByte}
 use Rattle.iigs_meaning.specs.Slide.{mover}
 
 -- the block as one of user 0 that is purgeable where it is there and moves, and locked where it stays
-abbrev pub sorted : Block → Block
-sorted block = record block { user = 0; level = 1; locked = not (block.movable && not block.locked) }
+abbrev pub marked_still : Block → Block
+marked_still block = record block { user = 0; level = 1; locked = not (block.movable && not block.locked) }
 
 -- each byte of a block that is left is one of a block that was there and doesn't move
 abbrev pub LeavesStill : Slots → Slots → Type 0

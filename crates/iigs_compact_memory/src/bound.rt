@@ -4,15 +4,15 @@ ghost use Rattle.std.specs.Prelude.{◌≡◌, ◌<◌, ◌≤◌, ℕ, IsSome, 
 ghost use Rattle.iigs_meaning.specs.Slots.{get, with_value};
 ghost use Rattle.iigs_meaning.specs.Fits.{IsWant};
 ghost use Rattle.iigs_compact_memory.specs.Needs.{NoneAfter};
-ghost use Rattle.iigs_compact_memory.specs.Still.{sorted, LeavesStill};
+ghost use Rattle.iigs_compact_memory.specs.Still.{marked_still, LeavesStill};
 
 use iigs_meaning::{Block, Handle, Stale, Want};
 use iigs_places::Places;
 
 // Lets a block be purged if it moves, and locks it if it stays.
-fn sort(places: &mut Places, h: Handle)
+fn mark_still(places: &mut Places, h: Handle)
     requires { IsSome (get places.old.slots h) }
-    ensures { IsSomeAnd (get places.old.slots h) (λ block. places.new ≡ record places.old { slots = with_value places.old.slots h (sorted block) }) }
+    ensures { IsSomeAnd (get places.old.slots h) (λ block. places.new ≡ record places.old { slots = with_value places.old.slots h (marked_still block) }) }
 {
     let block = match places.look(h) {
         Ok(block) => block,
@@ -38,7 +38,7 @@ fn leave_still(places: &mut Places)
     let mut limit = 0;
     while let Some(first) = places.first_from(limit) {
         places.know_arranged();
-        sort(places, first.handle);
+        mark_still(places, first.handle);
         limit = first.at + 1;
     }
     places.purge_user(0);

@@ -1,5 +1,5 @@
 -- The files that a command reads: the paths that it needs in a state. These are this project's own rules.
-use Rattle.std.specs.Prelude.{◌≡◌, ◌⊎◌, ◌≤◌, ◌+◌, ◌*◌, ◌++◌, ℕ, Bool, true, false, not, ◌||◌, List, [], ◌∷◌, length, take, drop, Option, Some, None}
+use Rattle.std.specs.Prelude.{◌≡◌, ◌⊎◌, ◌≤◌, ◌+◌, ◌*◌, ℕ, Bool, true, false, not, ◌||◌, List, [], ◌∷◌, length, take, drop, Option, Some, None}
 use Rattle.omf_io.specs.Files.{FileMap}
 use Rattle.load_meaning.specs.declared.table.Target.{Target}
 use Rattle.load_meaning.specs.Pathnames.{paths_of}
@@ -84,11 +84,6 @@ NeedsBehind held state (Load path) rows reads = ((load_refusal (length state.use
     × (joined : Joined) × AreJoined held rows joined × (reads ≡ reads_of joined))
     ⊎ (((load_refusal (length state.users) ≡ None) → ⊥) × (rows ≡ []) × (reads ≡ 0))
 NeedsBehind held state _ rows reads = (rows ≡ []) × (reads ≡ 0)
-
--- all paths that a command needs, in order
-abbrev pub NeedsAll : FileMap → Machine → Command → List (List ℕ) → Type 0
-NeedsAll held state command paths = (first : List (List ℕ)) × (rows : List (List ℕ)) × (reads : ℕ) × Needs held state command first
-    × NeedsBehind held state command rows reads × (paths ≡ first ++ rows)
 
 -- so many files are read for the command in the state: where no read fails, all whose turn comes; else one at least, where it needs one
 abbrev pub IsReadFor : FileMap → Machine → Command → ℕ → ℕ → Type 0

@@ -25,7 +25,7 @@ use Rattle.load_meaning.specs.declared.load.LoadFault.{LoadFault}
 use Rattle.load_meaning.specs.declared.load.LoadCause.TheVariants as cause
 use Rattle.loader_machine.specs.declared.faults.LoaderFault.TheVariants.{NotJsl, NoTarget, NotEntry, CannotRead, BadFile, NoHandle, NoRoom}
 use Rattle.loader_machine.specs.Heads.{Head, head_of, at_number, is_static, is_table, want_of, wants_of, number_of, entry_in}
-use Rattle.loader_machine.specs.State.{Running, Dormant, Held, User, Machine, Outline, absent, fresh, Seen, empty_of, first_id, user_of, with_user, handles_of, held_at, outlines, named_by, is_attached, family, handles_of_all, with_all, without_all, runs_again, rests, ids_from}
+use Rattle.loader_machine.specs.State.{Running, Held, User, Machine, absent, fresh, Seen, empty_of, first_id, user_of, with_user, handles_of, held_at, outlines, named_by, is_attached, family, handles_of_all, with_all, without_all, runs_again, rests, ids_from}
 use Rattle.loader_machine.specs.Presences.{Presence, Absent, Purged, Idle, Active, presence_at, handle_at, is_there}
 use Rattle.loader_machine.specs.Stands.{Setting, stands, setting, setting_with, far_of}
 use Rattle.loader_machine.specs.Found.{HoldsLoad, Found, Unread, Bad, Good, IsFound, Joined, Stops, Joins, AreJoined}

@@ -58,9 +58,6 @@ module _ (ids : List ℕ) (id : ℕ) where
   pub file_past : (k : ℕ) → length ids ≤ k → file_in (2 + k) (drop k ids) id ≡ None
   file_past k le = ap (λ (l : List ℕ). file_in (2 + k) l id) (drop_past ids k le)
 
-abbrev file_of_kept : Kept → ℕ → Option ℕ
-file_of_kept k id = file_in 2 k.attached id
-
 module _ (users : List (Option Kept)) (id : ℕ) where
   outline_at : (k : ℕ) (o : Option Kept) → slice_get users k ≡ Some o → slice_get (kept_outlines users) k ≡ Some (option_map outline o)
   outline_at k o is = slice_get-map (option_map outline) users k ∙ ap (option_map (option_map outline)) is
@@ -106,9 +103,6 @@ module _ {U : Type 0} (users : List (Option U)) (id : ℕ) (was : U) (made : use
 -- ---- users that are changed together
 
 module _ {U : Type 0} (change : U → U) where
-  one_changed : List (Option U) → ℕ → List (Option U)
-  one_changed users id = option_map_or (λ (u : U). with_user users id (Some (change u))) (user_of users id) users
-
   pub all_more : (users : List (Option U)) (ids : List ℕ) (id : ℕ) → with_all change users (ids ++ id ∷ []) ≡ option_map_or (λ (u : U). with_user (with_all change users ids) id (Some (change u))) (user_of (with_all change users ids) id) (with_all change users ids)
   all_more users [] id = refl
   all_more users (one ∷ ids) id = all_more (option_map_or (λ (u : U). with_user users one (Some (change u))) (user_of users one) users) ids id

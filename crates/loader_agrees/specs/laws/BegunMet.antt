@@ -1,5 +1,5 @@
 -- A load is the machine's step.
-use Rattle.std.proofs.Common.{◌≡◌, ℕ, true, ◌+◌, ◌<◌, ◌≤◌, List, ◌∷◌, ◌++◌, length, map, Option, Some, None, refl, sym, ap, subst, ◌∙◌, arith}
+use Rattle.std.proofs.Common.{◌≡◌, ℕ, true, ◌+◌, ◌≤◌, List, ◌∷◌, ◌++◌, length, map, Option, Some, None, refl, sym, ap, subst, ◌∙◌, arith}
 use Rattle.std.specs.Prelude.{slice_get, option_map, nat_le}
 use Rattle.std.proofs.lemmas.Option.{slice_get_within}
 use Rattle.std.proofs.lemmas.List.{length-map}
@@ -12,7 +12,7 @@ use Rattle.loader_machine.specs.State.{User, Machine, first_id, max_users, ids_f
 use Rattle.loader_machine.specs.Found.{HoldsLoad, Good, Joins, AreJoined}
 use Rattle.loader_machine.specs.Commands.{Started, Load}
 use Rattle.loader_machine.specs.Refusals.{rows_refusal}
-use Rattle.loader_machine.specs.Steps.{PutIn, Begins, LoadsFound, LoadsJoined, Steps, lost_refusal, begun_users, started_user, joined_users}
+use Rattle.loader_machine.specs.Steps.{PutIn, Begins, LoadsFound, Steps, lost_refusal, begun_users, started_user, joined_users}
 use Rattle.loader_agrees.specs.Agrees.{Loaded, outline, Agrees, IsSound, Met}
 use Rattle.loader_agrees.specs.Acts.{HasBegun}
 use Rattle.loader_agrees.specs.laws.Begun.{may_load}

@@ -1,19 +1,19 @@
 -- A loader is sound after a program was loaded with the run-time library files of its rows.
-use Rattle.std.proofs.Common.{◌≡◌, ◌≢◌, ◌⊎◌, inl, inr, ℕ, zero, suc, Bool, true, false, ◌==◌, ◌+◌, ◌-◌, ◌^◌, ◌<◌, ◌≤◌, List, [], ◌∷◌, ◌++◌, length, map, Option, Some, None, refl, sym, ap, subst, ◌∙◌, arith}
+use Rattle.std.proofs.Common.{◌≡◌, ◌≢◌, ◌⊎◌, inl, inr, ℕ, Bool, true, false, ◌==◌, ◌+◌, ◌-◌, ◌^◌, ◌<◌, ◌≤◌, List, [], ◌∷◌, ◌++◌, length, map, Option, Some, None, refl, sym, ap, subst, ◌∙◌, arith}
 use Rattle.std.specs.Prelude.{slice_get, not, ◌&&◌}
 use Rattle.std.proofs.lemmas.Option.{same_Some, slice_get_within}
 use Rattle.std.proofs.lemmas.List.{length-map, length-append}
 use Rattle.omf_format.specs.Header.{is_dynamic, is_skipped}
-use Rattle.omf_format.specs.File.{Segment, segment_at}
+use Rattle.omf_format.specs.File.{Segment}
 use Rattle.load_meaning.specs.declared.table.Target.{Target}
 use Rattle.load_meaning.specs.Pathnames.{paths_of}
-use Rattle.load_meaning.specs.LoadTable.{target_at, targets_of, entry_count}
+use Rattle.load_meaning.specs.LoadTable.{target_at, entry_count}
 use Rattle.load_meaning.specs.Loadable.{IsLoadable}
 use Rattle.load_meaning.specs.Runtime.{IsRuntime}
 use Rattle.iigs_meaning.specs.declared.handles.Handle.{Handle}
 use Rattle.iigs_meaning.specs.Memory.{bytes_at}
 use Rattle.loader_machine.specs.declared.seen.Head.{Head}
-use Rattle.loader_machine.specs.Heads.{head_of, at_number, is_static, is_table}
+use Rattle.loader_machine.specs.Heads.{head_of, at_number, is_table}
 use Rattle.loader_machine.specs.State.{ids_from}
 use Rattle.loader_machine.specs.Presences.{handle_at}
 use Rattle.loader_machine.specs.Stands.{setting}
@@ -25,7 +25,7 @@ use Rattle.loader_agrees.specs.laws.EntryReads.{its_call, number_within}
 use Rattle.loader_agrees.specs.laws.Joining.{IsQuiet, AreMore, sound_more}
 use Rattle.loader_agrees.specs.laws.Reads.{headed}
 use Rattle.loader_agrees.specs.laws.Rows.{IsReached, few_paths, runtime_called, all_reached, row_heads}
-use Rattle.loader_agrees.specs.laws.RowUsers.{Lies, Front, Midst, Behind, lies, front_at, midst_at, behind_at, IsRow, AreCalled, AreRows, row_kept, without_handle, id_there, row_user, attached_made, its_there, its_attached}
+use Rattle.loader_agrees.specs.laws.RowUsers.{Lies, Front, Midst, Behind, lies, front_at, midst_at, behind_at, AreCalled, AreRows, row_kept, without_handle, id_there, row_user, attached_made, its_there, its_attached}
 
 -- each of these is the list of segments of a run-time library file
 abbrev pub AreRuntimes : List (List Segment) → Type 0

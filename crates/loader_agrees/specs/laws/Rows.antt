@@ -1,7 +1,7 @@
 -- The files of rows: their segments, and the entries that lead to these.
 use Rattle.std.proofs.Common.{◌≡◌, inl, inr, ℕ, zero, suc, Bool, true, false, cond, ◌==◌, ◌+◌, ◌-◌, ◌<◌, ◌≤◌, List, [], ◌∷◌, length, map, nat_lt, Option, Some, None, refl, sym, ap, subst, ◌∙◌, arith}
-use Rattle.std.specs.Prelude.{slice_get, option_map, nat_le, not, ◌&&◌, ◌||◌}
-use Rattle.std.specs.Option.{option_or, option_map_or, option_and_then}
+use Rattle.std.specs.Prelude.{slice_get, option_map, nat_le, not, ◌&&◌}
+use Rattle.std.specs.Option.{option_or, option_map_or}
 use Rattle.std.proofs.lemmas.Option.{same_Some, slice_get-map}
 use Rattle.std.proofs.lemmas.Bool.Decides.{nat_tests}
 use Rattle.omf_format.specs.Header.{is_dynamic, is_skipped}
@@ -19,7 +19,6 @@ use Rattle.load_meaning.specs.Loadable.{Fault, first_in, in_segment, IsLoadable}
 use Rattle.load_meaning.specs.Runtime.{kind_fault, runtime_fault, IsRuntime}
 use Rattle.load_meaning.specs.laws.CellLaws.{loadable_has}
 use Rattle.loader_machine.specs.declared.seen.Head.{Head}
-use Rattle.loader_machine.specs.declared.faults.LoaderFault.{LoaderFault}
 use Rattle.loader_machine.specs.declared.faults.LoaderFault.TheVariants.{BadFile}
 use Rattle.loader_machine.specs.Heads.{head_of, at_number}
 use Rattle.loader_machine.specs.Found.{HoldsLoad, HoldsRuntime, Found, Unread, Bad, Good, IsRowFound, Joined, Stops, Joins, JoinsFound, AreJoined, joined_behind}

@@ -1,5 +1,5 @@
 -- A command has one reply and one next state, where the blocks lie apart and no handle stands twice.
-use Rattle.std.proofs.Common.{◌≡◌, ℕ, Bool, true, false, cond, ◌==◌, ◌+◌, ◌^◌, ◌<◌, ◌≤◌, List, [], ◌∷◌, ◌++◌, length, map, take, drop, Option, Some, None, IsSome, refl, sym, ap, subst, ◌∙◌, arith}
+use Rattle.std.proofs.Common.{◌≡◌, ℕ, Bool, true, false, cond, ◌==◌, ◌+◌, ◌^◌, ◌<◌, ◌≤◌, List, [], ◌∷◌, length, map, take, drop, Option, Some, None, IsSome, refl, sym, ap, subst, ◌∙◌, arith}
 use Rattle.std.proofs.lemmas.Option.{same_Some}
 use Rattle.omf_format.specs.File.{Segment, segment_at}
 use Rattle.omf_io.specs.Files.{FileMap}
@@ -19,7 +19,7 @@ use Rattle.iigs_meaning.specs.Blocks.{AreApart, state_of}
 use Rattle.iigs_meaning.specs.Puts.{MakesRoom, IsOnce, without_user}
 use Rattle.iigs_meaning.specs.Room.{IsRoom}
 use Rattle.loader_machine.specs.Heads.{Head, head_of, is_table, want_of, wants_of}
-use Rattle.loader_machine.specs.State.{User, Machine, Seen, fresh, held_at, first_id, user_of, with_user, handles_of}
+use Rattle.loader_machine.specs.State.{User, Machine, Seen, fresh, held_at, first_id, user_of, handles_of}
 use Rattle.loader_machine.specs.Presences.{Presence, Absent, Purged, Idle, Active, presence, presence_at, handle_at, lies_in, lies_at}
 use Rattle.loader_machine.specs.Stands.{stands}
 use Rattle.loader_machine.specs.Found.{HoldsFile, HoldsLoad, HoldsFault, HoldsRuntime, HoldsRuntimeFault, Found, Unread, Bad, Good, IsFound, IsRowFound, Joined, Stops, Joins, JoinsFound, AreJoined, joined_behind}

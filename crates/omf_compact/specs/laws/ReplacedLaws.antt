@@ -21,7 +21,7 @@ use Rattle.omf_io.specs.Files.{FileMap, max_file}
 use Rattle.omf_format.specs.Number.{IsBytes}
 use Rattle.loader_machine.specs.declared.faults.LoaderFault.TheVariants.{BadFile}
 use Rattle.loader_machine.specs.Commands.{Refused}
-use Rattle.loader_machine.specs.Found.{HoldsFile, HoldsLoad, HoldsFault, HoldsRuntime, HoldsRuntimeFault}
+use Rattle.loader_machine.specs.Found.{HoldsFile, HoldsLoad, HoldsRuntime, HoldsRuntimeFault}
 use Rattle.loader_machine.specs.Heads.{head_of, is_table}
 use Rattle.loader_machine.specs.declared.seen.Head.{Head}
 use Rattle.omf_compact.specs.Stretches.{bytes_in}

@@ -29,7 +29,7 @@ use Rattle.loader_machine.specs.Refusals.{Refuse, load_refusal, rows_refusal, lo
 use Rattle.loader_machine.specs.Steps.{Sees, IsSeen, Decides, Does, Either, Begins, IsPut, Lands, joined_user, joined_users, lost_from, lost_in, lost_refusal, begun_users, LoadsJoined, LoadsFound, StepsLoad, Activates, MakesActive, setting_in, StandsIn, IsAt, Place, Nowhere, In, IsLocated, EntersEntry, EntersSegment, Enters, target_at_code, address_of, no_jsl, StepsJsl, are_there, RestartsInPlace, again_users, StepsRestart, Steps}
 use Rattle.loader_machine.specs.Needs.{is_read, path_if, NeedsOf, Reaches, restart_reads, Needs, rows_if, rows_of, NeedsBehind, IsReadFor}
 use Rattle.loader_machine.specs.Transcript.{IsAnswered}
-use Rattle.omf_compact.specs.Replaced.{IsLikeReply, SameReply, OtherPlace, AreLikeReplies, AnswersAlike}
+use Rattle.omf_compact.specs.Replaced.{IsLikeReply, SameReply, AnswersAlike}
 use Rattle.omf_compact.specs.laws.Sights.{Sight, sight_of, AreAlike, Shows}
 
 -- ---- segments that are alike

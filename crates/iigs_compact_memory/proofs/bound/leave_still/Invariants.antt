@@ -1,11 +1,11 @@
 use Rattle.std.proofs.Common.{◌≡◌, ◌≤◌, ◌-◌, ◌^◌}
-use Rattle.iigs_compact_memory.proofs.Still.{AreSorted}
+use Rattle.iigs_compact_memory.proofs.Still.{AreMarked}
 use Rattle.iigs_compact_memory.proofs.bound.leave_still.Given as goal
 
--- the blocks below the limit are sorted
+-- the blocks below the limit are marked
 abbrev pub invariant-loop-first : goal.invariant-loop-first
 invariant-loop-first l = record {
-  are : AreSorted l.fn.places.slots l.places.slots l.limit;
+  are : AreMarked l.fn.places.slots l.places.slots l.limit;
   banks : l.places.banks ≡ l.fn.places.banks;
   within : l.limit ≤ 2 ^ 24;
 }
