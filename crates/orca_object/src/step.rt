@@ -68,13 +68,12 @@ fn do_operation(
     requires short { IsShortOption kept.old.segment }
     ensures { IfOk result (λ done. (state : State) → ShowsState state kept.old → IsLeft state (line of.now) operation label (line_operand of.now) done kept.new) }
 {
-    let text = LinePart {
-        bytes: of.part(of.operand),
-    };
+    let operand = of.part(of.operand);
+    let text = LinePart { bytes: operand };
     match operation {
         Operation::Instruct(mnemonic) => do_instruct(alloc, kept, mnemonic, label, of),
         Operation::Direct(Directive::Begin(class)) => {
-            do_begin(alloc, kept, of.file, of.line, class, label, text.bytes)
+            do_begin(alloc, kept, of.file, of.line, class, label, operand)
         }
         Operation::Direct(Directive::Entry) => do_entry(alloc, kept, label),
         Operation::Direct(Directive::Equ) => do_equ(alloc, kept, label, text),
@@ -133,13 +132,11 @@ fn step(alloc: Global, kept: &mut Kept, of: &SourceLine) -> Result<Result<(), As
     let Some(operation) = operation_of(of.part(of.operation)) else {
         return Ok(Err(AsmCause::UnknownOperation));
     };
-    let text = LinePart {
-        bytes: of.part(of.label),
-    };
-    if is_misplaced(kept, operation, text.bytes, of.part(of.operand)) {
+    let text = of.part(of.label);
+    if is_misplaced(kept, operation, text, of.part(of.operand)) {
         return Ok(Err(AsmCause::OutsideSegment));
     }
-    let label = label_of(alloc, kept, operation, text)?;
+    let label = label_of(alloc, kept, operation, LinePart { bytes: text })?;
     finish(alloc, kept, operation, label, of)
 }
 

@@ -13,8 +13,8 @@ use Rattle.orca_object.proofs.statement.parts_in.Goals as goal
 pub elements-init : goal.elements-init
 elements-init c = nothing_yet IsElementAt (element_pieces (constants c.args.known) c.args.msb) part_pieces c.args.text.bytes.now c.new-out.result.items c.new-out.ensures.items
 
-pub element_at-requires : goal.element_at-requires
-element_at-requires c = omega (arith, c.elements.invariant.short, c.args.text.short)
+pub invariant_of-element_at : goal.invariant_of-element_at
+invariant_of-element_at c = record { short = omega (arith, c.elements.invariant.short, c.args.text.short) }
 
 pub returns-in_default-clause-none : goal.returns-in_default-clause-none
 returns-in_default-clause-none c =
