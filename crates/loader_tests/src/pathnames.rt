@@ -1,11 +1,11 @@
-// A file with a pathname segment isn't loaded. Displacements are written by hand from the format.
+// Files with a pathname segment, in the place of one that was loaded and at a load. Displacements are written by hand from the format.
 use crate::asserting::same;
 use crate::programs::{CODE, DYNAMIC, PATHNAMES, TABLE, file_of};
 use load_meaning::{LoadCause, LoadFault};
 use omf_io::{MemoryFiles, WriteFault};
 use std::alloc::{AllocError, Global};
 use std::test::Fail;
-use sys_loader::{Loader, LoaderFault};
+use sys_loader::{Facts, Loader, LoaderFault};
 
 /// Where the pathname segment's bytes stand: behind the other segments, its header and the first five bytes of its record.
 const PATHS: usize = 62 + 63 + 87 + 0x37 + 5;
@@ -95,17 +95,35 @@ fn bad(cause: LoadCause) -> Option<LoaderFault> {
     }))
 }
 
+/// What is told of a file of so many segments, of which none is another one.
+fn many(count: u32) -> Facts {
+    Facts {
+        count,
+        segment: 0,
+        length: 0,
+        kind: 0,
+        bank_size: 0,
+        align: 0,
+        org: 0,
+        entry: 0,
+    }
+}
+
+// The segment is one more than the program had. A load reads the file of its row, which isn't there.
 #[test]
-fn a_pathname_segment_is_unsupported(rt: HostRuntime) -> Result<(), Fail> {
+fn a_pathname_segment_is_one_more(rt: HostRuntime) -> Result<(), Fail> {
     let alloc = rt.alloc();
     let before = plain(alloc)?;
     let later = with_paths(alloc, 2)?;
-    let unsupported = bad(LoadCause::Unsupported);
-    let want: Answers = (None, unsupported, Ok(unsupported));
+    let changed = Some(LoaderFault::Changed {
+        kept: many(3),
+        found: many(4),
+    });
+    let want: Answers = (None, changed, Ok(changed));
     same(&rt, 0, answers(alloc, &before, &later)?, want);
 
     let want: Answers = (
-        unsupported,
+        Some(LoaderFault::CannotRead),
         Some(LoaderFault::NoUser),
         Err(LoaderFault::NoUser),
     );
