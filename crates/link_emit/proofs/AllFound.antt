@@ -11,7 +11,7 @@ use Rattle.link_meaning.specs.Defines.{ForAll}
 use Rattle.link_meaning.specs.Search.{Found, entries, outside_of, outside_from, outside}
 use Rattle.link_meaning.specs.Rings.{has_expr, is_equate}
 use Rattle.link_meaning.specs.LinkValues.{place_value, outside_value}
-use Rattle.link_resolve.specs.Outside.{all_found}
+use Rattle.link_program.specs.Outside.{all_found}
 use Rattle.link_emit.specs.Slots.{label_place}
 
 -- ---- what run-time library files export

@@ -16,9 +16,9 @@ use Rattle.omf_base.specs.declared.spot.Spot.{Spot}
 use Rattle.link_meaning.specs.declared.fault.LinkCause.TheVariants.{Circular}
 use Rattle.link_meaning.specs.declared.fault.LinkFault.{LinkFault}
 use Rattle.link_meaning.specs.LinkFaults.{spot_in}
-use Rattle.link_resolve.specs.Coming.{Coming}
-use Rattle.link_resolve.specs.Linked.{member_at}
-use Rattle.link_resolve.specs.Reading.{memory_fault}
+use Rattle.link_program.specs.Coming.{Coming}
+use Rattle.link_program.specs.Linked.{member_at}
+use Rattle.link_program.specs.Memory.{memory_fault}
 use Rattle.link_emit.specs.Circulars.{DefinesName, IsBehindTitle, defined_so_far, Counting, CountsTo, IsCircularAt}
 use Rattle.link_emit.proofs.FileFacts.{parts_there}
 use Rattle.link_emit.proofs.LocatedLaws.{one_located, located-append, located-more}

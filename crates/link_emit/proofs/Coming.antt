@@ -9,7 +9,7 @@ use Rattle.omf_records.specs.declared.record.Rec.{Rec}
 use Rattle.omf_records.specs.declared.segment.SegmentView.{SegmentView}
 use Rattle.omf_records.specs.Segments.{shown, IsSound}
 use Rattle.omf_records.specs.SegmentLaws.{sound_body}
-use Rattle.link_resolve.specs.Coming.{Coming, Walks, seen_record}
+use Rattle.link_program.specs.Coming.{Coming, Walks, seen_record}
 
 coming_all : (r : Reader) → IsBody r → Coming r (records_of r)
 coming_all r is = record { last = is.last; run = is.run; ended = is.ended }

@@ -9,7 +9,7 @@ use Rattle.omf_format.specs.declared.value.ValueFault.{ValueFault}
 use Rattle.omf_format.specs.declared.value.ValueFault.TheVariants.{NotRelocatable}
 use Rattle.omf_format.specs.Expression.{IsExpression}
 use Rattle.link_meaning.specs.Layout.{load_of, offset_of}
-use Rattle.link_resolve.specs.Linked.{member_at}
+use Rattle.link_program.specs.Linked.{member_at}
 use Rattle.link_meaning.specs.declared.fault.LinkCause.TheVariants.{Circular}
 use Rattle.link_meaning.specs.declared.fault.LinkFault.{LinkFault}
 use Rattle.link_meaning.specs.LinkFaults.{spot_in}
@@ -17,21 +17,21 @@ use Rattle.link_meaning.specs.First.{IsIn}
 use Rattle.link_meaning.specs.laws.MemberLists.{in_filter, filter_in}
 use Rattle.link_meaning.specs.Member.{Member}
 use Rattle.link_meaning.specs.Search.{Found, entries}
-use Rattle.link_resolve.specs.Outside.{all_found}
+use Rattle.link_program.specs.Outside.{all_found}
 use Rattle.link_meaning.specs.Rings.{has_expr, is_equate, equates, LeadsTo, Path, Last, Through, IsCircular}
 use Rattle.link_meaning.specs.LinkValues.{Told, told, outside_value, value_in, equate_value}
 use Rattle.link_meaning.specs.laws.TableLaws.{by_rings}
 use Rattle.link_meaning.specs.EquateValues.{HasValue, ByOthers, TellValues}
 use Rattle.link_meaning.specs.laws.EquateValueLaws.{are_table}
 use Rattle.link_meaning.specs.laws.EquatePlaces.{apart}
-use Rattle.link_resolve.specs.declared.program.Definition as kept
-use Rattle.link_resolve.specs.Programs.{ToldSymbol, symbol_of, told_symbol}
-use Rattle.link_resolve.specs.Reading.{memory_fault}
+use Rattle.link_program.specs.declared.program.Definition as kept
+use Rattle.link_program.specs.Programs.{ToldSymbol, symbol_of, told_symbol}
+use Rattle.link_program.specs.Memory.{memory_fault}
 use Rattle.rings.specs.Graphs as rings
 use Rattle.rings.specs.Graphs.{row_at, Way}
 use Rattle.link_emit.specs.declared.slots.Slot.{Slot}
 use Rattle.link_emit.specs.declared.slots.Slot.TheVariants.{Open, Done, Failed}
-use Rattle.link_resolve.specs.OfFiles.{IsOfFiles}
+use Rattle.link_program.specs.OfFiles.{IsOfFiles}
 use Rattle.link_emit.specs.Slots.{answer_of, row_of, rows_of, label_place, AreSlots, AreOnce}
 use Rattle.link_emit.specs.declared.seat.Seat.{Seat}
 use Rattle.link_emit.specs.Seats.{IsSeat, SeatOf}

@@ -19,14 +19,14 @@ use Rattle.link_meaning.specs.declared.form.LinkForm.TheVariants.{Runtime as Lib
 use Rattle.link_meaning.specs.Sizes.{size_at, located_from, place_behind}
 use Rattle.link_meaning.specs.Defines.{Scope, ForSegment, ForUnit, ForAll, Definition, outer_scope, scope_of, title_of, defined_by, defined_in}
 use Rattle.link_meaning.specs.Search.{Found, entries_from, entries, outside}
-use Rattle.link_resolve.specs.Outside.{all_found}
+use Rattle.link_program.specs.Outside.{all_found}
 use Rattle.link_emit.specs.declared.slots.Slot.{Slot}
 use Rattle.link_emit.specs.Slots.{AreSlots}
 use Rattle.link_meaning.specs.Layout.{load_headers}
 use Rattle.link_meaning.specs.LinkValues.{Told, found_value, if_ok}
 use Rattle.link_meaning.specs.LinkWritten.{export_at, export_of, exports, exports_for}
-use Rattle.link_resolve.specs.Coming.{Coming}
-use Rattle.link_resolve.specs.Linked.{member_at}
+use Rattle.link_program.specs.Coming.{Coming}
+use Rattle.link_program.specs.Linked.{member_at}
 use Rattle.link_emit.specs.Images.{spelled}
 use Rattle.link_emit.specs.Circulars.{defined_so_far, CountsTo}
 use Rattle.link_emit.specs.Exported.{is_public, SeenName, IsSeen, DefinesSeen, IsExported, StandsBefore, Exporting, ExportsTo}

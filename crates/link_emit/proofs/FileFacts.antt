@@ -27,10 +27,10 @@ use Rattle.link_meaning.specs.laws.LinkWrittenLaws.{few_loads}
 use Rattle.link_meaning.specs.laws.ReadMembers.{IsRead, members_read, read_size, read_records}
 use Rattle.link_meaning.specs.laws.EquatePlaces.{in_records, of_record, in_entries_is}
 use Rattle.link_meaning.specs.laws.EquateOrder.{one_number}
-use Rattle.link_resolve.specs.Linked.{member_at}
-use Rattle.link_resolve.specs.OfFiles.{IsOfFiles}
-use Rattle.link_resolve.specs.Outside.{all_found}
-use Rattle.link_resolve.specs.UsesResolve.{use_resolves, in_left, in_right, asked_of, asked_there, found_any}
+use Rattle.link_program.specs.Linked.{member_at}
+use Rattle.link_program.specs.OfFiles.{IsOfFiles}
+use Rattle.link_program.specs.Outside.{all_found}
+use Rattle.link_program.specs.UsesResolve.{use_resolves, in_left, in_right, asked_of, asked_there, found_any}
 use Rattle.link_emit.specs.Slots.{AreOnce}
 use Rattle.link_emit.specs.Equates.{FindOne}
 use Rattle.link_emit.proofs.AllFound.{entry_in, inside_equate}

@@ -12,16 +12,16 @@ use Rattle.link_meaning.specs.Member.{Member}
 use Rattle.link_meaning.specs.Terms.{asks_value, asked_by, asked_in}
 use Rattle.link_meaning.specs.laws.TreeInLaws.{tree_in-again}
 use Rattle.link_meaning.specs.Search.{Found, entries, finds}
-use Rattle.link_resolve.specs.Outside.{all_found}
+use Rattle.link_program.specs.Outside.{all_found}
 use Rattle.link_meaning.specs.Rings.{is_equate, names_in}
-use Rattle.link_resolve.specs.Linked.{member_at}
-use Rattle.link_resolve.specs.Finding.{IsFirstOf, finds_for}
+use Rattle.link_program.specs.Linked.{member_at}
+use Rattle.link_program.specs.Finding.{IsFirstOf, finds_for}
 use Rattle.rings.specs.Graphs as rings
 use Rattle.link_emit.specs.declared.slots.Slot.{Slot}
 use Rattle.link_emit.specs.declared.slots.Slot.TheVariants.{Open, Done}
 use Rattle.link_emit.specs.Equates.{AreFirstSlots, IsOpen, IsRow, NameRow, FindOne}
 use Rattle.link_emit.proofs.ValueLaws.{placed-append}
-use Rattle.link_resolve.specs.OfFiles.{IsOfFiles}
+use Rattle.link_program.specs.OfFiles.{IsOfFiles}
 use Rattle.link_emit.proofs.FileFacts.{spelled_of, find_one_of}
 use Rattle.link_emit.proofs.EquateLaws.{first_at}
 

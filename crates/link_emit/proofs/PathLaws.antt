@@ -15,7 +15,7 @@ use Rattle.load_meaning.specs.laws.WrittenPathLaws.{length-paths_text}
 use Rattle.link_meaning.specs.Member.{RuntimeFile, Member, setting_in}
 use Rattle.link_meaning.specs.LinkWritten.{path_images}
 use Rattle.link_meaning.specs.laws.SettingLaws.{HasPaths, has_paths}
-use Rattle.link_resolve.specs.OfFiles.{IsOfFiles}
+use Rattle.link_program.specs.OfFiles.{IsOfFiles}
 use Rattle.link_emit.specs.Images.{with_space, whole_image}
 use Rattle.link_emit.specs.Paths.{paths_of}
 use Rattle.link_emit.proofs.FileLaws.{text_one}

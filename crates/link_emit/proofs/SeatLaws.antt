@@ -5,11 +5,11 @@ use Rattle.omf_format.specs.declared.value.Value.{Value}
 use Rattle.omf_format.specs.File.{Segment}
 use Rattle.link_meaning.specs.Member.{Member}
 use Rattle.link_meaning.specs.Layout.{load_of, offset_of}
-use Rattle.link_resolve.specs.Outside.{all_found}
+use Rattle.link_program.specs.Outside.{all_found}
 use Rattle.link_meaning.specs.LinkValues.{place_value, environment}
-use Rattle.link_resolve.specs.declared.program.LinkMember.{LinkMember}
-use Rattle.link_resolve.specs.Linked.{member_at}
-use Rattle.link_resolve.specs.Programs.{linked_at}
+use Rattle.link_program.specs.declared.program.LinkMember.{LinkMember}
+use Rattle.link_program.specs.Linked.{member_at}
+use Rattle.link_program.specs.Programs.{linked_at}
 use Rattle.link_emit.specs.declared.seat.Seat.{Seat}
 use Rattle.link_emit.specs.declared.slots.Slot.{Slot}
 use Rattle.link_emit.specs.Slots.{rows_of}

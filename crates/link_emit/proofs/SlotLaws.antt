@@ -12,7 +12,7 @@ use Rattle.link_meaning.specs.LinkValues.{Told, told, found_value, if_ok, label_
 use Rattle.link_emit.specs.declared.slots.Slot.{Slot}
 use Rattle.link_emit.specs.declared.slots.Slot.TheVariants.{Open, Done, Failed}
 use Rattle.link_emit.specs.Slots.{answer_of, value_of, row_of, rows_of, label_place, AreSlots, AreOnce}
-use Rattle.link_resolve.specs.Finding.{IsFirstOf}
+use Rattle.link_program.specs.Finding.{IsFirstOf}
 
 abbrev pub or_open : Option (Result Value ValueFault) → Result Value ValueFault
 or_open None = Err NotRelocatable

@@ -13,11 +13,11 @@ use Rattle.link_meaning.specs.Member.{Member}
 use Rattle.link_meaning.specs.Terms.{tree_in, term_at}
 use Rattle.link_meaning.specs.laws.TreeInLaws.{tree_in-again}
 use Rattle.link_meaning.specs.Search.{Found, finds}
-use Rattle.link_resolve.specs.Outside.{all_found}
+use Rattle.link_program.specs.Outside.{all_found}
 use Rattle.link_meaning.specs.Rings.{has_expr, is_equate}
 use Rattle.link_meaning.specs.LinkValues.{Told, told, place_value, environment, found_value, fault_found, fault_named, settled, tree_value, value_in}
-use Rattle.link_resolve.specs.Linked.{member_at}
-use Rattle.link_resolve.specs.Finding.{IsFirstOf, finds_for}
+use Rattle.link_program.specs.Linked.{member_at}
+use Rattle.link_program.specs.Finding.{IsFirstOf, finds_for}
 use Rattle.link_emit.specs.declared.seat.Seat.{Seat}
 use Rattle.link_emit.specs.declared.slots.Slot.{Slot}
 use Rattle.link_emit.specs.Slots.{answer_of, label_place, AreOnce, AreSlots, rows_of}

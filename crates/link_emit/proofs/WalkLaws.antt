@@ -22,7 +22,7 @@ use Rattle.link_content.specs.Holding.{Holding}
 use Rattle.link_content.specs.declared.fit.Load.{Load}
 use Rattle.link_content.specs.declared.record.Site.{Site}
 use Rattle.link_emit.specs.declared.seat.Seat.{Seat}
-use Rattle.link_resolve.specs.OfFiles.{IsOfFiles}
+use Rattle.link_program.specs.OfFiles.{IsOfFiles}
 use Rattle.link_content.specs.Contents.{HoldsCells}
 use Rattle.link_content.specs.Fits.{told_load}
 use Rattle.link_content.specs.Records.{StandsAt, PutsMade}

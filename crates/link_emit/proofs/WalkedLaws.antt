@@ -30,7 +30,7 @@ use Rattle.link_content.specs.Holding.{Holding}
 use Rattle.link_emit.specs.declared.seat.Seat.{Seat}
 use Rattle.link_content.specs.Contents.{HoldsCells}
 use Rattle.link_emit.specs.Images.{HoldLinked}
-use Rattle.link_resolve.specs.Linked.{member_at}
+use Rattle.link_program.specs.Linked.{member_at}
 use Rattle.link_emit.specs.Seats.{IsSeat, SeatOf}
 use Rattle.link_emit.specs.Walks.{Unmade, StandsBehind, PutsMember, HoldsBehind, HoldBehind, IsWalkedTo, AreEmpty, IsFilled}
 use Rattle.link_emit.proofs.FileFacts.{parts_there}

@@ -4,7 +4,7 @@ use Rattle.link_meaning.specs.declared.fault.LinkFault.{LinkFault}
 use Rattle.link_meaning.specs.Member.{Member}
 use Rattle.link_meaning.specs.LinkFaults.{Given}
 use Rattle.link_meaning.specs.EmitFaults.{IsFirstEmitFault, IsFirstLinkFault}
-use Rattle.link_resolve.specs.Reading.{memory_fault}
+use Rattle.link_program.specs.Memory.{memory_fault}
 
 -- it is the first fault of the list in the phases behind layout, unless memory ran out
 abbrev pub IsEmitRefused : List Member → LinkFault → Type 0

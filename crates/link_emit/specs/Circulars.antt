@@ -6,14 +6,14 @@ use Rattle.omf_format.specs.Record.{Record}
 use Rattle.omf_format.specs.Reading.{Reader}
 use Rattle.omf_format.specs.File.{Segment}
 use Rattle.link_meaning.specs.Sizes.{located_from}
-use Rattle.link_resolve.specs.Coming.{Coming}
+use Rattle.link_program.specs.Coming.{Coming}
 use Rattle.link_meaning.specs.declared.fault.LinkCause.TheVariants.{Circular}
 use Rattle.link_meaning.specs.declared.fault.LinkFault.{LinkFault}
 use Rattle.link_meaning.specs.Member.{Member}
 use Rattle.link_meaning.specs.Defines.{Definition, title_of, defined_by, defined_in}
 use Rattle.link_meaning.specs.Search.{Found, entries_from, entries}
 use Rattle.link_meaning.specs.LinkFaults.{spot_in}
-use Rattle.link_resolve.specs.Reading.{memory_fault}
+use Rattle.link_program.specs.Memory.{memory_fault}
 
 -- a record defines nothing, or one thing with this name
 abbrev pub DefinesName : ℕ → List Definition → Option (List ℕ) → Type 0

@@ -6,12 +6,12 @@ use Rattle.link_meaning.specs.declared.fault.LinkFault.{LinkFault}
 use Rattle.link_meaning.specs.First.{IsIn, IsFirst}
 use Rattle.link_meaning.specs.Member.{Member}
 use Rattle.link_meaning.specs.Search.{Found, finds}
-use Rattle.link_resolve.specs.Outside.{all_found}
+use Rattle.link_program.specs.Outside.{all_found}
 use Rattle.link_meaning.specs.Rings.{is_equate, equates, LeadsTo}
 use Rattle.link_meaning.specs.LinkValues.{IsTable}
 use Rattle.link_meaning.specs.EquateValues.{HasValue}
 use Rattle.link_meaning.specs.EmitFaults.{HasRingFault}
-use Rattle.link_resolve.specs.Reading.{memory_fault}
+use Rattle.link_program.specs.Memory.{memory_fault}
 use Rattle.link_emit.specs.declared.slots.Slot.{Slot}
 use Rattle.link_emit.specs.declared.slots.Slot.TheVariants.{Open, Done, Failed}
 use Rattle.rings.specs.Graphs.{row_at}

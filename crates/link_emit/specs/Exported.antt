@@ -9,7 +9,7 @@ use Rattle.link_meaning.specs.Defines.{Scope, ForSegment, ForUnit, ForAll, Defin
 use Rattle.link_meaning.specs.Search.{entries_from, entries}
 use Rattle.link_meaning.specs.LinkValues.{Told}
 use Rattle.link_meaning.specs.LinkWritten.{export_of}
-use Rattle.link_resolve.specs.Coming.{Coming}
+use Rattle.link_program.specs.Coming.{Coming}
 use Rattle.link_emit.specs.declared.exports.Seen as kept
 use Rattle.link_emit.specs.Images.{spelled}
 use Rattle.link_emit.specs.Circulars.{defined_so_far}

@@ -2,7 +2,7 @@
 use Rattle.std.specs.Prelude.{ℕ, List, [], ◌∷◌, Option, Some, None, ◌==◌, if◌then◌else◌}
 use Rattle.std.specs.Option.{option_or}
 use Rattle.omf_format.specs.Expression.{Term, Operator, Location, Constant, Named, Offset}
-use Rattle.link_resolve.specs.Programs.{ToldSymbol}
+use Rattle.link_program.specs.Programs.{ToldSymbol}
 
 -- its length ($84), type ($85) or count
 abbrev pub attribute_told : ℕ → ToldSymbol → ℕ

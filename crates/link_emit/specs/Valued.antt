@@ -3,7 +3,7 @@ use Rattle.std.specs.Prelude.{◌≡◌, ◌<◌, ◌+◌, ◌^◌, ℕ, List, S
 use Rattle.link_meaning.specs.Member.{Member}
 use Rattle.link_meaning.specs.Layout.{offset_of}
 use Rattle.link_meaning.specs.LinkValues.{Told}
-use Rattle.link_resolve.specs.Linked.{member_at}
+use Rattle.link_program.specs.Linked.{member_at}
 
 -- a linked list, and what its equates are worth
 pub record Valued : Type 0 where

@@ -127,5 +127,5 @@ ghost use Rattle.std.specs.Prelude.{◌⊎◌, Some};
 ghost use Rattle.link_meaning.specs.declared.fault.LinkCause.TheVariants.{Circular};
 ghost use Rattle.link_meaning.specs.Member.{Member};
 ghost use Rattle.link_meaning.specs.LinkFaults.{spot_in};
-ghost use Rattle.link_resolve.specs.Linked.{member_at};
-ghost use Rattle.link_resolve.specs.Reading.{memory_fault};
+ghost use Rattle.link_program.specs.Linked.{member_at};
+ghost use Rattle.link_program.specs.Memory.{memory_fault};

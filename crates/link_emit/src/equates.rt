@@ -6,10 +6,10 @@ ghost use Rattle.rings.specs.Graphs.{IsIn, row_at};
 ghost use Rattle.omf_format.specs.declared.value.Value.TheVariants.{At};
 ghost use Rattle.link_meaning.specs.LinkValues.{equate_value};
 ghost use Rattle.link_meaning.specs.Search.{Found};
-ghost use Rattle.link_resolve.specs.Outside.{all_found};
+ghost use Rattle.link_program.specs.Outside.{all_found};
 ghost use Rattle.link_meaning.specs.Rings.{is_equate};
-ghost use Rattle.link_resolve.specs.Programs.{symbol_of, told_symbol};
-ghost use Rattle.link_resolve.specs.OfFiles.{IsOfFiles};
+ghost use Rattle.link_program.specs.Programs.{symbol_of, told_symbol};
+ghost use Rattle.link_program.specs.OfFiles.{IsOfFiles};
 ghost use Rattle.link_emit.specs.Slots.{answer_of, rows_of};
 ghost use Rattle.link_emit.specs.Equates.{IsFirstSlot, AreFirstSlots, IsOpen, AreTrue, AreRows, AreSettled, open_count, with_slot, AreValues, IsRingRefused};
 

@@ -13,7 +13,7 @@ ghost use Rattle.link_meaning.specs.Search.{Found, entries};
 ghost use Rattle.link_meaning.specs.Layout.{load_headers};
 ghost use Rattle.link_meaning.specs.LinkValues.{found_value};
 ghost use Rattle.link_meaning.specs.LinkWritten.{export_at, exports, exports_for};
-ghost use Rattle.link_resolve.specs.Outside.{all_found};
+ghost use Rattle.link_program.specs.Outside.{all_found};
 ghost use Rattle.link_content.specs.Fits.{told_load};
 ghost use Rattle.link_emit.specs.Slots.{AreOnce, AreSlots, rows_of};
 ghost use Rattle.link_emit.specs.Seats.{AreKnown};

@@ -11,7 +11,7 @@ ghost use Rattle.link_meaning.specs.LinkedCells.{targets};
 ghost use Rattle.link_meaning.specs.LinkWritten.{table_images, written_file};
 ghost use Rattle.link_meaning.specs.EmitFaults.{most_bytes};
 ghost use Rattle.link_content.specs.Contents.{HoldsCells};
-ghost use Rattle.link_resolve.specs.OfFiles.{IsOfFiles};
+ghost use Rattle.link_program.specs.OfFiles.{IsOfFiles};
 ghost use Rattle.link_emit.specs.Images.{AreReady, AreLoads, images_behind, linked_exports};
 
 use crate::image::{ImageFault, put_image, put_images};

@@ -7,10 +7,10 @@ ghost use Rattle.omf_expr.specs.View.{view};
 ghost use Rattle.link_meaning.specs.Member.{Member};
 ghost use Rattle.link_meaning.specs.Terms.{asks_value};
 ghost use Rattle.link_meaning.specs.Search.{Found};
-ghost use Rattle.link_resolve.specs.Outside.{all_found};
-ghost use Rattle.link_resolve.specs.Programs.{symbol_of, told_symbol};
-ghost use Rattle.link_resolve.specs.Linked.{member_at};
-ghost use Rattle.link_resolve.specs.OfFiles.{IsOfFiles};
+ghost use Rattle.link_program.specs.Outside.{all_found};
+ghost use Rattle.link_program.specs.Programs.{symbol_of, told_symbol};
+ghost use Rattle.link_program.specs.Linked.{member_at};
+ghost use Rattle.link_program.specs.OfFiles.{IsOfFiles};
 ghost use Rattle.link_emit.specs.Equates.{AreFirstSlots, IsRow, AreRows, NameRow, FindOne};
 
 use crate::equates::is_open;

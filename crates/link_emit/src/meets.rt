@@ -1,7 +1,7 @@
 //! What an expression meets in a member of the program.
 
 ghost use Rattle.std.specs.Prelude.{◌≡◌};
-ghost use Rattle.link_resolve.specs.Programs.{symbol_of};
+ghost use Rattle.link_program.specs.Programs.{symbol_of};
 ghost use Rattle.link_emit.specs.Told.{attribute_told};
 
 use crate::slots::{Slot, label_of};

@@ -11,7 +11,7 @@ ghost use Rattle.load_meaning.specs.Pathnames.{paths_text};
 ghost use Rattle.load_meaning.specs.WrittenFile.{image_text, file_text, pathnames_fields};
 ghost use Rattle.link_meaning.specs.Member.{setting_in};
 ghost use Rattle.link_meaning.specs.LinkWritten.{path_images};
-ghost use Rattle.link_resolve.specs.OfFiles.{IsOfFiles};
+ghost use Rattle.link_program.specs.OfFiles.{IsOfFiles};
 ghost use Rattle.link_emit.specs.Images.{with_space, whole_image};
 ghost use Rattle.link_emit.specs.Paths.{paths_of};
 

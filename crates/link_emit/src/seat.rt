@@ -1,6 +1,6 @@
 //! Where a member of the program stands.
 
-ghost use Rattle.link_resolve.specs.Linked.{member_at};
+ghost use Rattle.link_program.specs.Linked.{member_at};
 ghost use Rattle.link_emit.specs.Seats.{SeatOf};
 
 use link_resolve::Program;

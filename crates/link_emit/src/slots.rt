@@ -4,7 +4,7 @@ ghost use Rattle.std.specs.Prelude.{◌≡◌, List};
 ghost use Rattle.link_meaning.specs.Member.{Member};
 ghost use Rattle.link_meaning.specs.Search.{Found};
 ghost use Rattle.link_meaning.specs.LinkValues.{label_value};
-ghost use Rattle.link_resolve.specs.Finding.{IsFirstOf};
+ghost use Rattle.link_program.specs.Finding.{IsFirstOf};
 ghost use Rattle.link_emit.specs.Slots.{AreOnce, AreSlots, rows_of, value_of};
 
 use omf_format::{Value, ValueFault};

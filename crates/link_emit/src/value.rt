@@ -5,10 +5,10 @@ ghost use Rattle.omf_format.specs.Expression.{Tree, Spells, IsExpression, terms_
 ghost use Rattle.omf_expr.specs.View.{view};
 ghost use Rattle.link_meaning.specs.Member.{Member};
 ghost use Rattle.link_meaning.specs.Search.{Found};
-ghost use Rattle.link_resolve.specs.Outside.{all_found};
+ghost use Rattle.link_program.specs.Outside.{all_found};
 ghost use Rattle.link_meaning.specs.Terms.{term_at};
 ghost use Rattle.link_meaning.specs.LinkValues.{fault_found, fault_named, place_value, value_in};
-ghost use Rattle.link_resolve.specs.Finding.{IsFirstOf};
+ghost use Rattle.link_program.specs.Finding.{IsFirstOf};
 ghost use Rattle.link_emit.specs.Slots.{AreOnce, AreSlots, rows_of};
 ghost use Rattle.link_emit.specs.Seats.{IsSeat, AreKnown};
 ghost use Rattle.link_emit.specs.Told.{operand, operand_in};
@@ -111,7 +111,7 @@ fn fault_at(
     }
 }
 
-ghost use Rattle.link_resolve.specs.Linked.{member_at};
+ghost use Rattle.link_program.specs.Linked.{member_at};
 
 /// The value of an expression of a member, where so many of its cells are before the record.
 pub fn value_in(

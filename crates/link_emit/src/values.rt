@@ -5,7 +5,7 @@ ghost use Rattle.omf_format.specs.Expression.{IsExpression};
 ghost use Rattle.link_meaning.specs.Member.{Member};
 ghost use Rattle.link_meaning.specs.LinkValues.{IsTable, place_value, value_in};
 ghost use Rattle.link_meaning.specs.LinkedCells.{targets};
-ghost use Rattle.link_resolve.specs.Linked.{member_at};
+ghost use Rattle.link_program.specs.Linked.{member_at};
 ghost use Rattle.link_emit.specs.Answers.{IsEmitRefused};
 ghost use Rattle.link_emit.specs.Valued.{HasPlace};
 
@@ -29,7 +29,7 @@ pub struct Values<'e, 'a> {
 }
 
 impl<'e, 'a> Model for Values<'e, 'a> {
-    ghost use Rattle.link_resolve.specs.Outside.{all_found};
+    ghost use Rattle.link_program.specs.Outside.{all_found};
     ghost use Rattle.link_emit.specs.Slots.{rows_of};
     ghost use Rattle.link_emit.specs.Equates.{AreValues};
     ghost use Rattle.link_emit.specs.Valued.{Valued};

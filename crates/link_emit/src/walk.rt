@@ -6,9 +6,9 @@ ghost use Rattle.omf_records.specs.View.{view};
 ghost use Rattle.load_meaning.specs.Cells.{Cell};
 ghost use Rattle.link_meaning.specs.declared.fault.LinkCause.TheVariants as causes;
 ghost use Rattle.link_meaning.specs.Member.{Member};
-ghost use Rattle.link_resolve.specs.Outside.{all_found};
+ghost use Rattle.link_program.specs.Outside.{all_found};
 ghost use Rattle.link_meaning.specs.LinkedCells.{Item, bank_of};
-ghost use Rattle.link_resolve.specs.Uses.{HasSpelling};
+ghost use Rattle.link_program.specs.Uses.{HasSpelling};
 ghost use Rattle.link_emit.specs.Slots.{rows_of};
 ghost use Rattle.link_emit.specs.Seats.{IsSeat};
 ghost use Rattle.link_content.specs.Records.{IsWorth};
@@ -215,7 +215,7 @@ fn fault_in(program: &Program, place: u32, cause: LinkCause, at: u32) -> LinkFau
 
 ghost use Rattle.std.specs.Prelude.{Some, None};
 ghost use Rattle.link_meaning.specs.LinkFaults.{spot_in};
-ghost use Rattle.link_resolve.specs.Linked.{member_at};
+ghost use Rattle.link_program.specs.Linked.{member_at};
 
 /// Puts what the member at a place, from 1, gives, behind what the members before it gave.
 fn put_member<'a>(

@@ -5,8 +5,8 @@ ghost use Rattle.omf_format.specs.Header.{Fields};
 ghost use Rattle.omf_header.specs.View.{fields};
 ghost use Rattle.link_meaning.specs.Member.{Member};
 ghost use Rattle.link_meaning.specs.Layout.{load_headers};
-ghost use Rattle.link_resolve.specs.Linked.{member_at};
-ghost use Rattle.link_resolve.specs.Programs.{header_at};
+ghost use Rattle.link_program.specs.Linked.{member_at};
+ghost use Rattle.link_program.specs.Programs.{header_at};
 ghost use Rattle.link_map.specs.MapText.{numbered, member_line, text_in, load_line, load_text};
 ghost use Rattle.link_map.specs.Standing.{HasMember, HasLoad};
 

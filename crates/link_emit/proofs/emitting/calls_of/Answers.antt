@@ -1,5 +1,5 @@
 use Rattle.std.proofs.Common.{◌+◌, ℕ, map, ap, ◌∙◌, arith}
-use Rattle.link_resolve.specs.Outside.{all_found}
+use Rattle.link_program.specs.Outside.{all_found}
 use Rattle.link_content.specs.Fits.{told_load}
 use Rattle.link_emit.specs.Slots.{rows_of}
 use Rattle.link_emit.proofs.FileFacts.{few_of}

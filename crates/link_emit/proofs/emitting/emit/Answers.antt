@@ -1,5 +1,5 @@
 use Rattle.std.proofs.Common.{◌+◌, ℕ, Vec, Global, Result, Err, map, sym, ap, subst, ◌∙◌, arith}
-use Rattle.link_resolve.specs.Outside.{all_found}
+use Rattle.link_program.specs.Outside.{all_found}
 use Rattle.link_emit.specs.declared.image.ImageFault.{ImageFault}
 use Rattle.link_emit.specs.Answers.{IsEmitRefused}
 use Rattle.link_emit.specs.Equates.{AreValues}

@@ -1,6 +1,6 @@
 use Rattle.std.proofs.Common.{◌≡◌, ℕ, sym, ap, ◌∙◌}
 use Rattle.link_meaning.specs.LinkValues.{place_value}
-use Rattle.link_resolve.specs.Programs.{ToldSymbol}
+use Rattle.link_program.specs.Programs.{ToldSymbol}
 use Rattle.link_emit.proofs.AllFound.{inside_place, inside_label, outside_label}
 use Rattle.link_emit.proofs.EquateLaws.{no_text, first_label, no_seat, its_seat, seat_near, outside_told}
 use Rattle.link_emit.proofs.equates.first_slot.Goals as goal

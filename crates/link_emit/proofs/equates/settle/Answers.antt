@@ -2,7 +2,7 @@ use Rattle.std.proofs.Common.{◌≡◌, ◌<◌, ℕ, List, Option, Some, refl,
 use Rattle.std.specs.Prelude.{Result}
 use Rattle.omf_format.specs.declared.value.Value.{Value}
 use Rattle.omf_format.specs.declared.value.ValueFault.{ValueFault}
-use Rattle.link_resolve.specs.Outside.{all_found}
+use Rattle.link_program.specs.Outside.{all_found}
 use Rattle.link_meaning.specs.LinkValues.{equate_value}
 use Rattle.rings.specs.Graphs as rings
 use Rattle.link_emit.specs.declared.slots.Slot.{Slot}

@@ -1,10 +1,10 @@
 use Rattle.std.proofs.Common.{Option, Some, Result, Ok, Err, ap, ◌∙◌}
 use Rattle.omf_format.specs.declared.value.Value.{Value}
 use Rattle.omf_format.specs.declared.value.ValueFault.{ValueFault}
-use Rattle.link_resolve.specs.Outside.{all_found}
+use Rattle.link_program.specs.Outside.{all_found}
 use Rattle.link_meaning.specs.Rings.{has_expr}
 use Rattle.link_meaning.specs.LinkValues.{equate_value}
-use Rattle.link_resolve.specs.Programs.{ToldSymbol, symbol_of}
+use Rattle.link_program.specs.Programs.{ToldSymbol, symbol_of}
 use Rattle.link_emit.specs.Slots.{rows_of}
 use Rattle.link_emit.proofs.AllFound.{inside_equate}
 use Rattle.link_emit.proofs.EquateLaws.{text_of, told_there, no_seat, seat_near, seat_spelled, equate_worth, one_found}

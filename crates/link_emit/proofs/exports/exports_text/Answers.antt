@@ -1,6 +1,6 @@
 use Rattle.std.proofs.Common.{sym, subst, ◌∙◌, arith}
 use Rattle.omf_records.specs.Segments.{shown}
-use Rattle.link_resolve.specs.Outside.{all_found}
+use Rattle.link_program.specs.Outside.{all_found}
 use Rattle.link_emit.specs.Slots.{rows_of}
 use Rattle.link_emit.specs.Exported.{ExportsTo}
 use Rattle.link_emit.proofs.ExportLaws.{exports_none, stands_before, exports_more, exports_all}

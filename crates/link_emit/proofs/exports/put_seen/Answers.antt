@@ -3,11 +3,11 @@ use Rattle.omf_format.specs.Record.{Record}
 use Rattle.link_meaning.specs.Layout.{load_headers}
 use Rattle.link_meaning.specs.LinkValues.{found_value}
 use Rattle.link_meaning.specs.LinkWritten.{export_at}
-use Rattle.link_resolve.specs.Outside.{all_found}
+use Rattle.link_program.specs.Outside.{all_found}
 use Rattle.link_emit.specs.Images.{spelled}
 use Rattle.link_emit.specs.Slots.{rows_of}
 use Rattle.link_emit.proofs.AllFound.{outer_at}
-use Rattle.link_resolve.proofs.OnOks.{on_ok}
+use Rattle.link_program.proofs.OnOks.{on_ok}
 use Rattle.link_emit.proofs.ExportLaws.{export_public, export_other, exported_more}
 use Rattle.link_emit.proofs.exports.put_seen.Goals as goal
 

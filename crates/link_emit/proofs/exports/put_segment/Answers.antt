@@ -3,7 +3,7 @@ use Rattle.omf_format.specs.Field.{Layout, IsName}
 use Rattle.omf_format.specs.Record.{Record}
 use Rattle.omf_records.specs.Segments.{shown}
 use Rattle.omf_records.specs.View.{view}
-use Rattle.link_resolve.specs.Outside.{all_found}
+use Rattle.link_program.specs.Outside.{all_found}
 use Rattle.link_emit.specs.Slots.{rows_of}
 use Rattle.link_emit.specs.Exported.{seen_name}
 use Rattle.link_emit.proofs.Coming.{coming_view, body_lab_len, found_next, found_end}

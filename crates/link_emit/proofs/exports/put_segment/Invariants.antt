@@ -1,6 +1,6 @@
 use Rattle.std.proofs.Common.{◌≡◌, length}
 use Rattle.omf_records.specs.Segments.{shown}
-use Rattle.link_resolve.specs.Outside.{all_found}
+use Rattle.link_program.specs.Outside.{all_found}
 use Rattle.link_emit.specs.Slots.{rows_of}
 use Rattle.link_emit.specs.Exported.{Exporting}
 use Rattle.link_emit.proofs.exports.put_segment.Given as goal

@@ -1,6 +1,6 @@
 use Rattle.link_meaning.specs.Member.{setting_in}
 use Rattle.link_emit.proofs.FileLaws.{rest_text, rest_long, rest_first}
-use Rattle.link_resolve.proofs.OnOks.{on_ok}
+use Rattle.link_program.proofs.OnOks.{on_ok}
 use Rattle.link_emit.proofs.file.put_rest.Goals as goal
 
 pub returns-in-Err-clause-too_long : goal.returns-in-Err-clause-too_long

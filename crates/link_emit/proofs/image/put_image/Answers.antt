@@ -6,7 +6,7 @@ use Rattle.omf_cells.specs.WrittenParts.{seen}
 use Rattle.load_meaning.specs.WrittenFile.{image_text}
 use Rattle.load_meaning.specs.WrittenBody.{zeros_behind, written_cells, body_text}
 use Rattle.link_emit.specs.Images.{with_space, image_in}
-use Rattle.link_resolve.proofs.OnOks.{on_ok}
+use Rattle.link_program.proofs.OnOks.{on_ok}
 use Rattle.link_emit.proofs.ImageLaws.{zeros_fit, space_writable, text_is, text_size, err_moved, behind_size, closed}
 use Rattle.link_emit.proofs.image.put_image.Goals as goal
 

@@ -2,7 +2,7 @@ use Rattle.std.proofs.Common.{◌≡◌, ◌++◌, ℕ, Some, List, [], length}
 use Rattle.std.specs.List.{flat_map}
 use Rattle.link_meaning.specs.Member.{Member}
 use Rattle.link_meaning.specs.Terms.{asks_value}
-use Rattle.link_resolve.specs.Linked.{member_at}
+use Rattle.link_program.specs.Linked.{member_at}
 use Rattle.link_emit.specs.Equates.{NameRow, FindOne}
 use Rattle.link_emit.proofs.leads.add_leads.Given as goal
 

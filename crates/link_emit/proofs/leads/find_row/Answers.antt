@@ -1,8 +1,8 @@
 use Rattle.std.proofs.Common.{◌≡◌, ◌∙◌, ℕ, Result, Ok, Err, Some, ap}
 use Rattle.std.specs.Prelude.{OnOk, slice_get}
 use Rattle.link_meaning.specs.Search.{Found}
-use Rattle.link_resolve.specs.Outside.{all_found}
-use Rattle.link_resolve.specs.Programs.{ToldSymbol, symbol_of, told_symbol}
+use Rattle.link_program.specs.Outside.{all_found}
+use Rattle.link_program.specs.Programs.{ToldSymbol, symbol_of, told_symbol}
 use Rattle.link_emit.specs.Equates.{IsRow}
 use Rattle.link_meaning.specs.Rings.{has_expr}
 use Rattle.link_emit.proofs.AllFound.{inside_equate}

@@ -1,7 +1,7 @@
 use Rattle.std.proofs.Common.{◌++◌, ◌∷◌, [], ℕ, take, length, List, sym, ap, subst, ◌∙◌}
 use Rattle.std.specs.Prelude.{slice_get}
-use Rattle.link_resolve.specs.Outside.{all_found}
-use Rattle.link_resolve.specs.Programs.{symbol_of}
+use Rattle.link_program.specs.Outside.{all_found}
+use Rattle.link_program.specs.Programs.{symbol_of}
 use Rattle.link_emit.specs.Equates.{AreRows}
 use Rattle.link_emit.proofs.EquateLaws.{told_there, rows_more}
 use Rattle.link_emit.proofs.leads.leads_of.Goals as goal

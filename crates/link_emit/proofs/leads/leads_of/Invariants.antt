@@ -1,5 +1,5 @@
 use Rattle.std.proofs.Common.{◌-◌, take, length}
-use Rattle.link_resolve.specs.Outside.{all_found}
+use Rattle.link_program.specs.Outside.{all_found}
 use Rattle.link_emit.specs.Equates.{AreRows}
 use Rattle.link_emit.proofs.leads.leads_of.Given as goal
 

@@ -3,7 +3,7 @@ use Rattle.std.specs.Prelude.{slice_get}
 use Rattle.std.proofs.lemmas.Bool.{ltb-false}
 use Rattle.std.proofs.lemmas.Option.{slice_get-get_or, slice_get_past}
 use Rattle.link_emit.specs.declared.slots.Slot.{Slot}
-use Rattle.link_resolve.specs.Finding.{IsFirstOf}
+use Rattle.link_program.specs.Finding.{IsFirstOf}
 use Rattle.link_emit.proofs.SlotLaws.{label_is, no_label}
 use Rattle.link_emit.proofs.slots.label_of.Goals as goal
 

@@ -2,8 +2,8 @@ use Rattle.std.proofs.Common.{Some, None, sym, ap, ◌∙◌}
 use Rattle.omf_expr.specs.View.{view}
 use Rattle.omf_expr.specs.declared.term.Term as declared
 use Rattle.omf_format.specs.Expression.{Operator, Location, Constant, Named, Offset}
-use Rattle.link_resolve.specs.Outside.{all_found}
-use Rattle.link_resolve.specs.Finding.{found_in}
+use Rattle.link_program.specs.Outside.{all_found}
+use Rattle.link_program.specs.Finding.{found_in}
 use Rattle.link_emit.specs.Slots.{rows_of}
 use Rattle.link_emit.proofs.ValueLaws.{asked_fault, named_fault, other_fault}
 use Rattle.link_emit.proofs.value.fault_at.Goals as goal

@@ -4,7 +4,7 @@ use Rattle.std.proofs.lemmas.Bool.{ltb-false}
 use Rattle.std.proofs.lemmas.Option.{slice_get-get_or, slice_get_past}
 use Rattle.link_emit.specs.declared.slots.Slot.{Slot}
 use Rattle.link_emit.specs.declared.slots.Slot.TheVariants.{Open, Done, Failed}
-use Rattle.link_resolve.specs.Finding.{IsFirstOf}
+use Rattle.link_program.specs.Finding.{IsFirstOf}
 use Rattle.link_emit.proofs.SlotLaws.{no_label}
 use Rattle.link_emit.proofs.ValueLaws.{fault_says}
 use Rattle.link_emit.proofs.value.fault_of.Goals as goal

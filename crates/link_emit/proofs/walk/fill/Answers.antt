@@ -1,7 +1,7 @@
 use Rattle.std.proofs.Common.{ℕ, length, ap, sym, subst, ◌∙◌, arith, List}
 use Rattle.std.proofs.lemmas.List.{length-map}
 use Rattle.load_meaning.specs.declared.table.Target.{Target}
-use Rattle.link_resolve.specs.Outside.{all_found}
+use Rattle.link_program.specs.Outside.{all_found}
 use Rattle.link_meaning.specs.Layout.{load_headers}
 use Rattle.link_content.specs.Fits.{told_load}
 use Rattle.link_emit.specs.Slots.{rows_of}

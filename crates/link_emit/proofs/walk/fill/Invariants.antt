@@ -1,5 +1,5 @@
 use Rattle.std.proofs.Common.{◌-◌, length}
-use Rattle.link_resolve.specs.Outside.{all_found}
+use Rattle.link_program.specs.Outside.{all_found}
 use Rattle.link_emit.specs.Slots.{rows_of}
 use Rattle.link_emit.specs.Walks.{IsWalkedTo}
 use Rattle.link_emit.proofs.walk.fill.Given as goal

@@ -2,10 +2,10 @@ use Rattle.std.proofs.Common.{◌≡◌, inl, inr, ◌+◌, ◌-◌, ◌≤◌, 
 use Rattle.std.specs.Prelude.{slice_get, slice_set}
 use Rattle.std.proofs.lemmas.Option.{slice_get_read}
 use Rattle.omf_records.specs.Segments.{shown}
-use Rattle.link_resolve.specs.Outside.{all_found}
+use Rattle.link_program.specs.Outside.{all_found}
 use Rattle.link_meaning.specs.laws.LinkedWalk.{linked_behind}
 use Rattle.link_meaning.specs.declared.fault.LinkFault.{LinkFault}
-use Rattle.link_resolve.specs.Linked.{member_at}
+use Rattle.link_program.specs.Linked.{member_at}
 use Rattle.link_emit.specs.Slots.{rows_of}
 use Rattle.link_emit.specs.Walks.{IsWalkedTo}
 use Rattle.link_emit.proofs.WalkedLaws.{load_within, stands_behind, walked_more, first_fault, load_some, next_walked, segment_is, seat_there, seat_gone}

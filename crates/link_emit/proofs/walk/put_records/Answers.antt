@@ -5,7 +5,7 @@ use Rattle.omf_records.specs.Segments.{shown}
 use Rattle.omf_records.specs.View.{view}
 use Rattle.link_meaning.specs.Sizes.{size_at, place_behind}
 use Rattle.link_meaning.specs.Layout.{load_headers}
-use Rattle.link_resolve.specs.Outside.{all_found}
+use Rattle.link_program.specs.Outside.{all_found}
 use Rattle.link_meaning.specs.LinkedCells.{made}
 use Rattle.link_meaning.specs.laws.LinkedRuns.{item}
 use Rattle.link_emit.specs.Slots.{rows_of}

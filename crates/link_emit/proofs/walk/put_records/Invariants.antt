@@ -2,7 +2,7 @@ use Rattle.std.proofs.Common.{◌≡◌, length, List}
 use Rattle.omf_records.specs.Segments.{shown}
 use Rattle.load_meaning.specs.Cells.{Cell}
 use Rattle.link_meaning.specs.Member.{Member}
-use Rattle.link_resolve.specs.Outside.{all_found}
+use Rattle.link_program.specs.Outside.{all_found}
 use Rattle.link_emit.specs.Slots.{rows_of}
 use Rattle.link_emit.specs.Walks.{Begins, Puts, Putting}
 use Rattle.link_emit.proofs.walk.put_records.Given as goal

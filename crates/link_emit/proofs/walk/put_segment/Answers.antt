@@ -1,6 +1,6 @@
 use Rattle.std.proofs.Common.{◌-◌, ◌++◌, ℕ, length, subst, arith}
 use Rattle.omf_records.specs.Segments.{shown}
-use Rattle.link_resolve.specs.Outside.{all_found}
+use Rattle.link_program.specs.Outside.{all_found}
 use Rattle.link_meaning.specs.LinkedCells.{zeros}
 use Rattle.link_content.specs.Contents.{HoldsCells}
 use Rattle.link_emit.specs.Slots.{rows_of}

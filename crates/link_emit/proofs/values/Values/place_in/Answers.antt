@@ -2,7 +2,7 @@ use Rattle.std.proofs.Common.{◌≡◌, ℕ, List, ap, ◌∙◌, arith}
 use Rattle.link_meaning.specs.Member.{Member}
 use Rattle.link_meaning.specs.Layout.{offset_of}
 use Rattle.link_meaning.specs.LinkValues.{place_value}
-use Rattle.link_resolve.specs.Linked.{member_at}
+use Rattle.link_program.specs.Linked.{member_at}
 use Rattle.link_emit.specs.Valued.{Valued}
 use Rattle.link_emit.proofs.WalkedLaws.{seat_there, seat_gone}
 use Rattle.link_emit.proofs.values.Values.place_in.Goals as goal

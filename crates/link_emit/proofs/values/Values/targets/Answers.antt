@@ -1,7 +1,7 @@
 use Rattle.std.proofs.Common.{◌≡◌, List, sym, subst}
 use Rattle.std.specs.Prelude.{IfOk, IfErr}
 use Rattle.link_meaning.specs.LinkedCells.{targets}
-use Rattle.link_resolve.specs.Outside.{all_found}
+use Rattle.link_program.specs.Outside.{all_found}
 use Rattle.link_emit.specs.declared.slots.Slot.{Slot}
 use Rattle.link_emit.specs.Answers.{IsEmitRefused}
 use Rattle.link_emit.specs.Equates.{AreValues}

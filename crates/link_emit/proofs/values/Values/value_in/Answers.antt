@@ -3,8 +3,8 @@ use Rattle.omf_format.specs.Expression.{IsExpression}
 use Rattle.link_meaning.specs.Member.{Member}
 use Rattle.link_meaning.specs.Layout.{offset_of}
 use Rattle.link_meaning.specs.LinkValues.{value_in}
-use Rattle.link_resolve.specs.Linked.{member_at}
-use Rattle.link_resolve.specs.Outside.{all_found}
+use Rattle.link_program.specs.Linked.{member_at}
+use Rattle.link_program.specs.Outside.{all_found}
 use Rattle.link_emit.specs.declared.slots.Slot.{Slot}
 use Rattle.link_emit.specs.Slots.{rows_of}
 use Rattle.link_emit.specs.Seats.{AreKnown}
