@@ -12,7 +12,7 @@ ghost use Rattle.link_content.specs.Fits.{shown, shown_frame, told_fit, told_loa
 
 use jump_table::Target;
 use link_meaning::{LinkCause, LinkForm};
-use link_resolve::Program;
+use link_program::Program;
 use omf_format::Value;
 
 /// The code of EXPR.

@@ -16,7 +16,7 @@ use crate::content::Content;
 use crate::fit::{Fit, Formula, Frame, Load, fitted};
 use jump_table::{Table, TableFault, Target};
 use link_meaning::LinkCause;
-use link_resolve::Program;
+use link_program::Program;
 use omf_base::front;
 use omf_format::Value;
 

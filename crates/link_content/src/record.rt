@@ -19,7 +19,7 @@ use crate::plain::put_plain;
 use crate::put::put_formula;
 use jump_table::Table;
 use link_meaning::LinkCause;
-use link_resolve::Program;
+use link_program::Program;
 use omf_format::{Value, ValueFault};
 use omf_records::Rec;
 

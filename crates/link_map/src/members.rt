@@ -11,8 +11,8 @@ ghost use Rattle.link_map.specs.MapText.{numbered, member_line, text_in, load_li
 ghost use Rattle.link_map.specs.Standing.{HasMember, HasLoad};
 
 use crate::symbols::put_symbols;
-use link_emit::Values;
-use link_resolve::LinkMember;
+use link_file::Values;
+use link_program::LinkMember;
 use omf_base::{Line, LineFault};
 use omf_header::Header;
 use omf_listing::{put_labelled, put_quoted};

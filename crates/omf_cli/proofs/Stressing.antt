@@ -7,7 +7,7 @@ use Rattle.omf_base.specs.declared.line.LineFault.{LineFault}
 use Rattle.link_meaning.specs.declared.fault.LinkFault.{LinkFault}
 use Rattle.link_meaning.specs.declared.fault.LinkCause.TheVariants as causes
 use Rattle.link_resolve.specs.Resolved.{AreFew}
-use Rattle.link_emit.specs.Answers.{IsLinkRefused}
+use Rattle.link_file.specs.Answers.{IsLinkRefused}
 use Rattle.omf_format.specs.declared.fault.FileCause.{FileCause}
 use Rattle.omf_format.specs.declared.fault.FileCause.TheVariants as file_causes
 use Rattle.omf_format.specs.declared.fault.FileFault.{FileFault}
