@@ -1,5 +1,5 @@
 -- How the records of statements are written.
-use Rattle.std.proofs.Common.{◌≡◌, ℕ, zero, suc, map, replicate, slice_index_or, ◌+◌, ◌<◌, ◌≤◌, Bool, true, false, cond, leb, List, [], ◌∷◌, ◌++◌, length, Option, Some, None, refl, sym, ap, subst, ◌∙◌, append_assoc, append-nil, arith}
+use Rattle.std.proofs.Common.{◌≡◌, ℕ, zero, suc, replicate, slice_index_or, ◌+◌, ◌<◌, ◌≤◌, Bool, true, false, cond, leb, List, [], ◌∷◌, ◌++◌, length, Option, Some, None, refl, sym, ap, subst, ◌∙◌, append_assoc, append-nil, arith}
 use Rattle.std.specs.List.{repeat}
 use Rattle.std.proofs.lemmas.Bool.{leb-true, le-leb, lt-leb}
 use Rattle.std.proofs.lemmas.List.{length-append}
@@ -167,9 +167,6 @@ left_more old now new pending waits more all left a others l parts step = record
       step whole (others ++ rest) (subst (λ (x : List Piece). Wrote whole now waits x) (append_assoc a others rest) (subst (λ (x : List Piece). Wrote whole now waits (x ++ rest)) parts (l.puts whole rest w)));
   plain = (plain_append a others (subst ArePlainPieces parts l.plain)).1;
 }
-
-pub puts_same : (old new : Option (List ℕ)) (p q : List ℕ) (a b : List Piece) → a ≡ b → Puts old p a new q → Puts old p b new q
-puts_same old new p q a b same puts = subst (λ (l : List Piece). Puts old p l new q) same puts
 
 pub put_all : (text : List ℕ) (old mid new : Option (List ℕ)) (pending waits : List ℕ) (pieces : List Piece) → Puts old pending pieces mid waits → Grows mid new (records_text (constant_records waits)) → pending ≡ [] → old ≡ limited text
     → new ≡ limited (text ++ records_text (records_behind [] pieces))

@@ -1,4 +1,4 @@
-use Rattle.std.proofs.Common.{ℕ, List, ◌++◌, ◌-◌, sym, ap, ◌∙◌, append-nil, arith}
+use Rattle.std.proofs.Common.{ℕ, List, ◌++◌, ◌-◌, ap, ◌∙◌, arith}
 use Rattle.orca_object.proofs.Putting.{repeat_next, repeat_only}
 use Rattle.orca_object.proofs.given.put_copies.Goals as goal
 
