@@ -28,6 +28,7 @@ use Rattle.link_resolve.specs.Gathered as shown
 use Rattle.link_resolve.specs.Gathered.{IsGathered, AddsInput}
 use Rattle.link_resolve.proofs.LibraryLaws.{ascend}
 use Rattle.link_program.proofs.OpeningLaws.{in_either}
+use Rattle.link_program.proofs.RowLaws.{rows_stand}
 
 -- ---- an object file's segments
 

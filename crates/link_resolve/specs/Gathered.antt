@@ -10,7 +10,7 @@ use Rattle.link_resolve.specs.declared.gather.Gathered as kept
 use Rattle.link_program.specs.Linked.{Holds}
 use Rattle.link_program.specs.Offers.{AreOffers}
 use Rattle.link_resolve.specs.Libraries.{StartsAscend}
-use Rattle.link_program.specs.Inputs.{AllStand}
+use Rattle.link_program.specs.Inputs.{AllStand, IsSoundInput}
 
 -- what was read of these inputs, with whatever they are linked
 pub record IsGathered (inputs : List Input) (kept : kept.Gathered) : Type 0 where

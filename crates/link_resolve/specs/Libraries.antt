@@ -3,6 +3,7 @@ use Rattle.std.specs.Prelude.{◌≡◌, ◌<◌, ℕ, List, Some, map, slice_ge
 use Rattle.omf_format.specs.File.{Segment}
 use Rattle.link_meaning.specs.Member.{Row}
 use Rattle.lib_dict.specs.Library.{LibraryRow, told_row}
+use Rattle.link_program.specs.Inputs.{StandsIn, AllStand}
 
 -- each segment starts behind those before it
 abbrev pub StartsAscend : List Segment → Type 0

@@ -12,6 +12,7 @@ use Rattle.link_meaning.specs.LinkFaults.{runtime_cause, HasRuntimeFault, AreRun
 use Rattle.link_program.specs.declared.outside.Outside.{Outside}
 use Rattle.link_program.specs.Memory.{memory_fault}
 use Rattle.link_program.specs.Outside.{AreOutside}
+use Rattle.link_program.specs.Programs.{runtimes_of}
 
 -- the files that are held, each with its path and its bytes
 abbrev pub files_of : List Member → List (List ℕ × List ℕ)
