@@ -4,10 +4,10 @@ ghost use Rattle.std.specs.Prelude.{◌≡◌, Ok, IfOk, IfErr};
 ghost use Rattle.link_meaning.specs.LinkFaults.{plain};
 ghost use Rattle.link_meaning.specs.EmitFaults.{IsEmitAnswer, IsLinkedTo};
 ghost use Rattle.link_resolve.specs.Resolved.{all_bytes, given_of, AreFew, FewGiven, HavePaths};
-ghost use Rattle.link_emit.specs.Answers.{IsLinkRefused};
+ghost use Rattle.link_file.specs.Answers.{IsLinkRefused};
 
-use crate::emitting::emit;
 use lib_dict::Member;
+use link_file::emit;
 use link_meaning::LinkFault;
 use link_resolve::{LinkForm, resolve_with};
 use std::alloc::Global;

@@ -8,12 +8,12 @@ use Rattle.link_meaning.specs.Sizes.{place_behind, body_size}
 use Rattle.link_meaning.specs.Member.{Member}
 use Rattle.link_meaning.specs.Layout.{load_headers, load_of, offset_of}
 use Rattle.link_meaning.specs.laws.PlaceFits.{IsPlaceIn, behind-le}
-use Rattle.link_resolve.specs.declared.program.LinkMember.{LinkMember}
-use Rattle.link_resolve.specs.Linked.{member_at}
-use Rattle.link_resolve.specs.OfFiles.{IsOfFiles}
-use Rattle.link_resolve.specs.Programs.{linked_at, header_at}
-use Rattle.link_emit.proofs.FileFacts.{near_of}
-use Rattle.link_emit.proofs.LocatedLaws.{behind-append}
+use Rattle.link_program.specs.declared.program.LinkMember.{LinkMember}
+use Rattle.link_program.specs.Linked.{member_at}
+use Rattle.link_program.specs.OfFiles.{IsOfFiles}
+use Rattle.link_program.specs.Programs.{linked_at, header_at}
+use Rattle.link_file.proofs.FileFacts.{near_of}
+use Rattle.link_file.proofs.LocatedLaws.{behind-append}
 use Rattle.link_map.specs.Standing.{HasMember, HasLoad}
 use Rattle.link_map.proofs.TextLaws.{same_some, some_none, item_there}
 

@@ -7,10 +7,10 @@ use Rattle.link_meaning.specs.Member.{Member}
 use Rattle.link_meaning.specs.Layout.{load_headers}
 use Rattle.link_meaning.specs.LinkValues.{Told}
 use Rattle.link_meaning.specs.EmitFaults.{IsEmitted}
-use Rattle.link_resolve.specs.Linked.{member_at}
-use Rattle.link_resolve.specs.Programs.{header_at}
-use Rattle.link_resolve.specs.Uses.{HasSpelling}
-use Rattle.link_emit.specs.Valued.{HasPlace}
+use Rattle.link_program.specs.Linked.{member_at}
+use Rattle.link_program.specs.Programs.{header_at}
+use Rattle.link_program.specs.Uses.{HasSpelling}
+use Rattle.link_file.specs.Valued.{HasPlace}
 use Rattle.link_map.specs.MapText.{map_text}
 
 -- a member stands there

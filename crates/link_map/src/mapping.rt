@@ -4,16 +4,17 @@ ghost use Rattle.std.specs.Prelude.{◌≡◌, IfOk, IfErr};
 ghost use Rattle.link_meaning.specs.LinkFaults.{plain};
 ghost use Rattle.link_meaning.specs.LinkedCells.{targets};
 ghost use Rattle.link_resolve.specs.Resolved.{all_bytes, AreFew};
-ghost use Rattle.link_emit.specs.Answers.{IsEmitRefused, IsLinkRefused};
+ghost use Rattle.link_file.specs.Answers.{IsEmitRefused, IsLinkRefused};
 ghost use Rattle.link_map.specs.MapText.{map_text, IsMapOf};
 ghost use Rattle.link_map.specs.Standing.{IsDrawn};
 
 use crate::members::put_loads;
 use crate::table::put_table;
 use jump_table::Table;
-use link_emit::{Values, emit};
+use link_file::{Values, emit};
 use link_meaning::LinkFault;
-use link_resolve::{Program, memory_fault, resolve};
+use link_program::{Program, memory_fault};
+use link_resolve::resolve;
 use omf_base::{Line, LineFault};
 use std::alloc::Global;
 

@@ -5,14 +5,14 @@ ghost use Rattle.omf_format.specs.Header.{Fields};
 ghost use Rattle.omf_header.specs.View.{fields};
 ghost use Rattle.link_meaning.specs.Member.{Member};
 ghost use Rattle.link_meaning.specs.Layout.{load_headers};
-ghost use Rattle.link_resolve.specs.Linked.{member_at};
-ghost use Rattle.link_resolve.specs.Programs.{header_at};
+ghost use Rattle.link_program.specs.Linked.{member_at};
+ghost use Rattle.link_program.specs.Programs.{header_at};
 ghost use Rattle.link_map.specs.MapText.{numbered, member_line, text_in, load_line, load_text};
 ghost use Rattle.link_map.specs.Standing.{HasMember, HasLoad};
 
 use crate::symbols::put_symbols;
-use link_emit::Values;
-use link_resolve::LinkMember;
+use link_file::Values;
+use link_program::LinkMember;
 use omf_base::{Line, LineFault};
 use omf_header::Header;
 use omf_listing::{put_labelled, put_quoted};

@@ -5,13 +5,13 @@ ghost use Rattle.omf_records.specs.Segments.{IsSound, shown};
 ghost use Rattle.omf_records.specs.View.{view};
 ghost use Rattle.link_meaning.specs.Member.{Member};
 ghost use Rattle.link_meaning.specs.Defines.{scope_of, outer_scope, title_of, defined_by, defined_in};
-ghost use Rattle.link_resolve.specs.Linked.{member_at};
-ghost use Rattle.link_emit.specs.Valued.{HasPlace};
+ghost use Rattle.link_program.specs.Linked.{member_at};
+ghost use Rattle.link_file.specs.Valued.{HasPlace};
 ghost use Rattle.link_map.specs.MapText.{scope_text, shift_text, value_text, symbol_text, symbol_line};
 ghost use Rattle.link_map.specs.Standing.{HasSegment, HasRecord};
 
-use link_emit::Values;
-use link_resolve::{next_record, size_at};
+use link_file::Values;
+use link_program::{next_record, size_at};
 use omf_base::{Line, LineFault};
 use omf_format::{Value, ValueFault};
 use omf_listing::{put_field, put_labelled, put_name};

@@ -20,14 +20,15 @@ use Rattle.link_meaning.specs.declared.fault.LinkFault.{LinkFault}
 use Rattle.lib_dict.specs.DictionaryLayout.{AreRows, RowsAreLaidOut}
 use Rattle.lib_dict.specs.Library.{LibraryRow, told_row, HasRows, IsFalseAt}
 use Rattle.link_resolve.specs.declared.gather.Gathered as gathered
-use Rattle.link_resolve.specs.Linked.{Holds}
-use Rattle.link_resolve.specs.Offers.{AreOffers}
-use Rattle.link_resolve.specs.Libraries.{StandsIn, AllStand}
+use Rattle.link_program.specs.Linked.{Holds}
+use Rattle.link_program.specs.Offers.{AreOffers}
+use Rattle.link_program.specs.Inputs.{IsSoundInput}
 use Rattle.link_resolve.specs.Reading.{IsFileRefused}
 use Rattle.link_resolve.specs.Gathered as shown
-use Rattle.link_resolve.specs.Gathered.{IsSoundInput, IsGathered, AddsInput}
+use Rattle.link_resolve.specs.Gathered.{IsGathered, AddsInput}
 use Rattle.link_resolve.proofs.LibraryLaws.{ascend}
-use Rattle.link_resolve.proofs.OpeningLaws.{in_either}
+use Rattle.link_program.proofs.OpeningLaws.{in_either}
+use Rattle.link_program.proofs.RowLaws.{rows_stand}
 
 -- ---- an object file's segments
 
@@ -84,16 +85,6 @@ pub body_short : (list : List Segment) (k : ℕ) (s : Segment) → segments_faul
 body_short list k s none e = let is = length_is s (each_sound 1 list k s none e) in omega (arith, is)
 
 -- ---- a library's rows
-
-row_stands : (segments : List Segment) (numbers : List ℕ) (names : List (List ℕ)) (rows : List Row) (bytes : List ℕ) → AreRows segments numbers names rows bytes → AllStand segments rows
-row_stands segments numbers names [] bytes are row is = absurd is
-row_stands segments numbers names (x ∷ rows) bytes are row (inl e) =
-    let r = are.4 in
-    subst (StandsIn segments) e (record { segment = r.segment; here = r.here; defines = r.defines })
-row_stands segments numbers names (x ∷ rows) bytes are row (inr is) = row_stands segments numbers names rows are.1 are.5 row is
-
-pub rows_stand : (segments : List Segment) (rows : List Row) → RowsAreLaidOut → is_library segments ≡ true → rows_of segments ≡ Ok rows → AllStand segments rows
-rows_stand segments rows law library read = let d = law segments rows library read in row_stands segments d.numbers d.names rows d.second d.rows'
 
 pub told_so : (list : List Segment) (bytes : List ℕ) (told : List LibraryRow) → RowsAreLaidOut → IsFile list bytes → HasRows bytes told → shown.AreRows list told
 told_so list bytes told law is_file has =

@@ -15,23 +15,23 @@ use Rattle.link_meaning.specs.Sizes.{body_size}
 use Rattle.link_meaning.specs.LinkFaults.{segments_fault}
 use Rattle.link_resolve.proofs.GatherLaws.{body_short}
 use Rattle.link_meaning.specs.laws.ProgressLaws.{AreSound, fresh_name, fresh_data}
-use Rattle.link_resolve.specs.declared.definitions.Origin.{Origin}
-use Rattle.link_resolve.specs.declared.linked.Linked.{Linked}
-use Rattle.link_resolve.specs.declared.offers.Offers as kept
-use Rattle.link_resolve.specs.declared.outside.Outside.{Outside}
-use Rattle.link_resolve.specs.Outside.{IsOutsideOf, AreOutside}
+use Rattle.link_program.specs.declared.definitions.Origin.{Origin}
+use Rattle.link_program.specs.declared.linked.Linked.{Linked}
+use Rattle.link_program.specs.declared.offers.Offers as kept
+use Rattle.link_program.specs.declared.outside.Outside.{Outside}
+use Rattle.link_program.specs.Outside.{IsOutsideOf, AreOutside}
 use Rattle.link_meaning.specs.Search.{outside}
 use Rattle.std.specs.List.{AllByRecursion}
-use Rattle.link_resolve.specs.Definitions.{IsOf}
-use Rattle.link_resolve.specs.Linked.{Holds}
-use Rattle.link_resolve.specs.Offers.{told_origin}
-use Rattle.link_resolve.specs.Opening.{OpensNothing}
-use Rattle.link_resolve.specs.Wanted.{wanted_at, WantsNothing, IsWanted}
-use Rattle.link_resolve.specs.Gathered.{segment_in, IsAmong, AllAmong}
+use Rattle.link_program.specs.Definitions.{IsOf}
+use Rattle.link_program.specs.Linked.{Holds}
+use Rattle.link_program.specs.Offers.{told_origin}
+use Rattle.link_program.specs.Opening.{OpensNothing}
+use Rattle.link_program.specs.Wanted.{wanted_at, WantsNothing, IsWanted}
+use Rattle.link_program.specs.Files.{segment_in, IsAmong, AllAmong}
 use Rattle.link_resolve.specs.Grown.{MayGrow, HasGrown}
-use Rattle.link_resolve.proofs.OfferLaws.{row_any}
-use Rattle.link_resolve.proofs.LibraryLaws.{in_at, within_length}
-use Rattle.link_resolve.proofs.OpeningLaws.{in_front, in_back, in_either, nothing_more, asked_grows}
+use Rattle.link_program.proofs.OfferLaws.{row_any}
+use Rattle.link_program.proofs.Lists.{in_at, within_length}
+use Rattle.link_program.proofs.OpeningLaws.{in_front, in_back, in_either, nothing_more, asked_grows}
 
 -- ---- the list
 

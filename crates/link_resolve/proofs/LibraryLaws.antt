@@ -1,8 +1,7 @@
 -- The segments of a library by their starts, and its rows.
-use Rattle.std.proofs.Common.{◌≡◌, inl, inr, ℕ, zero, suc, ◌+◌, ◌-◌, ◌≤◌, ◌<◌, Bool, true, false, not, ◌&&◌, List, [], ◌∷◌, ◌++◌, length, map, take, Option, Some, None, refl, sym, ap, subst, ◌∙◌, append_assoc, arith}
+use Rattle.std.proofs.Common.{◌≡◌, ℕ, zero, suc, ◌+◌, ◌-◌, ◌≤◌, ◌<◌, Bool, true, false, not, ◌&&◌, List, [], ◌∷◌, ◌++◌, length, map, take, Option, Some, None, refl, sym, ap, subst, ◌∙◌, append_assoc, arith}
 use Rattle.std.specs.Prelude.{slice_get, ◌||◌, option_map, if◌then◌else◌}
 use Rattle.std.specs.List.{filter_map, cons_option, list_any}
-use Rattle.std.specs.Option.{option_map_or}
 use Rattle.std.specs.Str.{bytes_eq}
 use Rattle.std.proofs.lemmas.Bool.{eq-eqb, ne_eqb}
 use Rattle.omf_format.specs.Header.{form_of, is_private}
@@ -17,12 +16,15 @@ use Rattle.link_meaning.specs.Member.{Row, Offer, offer_of, Setting}
 use Rattle.link_meaning.specs.Defines.{Definition, outer_scope, title_of, data_title_of}
 use Rattle.link_meaning.specs.LinkedList.{has_title}
 use Rattle.lib_dict.specs.Library.{LibraryRow, told_row}
-use Rattle.link_resolve.specs.declared.definitions.Origin.{Origin}
-use Rattle.link_resolve.specs.declared.offers.Offers.{Offers}
-use Rattle.link_resolve.specs.Offers.{told_origin, is_titled, IsOfferOf, AreOffers}
+use Rattle.link_program.specs.declared.definitions.Origin.{Origin}
+use Rattle.link_program.specs.declared.offers.Offers.{Offers}
+use Rattle.link_program.specs.Offers.{told_origin, is_titled, IsOfferOf, AreOffers}
 use Rattle.std.proofs.lemmas.Option.{slice_get-map}
 use Rattle.std.proofs.lemmas.List.{length-map}
-use Rattle.link_resolve.specs.Libraries.{StartsAscend, StandsIn, AllStand}
+use Rattle.link_resolve.specs.Libraries.{StartsAscend}
+use Rattle.link_program.specs.Inputs.{StandsIn, AllStand}
+use Rattle.link_program.proofs.RowLaws.{row_place, offer_with, offer_same, offer_is}
+use Rattle.link_program.proofs.Lists.{in_at, take_more, take_all}
 
 -- ---- starts
 
@@ -48,11 +50,6 @@ ascend (x ∷ segments) next file end are (suc j) (suc k) s t less a b =
 -- a segment that starts there is between these places
 abbrev pub IsBetween : List Segment → ℕ → ℕ → ℕ → Type 0
 IsBetween list at low high = (high ≤ length list) × ((k : ℕ) (s : Segment) → slice_get list k ≡ Some s → s.start ≡ at → (low ≤ k) × (k < high))
-
-pub within_length : {A : Type 0} → (xs : List A) (k : ℕ) (x : A) → slice_get xs k ≡ Some x → k < length xs
-within_length [] k x e = absurd cc
-within_length (y ∷ xs) zero x e = omega arith
-within_length (y ∷ xs) (suc k) x e = let rest = within_length xs k x e in omega arith
 
 -- ---- titles
 
@@ -105,40 +102,6 @@ same_title s name private is_so form title is data' named some same so =
 
 -- ---- rows
 
--- the place of a row's segment
-pub record HasPlace (segments : List Segment) (row : Row) (at : ℕ) : Type 0 where
-  pub k : ℕ
-  pub number : row.segment ≡ suc k
-  pub segment : Segment
-  pub here : slice_get segments k ≡ Some segment
-  pub start : segment.start ≡ at
-
-pub row_place : (segments : List Segment) (row : Row) (told : LibraryRow) → told ≡ told_row segments row → StandsIn segments row → HasPlace segments row told.at
-row_place segments row told is stands = settle row.segment refl stands.here
-  where
-    settle : (n : ℕ) → row.segment ≡ n → segment_at segments n ≡ Some stands.segment → HasPlace segments row told.at
-    settle zero e here = absurd cc
-    settle (suc k) e here = record {
-      k = k;
-      number = e;
-      segment = stands.segment;
-      here = here;
-      start = sym (ap (λ (t : LibraryRow). t.at) is ∙ ap (λ (o : Option Segment). option_map_or (λ (s : Segment). s.start) o 0) stands.here);
-    }
-
-abbrev offer_with : Setting → ℕ → Row → Segment → Offer
-offer_with setting file row s = record { name = row.name; private = row.private; member = record { file = file; number = row.segment; from = row.from; segment = s; setting = setting } }
-
-offer_same : (a b : Offer) → Some a ≡ Some b → a ≡ b
-offer_same a b e = cc
-
--- what a row offers
-pub offer_is : (setting : Setting) (file : ℕ) (segments : List Segment) (row : Row) (o : Offer) (k : ℕ) (s : Segment) → offer_of setting file segments row ≡ Some o → row.segment ≡ suc k → slice_get segments k ≡ Some s
-    → o ≡ record { name = row.name; private = row.private; member = record { file = file; number = row.segment; from = row.from; segment = s; setting = setting } }
-offer_is setting file segments row o k s is number here =
-    let place : row.segment - 1 ≡ k = omega (arith, number) in
-    offer_same o (offer_with setting file row s) (sym is ∙ ap (λ (x : Option Segment). option_map (offer_with setting file row) x) (ap (slice_get segments) place ∙ here))
-
 pub there_is : (setting : Setting) (file : ℕ) (segments : List Segment) (row : Row) (k : ℕ) (s : Segment) → row.segment ≡ suc k → slice_get segments k ≡ Some s
     → offer_of setting file segments row ≡ Some (record { name = row.name; private = row.private; member = record { file = file; number = row.segment; from = row.from; segment = s; setting = setting } })
 there_is setting file segments row k s number here =
@@ -165,19 +128,7 @@ offered_so setting file segments row told o k s number titled is place here told
     origin_same : (file number from number' from' : ℕ) → number ≡ number' → from ≡ from' → origin_at file number from ≡ origin_at file number' from'
     origin_same file number from number' from' e f = ap (λ (n : ℕ). origin_at file n from) e ∙ ap (origin_at file number') f
 
-pub in_at : {A : Type 0} → (xs : List A) (k : ℕ) (x : A) → slice_get xs k ≡ Some x → IsIn xs x
-in_at [] k x e = absurd cc
-in_at {A} (y ∷ xs) zero x e = let same : y ≡ x = cc in inl same
-in_at (y ∷ xs) (suc k) x e = inr (in_at xs k x e)
-
 -- ---- the rows so far
-
-pub take_more : {A : Type 0} → (xs : List A) (k : ℕ) (x : A) → slice_get xs k ≡ Some x → take (k + 1) xs ≡ take k xs ++ x ∷ []
-take_more [] k x e = absurd cc
-take_more {A} (y ∷ xs) zero x e = let same : y ≡ x = cc in ap (λ (z : A). z ∷ []) same
-take_more {A} (y ∷ xs) (suc k) x e =
-    let next : suc k + 1 ≡ suc (k + 1) = omega arith in
-    ap (λ (n : ℕ). take n (y ∷ xs)) next ∙ ap (λ (l : List A). y ∷ l) (take_more xs k x e)
 
 -- one more row
 pub offers_more : (setting : Setting) (file : ℕ) (segments : List Segment) (os : List Offer) (rows : List Row) (k : ℕ) (row : Row) (o : Offer) → slice_get rows k ≡ Some row → offer_of setting file segments row ≡ Some o
@@ -245,12 +196,6 @@ rows_next setting file segments os rows k told r stand old new are add =
     let offer = there_is setting file segments r.row p.k p.segment p.number p.here in
     let o : Offer = offer_with setting file r.row p.segment in
     subst (λ (l : List Offer). AreOffers l new) (offers_more setting file segments os rows k r.row o r.at offer) (add (os ++ filter_map (offer_of setting file segments) (take k rows)) r.row o r.told' s offer are)
-
-pub take_all : {A : Type 0} → (xs : List A) (n : ℕ) → length xs ≤ n → take n xs ≡ xs
-take_all [] zero less = refl
-take_all [] (suc n) less = refl
-take_all (x ∷ xs) zero less = absurd (omega arith)
-take_all {A} (x ∷ xs) (suc n) less = ap (λ (l : List A). x ∷ l) (take_all xs n (omega arith))
 
 pub rows_all : (setting : Setting) (file : ℕ) (segments : List Segment) (dictionary : List LibraryRow) (os : List Offer) (rows : List Row) (k : ℕ) (offers : Offers) → dictionary ≡ map (told_row segments) rows → length dictionary ≤ k
     → AreOffers (os ++ filter_map (offer_of setting file segments) (take k rows)) offers → AreOffers (os ++ filter_map (offer_of setting file segments) rows) offers

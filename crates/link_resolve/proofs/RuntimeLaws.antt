@@ -18,11 +18,11 @@ use Rattle.link_meaning.specs.declared.fault.LinkFault.{LinkFault}
 use Rattle.link_meaning.specs.Member.{RuntimeFile}
 use Rattle.link_meaning.specs.Search.{Found, outside_of, outside_from}
 use Rattle.link_meaning.specs.LinkFaults.{runtime_cause, AreRuntimes, HasRuntimeFault}
-use Rattle.link_resolve.specs.declared.outside.Outside.{Outside}
-use Rattle.link_resolve.specs.Outside.{AreOutside}
-use Rattle.link_resolve.specs.Runtimes.{files_of, runtimes_of, told_cause, IsFileRefused, IsFirstRefused}
-use Rattle.link_resolve.proofs.Lists.{drop_at}
-use Rattle.link_resolve.proofs.LibraryLaws.{take_more}
+use Rattle.link_program.specs.declared.outside.Outside.{Outside}
+use Rattle.link_program.specs.Outside.{AreOutside}
+use Rattle.link_resolve.specs.Runtimes.{files_of, told_cause, IsFileRefused, IsFirstRefused}
+use Rattle.link_program.specs.Programs.{runtimes_of}
+use Rattle.link_program.proofs.Lists.{drop_at, take_more}
 
 -- want of memory has no cause that is told, and no other cause is told as that
 pub not_memory : (cause : LoadCause) (told : LinkCause) → told_cause cause ≡ Some told → told ≡ causes.Memory → ⊥

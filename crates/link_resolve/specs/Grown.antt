@@ -7,13 +7,13 @@ use Rattle.link_meaning.specs.Search.{outside}
 use Rattle.link_meaning.specs.laws.ProgressLaws.{AreSound}
 use Rattle.link_meaning.specs.LinkFaults.{segments_fault}
 use Rattle.link_meaning.specs.LinkedList.{IsLinked}
-use Rattle.link_resolve.specs.declared.linked.Linked.{Linked}
-use Rattle.link_resolve.specs.declared.offers.Offers as kept
-use Rattle.link_resolve.specs.declared.outside.Outside.{Outside}
-use Rattle.link_resolve.specs.Outside.{AreOutside}
-use Rattle.link_resolve.specs.Linked.{Holds}
-use Rattle.link_resolve.specs.Offers.{AreOffers}
-use Rattle.link_resolve.specs.Gathered.{IsAmong, AllAmong}
+use Rattle.link_program.specs.declared.linked.Linked.{Linked}
+use Rattle.link_program.specs.declared.offers.Offers as kept
+use Rattle.link_program.specs.declared.outside.Outside.{Outside}
+use Rattle.link_program.specs.Outside.{AreOutside}
+use Rattle.link_program.specs.Linked.{Holds}
+use Rattle.link_program.specs.Offers.{AreOffers}
+use Rattle.link_program.specs.Files.{IsAmong, AllAmong}
 
 -- these are the inputs, some of which are object files, and what they are linked with; all their segments are sound, and each row's
 -- segment is one of them and defines the row's name

@@ -1,12 +1,8 @@
 -- Why an input isn't read.
-use Rattle.std.specs.Prelude.{◌≡◌, ◌⊎◌, ℕ, List, None}
-use Rattle.link_meaning.specs.declared.fault.LinkCause.TheVariants.{Memory}
+use Rattle.std.specs.Prelude.{◌≡◌, ◌⊎◌, ℕ, List}
 use Rattle.link_meaning.specs.declared.fault.LinkFault.{LinkFault}
-use Rattle.link_meaning.specs.LinkFaults.{nowhere, HasFileFault}
-
--- want of memory
-abbrev pub memory_fault : LinkFault
-memory_fault = record { cause = Memory; name = None; spot = nowhere }
+use Rattle.link_meaning.specs.LinkFaults.{HasFileFault}
+use Rattle.link_program.specs.Memory.{memory_fault}
 
 -- it is the first fault of the input with this number, unless memory ran out
 abbrev pub IsFileRefused : ℕ → List ℕ → LinkFault → Type 0

@@ -1,5 +1,5 @@
 -- Reading run-time library files.
-use Rattle.std.specs.Prelude.{◌≡◌, ◌⊎◌, ◌+◌, ◌++◌, ℕ, List, [], ◌∷◌, length, map, Option, Some, None}
+use Rattle.std.specs.Prelude.{◌≡◌, ◌⊎◌, ◌+◌, ◌++◌, ℕ, List, ◌∷◌, length, map, Option, Some, None}
 use Rattle.omf_format.specs.File.{Segment}
 use Rattle.lib_dict.specs.declared.member.Member.{Member}
 use Rattle.load_meaning.specs.declared.load.LoadCause.{LoadCause}
@@ -9,18 +9,14 @@ use Rattle.link_meaning.specs.declared.fault.LinkFault.{LinkFault}
 use Rattle.link_meaning.specs.Member.{RuntimeFile}
 use Rattle.link_meaning.specs.Search.{outside_from}
 use Rattle.link_meaning.specs.LinkFaults.{runtime_cause, HasRuntimeFault, AreRuntimes}
-use Rattle.link_resolve.specs.declared.outside.Outside.{Outside}
-use Rattle.link_resolve.specs.Reading.{memory_fault}
-use Rattle.link_resolve.specs.Outside.{AreOutside}
+use Rattle.link_program.specs.declared.outside.Outside.{Outside}
+use Rattle.link_program.specs.Memory.{memory_fault}
+use Rattle.link_program.specs.Outside.{AreOutside}
+use Rattle.link_program.specs.Programs.{runtimes_of}
 
 -- the files that are held, each with its path and its bytes
 abbrev pub files_of : List Member → List (List ℕ × List ℕ)
 files_of given = map (λ m. (m.name, m.bytes.items)) given
-
--- run-time library files with these segments, each with the path by which it is known
-abbrev pub runtimes_of : List (List Segment) → List Member → List RuntimeFile
-runtimes_of (segments ∷ loads) (one ∷ given) = record { path = one.name; segments = segments } ∷ runtimes_of loads given
-runtimes_of _ _ = []
 
 -- how a run-time library file's cause is told, unless memory ran out
 abbrev pub told_cause : LoadCause → Option LinkCause

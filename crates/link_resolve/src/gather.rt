@@ -1,26 +1,23 @@
 //! What is gathered of all inputs: their segments, the segments of the object files as members, and the rows of the libraries.
 
-ghost use Rattle.std.specs.Prelude.{◌≡◌, ◌+◌, ◌*◌, ◌<◌, ◌≤◌, ◌^◌, ◌++◌, ◌∷◌, [], List, ℕ, Bool, true, None, length, option_map, IfSome, IfOk, IfErr, OnOk};
+ghost use Rattle.std.specs.Prelude.{◌≡◌, ◌+◌, ◌*◌, ◌<◌, ◌≤◌, ◌^◌, ◌++◌, ◌∷◌, [], List, ℕ, Bool, true, None, length, IfOk, IfErr, OnOk};
 ghost use Rattle.omf_format.specs.Header.{form_of};
 ghost use Rattle.omf_format.specs.File.{IsFile};
-ghost use Rattle.omf_records.specs.Segments.{IsSound, shown};
 ghost use Rattle.lib_dict.specs.Rows.{AreReadFrom};
 ghost use Rattle.lib_dict.specs.Library.{HasRows};
 ghost use Rattle.link_meaning.specs.Member.{Input, Setting, Member, is_library, members_from};
 ghost use Rattle.link_meaning.specs.LinkFaults.{segments_fault, IsInput, AreInputs};
-ghost use Rattle.link_resolve.specs.Reading.{memory_fault, IsFileRefused};
-ghost use Rattle.link_resolve.specs.Linked.{Holds};
-ghost use Rattle.link_resolve.specs.Offers.{AreOffers};
-ghost use Rattle.link_resolve.specs.Libraries.{AllStand};
-ghost use Rattle.link_resolve.specs.Gathered.{segment_in, IsGathered, AreRows, IsSoundInput, AddsInput};
+ghost use Rattle.link_resolve.specs.Reading.{IsFileRefused};
+ghost use Rattle.link_program.specs.Linked.{Holds};
+ghost use Rattle.link_program.specs.Offers.{AreOffers};
+ghost use Rattle.link_program.specs.Inputs.{AllStand, IsSoundInput};
+ghost use Rattle.link_resolve.specs.Gathered.{IsGathered, AreRows, AddsInput};
 
-use crate::definitions::Origin;
-use crate::input::{fault_in, memory_fault, read_segments};
+use crate::input::{fault_in, read_segments};
 use crate::library::add_rows;
-use crate::linked::Linked;
-use crate::offers::Offers;
 use lib_dict::{DictFault, Dictionary, dictionary_of_list, rows_are_laid_out};
 use link_meaning::{LinkCause, LinkFault};
+use link_program::{Linked, Offers, Origin, memory_fault};
 use omf_records::{SegmentList, SegmentView};
 use std::alloc::{AllocError, Global};
 
@@ -40,24 +37,6 @@ fn is_library(list: &SegmentList) -> bool
     match list.get(1) {
         Some(segment) => segment.header.kind.form() == 0x08,
         None => false,
-    }
-}
-
-/// The segment of a file: file and segment count from 1.
-pub fn segment_in<'s, 'a>(
-    files: &'s [SegmentList<'a>],
-    file: u32,
-    segment: u32,
-) -> Option<&'s SegmentView<'a>>
-    ensures value { option_map (λ view. shown view.now) result ≡ segment_in files.now file segment }
-    ensures sound { IfSome result (λ view. IsSound view.now) }
-{
-    if file == 0 {
-        return None;
-    }
-    match files.get(file as usize - 1) {
-        Some(list) => list.get(segment),
-        None => None,
     }
 }
 

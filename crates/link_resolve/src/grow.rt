@@ -4,10 +4,8 @@ ghost use Rattle.std.specs.Prelude.{◌≡◌, List, OnOk, IfOk, false, replicat
 ghost use Rattle.link_meaning.specs.Member.{Setting, Input};
 ghost use Rattle.link_resolve.specs.Grown.{MayGrow, HasGrown};
 
-use crate::gather::{length_of, segment_in};
-use crate::linked::Linked;
-use crate::offers::Offers;
-use crate::outside::Outside;
+use crate::gather::length_of;
+use link_program::{Linked, Offers, Outside, segment_in};
 use omf_records::SegmentList;
 use std::alloc::{AllocError, Global};
 

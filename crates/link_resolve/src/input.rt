@@ -4,29 +4,15 @@ ghost use Rattle.std.specs.Prelude.{◌≡◌, ◌<◌, ◌^◌, List, ℕ, None
 ghost use Rattle.omf_format.specs.File.{IsFile};
 ghost use Rattle.omf_records.specs.Segments.{IsRefused};
 ghost use Rattle.link_meaning.specs.LinkFaults.{segments_fault};
-ghost use Rattle.link_resolve.specs.Reading.{memory_fault, IsFileRefused};
+ghost use Rattle.link_resolve.specs.Reading.{IsFileRefused};
 
 use crate::checks::segments_fault;
 use link_meaning::{LinkCause, LinkFault};
+use link_program::memory_fault;
 use omf_base::Spot;
 use omf_format::{FileCause, FileFault};
 use omf_records::{SegmentList, segments};
 use std::alloc::Global;
-
-/// Want of memory has no place.
-pub fn memory_fault() -> LinkFault
-    ensures { result ≡ memory_fault }
-{
-    LinkFault {
-        cause: LinkCause::Memory,
-        name: None,
-        spot: Spot {
-            file: 0,
-            segment: 0,
-            at: 0,
-        },
-    }
-}
 
 /// A fault of a place in an input.
 pub fn fault_in(file: u32, segment: u32, at: u32, cause: LinkCause) -> LinkFault

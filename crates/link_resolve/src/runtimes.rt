@@ -5,10 +5,10 @@ ghost use Rattle.std.specs.List.{AllByRecursion};
 ghost use Rattle.omf_cells.specs.Load.{IsRuntimeRefused};
 ghost use Rattle.link_resolve.specs.Runtimes.{files_of, told_cause, IsFileRefused, AreRead, IsFirstRefused};
 
-use crate::input::{fault_in, memory_fault};
-use crate::outside::Outside;
+use crate::input::fault_in;
 use lib_dict::Member;
 use link_meaning::{LinkCause, LinkFault};
+use link_program::{Outside, memory_fault};
 use load_meaning::{LoadCause, LoadFault};
 use omf_cells::{LoadFile, read_runtime};
 use std::alloc::Global;

@@ -5,7 +5,7 @@ use Rattle.omf_io.specs.Counts.{IsFront}
 use Rattle.load_meaning.specs.Pathnames.{paths_of}
 use Rattle.iigs_meaning.specs.declared.handles.Handle.{Handle}
 use Rattle.iigs_meaning.specs.Slots.{get}
-use Rattle.iigs_meaning.specs.Puts.{Purges}
+use Rattle.loader_machine.specs.Rule.{RoomRule}
 use Rattle.iigs_meaning.specs.Memory.{Memory, AreAllPlaced, bytes_at}
 use Rattle.loader_machine.specs.declared.seen.Head.{Head}
 use Rattle.loader_machine.specs.declared.seen.Life.TheVariants.{Running}
@@ -80,7 +80,7 @@ pub record HasPlaced (old : Memory) (path : List ℕ) (segments : List Segment) 
   pub short : length segments < 2 ^ 16
   pub handles : List Handle
   pub middle : Memory
-  pub placed : AreAllPlaced Purges old id false (wants_of (map head_of segments)) handles middle
+  pub placed : AreAllPlaced RoomRule old id false (wants_of (map head_of segments)) handles middle
   pub banks : new.banks ≡ old.banks
   pub slots : new.slots ≡ middle.slots
   pub entry_is : entry ≡ entry_of id new.slots (map head_of segments) (started_kept path (map head_of segments) handles).handles

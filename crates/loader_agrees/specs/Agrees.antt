@@ -1,5 +1,5 @@
 -- What a loader holds, and when it agrees with a state of the machine.
-use Rattle.std.specs.Prelude.{◌≡◌, ◌≢◌, ◌⊎◌, ℕ, ◌+◌, ◌≤◌, ◌<◌, ◌^◌, true, false, List, [], length, map, Option, Some, option_map, IsSome, slice_get}
+use Rattle.std.specs.Prelude.{◌≡◌, ◌≢◌, ◌⊎◌, ℕ, ◌+◌, ◌≤◌, ◌<◌, ◌^◌, Bool, true, false, List, [], length, map, Option, Some, option_map, IsSome, slice_get}
 use Rattle.omf_format.specs.File.{Segment, segment_at}
 use Rattle.omf_io.specs.Counts.{risen, one_more, IsFront}
 use Rattle.omf_io.specs.Files.{FileMap, StoreSeen}
@@ -8,6 +8,7 @@ use Rattle.load_meaning.specs.Pathnames.{most_paths}
 use Rattle.load_meaning.specs.LoadTable.{is_table, targets_of, target_at, entry_count}
 use Rattle.omf_format.specs.Header.{is_dynamic, is_skipped}
 use Rattle.iigs_meaning.specs.declared.handles.Handle.{Handle}
+use Rattle.iigs_meaning.specs.declared.wants.Want.{Want}
 use Rattle.iigs_meaning.specs.declared.wants.Block.{Block}
 use Rattle.iigs_meaning.specs.Slots.{get, slot_at}
 use Rattle.iigs_meaning.specs.Fits.{Slots, block_in}
@@ -25,7 +26,7 @@ use Rattle.loader_machine.specs.Presences.{handle_at, presence, presence_at, the
 use Rattle.loader_machine.specs.Stands.{Far, setting_with, far_of, stands}
 use Rattle.loader_machine.specs.Found.{HoldsLoad}
 use Rattle.loader_machine.specs.Commands.{Command, Reply, Refused}
-use Rattle.loader_machine.specs.Steps.{Steps}
+use Rattle.loader_machine.specs.Steps.{StepsAlloc, Steps}
 use Rattle.loader_machine.specs.Needs.{Needs, IsReadFor}
 
 -- a user as a loader keeps it: the path of its file, whether it runs, for each segment of the file its handle and what was read of
@@ -128,11 +129,12 @@ pub record Agrees (held : FileMap) (loader : Loaded) (state : Machine) : Type 0 
 abbrev pub IsSegments : Block → Type 0
 IsSegments block = ((block.locked ≡ true) × (block.level ≡ 0)) ⊎ ((block.locked ≡ false) × (block.level ≡ 3))
 
--- the handle of a user's segment is live, its block the user's, with room for LENGTH bytes
+-- the handle of a user's segment is live, its block the user's and not movable, with room for LENGTH bytes
 pub record IsOf (memory : Memory) (id : ℕ) (head : Head) (h : Handle) : Type 0 where
   pub block : Block
   pub live : get memory.slots h ≡ Some block
   pub user : block.user ≡ id
+  pub fixed : block.movable ≡ false
   pub form : IsSegments block
   pub want : head.length ≤ block.want.size
   pub room : IsSome block.at → head.length ≤ length (bytes_at memory h.slot)
@@ -180,6 +182,11 @@ pub record IsSound (memory : Memory) (users : List (Option Kept)) : Type 0 where
 -- the command is answered as by the machine, and the loader agrees with the next state
 abbrev pub Met : MakesRoom → FileMap → Machine → Command → Reply → Loaded → Type 0
 Met Makes held state command reply new = (next : Machine) × Steps Makes held state command reply next × Agrees held new next
+
+-- the same of a block that the script asks for by any want
+abbrev pub MetAlloc : MakesRoom → FileMap → Machine → Want → Bool → ℕ → Bool → Reply → Loaded → Type 0
+MetAlloc Makes held state want locked level movable reply new =
+    (next : Machine) × StepsAlloc Makes state want locked level movable reply next × Agrees held new next
 
 -- The same of a call that may read and may lack memory: the count of the store's faults stays. Or a path is needed, and the call
 -- answers that it couldn't be read, where the count is one more; or memory ran out. Then the loader agrees with the old state.

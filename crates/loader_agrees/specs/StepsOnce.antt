@@ -1,7 +1,7 @@
 -- Laws of the machine in states with which a loader agrees.
 use Rattle.std.specs.Prelude.{◌≡◌}
 use Rattle.omf_io.specs.Files.{FileMap}
-use Rattle.iigs_meaning.specs.Puts.{Purges}
+use Rattle.loader_machine.specs.Rule.{RoomRule}
 use Rattle.iigs_meaning.specs.Blocks.{AreApart}
 use Rattle.loader_machine.specs.State.{Machine}
 use Rattle.loader_machine.specs.Commands.{Command, Reply}
@@ -12,4 +12,4 @@ use Rattle.loader_agrees.specs.Agrees.{Loaded, Agrees, IsSound}
 abbrev pub StepsOnce : Type 0
 StepsOnce = (held : FileMap) (loader : Loaded) (state : Machine) → Agrees held loader state → IsSound loader.memory loader.users
     → AreApart loader.memory.banks loader.memory.slots → (command : Command) (one other : Reply) (next last : Machine)
-    → Steps Purges held state command one next → Steps Purges held state command other last → (one ≡ other) × (next ≡ last)
+    → Steps RoomRule held state command one next → Steps RoomRule held state command other last → (one ≡ other) × (next ≡ last)

@@ -1,7 +1,6 @@
 -- The commands of the loader's machine, and its replies.
 use Rattle.std.specs.Prelude.{ℕ, Bool, List, Option}
 use Rattle.iigs_meaning.specs.declared.handles.Handle.{Handle}
-use Rattle.iigs_meaning.specs.declared.wants.Want.{Want}
 use Rattle.iigs_meaning.specs.declared.wants.BlockState.{BlockState}
 use Rattle.loader_machine.specs.declared.faults.LoaderFault.{LoaderFault}
 use Rattle.loader_machine.specs.declared.seen.Presence.{Presence}
@@ -31,7 +30,7 @@ pub data Command : Type 0 where
   -- what is known of a segment is told
   Info : (user segment : ℕ) → Command
   -- the script's own blocks: one is placed, released, locked, unlocked, or given a purge level
-  Alloc : (want : Want) (locked : Bool) (level : ℕ) → Command
+  Alloc : (size attributes address : ℕ) → Command
   Free : (handle : Handle) → Command
   Lock : (handle : Handle) → Command
   Unlock : (handle : Handle) → Command
@@ -40,6 +39,8 @@ pub data Command : Type 0 where
   StateOf : (handle : Handle) → Command
   -- the number of free bytes is told
   Room : Command
+  -- the movable blocks are slid down
+  Compact : Command
 
 pub data Reply : Type 0 where
   Okay : Reply
@@ -62,5 +63,7 @@ pub data Reply : Type 0 where
   BlockIs : (state : BlockState) → Reply
   -- the number of free bytes in no block
   RoomIs : (count : ℕ) → Reply
+  -- how many blocks changed their address
+  Moved : (count : ℕ) → Reply
   -- why the command is refused
   Refused : (fault : LoaderFault) → Reply

@@ -3,6 +3,8 @@ pub mod State
 pub mod Presences
 pub mod Stands
 pub mod Found
+pub mod Alloc
+pub mod Rule
 pub mod Commands
 pub mod Refusals
 pub mod Steps

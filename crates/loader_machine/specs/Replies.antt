@@ -12,7 +12,7 @@ use Rattle.loader_machine.specs.declared.seen.Presence.{Presence}
 use Rattle.loader_machine.specs.declared.seen.Presence.TheVariants.{Absent, Purged, Idle, Active}
 use Rattle.loader_machine.specs.declared.faults.LoaderFault.{LoaderFault}
 use Rattle.loader_machine.specs.declared.faults.LoaderFault.TheVariants as fault
-use Rattle.loader_machine.specs.Commands.{Reply, Okay, Started, MadeActive, Entered, Counted, Shown, Lies, Nothing, SegmentIs, Placed, BlockIs, RoomIs, Refused}
+use Rattle.loader_machine.specs.Commands.{Reply, Okay, Started, MadeActive, Entered, Counted, Shown, Lies, Nothing, SegmentIs, Placed, BlockIs, RoomIs, Moved, Refused}
 
 -- ---- values
 
@@ -119,6 +119,7 @@ reply_text (SegmentIs presence length' kind) = presence_text presence ++ codes "
 reply_text (Placed h address) = codes "handle " ++ handle_text h ++ at_text address
 reply_text (BlockIs state) = block_text state.at state
 reply_text (RoomIs count) = hexadecimal 8 count
+reply_text (Moved count) = codes "moved " ++ hexadecimal 4 count
 reply_text (Refused fault) = refused_text fault
 
 -- a reply and a line feed

@@ -1,20 +1,17 @@
 -- Scripts: the lines of a text, the words of a line, and the command that the words give. Scripts are this project's own.
-use Rattle.std.specs.Prelude.{◌≡◌, ℕ, ◌+◌, ◌/◌, ◌%◌, ◌<◌, ◌≤◌, Bool, true, false, not, ◌&&◌, ◌||◌, ◌==◌, nat_le, bit_and, List, [], ◌∷◌, ◌++◌, length, map, filter, codes, bytes_eq, Option, Some, None, Result, Ok, Err, if◌then◌else◌}
+use Rattle.std.specs.Prelude.{◌≡◌, ℕ, ◌+◌, ◌/◌, ◌%◌, ◌<◌, ◌≤◌, Bool, true, false, not, ◌&&◌, ◌||◌, ◌==◌, nat_le, List, [], ◌∷◌, ◌++◌, length, map, filter, codes, bytes_eq, Option, Some, None, Result, Ok, Err, if◌then◌else◌}
 use Rattle.std.specs.List.{AllByRecursion, list_all, list_any, slice_split}
 use Rattle.std.specs.Str.Parse.{digits_value}
 use Rattle.omf_format.specs.Ascii as ascii
-use Rattle.omf_format.specs.Header.{has_attribute}
 use Rattle.omf_format.specs.Lines.{lines_of}
 use Rattle.iigs_meaning.specs.declared.handles.Handle.{Handle}
-use Rattle.iigs_meaning.specs.declared.wants.Want.{Want}
-use Rattle.iigs_meaning.specs.Fits.{IsWant}
 use Rattle.loader_machine.specs.declared.script.CommandName.{CommandName}
 use Rattle.loader_machine.specs.declared.script.CommandName.TheVariants as name
 use Rattle.loader_machine.specs.declared.script.ScriptCause.{ScriptCause}
 use Rattle.loader_machine.specs.declared.script.ScriptCause.TheVariants.{TooManyLines, BadWord, UnknownCommand, BanksFirst, WrongCount, BadNumber, BankTwice}
 use Rattle.loader_machine.specs.declared.script.ScriptFault.{ScriptFault}
-use Rattle.loader_machine.specs.Heads.{some_if}
-use Rattle.loader_machine.specs.Commands.{Command, Banks, Load, LoadSegment, UnloadSegment, Jsl, ShutDown, Restart, Purge, Poke, Bytes, Where, Info, Alloc, Free, Lock, Unlock, Level, StateOf, Room}
+use Rattle.loader_machine.specs.Alloc.{is_attributes}
+use Rattle.loader_machine.specs.Commands.{Command, Banks, Load, LoadSegment, UnloadSegment, Jsl, ShutDown, Restart, Purge, Poke, Bytes, Where, Info, Alloc, Free, Lock, Unlock, Level, StateOf, Room, Compact}
 
 -- ---- lines
 
@@ -85,6 +82,7 @@ named word =
     else if bytes_eq word (codes "level") then Some name.Level
     else if bytes_eq word (codes "handle") then Some name.Handle
     else if bytes_eq word (codes "room") then Some name.Room
+    else if bytes_eq word (codes "compact") then Some name.Compact
     else None
 
 -- a number stands in the list and again behind
@@ -154,26 +152,6 @@ bytes_of (user ∷ segment ∷ at ∷ size ∷ []) =
     else Err BadNumber
 bytes_of words = Err WrongCount
 
--- the bits of ATTR: locked, fixed, level, no cross, no special memory, on a page, at the address, in its bank; no other may be set
-abbrev pub is_attributes : ℕ → Bool
-is_attributes attributes = bit_and attributes 0x3CE0 == 0
-
--- the purge level in ATTR
-abbrev pub level_in : ℕ → ℕ
-level_in attributes = attributes / 0x100 % 4
-
--- what ATTR and the address ask of a block's place
-unfoldable pub alloc_want : ℕ → ℕ → ℕ → Want
-alloc_want size attributes address = record {
-  size = size;
-  align = if has_attribute 0x0004 attributes then 0x100 else 1;
-  no_cross = has_attribute 0x0010 attributes;
-  no_special = has_attribute 0x0008 attributes;
-  at = some_if (has_attribute 0x0002 attributes) address;
-  bank = some_if (has_attribute 0x0001 attributes) (address / 0x10000);
-  low = None;
-}
-
 -- the numbers of `alloc`: a size of 1 to $1000000, ATTR, and an address
 abbrev pub are_alloc_numbers : List ℕ → List ℕ → List ℕ → Bool
 are_alloc_numbers size attributes address =
@@ -183,7 +161,7 @@ are_alloc_numbers size attributes address =
 unfoldable pub alloc_of : List (List ℕ) → Result Command ScriptCause
 alloc_of (size ∷ attributes ∷ address ∷ []) =
     if are_alloc_numbers size attributes address
-    then Ok (Alloc (alloc_want (number_of size) (number_of attributes) (number_of address)) (has_attribute 0x8000 (number_of attributes)) (level_in (number_of attributes)))
+    then Ok (Alloc (number_of size) (number_of attributes) (number_of address))
     else Err BadNumber
 alloc_of words = Err WrongCount
 
@@ -212,6 +190,11 @@ unfoldable pub room_of : List (List ℕ) → Result Command ScriptCause
 room_of [] = Ok Room
 room_of (word ∷ words) = Err WrongCount
 
+-- `compact`
+unfoldable pub compact_of : List (List ℕ) → Result Command ScriptCause
+compact_of [] = Ok Compact
+compact_of (word ∷ words) = Err WrongCount
+
 -- the command that the words behind its name give, or the first cause against them
 unfoldable pub words_command : CommandName → List (List ℕ) → Result Command ScriptCause
 words_command name.Banks words = banks_of words
@@ -233,6 +216,7 @@ words_command name.Unlock words = given_by (λ n. Unlock (handle_of n)) (one_num
 words_command name.Level words = given_by (λ n. Level (handle_of n.0) n.1) (two_numbers 0xFFFFFF 3 words)
 words_command name.Handle words = given_by (λ n. StateOf (handle_of n)) (one_number 0xFFFFFF words)
 words_command name.Room words = room_of words
+words_command name.Compact words = compact_of words
 
 abbrev pub is_banks : CommandName → Bool
 is_banks name.Banks = true
@@ -272,13 +256,15 @@ IsCommand is_first (Bytes user segment at size) = (is_first ≡ false) × (user 
     × (at ≤ 0xFFFFFFFF) × (1 ≤ size) × (size ≤ 0x100)
 IsCommand is_first (Where address) = (is_first ≡ false) × (address ≤ 0xFFFFFF)
 IsCommand is_first (Info user segment) = (is_first ≡ false) × (user ≤ 0xFFFF) × (segment ≤ 0xFFFF)
-IsCommand is_first (Alloc want locked level) = (is_first ≡ false) × IsWant want × (level ≤ 3)
+IsCommand is_first (Alloc size attributes address) = (is_first ≡ false) × (1 ≤ size) × (size ≤ 0x1000000)
+    × (attributes ≤ 0xFFFF) × (is_attributes attributes ≡ true) × (address ≤ 0xFFFFFF)
 IsCommand is_first (Free h) = (is_first ≡ false) × IsHandle h
 IsCommand is_first (Lock h) = (is_first ≡ false) × IsHandle h
 IsCommand is_first (Unlock h) = (is_first ≡ false) × IsHandle h
 IsCommand is_first (Level h level) = (is_first ≡ false) × IsHandle h × (level ≤ 3)
 IsCommand is_first (StateOf h) = (is_first ≡ false) × IsHandle h
 IsCommand is_first Room = is_first ≡ false
+IsCommand is_first Compact = is_first ≡ false
 
 -- the same of a list of commands, of which the first is a script's first one or not
 abbrev pub AreCommands : Bool → List Command → Type 0

@@ -21,6 +21,7 @@ use Rattle.iigs_meaning.specs.Placement.{emptied_where}
 use Rattle.iigs_meaning.specs.Puts.{MakesRoom, LacksRoom, Puts, PutsAnew, PutsAll, IsPlaceAllRefusal, without_user}
 use Rattle.iigs_meaning.specs.Blocks.{state_of, can_purge_of}
 use Rattle.iigs_meaning.specs.Room.{CountsBelow, IsRoom}
+use Rattle.iigs_meaning.specs.Slide.{Slides, count_moved}
 use Rattle.load_meaning.specs.declared.load.LoadFault.{LoadFault}
 use Rattle.load_meaning.specs.declared.load.LoadCause.TheVariants as cause
 use Rattle.loader_machine.specs.declared.faults.LoaderFault.TheVariants.{NotJsl, NoTarget, NotEntry, CannotRead, BadFile, NoHandle, NoRoom}
@@ -29,7 +30,8 @@ use Rattle.loader_machine.specs.State.{Running, Held, User, Machine, absent, fre
 use Rattle.loader_machine.specs.Presences.{Presence, Absent, Purged, Idle, Active, presence_at, handle_at, is_there}
 use Rattle.loader_machine.specs.Stands.{Setting, stands, setting, setting_with, far_of}
 use Rattle.loader_machine.specs.Found.{HoldsLoad, Found, Unread, Bad, Good, IsFound, Joined, Stops, Joins, AreJoined}
-use Rattle.loader_machine.specs.Commands.{Command, Banks, Load, LoadSegment, UnloadSegment, Jsl, ShutDown, Restart, Purge, Poke, Bytes, Where, Info, Alloc, Free, Lock, Unlock, Level, StateOf, Room, Reply, Okay, Started, MadeActive, Entered, Counted, Shown, Lies, Nothing, SegmentIs, Placed, BlockIs, RoomIs, Refused}
+use Rattle.loader_machine.specs.Alloc.{alloc_want, is_locked, level_in, is_movable}
+use Rattle.loader_machine.specs.Commands.{Command, Banks, Load, LoadSegment, UnloadSegment, Jsl, ShutDown, Restart, Purge, Poke, Bytes, Where, Info, Alloc, Free, Lock, Unlock, Level, StateOf, Room, Compact, Reply, Okay, Started, MadeActive, Entered, Counted, Shown, Lies, Nothing, SegmentIs, Placed, BlockIs, RoomIs, Moved, Refused}
 use Rattle.loader_machine.specs.Refusals.{Refuse, load_refusal, rows_refusal, bytes_refusal, info_refusal, load_segment_refusal, unload_refusal, poke_refusal, shut_down_refusal, restart_refusal, purge_refusal, state_refusal, free_refusal, change_refusal}
 
 -- ---- what is seen of users
@@ -403,13 +405,13 @@ pub record StepsRestart (Makes : MakesRoom) (held : FileMap) (state : Machine) (
 
 -- ---- the script's own blocks
 
--- a block is placed for the script under a new handle, unlocked or locked
-pub data StepsAlloc (Makes : MakesRoom) (state : Machine) (want : Want) (locked : Bool) (level : ℕ) (reply : Reply) (next : Machine) : Type 0 where
-  IsPlaced : (h : Handle) (slots : Slots) (puts : Puts Makes state.banks state.slots want 0 locked level false h slots)
-      → reply ≡ Placed h puts.address → next ≡ with_slots state slots → StepsAlloc Makes state want locked level reply next
-  HasNoHandle : new_handle state.slots ≡ None → reply ≡ Refused NoHandle → next ≡ state → StepsAlloc Makes state want locked level reply next
+-- a block is placed for the script under a new handle, unlocked or locked, and movable or not
+pub data StepsAlloc (Makes : MakesRoom) (state : Machine) (want : Want) (locked : Bool) (level : ℕ) (movable : Bool) (reply : Reply) (next : Machine) : Type 0 where
+  IsPlaced : (h : Handle) (slots : Slots) (puts : Puts Makes state.banks state.slots want 0 locked level movable h slots)
+      → reply ≡ Placed h puts.address → next ≡ with_slots state slots → StepsAlloc Makes state want locked level movable reply next
+  HasNoHandle : new_handle state.slots ≡ None → reply ≡ Refused NoHandle → next ≡ state → StepsAlloc Makes state want locked level movable reply next
   HasNoRoom : IsSome (new_handle state.slots) → LacksRoom Makes state.banks state.slots want → reply ≡ Refused (NoRoom 0) → next ≡ state
-      → StepsAlloc Makes state want locked level reply next
+      → StepsAlloc Makes state want locked level movable reply next
 
 -- the handle's block is changed
 abbrev pub StepsChange : Machine → Handle → (Block → Block) → Reply → Machine → Type 0
@@ -444,7 +446,8 @@ Steps Makes held state (Where address) reply next = (place : Place) × IsLocated
 Steps Makes held state (Info id number) reply next = Does held state id (λ seen. info_refusal seen number) reply next
     (λ user. (sees : Sees held state id) × (s : Segment) × (segment_at sees.segments number ≡ Some s)
     × (reply ≡ SegmentIs (presence_at state.slots (handles_of user) number) s.fields.length s.fields.kind) × (next ≡ state))
-Steps Makes held state (Alloc want locked level) reply next = StepsAlloc Makes state want locked level reply next
+Steps Makes held state (Alloc size attributes address) reply next =
+    StepsAlloc Makes state (alloc_want size attributes address) (is_locked attributes) (level_in attributes) (is_movable attributes) reply next
 Steps Makes held state (Free h) reply next = Decides (free_refusal state.slots h) state reply next
     ((reply ≡ Okay) × (next ≡ with_slots state (after_release state.slots h)))
 Steps Makes held state (Lock h) reply next = StepsChange state h (λ block. record block { locked = true }) reply next
@@ -453,3 +456,5 @@ Steps Makes held state (Level h level) reply next = StepsChange state h (λ bloc
 Steps Makes held state (StateOf h) reply next = Decides (state_refusal state.slots h) state reply next
     ((block : Block) × (get state.slots h ≡ Some block) × (reply ≡ BlockIs (state_of block)) × (next ≡ state))
 Steps Makes held state Room reply next = (count : ℕ) × CountsBelow (IsRoom state.banks state.slots) (2 ^ 24) count × (reply ≡ RoomIs count) × (next ≡ state)
+Steps Makes held state Compact reply next = (slots : Slots) × Slides state.banks state.slots slots × (reply ≡ Moved (count_moved state.slots slots))
+    × (next ≡ with_slots state slots)

@@ -3,4 +3,5 @@ pub mod StandsLaws
 pub mod PutLaws
 pub mod OnceLaws
 pub mod ScriptLaws
+pub mod AllocLaws
 pub mod ScriptCommandLaws

@@ -38,7 +38,7 @@ pub enum LoaderFault {
     Changed { kept: Facts, found: Facts },
     /// No slot is left for a handle.
     NoHandle,
-    /// The segment with this number has no room, whatever may be purged; 0 is a block of the script.
+    /// The segment with this number has no room, whatever may be purged and slid down; 0 is a block of the script.
     NoRoom(u16),
     /// The handle isn't live.
     Stale,

@@ -24,6 +24,7 @@ pub enum CommandName {
     Level,
     Handle,
     Room,
+    Compact,
 }
 
 /// What is wrong with a line of a script: the first cause in this order.

@@ -1,10 +1,3 @@
-pub mod FirstWord
-pub mod Digits
-pub mod BankNumbers
-pub mod Counts
-pub mod Come
-pub mod JoinedWords
-pub mod Ends
 pub mod Transcripts
 pub mod ScriptWords
 pub mod UnderWay

@@ -6,7 +6,7 @@ use Rattle.omf_io.specs.Counts.{risen}
 use Rattle.omf_io.specs.Files.{FileMap, StoreSeen}
 use Rattle.omf_base.specs.declared.line.LineFault.{LineFault}
 use Rattle.load_meaning.specs.Pathnames.{paths_of}
-use Rattle.iigs_meaning.specs.Puts.{Purges}
+use Rattle.loader_machine.specs.Rule.{RoomRule}
 use Rattle.loader_machine.specs.declared.faults.LoaderFault.{LoaderFault}
 use Rattle.loader_machine.specs.declared.faults.LoaderFault.TheVariants as faults
 use Rattle.loader_machine.specs.Heads.{head_of}
@@ -101,7 +101,7 @@ load_counts held old path before now reads why (CantStart segments is rows cant 
 
 module _ (old new : Loaded) (path : List ℕ) (before now : StoreSeen) (held : now.held ≡ before.held) where
   abbrev Meets' : Reply → Type 0
-  Meets' reply = (files : FileMap) (state : Machine) → before.held ≡ Some files → Agrees files old state → MeetsReads Purges files state (Load path) reply new before now
+  Meets' reply = (files : FileMap) (state : Machine) → before.held ≡ Some files → Agrees files old state → MeetsReads RoomRule files state (Load path) reply new before now
 
   abbrev Loads : Result Started LoaderFault → Type 0
   Loads result = (reads : ℕ) × HasLoaded before.held old path result new before.faults now.faults reads × (now.asked ≡ risen reads before.asked)

@@ -10,7 +10,7 @@ use Rattle.omf_format.specs.File.{Segment}
 use Rattle.load_meaning.specs.declared.load.LoadFault.{LoadFault}
 use Rattle.load_meaning.specs.LoadTable.{table_of}
 use Rattle.iigs_meaning.specs.declared.handles.Handle.{Handle}
-use Rattle.iigs_meaning.specs.Puts.{Purges}
+use Rattle.loader_machine.specs.Rule.{RoomRule}
 use Rattle.iigs_meaning.specs.Memory.{Memory}
 use Rattle.loader_machine.specs.declared.faults.LoaderFault.{LoaderFault}
 use Rattle.loader_machine.specs.declared.faults.LoaderFault.TheVariants as faults
@@ -175,7 +175,7 @@ jsl_once loader id number at before now (inr same) = inl same.1
 
 -- over files that are told, and with which the loader agrees, the reply is the machine's
 abbrev Meets' : Command → Loaded → Loaded → StoreSeen → StoreSeen → Reply → Type 0
-Meets' command old new before now reply = (files : FileMap) (state : Machine) → before.held ≡ Some files → Agrees files old state → Meets Purges files state command reply new before.faults now.faults
+Meets' command old new before now reply = (files : FileMap) (state : Machine) → before.held ≡ Some files → Agrees files old state → Meets RoomRule files state command reply new before.faults now.faults
 
 module _ (command : Command) (old new : Loaded) (before now : StoreSeen) (held : now.held ≡ before.held)
     (as_unanswered : ReadsAtMost 1 before now → IsUnanswered command before now)
@@ -186,7 +186,7 @@ module _ (command : Command) (old new : Loaded) (before now : StoreSeen) (held :
       → (before.held ≡ None → now.faults ≡ risen (unread (reply ∷ [])) before.faults) → Meets' command old new before now reply → HasLine line command old new before now
   once_line line reply is faults_once untold meets = go asked
     where
-      reads : (files : FileMap) (state : Machine) → before.held ≡ Some files → Agrees files old state → MeetsReads Purges files state command reply new before now
+      reads : (files : FileMap) (state : Machine) → before.held ≡ Some files → Agrees files old state → MeetsReads RoomRule files state command reply new before now
       reads files state told agrees = meets_reads files state command reply new before now (alone files state) (needed files state told agrees) (meets files state told agrees)
 
       go : OnceAtMost before.asked now.asked → HasLine line command old new before now

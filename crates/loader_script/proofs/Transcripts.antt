@@ -17,7 +17,7 @@ use Rattle.iigs_meaning.specs.declared.wants.Want.{Want}
 use Rattle.iigs_meaning.specs.declared.wants.Block.{Block}
 use Rattle.iigs_meaning.specs.Slots.{get}
 use Rattle.iigs_meaning.specs.Fits.{Slots}
-use Rattle.iigs_meaning.specs.Puts.{Purges}
+use Rattle.loader_machine.specs.Rule.{RoomRule}
 use Rattle.iigs_meaning.specs.Memory.{Memory, IsPlaced}
 use Rattle.loader_machine.specs.declared.seen.Head.{Head}
 use Rattle.loader_machine.specs.declared.faults.LoaderFault.{LoaderFault}
@@ -25,6 +25,7 @@ use Rattle.loader_machine.specs.declared.faults.LoaderFault.TheVariants as fault
 use Rattle.loader_machine.specs.Heads.{at_number, is_table}
 use Rattle.loader_machine.specs.State.{Machine, Seen, empty_of, is_running, is_attached}
 use Rattle.loader_machine.specs.Presences.{presence_at, is_active}
+use Rattle.loader_machine.specs.Alloc.{alloc_want, is_locked, level_in, is_movable}
 use Rattle.loader_machine.specs.Commands as commands
 use Rattle.loader_machine.specs.Commands.{Command, Load, LoadSegment, Jsl, Restart, Reply}
 use Rattle.loader_machine.specs.Needs.{Needs, NeedsBehind, IsReadFor, path_if}
@@ -35,7 +36,7 @@ use Rattle.sys_loader.specs.declared.answers.Entered.{Entered}
 use Rattle.sys_loader.specs.Replies.{done_reply, where_reply, IsAllocRefusal}
 use Rattle.loader_agrees.specs.laws.Begun.{puts_here}
 use Rattle.sys_loader.specs.Lives.{DidPoke, DidUnload, DidShutDown}
-use Rattle.loader_agrees.specs.Agrees.{Loaded, kept_outlines, seen_by, Agrees, Met, Meets, ReadsNeeded, MeetsReads}
+use Rattle.loader_agrees.specs.Agrees.{Loaded, kept_outlines, seen_by, Agrees, Met, MetAlloc, Meets, ReadsNeeded, MeetsReads}
 use Rattle.loader_script.specs.declared.run.Stop.{Stop}
 use Rattle.loader_script.specs.declared.run.Stop.TheVariants as stop
 use Rattle.loader_script.specs.Replied.{is_unread, is_unread_fault, unread, MayRead, MayReadAll, AreReplies, OnceAtMost, ReadsAtMost, IsUnanswered}
@@ -160,7 +161,7 @@ idle_reads files state _ none = ([], refl, inl (refl, [], 0, (refl, refl), refl)
 
 -- a command that reads no file is answered as by the machine
 pub idle_answer : (store : StoreSeen) (command : Command) (old new : Loaded) (reply : Reply) → is_unread reply ≡ false → is_reader command ≡ false → IsUnanswered command store store
-    → ((files : FileMap) (state : Machine) → Agrees files old state → Met Purges files state command reply new) → IsAnswer command old reply new store store
+    → ((files : FileMap) (state : Machine) → Agrees files old state → Met RoomRule files state command reply new) → IsAnswer command old reply new store store
 idle_answer store command old new reply other none idle meets = record { told = go store.held; store = refl; unanswered = idle }
   where
     go : (h : Option FileMap) → OneTold command reply old new store store h
@@ -169,7 +170,7 @@ idle_answer store command old new reply other none idle meets = record { told = 
 
 -- and so is its line
 pub idle_line : (line : Result (List ℕ) LineFault) (store : StoreSeen) (command : Command) (old new : Loaded) (reply : Reply) → IfOk line (λ text. text ≡ reply_line reply) → is_unread reply ≡ false
-    → is_reader command ≡ false → IsUnanswered command store store → ((files : FileMap) (state : Machine) → Agrees files old state → Met Purges files state command reply new)
+    → is_reader command ≡ false → IsUnanswered command store store → ((files : FileMap) (state : Machine) → Agrees files old state → Met RoomRule files state command reply new)
     → HasLine line command old new store store
 idle_line (Ok text) store command old new reply is other none idle meets = (reply, idle_answer store command old new reply other none idle meets, is)
 idle_line (Err short) store command old new reply is other none idle meets = idle
@@ -195,18 +196,28 @@ okay_text (Ok text) is = ((λ same. absurd cc), is)
 okay_text (Err short) is = tt
 
 -- a block that was just placed is there
-pub alloc_there : (old new : Memory) (want : Want) (locked : Bool) (level : ℕ) (h : Handle) → IsPlaced Purges old want 0 locked level false h new → IsSomeAnd (get new.slots h) (λ block. IsSome block.at)
-alloc_there old new want locked level h is = rw (puts_here old.banks old.slots new.slots want 0 locked level h is.puts) refl
+pub alloc_there : (old new : Memory) (want : Want) (locked : Bool) (level : ℕ) (movable : Bool) (h : Handle) → IsPlaced RoomRule old want 0 locked level movable h new → IsSomeAnd (get new.slots h) (λ block. IsSome block.at)
+alloc_there old new want locked level movable h is = rw (puts_here old.banks old.slots new.slots want 0 locked level movable h is.puts) refl
 
--- and its address is that of the reply
-pub alloc_at : (files : FileMap) (state : Machine) (new : Loaded) (want : Want) (locked : Bool) (level : ℕ) (h : Handle) (address : ℕ) → IsSomeAnd (get new.memory.slots h) (λ block. block.at ≡ Some address)
-    → ((other : ℕ) × IsSomeAnd (get new.memory.slots h) (λ block. block.at ≡ Some other) × Met Purges files state (commands.Alloc want locked level) (commands.Placed h other) new)
-    → Met Purges files state (commands.Alloc want locked level) (commands.Placed h address) new
-alloc_at files state new want locked level h address is met = subst (λ (n : ℕ). Met Purges files state (commands.Alloc want locked level) (commands.Placed h n) new) (same (get new.memory.slots h) met.1 is) met.2
-  where
-    same : (o : Option Block) → IsSomeAnd o (λ block. block.at ≡ Some met.0) → IsSomeAnd o (λ block. block.at ≡ Some address) → met.0 ≡ address
-    same None p q = absurd p
-    same (Some block) p q = same_Some met.0 address (sym p ∙ q)
+module _ (files : FileMap) (state : Machine) (new : Loaded) (want : Want) (locked : Bool) (level : ℕ) (movable : Bool) where
+  -- and its address is that of the reply
+  pub alloc_at : (h : Handle) (address : ℕ) → IsSomeAnd (get new.memory.slots h) (λ block. block.at ≡ Some address)
+      → ((other : ℕ) × IsSomeAnd (get new.memory.slots h) (λ block. block.at ≡ Some other) × MetAlloc RoomRule files state want locked level movable (commands.Placed h other) new)
+      → MetAlloc RoomRule files state want locked level movable (commands.Placed h address) new
+  alloc_at h address is met = subst (λ (n : ℕ). MetAlloc RoomRule files state want locked level movable (commands.Placed h n) new) (same (get new.memory.slots h) met.1 is) met.2
+    where
+      same : (o : Option Block) → IsSomeAnd o (λ block. block.at ≡ Some met.0) → IsSomeAnd o (λ block. block.at ≡ Some address) → met.0 ≡ address
+      same None p q = absurd p
+      same (Some block) p q = same_Some met.0 address (sym p ∙ q)
+
+  -- the command asks for just this
+  pub alloc_asked : (size attributes address : ℕ) (reply : Reply) → want ≡ alloc_want size attributes address → locked ≡ is_locked attributes → level ≡ level_in attributes
+      → movable ≡ is_movable attributes → MetAlloc RoomRule files state want locked level movable reply new → Met RoomRule files state (commands.Alloc size attributes address) reply new
+  alloc_asked size attributes address reply e e' e2 e3 met =
+      subst (λ (w : Want). MetAlloc RoomRule files state w (is_locked attributes) (level_in attributes) (is_movable attributes) reply new) e
+      (subst (λ (b : Bool). MetAlloc RoomRule files state want b (level_in attributes) (is_movable attributes) reply new) e'
+      (subst (λ (n : ℕ). MetAlloc RoomRule files state want locked n (is_movable attributes) reply new) e2
+      (subst (λ (b : Bool). MetAlloc RoomRule files state want locked level b reply new) e3 met)))
 
 pub where_safe : (o : Option Entered) → is_unread (where_reply o) ≡ false
 where_safe None = refl
@@ -389,7 +400,7 @@ failed_reads files state command before now none (reads, (first, needs, inr its)
 -- a command that reads one file at most meets the machine, and reads what that needs
 pub meets_reads : (files : FileMap) (state : Machine) (command : Command) (reply : Reply) (new : Loaded) (before now : StoreSeen)
     → ((rows : List (List ℕ)) (behind : ℕ) → NeedsBehind files state command rows behind → behind ≡ 0) → ReadsNeeded files state command 0 before.asked now.asked
-    → Meets Purges files state command reply new before.faults now.faults → MeetsReads Purges files state command reply new before now
+    → Meets RoomRule files state command reply new before.faults now.faults → MeetsReads RoomRule files state command reply new before now
 meets_reads files state command reply new before now none reads (inl met) = inl (met.0, met.1, reads)
 meets_reads files state command reply new before now none reads (inr (inl cannot)) =
     inr (inl (cannot.0, cannot.1, cannot.2, cannot.3, cannot.4, cannot.5, failed_reads files state command before.asked now.asked none reads))
@@ -403,7 +414,7 @@ module _ (command : Command) (most : ℕ) (old new : Loaded) (before now : Store
   store_is = ap (λ (h : Option FileMap). record { held = h; faults = now.faults; asked = now.asked }) held
 
   -- over files that are told: the machine's reply, or `cannot read`
-  told_answer : (files : FileMap) (state : Machine) (reply : Reply) → reply ≢ commands.Refused faults.Memory → MeetsReads Purges files state command reply new before now
+  told_answer : (files : FileMap) (state : Machine) (reply : Reply) → reply ≢ commands.Refused faults.Memory → MeetsReads RoomRule files state command reply new before now
       → (others : ℕ) × (reads : ℕ) × (next : Machine) × IsAnswered files state command reply others next × IsReadFor files state command others reads × Agrees files new next
       × (now.faults ≡ risen others before.faults) × (now.asked ≡ risen reads before.asked)
   told_answer files state reply other (inl (met, same, reads)) = (0, reads.0, met.0, inl (met.1, refl), reads.1, met.2, same, reads.2)
@@ -412,7 +423,7 @@ module _ (command : Command) (most : ℕ) (old new : Loaded) (before now : Store
 
   -- the machine's answer, or none for want of memory
   abbrev Meets' : Reply → Type 0
-  Meets' reply = (files : FileMap) (state : Machine) → before.held ≡ Some files → Agrees files old state → MeetsReads Purges files state command reply new before now
+  Meets' reply = (files : FileMap) (state : Machine) → before.held ≡ Some files → Agrees files old state → MeetsReads RoomRule files state command reply new before now
 
   pub read_answer : (reply : Reply) (n : ℕ) → n ≤ most → MayRead command reply n → now.asked ≡ risen n before.asked → OnceAtMost before.faults now.faults → reply ≢ commands.Refused faults.Memory
       → (before.held ≡ None → Counted reply before.faults now.faults) → Meets' reply → IsAnswer command old reply new before now

@@ -92,6 +92,18 @@ pub fn counted_line(alloc: Global, count: u32) -> Result<Line, LineFault>
     Ok(line)
 }
 
+/// The reply to a slide.
+#[tactic(auto, unfolding(loader_machine::specs::Replies::reply_line, loader_machine::specs::Replies::reply_text))]
+pub fn moved_line(alloc: Global, count: u32) -> Result<Line, LineFault>
+    ensures { IfOk result (λ text. text ≡ reply_line (machine.Moved count)) }
+{
+    let mut line = Line::new(alloc);
+    line.text("moved ")?;
+    line.hex(count, 4)?;
+    line.text("\n")?;
+    Ok(line)
+}
+
 /// Appends bytes, each behind a space.
 #[tactic(auto, unfolding(loader_machine::specs::Replies::other_text))]
 fn put_others(line: &mut Line, bytes: &[u8]) -> Result<(), LineFault>

@@ -1,29 +1,29 @@
 //! Scripts that are run: each command is given to the loader, and its reply is printed.
 
 ghost use Rattle.std.specs.Prelude.{◌≡◌, ◌≤◌, ◌^◌, ◌<◌, ℕ, List, true, false, Some, Err, IsSome, IsSomeAnd, IfOk, OnErr};
+ghost use Rattle.omf_format.specs.Header.{has_attribute};
 ghost use Rattle.omf_io.specs.Files.{StoreSeen};
 ghost use Rattle.omf_io.specs.Outside.{outside};
 ghost use Rattle.loader_machine.specs.Commands as machine;
 ghost use Rattle.iigs_meaning.specs.Slots.{get};
-ghost use Rattle.iigs_meaning.specs.Fits.{IsWant};
 ghost use Rattle.loader_machine.specs.Heads.{some_if};
-ghost use Rattle.loader_machine.specs.Script.{is_word, alloc_want, IsCommand, AreCommands};
+ghost use Rattle.loader_machine.specs.Alloc.{alloc_want, level_in, is_movable};
+ghost use Rattle.loader_machine.specs.Script.{is_word, IsCommand, AreCommands};
 ghost use Rattle.sys_loader.specs.Replies.{done_reply};
-ghost use Rattle.loader_script.specs.View as view;
-ghost use Rattle.loader_script.specs.View.{IsRefused};
+ghost use Rattle.script_text.specs.View as view;
+ghost use Rattle.script_text.specs.View.{IsRefused};
 ghost use Rattle.loader_script.specs.Run.{HasRunScript};
 ghost use Rattle.loader_script.specs.Running.{HasPrinted, IsLineOf, HasLine, HasAnswered, HasFinished, IsFirstLoader, IsNotRun};
 
-use crate::command::{BankList, Command};
 use crate::replies::{
-    active_line, counted_line, entered_line, info_line, okay_line, placed_line, refusal_line,
-    room_line, shown_line, started_line, state_line, where_line,
+    active_line, counted_line, entered_line, info_line, moved_line, okay_line, placed_line,
+    refusal_line, room_line, shown_line, started_line, state_line, where_line,
 };
-use crate::script::{Script, read_script};
 use iigs_meaning::{BanksFault, Handle, Want};
 use loader_machine::{LoaderFault, ScriptCause, ScriptFault};
 use omf_base::{Line, LineFault, Name};
 use omf_io::{Files, Sink, SinkFault};
+use script_text::{BankList, Command, Script, read_script};
 use std::alloc::{AllocError, Global};
 use std::str;
 use sys_loader::Loader;
@@ -228,7 +228,7 @@ fn info(alloc: Global, user: u16, segment: u16, loader: &Loader) -> Result<Line,
 }
 
 /// What is asked of the place of a script's block.
-#[tactic(auto, unfolding(loader_machine::specs::Script::alloc_want))]
+#[tactic(auto, unfolding(loader_machine::specs::Alloc::alloc_want))]
 fn alloc_want(size: u32, attr: u16, address: u32) -> Want
     ensures { result ≡ alloc_want size attr address }
 {
@@ -264,18 +264,40 @@ fn address_of(loader: &Loader, handle: Handle) -> u32
     }
 }
 
+/// Whether a bit of ATTR is set.
+fn has(attr: u16, bit: u16) -> bool
+    ensures { result ≡ has_attribute bit attr }
+{
+    attr & bit != 0
+}
+
+/// The purge level in ATTR.
+fn level_in(attr: u16) -> u8
+    ensures { result ≡ level_in attr }
+{
+    (attr / 0x100 % 4) as u8
+}
+
+/// Whether a block is movable that is asked for so.
+fn is_movable(attr: u16) -> bool
+    ensures { result ≡ is_movable attr }
+{
+    !has(attr, 0x4000) && !has(attr, 0x0002) && !has(attr, 0x0001)
+}
+
 /// Places a block for the script.
 fn alloc_block(
     alloc: Global,
-    want: &Want,
-    locked: bool,
-    level: u8,
+    size: u32,
+    attr: u16,
+    address: u32,
     loader: &mut Loader,
 ) -> Result<Line, LineFault>
-    requires { IsWant want.now }
-    ensures { (store : StoreSeen) → HasLine result (machine.Alloc want.now locked level) loader.old loader.new store store }
+    requires { 1 ≤ size }
+    ensures { (store : StoreSeen) → HasLine result (machine.Alloc size attr address) loader.old loader.new store store }
 {
-    match loader.alloc(want, locked, level) {
+    let want = alloc_want(size, attr, address);
+    match loader.alloc(&want, has(attr, 0x8000), level_in(attr), is_movable(attr)) {
         Ok(handle) => placed_line(alloc, handle, address_of(loader, handle)),
         Err(fault) => refusal_line(alloc, fault),
     }
@@ -326,6 +348,13 @@ fn room(alloc: Global, loader: &Loader) -> Result<Line, LineFault>
     room_line(alloc, loader.room())
 }
 
+/// Slides the movable blocks down.
+fn compact(alloc: Global, loader: &mut Loader) -> Result<Line, LineFault>
+    ensures { (store : StoreSeen) → HasLine result machine.Compact loader.old loader.new store store }
+{
+    moved_line(alloc, loader.compact())
+}
+
 /// Gives the loader a command that isn't the first, and makes the line of the reply.
 fn reply<F: Files>(
     alloc: Global,
@@ -367,22 +396,14 @@ fn reply<F: Files>(
             size,
             attr,
             address,
-        } => {
-            let want = alloc_want(*size, *attr, *address);
-            alloc_block(
-                alloc,
-                &want,
-                *attr & 0x8000 != 0,
-                (*attr / 0x100 % 4) as u8,
-                loader,
-            )
-        }
+        } => alloc_block(alloc, *size, *attr, *address, loader),
         Command::Free { handle } => free(alloc, *handle, loader),
         Command::Lock { handle } => lock(alloc, *handle, loader),
         Command::Unlock { handle } => unlock(alloc, *handle, loader),
         Command::Level { handle, level: n } => level(alloc, *handle, *n, loader),
         Command::Handle { handle } => state(alloc, *handle, loader),
         Command::Room => room(alloc, loader),
+        Command::Compact => compact(alloc, loader),
     }
 }
 

@@ -18,7 +18,7 @@ use Rattle.asm_meaning.specs.declared.faults.AsmFault.{AsmFault}
 use Rattle.asm_meaning.specs.Object as asm
 use Rattle.omf_records.specs.Segments as records
 use Rattle.omf_cells.specs.Load as cells
-use Rattle.link_emit.specs.Answers.{IsLinkRefused}
+use Rattle.link_file.specs.Answers.{IsLinkRefused}
 use Rattle.omf_c.specs.Causes.{cause_names, name_of}
 
 pub no_name : (number : ℕ) → 48 < number → name_of number ≡ None

@@ -7,7 +7,7 @@ use Rattle.lib_dict.specs.declared.fault.LibFault.{LibFault}
 use Rattle.link_meaning.specs.declared.fault.LinkFault.{LinkFault}
 use Rattle.asm_meaning.specs.declared.faults.AsmFault.{AsmFault}
 use Rattle.loader_machine.specs.Replies.{cause_text}
-use Rattle.omf_cli.specs.FileCauses.{cause_name}
+use Rattle.omf_making.specs.FileCauses.{cause_name}
 use Rattle.omf_cli.specs.LibCauses.{lib_cause_name}
 use Rattle.omf_cli.specs.LinkCauses.{link_cause_name}
 use Rattle.omf_cli.specs.AsmCauses.{asm_cause_name}

@@ -1,7 +1,7 @@
 //! The numbers of causes.
 
 ghost use Rattle.std.specs.Prelude.{◌≡◌, ◌≢◌, Some, MatchOption};
-ghost use Rattle.omf_cli.specs.FileCauses.{cause_name};
+ghost use Rattle.omf_making.specs.FileCauses.{cause_name};
 ghost use Rattle.loader_machine.specs.Replies.{cause_text};
 ghost use Rattle.omf_cli.specs.LibCauses.{lib_cause_name};
 ghost use Rattle.omf_cli.specs.LinkCauses.{link_cause_name};

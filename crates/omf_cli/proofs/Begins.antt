@@ -27,7 +27,7 @@ use Rattle.link_meaning.specs.laws.SettingLaws.{of_setting}
 use Rattle.link_meaning.specs.laws.WrittenSegments.{are_written_as}
 use Rattle.link_meaning.specs.laws.LoadSegmentLaws.{is_read_whole}
 use Rattle.link_meaning.specs.laws.LinkLoadableLaws.{only_calls_reach_dynamic, is_loaded}
-use Rattle.iigs_meaning.specs.Puts.{Purges}
+use Rattle.loader_machine.specs.Rule.{RoomRule}
 use Rattle.loader_machine.specs.declared.faults.LoaderFault.{LoaderFault}
 use Rattle.loader_machine.specs.declared.faults.LoaderFault.TheVariants as fault
 use Rattle.loader_machine.specs.declared.seen.Head.{Head}
@@ -188,16 +188,16 @@ module _ (given : Given) (output : List ℕ) (bytes : HasBytes given) (is : IsLi
     lands (PutIn handles slots) id heads users at = subst ReplyBegins (sym at.0) tt
 
     -- by what comes of the rows
-    joins : (joined : Joined) → Joining (setting_in is.list).runtimes joined → LoadsJoined Purges state path loaded.0 joined reply next → ReplyBegins reply
+    joins : (joined : Joined) → Joining (setting_in is.list).runtimes joined → LoadsJoined RoomRule state path loaded.0 joined reply next → ReplyBegins reply
     joins (Stops reads why) comes at = refused reply fault.CannotRead tt (at.0 ∙ ap (λ (w : LoaderFault). Refused w) comes)
     joins (Joins all) comes at = by_entries _ _ (lost_refusal (map (map head_of) all) loaded.0) (ap (λ (l : List (List Segment)). lost_refusal (map (map head_of) l) loaded.0) comes ∙ no_lost) at
       where
-        by_entries : (id : ℕ) (users : User → List (Option User)) (r : Refuse) → r ≡ None → Decides r state reply next (Begins Purges state state.slots path id loaded.0 users reply next) → ReplyBegins reply
+        by_entries : (id : ℕ) (users : User → List (Option User)) (r : Refuse) → r ≡ None → Decides r state reply next (Begins RoomRule state state.slots path id loaded.0 users reply next) → ReplyBegins reply
         by_entries id users None e begins' = lands begins'.put id (map head_of loaded.0) users begins'.lands
         by_entries id users (Some why) e begins' = absurd cc
 
     rows : (r : Refuse) → rows_refusal (length state.users) (length (paths_of loaded.0)) ≡ r
-        → Decides r state reply next ((joined : Joined) × AreJoined held (paths_of loaded.0) joined × LoadsJoined Purges state path loaded.0 joined reply next) → ReplyBegins reply
+        → Decides r state reply next ((joined : Joined) × AreJoined held (paths_of loaded.0) joined × LoadsJoined RoomRule state path loaded.0 joined reply next) → ReplyBegins reply
     rows (Some why) e at = refused reply why (too_many (length state.users) (length (paths_of loaded.0)) why e) at.0
     rows None e at =
         let program = is.linkable.resolved.program in
@@ -206,21 +206,21 @@ module _ (given : Given) (output : List ℕ) (bytes : HasBytes given) (is : IsLi
         let same : come.0 ≡ at.0 = joined_once held (paths_of loaded.0) come.0 at.0 (subst (λ (paths : List (List ℕ)). AreJoined held paths come.0) (sym back.paths) come.1) at.1 in
         joins at.0 (subst (Joining (setting_in is.list).runtimes) same come.2) at.2
 
-    found : (f : Found) → IsFound held path f → LoadsFound Purges held state path f reply next → ReplyBegins reply
+    found : (f : Found) → IsFound held path f → LoadsFound RoomRule held state path f reply next → ReplyBegins reply
     found f is_found at =
         let good : HoldsLoad held path loaded.0 = record { file = output; is_held = (here, is_read_whole given output is); loadable = loaded.1 } in
         rows (rows_refusal (length state.users) (length (paths_of loaded.0))) refl
-        (subst (λ (g : Found). LoadsFound Purges held state path g reply next) (found_once held path f (Good loaded.0) is_found good) at)
+        (subst (λ (g : Found). LoadsFound RoomRule held state path g reply next) (found_once held path f (Good loaded.0) is_found good) at)
 
     steps : (r : Refuse) → load_refusal (length state.users) ≡ r
-        → Decides r state reply next ((f : Found) × IsFound held path f × LoadsFound Purges held state path f reply next) → ReplyBegins reply
+        → Decides r state reply next ((f : Found) × IsFound held path f × LoadsFound RoomRule held state path f reply next) → ReplyBegins reply
     steps None e at = found at.0 at.1 at.2
     steps (Some why) e at = refused reply why (full (length state.users) why e) at.0
 
-  pub begins : (result : Result answers.Started LoaderFault) (new : Loaded) (before now : ℕ) → Meets Purges held state (Load path) (load_reply result) new before now → BeginsOrLacks result
+  pub begins : (result : Result answers.Started LoaderFault) (new : Loaded) (before now : ℕ) → Meets RoomRule held state (Load path) (load_reply result) new before now → BeginsOrLacks result
   begins result new before now met = begun result (by_case met)
     where
-      by_case : Meets Purges held state (Load path) (load_reply result) new before now → ReplyBegins (load_reply result)
+      by_case : Meets RoomRule held state (Load path) (load_reply result) new before now → ReplyBegins (load_reply result)
       by_case (inl is') = steps (load_reply result) is'.0.0 (load_refusal (length state.users)) refl is'.0.1
       by_case (inr (inl cannot)) = refused (load_reply result) fault.CannotRead tt cannot.0
       by_case (inr (inr memory)) = refused (load_reply result) fault.Memory tt memory.0

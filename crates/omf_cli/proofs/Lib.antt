@@ -1,4 +1,3 @@
-pub mod Readings
 pub mod Runs
 pub mod Completes
 pub mod Once
@@ -10,4 +9,3 @@ mod Forms
 pub mod ReadBack
 pub mod Begins
 mod Stressing
-mod Numbers

@@ -10,8 +10,8 @@ use Rattle.omf_io.specs.Files.{max_file}
 use Rattle.lib_dict.specs.declared.member.Member.{Member}
 use Rattle.lib_dict.specs.Library.{Given}
 use Rattle.lib_dict.specs.Made.{given_file}
-use Rattle.omf_cli.specs.Words.{is_path, are_paths, words_of}
-use Rattle.omf_cli.specs.Made.{all_bytes, AreShort}
+use Rattle.omf_making.specs.Words.{is_path, are_paths, words_of}
+use Rattle.omf_making.specs.Made.{all_bytes, AreShort}
 use Rattle.omf_cli.specs.Library.{given_of}
 
 -- ---- paths

@@ -1,11 +1,10 @@
 -- What the linker answers is what the command makes.
-use Rattle.std.proofs.Common.{◌≡◌, ◌∙◌, ℕ, zero, suc, ◌+◌, ◌-◌, ◌*◌, ◌≤◌, List, [], ◌∷◌, length, map, take, drop, Option, refl, sym, ap, arith}
+use Rattle.std.proofs.Common.{◌≡◌, ◌∙◌, ℕ, zero, suc, ◌+◌, ◌-◌, ◌*◌, ◌≤◌, List, [], ◌∷◌, length, map, take, drop, sym, ap, arith}
 use Rattle.std.specs.Prelude.{◌&&◌, Vec, String, string_bytes, true, nat_le, IsTrue}
 use Rattle.std.specs.List.{list_all, AllByRecursion}
 use Rattle.std.proofs.lemmas.Bool.{and_parts, leb-true}
 use Rattle.std.specs.declared.alloc.Global.{Global}
 use Rattle.std.proofs.lemmas.List.{length-map, length-take, length-drop, take-map, drop-map}
-use Rattle.omf_io.specs.Files.{FileMap}
 use Rattle.lib_dict.specs.declared.member.Member.{Member}
 use Rattle.link_meaning.specs.declared.form.LinkForm.{LinkForm}
 use Rattle.link_meaning.specs.declared.form.LinkForm.TheVariants.{Program}
@@ -13,26 +12,13 @@ use Rattle.link_meaning.specs.LinkFaults.{Given}
 use Rattle.load_meaning.specs.Pathnames.{IsPath}
 use Rattle.link_resolve.specs.Runtimes.{files_of}
 use Rattle.link_resolve.specs.Resolved.{total_size, FewGiven, HavePaths, given_of}
-use Rattle.omf_cli.specs.Words.{is_path, is_printing, are_paths, are_printing, words_of}
+use Rattle.omf_making.specs.Words.{is_path, is_printing, are_paths, are_printing, words_of}
 use Rattle.omf_cli.specs.Link.{given_alone, given_with, under_paths}
-use Rattle.omf_cli.specs.Made.{all_bytes, AreShort}
-use Rattle.omf_cli.specs.Making.{AreRead}
+use Rattle.omf_making.specs.Made.{all_bytes, AreShort}
 
 few_bytes : (files : List (List ℕ)) → AreShort files → total_size files ≤ length files * 0x1000000
 few_bytes [] short = omega arith
 few_bytes (file ∷ files) short = omega (arith, short.0, few_bytes files short.1)
-
--- as many files were read as there are inputs
-count_read : (held : Option FileMap) (paths files : List (List ℕ)) → AreRead held paths files → length files ≡ length paths
-count_read held [] [] are = refl
-count_read held (path ∷ paths) (file ∷ files) are = ap suc (count_read held paths files are.1)
-count_read held [] (file ∷ files) are = absurd are
-count_read held (path ∷ paths) [] are = absurd are
-
--- so they are few where the inputs are
-pub few_read : (held : Option FileMap) (inputs : List (String Global)) (files : List (Vec ℕ Global)) → AreRead held (words_of inputs) (all_bytes files) → length inputs ≤ 255 → length files ≤ 255
-few_read held inputs files are few =
-    omega (arith, few, count_read held (words_of inputs) (all_bytes files) are, length-map inputs string_bytes, length-map files (λ (file : Vec ℕ Global). file.items))
 
 -- ---- run-time library files
 

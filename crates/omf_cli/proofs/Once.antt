@@ -1,12 +1,12 @@
 -- Each end was reached by exactly its reads, where the count is below its end.
 use Rattle.std.proofs.Common.{◌≡◌, ℕ, zero, suc, ◌+◌, ◌-◌, ◌^◌, ◌≤◌, List, ◌∷◌, length, length-append, inl, inr, Option, Some, ap, ◌∙◌, arith}
 use Rattle.omf_io.specs.Counts.{one_more, risen}
-use Rattle.omf_cli.specs.declared.status.Status.TheVariants as status
+use Rattle.omf_making.specs.declared.status.Status.TheVariants as status
 use Rattle.omf_io.specs.Files.{StoreSeen}
 use Rattle.loader_agrees.specs.Agrees.{Loaded}
-use Rattle.omf_cli.specs.Made.{Made}
+use Rattle.omf_making.specs.Made.{Made}
 use Rattle.omf_io.specs.Outside.{Outside}
-use Rattle.omf_cli.specs.Making.{MakesRun}
+use Rattle.omf_making.specs.Making.{MakesRun}
 use Rattle.omf_cli.specs.Script.{ScriptRun}
 
 risen-is : (more count : ℕ) → count + more ≤ 2 ^ 64 - 1 → risen more count ≡ count + more

@@ -5,8 +5,8 @@ use Rattle.std.specs.declared.alloc.Global.{Global}
 use Rattle.std.proofs.lemmas.List.{append-nil, map-append}
 use Rattle.lib_dict.specs.declared.member.Member.{Member}
 use Rattle.link_resolve.specs.Runtimes.{files_of}
-use Rattle.omf_cli.specs.Words.{words_of}
-use Rattle.omf_cli.specs.Made.{all_bytes}
+use Rattle.omf_making.specs.Words.{words_of}
+use Rattle.omf_making.specs.Made.{all_bytes}
 use Rattle.omf_cli.specs.Link.{under_paths}
 use Rattle.omf_cli.proofs.Libraries.{drop_word}
 

@@ -7,7 +7,7 @@ use Rattle.omf_base.specs.declared.line.LineFault.{LineFault}
 use Rattle.link_meaning.specs.declared.fault.LinkFault.{LinkFault}
 use Rattle.link_meaning.specs.declared.fault.LinkCause.TheVariants as causes
 use Rattle.link_resolve.specs.Resolved.{AreFew}
-use Rattle.link_emit.specs.Answers.{IsLinkRefused}
+use Rattle.link_file.specs.Answers.{IsLinkRefused}
 use Rattle.omf_format.specs.declared.fault.FileCause.{FileCause}
 use Rattle.omf_format.specs.declared.fault.FileCause.TheVariants as file_causes
 use Rattle.omf_format.specs.declared.fault.FileFault.{FileFault}
@@ -37,9 +37,9 @@ use Rattle.workload.specs.Rounds.{program}
 use Rattle.workload_meaning.specs.Draws.{behind}
 use Rattle.workload_meaning.specs.laws.LinkedProofs.{workload_is_linked}
 use Rattle.workload.specs.Work.{HasWorked}
-use Rattle.omf_cli.specs.declared.status.Status.{Status}
-use Rattle.omf_cli.specs.declared.status.Status.TheVariants.{Done, Refused, Usage, CannotRead, CannotWrite, CannotPrint, Memory}
-use Rattle.omf_cli.specs.Printing.{Whole, Part, Nothing, IsPrinted}
+use Rattle.omf_making.specs.declared.status.Status.{Status}
+use Rattle.omf_making.specs.declared.status.Status.TheVariants.{Done, Refused, Usage, CannotRead, CannotWrite, CannotPrint, Memory}
+use Rattle.omf_making.specs.Printing.{Whole, Part, Nothing, IsPrinted}
 use Rattle.omf_cli.specs.Stress.{IsOfWorkload, HasSegments, IsStore, RunsTo, HasStressed, HasEnded, stress_line}
 
 -- ---- the load file's segments

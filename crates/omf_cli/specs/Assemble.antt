@@ -4,8 +4,8 @@ use Rattle.asm_meaning.specs.declared.faults.AsmCause.TheVariants as causes
 use Rattle.asm_meaning.specs.declared.faults.AsmFault.{AsmFault}
 use Rattle.asm_meaning.specs.Object.{IsObject, IsFirstFault}
 use Rattle.omf_cli.specs.AsmCauses.{asm_cause_name}
-use Rattle.omf_cli.specs.Lines.{line_fault_line}
-use Rattle.omf_cli.specs.Made.{Made, Bytes, Refusal, first_of}
+use Rattle.omf_making.specs.Lines.{line_fault_line}
+use Rattle.omf_making.specs.Made.{Made, Bytes, Refusal, first_of}
 
 -- the files behind the first
 abbrev pub behind_first : List (List ℕ) → List (List ℕ)

@@ -4,8 +4,8 @@ use Rattle.omf_compact.specs.declared.fault.CompactFault.{CompactFault}
 use Rattle.omf_compact.specs.declared.fault.CompactCause.TheVariants.{Memory}
 use Rattle.omf_compact.specs.Answer.{IsAnswer, IsRefused}
 use Rattle.omf_cli.specs.CompactCauses.{compact_cause_name}
-use Rattle.omf_cli.specs.Lines.{refused_line}
-use Rattle.omf_cli.specs.Made.{Made, Bytes, Refusal, first_of}
+use Rattle.omf_making.specs.Lines.{refused_line}
+use Rattle.omf_making.specs.Made.{Made, Bytes, Refusal, first_of}
 
 -- the line of a fault that isn't want of memory; it stands in file 1
 abbrev pub TellsFault : CompactFault → Made → Type 0

@@ -3,9 +3,9 @@ use Rattle.std.specs.Prelude.{◌≡◌, ℕ, List, None}
 use Rattle.omf_format.specs.declared.fault.FileFault.{FileFault}
 use Rattle.omf_format.specs.File.{IsFirstFault}
 use Rattle.omf_listing.specs.Listing.{IsListing}
-use Rattle.omf_cli.specs.FileCauses.{cause_name}
-use Rattle.omf_cli.specs.Lines.{refused_line}
-use Rattle.omf_cli.specs.Made.{Made, Bytes, Refusal, first_of}
+use Rattle.omf_making.specs.FileCauses.{cause_name}
+use Rattle.omf_making.specs.Lines.{refused_line}
+use Rattle.omf_making.specs.Made.{Made, Bytes, Refusal, first_of}
 
 -- the fault stands in file 1
 abbrev pub DumpMakes : List (List ℕ) → Made → Type 0

@@ -2,8 +2,8 @@
 use Rattle.std.specs.Prelude.{◌≡◌, ◌≤◌, ℕ, ◌+◌, ◌-◌, ◌^◌, List, ◌∷◌, length, Option, Some}
 use Rattle.loader_agrees.specs.Agrees.{Loaded}
 use Rattle.omf_io.specs.Outside.{Outside}
-use Rattle.omf_cli.specs.declared.status.Status.TheVariants.{CannotRead, CannotWrite}
-use Rattle.omf_cli.specs.Form.{Asm, Link, Run, Lib}
+use Rattle.omf_making.specs.declared.status.Status.TheVariants.{CannotRead, CannotWrite}
+use Rattle.omf_making.specs.Form.{Asm, Link, Run, Lib}
 use Rattle.omf_cli.specs.Tool.{HasRun}
 
 -- where an output couldn't be written, the store was asked for each input once, and for nothing else

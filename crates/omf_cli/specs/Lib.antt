@@ -1,13 +1,5 @@
 pub mod AsmCauses
 pub mod Assemble
-pub mod Words
-pub mod Form
-pub mod Lines
-pub mod FileCauses
-pub mod ScriptCauses
-pub mod Printing
-pub mod Made
-pub mod Making
 pub mod LinkCauses
 pub mod Link
 pub mod Dump
@@ -20,7 +12,6 @@ pub mod Stress
 pub mod CompactCauses
 pub mod Compact
 pub mod Tool
-pub mod Code
 pub mod Laws
 pub mod Loads
 pub mod Headline

@@ -5,8 +5,8 @@ use Rattle.lib_dict.specs.declared.fault.LibCause.TheVariants as lib
 use Rattle.lib_dict.specs.Library.{Given, IsLibraryOf}
 use Rattle.lib_dict.specs.Made.{IsLibRefused}
 use Rattle.omf_cli.specs.LibCauses.{lib_cause_name}
-use Rattle.omf_cli.specs.Lines.{refused_line}
-use Rattle.omf_cli.specs.Made.{Made, Bytes, Refusal}
+use Rattle.omf_making.specs.Lines.{refused_line}
+use Rattle.omf_making.specs.Made.{Made, Bytes, Refusal}
 
 -- the files, each with its path as its name
 abbrev pub given_of : List (List ℕ) → List (List ℕ) → List Given

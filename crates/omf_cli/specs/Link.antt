@@ -8,8 +8,8 @@ use Rattle.link_meaning.specs.declared.fault.LinkCause.TheVariants as causes
 use Rattle.link_meaning.specs.LinkFaults.{Given}
 use Rattle.link_meaning.specs.EmitFaults.{IsFirstLinkFault, IsLinkedTo}
 use Rattle.omf_cli.specs.LinkCauses.{link_cause_name}
-use Rattle.omf_cli.specs.Lines.{refused_line}
-use Rattle.omf_cli.specs.Made.{Made, Bytes, Refusal}
+use Rattle.omf_making.specs.Lines.{refused_line}
+use Rattle.omf_making.specs.Made.{Made, Bytes, Refusal}
 
 -- the line of a fault: its cause, the name if there is one, and its spot
 abbrev pub link_fault_line : LinkFault → List ℕ

@@ -4,8 +4,8 @@ use Rattle.list_meaning.specs.declared.faults.ListFault.{ListFault}
 use Rattle.list_meaning.specs.declared.faults.ListCause.TheVariants as list
 use Rattle.list_meaning.specs.Answer.{IsListing, IsListFault}
 use Rattle.omf_cli.specs.ListCauses.{list_cause_name}
-use Rattle.omf_cli.specs.Lines.{refused_line}
-use Rattle.omf_cli.specs.Made.{Made, Bytes, Refusal, first_of}
+use Rattle.omf_making.specs.Lines.{refused_line}
+use Rattle.omf_making.specs.Made.{Made, Bytes, Refusal, first_of}
 
 -- the fault stands in file 1, and isn't want of memory
 abbrev pub ListMakes : List (List ℕ) → Made → Type 0

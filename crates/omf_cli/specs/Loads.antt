@@ -6,7 +6,7 @@ use Rattle.omf_io.specs.Files.{FileMap}
 use Rattle.link_meaning.specs.LinkFaults.{Given, HasBytes}
 use Rattle.link_meaning.specs.EmitFaults.{IsLinkedTo}
 use Rattle.link_meaning.specs.LinkLoadable.{NamesNoSkipped}
-use Rattle.iigs_meaning.specs.Puts.{Purges}
+use Rattle.loader_machine.specs.Rule.{RoomRule}
 use Rattle.loader_machine.specs.declared.faults.LoaderFault.{LoaderFault}
 use Rattle.loader_machine.specs.declared.faults.LoaderFault.TheVariants.{TooManyUsers, CannotRead, NoHandle, NoRoom, Memory}
 use Rattle.loader_machine.specs.State.{Machine}
@@ -39,4 +39,4 @@ HoldsLibraries held given = AllByRecursion (λ file. get held file.0 ≡ Some fi
 abbrev pub LinkedFilesBegin : Type 0
 LinkedFilesBegin = (given : Given) (output : List ℕ) → HasBytes given → (is : IsLinkedTo given output) → NamesNoSkipped is.list is.table
     → (held : FileMap) (path : List ℕ) → get held path ≡ Some output → HoldsLibraries held given
-    → (state : Machine) (result : Result Started LoaderFault) (new : Loaded) (before now : ℕ) → Meets Purges held state (Load path) (load_reply result) new before now → BeginsOrLacks result
+    → (state : Machine) (result : Result Started LoaderFault) (new : Loaded) (before now : ℕ) → Meets RoomRule held state (Load path) (load_reply result) new before now → BeginsOrLacks result

@@ -9,13 +9,13 @@ use Rattle.loader_agrees.specs.Agrees.{Loaded}
 use Rattle.loader_script.specs.Run.{HasRunScript}
 use Rattle.loader_script.specs.declared.run.ScriptEnd.{ScriptEnd}
 use Rattle.loader_script.specs.declared.run.ScriptEnd.TheVariants as script
-use Rattle.omf_cli.specs.Lines.{cannot_read_line, script_line}
-use Rattle.omf_cli.specs.Made.{first_of}
-use Rattle.omf_cli.specs.Making.{AreRead, AreHeld, StopsReading, IsShort, all_read}
-use Rattle.omf_cli.specs.Printing.{Ends}
-use Rattle.omf_cli.specs.ScriptCauses.{script_cause_name}
-use Rattle.omf_cli.specs.declared.status.Status.{Status}
-use Rattle.omf_cli.specs.declared.status.Status.TheVariants.{Done, Refused, CannotRead, CannotPrint, Memory}
+use Rattle.omf_making.specs.Lines.{cannot_read_line, script_line}
+use Rattle.omf_making.specs.Made.{first_of}
+use Rattle.omf_making.specs.Making.{AreRead, AreHeld, StopsReading, IsShort, all_read}
+use Rattle.omf_making.specs.Printing.{Ends}
+use Rattle.omf_making.specs.ScriptCauses.{script_cause_name}
+use Rattle.omf_making.specs.declared.status.Status.{Status}
+use Rattle.omf_making.specs.declared.status.Status.TheVariants.{Done, Refused, CannotRead, CannotPrint, Memory}
 
 -- the script was read, and its run ended so
 pub record HasBegun (inputs : List (List ℕ)) (came : ScriptEnd) (o : Outside) : Type 0 where

@@ -15,8 +15,8 @@ use Rattle.loader_agrees.specs.Agrees.{Loaded, Agrees}
 use Rattle.workload_meaning.specs.Object.{object}
 use Rattle.workload.specs.Rounds.{program}
 use Rattle.workload.specs.Work.{HasWorked}
-use Rattle.omf_cli.specs.declared.status.Status.{Status}
-use Rattle.omf_cli.specs.declared.status.Status.TheVariants.{Done, CannotPrint, Memory}
+use Rattle.omf_making.specs.declared.status.Status.{Status}
+use Rattle.omf_making.specs.declared.status.Status.TheVariants.{Done, CannotPrint, Memory}
 
 -- the one object of a workload
 pub record IsOfWorkload (files : List (List ℕ)) : Type 0 where

@@ -2,13 +2,13 @@
 use Rattle.std.specs.Prelude.{◌≡◌, ◌∷◌, Option, None, Some}
 use Rattle.omf_io.specs.Outside.{Outside, IsCalm}
 use Rattle.loader_agrees.specs.Agrees.{Loaded}
-use Rattle.omf_cli.specs.declared.status.Status.{Status}
-use Rattle.omf_cli.specs.declared.status.Status.TheVariants as status
+use Rattle.omf_making.specs.declared.status.Status.{Status}
+use Rattle.omf_making.specs.declared.status.Status.TheVariants as status
 use Rattle.link_meaning.specs.declared.form.LinkForm.TheVariants.{Program, Runtime}
-use Rattle.omf_cli.specs.Form.{Form, Asm, Link, Dump, Run, Lib, Stress, Rtl, LinkRt, Listing, Compact}
-use Rattle.omf_cli.specs.Lines.{usage_line}
-use Rattle.omf_cli.specs.Printing.{Ends}
-use Rattle.omf_cli.specs.Making.{MakesRun, CanMake}
+use Rattle.omf_making.specs.Form.{Form, Asm, Link, Dump, Run, Lib, Stress, Rtl, LinkRt, Listing, Compact}
+use Rattle.omf_making.specs.Lines.{usage_line}
+use Rattle.omf_making.specs.Printing.{Ends}
+use Rattle.omf_making.specs.Making.{MakesRun, CanMake}
 use Rattle.omf_cli.specs.Assemble.{AsmMakes}
 use Rattle.omf_cli.specs.Dump.{DumpMakes}
 use Rattle.omf_cli.specs.Link.{LinkMakes, given_alone, given_with}

@@ -3,11 +3,10 @@
 ghost use Rattle.std.specs.Prelude.{◌≡◌, ◌≢◌, ◌∷◌, IfOk, MatchOption};
 ghost use Rattle.omf_cli.specs.AsmCauses.{asm_cause_name};
 ghost use Rattle.omf_cli.specs.Assemble.{behind_first, AsmMakes, TellsAsmFault};
-ghost use Rattle.omf_cli.specs.Made.{all_bytes, made_of, first_of};
-ghost use Rattle.omf_cli.specs.Words.{words_of};
+ghost use Rattle.omf_making.specs.Made.{all_bytes, made_of, first_of};
+ghost use Rattle.omf_making.specs.Words.{words_of};
 
-use crate::making::{Maker, Making};
-use crate::printing::line_fault_line;
+use omf_making::{Maker, Making, line_fault_line};
 use orca_asm::{AsmCause, AsmFault, assemble};
 use std::alloc::{AllocError, Global};
 

@@ -3,12 +3,11 @@
 ghost use Rattle.std.specs.Prelude.{◌≡◌, ◌≢◌, IfOk, MatchOption};
 ghost use Rattle.omf_cli.specs.CompactCauses.{compact_cause_name};
 ghost use Rattle.omf_cli.specs.Compact.{TellsFault};
-ghost use Rattle.omf_cli.specs.Made.{made_of};
+ghost use Rattle.omf_making.specs.Made.{made_of};
 
-use crate::making::{Maker, Making, first_of};
-use crate::printing::refused_line;
 use omf_base::Spot;
 use omf_compact::{CompactCause, CompactFault, canonical};
+use omf_making::{Maker, Making, first_of, refused_line};
 use std::alloc::{AllocError, Global};
 
 pub struct Compact;

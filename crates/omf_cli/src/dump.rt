@@ -1,9 +1,8 @@
 //! `dump`: the listing of a file.
 
-use crate::making::{Maker, Making, first_of};
-use crate::printing::{cause_name, refused_line};
 use omf_base::Spot;
 use omf_listing::list_file;
+use omf_making::{Maker, Making, cause_name, first_of, refused_line};
 use omf_records::FileCause;
 use std::alloc::{AllocError, Global};
 

@@ -2,15 +2,14 @@
 
 ghost use Rattle.std.specs.Prelude.{◌≡◌, ◌≢◌, ◌<◌, ◌≤◌, ◌^◌, length, map, All, IfOk, IsTrue, MatchOption};
 ghost use Rattle.lib_dict.specs.Made.{given_file};
-ghost use Rattle.omf_cli.specs.Words.{are_paths, words_of};
+ghost use Rattle.omf_making.specs.Words.{are_paths, words_of};
 ghost use Rattle.omf_cli.specs.LibCauses.{lib_cause_name};
 ghost use Rattle.omf_cli.specs.Library.{given_of, LibMakes, TellsFault};
-ghost use Rattle.omf_cli.specs.Made.{all_bytes, made_of, AreShort};
+ghost use Rattle.omf_making.specs.Made.{all_bytes, made_of, AreShort};
 
-use crate::making::{Maker, Making};
-use crate::printing::refused_line;
 use lib_dict::{LibCause, LibFault, Member, make_library};
 use omf_base::Name;
+use omf_making::{Maker, Making, refused_line};
 use std::alloc::{AllocError, Global};
 
 /// The command with its inputs, whose paths are the names of the files in the library.
@@ -93,7 +92,7 @@ fn make_of(alloc: Global, paths: &[String], files: &[Vec<u8>]) -> Result<Making,
 }
 
 impl Maker for Lib<'_> {
-    ghost use Rattle.omf_cli.specs.Words.{words_of};
+    ghost use Rattle.omf_making.specs.Words.{words_of};
     ghost use Rattle.omf_cli.specs.Library.{LibMakes};
 
     ghost makes = { λ lib files made. LibMakes (words_of lib.inputs.now) files made };

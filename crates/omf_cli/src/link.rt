@@ -4,16 +4,15 @@ ghost use Rattle.std.specs.Prelude.{◌≡◌, ◌≢◌, ◌≤◌, ◌-◌, le
 ghost use Rattle.omf_cli.specs.LinkCauses.{link_cause_name};
 ghost use Rattle.link_resolve.specs.Resolved.{given_of, FewGiven, HavePaths};
 ghost use Rattle.link_resolve.specs.Runtimes.{files_of};
-ghost use Rattle.omf_cli.specs.Words.{are_printing, are_paths, words_of};
+ghost use Rattle.omf_making.specs.Words.{are_printing, are_paths, words_of};
 ghost use Rattle.omf_cli.specs.Link.{link_fault_line, given_alone, given_with, under_paths, LinkMakes, TellsLinkFault};
-ghost use Rattle.omf_cli.specs.Made.{all_bytes, made_of, AreShort};
+ghost use Rattle.omf_making.specs.Made.{all_bytes, made_of, AreShort};
 
-use crate::making::{Maker, Making};
-use crate::printing::refused_line;
 use lib_dict::Member;
 use link_emit::link_with;
 use link_meaning::{LinkCause, LinkFault, LinkForm};
 use omf_base::{Line, LineFault, Name};
+use omf_making::{Maker, Making, refused_line};
 use std::alloc::{AllocError, Global};
 
 /// All files are inputs, and are linked in this form.
@@ -179,7 +178,7 @@ impl Maker for Link {
 }
 
 impl Maker for LinkRt<'_> {
-    ghost use Rattle.omf_cli.specs.Words.{words_of};
+    ghost use Rattle.omf_making.specs.Words.{words_of};
     ghost use Rattle.omf_cli.specs.Link.{LinkMakes, given_with};
 
     ghost makes = { λ link files made. LinkMakes (given_with (words_of link.runtimes.now) files) made };

@@ -3,11 +3,10 @@
 ghost use Rattle.std.specs.Prelude.{◌≡◌, ◌≢◌, IfOk, MatchOption};
 ghost use Rattle.omf_cli.specs.ListCauses.{list_cause_name};
 ghost use Rattle.omf_cli.specs.Listings.{TellsListFault};
-ghost use Rattle.omf_cli.specs.Made.{made_of};
+ghost use Rattle.omf_making.specs.Made.{made_of};
 
-use crate::making::{Maker, Making, first_of};
-use crate::printing::refused_line;
 use omf_base::Spot;
+use omf_making::{Maker, Making, first_of, refused_line};
 use std::alloc::{AllocError, Global};
 use w65_list::{ListCause, ListFault, list_source};
 

@@ -2,15 +2,14 @@
 
 ghost use Rattle.std.specs.Prelude.{◌≡◌, ◌⊎◌, None};
 ghost use Rattle.omf_io.specs.Outside.{outside};
-ghost use Rattle.omf_cli.specs.Words.{words_of};
+ghost use Rattle.omf_making.specs.Words.{words_of};
 ghost use Rattle.omf_cli.specs.Script.{ScriptRun, CanRun};
 
-use crate::making::first_of;
-use crate::printing::{path_line, print, script_cause_name, script_line};
-use crate::reading::{Reading, read_all};
-use crate::status::Status;
 use loader_script::{ScriptEnd, run_script};
 use omf_io::{Files, Sink};
+use omf_making::{
+    Reading, Status, first_of, path_line, print, read_all, script_cause_name, script_line,
+};
 use std::alloc::Global;
 use sys_loader::Loader;
 

@@ -9,12 +9,11 @@ ghost use Rattle.link_resolve.specs.Resolved.{all_bytes};
 ghost use Rattle.workload_meaning.specs.Object as workload;
 ghost use Rattle.omf_cli.specs.Stress.{IsOfWorkload, HasSegments, IsStore, RunsTo, HasEnded, stress_line};
 
-use crate::printing::print;
-use crate::status::Status;
 use link_emit::link;
 use link_meaning::LinkCause;
 use omf_base::{Line, LineFault};
 use omf_io::Sink;
+use omf_making::{Status, print};
 use omf_records::{FileCause, segments};
 use std::alloc::{AllocError, Global};
 use sys_loader::Loader;

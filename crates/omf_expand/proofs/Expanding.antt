@@ -4,9 +4,9 @@ use Rattle.macro_meaning.specs.declared.faults.MacroCause.{MacroCause}
 use Rattle.macro_meaning.specs.declared.faults.MacroCause.TheVariants.{LineTooLong, TooManyLines, NoSuchSymbol, BadSetting, BadArguments, NoSequenceSymbol, Unclosed, Counter, TooNested, Noted, Memory}
 use Rattle.macro_meaning.specs.declared.faults.MacroFault.{MacroFault}
 use Rattle.macro_meaning.specs.Expansion.{IsFirstFault, IsFaultFor, IsMacroFault}
-use Rattle.omf_cli.specs.declared.making.Making.{Making}
+use Rattle.omf_making.specs.declared.making.Making.{Making}
 use Rattle.omf_cli.specs.Assemble.{behind_first}
-use Rattle.omf_cli.specs.Made.{Made, Bytes, Refusal, made_of, first_of}
+use Rattle.omf_making.specs.Made.{Made, Bytes, Refusal, made_of, first_of}
 use Rattle.omf_expand.specs.Expanded.{ExpandMakes, TellsMacroFault}
 
 -- a fault that isn't want of memory is the first fault

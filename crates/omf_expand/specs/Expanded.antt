@@ -7,15 +7,15 @@ use Rattle.macro_meaning.specs.declared.faults.MacroFault.{MacroFault}
 use Rattle.macro_meaning.specs.Expansion.{IsFirstFault}
 use Rattle.asm_meaning.specs.Object.{cause_of}
 use Rattle.expand_lines.specs.LinesText.{IsTextOf}
-use Rattle.omf_cli.specs.declared.status.Status.{Status}
-use Rattle.omf_cli.specs.declared.status.Status.TheVariants as status
+use Rattle.omf_making.specs.declared.status.Status.{Status}
+use Rattle.omf_making.specs.declared.status.Status.TheVariants as status
 use Rattle.omf_cli.specs.AsmCauses.{asm_cause_name}
 use Rattle.omf_cli.specs.Assemble.{behind_first}
-use Rattle.omf_cli.specs.Lines.{line_fault_line}
-use Rattle.omf_cli.specs.Made.{Made, Bytes, Refusal, first_of}
-use Rattle.omf_cli.specs.Making.{MakesRun, CanMake}
-use Rattle.omf_cli.specs.Printing.{Ends}
-use Rattle.omf_cli.specs.Words.{are_paths}
+use Rattle.omf_making.specs.Lines.{line_fault_line}
+use Rattle.omf_making.specs.Made.{Made, Bytes, Refusal, first_of}
+use Rattle.omf_making.specs.Making.{MakesRun, CanMake}
+use Rattle.omf_making.specs.Printing.{Ends}
+use Rattle.omf_making.specs.Words.{are_paths}
 
 -- the line of a fault of expansion, as `asm` prints it: its cause, its file and its line
 abbrev pub expand_fault_line : MacroFault → List ℕ

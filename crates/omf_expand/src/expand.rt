@@ -4,8 +4,8 @@ ghost use Rattle.std.specs.Prelude.{◌≡◌, ◌⊎◌, IfOk};
 ghost use Rattle.asm_meaning.specs.Object.{cause_of};
 ghost use Rattle.omf_io.specs.Outside.{outside};
 ghost use Rattle.omf_cli.specs.AsmCauses.{asm_cause_name};
-ghost use Rattle.omf_cli.specs.Made.{all_bytes, made_of};
-ghost use Rattle.omf_cli.specs.Words.{words_of};
+ghost use Rattle.omf_making.specs.Made.{all_bytes, made_of};
+ghost use Rattle.omf_making.specs.Words.{words_of};
 ghost use Rattle.omf_expand.specs.Expanded.{ExpandMakes, TellsMacroFault, expand_usage_line, HasExpanded, CanExpand};
 
 use expand_lines::expand_text;

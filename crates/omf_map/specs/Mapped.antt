@@ -6,13 +6,13 @@ use Rattle.link_meaning.specs.declared.fault.LinkFault.{LinkFault}
 use Rattle.link_meaning.specs.LinkFaults.{plain}
 use Rattle.link_meaning.specs.EmitFaults.{IsFirstLinkFault}
 use Rattle.link_map.specs.MapText.{IsMapOf}
-use Rattle.omf_cli.specs.declared.status.Status.{Status}
-use Rattle.omf_cli.specs.declared.status.Status.TheVariants as status
+use Rattle.omf_making.specs.declared.status.Status.{Status}
+use Rattle.omf_making.specs.declared.status.Status.TheVariants as status
 use Rattle.omf_cli.specs.Link.{link_fault_line}
-use Rattle.omf_cli.specs.Made.{Made, Bytes, Refusal}
-use Rattle.omf_cli.specs.Making.{MakesRun, CanMake}
-use Rattle.omf_cli.specs.Printing.{Ends}
-use Rattle.omf_cli.specs.Words.{are_paths}
+use Rattle.omf_making.specs.Made.{Made, Bytes, Refusal}
+use Rattle.omf_making.specs.Making.{MakesRun, CanMake}
+use Rattle.omf_making.specs.Printing.{Ends}
+use Rattle.omf_making.specs.Words.{are_paths}
 
 -- the map of the linked list of the inputs, or the line of their first fault, as `link` prints it
 abbrev pub MapMakes : List (List ℕ) → Made → Type 0

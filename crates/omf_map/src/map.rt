@@ -2,8 +2,8 @@
 
 ghost use Rattle.std.specs.Prelude.{◌≡◌, ◌⊎◌, ◌≤◌, IfOk, length};
 ghost use Rattle.omf_io.specs.Outside.{outside};
-ghost use Rattle.omf_cli.specs.Words.{words_of};
-ghost use Rattle.omf_cli.specs.Made.{all_bytes, made_of, AreShort};
+ghost use Rattle.omf_making.specs.Words.{words_of};
+ghost use Rattle.omf_making.specs.Made.{all_bytes, made_of, AreShort};
 ghost use Rattle.omf_map.specs.Mapped.{MapMakes, map_usage_line, HasMapped, CanMap};
 
 use link_map::map_files;

@@ -1,7 +1,6 @@
 -- What directives leave, as the definition says it.
 use Rattle.std.proofs.Common.{◌≡◌, ℕ, Bool, true, false, List, [], ◌∷◌, Result, Ok, Err, refl, sym, ap, subst, cond, arith, ◌∙◌}
 use Rattle.omf_format.specs.Field.{◌>>=◌}
-use Rattle.omf_format.specs.Record.{End, Using}
 use Rattle.orca_meaning.specs.Line.{Line}
 use Rattle.asm_meaning.specs.declared.directives.Class.{Class}
 use Rattle.asm_meaning.specs.declared.directives.Switch.{Switch}
@@ -161,10 +160,10 @@ meant_of a (Ok m) e = (m, refl, same (kept_view a) (kept_of 0 m) e)
     same x y e = cc
 meant_of a (Err cause) e = absurd cc
 
-pub equ_good : (state : State) (cs : Constants) (k : Kept) (global : Bool) (label : Answer (List ℕ)) (answer : Result Amount AsmCause) (a : Amount) (text name bytes : List ℕ) → HasAmount cs text answer → cs ≡ constants_of state
-    → both label answer ≡ Ok (name, a) → bytes ≡ name → ((meant : meaning.Amount) → kept_view a ≡ kept_of 0 meant → ShowsState (in_segment (equated global bytes meant) state) k)
+pub equ_good : (state : State) (cs : Constants) (k : Kept) (global : Bool) (label : Answer (List ℕ)) (answer : Result Amount AsmCause) (a : Amount) (text name : List ℕ) → HasAmount cs text answer → cs ≡ constants_of state
+    → both label answer ≡ Ok (name, a) → ((meant : meaning.Amount) → kept_view a ≡ kept_of 0 meant → ShowsState (in_segment (equated global name meant) state) k)
     → IsEquated {U = Unit {0}} state global label text (Ok tt) k
-equ_good state cs k global label answer a text name bytes h same b is shows =
+equ_good state cs k global label answer a text name h same b shows =
     let parts = both_ok label answer (name, a) b in
     let view : amount_view (Ok a) ≡ kept_answer 0 (amount_found (constants_of state) h.found) = sym (ap amount_view parts.1) ∙ h.amount' ∙ ap (λ (c : Constants). kept_answer 0 (amount_found c h.found)) same in
     let m = meant_of a (amount_found (constants_of state) h.found) view in
@@ -174,7 +173,7 @@ equ_good state cs k global label answer a text name bytes h same b is shows =
       leaves = (
         in_segment (equated global name m.0) state,
         given_left state label m.0 (amount_found (constants_of state) h.found) global name parts.0 m.1,
-        subst (λ (n : List ℕ). ShowsState (in_segment (equated global n m.0) state) k) is (shows m.0 m.2),
+        shows m.0 m.2,
       );
     }
 

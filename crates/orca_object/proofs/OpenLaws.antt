@@ -1,5 +1,5 @@
 -- Changes of the segment that is open.
-use Rattle.std.proofs.Common.{◌≡◌, ℕ, ◌+◌, List, [], ◌∷◌, ◌++◌, None, sym, ap, subst, ◌∙◌, append_assoc, append-nil, arith}
+use Rattle.std.proofs.Common.{◌≡◌, ℕ, List, [], ◌∷◌, ◌++◌, None, sym, ap, subst, ◌∙◌, append_assoc, append-nil, arith}
 use Rattle.omf_format.specs.Record.{Record}
 use Rattle.link_meaning.specs.Sizes.{size_at}
 use Rattle.asm_meaning.specs.Pieces.{place_behind, length_at}

@@ -1,5 +1,6 @@
 -- How the records of statements are written.
-use Rattle.std.proofs.Common.{◌≡◌, ℕ, suc, ◌+◌, ◌<◌, ◌≤◌, Bool, true, false, cond, leb, List, [], ◌∷◌, ◌++◌, length, Option, Some, None, refl, sym, ap, subst, ◌∙◌, append_assoc, append-nil, arith}
+use Rattle.std.proofs.Common.{◌≡◌, ℕ, zero, suc, replicate, slice_index_or, ◌+◌, ◌<◌, ◌≤◌, Bool, true, false, cond, leb, List, [], ◌∷◌, ◌++◌, length, Option, Some, None, refl, sym, ap, subst, ◌∙◌, append_assoc, append-nil, arith}
+use Rattle.std.specs.List.{repeat}
 use Rattle.std.proofs.lemmas.Bool.{leb-true, le-leb, lt-leb}
 use Rattle.std.proofs.lemmas.List.{length-append}
 use Rattle.std.proofs.lemmas.List.Concat.{flat_map-cons, flat_map-append}
@@ -126,6 +127,35 @@ copies_next count less l is = let next : count ≡ suc less = omega (arith, is) 
 pub parts_split : (p : Part) (parts : List Part) → all_pieces (p ∷ parts) ≡ part_pieces p ++ all_pieces parts
 parts_split p parts = flat_map-cons part_pieces p parts
 
+pub repeat_one : (count byte : ℕ) → replicate count byte ≡ repeat count (byte ∷ [])
+repeat_one zero byte = refl
+repeat_one (suc n) byte = ap (λ (l : List ℕ). byte ∷ l) (repeat_one n byte)
+
+-- a byte that is all of some bytes
+pub repeat_only : (count : ℕ) (bytes : List ℕ) → 1 ≤ length bytes → length bytes < 2 → replicate count (slice_index_or bytes 0 0) ≡ repeat count bytes
+repeat_only count [] some few = absurd (omega (arith, some))
+repeat_only count (byte ∷ []) some few = repeat_one count byte
+repeat_only count (byte ∷ other ∷ bytes) some few = absurd (omega (arith, few))
+
+-- bytes that stand so often, once they were appended once more
+pub repeat_next : (old now new bytes : List ℕ) (count left less : ℕ) → left ≡ less + 1 → now ++ repeat left bytes ≡ old ++ repeat count bytes → new ≡ now ++ bytes → new ++ repeat less bytes ≡ old ++ repeat count bytes
+repeat_next old now new bytes count left less is all more =
+    let next : left ≡ suc less = omega (arith, is) in
+    ap (λ (l : List ℕ). l ++ repeat less bytes) more ∙ append_assoc now bytes (repeat less bytes) ∙ ap (λ (n : ℕ). now ++ repeat n bytes) (sym next) ∙ all
+
+-- constant bytes that stand so often wait for their record
+pub wrote_copies : (whole : List ℕ) (kept : Option (List ℕ)) (pending more : List ℕ) (count : ℕ) (rest : List Piece) → Wrote whole kept pending (copies count (Bytes more ∷ []) ++ rest) → Wrote whole kept (pending ++ repeat count more) rest
+wrote_copies whole kept pending more zero rest w = subst (λ (l : List ℕ). Wrote whole kept l rest) (sym (append-nil pending)) w
+wrote_copies whole kept pending more (suc n) rest w =
+    subst (λ (l : List ℕ). Wrote whole kept l rest) (append_assoc pending more (repeat n more))
+    (wrote_copies whole kept (pending ++ more) more n rest (wrote_bytes whole kept pending more (pending ++ more) (copies n (Bytes more ∷ []) ++ rest) refl w))
+
+-- pieces that are constant bytes alone, put so often
+pub wrote_only : (whole : List ℕ) (kept : Option (List ℕ)) (pending new bytes : List ℕ) (pieces : List Piece) (count : ℕ) (rest : List Piece) → pieces ≡ Bytes bytes ∷ [] → new ≡ pending ++ repeat count bytes
+    → Wrote whole kept pending (copies count pieces ++ rest) → Wrote whole kept new rest
+wrote_only whole kept pending new bytes pieces count rest only more w =
+    subst (λ (l : List ℕ). Wrote whole kept l rest) (sym more) (wrote_copies whole kept pending bytes count rest (subst (λ (l : List Piece). Wrote whole kept pending (copies count l ++ rest)) only w))
+
 -- what is still to be put, of pieces that were put from here on
 pub record PutLeft (old : Option (List ℕ)) (pending : List ℕ) (all : List Piece) (now : Option (List ℕ)) (waits : List ℕ) (left : List Piece) : Type 0 where
   pub puts : (whole : List ℕ) (rest : List Piece) → Wrote whole old pending (all ++ rest) → Wrote whole now waits (left ++ rest)
@@ -137,9 +167,6 @@ left_more old now new pending waits more all left a others l parts step = record
       step whole (others ++ rest) (subst (λ (x : List Piece). Wrote whole now waits x) (append_assoc a others rest) (subst (λ (x : List Piece). Wrote whole now waits (x ++ rest)) parts (l.puts whole rest w)));
   plain = (plain_append a others (subst ArePlainPieces parts l.plain)).1;
 }
-
-pub puts_same : (old new : Option (List ℕ)) (p q : List ℕ) (a b : List Piece) → a ≡ b → Puts old p a new q → Puts old p b new q
-puts_same old new p q a b same puts = subst (λ (l : List Piece). Puts old p l new q) same puts
 
 pub put_all : (text : List ℕ) (old mid new : Option (List ℕ)) (pending waits : List ℕ) (pieces : List Piece) → Puts old pending pieces mid waits → Grows mid new (records_text (constant_records waits)) → pending ≡ [] → old ≡ limited text
     → new ≡ limited (text ++ records_text (records_behind [] pieces))

@@ -1,6 +1,6 @@
 //! What a formula amounts to: a number, or the expression that is written (ORCA/M reference manual, "Expressions").
 
-ghost use Rattle.std.specs.Prelude.{◌≡◌, ◌≤◌, ◌++◌, ◌∷◌, [], length, map, Ok, IfOk, IfSome, OnOk};
+ghost use Rattle.std.specs.Prelude.{◌≡◌, ◌++◌, ◌∷◌, [], map, Ok, IfOk, IfSome, OnOk};
 ghost use Rattle.omf_format.specs.Expression.{AreTerms, IsTerm, term_text, terms_text, Tree, Spells};
 ghost use Rattle.omf_format.specs.Value.{value};
 ghost use Rattle.omf_expr.specs.View.{view};
@@ -14,7 +14,7 @@ ghost use Rattle.orca_object.specs.NumberView.{IsTerms, HasAmount, HasNumber};
 use crate::names::Known;
 use asm_meaning::AsmCause;
 use omf_expr::{Env, Expr, Term, Value, ValueFault, evaluate, put_term};
-use orca_text::{Formula, FormulaTerm, Operands, formula_at, is_too_deep};
+use orca_text::{Formula, FormulaTerm, LinePart, Operands, formula_at, is_too_deep};
 use std::alloc::{AllocError, Global};
 
 /// What a formula is worth.
@@ -249,11 +249,10 @@ pub(crate) fn amount_of(
 }
 
 /// The formula that a text is, unless it is too deep or has a number that is too large.
-fn formula_in(alloc: Global, text: &[u8]) -> Result<Result<Formula, AsmCause>, AllocError>
-    requires { length text.now ≤ 255 }
-    ensures { IfOk result (IsTerms text.now) }
+fn formula_in(alloc: Global, text: LinePart<'_>) -> Result<Result<Formula, AsmCause>, AllocError>
+    ensures { IfOk result (IsTerms text.entry.bytes.now) }
 {
-    let Some(found) = formula_at(alloc, Operands::Labels, text)? else {
+    let Some(found) = formula_at(alloc, Operands::Labels, text.bytes)? else {
         return Ok(Err(AsmCause::BadOperand));
     };
     if !found.rest.is_empty() {
@@ -272,10 +271,9 @@ fn formula_in(alloc: Global, text: &[u8]) -> Result<Result<Formula, AsmCause>, A
 pub(crate) fn amount_in(
     alloc: Global,
     known: Known<'_>,
-    text: &[u8],
+    text: LinePart<'_>,
 ) -> Result<Result<Amount, AsmCause>, AllocError>
-    requires { length text.now ≤ 255 }
-    ensures amount { IfOk result (HasAmount (constants known.entry) text.now) }
+    ensures amount { IfOk result (HasAmount (constants known.entry) text.entry.bytes.now) }
     ensures fine { IfOk result (λ answer. IfOk answer IsFineAmount) }
 {
     match formula_in(alloc, text)? {
@@ -291,10 +289,9 @@ pub(crate) fn amount_in(
 pub(crate) fn number_in(
     alloc: Global,
     known: Known<'_>,
-    text: &[u8],
+    text: LinePart<'_>,
 ) -> Result<Result<u32, AsmCause>, AllocError>
-    requires { length text.now ≤ 255 }
-    ensures { IfOk result (HasNumber (constants known.entry) text.now) }
+    ensures { IfOk result (HasNumber (constants known.entry) text.entry.bytes.now) }
 {
     match amount_in(alloc, known, text)? {
         Ok(Amount::Known(n)) => Ok(Ok(n)),

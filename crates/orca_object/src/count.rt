@@ -1,6 +1,6 @@
 //! How often an element of DC stands (ORCA/M reference manual, "Declare Constant").
 
-ghost use Rattle.std.specs.Prelude.{◌≡◌, ◌≤◌, ◌∷◌, List, ℕ, length, true, false, Some, None, Ok, Err, IfOk, IfSome, IfNone, MatchOption};
+ghost use Rattle.std.specs.Prelude.{◌≡◌, ◌∷◌, List, ℕ, true, false, Some, None, Ok, Err, IfOk, IfSome, IfNone, MatchOption};
 ghost use Rattle.omf_format.specs.Expression.{AreTerms, Tree};
 ghost use Rattle.orca_meaning.specs.declared.operators.Operands.TheVariants.{Labels};
 ghost use Rattle.orca_meaning.specs.Formula.{MeansAt};
@@ -13,7 +13,7 @@ use crate::element::{behind_parenthesis, in_range};
 use crate::names::Known;
 use crate::numbers::number_of;
 use asm_meaning::AsmCause;
-use orca_text::{Operands, behind_byte, digits_at, formula_at};
+use orca_text::{LinePart, Operands, behind_byte, digits_at, formula_at};
 use std::alloc::{AllocError, Global};
 
 /// A count, which is 1 to 65,535.
@@ -30,13 +30,12 @@ fn ranged(n: Result<u32, AsmCause>) -> Result<u32, AsmCause>
 fn computed_count<'a>(
     alloc: Global,
     known: Known<'_>,
-    behind: &'a [u8],
+    behind: LinePart<'a>,
 ) -> Result<Option<(Result<u32, AsmCause>, &'a [u8])>, AllocError>
-    requires { length behind.now ≤ 255 }
-    ensures found { IfOk result (λ found. IfSome found (λ x. IsComputed (constants known.entry) behind.now x.0 x.1.now)) }
-    ensures none { IfOk result (λ found. IfNone found ((tree : Tree) (rest : List ℕ) → MeansAt Labels behind.now tree (0x29 ∷ rest) → ⊥)) }
+    ensures found { IfOk result (λ found. IfSome found (λ x. IsComputed (constants known.entry) behind.entry.bytes.now x.0 x.1.now)) }
+    ensures none { IfOk result (λ found. IfNone found ((tree : Tree) (rest : List ℕ) → MeansAt Labels behind.entry.bytes.now tree (0x29 ∷ rest) → ⊥)) }
 {
-    let Some(found) = formula_at(alloc, Operands::Labels, behind)? else {
+    let Some(found) = formula_at(alloc, Operands::Labels, behind.bytes)? else {
         return Ok(None);
     };
     let Some(rest) = behind_byte(found.rest, b')') else {
@@ -70,18 +69,17 @@ fn count_by(found: Option<u32>) -> Result<u32, AsmCause>
 pub(crate) fn count_at<'a>(
     alloc: Global,
     known: Known<'_>,
-    text: &'a [u8],
+    text: LinePart<'a>,
 ) -> Result<Option<(Result<u32, AsmCause>, &'a [u8])>, AllocError>
-    requires { length text.now ≤ 255 }
-    ensures found { IfOk result (λ found. IfSome found (λ x. HasCount (constants known.entry) text.now x.0 x.1.now)) }
-    ensures none { IfOk result (λ found. IfNone found ((repeat : Repeat) (rest : List ℕ) → IsRepeatAt text.now repeat rest → ⊥)) }
+    ensures found { IfOk result (λ found. IfSome found (λ x. HasCount (constants known.entry) text.entry.bytes.now x.0 x.1.now)) }
+    ensures none { IfOk result (λ found. IfNone found ((repeat : Repeat) (rest : List ℕ) → IsRepeatAt text.entry.bytes.now repeat rest → ⊥)) }
 {
-    if let Some(behind) = behind_parenthesis(text) {
-        let found = computed_count(alloc, known, behind)?;
+    if let Some(behind) = behind_parenthesis(text.bytes) {
+        let found = computed_count(alloc, known, LinePart { bytes: behind })?;
         return Ok(found);
     }
-    if let Some((answer, rest)) = digits_count(text) {
+    if let Some((answer, rest)) = digits_count(text.bytes) {
         return Ok(Some((answer, rest)));
     }
-    Ok(Some((Ok(1), text)))
+    Ok(Some((Ok(1), text.bytes)))
 }

@@ -1,7 +1,7 @@
 //! Instructions, DC, DS and ANOP: statements that give bytes or a label alone (ORCA/M reference manual, "DC", "DS" and "ANOP"; GS/OS
 //! Reference, appendix F).
 
-ghost use Rattle.std.specs.Prelude.{◌≡◌, ◌≤◌, [], length, Some, IfOk, OnOk, Ok};
+ghost use Rattle.std.specs.Prelude.{◌≡◌, ◌≤◌, [], Some, IfOk, OnOk, Ok};
 ghost use Rattle.orca_meaning.specs.Line.{Line, LiesIn};
 ghost use Rattle.orca_text.specs.OperandView.{line_mnemonic, line_operand};
 ghost use Rattle.asm_meaning.specs.declared.directives.Operation.TheVariants.{Instruct, Direct};
@@ -20,7 +20,7 @@ use crate::state::{Content, Kept, Open};
 use crate::statement::{constants_given, instruction_given};
 use asm_meaning::AsmCause;
 use omf_base::Name;
-use orca_text::{Mnemonic, SourceLine};
+use orca_text::{LinePart, Mnemonic, SourceLine};
 use std::alloc::{AllocError, Global};
 
 /// The cells that no segment may have.
@@ -50,7 +50,7 @@ impl Open {
         ensures { OnOk result ((s : Segment) → ShowsSegment s self.old → ShowsSegment (marked label.now form (given_records given.now) s) self.new) }
     {
         let cells = u64::from(size);
-        self.mark(alloc, label.bytes(), form, cells)?;
+        self.mark(alloc, label, form, cells)?;
         given.put(&mut self.body.text, &mut self.pending)?;
         self.body.cells += cells;
         Ok(())
@@ -118,10 +118,10 @@ pub(crate) fn do_instruct(
     requires operation { LiesIn line.now.text line.now.operation }
     requires operand { LiesIn line.now.text line.now.operand }
     requires mnemonic { line_mnemonic line.now ≡ Some mnemonic }
-    requires text { length (line_operand line.now) ≤ 255 }
     requires short { IsShortOption kept.old.segment }
     ensures { IfOk result (λ done. (state : State) (l : Line) → ShowsState state kept.old → IsLeft state l (Instruct mnemonic) label (line_operand line.now) done kept.new) }
 {
+    let _text = line.part(line.operand);
     let known = kept.known();
     known.know_small();
     let given = instruction_given(alloc, known, kept.widths, mnemonic, line)?;
@@ -133,11 +133,10 @@ pub(crate) fn do_constants(
     alloc: Global,
     kept: &mut Kept,
     label: Result<Name, AsmCause>,
-    text: &[u8],
+    text: LinePart<'_>,
 ) -> Result<Result<(), AsmCause>, AllocError>
-    requires text { length text.now ≤ 255 }
     requires short { IsShortOption kept.old.segment }
-    ensures { IfOk result (λ done. (state : State) (l : Line) → ShowsState state kept.old → IsLeft state l (Direct Constants) label text.now done kept.new) }
+    ensures { IfOk result (λ done. (state : State) (l : Line) → ShowsState state kept.old → IsLeft state l (Direct Constants) label text.entry.bytes.now done kept.new) }
 {
     let known = kept.known();
     known.know_small();
@@ -158,7 +157,7 @@ pub(crate) fn given(
 {
     match both(label, content) {
         Ok((name, content)) => {
-            kept.give(alloc, name.bytes(), content)?;
+            kept.give(alloc, &name, content)?;
             Ok(Ok(()))
         }
         Err(cause) => Ok(Err(cause)),
@@ -198,11 +197,10 @@ pub(crate) fn do_space(
     alloc: Global,
     kept: &mut Kept,
     label: Result<Name, AsmCause>,
-    text: &[u8],
+    text: LinePart<'_>,
 ) -> Result<Result<(), AsmCause>, AllocError>
-    requires text { length text.now ≤ 255 }
     requires short { IsShortOption kept.old.segment }
-    ensures { IfOk result (λ done. (state : State) (line : Line) → ShowsState state kept.old → IsLeft state line (Direct directives.Space) label text.now done kept.new) }
+    ensures { IfOk result (λ done. (state : State) (line : Line) → ShowsState state kept.old → IsLeft state line (Direct directives.Space) label text.entry.bytes.now done kept.new) }
 {
     let number = number_in(alloc, kept.known(), text)?;
     space(alloc, kept, label, number)

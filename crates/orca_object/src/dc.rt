@@ -1,7 +1,7 @@
 //! The elements of DC (ORCA/M reference manual, "Declare Constant").
 
 ghost use Rattle.asm_meaning.specs.Constant.{Constants};
-ghost use Rattle.std.specs.Prelude.{◌≡◌, ◌≤◌, Bool, ◌∷◌, ◌⊎◌, ◌^◌, [], List, ℕ, length, map, Some, None, Ok, Err, IfOk, IfSome, IfNone};
+ghost use Rattle.std.specs.Prelude.{◌≡◌, ◌≤◌, Bool, ◌∷◌, ◌⊎◌, ◌^◌, [], List, ℕ, map, Some, None, Ok, Err, IfOk, IfSome, IfNone};
 ghost use Rattle.asm_meaning.specs.Elements.{Element, Value, IsElementAt, text_byte, strong_piece, weak_piece};
 ghost use Rattle.asm_meaning.specs.Elements as elements;
 ghost use Rattle.asm_meaning.specs.Pieces.{Bytes};
@@ -27,7 +27,7 @@ use crate::piece::Piece;
 use asm_meaning::AsmCause;
 use omf_base::{Name, NameFault};
 use omf_expr::{Term, put_term};
-use orca_text::behind_byte;
+use orca_text::{LinePart, behind_byte};
 use std::alloc::{AllocError, Global};
 
 /// What constant bytes give.
@@ -44,17 +44,16 @@ fn number_value<'a>(
     alloc: Global,
     known: Known<'_>,
     width: u8,
-    text: &'a [u8],
+    text: LinePart<'a>,
 ) -> Result<Option<(Result<Vec<Piece>, AsmCause>, &'a [u8])>, AllocError>
     requires width { width ≤ 4 }
-    requires short { length text.now ≤ 255 }
-    ensures found { IfOk result (λ found. IfSome found (λ x. (msb : Bool) → HasValue (constants known.entry) msb (elements.Number width) text.now (pieces_answer x.0) x.1.now)) }
-    ensures none { IfOk result (λ found. IfNone found (HasNoValue (elements.Number width) text.now)) }
+    ensures found { IfOk result (λ found. IfSome found (λ x. (msb : Bool) → HasValue (constants known.entry) msb (elements.Number width) text.entry.bytes.now (pieces_answer x.0) x.1.now)) }
+    ensures none { IfOk result (λ found. IfNone found (HasNoValue (elements.Number width) text.entry.bytes.now)) }
 {
-    let Some((inner, rest)) = closed_at(text) else {
+    let Some((inner, rest)) = closed_at(text.bytes) else {
         return Ok(None);
     };
-    let found = numbers_in(alloc, known, width, inner)?;
+    let found = numbers_in(alloc, known, width, LinePart { bytes: inner })?;
     match found {
         Some(answer) => Ok(Some((answer, rest))),
         None => Ok(None),
@@ -198,16 +197,15 @@ fn weak_pieces(alloc: Global, names: &[Name]) -> Result<Vec<Piece>, AllocError>
 /// The names of R.
 fn strong_value<'a>(
     alloc: Global,
-    text: &'a [u8],
+    text: LinePart<'a>,
 ) -> Result<Option<(Result<Vec<Piece>, AsmCause>, &'a [u8])>, AllocError>
-    requires { length text.now ≤ 255 }
-    ensures found { IfOk result (λ found. IfSome found (λ x. (constants : Constants) (msb : Bool) → HasValue constants msb elements.References text.now (pieces_answer x.0) x.1.now)) }
-    ensures none { IfOk result (λ found. IfNone found (HasNoValue elements.References text.now)) }
+    ensures found { IfOk result (λ found. IfSome found (λ x. (constants : Constants) (msb : Bool) → HasValue constants msb elements.References text.entry.bytes.now (pieces_answer x.0) x.1.now)) }
+    ensures none { IfOk result (λ found. IfNone found (HasNoValue elements.References text.entry.bytes.now)) }
 {
-    let Some((inner, rest)) = closed_at(text) else {
+    let Some((inner, rest)) = closed_at(text.bytes) else {
         return Ok(None);
     };
-    let found = names_in(alloc, inner)?;
+    let found = names_in(alloc, LinePart { bytes: inner })?;
     match found {
         Some(names) => {
             let pieces = strong_pieces(alloc, names.as_slice())?;
@@ -220,16 +218,15 @@ fn strong_value<'a>(
 /// The names of S.
 fn weak_value<'a>(
     alloc: Global,
-    text: &'a [u8],
+    text: LinePart<'a>,
 ) -> Result<Option<(Result<Vec<Piece>, AsmCause>, &'a [u8])>, AllocError>
-    requires { length text.now ≤ 255 }
-    ensures found { IfOk result (λ found. IfSome found (λ x. (constants : Constants) (msb : Bool) → HasValue constants msb elements.WeakReferences text.now (pieces_answer x.0) x.1.now)) }
-    ensures none { IfOk result (λ found. IfNone found (HasNoValue elements.WeakReferences text.now)) }
+    ensures found { IfOk result (λ found. IfSome found (λ x. (constants : Constants) (msb : Bool) → HasValue constants msb elements.WeakReferences text.entry.bytes.now (pieces_answer x.0) x.1.now)) }
+    ensures none { IfOk result (λ found. IfNone found (HasNoValue elements.WeakReferences text.entry.bytes.now)) }
 {
-    let Some((inner, rest)) = closed_at(text) else {
+    let Some((inner, rest)) = closed_at(text.bytes) else {
         return Ok(None);
     };
-    let found = names_in(alloc, inner)?;
+    let found = names_in(alloc, LinePart { bytes: inner })?;
     match found {
         Some(names) => {
             let pieces = weak_pieces(alloc, names.as_slice())?;
@@ -245,12 +242,11 @@ fn value_at<'a>(
     known: Known<'_>,
     msb: bool,
     kind: ElementKind,
-    text: &'a [u8],
+    text: LinePart<'a>,
 ) -> Result<Option<(Result<Vec<Piece>, AsmCause>, &'a [u8])>, AllocError>
     requires width { HasWidth kind }
-    requires short { length text.now ≤ 255 }
-    ensures found { IfOk result (λ found. IfSome found (λ x. HasValue (constants known.entry) msb (element_kind kind) text.now (pieces_answer x.0) x.1.now)) }
-    ensures none { IfOk result (λ found. IfNone found (HasNoValue (element_kind kind) text.now)) }
+    ensures found { IfOk result (λ found. IfSome found (λ x. HasValue (constants known.entry) msb (element_kind kind) text.entry.bytes.now (pieces_answer x.0) x.1.now)) }
+    ensures none { IfOk result (λ found. IfNone found (HasNoValue (element_kind kind) text.entry.bytes.now)) }
 {
     match kind {
         ElementKind::Number(width) => {
@@ -258,15 +254,15 @@ fn value_at<'a>(
             Ok(found)
         }
         ElementKind::Hexadecimal => {
-            let found = hexadecimal_value(alloc, text)?;
+            let found = hexadecimal_value(alloc, text.bytes)?;
             Ok(found)
         }
         ElementKind::Binary => {
-            let found = binary_value(alloc, text)?;
+            let found = binary_value(alloc, text.bytes)?;
             Ok(found)
         }
         ElementKind::Characters => {
-            let found = text_value(alloc, msb, text)?;
+            let found = text_value(alloc, msb, text.bytes)?;
             Ok(found)
         }
         ElementKind::References => {
@@ -304,11 +300,10 @@ pub(crate) fn element_at<'a>(
     alloc: Global,
     known: Known<'_>,
     msb: bool,
-    text: &'a [u8],
+    text: LinePart<'a>,
 ) -> Result<Option<(Result<Part, AsmCause>, &'a [u8])>, AllocError>
-    requires { length text.now ≤ 255 }
-    ensures found { IfOk result (λ found. IfSome found (λ x. HasElement (constants known.entry) msb text.now (part_answer x.0) x.1.now)) }
-    ensures none { IfOk result (λ found. IfNone found ((element : Element) (rest : List ℕ) → IsElementAt text.now element rest → ⊥)) }
+    ensures found { IfOk result (λ found. IfSome found (λ x. HasElement (constants known.entry) msb text.entry.bytes.now (part_answer x.0) x.1.now)) }
+    ensures none { IfOk result (λ found. IfNone found ((element : Element) (rest : List ℕ) → IsElementAt text.entry.bytes.now element rest → ⊥)) }
 {
     let counted = count_at(alloc, known, text)?;
     let Some((count, behind)) = counted else {
@@ -320,7 +315,7 @@ pub(crate) fn element_at<'a>(
     let Some(inner) = behind_byte(quote, b'\'') else {
         return Ok(None);
     };
-    let found = value_at(alloc, known, msb, kind, inner)?;
+    let found = value_at(alloc, known, msb, kind, LinePart { bytes: inner })?;
     let Some((value, rest)) = found else {
         return Ok(None);
     };

@@ -1,6 +1,6 @@
 //! EQU and GEQU (ORCA/M reference manual, "EQU" and "GEQU"; GS/OS Reference, appendix F).
 
-ghost use Rattle.std.specs.Prelude.{◌≡◌, IfOk, ◌≤◌, length};
+ghost use Rattle.std.specs.Prelude.{◌≡◌, IfOk};
 ghost use Rattle.omf_format.specs.Expression.{IsExpression};
 ghost use Rattle.asm_meaning.specs.Constant as meaning;
 ghost use Rattle.asm_meaning.specs.Constant.{tree_of_amount};
@@ -23,6 +23,7 @@ use crate::state::Kept;
 use asm_meaning::AsmCause;
 use omf_base::Name;
 use omf_records::Rec;
+use orca_text::LinePart;
 use std::alloc::{AllocError, Global};
 
 /// The expression of a number.
@@ -72,11 +73,10 @@ impl Kept {
         &mut self,
         alloc: Global,
         global: bool,
-        label: &[u8],
+        label: &Name,
         amount: Amount,
     ) -> Result<(), AllocError>
         requires some { 1 ≤ length label.now }
-        requires label { length label.now ≤ 255 }
         requires fine { IsFineAmount amount }
         requires short { IsShortOption self.old.segment }
         ensures { OnOk result ((state : State) (meant : meaning.Amount) → ShowsState state self.old → kept_view amount ≡ kept_of 0 meant → ShowsState (in_segment (equated global label.now meant) state) self.new) }
@@ -85,7 +85,7 @@ impl Kept {
         let expr = expression_of(alloc, amount)?;
         let equate = Rec::Equate {
             global,
-            name: label,
+            name: label.bytes(),
             length: 0,
             form: 0x4E,
             private: 0,
@@ -99,16 +99,16 @@ impl Kept {
     }
 
     /// GEQU outside segments.
-    fn equate_outside(&mut self, alloc: Global, label: &[u8], n: u32) -> Result<(), AllocError>
+    fn equate_outside(&mut self, alloc: Global, label: &Name, n: u32) -> Result<(), AllocError>
         requires some { 1 ≤ length label.now }
-        requires label { length label.now ≤ 255 }
         ensures { OnOk result ((state : State) → ShowsState state self.old → ShowsState (with_constant label.now n state) self.new) }
     {
-        self.outside.set(alloc, label, n)?;
+        let name = label.bytes();
+        self.outside.set(alloc, name, n)?;
         let expr = number_expression(alloc, n)?;
         let equate = Rec::Equate {
             global: true,
-            name: label,
+            name,
             length: 0,
             form: 0x4E,
             private: 0,
@@ -125,17 +125,16 @@ fn do_equate(
     kept: &mut Kept,
     global: bool,
     label: Result<Name, AsmCause>,
-    text: &[u8],
+    text: LinePart<'_>,
 ) -> Result<Result<(), AsmCause>, AllocError>
-    requires text { length text.now ≤ 255 }
     requires some { IsSome label }
     requires short { IsShortOption kept.old.segment }
-    ensures { IfOk result (λ done. (state : State) → ShowsState state kept.old → IsEquated state global label text.now done kept.new) }
+    ensures { IfOk result (λ done. (state : State) → ShowsState state kept.old → IsEquated state global label text.entry.bytes.now done kept.new) }
 {
     let amount = amount_in(alloc, kept.known(), text)?;
     match both(label, amount) {
         Ok((name, amount)) => {
-            kept.equate(alloc, global, name.bytes(), amount)?;
+            kept.equate(alloc, global, &name, amount)?;
             Ok(Ok(()))
         }
         Err(cause) => Ok(Err(cause)),
@@ -147,16 +146,15 @@ fn do_constant(
     alloc: Global,
     kept: &mut Kept,
     label: Result<Name, AsmCause>,
-    text: &[u8],
+    text: LinePart<'_>,
 ) -> Result<Result<(), AsmCause>, AllocError>
-    requires text { length text.now ≤ 255 }
     requires some { IsSome label }
-    ensures { IfOk result (λ done. (state : State) → ShowsState state kept.old → IsConstant state label text.now done kept.new) }
+    ensures { IfOk result (λ done. (state : State) → ShowsState state kept.old → IsConstant state label text.entry.bytes.now done kept.new) }
 {
     let number = number_in(alloc, kept.known(), text)?;
     match both(label, number) {
         Ok((name, n)) => {
-            kept.equate_outside(alloc, name.bytes(), n)?;
+            kept.equate_outside(alloc, &name, n)?;
             Ok(Ok(()))
         }
         Err(cause) => Ok(Err(cause)),
@@ -168,12 +166,11 @@ pub(crate) fn do_equ(
     alloc: Global,
     kept: &mut Kept,
     label: Result<Name, AsmCause>,
-    text: &[u8],
+    text: LinePart<'_>,
 ) -> Result<Result<(), AsmCause>, AllocError>
-    requires text { length text.now ≤ 255 }
     requires some { IsSome label }
     requires short { IsShortOption kept.old.segment }
-    ensures { IfOk result (λ done. (state : State) (l : Line) → ShowsState state kept.old → IsLeft state l (Direct directives.Equ) label text.now done kept.new) }
+    ensures { IfOk result (λ done. (state : State) (l : Line) → ShowsState state kept.old → IsLeft state l (Direct directives.Equ) label text.entry.bytes.now done kept.new) }
 {
     do_equate(alloc, kept, false, label, text)
 }
@@ -183,12 +180,11 @@ pub(crate) fn do_gequ(
     alloc: Global,
     kept: &mut Kept,
     label: Result<Name, AsmCause>,
-    text: &[u8],
+    text: LinePart<'_>,
 ) -> Result<Result<(), AsmCause>, AllocError>
-    requires text { length text.now ≤ 255 }
     requires some { IsSome label }
     requires short { IsShortOption kept.old.segment }
-    ensures { IfOk result (λ done. (state : State) (l : Line) → ShowsState state kept.old → IsLeft state l (Direct directives.Gequ) label text.now done kept.new) }
+    ensures { IfOk result (λ done. (state : State) (l : Line) → ShowsState state kept.old → IsLeft state l (Direct directives.Gequ) label text.entry.bytes.now done kept.new) }
 {
     if kept.is_open() {
         return do_equate(alloc, kept, true, label, text);

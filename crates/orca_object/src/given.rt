@@ -1,8 +1,9 @@
 //! What a statement gives: its cells, and the bytes of its records (GS/OS Reference, appendix F, "Segment body").
 
-ghost use Rattle.std.specs.Prelude.{◌≡◌, ◌≤◌, ◌<◌, ◌^◌, ◌*◌, ◌+◌, ◌++◌, ◌∷◌, [], List, ℕ, length, map, min, Ok, Err, IfOk, OnOk};
+ghost use Rattle.std.specs.Prelude.{◌≡◌, ◌≤◌, ◌<◌, ◌^◌, ◌*◌, ◌+◌, ◌++◌, ◌∷◌, [], List, ℕ, length, map, min, replicate, Ok, Err, IfOk, IfSome, OnOk};
+ghost use Rattle.std.specs.List.{repeat};
 ghost use Rattle.asm_meaning.specs.Answer.{both};
-ghost use Rattle.asm_meaning.specs.Pieces.{length_at, constant_records, records_of};
+ghost use Rattle.asm_meaning.specs.Pieces.{length_at, constant_records, copies, records_of};
 ghost use Rattle.asm_meaning.specs.Pieces as meaning;
 ghost use Rattle.asm_meaning.specs.Object.{records_text};
 ghost use Rattle.asm_meaning.specs.laws.PieceLaws.{IsPlain, IsPlainPiece, ArePlainPieces};
@@ -221,18 +222,75 @@ fn put_pieces(out: &mut Text, pending: &mut Vec<u8>, pieces: &[Piece]) -> Result
     Ok(())
 }
 
+/// Appends a byte, so often.
+fn put_byte(pending: &mut Vec<u8>, byte: u8, count: u32) -> Result<(), AllocError>
+    ensures { OnOk result (pending.new.items ≡ pending.old.items ++ replicate count byte) }
+{
+    let end = pending.as_slice().len() + count as usize;
+    pending.resize(end, byte)
+}
+
+/// Appends bytes, so often.
+fn put_copies(pending: &mut Vec<u8>, bytes: &[u8], count: u32) -> Result<(), AllocError>
+    ensures { OnOk result (pending.new.items ≡ pending.old.items ++ repeat count bytes.now) }
+{
+    if let [byte] = bytes {
+        put_byte(pending, *byte, count)?;
+        return Ok(());
+    }
+    let mut left = count;
+    'copies: while left > 0 {
+        pending.extend_from_slice(bytes)?;
+        left -= 1;
+    }
+    Ok(())
+}
+
+/// Appends pieces, so often.
+fn put_often(
+    out: &mut Text,
+    pending: &mut Vec<u8>,
+    pieces: &[Piece],
+    count: u32,
+) -> Result<(), AllocError>
+    requires { ArePlainPieces (copies count (map piece pieces.now)) }
+    ensures { OnOk result ((whole : List ℕ) (rest : List meaning.Piece) → Wrote whole (kept_text out.old) pending.old.items (copies count (map piece pieces.now) ++ rest) → Wrote whole (kept_text out.new) pending.new.items rest) }
+{
+    let mut left = count;
+    'copies: while left > 0 {
+        put_pieces(out, pending, pieces)?;
+        left -= 1;
+    }
+    Ok(())
+}
+
+/// The constant bytes of which pieces consist, if they do.
+fn only_bytes(pieces: &[Piece]) -> Option<&[u8]>
+    ensures { IfSome result (λ bytes. map piece pieces.now ≡ meaning.Bytes bytes.now ∷ []) }
+{
+    let (first, others) = pieces.split_first()?;
+    if !others.is_empty() {
+        return None;
+    }
+    match first {
+        Piece::Bytes(bytes) => Some(bytes.as_slice()),
+        _ => None,
+    }
+}
+
 /// Appends the pieces of a part, so often.
 #[inline(always)]
 fn put_part(out: &mut Text, pending: &mut Vec<u8>, part: &Part) -> Result<(), AllocError>
     requires { ArePlainPieces (part_pieces part.now) }
     ensures { OnOk result ((whole : List ℕ) (rest : List meaning.Piece) → Wrote whole (kept_text out.old) pending.old.items (part_pieces part.now ++ rest) → Wrote whole (kept_text out.new) pending.new.items rest) }
 {
-    let mut count = part.count;
-    'copies: while count > 0 {
-        put_pieces(out, pending, part.pieces.as_slice())?;
-        count -= 1;
+    match only_bytes(part.pieces.as_slice()) {
+        Some(bytes) => {
+            put_copies(pending, bytes, part.count)?;
+            Ok(())
+        }
+        None => put_often(out, pending, part.pieces.as_slice(), part.count),
     }
-    Ok(())
 }
 
 /// Appends parts.

@@ -1,20 +1,19 @@
 //! Names that commas part in a text (ORCA/M reference manual, "Declare Constant").
 
-ghost use Rattle.std.specs.Prelude.{◌≡◌, ◌≤◌, ◌∷◌, ◌++◌, [], List, ℕ, length, Some, None, IfOk, IfSome, IfNone};
+ghost use Rattle.std.specs.Prelude.{◌≡◌, ◌∷◌, ◌++◌, [], List, ℕ, Some, None, IfOk, IfSome, IfNone};
 ghost use Rattle.asm_meaning.specs.Elements.{AreNames};
 
 use omf_base::Name;
-use orca_text::{behind_byte, name_at};
+use orca_text::{LinePart, behind_byte, name_at};
 use std::alloc::{AllocError, Global};
 
 /// The names that a text is, parted by commas.
-pub(crate) fn names_in(alloc: Global, text: &[u8]) -> Result<Option<Vec<Name>>, AllocError>
-    requires { length text.now ≤ 255 }
-    ensures found { IfOk result (λ found. IfSome found (λ v. AreNames text.now v.items)) }
-    ensures none { IfOk result (λ found. IfNone found ((names : List (List ℕ)) → AreNames text.now names → ⊥)) }
+pub(crate) fn names_in(alloc: Global, text: LinePart<'_>) -> Result<Option<Vec<Name>>, AllocError>
+    ensures found { IfOk result (λ found. IfSome found (λ v. AreNames text.entry.bytes.now v.items)) }
+    ensures none { IfOk result (λ found. IfNone found ((names : List (List ℕ)) → AreNames text.entry.bytes.now names → ⊥)) }
 {
     let mut out = Vec::new(alloc);
-    let mut left = text;
+    let mut left = text.bytes;
     'names: loop {
         let Some((name, rest)) = name_at(alloc, left)? else {
             return Ok(None);

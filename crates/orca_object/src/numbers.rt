@@ -1,6 +1,6 @@
 //! Formulas where numbers are wanted: those of DC's types I and A, and counts (ORCA/M reference manual, "Declare Constant").
 
-ghost use Rattle.std.specs.Prelude.{◌≡◌, ◌≤◌, ◌++◌, [], List, ℕ, length, map, true, false, Some, None, Ok, Err, IfOk, IfSome, IfNone};
+ghost use Rattle.std.specs.Prelude.{◌≡◌, ◌≤◌, ◌++◌, [], List, ℕ, map, true, false, Some, None, Ok, Err, IfOk, IfSome, IfNone};
 ghost use Rattle.byteorder.specs.Endian.{little_bytes};
 ghost use Rattle.omf_format.specs.Expression.{AreTerms, Tree};
 ghost use Rattle.orca_text.specs.View.{term};
@@ -18,7 +18,7 @@ use crate::causes::{gather, gathered};
 use crate::names::Known;
 use crate::piece::{Piece, ended, number_bytes};
 use asm_meaning::AsmCause;
-use orca_text::{Formula, Operands, behind_byte, formula_at, is_too_deep};
+use orca_text::{Formula, LinePart, Operands, behind_byte, formula_at, is_too_deep};
 use std::alloc::{AllocError, Global};
 
 /// What a formula amounts to, unless it is too deep or has a number that is too large.
@@ -117,16 +117,15 @@ pub(crate) fn numbers_in(
     alloc: Global,
     known: Known<'_>,
     width: u8,
-    text: &[u8],
+    text: LinePart<'_>,
 ) -> Result<Option<Result<Vec<Piece>, AsmCause>>, AllocError>
     requires width { width ≤ 4 }
-    requires short { length text.now ≤ 255 }
-    ensures found { IfOk result (λ found. IfSome found (λ answer. HasNumbers (constants known.entry) width text.now (pieces_answer answer))) }
-    ensures none { IfOk result (λ found. IfNone found ((trees : List Tree) → AreFormulas text.now trees → ⊥)) }
+    ensures found { IfOk result (λ found. IfSome found (λ answer. HasNumbers (constants known.entry) width text.entry.bytes.now (pieces_answer answer))) }
+    ensures none { IfOk result (λ found. IfNone found ((trees : List Tree) → AreFormulas text.entry.bytes.now trees → ⊥)) }
 {
     let mut out = Vec::new(alloc);
     let mut fault = None;
-    let mut left = text;
+    let mut left = text.bytes;
     'formulas: loop {
         let Some(found) = formula_at(alloc, Operands::Labels, left)? else {
             return Ok(None);

@@ -1,13 +1,13 @@
 //! Names in operands and labels (ORCA/M reference manual, "Assembler directives").
 
-ghost use Rattle.std.specs.Prelude.{◌≡◌, ◌≤◌, length, Some, None, IfOk, MatchOption};
+ghost use Rattle.std.specs.Prelude.{◌≡◌, Some, None, IfOk, MatchOption};
 ghost use Rattle.orca_meaning.specs.Characters.{is_name};
 ghost use Rattle.asm_meaning.specs.Statement.{behind_here, name_of};
 ghost use Rattle.orca_object.specs.OperandView.{name_answer};
 
 use asm_meaning::AsmCause;
 use omf_base::Name;
-use orca_text::{folded, is_name_start, name_len};
+use orca_text::{LinePart, folded, is_name_start, name_len};
 use std::alloc::{AllocError, Global};
 
 /// Whether a text is a name.
@@ -38,12 +38,14 @@ pub(crate) fn behind_here(text: &[u8]) -> Option<&[u8]>
 }
 
 /// A name in upper case.
-pub(crate) fn name_of(alloc: Global, text: &[u8]) -> Result<Result<Name, AsmCause>, AllocError>
-    requires { length text.now ≤ 255 }
-    ensures { IfOk result (λ answer. name_answer answer ≡ name_of text.now) }
+pub(crate) fn name_of(
+    alloc: Global,
+    text: LinePart<'_>,
+) -> Result<Result<Name, AsmCause>, AllocError>
+    ensures { IfOk result (λ answer. name_answer answer ≡ name_of text.entry.bytes.now) }
 {
-    if is_name(text) {
-        let name = folded(alloc, text)?;
+    if is_name(text.bytes) {
+        let name = folded(alloc, text.bytes)?;
         return Ok(Ok(name));
     }
     Ok(Err(AsmCause::BadOperand))

@@ -1,7 +1,7 @@
 //! What a line's operation is, where it may stand, and its label (ORCA/M reference manual, "Assembler directives", "The label
 //! field").
 
-ghost use Rattle.std.specs.Prelude.{◌≡◌, bytes_eq, ◌≤◌, length, IfOk, true};
+ghost use Rattle.std.specs.Prelude.{◌≡◌, bytes_eq, IfOk, true};
 ghost use Rattle.orca_meaning.specs.Characters.{folded};
 ghost use Rattle.orca_meaning.specs.Operation.{beside};
 ghost use Rattle.asm_meaning.specs.Operations.{directives, ignored, as_ignored, operation_of};
@@ -16,7 +16,7 @@ use crate::operand::{behind_here, is_name};
 use crate::state::Kept;
 use asm_meaning::{AsmCause, Class, Directive, Operation, Switch};
 use omf_base::Name;
-use orca_text::{folded, is_spelled, mnemonic_of};
+use orca_text::{LinePart, folded, is_spelled, mnemonic_of};
 use std::alloc::{AllocError, Global};
 
 /// Whether an operation has this spelling.
@@ -244,19 +244,18 @@ pub(crate) fn label_of(
     alloc: Global,
     kept: &Kept,
     operation: Operation,
-    text: &[u8],
+    text: LinePart<'_>,
 ) -> Result<Result<Name, AsmCause>, AllocError>
-    requires { length text.now ≤ 255 }
-    ensures value { IfOk result (λ answer. (state : State) → ShowsState state kept.now → answer ≡ label_of state operation text.now) }
+    ensures value { IfOk result (λ answer. (state : State) → ShowsState state kept.now → answer ≡ label_of state operation text.entry.bytes.now) }
     ensures some { IfOk result (λ answer. needs_label operation ≡ true → IsSome answer) }
 {
-    if text.is_empty() {
+    if text.bytes.is_empty() {
         return Ok(no_label(alloc, operation));
     }
-    if !is_name(text) {
+    if !is_name(text.bytes) {
         return Ok(Err(AsmCause::BadLabel));
     }
-    let name = folded(alloc, text)?;
+    let name = folded(alloc, text.bytes)?;
     if kept.is_taken(begins_segment(operation), name.bytes()) {
         return Ok(Err(AsmCause::Duplicate));
     }

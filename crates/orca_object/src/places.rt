@@ -1,6 +1,6 @@
 //! ALIGN and ORG (ORCA/M reference manual, "ALIGN" and "ORG"; GS/OS Reference, appendix F).
 
-ghost use Rattle.std.specs.Prelude.{◌≡◌, ◌≤◌, IfOk, length};
+ghost use Rattle.std.specs.Prelude.{◌≡◌, IfOk};
 ghost use Rattle.omf_format.specs.Header.{alignment_of};
 ghost use Rattle.orca_meaning.specs.Line.{Line};
 ghost use Rattle.asm_meaning.specs.State.{State};
@@ -16,6 +16,7 @@ use crate::operand::behind_here;
 use crate::state::{Content, Kept};
 use asm_meaning::AsmCause;
 use omf_base::Name;
+use orca_text::LinePart;
 use std::alloc::{AllocError, Global};
 
 /// Of what the address of a segment with this ALIGN is a multiple.
@@ -30,7 +31,7 @@ fn alignment_of(align: u32) -> u32
 }
 
 impl Kept {
-    ghost use Rattle.std.specs.Prelude.{◌≡◌, ◌≤◌, length, OnOk, IfOk};
+    ghost use Rattle.std.specs.Prelude.{◌≡◌, ◌≤◌, OnOk, IfOk};
     ghost use Rattle.asm_meaning.specs.State.{State};
     ghost use Rattle.asm_meaning.specs.Statement.{alignment_in, aligned, distance_in, moved};
     ghost use Rattle.orca_object.specs.StateView.{ShowsState, IsShortOption};
@@ -52,8 +53,7 @@ impl Kept {
     }
 
     /// ALIGN.
-    fn align(&mut self, alloc: Global, label: &[u8], n: u32) -> Result<(), AllocError>
-        requires label { length label.now ≤ 255 }
+    fn align(&mut self, alloc: Global, label: &Name, n: u32) -> Result<(), AllocError>
         requires some { 1 ≤ n }
         requires short { IsShortOption self.old.segment }
         ensures { OnOk result ((state : State) → ShowsState state self.old → ShowsState (aligned state state.segment label.now n) self.new) }
@@ -78,8 +78,7 @@ impl Kept {
     }
 
     /// ORG.
-    fn org(&mut self, alloc: Global, label: &[u8], n: u32) -> Result<(), AllocError>
-        requires label { length label.now ≤ 255 }
+    fn org(&mut self, alloc: Global, label: &Name, n: u32) -> Result<(), AllocError>
         requires near { IsNear self.old.segment n }
         requires short { IsShortOption self.old.segment }
         ensures { OnOk result ((state : State) → ShowsState state self.old → ShowsState (moved state state.segment label.now n) self.new) }
@@ -109,7 +108,7 @@ fn aligning(
     };
     match both(label, step) {
         Ok((name, n)) => {
-            kept.align(alloc, name.bytes(), n)?;
+            kept.align(alloc, &name, n)?;
             Ok(Ok(()))
         }
         Err(cause) => Ok(Err(cause)),
@@ -121,26 +120,28 @@ pub(crate) fn do_align(
     alloc: Global,
     kept: &mut Kept,
     label: Result<Name, AsmCause>,
-    text: &[u8],
+    text: LinePart<'_>,
 ) -> Result<Result<(), AsmCause>, AllocError>
-    requires text { length text.now ≤ 255 }
     requires short { IsShortOption kept.old.segment }
-    ensures { IfOk result (λ done. (state : State) (line : Line) → ShowsState state kept.old → IsLeft state line (Direct directives.Align) label text.now done kept.new) }
+    ensures { IfOk result (λ done. (state : State) (line : Line) → ShowsState state kept.old → IsLeft state line (Direct directives.Align) label text.entry.bytes.now done kept.new) }
 {
     let number = number_in(alloc, kept.known(), text)?;
     aligning(alloc, kept, label, number)
 }
 
 /// The number of ORG: in a segment it stands behind `*+`.
-fn distance_in(alloc: Global, kept: &Kept, text: &[u8]) -> Result<Result<u32, AsmCause>, AllocError>
-    requires { length text.now ≤ 255 }
-    ensures { IfOk result (λ number. (state : State) → ShowsState state kept.now → HasDistance state text.now number) }
+fn distance_in(
+    alloc: Global,
+    kept: &Kept,
+    text: LinePart<'_>,
+) -> Result<Result<u32, AsmCause>, AllocError>
+    ensures { IfOk result (λ number. (state : State) → ShowsState state kept.now → HasDistance state text.entry.bytes.now number) }
 {
     if kept.segment.is_none() {
         return number_in(alloc, kept.known(), text);
     }
-    match behind_here(text) {
-        Some(behind) => number_in(alloc, kept.known(), behind),
+    match behind_here(text.bytes) {
+        Some(behind) => number_in(alloc, kept.known(), LinePart { bytes: behind }),
         None => Ok(Err(AsmCause::BadOperand)),
     }
 }
@@ -161,7 +162,7 @@ fn moving(
     };
     match both(label, distance) {
         Ok((name, n)) => {
-            kept.org(alloc, name.bytes(), n)?;
+            kept.org(alloc, &name, n)?;
             Ok(Ok(()))
         }
         Err(cause) => Ok(Err(cause)),
@@ -173,11 +174,10 @@ pub(crate) fn do_org(
     alloc: Global,
     kept: &mut Kept,
     label: Result<Name, AsmCause>,
-    text: &[u8],
+    text: LinePart<'_>,
 ) -> Result<Result<(), AsmCause>, AllocError>
-    requires text { length text.now ≤ 255 }
     requires short { IsShortOption kept.old.segment }
-    ensures { IfOk result (λ done. (state : State) (line : Line) → ShowsState state kept.old → IsLeft state line (Direct directives.Org) label text.now done kept.new) }
+    ensures { IfOk result (λ done. (state : State) (line : Line) → ShowsState state kept.old → IsLeft state line (Direct directives.Org) label text.entry.bytes.now done kept.new) }
 {
     let number = distance_in(alloc, kept, text)?;
     moving(alloc, kept, label, number)

@@ -27,6 +27,7 @@ use asm_meaning::{AsmCause, Class};
 use omf_base::Name;
 use omf_header::{Header, Kind};
 use omf_records::Rec;
+use orca_text::LinePart;
 use std::alloc::{AllocError, Global};
 use std::mem;
 
@@ -181,8 +182,7 @@ impl Kept {
     }
 
     /// END.
-    fn end(&mut self, alloc: Global, label: &[u8]) -> Result<(), AllocError>
-        requires label { length label.now ≤ 255 }
+    fn end(&mut self, alloc: Global, label: &Name) -> Result<(), AllocError>
         requires short { IsShortOption self.old.segment }
         ensures { OnOk result ((state : State) → ShowsState state self.old → ShowsState (closed (in_segment (marked label.now 0x4E (End ∷ [])) state)) self.new) }
     {
@@ -198,8 +198,7 @@ impl Kept {
     }
 
     /// KIND.
-    fn kind(&mut self, alloc: Global, label: &[u8], n: u16) -> Result<(), AllocError>
-        requires label { length label.now ≤ 255 }
+    fn kind(&mut self, alloc: Global, label: &Name, n: u16) -> Result<(), AllocError>
         requires listed { is_listed (form_of n) ≡ true }
         requires short { IsShortOption self.old.segment }
         ensures { OnOk result ((state : State) → ShowsState state self.old → ShowsState (in_segment (λ s. with_kind n (marked label.now 0x4E [] s)) state) self.new) }
@@ -213,15 +212,14 @@ impl Kept {
     }
 
     /// ENTRY.
-    fn entry(&mut self, alloc: Global, label: &[u8]) -> Result<(), AllocError>
+    fn entry(&mut self, alloc: Global, label: &Name) -> Result<(), AllocError>
         requires some { 1 ≤ length label.now }
-        requires label { length label.now ≤ 255 }
         requires short { IsShortOption self.old.segment }
         ensures { OnOk result ((state : State) → ShowsState state self.old → ShowsState (in_segment (grown label.now None (Label true label.now 0 0x4E 0 ∷ []) []) state) self.new) }
     {
         let global = Rec::Label {
             global: true,
-            name: label,
+            name: label.bytes(),
             length: 0,
             form: 0x4E,
             private: 0,
@@ -244,7 +242,6 @@ pub(crate) fn do_begin(
     label: Result<Name, AsmCause>,
     text: &[u8],
 ) -> Result<Result<(), AsmCause>, AllocError>
-    requires text { length text.now ≤ 255 }
     ensures { IfOk result (λ done. (state : State) (line : Line) → ShowsState state kept.old → file ≡ line.file → number ≡ line.number → IsLeft state line (Direct (directives.Begin class)) label text.now done kept.new) }
 {
     match load_name_of(text) {
@@ -273,7 +270,7 @@ pub(crate) fn do_end(
 {
     match label {
         Ok(name) => {
-            kept.end(alloc, name.bytes())?;
+            kept.end(alloc, &name)?;
             Ok(Ok(()))
         }
         Err(cause) => Ok(Err(cause)),
@@ -292,7 +289,7 @@ fn entering(
 {
     match label {
         Ok(name) => {
-            kept.entry(alloc, name.bytes())?;
+            kept.entry(alloc, &name)?;
             Ok(Ok(()))
         }
         Err(cause) => Ok(Err(cause)),
@@ -334,11 +331,10 @@ pub(crate) fn do_using(
     alloc: Global,
     kept: &mut Kept,
     label: Result<Name, AsmCause>,
-    text: &[u8],
+    text: LinePart<'_>,
 ) -> Result<Result<(), AsmCause>, AllocError>
-    requires text { length text.now ≤ 255 }
     requires short { IsShortOption kept.old.segment }
-    ensures { IfOk result (λ done. (state : State) (line : Line) → ShowsState state kept.old → IsLeft state line (Direct directives.Using) label text.now done kept.new) }
+    ensures { IfOk result (λ done. (state : State) (line : Line) → ShowsState state kept.old → IsLeft state line (Direct directives.Using) label text.entry.bytes.now done kept.new) }
 {
     let found = name_of(alloc, text)?;
     using(alloc, kept, label, found)
@@ -360,7 +356,7 @@ fn kinding(
     };
     match both(label, kind) {
         Ok((name, n)) => {
-            kept.kind(alloc, name.bytes(), n)?;
+            kept.kind(alloc, &name, n)?;
             Ok(Ok(()))
         }
         Err(cause) => Ok(Err(cause)),
@@ -372,11 +368,10 @@ pub(crate) fn do_kind(
     alloc: Global,
     kept: &mut Kept,
     label: Result<Name, AsmCause>,
-    text: &[u8],
+    text: LinePart<'_>,
 ) -> Result<Result<(), AsmCause>, AllocError>
-    requires text { length text.now ≤ 255 }
     requires short { IsShortOption kept.old.segment }
-    ensures { IfOk result (λ done. (state : State) (line : Line) → ShowsState state kept.old → IsLeft state line (Direct directives.Kind) label text.now done kept.new) }
+    ensures { IfOk result (λ done. (state : State) (line : Line) → ShowsState state kept.old → IsLeft state line (Direct directives.Kind) label text.entry.bytes.now done kept.new) }
 {
     let number = number_in(alloc, kept.known(), text)?;
     kinding(alloc, kept, label, number)

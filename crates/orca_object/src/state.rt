@@ -81,7 +81,7 @@ fn greatest_length(class: Class) -> u64
 }
 
 impl Open {
-    ghost use Rattle.std.specs.Prelude.{◌≡◌, ◌+◌, ◌≤◌, ◌<◌, ◌^◌, ◌∷◌, [], length, OnOk};
+    ghost use Rattle.std.specs.Prelude.{◌≡◌, ◌+◌, ◌≤◌, ◌<◌, ◌^◌, ◌∷◌, [], OnOk};
     ghost use Rattle.omf_format.specs.Field.{written_layout};
     ghost use Rattle.omf_format.specs.Record.{IsRecord};
     ghost use Rattle.omf_records.specs.View.{view};
@@ -91,14 +91,15 @@ impl Open {
     ghost use Rattle.orca_object.specs.ContentView.{content_records, IsContent};
 
     /// One more name, where the statement has a label.
-    fn define(&mut self, alloc: Global, label: &[u8], value: Option<u32>) -> Result<(), AllocError>
+    fn define(&mut self, alloc: Global, label: &Name, value: Option<u32>) -> Result<(), AllocError>
         ensures segment { OnOk result ((s : Segment) → ShowsSegment s self.old → ShowsSegment (named label.now value s) self.new) }
         ensures cells { self.new.body.cells ≡ self.old.body.cells }
     {
-        if label.is_empty() {
+        let name = label.bytes();
+        if name.is_empty() {
             return Ok(());
         }
-        self.names.set(alloc, label, value)
+        self.names.set(alloc, name, value)
     }
 
     /// One more record, which gives so many cells.
@@ -116,7 +117,7 @@ impl Open {
     pub(crate) fn name_record(
         &mut self,
         alloc: Global,
-        label: &[u8],
+        label: &Name,
         value: Option<u32>,
         rec: &Rec,
     ) -> Result<(), AllocError>
@@ -130,18 +131,18 @@ impl Open {
     }
 
     /// LOCAL of a label, where the statement has one: its length, as far as two bytes hold it, and its type.
-    fn put_local(&mut self, label: &[u8], form: u8, size: u64) -> Result<(), AllocError>
-        requires label { length label.now ≤ 255 }
+    fn put_local(&mut self, label: &Name, form: u8, size: u64) -> Result<(), AllocError>
         requires short { self.old.body.cells ≤ 0xFFFFFF }
         ensures segment { OnOk result ((s : Segment) → ShowsSegment s self.old → ShowsSegment (with_records (local_of label.now form size) s) self.new) }
         ensures cells { OnOk result (self.new.body.cells ≡ self.old.body.cells) }
     {
-        if label.is_empty() {
+        let name = label.bytes();
+        if name.is_empty() {
             return Ok(());
         }
         let local = Rec::Label {
             global: false,
-            name: label,
+            name,
             length: size.min(0xFFFF) as u16,
             form,
             private: 0,
@@ -153,11 +154,10 @@ impl Open {
     pub(crate) fn mark(
         &mut self,
         alloc: Global,
-        label: &[u8],
+        label: &Name,
         form: u8,
         size: u64,
     ) -> Result<(), AllocError>
-        requires label { length label.now ≤ 255 }
         requires short { self.old.body.cells ≤ 0xFFFFFF }
         ensures segment { OnOk result ((s : Segment) → ShowsSegment s self.old → ShowsSegment (labelled label.now form size s) self.new) }
         ensures cells { OnOk result (self.new.body.cells ≡ self.old.body.cells) }
@@ -170,10 +170,9 @@ impl Open {
     pub(crate) fn give(
         &mut self,
         alloc: Global,
-        label: &[u8],
+        label: &Name,
         content: Content<'_>,
     ) -> Result<(), AllocError>
-        requires label { length label.now ≤ 255 }
         requires content { IsContent content }
         requires short { self.old.body.cells ≤ 0xFFFFFF }
         ensures segment { OnOk result ((s : Segment) → ShowsSegment s self.old → ShowsSegment (marked label.now 0x4E (content_records content.entry) s) self.new) }
@@ -195,11 +194,10 @@ impl Open {
     pub(crate) fn give_record(
         &mut self,
         alloc: Global,
-        label: &[u8],
+        label: &Name,
         rec: &Rec,
         size: u64,
     ) -> Result<(), AllocError>
-        requires label { length label.now ≤ 255 }
         requires short { self.old.body.cells ≤ 0xFFFFFF }
         requires record { IsRecord written_layout (view rec.now) }
         requires size { size ≡ size_at self.old.body.cells (view rec.now) }
@@ -213,7 +211,7 @@ impl Open {
 }
 
 impl Kept {
-    ghost use Rattle.std.specs.Prelude.{◌≡◌, ◌≤◌, length, false, is_some, None, OnOk};
+    ghost use Rattle.std.specs.Prelude.{◌≡◌, false, is_some, None, OnOk};
     ghost use Rattle.asm_meaning.specs.State.{State, start, in_segment, marked, is_too_long};
     ghost use Rattle.asm_meaning.specs.declared.directives.Operation.{Operation};
     ghost use Rattle.asm_meaning.specs.Statement.{constants_of, is_taken, begins_segment};
@@ -294,10 +292,9 @@ impl Kept {
     pub(crate) fn give(
         &mut self,
         alloc: Global,
-        label: &[u8],
+        label: &Name,
         content: Content<'_>,
     ) -> Result<(), AllocError>
-        requires label { length label.now ≤ 255 }
         requires content { IsContent content }
         requires short { IsShortOption self.old.segment }
         ensures { OnOk result ((state : State) → ShowsState state self.old → ShowsState (in_segment (marked label.now 0x4E (content_records content.entry)) state) self.new) }

@@ -1,7 +1,7 @@
 //! What the operands of instructions and of DC give (WDC 65C816 data sheet, addressing modes; ORCA/M reference manual, "Declare
 //! Constant").
 
-ghost use Rattle.std.specs.Prelude.{◌≡◌, ◌≤◌, List, ℕ, length, Some, None, IfOk, IfSome, IfNone};
+ghost use Rattle.std.specs.Prelude.{◌≡◌, List, ℕ, Some, None, IfOk, IfSome, IfNone};
 ghost use Rattle.orca_meaning.specs.Line.{LiesIn};
 ghost use Rattle.orca_text.specs.OperandView.{line_mnemonic, line_operand};
 ghost use Rattle.asm_meaning.specs.Elements.{Element, AreElements};
@@ -17,7 +17,7 @@ use crate::instruct::instruct;
 use crate::mode::Widths;
 use crate::names::Known;
 use asm_meaning::AsmCause;
-use orca_text::{Mnemonic, SourceLine, TextCause, behind_byte, read_operand};
+use orca_text::{LinePart, Mnemonic, SourceLine, TextCause, behind_byte, read_operand};
 use std::alloc::{AllocError, Global};
 
 /// What an instruction's line gives, or the first fault of its operand.
@@ -54,17 +54,16 @@ fn parts_in(
     alloc: Global,
     known: Known<'_>,
     msb: bool,
-    text: &[u8],
+    text: LinePart<'_>,
 ) -> Result<Option<Result<Vec<Part>, AsmCause>>, AllocError>
-    requires { length text.now ≤ 255 }
-    ensures found { IfOk result (λ found. IfSome found (λ answer. HasElements (constants known.entry) msb text.now (parts_answer answer))) }
-    ensures none { IfOk result (λ found. IfNone found ((elements : List Element) → AreElements text.now elements → ⊥)) }
+    ensures found { IfOk result (λ found. IfSome found (λ answer. HasElements (constants known.entry) msb text.entry.bytes.now (parts_answer answer))) }
+    ensures none { IfOk result (λ found. IfNone found ((elements : List Element) → AreElements text.entry.bytes.now elements → ⊥)) }
 {
     let mut out = Vec::new(alloc);
     let mut fault = None;
-    let mut left = text;
+    let mut left = text.bytes;
     'elements: loop {
-        let found = element_at(alloc, known, msb, left)?;
+        let found = element_at(alloc, known, msb, LinePart { bytes: left })?;
         let Some((answer, rest)) = found else {
             return Ok(None);
         };
@@ -84,10 +83,9 @@ pub(crate) fn constants_given(
     alloc: Global,
     known: Known<'_>,
     msb: bool,
-    text: &[u8],
+    text: LinePart<'_>,
 ) -> Result<Result<Given, AsmCause>, AllocError>
-    requires { length text.now ≤ 255 }
-    ensures { IfOk result (λ answer. IsByList (constants known.entry) msb text.now (given_answer answer)) }
+    ensures { IfOk result (λ answer. IsByList (constants known.entry) msb text.entry.bytes.now (given_answer answer)) }
 {
     let found = parts_in(alloc, known, msb, text)?;
     match found {

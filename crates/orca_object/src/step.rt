@@ -1,7 +1,7 @@
 //! What lines leave, one behind another, and the object at their end (ORCA/M reference manual, "The assembly language
 //! statement").
 
-ghost use Rattle.std.specs.Prelude.{◌≡◌, ◌≤◌, [], List, length, true, false, Some, IfOk, OnOk, Err};
+ghost use Rattle.std.specs.Prelude.{◌≡◌, [], List, true, false, Some, IfOk, OnOk, Err};
 ghost use Rattle.orca_meaning.specs.Line.{Line, LiesIn, HaveFields, part};
 ghost use Rattle.orca_text.specs.OperandView.{line_operand};
 ghost use Rattle.orca_text.specs.View.{line};
@@ -23,7 +23,7 @@ use crate::state::Kept;
 use crate::switches::turning;
 use asm_meaning::{AsmCause, AsmFault, Directive, Operation};
 use omf_base::Name;
-use orca_text::{Lines, SourceLine};
+use orca_text::{LinePart, Lines, SourceLine};
 use std::alloc::{AllocError, Global};
 
 /// A directive that needs no label.
@@ -32,12 +32,11 @@ fn do_unlabelled(
     kept: &mut Kept,
     directive: Directive,
     label: Result<Name, AsmCause>,
-    text: &[u8],
+    text: LinePart<'_>,
 ) -> Result<Result<(), AsmCause>, AllocError>
     requires unlabelled { needs_label (Direct directive) ≡ false }
-    requires text { length text.now ≤ 255 }
     requires short { IsShortOption kept.old.segment }
-    ensures { IfOk result (λ done. (state : State) (l : Line) → ShowsState state kept.old → IsLeft state l (Direct directive) label text.now done kept.new) }
+    ensures { IfOk result (λ done. (state : State) (l : Line) → ShowsState state kept.old → IsLeft state l (Direct directive) label text.entry.bytes.now done kept.new) }
 {
     match directive {
         Directive::End => do_end(alloc, kept, label),
@@ -47,7 +46,7 @@ fn do_unlabelled(
         Directive::Align => do_align(alloc, kept, label, text),
         Directive::Org => do_org(alloc, kept, label, text),
         Directive::Kind => do_kind(alloc, kept, label, text),
-        Directive::Turn(switch) => turning(alloc, kept, switch, label, text),
+        Directive::Turn(switch) => turning(alloc, kept, switch, label, text.bytes),
         Directive::Nothing => rest(alloc, kept, label),
         Directive::Ignored => rest(alloc, kept, label),
         Directive::Begin(_) | Directive::Entry | Directive::Equ | Directive::Gequ => unreachable!(),
@@ -69,11 +68,12 @@ fn do_operation(
     requires short { IsShortOption kept.old.segment }
     ensures { IfOk result (λ done. (state : State) → ShowsState state kept.old → IsLeft state (line of.now) operation label (line_operand of.now) done kept.new) }
 {
-    let text = of.part(of.operand);
+    let operand = of.part(of.operand);
+    let text = LinePart { bytes: operand };
     match operation {
         Operation::Instruct(mnemonic) => do_instruct(alloc, kept, mnemonic, label, of),
         Operation::Direct(Directive::Begin(class)) => {
-            do_begin(alloc, kept, of.file, of.line, class, label, text)
+            do_begin(alloc, kept, of.file, of.line, class, label, operand)
         }
         Operation::Direct(Directive::Entry) => do_entry(alloc, kept, label),
         Operation::Direct(Directive::Equ) => do_equ(alloc, kept, label, text),
@@ -136,7 +136,7 @@ fn step(alloc: Global, kept: &mut Kept, of: &SourceLine) -> Result<Result<(), As
     if is_misplaced(kept, operation, text, of.part(of.operand)) {
         return Ok(Err(AsmCause::OutsideSegment));
     }
-    let label = label_of(alloc, kept, operation, text)?;
+    let label = label_of(alloc, kept, operation, LinePart { bytes: text })?;
     finish(alloc, kept, operation, label, of)
 }
 

@@ -26,7 +26,7 @@ fn switch_of(text: &[u8]) -> Result<bool, AsmCause>
 }
 
 impl Kept {
-    ghost use Rattle.std.specs.Prelude.{◌≤◌, [], length, OnOk};
+    ghost use Rattle.std.specs.Prelude.{[], OnOk};
     ghost use Rattle.asm_meaning.specs.State.{State, in_segment, marked, turned};
     ghost use Rattle.orca_object.specs.StateView.{ShowsState, IsShortOption};
 
@@ -34,11 +34,10 @@ impl Kept {
     fn turn(
         &mut self,
         alloc: Global,
-        label: &[u8],
+        label: &Name,
         switch: Switch,
         on: bool,
     ) -> Result<(), AllocError>
-        requires label { length label.now ≤ 255 }
         requires short { IsShortOption self.old.segment }
         ensures { OnOk result ((state : State) → ShowsState state self.old → ShowsState (turned switch on (in_segment (marked label.now 0x4E []) state)) self.new) }
     {
@@ -65,7 +64,7 @@ pub(crate) fn turning(
 {
     match both(label, switch_of(text)) {
         Ok((name, on)) => {
-            kept.turn(alloc, name.bytes(), switch, on)?;
+            kept.turn(alloc, &name, switch, on)?;
             Ok(Ok(()))
         }
         Err(cause) => Ok(Err(cause)),

@@ -6,6 +6,7 @@ mod forms;
 mod formula;
 mod formula_term;
 mod line;
+mod line_part;
 mod lines;
 mod operand;
 mod operand_tokens;
@@ -19,6 +20,7 @@ pub use fields::{Fields, is_comment, label_in, operand_behind, part, quote_behin
 pub use formula::{FormulaAt, formula_at};
 pub use formula_term::{Formula, FormulaTerm};
 pub use line::SourceLine;
+pub use line_part::LinePart;
 pub use lines::{Lines, read_lines};
 pub use operand::{Operand, is_too_deep, read_operand};
 pub use operand_tokens::{behind_byte, folded, is_name_start, name_at, name_len, symbol_at};

@@ -13,7 +13,8 @@ use Rattle.iigs_meaning.specs.declared.handles.Handle.{Handle}
 use Rattle.iigs_meaning.specs.declared.wants.Block.{Block}
 use Rattle.iigs_meaning.specs.Slots.{get, new_handle}
 use Rattle.iigs_meaning.specs.Fits.{Slots}
-use Rattle.iigs_meaning.specs.Puts.{Purges, LacksRoom, Puts, PutsAnew}
+use Rattle.iigs_meaning.specs.Puts.{LacksRoom, Puts, PutsAnew}
+use Rattle.loader_machine.specs.Rule.{RoomRule}
 use Rattle.iigs_meaning.specs.Memory.{Changes}
 use Rattle.loader_machine.specs.declared.faults.LoaderFault.{LoaderFault}
 use Rattle.loader_machine.specs.declared.faults.LoaderFault.TheVariants as fault
@@ -44,7 +45,7 @@ use Rattle.sys_loader.proofs.Shifting.{IsTurn, shifted_agrees}
 -- ---- a segment that wakes
 
 pub wakes : IsTurn active_block
-wakes = record { at = λ b. refl; user = λ b. refl; want = λ b. refl; form = λ b. inl (refl, refl) }
+wakes = record { at = λ b. refl; user = λ b. refl; want = λ b. refl; movable = λ b. refl; form = λ b. inl (refl, refl) }
 
 -- the handle of a segment whose block is live
 pub idle_handle : (slots : Slots) (handle : Option Handle) (h : Handle) (address : ℕ) → presence slots handle ≡ Idle h address → handle ≡ Some h
@@ -95,7 +96,7 @@ live_there slots h block live is = go block.at block.locked (sym (ap (lies_in h)
 -- a segment is made active as by the machine; or the read failed, or memory ran out, and all agrees as before
 abbrev pub IsMet : FileMap → Machine → ℕ → ℕ → (ℕ → Reply) → Bool → Reply → Loaded → ℕ → ℕ → Type 0
 IsMet held state id number of reads reply new before now =
-    ((next : Machine) × MakesActive Purges held state id number of reply next × Agrees held new next × (now ≡ before))
+    ((next : Machine) × MakesActive RoomRule held state id number of reply next × Agrees held new next × (now ≡ before))
     ⊎ (((reply ≡ Refused fault.CannotRead) × Agrees held new state × (reads ≡ true) × (now ≡ one_more before))
     ⊎ ((reply ≡ Refused fault.Memory) × Agrees held new state × (now ≡ before)))
 
@@ -124,21 +125,21 @@ module _ (held : FileMap) (old : Loaded) (state : Machine) (id number : ℕ) (so
   pub presence_same : presence_at state.slots (handles_of is.user) number ≡ presence old.memory.slots handle
   presence_same = ap (λ (o : Outline). presence state.slots (handle_at o.handles number)) (sym is.does_agree.same) ∙ ap (presence state.slots) can.handle' ∙ ap (λ (t : Slots). presence t handle) (sym agrees.slots)
 
-  makes : (p : Presence) → presence old.memory.slots handle ≡ p → (outcome : Outcome) → Activates Purges state id is.user number (want_of head) p outcome
-      → (of : ℕ → Reply) (reply : Reply) (next : Machine) → Answers state number outcome of reply next → MakesActive Purges held state id number of reply next
+  makes : (p : Presence) → presence old.memory.slots handle ≡ p → (outcome : Outcome) → Activates RoomRule state id is.user number (want_of head) p outcome
+      → (of : ℕ → Reply) (reply : Reply) (next : Machine) → Answers state number outcome of reply next → MakesActive RoomRule held state id number of reply next
   makes p at outcome activates of reply next answers = record {
     sees = sees;
     s = found.0;
     is = found.1;
     outcome = outcome;
-    activates = subst (λ (q : Presence). Activates Purges state id is.user number (want_of (head_of found.0)) q outcome) (sym (presence_same ∙ at))
-        (subst (λ (x : Head). Activates Purges state id is.user number (want_of x) p outcome) found.2 activates);
+    activates = subst (λ (q : Presence). Activates RoomRule state id is.user number (want_of (head_of found.0)) q outcome) (sym (presence_same ∙ at))
+        (subst (λ (x : Head). Activates RoomRule state id is.user number (want_of x) p outcome) found.2 activates);
     answers = answers;
   }
 
-  lacks_moved : LacksRoom Purges old.memory.banks old.memory.slots (want_of head) → LacksRoom Purges state.banks state.slots (want_of head)
+  lacks_moved : LacksRoom RoomRule old.memory.banks old.memory.slots (want_of head) → LacksRoom RoomRule state.banks state.slots (want_of head)
   lacks_moved lacks =
-      subst (λ (t : Slots). LacksRoom Purges state.banks t (want_of head)) agrees.slots (subst (λ (b : List ℕ). LacksRoom Purges b old.memory.slots (want_of head)) agrees.banks lacks)
+      subst (λ (t : Slots). LacksRoom RoomRule state.banks t (want_of head)) agrees.slots (subst (λ (b : List ℕ). LacksRoom RoomRule b old.memory.slots (want_of head)) agrees.banks lacks)
 
   -- ---- it is there
 
@@ -205,11 +206,11 @@ module _ (held : FileMap) (old : Loaded) (state : Machine) (id number : ℕ) (so
         refl,
       )
     where
-      moved : {h : Handle} {last : Slots} (puts : Puts Purges old.memory.banks old.memory.slots (want_of head) id true 0 false h last) → puts.address ≡ address → (t : Slots) → old.memory.slots ≡ t → (b : List ℕ) → old.memory.banks ≡ b
-          → (puts' : Puts Purges b t (want_of head) id true 0 false h last) × (puts'.address ≡ address)
+      moved : {h : Handle} {last : Slots} (puts : Puts RoomRule old.memory.banks old.memory.slots (want_of head) id true 0 false h last) → puts.address ≡ address → (t : Slots) → old.memory.slots ≡ t → (b : List ℕ) → old.memory.banks ≡ b
+          → (puts' : Puts RoomRule b t (want_of head) id true 0 false h last) × (puts'.address ≡ address)
       moved {h} {last} puts at t es b eb =
-          subst (λ (x : Slots). (puts' : Puts Purges b x (want_of head) id true 0 false h last) × (puts'.address ≡ address)) es
-          (subst (λ (x : List ℕ). (puts' : Puts Purges x old.memory.slots (want_of head) id true 0 false h last) × (puts'.address ≡ address)) eb (puts, at))
+          subst (λ (x : Slots). (puts' : Puts RoomRule b x (want_of head) id true 0 false h last) × (puts'.address ≡ address)) es
+          (subst (λ (x : List ℕ). (puts' : Puts RoomRule x old.memory.slots (want_of head) id true 0 false h last) × (puts'.address ≡ address)) eb (puts, at))
 
   came_anew : (new : Loaded) (k : Handle) (address now : ℕ) (of : ℕ → Reply) (segments : List Segment) → handle ≡ Some k → presence old.memory.slots handle ≡ Purged k → is.does_agree.segments ≡ segments
       → HasCome old id number can.kept head handle segments address new → IsMet held state id number of true (of address) new now now
@@ -220,7 +221,7 @@ module _ (held : FileMap) (old : Loaded) (state : Machine) (id number : ℕ) (so
       let slots : new.memory.slots ≡ changed active_block brought.1.slots did.h =
       did.renewed.slots ∙ changes.slots ∙ sym (ap (λ (o : Option Block). option_map_or (λ b. Rattle.iigs_meaning.specs.Slots.with_value brought.1.slots did.h (active_block b)) o brought.1.slots) changes.was) in
       let there = moved {h = did.h} {last = brought.1.slots} brought.2.puts brought.3 state.slots agrees.slots state.banks agrees.banks in
-      let activates : Activates Purges state id is.user number (want_of head) (Purged did.h) (Made address next) =
+      let activates : Activates RoomRule state id is.user number (want_of head) (Purged did.h) (Made address next) =
       (brought.1.slots, there.0, there.1, ap (λ (t : Slots). with_both state id t (Some (with_segment is.user number (fresh (Some did.h))))) slots) in
       let here' : presence old.memory.slots handle ≡ Purged did.h = here ∙ ap (λ (x : Handle). Purged x) brought.0 in
       inl (
@@ -230,11 +231,11 @@ module _ (held : FileMap) (old : Loaded) (state : Machine) (id number : ℕ) (so
         refl,
       )
     where
-      moved : {h : Handle} {last : Slots} (puts : PutsAnew Purges old.memory.banks old.memory.slots h (want_of head) last) → puts.address ≡ address → (t : Slots) → old.memory.slots ≡ t → (b : List ℕ) → old.memory.banks ≡ b
-          → (puts' : PutsAnew Purges b t h (want_of head) last) × (puts'.address ≡ address)
+      moved : {h : Handle} {last : Slots} (puts : PutsAnew RoomRule old.memory.banks old.memory.slots h (want_of head) last) → puts.address ≡ address → (t : Slots) → old.memory.slots ≡ t → (b : List ℕ) → old.memory.banks ≡ b
+          → (puts' : PutsAnew RoomRule b t h (want_of head) last) × (puts'.address ≡ address)
       moved {h} {last} puts at t es b eb =
-          subst (λ (x : Slots). (puts' : PutsAnew Purges b x h (want_of head) last) × (puts'.address ≡ address)) es
-          (subst (λ (x : List ℕ). (puts' : PutsAnew Purges x old.memory.slots h (want_of head) last) × (puts'.address ≡ address)) eb (puts, at))
+          subst (λ (x : Slots). (puts' : PutsAnew RoomRule b x h (want_of head) last) × (puts'.address ≡ address)) es
+          (subst (λ (x : List ℕ). (puts' : PutsAnew RoomRule x old.memory.slots h (want_of head) last) × (puts'.address ≡ address)) eb (puts, at))
 
   -- ---- it doesn't come
 
@@ -342,7 +343,7 @@ module _ (held : FileMap) (old : Loaded) (state : Machine) (id number : ℕ) (so
       )
 
   pub activation_met : (result : Result ℕ LoaderFault) (new : Loaded) (before now : ℕ) → HasActivated (Some held) old id number can.kept head handle (presence old.memory.slots handle) result new before now
-      → Meets Purges held state (LoadSegment id number) (activation_reply (MadeActive number) result) new before now
+      → Meets RoomRule held state (LoadSegment id number) (activation_reply (MadeActive number) result) new before now
   activation_met result new before now did = elim (activated (presence old.memory.slots handle) refl result new before now (MadeActive number) did) [
     | inl made ↦ inl (
       (
@@ -360,14 +361,14 @@ module _ (held : FileMap) (old : Loaded) (state : Machine) (id number : ℕ) (so
 
 -- making a segment active is the machine's step
 pub activates_meet : (store : Option FileMap) (held : FileMap) (old new : Loaded) (state : Machine) (id number : ℕ) (result : Result ℕ LoaderFault) (before now : ℕ) → store ≡ Some held → IsSound old.memory old.users
-    → DidActivate store old id number result new before now → Agrees held old state → Meets Purges held state (LoadSegment id number) (activation_reply (MadeActive number) result) new before now
+    → DidActivate store old id number result new before now → Agrees held old state → Meets RoomRule held state (LoadSegment id number) (activation_reply (MadeActive number) result) new before now
 activates_meet store held old new state id number result before now told sound did agrees =
     go (subst (λ (s : Option FileMap). DidActivate s old id number result new before now) told did)
   where
-    go : DidActivate (Some held) old id number result new before now → Meets Purges held state (LoadSegment id number) (activation_reply (MadeActive number) result) new before now
+    go : DidActivate (Some held) old id number result new before now → Meets RoomRule held state (LoadSegment id number) (activation_reply (MadeActive number) result) new before now
     go (inl stopped) =
-        subst (λ (r : Result ℕ LoaderFault). Meets Purges held state (LoadSegment id number) (activation_reply (MadeActive number) r) new before now) (sym stopped.2)
-        (subst (λ (l : Loaded). Meets Purges held state (LoadSegment id number) (Refused stopped.0) l before now) (sym stopped.3)
-        (subst (λ (n : ℕ). Meets Purges held state (LoadSegment id number) (Refused stopped.0) old before n) (sym stopped.4)
+        subst (λ (r : Result ℕ LoaderFault). Meets RoomRule held state (LoadSegment id number) (activation_reply (MadeActive number) r) new before now) (sym stopped.2)
+        (subst (λ (l : Loaded). Meets RoomRule held state (LoadSegment id number) (Refused stopped.0) l before now) (sym stopped.3)
+        (subst (λ (n : ℕ). Meets RoomRule held state (LoadSegment id number) (Refused stopped.0) old before n) (sym stopped.4)
         (inl ((state, refuses held old state agrees id (λ seen. load_segment_refusal seen number) stopped.0 _ stopped.1, agrees), refl))))
     go (inr here) = activation_met held old state id number sound agrees here.0 here.1 here.2 result new before now here.3

@@ -14,7 +14,8 @@ use Rattle.load_meaning.specs.Loadable.{IsLoadable}
 use Rattle.iigs_meaning.specs.declared.handles.Handle.{Handle}
 use Rattle.iigs_meaning.specs.Fits.{Slots}
 use Rattle.iigs_meaning.specs.Memory.{bytes_at}
-use Rattle.iigs_meaning.specs.Puts.{Purges, PutsAll, without_user}
+use Rattle.iigs_meaning.specs.Puts.{PutsAll, without_user}
+use Rattle.loader_machine.specs.Rule.{RoomRule}
 use Rattle.loader_machine.specs.declared.seen.Head.{Head}
 use Rattle.loader_machine.specs.declared.seen.Life.TheVariants.{Running, Dormant}
 use Rattle.loader_machine.specs.declared.seen.Presence.{Presence}
@@ -375,7 +376,7 @@ module _ (old new : Loaded) (id : ℕ) (kept : Kept) (segments : List Segment) (
         let of' = dropped_sound.each (m - first_id) n has.0 h has.1 in
         let was : is_active (presence dropped.memory.slots (Some h)) ≡ false =
         ap (λ (o : Option Handle). is_active (presence dropped.memory.slots o)) (sym e) ∙ dropped_sound.rests (m - first_id) one.0 n dropped_made (one.2.same ∙ rests) in
-        keeps_rest dropped.memory new.memory h (begun_keeps dropped.memory new.memory kept.path segments id started.entry did.placed h (rw of'.live refl)) was
+        keeps_rest dropped.memory new.memory h (begun_keeps dropped.memory new.memory kept.path segments id started.entry did.placed h of'.block of'.live of'.fixed) was
 
     not_active' : (n : ℕ) → active_at (presence_at new.memory.slots (handles_in (kept_outlines new.users) m) n) ≡ None
     not_active' n = ap (λ (hs : List (Option Handle)). active_at (presence_at new.memory.slots hs n)) handles_now ∙ by_place (presence_at new.memory.slots one.0.handles n) (rest_at n (handle_at one.0.handles n) refl)
@@ -415,7 +416,7 @@ module _ (old new : Loaded) (id : ℕ) (kept : Kept) (segments : List Segment) (
     again_user u = refl
 
     all_kept : AllKept without new.memory
-    all_kept p n head h has = begun_keeps without.memory new.memory kept.path segments id started.entry did.placed h (let of' = without_sound.each p n head h has in rw of'.live refl)
+    all_kept p n head h has = let of' = without_sound.each p n head h has in begun_keeps without.memory new.memory kept.path segments id started.entry did.placed h of'.block of'.live of'.fixed
 
     -- what is attached is active where it was
     far_now : (p : ℕ) (k : Kept) → slice_get new.users p ≡ Some (Some k) → p ≢ place → (f n : ℕ) → far_of new.memory.slots (kept_outlines new.users) (first_id + p) f n ≡ far_of without.memory.slots (kept_outlines without.users) (first_id + p) f n
@@ -491,14 +492,14 @@ module _ (old new : Loaded) (id : ℕ) (kept : Kept) (segments : List Segment) (
     pub begun_anew_agrees : Agrees held new next
     begun_anew_agrees = agrees_of
 
-    puts : PutsAll Purges state.banks id (without_user state.slots id) (wants_of (map head_of segments)) did.placed.handles new.memory.slots
+    puts : PutsAll RoomRule state.banks id (without_user state.slots id) (wants_of (map head_of segments)) did.placed.handles new.memory.slots
     puts =
-        subst (λ (b : List ℕ). PutsAll Purges b id (without_user state.slots id) (wants_of (map head_of segments)) did.placed.handles new.memory.slots) agrees.banks
-        (subst (λ (t : Slots). PutsAll Purges old.memory.banks id (without_user t id) (wants_of (map head_of segments)) did.placed.handles new.memory.slots) agrees.slots
-        (subst (PutsAll Purges old.memory.banks id (without_user old.memory.slots id) (wants_of (map head_of segments)) did.placed.handles) (sym did.placed.slots) did.placed.placed.puts))
+        subst (λ (b : List ℕ). PutsAll RoomRule b id (without_user state.slots id) (wants_of (map head_of segments)) did.placed.handles new.memory.slots) agrees.banks
+        (subst (λ (t : Slots). PutsAll RoomRule old.memory.banks id (without_user t id) (wants_of (map head_of segments)) did.placed.handles new.memory.slots) agrees.slots
+        (subst (PutsAll RoomRule old.memory.banks id (without_user old.memory.slots id) (wants_of (map head_of segments)) did.placed.handles) (sym did.placed.slots) did.placed.placed.puts))
 
     -- the machine's user begins so too
-    pub begins_anew : (was : User) → was.attached ≡ kept.attached → Begins Purges state (without_user state.slots id) kept.path id segments (again_users state id was) (Started id started.entry) next
+    pub begins_anew : (was : User) → was.attached ≡ kept.attached → Begins RoomRule state (without_user state.slots id) kept.path id segments (again_users state id was) (Started id started.entry) next
     begins_anew was rows_are = record {
       put = PutIn did.placed.handles new.memory.slots;
       is_put = (subst (λ (t : Slots). length (wants_of (map head_of segments)) ≤ Rattle.std.specs.Prelude.count_by Rattle.iigs_meaning.specs.Slots.is_free (without_user t id)) agrees.slots did.placed.placed.enough, puts);

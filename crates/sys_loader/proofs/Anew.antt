@@ -7,7 +7,8 @@ use Rattle.load_meaning.specs.Loadable.{IsLoadable}
 use Rattle.iigs_meaning.specs.declared.handles.Handle.{Handle}
 use Rattle.iigs_meaning.specs.declared.wants.Want.{Want}
 use Rattle.iigs_meaning.specs.Fits.{Slots}
-use Rattle.iigs_meaning.specs.Puts.{Purges, without_user}
+use Rattle.iigs_meaning.specs.Puts.{without_user}
+use Rattle.loader_machine.specs.Rule.{RoomRule}
 use Rattle.iigs_meaning.specs.Memory.{Memory, AreAllPlaced, bytes_at}
 use Rattle.loader_machine.specs.declared.faults.LoaderFault.{LoaderFault}
 use Rattle.loader_machine.specs.declared.seen.Head.{Head}
@@ -27,7 +28,7 @@ use Rattle.sys_loader.specs.Restarting.{is_whole, released_memory, HasBegunAnew,
 use Rattle.sys_loader.proofs.Written.{heads_of, handles_of}
 
 -- what is placed in the place of all that a user has is placed where it has nothing
-pub placed_freed : (memory middle : Memory) (id : ℕ) (wants : List Want) (hs : List Handle) → AreAllPlaced Purges memory id true wants hs middle → AreAllPlaced Purges (released_memory memory id) id false wants hs middle
+pub placed_freed : (memory middle : Memory) (id : ℕ) (wants : List Want) (hs : List Handle) → AreAllPlaced RoomRule memory id true wants hs middle → AreAllPlaced RoomRule (released_memory memory id) id false wants hs middle
 placed_freed memory middle id wants hs placed = record {
   enough = placed.enough;
   puts = placed.puts;
@@ -36,12 +37,12 @@ placed_freed memory middle id wants hs placed = record {
 }
 
 module _ (old : Loaded) (middle new : Memory) (items : List users.Segment) (load : List Segment) (k : Kept) (wants : List Want) (hs given : List Handle) (id : ℕ) (entry : Option ℕ) (short : length load < 2 ^ 16)
-    (placed : AreAllPlaced Purges old.memory id true wants given middle) (wants_are : wants ≡ wants_of (map head_of load)) (hs_are : hs ≡ given) (is_settled : IsSettled load id hs middle new)
+    (placed : AreAllPlaced RoomRule old.memory id true wants given middle) (wants_are : wants ≡ wants_of (map head_of load)) (hs_are : hs ≡ given) (is_settled : IsSettled load id hs middle new)
     (same : heads_of items ≡ map head_of load) (handles : handles_of items ≡ spread_handles load hs)
     (entry_is : entry ≡ entry_in (heads_of items) (place_in new.slots (handles_of items)) 1) where
-  freed : AreAllPlaced Purges (released_memory old.memory id) id false (wants_of (map head_of load)) hs middle
+  freed : AreAllPlaced RoomRule (released_memory old.memory id) id false (wants_of (map head_of load)) hs middle
   freed = placed_freed old.memory middle id (wants_of (map head_of load)) hs
-      (subst (λ (ws : List Want). AreAllPlaced Purges old.memory id true ws hs middle) wants_are (subst (λ (given' : List Handle). AreAllPlaced Purges old.memory id true wants given' middle) (sym hs_are) placed))
+      (subst (λ (ws : List Want). AreAllPlaced RoomRule old.memory id true ws hs middle) wants_are (subst (λ (given' : List Handle). AreAllPlaced RoomRule old.memory id true wants given' middle) (sym hs_are) placed))
 
   abbrev made : List (Option Handle) → List Head → Kept
   made os gs = record { path = k.path; life = Running; handles = os; heads = gs; attached = k.attached }

@@ -11,7 +11,8 @@ use Rattle.load_meaning.specs.Pathnames.{paths_of}
 use Rattle.iigs_meaning.specs.declared.handles.Handle.{Handle}
 use Rattle.iigs_meaning.specs.declared.wants.Want.{Want}
 use Rattle.iigs_meaning.specs.Fits.{Slots}
-use Rattle.iigs_meaning.specs.Puts.{Purges, PutsAll}
+use Rattle.iigs_meaning.specs.Puts.{PutsAll}
+use Rattle.loader_machine.specs.Rule.{RoomRule}
 use Rattle.iigs_meaning.specs.Memory.{Memory, AreAllPlaced, bytes_at}
 use Rattle.loader_machine.specs.declared.seen.Head.{Head}
 use Rattle.loader_machine.specs.declared.seen.Life.{Life}
@@ -47,7 +48,7 @@ has_handle handles k h is = go (slice_get handles k) refl is
     go None e is = absurd cc
     go (Some x) e is = e ∙ ap (λ (y : Option Handle). Some y) is
 
-module _ (before memory : Memory) (load : List Segment) (hs : List Handle) (user : ℕ) (placed : AreAllPlaced Purges before user false (wants_of (map head_of load)) hs memory) where
+module _ (before memory : Memory) (load : List Segment) (hs : List Handle) (user : ℕ) (placed : AreAllPlaced RoomRule before user false (wants_of (map head_of load)) hs memory) where
   abbrev heads : List Head
   heads = map head_of load
 
@@ -142,7 +143,7 @@ pub rows_length : (paths : List (List ℕ)) (all : List (List Segment)) (joined 
 rows_length paths all joined rows = sym (length-map joined (λ (k : Kept). Some k)) ∙ ap length rows.users' ∙ joined_length paths all rows.long
 
 module _ (memory middle new : Memory) (users' last : List (Option User)) (user : User) (joined : List User) (load : List Segment) (path : List ℕ) (all : List (List Segment)) (hs : List Handle) (id : ℕ) (entry : Option ℕ)
-    (few : length users' + 1 + length joined ≤ max_users) (short : length load < 2 ^ 16) (id_is : id ≡ first_id + length users') (placed : AreAllPlaced Purges memory id false (wants_of (map head_of load)) hs middle)
+    (few : length users' + 1 + length joined ≤ max_users) (short : length load < 2 ^ 16) (id_is : id ≡ first_id + length users') (placed : AreAllPlaced RoomRule memory id false (wants_of (map head_of load)) hs middle)
     (is_settled : IsSettled load id hs middle new) (same : heads_of user.segments.items ≡ map head_of load) (handles : handles_of user.segments.items ≡ spread_handles load hs)
     (path_is : string_bytes user.path ≡ path) (runs : user.life ≡ Running) (attached : user.attached.items ≡ ids_from (id + 1) (length (paths_of load)))
     (entry_is : entry ≡ entry_in (heads_of user.segments.items) (place_in new.slots (handles_of user.segments.items)) 1)
@@ -190,7 +191,7 @@ module _ (memory middle new : Memory) (users' last : List (Option User)) (user :
 
 module _ (old : Loaded) (memory middle new : Memory) (users' last : List (Option User)) (user : User) (joined : List User) (load : List Segment) (path : List ℕ) (all : List (List Segment)) (wants : List Want) (hs given : List Handle) (id count : ℕ) (entry : Option ℕ)
     (view : old ≡ loaded memory users') (few : length old.users + 1 + length joined ≤ max_users) (short : length load < 2 ^ 16) (id_is : id ≡ first_id + count) (count_is : count ≡ length users')
-    (placed : AreAllPlaced Purges memory id false wants given middle) (wants_are : wants ≡ wants_of (map head_of load)) (hs_are : hs ≡ given) (is_settled : IsSettled load id hs middle new)
+    (placed : AreAllPlaced RoomRule memory id false wants given middle) (wants_are : wants ≡ wants_of (map head_of load)) (hs_are : hs ≡ given) (is_settled : IsSettled load id hs middle new)
     (same : heads_of user.segments.items ≡ map head_of load) (handles : handles_of user.segments.items ≡ spread_handles load hs) (path_is : string_bytes user.path ≡ path) (runs : user.life ≡ Running)
     (attached : user.attached.items ≡ ids_from (first_id + length old.users + 1) (length (paths_of load)))
     (entry_is : entry ≡ entry_in (heads_of user.segments.items) (place_in new.slots (handles_of user.segments.items)) 1)
@@ -202,7 +203,7 @@ module _ (old : Loaded) (memory middle new : Memory) (users' last : List (Option
   as_begun : HasBegun (loaded memory users') path load all id entry (loaded new last)
   as_begun =
       begun memory middle new users' last user joined load path all hs id entry (omega (arith, few, old_count)) short (omega (arith, id_is, count_is))
-      (subst (λ (ws : List Want). AreAllPlaced Purges memory id false ws hs middle) wants_are (subst (λ (given' : List Handle). AreAllPlaced Purges memory id false wants given' middle) (sym hs_are) placed))
+      (subst (λ (ws : List Want). AreAllPlaced RoomRule memory id false ws hs middle) wants_are (subst (λ (given' : List Handle). AreAllPlaced RoomRule memory id false wants given' middle) (sym hs_are) placed))
       is_settled same handles path_is runs
       (attached ∙ ap (λ (n : ℕ). ids_from n (length (paths_of load))) (omega (arith, old_count, id_is, count_is)))
       entry_is rows pushed
@@ -214,7 +215,7 @@ module _ (old : Loaded) (memory middle new : Memory) (users' last : List (Option
   started_sound sound file loadable none = sound_begun (loaded memory users') (loaded new last) path load all id entry sound as_begun file loadable rows.runtimes none
 
 -- the handles that were given, as the list of them holds them
-pub same_handles : (banks : List ℕ) (user : ℕ) (slots last : Slots) (wants wants' : List Want) (hs given old : List Handle) (len : ℕ) → PutsAll Purges banks user slots wants given last → wants ≡ wants'
+pub same_handles : (banks : List ℕ) (user : ℕ) (slots last : Slots) (wants wants' : List Want) (hs given old : List Handle) (len : ℕ) → PutsAll RoomRule banks user slots wants given last → wants ≡ wants'
     → length old ≡ length wants' → len ≡ length old → hs ≡ take len (given ++ drop (length given) old) → hs ≡ given
 same_handles banks user slots last wants wants' hs given old len puts same room is_len is =
     is ∙ take_at given (drop (length given) old) len (omega (arith, all_length banks user slots last wants given puts, ap length same, room, is_len))

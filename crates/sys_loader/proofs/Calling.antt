@@ -15,7 +15,7 @@ use Rattle.load_meaning.specs.LoadTable.{targets_of}
 use Rattle.iigs_meaning.specs.Slots.{slot_at}
 use Rattle.iigs_meaning.specs.Fits.{Slots, HoldsByte}
 use Rattle.iigs_meaning.specs.Blocks.{AreApart}
-use Rattle.iigs_meaning.specs.Puts.{Purges}
+use Rattle.loader_machine.specs.Rule.{RoomRule}
 use Rattle.loader_machine.specs.declared.faults.LoaderFault.{LoaderFault}
 use Rattle.loader_machine.specs.declared.faults.LoaderFault.TheVariants.{CannotRead, Memory}
 use Rattle.loader_machine.specs.declared.seen.Head.{Head}
@@ -122,7 +122,7 @@ module _ (held : FileMap) (loader : Loaded) (state : Machine) (agrees : Agrees h
   stands_here : StandsIn held state id number bytes
   stands_here = record { sees = sees; s = has.s; is = has.is; bytes_are = refl }
 
-  shows : Steps Purges held state (Bytes id number at 4) (Shown four) state
+  shows : Steps RoomRule held state (Bytes id number at 4) (Shown four) state
   shows = record {
     seen = Some (seen_of sees.user sees.segments);
     is_seen = (sees, refl);
@@ -149,7 +149,7 @@ module _ (held : FileMap) (loader : Loaded) (state : Machine) (agrees : Agrees h
       let same : there.0 + entry_place call.k ≡ address_of four = ap (λ (n : ℕ). n + entry_place call.k) (sym there.1) ∙ sym leads in
       subst (λ (n : ℕ). IsAt held state n id call.table (entry_place call.k)) same there.2
 
-  lies : Steps Purges held state (Where (address_of four)) (Lies id call.table (entry_place call.k)) state
+  lies : Steps RoomRule held state (Where (address_of four)) (Lies id call.table (entry_place call.k)) state
   lies = (In id call.table (entry_place call.k), at_code, refl, refl)
 
   -- ---- what comes of them
@@ -163,7 +163,7 @@ module _ (held : FileMap) (loader : Loaded) (state : Machine) (agrees : Agrees h
   answers_enter other named (Made address last) (Ok place) next is = let e = is.0 in let user : place.user ≡ other = cc in (named ∙ ap (λ (n : ℕ). Some n) (sym user), cc, cc)
   answers_enter other named (Made address last) (Err why) next is = let no = is.0 in absurd cc
 
-  enters : (result : Result answers.Entered LoaderFault) (next : Machine) (address : ℕ) → Enters Purges held state address (In id call.table (entry_place call.k)) (jsl_reply result) next → EntersTarget state id t result
+  enters : (result : Result answers.Entered LoaderFault) (next : Machine) (address : ℕ) → Enters RoomRule held state address (In id call.table (entry_place call.k)) (jsl_reply result) next → EntersTarget state id t result
   enters result next address e =
       let other = e.0 in
       let s = e.1 in
@@ -172,18 +172,18 @@ module _ (held : FileMap) (loader : Loaded) (state : Machine) (agrees : Agrees h
       (subst (λ (u : User). HoldsLoad held u.path other.segments) user other.holds) sees.holds in
       let same : s ≡ has.t = same_Some s has.t (sym e.2 ∙ ap (λ (ss : List Segment). segment_at ss call.table) segments ∙ has.target') in
       let found : target_at_code (targets_of has.t) 0 (entry_place call.k) ≡ Some t = found_code (targets_of has.t) 0 call.k (entry_place call.k) t call.entry (omega arith) in
-      let entry : EntersEntry Purges held state id (target_at_code (targets_of has.t) 0 (entry_place call.k)) (jsl_reply result) next =
-      yes (is_table (head_of has.t)) _ _ call.is_table (subst (λ (x : Segment). EntersSegment Purges held state address id call.table (entry_place call.k) x (jsl_reply result) next) same e.3) in
-      let made = subst (λ (o : Option Target). EntersEntry Purges held state id o (jsl_reply result) next) found entry in
+      let entry : EntersEntry RoomRule held state id (target_at_code (targets_of has.t) 0 (entry_place call.k)) (jsl_reply result) next =
+      yes (is_table (head_of has.t)) _ _ call.is_table (subst (λ (x : Segment). EntersSegment RoomRule held state address id call.table (entry_place call.k) x (jsl_reply result) next) same e.3) in
+      let made = subst (λ (o : Option Target). EntersEntry RoomRule held state id o (jsl_reply result) next) found entry in
       answers_enter made.0 made.1 made.2.outcome result next made.2.answers
     where
       yes : (b : Bool) (P Q : Type 0) → b ≡ true → Either b P Q → P
       yes b P Q is e = subst (λ (x : Bool). Either x P Q) is e
 
-  follows : (result : Result answers.Entered LoaderFault) (next : Machine) → StepsJsl Purges held state id number at (jsl_reply result) next → EntersTarget state id t result
+  follows : (result : Result answers.Entered LoaderFault) (next : Machine) → StepsJsl RoomRule held state id number at (jsl_reply result) next → EntersTarget state id t result
   follows result next steps =
       let other : List ℕ = take 4 (drop at steps.bytes) in
-      let shown : Steps Purges held state (Bytes id number at 4) (Shown other) state = record {
+      let shown : Steps RoomRule held state (Bytes id number at 4) (Shown other) state = record {
         seen = Some (seen_of sees.user sees.segments);
         is_seen = (sees, refl);
         is = decided _ state (Shown other) state _ passes (sees.user, sees.made, (steps.bytes, steps.stands, refl, refl));
@@ -193,15 +193,15 @@ module _ (held : FileMap) (loader : Loaded) (state : Machine) (agrees : Agrees h
       let located : IsLocated held state (address_of four) done.0 = subst (λ (bs : List ℕ). IsLocated held state (address_of bs) done.0) same done.1 in
       let place : done.0 ≡ In id call.table (entry_place call.k) = place_is done.0 id call.table (entry_place call.k)
       (steps_once_there held loader state agrees sound apart (Where (address_of four)) (place_reply done.0) (Lies id call.table (entry_place call.k)) state state (done.0, located, refl, refl) lies).0 in
-      enters result next (address_of other) (subst (λ (p : Place). Enters Purges held state (address_of other) p (jsl_reply result) next) place done.2)
+      enters result next (address_of other) (subst (λ (p : Place). Enters RoomRule held state (address_of other) p (jsl_reply result) next) place done.2)
 
-  steps_enter : (result : Result answers.Entered LoaderFault) (next : Machine) → Steps Purges held state (Jsl id number at) (jsl_reply result) next → EntersTarget state id t result
+  steps_enter : (result : Result answers.Entered LoaderFault) (next : Machine) → Steps RoomRule held state (Jsl id number at) (jsl_reply result) next → EntersTarget state id t result
   steps_enter result next steps = go (bytes_refusal state.slots steps.seen number at 4) refl
     where
       go : (r : Refuse) → bytes_refusal state.slots steps.seen number at 4 ≡ r → EntersTarget state id t result
       go None is = follows result next (undecided (bytes_refusal state.slots steps.seen number at 4) state (jsl_reply result) next _ is steps.is).2
       go (Some why) is =
-          let refuses : Steps Purges held state (Bytes id number at 4) (Refused why) state = record { seen = steps.seen; is_seen = steps.is_seen; is = rw is (refl, refl) } in
+          let refuses : Steps RoomRule held state (Bytes id number at 4) (Refused why) state = record { seen = steps.seen; is_seen = steps.is_seen; is = rw is (refl, refl) } in
           let clash : Refused why ≡ Shown four = (steps_once_there held loader state agrees sound apart (Bytes id number at 4) (Refused why) (Shown four) state state refuses shows).0 in
           absurd cc
 
@@ -210,7 +210,7 @@ module _ (held : FileMap) (loader : Loaded) (state : Machine) (agrees : Agrees h
   same_refused (Err other) why e = cc
 
   -- following a JSL to an entry enters the entry's target, or is refused for want of the file or of room
-  pub calls_enter : (result : Result answers.Entered LoaderFault) (new : Loaded) (before now : ℕ) → Meets Purges held state (Jsl id number at) (jsl_reply result) new before now → EntersTarget state id t result
+  pub calls_enter : (result : Result answers.Entered LoaderFault) (new : Loaded) (before now : ℕ) → Meets RoomRule held state (Jsl id number at) (jsl_reply result) new before now → EntersTarget state id t result
   calls_enter result new before now (inl met) = steps_enter result met.0.0 met.0.1
   calls_enter result new before now (inr (inl unread)) = subst (λ (r : Result answers.Entered LoaderFault). EntersTarget state id t r) (sym (same_refused result CannotRead unread.0)) (inl refl)
   calls_enter result new before now (inr (inr short)) = subst (λ (r : Result answers.Entered LoaderFault). EntersTarget state id t r) (sym (same_refused result Memory short.0)) (inr (inr (inr refl)))

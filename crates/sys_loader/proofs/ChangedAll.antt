@@ -180,6 +180,13 @@ let_go_user b = go (is_some b.at && b.locked)
     go true = refl
     go false = refl
 
+pub let_go_movable : (b : Block) → (let_go b).movable ≡ b.movable
+let_go_movable b = go (is_some b.at && b.locked)
+  where
+    go : (t : Bool) → (cond t (idle_block b) b).movable ≡ b.movable
+    go true = refl
+    go false = refl
+
 pub let_go_want : (b : Block) → (let_go b).want ≡ b.want
 let_go_want b = go (is_some b.at && b.locked)
   where

@@ -164,6 +164,7 @@ module _ (old new : Loaded) (id number owner file : ℕ) (kept lead : Kept) (hea
     block = is.block;
     live = ap (λ (t : Slots). get t k) slots_are ∙ is.live;
     user = is.user;
+    fixed = is.fixed;
     form = is.form;
     want = is.want;
     room = λ there. omega (arith, is.room there, sizes_apart k ne);
@@ -174,6 +175,7 @@ module _ (old new : Loaded) (id number owner file : ℕ) (kept lead : Kept) (hea
     block = brings.block;
     live = ap (λ (t : Slots). get t h) slots_are ∙ brings.live;
     user = brings.user ∙ sym its_users.1;
+    fixed = brings.fixed;
     form = inl (brings.locked, brings.level);
     want = omega (arith, want_size head, ap (λ w. w.size) brings.want);
     room = λ there. omega (arith, want_size head, size_here);

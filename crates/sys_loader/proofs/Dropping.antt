@@ -13,7 +13,8 @@ use Rattle.iigs_meaning.specs.declared.wants.Block.{Block}
 use Rattle.iigs_meaning.specs.declared.slots.Content.TheVariants.{Free, Retired}
 use Rattle.iigs_meaning.specs.Slots.{slot_at, get, released}
 use Rattle.iigs_meaning.specs.Fits.{Slots, block_in}
-use Rattle.iigs_meaning.specs.Puts.{Purges, without_user, without_user_in}
+use Rattle.iigs_meaning.specs.Puts.{without_user, without_user_in}
+use Rattle.loader_machine.specs.Rule.{RoomRule}
 use Rattle.iigs_meaning.specs.Memory.{Memory, KeepsBut, AreAllPlaced, bytes_at}
 use Rattle.iigs_meaning.specs.Blocks.{address_in}
 use Rattle.loader_machine.specs.declared.seen.Head.{Head}
@@ -194,6 +195,7 @@ module _ (old new : Loaded) (ids : List ℕ) (sound : IsSound old.memory old.use
         block = of'.block;
         live = live ∙ of'.live;
         user = of'.user;
+        fixed = of'.fixed;
         form = of'.form;
         want = of'.want;
         room = λ there.
@@ -412,7 +414,7 @@ module _ (old new : Loaded) (id : ℕ) (sound : IsSound old.memory old.users) (d
     agrees_next = subst (λ (ns : List ℕ). Agrees held new (next_of (family id ns))) (ap (λ (o : Outline). o.attached) is.does_agree.same)
         (gone_agrees old new its sound did.released did.users its_high its_out held state agrees)
 
-    pub drop_met : shut_down_refusal (is_attached (kept_outlines old.users) id) (seen_by old id) false ≡ None → Met Purges held state (ShutDown id false) Okay new
+    pub drop_met : shut_down_refusal (is_attached (kept_outlines old.users) id) (seen_by old id) false ≡ None → Met RoomRule held state (ShutDown id false) Okay new
     drop_met passes = (
       dropped_state state id is.user,
       does held old state agrees id (λ seen. shut_down_refusal (is_attached (outlines state.users) id) seen false) Okay (dropped_state state id is.user) _
@@ -422,7 +424,7 @@ module _ (old new : Loaded) (id : ℕ) (sound : IsSound old.memory old.users) (d
 
 -- ---- as it is done
 
-released_is : (old new : Memory) (id : ℕ) (handles : List Handle) → AreAllPlaced Purges old id true [] handles new → (new.slots ≡ without_user old.slots id) × KeepsBut old new []
+released_is : (old new : Memory) (id : ℕ) (handles : List Handle) → AreAllPlaced RoomRule old id true [] handles new → (new.slots ≡ without_user old.slots id) × KeepsBut old new []
 released_is old new id [] all = (all.puts, all.kept)
 released_is old new id (h ∷ handles) all = absurd all.puts
 
@@ -453,7 +455,7 @@ pub released_none_yet : (memory : Memory) → AreReleased [] memory memory
 released_none_yet memory = record { slots = refl; bytes = record { banks = refl; bytes = λ place apart there. refl } }
 
 -- the handles of one user more are released
-pub released_more : (ids : List ℕ) (id : ℕ) (old mid new : Memory) → AreReleased ids old mid → (handles : List Handle) × AreAllPlaced Purges mid id true [] handles new → AreReleased (ids ++ id ∷ []) old new
+pub released_more : (ids : List ℕ) (id : ℕ) (old mid new : Memory) → AreReleased ids old mid → (handles : List Handle) × AreAllPlaced RoomRule mid id true [] handles new → AreReleased (ids ++ id ∷ []) old new
 released_more ids id old mid new so_far (handles, all) =
     let is = released_is mid new id handles all in
     record {
@@ -466,7 +468,7 @@ released_more ids id old mid new so_far (handles, all) =
     }
 
 pub has_dropped : (old last : Loaded) (id : ℕ) (k : Kept) (middle : Memory) (users : List (Option Kept)) → user_of old.users id ≡ Some k → AreReleased k.attached old.memory middle → users ≡ without_all old.users k.attached
-    → (handles : List Handle) × AreAllPlaced Purges middle id true [] handles last.memory → last.users ≡ with_user users id None → HasDropped old id last
+    → (handles : List Handle) × AreAllPlaced RoomRule middle id true [] handles last.memory → last.users ≡ with_user users id None → HasDropped old id last
 has_dropped old last id k middle users made released gone last_released last_gone = record {
   kept = k;
   made = made;

@@ -16,7 +16,7 @@ use Rattle.iigs_meaning.specs.declared.wants.Want.{Want}
 use Rattle.iigs_meaning.specs.declared.wants.Block.{Block}
 use Rattle.iigs_meaning.specs.Slots.{slot_at, get}
 use Rattle.iigs_meaning.specs.Fits.{Slots, HoldsByte}
-use Rattle.iigs_meaning.specs.Puts.{Purges}
+use Rattle.loader_machine.specs.Rule.{RoomRule}
 use Rattle.iigs_meaning.specs.Memory.{bytes_at}
 use Rattle.loader_machine.specs.declared.faults.LoaderFault.{LoaderFault}
 use Rattle.loader_machine.specs.declared.seen.Head.{Head}
@@ -92,18 +92,18 @@ module _ (held : FileMap) (old : Loaded) (state : Machine) (sound : IsSound old.
     it = kept_is held old state agrees id lent.can.is.kept lent.can.is.made
 
     -- a call whose four bytes are read does this
-    does_jsl : (reply : Reply) (next : Machine) → StepsJsl Purges held state id number at reply next
-        → Rattle.loader_machine.specs.Steps.Does held state id (λ seen. bytes_refusal state.slots seen number at 4) reply next (λ user. StepsJsl Purges held state id number at reply next)
-    does_jsl reply next steps = does held old state agrees id (λ seen. bytes_refusal state.slots seen number at 4) reply next (λ user. StepsJsl Purges held state id number at reply next)
+    does_jsl : (reply : Reply) (next : Machine) → StepsJsl RoomRule held state id number at reply next
+        → Rattle.loader_machine.specs.Steps.Does held state id (λ seen. bytes_refusal state.slots seen number at 4) reply next (λ user. StepsJsl RoomRule held state id number at reply next)
+    does_jsl reply next steps = does held old state agrees id (λ seen. bytes_refusal state.slots seen number at 4) reply next (λ user. StepsJsl RoomRule held state id number at reply next)
         (can_read id number at bytes lent) it.user it.made steps
 
-    steps_none : (why : LoaderFault) → no_jsl bytes ≡ Some why → StepsJsl Purges held state id number at (Refused why) state
+    steps_none : (why : LoaderFault) → no_jsl bytes ≡ Some why → StepsJsl RoomRule held state id number at (Refused why) state
     steps_none why is =
         let f = four id number at bytes lent in
         record { bytes = f.0; stands = f.1; is = stopped (no_jsl (take 4 (drop at f.0))) why state _ (ap no_jsl (sym f.2) ∙ is) }
 
-    steps_to : (place : Place) (reply : Reply) (next : Machine) → no_jsl bytes ≡ None → IsLocated held state (address_of bytes) place → Enters Purges held state (address_of bytes) place reply next
-        → StepsJsl Purges held state id number at reply next
+    steps_to : (place : Place) (reply : Reply) (next : Machine) → no_jsl bytes ≡ None → IsLocated held state (address_of bytes) place → Enters RoomRule held state (address_of bytes) place reply next
+        → StepsJsl RoomRule held state id number at reply next
     steps_to place reply next is located enters =
         let f = four id number at bytes lent in
         record {
@@ -112,7 +112,7 @@ module _ (held : FileMap) (old : Loaded) (state : Machine) (sound : IsSound old.
           is = decided (no_jsl (take 4 (drop at f.0))) state reply next _ (ap no_jsl (sym f.2) ∙ is) (
             place,
             subst (λ (bs : List ℕ). IsLocated held state (address_of bs) place) f.2 located,
-            subst (λ (bs : List ℕ). Enters Purges held state (address_of bs) place reply next) f.2 enters,
+            subst (λ (bs : List ℕ). Enters RoomRule held state (address_of bs) place reply next) f.2 enters,
           );
         }
 
@@ -122,7 +122,7 @@ module _ (held : FileMap) (old : Loaded) (state : Machine) (sound : IsSound old.
   is_at address id number offset lies = at_there held old state agrees id number lies.h lies.is address offset lies.sum lies.inside
 
   nowhere : (address : ℕ) → ((id number offset : ℕ) → ¬ LiesIn old address id number offset) → IsLocated held state address Nowhere
-  nowhere address none = λ id number offset at. none id number offset (lies_back held old state agrees Purges sound address id number offset at)
+  nowhere address none = λ id number offset at. none id number offset (lies_back held old state agrees RoomRule sound address id number offset at)
 
   -- the segment in which it lies
   module _ (address owner number offset : ℕ) (lies : LiesIn old address owner number offset) where
@@ -145,7 +145,7 @@ module _ (held : FileMap) (old : Loaded) (state : Machine) (sound : IsSound old.
     sees = sees_of held old state agrees owner lies.is.kept (one held old state agrees owner number lies.h lies.is)
 
     steps_place : (reply : Reply) (next : Machine) → is_table lies.is.head ≡ false → reply ≡ Entered owner number offset address → next ≡ state
-        → Enters Purges held state address (In owner number offset) reply next
+        → Enters RoomRule held state address (In owner number offset) reply next
     steps_place reply next plain is same = (
       sees,
       s,
@@ -156,13 +156,13 @@ module _ (held : FileMap) (old : Loaded) (state : Machine) (sound : IsSound old.
         either_no : (b : Bool) (P Q : Type 0) → b ≡ false → Q → Either b P Q
         either_no b P Q plain' q = rw plain' q
 
-    steps_entry : (o : Option Target) (reply : Reply) (next : Machine) → is_table lies.is.head ≡ true → target_at_code (targets_of s) 0 offset ≡ o → EntersEntry Purges held state owner o reply next
-        → Enters Purges held state address (In owner number offset) reply next
+    steps_entry : (o : Option Target) (reply : Reply) (next : Machine) → is_table lies.is.head ≡ true → target_at_code (targets_of s) 0 offset ≡ o → EntersEntry RoomRule held state owner o reply next
+        → Enters RoomRule held state address (In owner number offset) reply next
     steps_entry o reply next table is enters = (
       sees,
       s,
       found,
-      either_yes (is_table (head_of s)) _ _ (same_table ∙ table) (subst (λ (x : Option Target). EntersEntry Purges held state owner x reply next) (sym is) enters),
+      either_yes (is_table (head_of s)) _ _ (same_table ∙ table) (subst (λ (x : Option Target). EntersEntry RoomRule held state owner x reply next) (sym is) enters),
     )
       where
         either_yes : (b : Bool) (P Q : Type 0) → b ≡ true → P → Either b P Q
@@ -315,7 +315,7 @@ module _ (held : FileMap) (old new : Loaded) (state : Machine) (sound : IsSound 
     (below : (place address : ℕ) → HoldsByte address (slot_at old.memory.slots place) → address < 2 ^ 24)
     (below_now : (place address : ℕ) → HoldsByte address (slot_at new.memory.slots place) → address < 2 ^ 24) (id number at before now : ℕ) where
   abbrev Met' : Result answers.Entered LoaderFault → Loaded → ℕ → Type 0
-  Met' result last after = Meets Purges held state (Jsl id number at) (jsl_reply result) last before after
+  Met' result last after = Meets RoomRule held state (Jsl id number at) (jsl_reply result) last before after
 
   refused : (why : LoaderFault) → IsJslRefusal old id number at why → Met' (Err why) old before
   refused why (NoBytes is) =
@@ -350,7 +350,7 @@ module _ (held : FileMap) (old new : Loaded) (state : Machine) (sound : IsSound 
           does_jsl held old state sound agrees id number at call.bytes call.lent (Refused why) state
               (steps_to held old state sound agrees id number at call.bytes call.lent (In place.user place.segment place.offset) (Refused why) state call.jsl
               (subst (λ (n : ℕ). IsLocated held state n (In place.user place.segment place.offset)) call.address_is (is_at held old state sound agrees place.address place.user place.segment place.offset leads.lies))
-              (subst (λ (n : ℕ). Enters Purges held state n (In place.user place.segment place.offset) (Refused why) state) call.address_is
+              (subst (λ (n : ℕ). Enters RoomRule held state n (In place.user place.segment place.offset) (Refused why) state) call.address_is
               (steps_entry held old state sound agrees place.address place.user place.segment place.offset leads.lies None (Refused why) state table
               (none held old state sound agrees place.address place.user place.segment place.offset leads.lies table apart) (ap (λ (f : LoaderFault). Refused f) is, refl)))),
           agrees,
@@ -368,7 +368,7 @@ module _ (held : FileMap) (old new : Loaded) (state : Machine) (sound : IsSound 
           does_jsl held old state sound agrees id number at call.bytes call.lent (Entered place.user place.segment place.offset place.address) state
               (steps_to held old state sound agrees id number at call.bytes call.lent (In place.user place.segment place.offset) (Entered place.user place.segment place.offset place.address) state call.jsl
               (subst (λ (n : ℕ). IsLocated held state n (In place.user place.segment place.offset)) call.address_is (is_at held old state sound agrees place.address place.user place.segment place.offset lies))
-              (subst (λ (n : ℕ). Enters Purges held state n (In place.user place.segment place.offset) (Entered place.user place.segment place.offset place.address) state) call.address_is
+              (subst (λ (n : ℕ). Enters RoomRule held state n (In place.user place.segment place.offset) (Entered place.user place.segment place.offset place.address) state) call.address_is
               (steps_place held old state sound agrees place.address place.user place.segment place.offset lies (Entered place.user place.segment place.offset place.address) state enters.plain refl refl))),
           agrees,
         ),
@@ -402,13 +402,13 @@ module _ (held : FileMap) (old new : Loaded) (state : Machine) (sound : IsSound 
     abbrev of : ℕ → Reply
     of address = Entered lead.other t.0.segment t.0.offset (address + t.0.offset)
 
-    steps_call : (reply : Reply) (next : Machine) → MakesActive Purges held state lead.other t.0.segment of reply next
-        → Rattle.loader_machine.specs.Steps.Does held state id (λ seen. bytes_refusal state.slots seen number at 4) reply next (λ user. StepsJsl Purges held state id number at reply next)
+    steps_call : (reply : Reply) (next : Machine) → MakesActive RoomRule held state lead.other t.0.segment of reply next
+        → Rattle.loader_machine.specs.Steps.Does held state id (λ seen. bytes_refusal state.slots seen number at 4) reply next (λ user. StepsJsl RoomRule held state id number at reply next)
     steps_call reply next makes =
         does_jsl held old state sound agrees id number at call.bytes call.lent reply next
         (steps_to held old state sound agrees id number at call.bytes call.lent (In place.user place.segment place.offset) reply next call.jsl
         (subst (λ (n : ℕ). IsLocated held state n (In place.user place.segment place.offset)) call.address_is (is_at held old state sound agrees place.address place.user place.segment place.offset is.lies))
-        (subst (λ (n : ℕ). Enters Purges held state n (In place.user place.segment place.offset) reply next) call.address_is
+        (subst (λ (n : ℕ). Enters RoomRule held state n (In place.user place.segment place.offset) reply next) call.address_is
         (steps_entry held old state sound agrees place.address place.user place.segment place.offset is.lies (Some t.0) reply next is.table
         (by_code held old state sound agrees place.address place.user place.segment place.offset is.lies is.table is.k is.inside is.code) (lead.other, named, makes))))
 
@@ -519,7 +519,7 @@ module _ (held : FileMap) (old new : Loaded) (state : Machine) (sound : IsSound 
 pub jsls_meet : (store : Option FileMap) (held : FileMap) (old new : Loaded) (state : Machine) (id number at : ℕ) (result : Result answers.Entered LoaderFault) (before now : ℕ) → store ≡ Some held
     → IsSound old.memory old.users → ((place address : ℕ) → HoldsByte address (slot_at old.memory.slots place) → address < 2 ^ 24)
     → ((place address : ℕ) → HoldsByte address (slot_at new.memory.slots place) → address < 2 ^ 24)
-    → DidJsl store old id number at result new before now → Agrees held old state → Meets Purges held state (Jsl id number at) (jsl_reply result) new before now
+    → DidJsl store old id number at result new before now → Agrees held old state → Meets RoomRule held state (Jsl id number at) (jsl_reply result) new before now
 jsls_meet store held old new state id number at result before now told sound below below_now did agrees =
     jsl_met held old new state sound agrees below below_now id number at before now result
     (subst (λ (s : Option FileMap). DidJsl s old id number at result new before now) told did)

@@ -19,7 +19,7 @@ use Rattle.loader_agrees.specs.Agrees.{Kept, Loaded, IsSound}
 use Rattle.loader_agrees.specs.Acts.{LiesIn}
 use Rattle.loader_agrees.specs.laws.Lists.{number_map}
 use Rattle.loader_agrees.specs.laws.Seeing.{made_at, its_block}
-use Rattle.iigs_memory.specs.Holder.{Has, IsHolder}
+use Rattle.iigs_places.specs.Holder.{Has, IsHolder}
 use Rattle.sys_loader.specs.View.{kept, loaded}
 use Rattle.sys_loader.specs.declared.user.User.{User}
 use Rattle.sys_loader.specs.declared.user.Segment.{Segment}

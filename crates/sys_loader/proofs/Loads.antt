@@ -12,7 +12,8 @@ use Rattle.load_meaning.specs.Pathnames.{paths_of}
 use Rattle.iigs_meaning.specs.declared.faults.PlaceFault.{PlaceFault}
 use Rattle.iigs_meaning.specs.declared.faults.PlaceFault.TheVariants as place
 use Rattle.iigs_meaning.specs.Fits.{Slots}
-use Rattle.iigs_meaning.specs.Puts.{Purges, IsPlaceAllRefusal}
+use Rattle.iigs_meaning.specs.Puts.{IsPlaceAllRefusal}
+use Rattle.loader_machine.specs.Rule.{RoomRule}
 use Rattle.loader_machine.specs.declared.faults.LoaderFault.{LoaderFault}
 use Rattle.loader_machine.specs.declared.faults.LoaderFault.TheVariants as fault
 use Rattle.loader_machine.specs.Heads.{head_of, wants_of}
@@ -44,8 +45,8 @@ unfolding rows_refusal
 cant_join made rows full = let test : nat_le (made + 1 + rows) max_users ≡ false = grind (arith, nat_tests) in rw test refl
 
 -- a call that reads so much is the machine's step
-pub meets_of : (held : FileMap) (state : Machine) (command : Command) (reply : Reply) (new : Loaded) (before now : StoreSeen) → MeetsReads Purges held state command reply new before now
-    → Meets Purges held state command reply new before.faults now.faults
+pub meets_of : (held : FileMap) (state : Machine) (command : Command) (reply : Reply) (new : Loaded) (before now : StoreSeen) → MeetsReads RoomRule held state command reply new before now
+    → Meets RoomRule held state command reply new before.faults now.faults
 meets_of held state command reply new before now (inl (met, same, needed)) = inl (met, same)
 meets_of held state command reply new before now (inr (inl (is, paths, needs, some, agrees, rose, needed))) = inr (inl (is, paths, needs, some, agrees, rose))
 meets_of held state command reply new before now (inr (inr (is, agrees, same, needed))) = inr (inr (is, agrees, same))
@@ -113,38 +114,38 @@ module _ (held : FileMap) (old : Loaded) (state : Machine) (path : List ℕ) (ag
 
   -- ---- refusals
 
-  refused : (why : LoaderFault) → Steps Purges held state (Load path) (Refused why) state → now.faults ≡ before.faults → ReadsNeeded held state (Load path) 0 before.asked now.asked
-      → MeetsReads Purges held state (Load path) (Refused why) old before now
+  refused : (why : LoaderFault) → Steps RoomRule held state (Load path) (Refused why) state → now.faults ≡ before.faults → ReadsNeeded held state (Load path) 0 before.asked now.asked
+      → MeetsReads RoomRule held state (Load path) (Refused why) old before now
   refused why steps same reads = inl ((state, steps, agrees), same, reads)
 
-  lacks : length old.users < max_users → (reads : ℕ) → 1 ≤ reads → reads ≤ 17 → now.faults ≡ before.faults → now.asked ≡ risen reads before.asked → MeetsReads Purges held state (Load path) (Refused fault.Memory) old before now
+  lacks : length old.users < max_users → (reads : ℕ) → 1 ≤ reads → reads ≤ 17 → now.faults ≡ before.faults → now.asked ≡ risen reads before.asked → MeetsReads RoomRule held state (Load path) (Refused fault.Memory) old before now
   lacks few reads one most same count = inr (inr (refl, agrees, same, some_needed few reads one most count))
 
   unread : length old.users < max_users → (reads : ℕ) → 1 ≤ reads → reads ≤ 17 → now.faults ≡ one_more before.faults → now.asked ≡ risen reads before.asked
-      → MeetsReads Purges held state (Load path) (Refused fault.CannotRead) old before now
+      → MeetsReads RoomRule held state (Load path) (Refused fault.CannotRead) old before now
   unread few reads one most rose count = inr (inl (refl, path ∷ [], first few, (λ none. absurd cc), agrees, rose, some_needed few reads one most count))
 
   not_found : length old.users < max_users → ((file : List ℕ) → ¬ HoldsFile held path file) → now.faults ≡ before.faults → (reads : ℕ) → reads ≡ 1 → now.asked ≡ risen reads before.asked
-      → MeetsReads Purges held state (Load path) (Refused fault.CannotRead) old before now
+      → MeetsReads RoomRule held state (Load path) (Refused fault.CannotRead) old before now
   not_found few none same reads one count = refused fault.CannotRead (rw (may few) (Unread, none, (refl, refl))) same (found_needed few Unread none refl reads one count)
 
   cant_read : length old.users < max_users → IsUnread (Some held) path before.faults now.faults → (reads : ℕ) → reads ≡ 1 → now.asked ≡ risen reads before.asked
-      → MeetsReads Purges held state (Load path) (Refused fault.CannotRead) old before now
+      → MeetsReads RoomRule held state (Load path) (Refused fault.CannotRead) old before now
   cant_read few (inl none) reads one count = not_found few (λ file holds. absent held path file none.0 holds) none.1 reads one count
   cant_read few (inr (inl long)) reads one count = not_found few (λ file holds. too_long held path file long.0 holds) long.1 reads one count
   cant_read few (inr (inr rose)) reads one count = unread few reads (omega (arith, one)) (omega (arith, one)) rose count
 
   begins : (segments : List Segment) (why : LoaderFault) (users : User → List (Option User)) → IsBeginRefusal old.memory (first_id + length old.users) (map head_of segments) why
-      → Begins Purges state state.slots path (first_id + length state.users) segments users (Refused why) state
-  begins segments why users is = subst (λ (n : ℕ). Begins Purges state state.slots path (first_id + n) segments users (Refused why) state) same_count (go is)
+      → Begins RoomRule state state.slots path (first_id + length state.users) segments users (Refused why) state
+  begins segments why users is = subst (λ (n : ℕ). Begins RoomRule state state.slots path (first_id + n) segments users (Refused why) state) same_count (go is)
     where
-      moved : (f : PlaceFault) → IsPlaceAllRefusal Purges old.memory.banks (first_id + length old.users) old.memory.slots (wants_of (map head_of segments)) f
-          → IsPlaceAllRefusal Purges state.banks (first_id + length old.users) state.slots (wants_of (map head_of segments)) f
+      moved : (f : PlaceFault) → IsPlaceAllRefusal RoomRule old.memory.banks (first_id + length old.users) old.memory.slots (wants_of (map head_of segments)) f
+          → IsPlaceAllRefusal RoomRule state.banks (first_id + length old.users) state.slots (wants_of (map head_of segments)) f
       moved f p =
-          subst (λ (slots : Slots). IsPlaceAllRefusal Purges state.banks (first_id + length old.users) slots (wants_of (map head_of segments)) f) agrees.slots
-          (subst (λ (banks : List ℕ). IsPlaceAllRefusal Purges banks (first_id + length old.users) old.memory.slots (wants_of (map head_of segments)) f) agrees.banks p)
+          subst (λ (slots : Slots). IsPlaceAllRefusal RoomRule state.banks (first_id + length old.users) slots (wants_of (map head_of segments)) f) agrees.slots
+          (subst (λ (banks : List ℕ). IsPlaceAllRefusal RoomRule banks (first_id + length old.users) old.memory.slots (wants_of (map head_of segments)) f) agrees.banks p)
 
-      go : IsBeginRefusal old.memory (first_id + length old.users) (map head_of segments) why → Begins Purges state state.slots path (first_id + length old.users) segments users (Refused why) state
+      go : IsBeginRefusal old.memory (first_id + length old.users) (map head_of segments) why → Begins RoomRule state state.slots path (first_id + length old.users) segments users (Refused why) state
       go (inl slots) = record { put = NoSlots; is_put = moved place.NoHandle slots.1; lands = (ap (λ (f : LoaderFault). Refused f) slots.0, refl) }
       go (inr room) = record { put = Lacks room.0; is_put = moved (place.NoRoom room.0) room.2; lands = (ap (λ (f : LoaderFault). Refused f) room.1, refl) }
 
@@ -156,44 +157,44 @@ module _ (held : FileMap) (old : Loaded) (state : Machine) (path : List ℕ) (ag
 
     -- its rows are read
     joining : (joined : Joined) (reply : Reply) (next : Machine) → length old.users + 1 + length (paths_of segments) ≤ max_users → AreJoined held (paths_of segments) joined
-        → LoadsJoined Purges state path segments joined reply next → Steps Purges held state (Load path) reply next
+        → LoadsJoined RoomRule state path segments joined reply next → Steps RoomRule held state (Load path) reply next
     joining joined reply next fit are does =
         let joins = can_join (length state.users) (length (paths_of segments)) (omega (arith, fit, same_count)) in
-        let found : LoadsFound Purges held state path (Good segments) reply next = rw joins (joined, are, does) in
+        let found : LoadsFound RoomRule held state path (Good segments) reply next = rw joins (joined, are, does) in
         rw (may is.few) (Good segments, holds, found)
 
     stops : (why : LoaderFault) → length old.users + 1 + length (paths_of segments) ≤ max_users → RowsTold held (paths_of segments) before.faults now.faults (Stops rows why)
-        → MeetsReads Purges held state (Load path) (Refused why) old before now
+        → MeetsReads RoomRule held state (Load path) (Refused why) old before now
     unfolding RowsTold
     stops why fit (inl (are, same)) =
         refused why (joining (Stops rows why) (Refused why) state fit are (refl, refl)) same (rows_needed is.few segments holds fit (Stops rows why) are reads sum count)
     stops why fit (inr (last, e, rose, few)) =
         let rows_are : rows ≡ last = cc in
         let why_is : fault.CannotRead ≡ why = cc in
-        subst (λ (f : LoaderFault). MeetsReads Purges held state (Load path) (Refused f) old before now) why_is
+        subst (λ (f : LoaderFault). MeetsReads RoomRule held state (Load path) (Refused f) old before now) why_is
         (unread is.few reads (omega (arith, sum)) (omega (arith, sum, rows_are, few, few_paths segments)) rose count)
 
     joined : (all : List (List Segment)) (why : LoaderFault) → rows ≡ length all → length old.users + 1 + length (paths_of segments) ≤ max_users
-        → AreRowsRead (Some held) (paths_of segments) before.faults now.faults (Joins all) → LoadsJoined Purges state path segments (Joins all) (Refused why) state
-        → MeetsReads Purges held state (Load path) (Refused why) old before now
+        → AreRowsRead (Some held) (paths_of segments) before.faults now.faults (Joins all) → LoadsJoined RoomRule state path segments (Joins all) (Refused why) state
+        → MeetsReads RoomRule held state (Load path) (Refused why) old before now
     joined all why many fit read does =
         let are = rows_all held (paths_of segments) before.faults now.faults all (rows_told held (paths_of segments) before.faults now.faults (Joins all) read) in
         refused why (joining (Joins all) (Refused why) state fit are.0 does) are.1 (rows_needed is.few segments holds fit (Joins all) are.0 reads (omega (arith, sum, many)) count)
 
-    rows_refused : (why : LoaderFault) → IsRowsRefusal (Some held) old segments before.faults now.faults rows why → MeetsReads Purges held state (Load path) (Refused why) old before now
+    rows_refused : (why : LoaderFault) → IsRowsRefusal (Some held) old segments before.faults now.faults rows why → MeetsReads RoomRule held state (Load path) (Refused why) old before now
     rows_refused why (IsCrowded full why_is same none) =
         let cant = cant_join (length state.users) (length (paths_of segments)) (omega (arith, full, same_count)) in
-        let found : LoadsFound Purges held state path (Good segments) (Refused fault.TooManyUsers) state = rw cant (refl, refl) in
-        subst (λ (f : LoaderFault). MeetsReads Purges held state (Load path) (Refused f) old before now) (sym why_is)
+        let found : LoadsFound RoomRule held state path (Good segments) (Refused fault.TooManyUsers) state = rw cant (refl, refl) in
+        subst (λ (f : LoaderFault). MeetsReads RoomRule held state (Load path) (Refused f) old before now) (sym why_is)
         (refused fault.TooManyUsers (rw (may is.few) (Good segments, holds, found)) same (found_needed is.few (Good segments) holds (rw cant refl) reads (omega (arith, sum, none)) count))
     rows_refused why (RowStops fit read) = stops why fit (rows_told held (paths_of segments) before.faults now.faults (Stops rows why) read)
     rows_refused why (IsLost fit all read lost many) = joined all why many fit read (rw lost (refl, refl))
     rows_refused why (CantBegin fit all read none cant many) = joined all why many fit read (rw none (begins segments why (begun_users state (paths_of segments) all) cant))
     rows_refused why (RowsLackMemory why_is same few) =
-        subst (λ (f : LoaderFault). MeetsReads Purges held state (Load path) (Refused f) old before now) (sym why_is) (lacks is.few reads (omega (arith, sum)) (omega (arith, sum, few)) same count)
+        subst (λ (f : LoaderFault). MeetsReads RoomRule held state (Load path) (Refused f) old before now) (sym why_is) (lacks is.few reads (omega (arith, sum)) (omega (arith, sum, few)) same count)
 
     started : (user : ℕ) (entry : Option ℕ) (new : Loaded) → IsSound old.memory old.users → HasStarted (Some held) old path segments (record { user = user; entry = entry }) new before.faults now.faults rows
-        → MeetsReads Purges held state (Load path) (load_reply (Ok (record { user = user; entry = entry }))) new before now
+        → MeetsReads RoomRule held state (Load path) (load_reply (Ok (record { user = user; entry = entry }))) new before now
     started user entry new sound has =
         let are = rows_all held (paths_of segments) before.faults now.faults has.all (rows_told held (paths_of segments) before.faults now.faults (Joins has.all) has.read) in
         inl (
@@ -203,28 +204,28 @@ module _ (held : FileMap) (old : Loaded) (state : Machine) (path : List ℕ) (ag
         )
 
   refuses : (why : LoaderFault) (reads : ℕ) → now.asked ≡ risen reads before.asked → IsLoadRefusal (Some held) old path before.faults now.faults reads why
-      → MeetsReads Purges held state (Load path) (Refused why) old before now
+      → MeetsReads RoomRule held state (Load path) (Refused why) old before now
   refuses why reads count (IsFull full why_is same none) =
       let cant = cant_load (length state.users) (omega (arith, full, same_count)) in
       let needs : Needs held state (Load path) [] = rw cant refl in
       let behind : NeedsBehind held state (Load path) [] 0 = inr ((λ can. let clash : Some fault.TooManyUsers ≡ None = sym cant ∙ can in absurd cc), refl, refl) in
-      subst (λ (f : LoaderFault). MeetsReads Purges held state (Load path) (Refused f) old before now) (sym why_is)
+      subst (λ (f : LoaderFault). MeetsReads RoomRule held state (Load path) (Refused f) old before now) (sym why_is)
       (refused fault.TooManyUsers (rw cant (refl, refl)) same (reads, ([], needs, inl (refl, [], 0, behind, omega (arith, none))), count))
   refuses why reads count (CantRead few none why_is one) =
-      subst (λ (f : LoaderFault). MeetsReads Purges held state (Load path) (Refused f) old before now) (sym why_is) (cant_read few none reads one count)
+      subst (λ (f : LoaderFault). MeetsReads RoomRule held state (Load path) (Refused f) old before now) (sym why_is) (cant_read few none reads one count)
   refuses why reads count (LacksMemory few why_is same one) =
-      subst (λ (f : LoaderFault). MeetsReads Purges held state (Load path) (Refused f) old before now) (sym why_is) (lacks few reads (omega (arith, one)) (omega (arith, one)) same count)
+      subst (λ (f : LoaderFault). MeetsReads RoomRule held state (Load path) (Refused f) old before now) (sym why_is) (lacks few reads (omega (arith, one)) (omega (arith, one)) same count)
   refuses why reads count (IsBad few file is_read bad first' why_is same one) =
       let holds' : HoldsFault held path bad = record { file = file; is_held = (is_read.1, is_read.0); first = first' } in
-      subst (λ (f : LoaderFault). MeetsReads Purges held state (Load path) (Refused f) old before now) (sym why_is)
+      subst (λ (f : LoaderFault). MeetsReads RoomRule held state (Load path) (Refused f) old before now) (sym why_is)
       (refused (fault.BadFile bad) (rw (may few) (Bad bad, holds', (refl, refl))) same (found_needed few (Bad bad) holds' refl reads one count))
   refuses why reads count (CantStart segments is rows cant sum) = rows_refused segments is reads rows sum count why cant
 
 pub loads : (store : Option FileMap) (held : FileMap) (old new : Loaded) (state : Machine) (path : List ℕ) (result : Result Started LoaderFault) (before now : StoreSeen) → store ≡ Some held → IsSound old.memory old.users
     → (reads : ℕ) × HasLoaded store old path result new before.faults now.faults reads × (now.asked ≡ risen reads before.asked) → Agrees held old state
-    → MeetsReads Purges held state (Load path) (load_reply result) new before now
+    → MeetsReads RoomRule held state (Load path) (load_reply result) new before now
 loads store held old new state path result before now told sound (reads, loaded, count) agrees = go result (subst (λ (s : Option FileMap). HasLoaded s old path result new before.faults now.faults reads) told loaded)
   where
-    go : (r : Result Started LoaderFault) → HasLoaded (Some held) old path r new before.faults now.faults reads → MeetsReads Purges held state (Load path) (load_reply r) new before now
+    go : (r : Result Started LoaderFault) → HasLoaded (Some held) old path r new before.faults now.faults reads → MeetsReads RoomRule held state (Load path) (load_reply r) new before now
     go (Ok begun) (segments, is, rows, has, sum) = started held old state path agrees before now segments is reads rows sum count begun.user begun.entry new sound has
-    go (Err why) (refusal, same) = subst (λ (l : Loaded). MeetsReads Purges held state (Load path) (Refused why) l before now) (sym same) (refuses held old state path agrees before now why reads count refusal)
+    go (Err why) (refusal, same) = subst (λ (l : Loaded). MeetsReads RoomRule held state (Load path) (Refused why) l before now) (sym same) (refuses held old state path agrees before now why reads count refusal)

@@ -20,8 +20,8 @@ use Rattle.iigs_meaning.specs.declared.wants.Block.{Block}
 use Rattle.iigs_meaning.specs.Slots.{slot_at, used_value}
 use Rattle.iigs_meaning.specs.Fits.{Slots, HoldsByte}
 use Rattle.iigs_meaning.specs.Blocks.{AreApart}
-use Rattle.iigs_meaning.specs.Puts.{Purges}
-use Rattle.iigs_memory.specs.Holder.{Has}
+use Rattle.loader_machine.specs.Rule.{RoomRule}
+use Rattle.iigs_places.specs.Holder.{Has}
 use Rattle.loader_machine.specs.declared.seen.Life.TheVariants.{Running}
 use Rattle.loader_machine.specs.declared.seen.Presence.{Presence}
 use Rattle.loader_machine.specs.declared.seen.Presence.TheVariants.{Absent, Purged, Idle, Active}
@@ -208,7 +208,7 @@ module _ (held : FileMap) (loader : Loaded) (state : Machine) (agrees : Agrees h
   target_lies : LiesIn loader (place_in state.slots (handles_of has.sees.user) target + offset) id target offset
   target_lies =
       let t = target_at in
-      subst (λ (n : ℕ). LiesIn loader (n + offset) id target offset) (sym t.1) (lies_back held loader state agrees Purges sound (t.0 + offset) id target offset t.2)
+      subst (λ (n : ℕ). LiesIn loader (n + offset) id target offset) (sym t.1) (lies_back held loader state agrees RoomRule sound (t.0 + offset) id target offset t.2)
 
   pub target_small : place_in state.slots (handles_of has.sees.user) target + offset < 2 ^ 24
   target_small = below target_lies.h.slot _ (has_byte loader.memory.slots _ target_lies.h (lies_block loader sound _ id target offset target_lies).0)
@@ -230,9 +230,9 @@ module _ (held : FileMap) (loader : Loaded) (state : Machine) (agrees : Agrees h
       ∙ ap (λ (n : ℕ). Some (record { user = id; segment = target; offset = offset; address = n })) is
 
   pub names_place : AreApart loader.memory.banks loader.memory.slots → (address : ℕ) (found : Option Entered) → MatchOption found (Unit {0}) (λ (entered : Entered). entered.address ≡ address)
-      → Met Purges held state (Where address) (where_reply found) loader → address_read has ≡ address
+      → Met RoomRule held state (Where address) (where_reply found) loader → address_read has ≡ address
       → (address ≡ place_in state.slots (handles_of has.sees.user) target + offset) × (found ≡ Some (record { user = id; segment = target; offset = offset; address = address }))
   names_place apart address found is met read =
       let place : address ≡ place_in state.slots (handles_of has.sees.user) target + offset = sym read ∙ read_is in
-      let other = lies_met held loader state agrees Purges address id target offset (subst (λ (n : ℕ). LiesIn loader n id target offset) (sym place) target_lies) in
+      let other = lies_met held loader state agrees RoomRule address id target offset (subst (λ (n : ℕ). LiesIn loader n id target offset) (sym place) target_lies) in
       (place, found_is address found is (steps_once_there held loader state agrees sound apart (Where address) (where_reply found) (Lies id target offset) met.0 other.0 met.1 other.1).0)

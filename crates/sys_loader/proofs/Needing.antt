@@ -8,7 +8,7 @@ use Rattle.load_meaning.specs.declared.table.Target.{Target}
 use Rattle.load_meaning.specs.LoadTable.{targets_of}
 use Rattle.iigs_meaning.specs.Slots.{slot_at}
 use Rattle.iigs_meaning.specs.Fits.{Slots, HoldsByte}
-use Rattle.iigs_meaning.specs.Puts.{Purges}
+use Rattle.loader_machine.specs.Rule.{RoomRule}
 use Rattle.iigs_meaning.specs.Blocks.{AreApart}
 use Rattle.loader_machine.specs.declared.faults.LoaderFault.{LoaderFault}
 use Rattle.loader_machine.specs.Heads.{head_of, is_table}
@@ -176,7 +176,7 @@ module _ (held : FileMap) (old : Loaded) (state : Machine) (sound : IsSound old.
       stops why (NoBytes is) = let clash : Some why ≡ None = sym is ∙ passes in cc
       stops why (NoJsl bytes lent is) = let clash : Some why ≡ None = sym is ∙ ap no_jsl (same_bytes bytes lent) ∙ r.jsl in cc
       stops why (NoPlace address call none is) =
-          none r.owner r.table r.offset (lies_back held old state agrees Purges sound address r.owner r.table r.offset
+          none r.owner r.table r.offset (lies_back held old state agrees RoomRule sound address r.owner r.table r.offset
           (subst (λ (n : ℕ). IsAt held state n r.owner r.table r.offset) (same_address address call.bytes call.lent call.address_is) r.is_at))
       stops why (NoEntry place leads table apart' is) =
           anywhere (λ address id' n offset at'. target_at_code (targets_of at'.s) 0 offset ≡ Some t → ⊥) place leads.lies

@@ -14,7 +14,7 @@ use Rattle.load_meaning.specs.laws.CellLaws.{loadable_has}
 use Rattle.load_meaning.specs.LoadTable.{target_at}
 use Rattle.iigs_meaning.specs.declared.handles.Handle.{Handle}
 use Rattle.iigs_meaning.specs.Fits.{Slots}
-use Rattle.iigs_meaning.specs.Puts.{Purges}
+use Rattle.loader_machine.specs.Rule.{RoomRule}
 use Rattle.iigs_meaning.specs.Memory.{Memory, bytes_at}
 use Rattle.loader_machine.specs.declared.faults.LoaderFault.{LoaderFault}
 use Rattle.loader_machine.specs.declared.faults.LoaderFault.TheVariants.{TableByte, OutOfSegment, NotActive}
@@ -122,6 +122,7 @@ sound_written memory users slot w sound same tables = record {
         block = is.block;
         live = is.live;
         user = is.user;
+        fixed = is.fixed;
         form = is.form;
         want = is.want;
         room = λ there. omega (arith, is.room there, same_length memory slot w h.slot same);
@@ -308,7 +309,7 @@ module _ (held : FileMap) (old : Loaded) (state : Machine) (id number at byte : 
     ];
   }
 
-  poke_met : Met Purges held state (Poke id number at byte) Okay new
+  poke_met : Met RoomRule held state (Poke id number at byte) Okay new
   poke_met = (
     next,
     does held old state agrees id (λ seen. poke_refusal state.slots seen number at) Okay next
@@ -319,7 +320,7 @@ module _ (held : FileMap) (old : Loaded) (state : Machine) (id number at byte : 
 
 -- a poke is the machine's step
 pub pokes_meet : (held : FileMap) (old new : Loaded) (state : Machine) (id number at byte : ℕ) (result : Result (Unit {0}) LoaderFault) → IsSound old.memory old.users → Agrees held old state
-    → DidPoke old id number at byte result new → Met Purges held state (Poke id number at byte) (done_reply result) new
+    → DidPoke old id number at byte result new → Met RoomRule held state (Poke id number at byte) (done_reply result) new
 pokes_meet held old new state id number at byte (Ok done) sound agrees did =
     rw did.new_is (poke_met held old state id number at byte sound agrees did.h did.can)
 pokes_meet held old new state id number at byte (Err fault) sound agrees did = (

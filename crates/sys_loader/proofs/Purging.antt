@@ -7,7 +7,7 @@ use Rattle.iigs_meaning.specs.Fits.{Slots, block_in}
 use Rattle.iigs_meaning.specs.Placement.{emptied_where}
 use Rattle.iigs_meaning.specs.Blocks.{can_purge_of}
 use Rattle.iigs_meaning.specs.Memory.{Memory, IsPurged}
-use Rattle.iigs_meaning.specs.Puts.{Purges}
+use Rattle.loader_machine.specs.Rule.{RoomRule}
 use Rattle.loader_machine.specs.declared.faults.LoaderFault.{LoaderFault}
 use Rattle.loader_machine.specs.declared.faults.LoaderFault.TheVariants.{NoUser}
 use Rattle.loader_machine.specs.State.{Machine, Seen}
@@ -59,7 +59,7 @@ purged_sound old new id count sound is = sound_kept old new sound (purged_kept o
 -- ---- the step
 
 pub purges_meet : (old new : Loaded) (id : ℕ) (result : Result ℕ LoaderFault) → IsSound old.memory old.users → DidPurge old id result new
-    → (held : FileMap) (state : Machine) → Agrees held old state → Met Purges held state (Purge id) (purge_reply result) new
+    → (held : FileMap) (state : Machine) → Agrees held old state → Met RoomRule held state (Purge id) (purge_reply result) new
 purges_meet old new id (Ok count) sound did held state agrees = purge_met held old new state id count sound agrees did.1 did.2 did.0
-purges_meet old new id (Err fault) sound did held state agrees = subst (λ (l : Loaded). Met Purges held state (Purge id) (Refused fault) l) (sym did.1)
+purges_meet old new id (Err fault) sound did held state agrees = subst (λ (l : Loaded). Met RoomRule held state (Purge id) (Refused fault) l) (sym did.1)
     (state, (seen_by old id, is_seen held old state agrees id, rw did.0 (refl, refl)), agrees)

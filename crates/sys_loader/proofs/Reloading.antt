@@ -110,6 +110,7 @@ quiet_sound old new users' sound quiet calls = record {
         block = of'.block;
         live = ap (λ (t : Slots). get t h) quiet.slots ∙ of'.live;
         user = of'.user;
+        fixed = of'.fixed;
         form = of'.form;
         want = of'.want;
         room = λ there. omega (arith, of'.room there, quiet.sizes h.slot);

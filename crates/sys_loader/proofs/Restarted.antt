@@ -12,7 +12,8 @@ use Rattle.load_meaning.specs.Loadable.{IsLoadable, IsFirstLoadFault}
 use Rattle.iigs_meaning.specs.declared.faults.PlaceFault.{PlaceFault}
 use Rattle.iigs_meaning.specs.declared.faults.PlaceFault.TheVariants as place
 use Rattle.iigs_meaning.specs.Fits.{Slots}
-use Rattle.iigs_meaning.specs.Puts.{Purges, IsPlaceAllRefusal, without_user}
+use Rattle.iigs_meaning.specs.Puts.{IsPlaceAllRefusal, without_user}
+use Rattle.loader_machine.specs.Rule.{RoomRule}
 use Rattle.iigs_meaning.specs.Memory.{Memory}
 use Rattle.loader_machine.specs.declared.faults.LoaderFault.{LoaderFault}
 use Rattle.loader_machine.specs.declared.faults.LoaderFault.TheVariants as fault
@@ -91,8 +92,8 @@ module _ (held : FileMap) (old : Loaded) (state : Machine) (id : ℕ) (sound : I
   top : (q f : ℕ) → attached_at (kept_outlines old.users) q f ≡ Some id → ⊥
   top = can_top old id kept sound can
 
-  step : (reply : Reply) (next : Machine) → StepsRestart Purges held state id reply next → Steps Purges held state (Restart id) reply next
-  step reply next steps = does held old state agrees id (restart_refusal (is_attached (outlines state.users) id)) reply next (λ user. StepsRestart Purges held state id reply next) passes_there is.user is.made steps
+  step : (reply : Reply) (next : Machine) → StepsRestart RoomRule held state id reply next → Steps RoomRule held state (Restart id) reply next
+  step reply next steps = does held old state agrees id (restart_refusal (is_attached (outlines state.users) id)) reply next (λ user. StepsRestart RoomRule held state id reply next) passes_there is.user is.made steps
 
   in_place_yes : (b : Bool) (P Q : Type 0) → b ≡ true → P → Either b P Q
   in_place_yes b P Q whole p = rw whole p
@@ -139,7 +140,7 @@ module _ (held : FileMap) (old : Loaded) (state : Machine) (id : ℕ) (sound : I
   -- ---- it runs again
 
   resumed : (new : Loaded) (started : answers.Started) (middle : Memory) (now : ℕ) → is_whole old kept ≡ true → AreReread is.does_agree.segments id kept old.memory middle → HasResumed middle old.users id kept started new
-      → Meets Purges held state (Restart id) (Started started.user started.entry) new now now
+      → Meets RoomRule held state (Restart id) (Started started.user started.entry) new now now
   resumed new started middle now whole reread did =
       let slots = changed_all active_block state.slots (static_handles (map head_of is.does_agree.segments) (handles_of is.user) 1) in
       let slots_are : new.memory.slots ≡ slots =
@@ -165,17 +166,17 @@ module _ (held : FileMap) (old : Loaded) (state : Machine) (id : ℕ) (sound : I
   rows_are = ap (λ (o : Outline). o.attached) (sym is.does_agree.same)
 
   begun : (new : Loaded) (started : answers.Started) (now : ℕ) → is_whole old kept ≡ false → HasBegunAnew old id kept is.does_agree.segments started new
-      → Meets Purges held state (Restart id) (Started started.user started.entry) new now now
+      → Meets RoomRule held state (Restart id) (Started started.user started.entry) new now now
   begun new started now gone did =
       let same : map head_of is.does_agree.segments ≡ kept.heads = sym is.does_agree.heads in
       let then_next = next old new id kept is.does_agree.segments started sound can.made can.rests top same did held state agrees is.does_agree.holds in
       inl (
         (
           then_next,
-          subst (λ (n : ℕ). Steps Purges held state (Restart id) (Started n started.entry) then_next) (sym did.user)
+          subst (λ (n : ℕ). Steps RoomRule held state (Restart id) (Started n started.entry) then_next) (sym did.user)
               (step (Started id started.entry) then_next (record {
                 sees = sees;
-                is = in_place_no _ _ _ (sym whole_same ∙ gone) (subst (λ (p : List ℕ). Begins Purges state (without_user state.slots id) p id is.does_agree.segments (again_users state id is.user) (Started id started.entry) then_next) path_same
+                is = in_place_no _ _ _ (sym whole_same ∙ gone) (subst (λ (p : List ℕ). Begins RoomRule state (without_user state.slots id) p id is.does_agree.segments (again_users state id is.user) (Started id started.entry) then_next) path_same
                     (begins_anew old new id kept is.does_agree.segments started sound can.made can.rests top same did held state agrees is.does_agree.holds is.user rows_are));
               })),
           begun_anew_agrees old new id kept is.does_agree.segments started sound can.made can.rests top same did held state agrees is.does_agree.holds,
@@ -183,7 +184,7 @@ module _ (held : FileMap) (old : Loaded) (state : Machine) (id : ℕ) (sound : I
         refl,
       )
 
-  restarted : (new : Loaded) (started : answers.Started) (now : ℕ) → HasRestarted (Some held) old id kept started new → Meets Purges held state (Restart id) (Started started.user started.entry) new now now
+  restarted : (new : Loaded) (started : answers.Started) (now : ℕ) → HasRestarted (Some held) old id kept started new → Meets RoomRule held state (Restart id) (Started started.user started.entry) new now now
   restarted new started now (InPlace whole none did) = resumed new started old.memory now whole (record {
     banks = refl;
     slots = refl;
@@ -207,24 +208,24 @@ module _ (held : FileMap) (old : Loaded) (state : Machine) (id : ℕ) (sound : I
   too_long : IsSomeAnd (maps.get held kept.path) (λ bytes. max_file < length bytes) → ⊥
   too_long long = let more : max_file < length is.does_agree.holds.file = rw is.does_agree.holds.is_held.0 at long in omega (arith, more, is.does_agree.holds.is_held.1)
 
-  unread : (why : LoaderFault) (before now : ℕ) → restart_reads old id ≡ true → IsUnread (Some held) kept.path before now → why ≡ fault.CannotRead → Meets Purges held state (Restart id) (Refused why) old before now
+  unread : (why : LoaderFault) (before now : ℕ) → restart_reads old id ≡ true → IsUnread (Some held) kept.path before now → why ≡ fault.CannotRead → Meets RoomRule held state (Restart id) (Refused why) old before now
   unread why before now reads (inl none) is_why = absurd (absent none.0)
   unread why before now reads (inr (inl long)) is_why = absurd (too_long long.0)
   unread why before now reads (inr (inr rose)) is_why = inr (inl (ap (λ (f : LoaderFault). Refused f) is_why, is.user.path ∷ [], needs_path reads, (λ none. absurd cc), agrees, rose))
 
   none_begins : (why : LoaderFault) → IsBeginRefusal (released_memory old.memory id) id kept.heads why
-      → Begins Purges state (without_user state.slots id) is.user.path id is.does_agree.segments (again_users state id is.user) (Refused why) state
+      → Begins RoomRule state (without_user state.slots id) is.user.path id is.does_agree.segments (again_users state id is.user) (Refused why) state
   none_begins why refusal = go refusal
     where
-      moved : (f : PlaceFault) → IsPlaceAllRefusal Purges old.memory.banks id (without_user old.memory.slots id) (wants_of kept.heads) f
-          → IsPlaceAllRefusal Purges state.banks id (without_user state.slots id) (wants_of (map head_of is.does_agree.segments)) f
+      moved : (f : PlaceFault) → IsPlaceAllRefusal RoomRule old.memory.banks id (without_user old.memory.slots id) (wants_of kept.heads) f
+          → IsPlaceAllRefusal RoomRule state.banks id (without_user state.slots id) (wants_of (map head_of is.does_agree.segments)) f
       moved f p =
-          subst (λ (hs : List Head). IsPlaceAllRefusal Purges state.banks id (without_user state.slots id) (wants_of hs) f) is.does_agree.heads
-          (subst (λ (t : Slots). IsPlaceAllRefusal Purges state.banks id (without_user t id) (wants_of kept.heads) f) agrees.slots
-          (subst (λ (b : List ℕ). IsPlaceAllRefusal Purges b id (without_user old.memory.slots id) (wants_of kept.heads) f) agrees.banks p))
+          subst (λ (hs : List Head). IsPlaceAllRefusal RoomRule state.banks id (without_user state.slots id) (wants_of hs) f) is.does_agree.heads
+          (subst (λ (t : Slots). IsPlaceAllRefusal RoomRule state.banks id (without_user t id) (wants_of kept.heads) f) agrees.slots
+          (subst (λ (b : List ℕ). IsPlaceAllRefusal RoomRule b id (without_user old.memory.slots id) (wants_of kept.heads) f) agrees.banks p))
 
       go : IsBeginRefusal (released_memory old.memory id) id kept.heads why
-          → Begins Purges state (without_user state.slots id) is.user.path id is.does_agree.segments (again_users state id is.user) (Refused why) state
+          → Begins RoomRule state (without_user state.slots id) is.user.path id is.does_agree.segments (again_users state id is.user) (Refused why) state
       go (inl slots) = record { put = NoSlots; is_put = moved place.NoHandle slots.1; lands = (ap (λ (f : LoaderFault). Refused f) slots.0, refl) }
       go (inr room) = record {
         put = Lacks room.0;
@@ -232,7 +233,7 @@ module _ (held : FileMap) (old : Loaded) (state : Machine) (id : ℕ) (sound : I
         lands = (ap (λ (f : LoaderFault). Refused f) room.1 ∙ ap (λ (hs : List Head). Refused (fault.NoRoom (Rattle.loader_machine.specs.Heads.number_of 1 hs room.0))) is.does_agree.heads, refl);
       }
 
-  none_again_from : (file : List ℕ) (why : LoaderFault) (now : ℕ) → IsRead (Some held) kept.path file → IsAgainRefusal file old id kept why → Meets Purges held state (Restart id) (Refused why) old now now
+  none_again_from : (file : List ℕ) (why : LoaderFault) (now : ℕ) → IsRead (Some held) kept.path file → IsAgainRefusal file old id kept why → Meets RoomRule held state (Restart id) (Refused why) old now now
   none_again_from file why now is_read (inl (inl short)) = inr (inr (ap (λ (f : LoaderFault). Refused f) short, agrees, refl))
   none_again_from file why now is_read (inl (inr bad)) = absurd (not_bad file bad.0 is_read bad.1)
   none_again_from file why now is_read (inr (segments, taken, inl (inl lost))) =
@@ -253,22 +254,22 @@ module _ (held : FileMap) (old : Loaded) (state : Machine) (id : ℕ) (sound : I
       )
 
 module _ (held : FileMap) (old : Loaded) (state : Machine) (id : ℕ) (sound : IsSound old.memory old.users) (agrees : Agrees held old state) where
-  restart_refused : (why : LoaderFault) (before now : ℕ) → IsRestartRefusal (Some held) old id before now why → Meets Purges held state (Restart id) (Refused why) old before now
+  restart_refused : (why : LoaderFault) (before now : ℕ) → IsRestartRefusal (Some held) old id before now why → Meets RoomRule held state (Restart id) (Refused why) old before now
   restart_refused why before now (IsStopped is same) =
-      subst (λ (n : ℕ). Meets Purges held state (Restart id) (Refused why) old before n) (sym same) (inl (
+      subst (λ (n : ℕ). Meets RoomRule held state (Restart id) (Refused why) old before n) (sym same) (inl (
         (state, refuses held old state agrees id (restart_refusal (is_attached (outlines state.users) id)) why _ (ap (λ (os : List (Option Outline)). restart_refusal (is_attached os id) (seen_by old id)) (sym agrees.users) ∙ is), agrees),
         refl,
       ))
   restart_refused why before now (CantRead kept can reads none is_why) = unread held old state id sound agrees kept can why before now reads none is_why
   restart_refused why before now (LacksMemory passes reads short same) = inr (inr (ap (λ (f : LoaderFault). Refused f) short, agrees, same))
   restart_refused why before now (CantRestart kept can reads file is_read none same) =
-      subst (λ (n : ℕ). Meets Purges held state (Restart id) (Refused why) old before n) (sym same) (none_again_from held old state id sound agrees kept can file why before is_read none)
+      subst (λ (n : ℕ). Meets RoomRule held state (Restart id) (Refused why) old before n) (sym same) (none_again_from held old state id sound agrees kept can file why before is_read none)
 
 -- a restart is the machine's step
 pub restarts_meet : (store : Option FileMap) (held : FileMap) (old new : Loaded) (state : Machine) (id : ℕ) (result : Result answers.Started LoaderFault) (before now : ℕ) → store ≡ Some held → IsSound old.memory old.users
-    → DidRestart store old id result new before now → Agrees held old state → Meets Purges held state (Restart id) (load_reply result) new before now
+    → DidRestart store old id result new before now → Agrees held old state → Meets RoomRule held state (Restart id) (load_reply result) new before now
 restarts_meet store held old new state id result before now told sound did agrees = go result (subst (λ (s : Option FileMap). DidRestart s old id result new before now) told did)
   where
-    go : (r : Result answers.Started LoaderFault) → DidRestart (Some held) old id r new before now → Meets Purges held state (Restart id) (load_reply r) new before now
-    go (Ok started) did' = subst (λ (n : ℕ). Meets Purges held state (Restart id) (Started started.user started.entry) new before n) (sym did'.3) (restarted held old state id sound agrees did'.0 did'.1 new started before did'.2)
-    go (Err why) did' = subst (λ (l : Loaded). Meets Purges held state (Restart id) (Refused why) l before now) (sym did'.1) (restart_refused held old state id sound agrees why before now did'.0)
+    go : (r : Result answers.Started LoaderFault) → DidRestart (Some held) old id r new before now → Meets RoomRule held state (Restart id) (load_reply r) new before now
+    go (Ok started) did' = subst (λ (n : ℕ). Meets RoomRule held state (Restart id) (Started started.user started.entry) new before n) (sym did'.3) (restarted held old state id sound agrees did'.0 did'.1 new started before did'.2)
+    go (Err why) did' = subst (λ (l : Loaded). Meets RoomRule held state (Restart id) (Refused why) l before now) (sym did'.1) (restart_refused held old state id sound agrees why before now did'.0)

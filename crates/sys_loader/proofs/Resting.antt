@@ -13,7 +13,7 @@ use Rattle.iigs_meaning.specs.declared.handles.Handle.{Handle}
 use Rattle.iigs_meaning.specs.declared.wants.Block.{Block}
 use Rattle.iigs_meaning.specs.Slots.{slot_at, get}
 use Rattle.iigs_meaning.specs.Fits.{Slots, block_in}
-use Rattle.iigs_meaning.specs.Puts.{Purges}
+use Rattle.loader_machine.specs.Rule.{RoomRule}
 use Rattle.iigs_meaning.specs.Memory.{Memory, bytes_at}
 use Rattle.loader_machine.specs.declared.faults.LoaderFault.{LoaderFault}
 use Rattle.loader_machine.specs.declared.faults.LoaderFault.TheVariants.{NoUser}
@@ -45,7 +45,7 @@ use Rattle.sys_loader.proofs.Relived as relived
 use Rattle.sys_loader.proofs.Together.{is_in, in_last, in_front, in_either, Was, with_all_get, among, from_among, map_all, length_all}
 use Rattle.sys_loader.proofs.Turned.{Becomes, Stays, Turns, Turned, turned_agrees}
 use Rattle.sys_loader.proofs.Leads.{at_most, entries_lead}
-use Rattle.sys_loader.proofs.ChangedAll.{all_here, all_apart, all_in, let_go_again, let_go_at, let_go_user, let_go_want, let_go_form, let_go_active_at}
+use Rattle.sys_loader.proofs.ChangedAll.{all_here, all_apart, all_in, let_go_again, let_go_at, let_go_user, let_go_movable, let_go_want, let_go_form, let_go_active_at}
 
 none_in : (place : ℕ) → ¬ Contains {X = ℕ} [] place
 none_in place found = omega (arith, found.1)
@@ -145,13 +145,14 @@ module _ (old new : Loaded) (id : ℕ) (sound : IsSound old.memory old.users) (d
               block = let_go of'.block;
               live = live;
               user = let_go_user of'.block ∙ of'.user;
+              fixed = let_go_movable of'.block ∙ of'.fixed;
               form = let_go_form of'.block of'.form;
               want = omega (arith, of'.want, ap (λ w. w.size) (let_go_want of'.block));
               room = λ there. room_now h (let_go of'.block) head.length live there (of'.room (subst (λ (o : Option ℕ). IsSome o) (let_go_at of'.block) there));
             }
         | inr outside ↦
             let live = other_get p n head h has outside ∙ of'.live in
-            record { block = of'.block; live = live; user = of'.user; form = of'.form; want = of'.want; room = λ there. room_now h of'.block head.length live there (of'.room there) }
+            record { block = of'.block; live = live; user = of'.user; fixed = of'.fixed; form = of'.form; want = of'.want; room = λ there. room_now h of'.block head.length live there (of'.room there) }
       ]
 
   -- ---- where the segments are
@@ -480,7 +481,7 @@ module _ (old new : Loaded) (id : ℕ) (sound : IsSound old.memory old.users) (d
     agrees_next : Agrees held new (kept_state state id is.user)
     agrees_next = subst (λ (ns : List ℕ). Agrees held new (next_of (family id ns))) (ap (λ (o : Outline). o.attached) is.does_agree.same) agrees_of
 
-    pub keep_met : shut_down_refusal (is_attached (kept_outlines old.users) id) (seen_by old id) true ≡ None → Met Purges held state (ShutDown id true) Okay new
+    pub keep_met : shut_down_refusal (is_attached (kept_outlines old.users) id) (seen_by old id) true ≡ None → Met RoomRule held state (ShutDown id true) Okay new
     keep_met passes = (
       kept_state state id is.user,
       does held old state agrees id (λ seen. shut_down_refusal (is_attached (outlines state.users) id) seen true) Okay (kept_state state id is.user) _

@@ -254,6 +254,7 @@ module _ (old new : Loaded) (id : ℕ) (kept : Kept) (started : Started) (sound 
     at : after.at ≡ b.at
     user : after.user ≡ b.user
     want : after.want ≡ b.want
+    movable : after.movable ≡ b.movable
     form : IsSegments b → IsSegments after
 
   after_get : (p n : ℕ) (head : Head) (h : Handle) (b : Block) → Has old.users p n head h → get old.memory.slots h ≡ Some b → IsAfter h b
@@ -263,14 +264,14 @@ module _ (old new : Loaded) (id : ℕ) (kept : Kept) (started : Started) (sound 
           let same : has.kept ≡ kept = kept_one has.kept kept (sym has.made ∙ ap (slice_get old.users) eq ∙ its_users.0) in
           let head' : at_number kept.heads n ≡ Some head = ap (λ (k : Kept). at_number k.heads n) (sym same) ∙ has.head' in
           let handle : handle_at kept.handles n ≡ Some h = ap (λ (k : Kept). handle_at k.handles n) (sym same) ∙ has.handle in
-          record { after = active_block b; live = static_get n head h b head' static handle live; at = refl; user = refl; want = refl; form = λ was. inl (refl, refl) }
+          record { after = active_block b; live = static_get n head h b head' static handle live; at = refl; user = refl; want = refl; movable = refl; form = λ was. inl (refl, refl) }
       | inr other ↦ as_was (apart_get p n head h has (λ e. other))
     ]
     | inr ne ↦ as_was (apart_get p n head h has (λ e. absurd (ne e)))
   ]
     where
       as_was : get new.memory.slots h ≡ get old.memory.slots h → IsAfter h b
-      as_was same = record { after = b; live = same ∙ live; at = refl; user = refl; want = refl; form = λ was. was }
+      as_was same = record { after = b; live = same ∙ live; at = refl; user = refl; want = refl; movable = refl; form = λ was. was }
 
   each_before : (p n : ℕ) (head : Head) (h : Handle) → Has old.users p n head h → IsOf new.memory (first_id + p) head h
   each_before p n head h has =
@@ -280,6 +281,7 @@ module _ (old new : Loaded) (id : ℕ) (kept : Kept) (started : Started) (sound 
         block = it.after;
         live = it.live;
         user = it.user ∙ of'.user;
+        fixed = it.movable ∙ of'.fixed;
         form = it.form of'.form;
         want = omega (arith, of'.want, ap (λ w. w.size) it.want);
         room = λ there.

@@ -84,6 +84,7 @@ pub record IsTurn (change : Block → Block) : Type 0 where
   pub at : (b : Block) → (change b).at ≡ b.at
   pub user : (b : Block) → (change b).user ≡ b.user
   pub want : (b : Block) → (change b).want ≡ b.want
+  pub movable : (b : Block) → (change b).movable ≡ b.movable
   pub form : (b : Block) → IsSegments (change b)
 
 none_in : (place : ℕ) → ¬ Contains {X = ℕ} [] place
@@ -216,6 +217,7 @@ module _ (old new : Loaded) (id number owner file : ℕ) (kept lead : Kept) (h :
     block = is.block;
     live = same ∙ is.live;
     user = is.user;
+    fixed = is.fixed;
     form = is.form;
     want = is.want;
     room = λ there.
@@ -230,6 +232,7 @@ module _ (old new : Loaded) (id number owner file : ℕ) (kept lead : Kept) (h :
         block = change block;
         live = now_is;
         user = turn.user block ∙ ap (λ (b : Block). b.user) (sym same) ∙ is.user;
+        fixed = turn.movable block ∙ ap (λ (b : Block). b.movable) (sym same) ∙ is.fixed;
         form = turn.form block;
         want = omega (arith, is.want, ap (λ (b : Block). b.want.size) same, ap (λ w. w.size) (turn.want block));
         room = λ there.

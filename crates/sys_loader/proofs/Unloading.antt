@@ -6,7 +6,7 @@ use Rattle.omf_format.specs.Header.{is_dynamic}
 use Rattle.iigs_meaning.specs.declared.handles.Handle.{Handle}
 use Rattle.iigs_meaning.specs.declared.wants.Block.{Block}
 use Rattle.iigs_meaning.specs.Fits.{Slots}
-use Rattle.iigs_meaning.specs.Puts.{Purges}
+use Rattle.loader_machine.specs.Rule.{RoomRule}
 use Rattle.iigs_meaning.specs.Memory.{Memory, Changes}
 use Rattle.loader_machine.specs.declared.faults.LoaderFault.{LoaderFault}
 use Rattle.loader_machine.specs.declared.faults.LoaderFault.TheVariants.{Static, NotActive}
@@ -69,7 +69,7 @@ module _ (slots : Slots) (number : ℕ) where
 -- ---- the step
 
 idles : IsTurn idle_block
-idles = record { at = λ b. refl; user = λ b. refl; want = λ b. refl; form = λ b. inr (refl, refl) }
+idles = record { at = λ b. refl; user = λ b. refl; want = λ b. refl; movable = λ b. refl; form = λ b. inr (refl, refl) }
 
 none_active : (h : Handle) (block : Block) → active_at (lies_at h block.at false) ≡ None
 none_active h block = go block.at
@@ -109,7 +109,7 @@ module _ (old new : Loaded) (id number : ℕ) (sound : IsSound old.memory old.us
         (shifted_agrees old new id number owner file did.can.is.kept did.turned.lead did.h idle_block None did.can.is.head sound led.leading did.turned.leads led.alone did.can.is.made did.can.is.head' did.can.is.handle did.can.dynamic idles did.turned.shifted
         (none_active did.h did.turned.shifted.changes.block) held state agrees (λ some. absurd cc))
 
-    unload_met : Met Purges held state (UnloadSegment id number) Okay new
+    unload_met : Met RoomRule held state (UnloadSegment id number) Okay new
     unload_met = (
       next,
       does held old state agrees id (λ seen. unload_refusal state.slots seen number) Okay next _
@@ -119,9 +119,9 @@ module _ (old new : Loaded) (id number : ℕ) (sound : IsSound old.memory old.us
 
 -- an unload is the machine's step
 pub unloads_meet : (old new : Loaded) (id number : ℕ) (result : Result (Unit {0}) LoaderFault) → IsSound old.memory old.users → DidUnload old id number result new
-    → (held : FileMap) (state : Machine) → Agrees held old state → Met Purges held state (UnloadSegment id number) (done_reply result) new
+    → (held : FileMap) (state : Machine) → Agrees held old state → Met RoomRule held state (UnloadSegment id number) (done_reply result) new
 unloads_meet old new id number (Ok done) sound did held state agrees = unload_met old new id number sound did held state agrees
-unloads_meet old new id number (Err fault) sound did held state agrees = subst (λ (l : Loaded). Met Purges held state (UnloadSegment id number) (Refused fault) l) (sym did.1)
+unloads_meet old new id number (Err fault) sound did held state agrees = subst (λ (l : Loaded). Met RoomRule held state (UnloadSegment id number) (Refused fault) l) (sym did.1)
     (state, refuses held old state agrees id (λ seen. unload_refusal state.slots seen number) fault _ (ap (λ (t : Slots). unload_refusal t (seen_by old id) number) (sym agrees.slots) ∙ did.0), agrees)
 
 -- ---- room for the tables

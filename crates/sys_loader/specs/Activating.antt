@@ -7,7 +7,8 @@ use Rattle.omf_io.specs.Counts.{IsFront}
 use Rattle.omf_io.specs.Files.{FileMap, IsRead, IsUnread}
 use Rattle.iigs_meaning.specs.declared.handles.Handle.{Handle}
 use Rattle.iigs_meaning.specs.Slots.{new_handle}
-use Rattle.iigs_meaning.specs.Puts.{Purges, LacksRoom}
+use Rattle.iigs_meaning.specs.Puts.{LacksRoom}
+use Rattle.loader_machine.specs.Rule.{RoomRule}
 use Rattle.iigs_meaning.specs.Memory.{Memory, IsPlaced, IsReplaced, Changes, bytes_at}
 use Rattle.loader_machine.specs.declared.faults.LoaderFault.{LoaderFault}
 use Rattle.loader_machine.specs.declared.faults.LoaderFault.TheVariants as fault
@@ -82,15 +83,15 @@ pub record CanLoad (loader : Loaded) (id number : ℕ) (head : Head) (handle : O
 
 -- its block is placed, locked with level 0: under a new handle, or anew under the one that it has
 abbrev pub IsBrought : Memory → ℕ → Head → Option Handle → Handle → ℕ → Memory → Type 0
-IsBrought old id head None h address new = (is : IsPlaced Purges old (want_of head) id true 0 false h new) × (is.puts.address ≡ address)
+IsBrought old id head None h address new = (is : IsPlaced RoomRule old (want_of head) id true 0 false h new) × (is.puts.address ≡ address)
 IsBrought old id head (Some k) h address new =
-    (k ≡ h) × (middle : Memory) × (is : IsReplaced Purges old h (want_of head) middle) × (is.puts.address ≡ address) × Changes middle h active_block new
+    (k ≡ h) × (middle : Memory) × (is : IsReplaced RoomRule old h (want_of head) middle) × (is.puts.address ≡ address) × Changes middle h active_block new
 
 -- why it isn't: no slot is free, or there is no room
 abbrev pub IsBringRefusal : Memory → Head → Option Handle → ℕ → LoaderFault → Type 0
 IsBringRefusal memory head None number why = ((why ≡ fault.NoHandle) × (new_handle memory.slots ≡ None))
-    ⊎ ((why ≡ fault.NoRoom number) × IsSome (new_handle memory.slots) × LacksRoom Purges memory.banks memory.slots (want_of head))
-IsBringRefusal memory head (Some h) number why = (why ≡ fault.NoRoom number) × LacksRoom Purges memory.banks memory.slots (want_of head)
+    ⊎ ((why ≡ fault.NoRoom number) × IsSome (new_handle memory.slots) × LacksRoom RoomRule memory.banks memory.slots (want_of head))
+IsBringRefusal memory head (Some h) number why = (why ≡ fault.NoRoom number) × LacksRoom RoomRule memory.banks memory.slots (want_of head)
 
 -- the user with this handle for the segment with a number
 abbrev pub with_handle : Kept → ℕ → Handle → Kept

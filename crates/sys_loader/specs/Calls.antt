@@ -10,7 +10,8 @@ use Rattle.load_meaning.specs.Runtime.{IsRuntime, IsFirstRuntimeFault}
 use Rattle.iigs_meaning.specs.declared.handles.Handle.{Handle}
 use Rattle.iigs_meaning.specs.declared.faults.PlaceFault.TheVariants as place
 use Rattle.iigs_meaning.specs.Fits.{IsWant}
-use Rattle.iigs_meaning.specs.Puts.{Purges, IsPlaceAllRefusal}
+use Rattle.iigs_meaning.specs.Puts.{IsPlaceAllRefusal}
+use Rattle.loader_machine.specs.Rule.{RoomRule}
 use Rattle.iigs_meaning.specs.Memory.{Memory, bytes_at}
 use Rattle.loader_machine.specs.declared.seen.Head.{Head}
 use Rattle.loader_machine.specs.declared.faults.LoaderFault.{LoaderFault}
@@ -31,8 +32,8 @@ use Rattle.sys_loader.specs.declared.plan.Plan.{Plan}
 -- why a program doesn't begin: too few slots are free; or, once the segments before it are placed, one has no room
 abbrev pub IsBeginRefusal : Memory → ℕ → List Head → LoaderFault → Type 0
 IsBeginRefusal memory id heads why =
-    ((why ≡ fault.NoHandle) × IsPlaceAllRefusal Purges memory.banks id memory.slots (wants_of heads) place.NoHandle)
-    ⊎ ((i : ℕ) × (why ≡ fault.NoRoom (number_of 1 heads i)) × IsPlaceAllRefusal Purges memory.banks id memory.slots (wants_of heads) (place.NoRoom i))
+    ((why ≡ fault.NoHandle) × IsPlaceAllRefusal RoomRule memory.banks id memory.slots (wants_of heads) place.NoHandle)
+    ⊎ ((i : ℕ) × (why ≡ fault.NoRoom (number_of 1 heads i)) × IsPlaceAllRefusal RoomRule memory.banks id memory.slots (wants_of heads) (place.NoRoom i))
 
 -- a file that is read: a load file of these segments; that of an attached user is a run-time library file
 abbrev pub IsReadAs : Bool → List ℕ → List Segment → Type 0

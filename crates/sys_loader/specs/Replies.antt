@@ -3,7 +3,8 @@ use Rattle.std.specs.Prelude.{◌≡◌, ◌⊎◌, ℕ, Option, Some, None, IsS
 use Rattle.iigs_meaning.specs.declared.wants.Want.{Want}
 use Rattle.iigs_meaning.specs.declared.wants.BlockState.{BlockState}
 use Rattle.iigs_meaning.specs.Slots.{new_handle}
-use Rattle.iigs_meaning.specs.Puts.{Purges, LacksRoom}
+use Rattle.iigs_meaning.specs.Puts.{LacksRoom}
+use Rattle.loader_machine.specs.Rule.{RoomRule}
 use Rattle.iigs_meaning.specs.Memory.{Memory}
 use Rattle.loader_machine.specs.declared.faults.LoaderFault.{LoaderFault}
 use Rattle.loader_machine.specs.declared.faults.LoaderFault.TheVariants.{NoHandle, NoRoom}
@@ -42,4 +43,4 @@ where_reply None = Nothing
 -- why no block is placed for the script: no slot is left, and else there is no room
 abbrev pub IsAllocRefusal : Memory → Want → LoaderFault → Type 0
 IsAllocRefusal memory want fault = ((fault ≡ NoHandle) × (new_handle memory.slots ≡ None))
-    ⊎ ((fault ≡ NoRoom 0) × IsSome (new_handle memory.slots) × LacksRoom Purges memory.banks memory.slots want)
+    ⊎ ((fault ≡ NoRoom 0) × IsSome (new_handle memory.slots) × LacksRoom RoomRule memory.banks memory.slots want)

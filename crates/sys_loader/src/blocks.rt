@@ -1,19 +1,21 @@
 //! The script's own blocks.
 
-ghost use Rattle.std.specs.Prelude.{◌≡◌, ◌^◌, ℕ, true, false, Some, None, option_map, IfOk, IfErr, OnErr, IsSomeAnd};
+ghost use Rattle.std.specs.Prelude.{◌≡◌, ◌^◌, ℕ, IsTrue, true, false, Some, None, option_map, IfOk, IfErr, OnErr, IsSomeAnd};
 ghost use Rattle.std.specs.Result.{result_ok};
 ghost use Rattle.omf_io.specs.Files.{FileMap};
 ghost use Rattle.iigs_meaning.specs.Slots.{get};
 ghost use Rattle.iigs_meaning.specs.Fits.{IsWant};
-ghost use Rattle.iigs_meaning.specs.Puts.{Purges};
+ghost use Rattle.loader_machine.specs.Rule.{RoomRule};
+ghost use Rattle.iigs_meaning.specs.Slide.{AsksNoPlace, NoAddressRises, count_moved};
+ghost use Rattle.iigs_meaning.specs.Moves.{IsSlid};
 ghost use Rattle.iigs_meaning.specs.Blocks.{state_of};
 ghost use Rattle.iigs_meaning.specs.Memory.{IsPlaced, IsFreed};
 ghost use Rattle.iigs_meaning.specs.Room.{CountsBelow, IsRoom};
 ghost use Rattle.loader_machine.specs.State.{Machine};
 ghost use Rattle.loader_machine.specs.Refusals.{free_refusal, change_refusal, state_refusal};
-ghost use Rattle.loader_machine.specs.Commands.{Alloc, Free, Lock, Unlock, Level, StateOf, Room, Placed, RoomIs, Refused};
-ghost use Rattle.loader_agrees.specs.Agrees.{Agrees, Met};
-ghost use Rattle.sys_loader.specs.Scripts.{HasChanged};
+ghost use Rattle.loader_machine.specs.Commands.{Compact, Free, Lock, Unlock, Level, StateOf, Room, Moved, Placed, RoomIs, Refused};
+ghost use Rattle.loader_agrees.specs.Agrees.{Agrees, Met, MetAlloc};
+ghost use Rattle.sys_loader.specs.Scripts.{HasChanged, OthersStay};
 ghost use Rattle.sys_loader.specs.Replies.{done_reply, state_reply, IsAllocRefusal};
 
 use crate::loader::Loader;
@@ -60,13 +62,20 @@ impl Loader {
     }
 
     // Places a block for the script under a new handle.
-    fn put_block(&mut self, want: &Want, locked: bool, level: u8) -> Result<Handle, LoaderFault>
+    fn put_block(
+        &mut self,
+        want: &Want,
+        locked: bool,
+        level: u8,
+        movable: bool,
+    ) -> Result<Handle, LoaderFault>
         requires want { IsWant want.now }
-        ensures placed { IfOk result (λ h. IsPlaced Purges self.old.memory want.now 0 locked level false h self.new.memory × (self.new.users ≡ self.old.users)) }
+        requires no_place { IsTrue movable → AsksNoPlace want.now }
+        ensures placed { IfOk result (λ h. IsPlaced RoomRule self.old.memory want.now 0 locked level movable h self.new.memory × (self.new.users ≡ self.old.users)) }
         ensures refused { IfErr result (IsAllocRefusal self.old.memory want.now) }
         ensures err { OnErr result (self.new ≡ self.old) }
     {
-        match self.banks.place(want, SCRIPT, locked, level) {
+        match self.banks.place(want, SCRIPT, locked, level, movable) {
             Ok(handle) => Ok(handle),
             Err(PlaceFault::NoHandle) => Err(LoaderFault::NoHandle),
             Err(PlaceFault::NoRoom(_)) => Err(LoaderFault::NoRoom(0)),
@@ -94,30 +103,62 @@ impl Loader {
         }
     }
 
-    /// Places a block for the script under a new handle. Blocks are purged for it as needed, and no memory is taken.
-    pub fn alloc(&mut self, want: &Want, locked: bool, level: u8) -> Result<Handle, LoaderFault>
+    /// Places a block for the script under a new handle. Blocks are purged for it as needed, and movable ones are slid down where
+    /// no purge makes room. No memory is taken.
+    pub fn alloc(
+        &mut self,
+        want: &Want,
+        locked: bool,
+        level: u8,
+        movable: bool,
+    ) -> Result<Handle, LoaderFault>
         requires want { IsWant want.now }
+        requires no_place { IsTrue movable → AsksNoPlace want.now }
 
         // Over files with which the loader agrees, it is the machine's step.
         ensures meets { IfOk result (λ h. (held : FileMap) (state : Machine) → Agrees held self.old state
             → (address : ℕ) × IsSomeAnd (get self.new.memory.slots h) (λ block. block.at ≡ Some address)
-            × Met Purges held state (Alloc want.now locked level) (Placed h address) self.new) }
+            × MetAlloc RoomRule held state want.now locked level movable (Placed h address) self.new) }
         ensures refuses { IfErr result (λ fault. (held : FileMap) (state : Machine) → Agrees held self.old state
-            → Met Purges held state (Alloc want.now locked level) (Refused fault) self.new) }
+            → MetAlloc RoomRule held state want.now locked level movable (Refused fault) self.new) }
 
         // And so much is true of it over any files.
-        ensures placed { IfOk result (λ h. IsPlaced Purges self.old.memory want.now 0 locked level false h self.new.memory × (self.new.users ≡ self.old.users)) }
+        ensures placed { IfOk result (λ h. IsPlaced RoomRule self.old.memory want.now 0 locked level movable h self.new.memory × (self.new.users ≡ self.old.users)) }
         ensures refused { IfErr result (IsAllocRefusal self.old.memory want.now) }
         ensures err { OnErr result (self.new ≡ self.old) }
     {
         self.is_sound();
-        self.put_block(want, locked, level)
+        self.put_block(want, locked, level, movable)
+    }
+
+    // Slides the movable blocks down.
+    fn slide(&mut self) -> u32
+        ensures slid { IsSlid self.old.memory self.new.memory × (self.new.users ≡ self.old.users) }
+        ensures count { result ≡ count_moved self.old.memory.slots self.new.memory.slots }
+        ensures none_rises { NoAddressRises self.old.memory.banks self.old.memory.slots self.new.memory.slots }
+    {
+        self.banks.compact()
+    }
+
+    /// Slides the movable blocks down, and counts those that changed their address. Nothing is purged, and no memory is taken.
+    pub fn compact(&mut self) -> u32
+        // Over files with which the loader agrees, it is the machine's step.
+        ensures meets { (held : FileMap) (state : Machine) → Agrees held self.old state → Met RoomRule held state Compact (Moved result) self.new }
+
+        // And so much is true of it over any files: locked blocks and those of users stay where they are.
+        ensures slid { IsSlid self.old.memory self.new.memory × (self.new.users ≡ self.old.users) }
+        ensures count { result ≡ count_moved self.old.memory.slots self.new.memory.slots }
+        ensures none_rises { NoAddressRises self.old.memory.banks self.old.memory.slots self.new.memory.slots }
+        ensures others { OthersStay self.old.memory self.new.memory }
+    {
+        self.is_sound();
+        self.slide()
     }
 
     /// Releases a handle of the script, and with it its block.
     pub fn free(&mut self, h: Handle) -> Result<(), LoaderFault>
         // Over files with which the loader agrees, it is the machine's step.
-        ensures meets { (held : FileMap) (state : Machine) → Agrees held self.old state → Met Purges held state (Free h) (done_reply result) self.new }
+        ensures meets { (held : FileMap) (state : Machine) → Agrees held self.old state → Met RoomRule held state (Free h) (done_reply result) self.new }
 
         // And so much is true of it over any files.
         ensures freed { IfOk result (λ _. IsFreed self.old.memory h self.new.memory × (self.new.users ≡ self.old.users)
@@ -146,10 +187,10 @@ impl Loader {
         }
     }
 
-    /// Locks a block of the script, so that no placement purges it.
+    /// Locks a block of the script, so that no placement purges or moves it.
     pub fn lock(&mut self, h: Handle) -> Result<(), LoaderFault>
         // Over files with which the loader agrees, it is the machine's step.
-        ensures meets { (held : FileMap) (state : Machine) → Agrees held self.old state → Met Purges held state (Lock h) (done_reply result) self.new }
+        ensures meets { (held : FileMap) (state : Machine) → Agrees held self.old state → Met RoomRule held state (Lock h) (done_reply result) self.new }
 
         // And so much is true of it over any files.
         ensures changed { IfOk result (λ _. HasChanged self.old h (λ block. record block { locked = true }) self.new) }
@@ -180,7 +221,7 @@ impl Loader {
     /// Unlocks a block of the script.
     pub fn unlock(&mut self, h: Handle) -> Result<(), LoaderFault>
         // Over files with which the loader agrees, it is the machine's step.
-        ensures meets { (held : FileMap) (state : Machine) → Agrees held self.old state → Met Purges held state (Unlock h) (done_reply result) self.new }
+        ensures meets { (held : FileMap) (state : Machine) → Agrees held self.old state → Met RoomRule held state (Unlock h) (done_reply result) self.new }
 
         // And so much is true of it over any files.
         ensures changed { IfOk result (λ _. HasChanged self.old h (λ block. record block { locked = false }) self.new) }
@@ -211,7 +252,7 @@ impl Loader {
     /// Sets how willingly a block of the script is purged: 0 never, the highest level first.
     pub fn level(&mut self, h: Handle, n: u8) -> Result<(), LoaderFault>
         // Over files with which the loader agrees, it is the machine's step.
-        ensures meets { (held : FileMap) (state : Machine) → Agrees held self.old state → Met Purges held state (Level h n) (done_reply result) self.new }
+        ensures meets { (held : FileMap) (state : Machine) → Agrees held self.old state → Met RoomRule held state (Level h n) (done_reply result) self.new }
 
         // And so much is true of it over any files.
         ensures changed { IfOk result (λ _. HasChanged self.old h (λ block. record block { level = n }) self.new) }
@@ -225,7 +266,7 @@ impl Loader {
     /// What is told of a handle's block, whether it is there or was purged.
     pub fn handle(&self, h: Handle) -> Result<BlockState, LoaderFault>
         // Over files with which the loader agrees, it is the machine's step.
-        ensures meets { (held : FileMap) (state : Machine) → Agrees held self.now state → Met Purges held state (StateOf h) (state_reply result) self.now }
+        ensures meets { (held : FileMap) (state : Machine) → Agrees held self.now state → Met RoomRule held state (StateOf h) (state_reply result) self.now }
 
         // And so much is true of it over any files.
         ensures state { result_ok result ≡ option_map state_of (get self.now.memory.slots h) }
@@ -241,7 +282,7 @@ impl Loader {
     /// How many bytes of free memory lie in no block.
     pub fn room(&self) -> u32
         // Over files with which the loader agrees, it is the machine's step.
-        ensures meets { (held : FileMap) (state : Machine) → Agrees held self.now state → Met Purges held state Room (RoomIs result) self.now }
+        ensures meets { (held : FileMap) (state : Machine) → Agrees held self.now state → Met RoomRule held state Room (RoomIs result) self.now }
 
         // And so much is true of it over any files.
         ensures counts { CountsBelow (IsRoom self.now.memory.banks self.now.memory.slots) (2 ^ 24) result }

@@ -5,7 +5,7 @@ ghost use Rattle.omf_io.specs.Counts.{one_more};
 ghost use Rattle.omf_io.specs.Files.{FileMap};
 ghost use Rattle.load_meaning.specs.Loadable.{IsLoadable};
 ghost use Rattle.iigs_meaning.specs.Slots.{get};
-ghost use Rattle.iigs_meaning.specs.Puts.{Purges};
+ghost use Rattle.loader_machine.specs.Rule.{RoomRule};
 ghost use Rattle.loader_machine.specs.Heads.{head_of};
 ghost use Rattle.loader_machine.specs.State.{Machine, user_of};
 ghost use Rattle.loader_machine.specs.Presences as presences;
@@ -29,8 +29,8 @@ use crate::renew::renew_tables;
 use crate::turn::activate;
 use crate::user::Segment;
 use crate::users::{set_handle, user_in};
+use iigs_compact_memory::CompactBanks;
 use iigs_meaning::{Handle, PlaceFault};
-use iigs_memory::Banks;
 use loader_machine::{Head, LoaderFault, Presence};
 use omf_cells::{LoadFile, Places, PlacesFault};
 use omf_io::{Files, ReadFault};
@@ -38,7 +38,7 @@ use std::alloc::Global;
 
 /// Places the block of an absent segment under a new handle.
 fn place_first(
-    banks: &mut Banks,
+    banks: &mut CompactBanks,
     user: u16,
     number: u16,
     head: &Head,
@@ -47,7 +47,7 @@ fn place_first(
     ensures refused { IfErr result (IsBringRefusal banks.old head.now None number) }
     ensures err { OnErr result (banks.new ≡ banks.old) }
 {
-    match banks.place(&want_of(head), user, true, 0) {
+    match banks.place(&want_of(head), user, true, 0, false) {
         Ok(h) => Ok(h),
         Err(PlaceFault::NoHandle) => Err(LoaderFault::NoHandle),
         Err(PlaceFault::NoRoom(_)) => Err(LoaderFault::NoRoom(number)),
@@ -59,7 +59,7 @@ fn place_first(
 
 /// Places the block of a purged segment anew, under the handle that it has.
 fn place_again(
-    banks: &mut Banks,
+    banks: &mut CompactBanks,
     user: u16,
     number: u16,
     head: &Head,
@@ -95,7 +95,7 @@ pub fn places_of(alloc: Global, load: &LoadFile<'_>) -> Result<Places, LoaderFau
 
 /// Places the block of a segment that isn't there.
 fn place_segment(
-    banks: &mut Banks,
+    banks: &mut CompactBanks,
     user: u16,
     number: u16,
     segment: &Segment,
@@ -310,7 +310,7 @@ impl Loader {
 
         // Over files that are told, and with which the loader agrees, it is the machine's step, and reads what that needs.
         ensures meets { (held : FileMap) (state : Machine) → (F.seen files.old).held ≡ Some held → Agrees held self.old state
-            → Meets Purges held state (LoadSegment user segment) (activation_reply (MadeActive segment) result) self.new (F.seen files.old).faults (F.seen files.new).faults }
+            → Meets RoomRule held state (LoadSegment user segment) (activation_reply (MadeActive segment) result) self.new (F.seen files.old).faults (F.seen files.new).faults }
         ensures needed { (held : FileMap) (state : Machine) → (F.seen files.old).held ≡ Some held → Agrees held self.old state
             → ReadsNeeded held state (LoadSegment user segment) 0 (F.seen files.old).asked (F.seen files.new).asked }
 

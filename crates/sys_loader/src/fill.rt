@@ -14,8 +14,8 @@ ghost use Rattle.sys_loader.specs.Filling.{own_entry, HasHead, AreSound, IsFille
 
 use crate::head::is_table;
 use crate::user;
+use iigs_compact_memory::CompactBanks;
 use iigs_meaning::Handle;
-use iigs_memory::Banks;
 use jump_table::put_entry;
 use loader_machine::Head;
 use omf_cells::{LoadFile, Places, patch_into};
@@ -70,7 +70,7 @@ fn fill(load: &LoadFile<'_>, number: u32, head: &Head, places: &Places, user: u1
 
 /// Writes a segment into its block.
 pub fn fill_block(
-    banks: &mut Banks,
+    banks: &mut CompactBanks,
     h: Handle,
     load: &LoadFile<'_>,
     number: u32,
@@ -89,7 +89,7 @@ pub fn fill_block(
 
 /// Writes all segments that have a handle into their blocks.
 pub fn fill_all(
-    banks: &mut Banks,
+    banks: &mut CompactBanks,
     load: &LoadFile<'_>,
     segments: &Vec<user::Segment>,
     places: &Places,

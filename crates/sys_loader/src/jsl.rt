@@ -4,7 +4,7 @@ ghost use Rattle.std.specs.Prelude.{◌≡◌, ◌<◌, ◌≤◌, ℕ, Some, No
 ghost use Rattle.omf_io.specs.Counts.{one_more};
 ghost use Rattle.omf_io.specs.Files.{FileMap};
 ghost use Rattle.load_meaning.specs.declared.table.Target.{Target};
-ghost use Rattle.iigs_meaning.specs.Puts.{Purges};
+ghost use Rattle.loader_machine.specs.Rule.{RoomRule};
 ghost use Rattle.iigs_meaning.specs.Slots.{get};
 ghost use Rattle.iigs_meaning.specs.Memory.{bytes_at};
 ghost use Rattle.loader_machine.specs.State.{Machine, named_by};
@@ -26,8 +26,8 @@ use crate::loader::Loader;
 use crate::renew::address_in;
 use crate::user::{Segment, User};
 use crate::users::user_in;
+use iigs_compact_memory::CompactBanks;
 use iigs_meaning::{BlockFault, Handle};
-use iigs_memory::Banks;
 use jump_table::{entry_at, target_at};
 use loader_machine::LoaderFault;
 use omf_base::number;
@@ -60,7 +60,7 @@ fn called(four: &[u8]) -> Result<u32, LoaderFault>
 }
 
 /// The bytes of a block that is there.
-fn block_of(banks: &Banks, handle: Option<Handle>) -> &[u8]
+fn block_of(banks: &CompactBanks, handle: Option<Handle>) -> &[u8]
     requires { IsSomeAnd handle (λ h. IsSomeAnd (get banks.now.slots h) (λ block. IsSome block.at)) }
     ensures { IsSomeAnd handle (λ h. result.now ≡ bytes_at banks.now h.slot) }
 {
@@ -238,7 +238,7 @@ impl Loader {
 
         // Over files that are told, and with which the loader agrees, it is the machine's step, and reads what that needs.
         ensures meets { (held : FileMap) (state : Machine) → (F.seen files.old).held ≡ Some held → Agrees held self.old state
-            → Meets Purges held state (commands.Jsl user segment at) (jsl_reply result) self.new (F.seen files.old).faults (F.seen files.new).faults }
+            → Meets RoomRule held state (commands.Jsl user segment at) (jsl_reply result) self.new (F.seen files.old).faults (F.seen files.new).faults }
         ensures needed { (held : FileMap) (state : Machine) → (F.seen files.old).held ≡ Some held → Agrees held self.old state
             → ReadsNeeded held state (commands.Jsl user segment at) 0 (F.seen files.old).asked (F.seen files.new).asked }
 

@@ -7,7 +7,7 @@ ghost use Rattle.omf_io.specs.Files.{FileMap};
 ghost use Rattle.load_meaning.specs.Pathnames.{paths_of};
 ghost use Rattle.load_meaning.specs.Loadable.{IsLoadable};
 ghost use Rattle.iigs_meaning.specs.Fits.{IsWant};
-ghost use Rattle.iigs_meaning.specs.Puts.{Purges};
+ghost use Rattle.loader_machine.specs.Rule.{RoomRule};
 ghost use Rattle.iigs_meaning.specs.Memory.{Memory, AreAllPlaced};
 ghost use Rattle.loader_machine.specs.Heads.{head_of, wants_of};
 ghost use Rattle.loader_machine.specs.Found.{Joins};
@@ -30,8 +30,8 @@ use crate::place::{deal, entry_of, number_of, set_places};
 use crate::plan::{Plan, plan_of};
 use crate::reading::{load_of, read_file, runtime_load};
 use crate::user::{Segment, User};
+use iigs_compact_memory::CompactBanks;
 use iigs_meaning::{Handle, PlaceFault, Want};
-use iigs_memory::Banks;
 use loader_machine::{Life, LoaderFault};
 use omf_cells::{LoadFile, Places};
 use omf_io::Files;
@@ -39,7 +39,7 @@ use std::alloc::{AllocError, Global};
 
 /// Places blocks for all static segments, in order, or none.
 fn place_all(
-    banks: &mut Banks,
+    banks: &mut CompactBanks,
     user: u16,
     segments: &Vec<Segment>,
     wants: &[Want],
@@ -49,7 +49,7 @@ fn place_all(
     requires wants { wants.now ≡ wants_of (map (λ s. s.head) segments.now.items) }
     requires are { All IsWant wants.now }
     requires lengths { length handles.old ≡ length wants.now }
-    ensures placed { OnOk result (AreAllPlaced Purges banks.old user false wants.now handles.new banks.new) }
+    ensures placed { OnOk result (AreAllPlaced RoomRule banks.old user false wants.now handles.new banks.new) }
     ensures refused { IfErr result (IsBeginRefusal banks.old user (map (λ s. s.head) segments.now.items)) }
     ensures err { OnErr result (banks.new ≡ banks.old) }
 {
@@ -65,7 +65,7 @@ fn place_all(
 
 /// Writes the static segments into their new blocks, once all of these are placed.
 pub fn settle(
-    banks: &mut Banks,
+    banks: &mut CompactBanks,
     load: &LoadFile<'_>,
     segments: &mut Vec<Segment>,
     handles: &[Handle],
@@ -76,7 +76,7 @@ pub fn settle(
     requires short { length load.now < 2 ^ 16 }
     requires heads { map (λ s. s.head) segments.old.items ≡ map head_of load.now }
     requires room { length places.old ≡ length segments.old.items }
-    requires placed { (before : Memory) × AreAllPlaced Purges before user false (wants_of (map head_of load.now)) handles.now banks.old }
+    requires placed { (before : Memory) × AreAllPlaced RoomRule before user false (wants_of (map head_of load.now)) handles.now banks.old }
     ensures heads { map (λ s. s.head) segments.new.items ≡ map head_of load.now }
     ensures handles { map (λ s. s.handle) segments.new.items ≡ map (λ held. held.handle) (spread (map head_of load.now) handles.now) }
     ensures settled { IsSettled load.now user handles.now banks.old banks.new }
@@ -369,9 +369,9 @@ impl Loader {
 
         // Over files that are told, and with which the loader agrees, it is the machine's step, and reads what that needs.
         ensures meets { (held : FileMap) (state : Machine) → (F.seen files.old).held ≡ Some held → Agrees held self.old state
-            → Meets Purges held state (Load path.now) (load_reply result) self.new (F.seen files.old).faults (F.seen files.new).faults }
+            → Meets RoomRule held state (Load path.now) (load_reply result) self.new (F.seen files.old).faults (F.seen files.new).faults }
         ensures needed { (held : FileMap) (state : Machine) → (F.seen files.old).held ≡ Some held → Agrees held self.old state
-            → MeetsReads Purges held state (Load path.now) (load_reply result) self.new (F.seen files.old) (F.seen files.new) }
+            → MeetsReads RoomRule held state (Load path.now) (load_reply result) self.new (F.seen files.old) (F.seen files.new) }
 
         // And so much is true of it over any files, with how many of them were read.
         ensures loaded { (reads : ℕ) × HasLoaded (F.seen files.old).held self.old path.now result self.new (F.seen files.old).faults (F.seen files.new).faults reads

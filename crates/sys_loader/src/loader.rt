@@ -4,7 +4,7 @@ ghost use Rattle.std.specs.Prelude.{◌≡◌, ◌+◌, ℕ, [], Some, None, opt
 ghost use Rattle.omf_io.specs.Files.{FileMap};
 ghost use Rattle.iigs_meaning.specs.Memory.{IsNew};
 ghost use Rattle.iigs_meaning.specs.Banks.{IsBanksRefusal};
-ghost use Rattle.iigs_meaning.specs.Puts.{Purges};
+ghost use Rattle.loader_machine.specs.Rule.{RoomRule};
 ghost use Rattle.iigs_meaning.specs.Slots.{slot_at};
 ghost use Rattle.iigs_meaning.specs.Fits.{HoldsByte};
 ghost use Rattle.iigs_meaning.specs.Blocks.{AreApart};
@@ -24,8 +24,8 @@ use crate::lying::{owner_of, search_owner};
 use crate::memory::{active, presence, slice};
 use crate::user::User;
 use crate::users::holder_of;
+use iigs_compact_memory::CompactBanks;
 use iigs_meaning::{BanksFault, BlockFault, Handle};
-use iigs_memory::Banks;
 use loader_machine::{Life, LoaderFault};
 use std::alloc::{AllocError, Global};
 use std::marker::Model;
@@ -40,7 +40,7 @@ pub const FIRST_ID: u16 = 0x1001;
 #[derive(Drop)]
 pub struct Loader {
     pub(crate) alloc: Global,
-    pub(crate) banks: Banks,
+    pub(crate) banks: CompactBanks,
     // With room for all users. None is gone.
     pub(crate) users: Vec<Option<User>>,
     // For the last byte of a slot, the number of the segment in whose block a call's address was found last: the first to be asked.
@@ -73,7 +73,7 @@ impl Loader {
         ensures empty { IfOk result (λ loader. IsNew banks.now loader.memory × (loader.users ≡ [])) }
         ensures refused { IfErr result (IsBanksRefusal banks.now) }
     {
-        let memory = match Banks::new(alloc, banks) {
+        let memory = match CompactBanks::new(alloc, banks) {
             Ok(memory) => memory,
             Err(fault) => return Err(fault),
         };
@@ -205,9 +205,9 @@ impl Loader {
     pub fn bytes(&self, user: u16, segment: u16, at: u32, length: u32) -> Result<&[u8], LoaderFault>
         // Over files with which the loader agrees, it is the machine's step.
         ensures shows { IfOk result (λ bytes. (held : FileMap) (state : Machine) → Agrees held self.now state
-            → Met Purges held state (Bytes user segment at length) (Shown bytes.now) self.now) }
+            → Met RoomRule held state (Bytes user segment at length) (Shown bytes.now) self.now) }
         ensures refuses { IfErr result (λ fault. (held : FileMap) (state : Machine) → Agrees held self.now state
-            → Met Purges held state (Bytes user segment at length) (Refused fault) self.now) }
+            → Met RoomRule held state (Bytes user segment at length) (Refused fault) self.now) }
 
         // And so much is true of it over any files.
         ensures lent { IfOk result (λ bytes. HasLent self.now user segment at length bytes.now) }
@@ -238,7 +238,7 @@ impl Loader {
     /// What is known of a user's segment: whether and where it is in memory, LENGTH and KIND.
     pub fn info(&self, user: u16, segment: u16) -> Result<Info, LoaderFault>
         // Over files with which the loader agrees, it is the machine's step.
-        ensures meets { (held : FileMap) (state : Machine) → Agrees held self.now state → Met Purges held state (commands.Info user segment) (info_reply result) self.now }
+        ensures meets { (held : FileMap) (state : Machine) → Agrees held self.now state → Met RoomRule held state (commands.Info user segment) (info_reply result) self.now }
 
         // And so much is true of it over any files.
         ensures told { IfOk result (λ info. HasTold self.now user segment info.presence info.length info.kind) }
@@ -278,7 +278,7 @@ impl Loader {
     /// The active segment of a user that runs in which an address lies, with the offset.
     pub fn locate(&self, address: u32) -> Option<Entered>
         // Over files with which the loader agrees, it is the machine's step.
-        ensures meets { (held : FileMap) (state : Machine) → Agrees held self.now state → Met Purges held state (commands.Where address) (where_reply result) self.now }
+        ensures meets { (held : FileMap) (state : Machine) → Agrees held self.now state → Met RoomRule held state (commands.Where address) (where_reply result) self.now }
 
         // And so much is true of it over any files.
         ensures lies { MatchOption result ((id number offset : ℕ) → ¬ LiesIn self.now address id number offset)

@@ -9,12 +9,12 @@ ghost use Rattle.sys_loader.specs.declared.user.User as declared;
 use crate::loader::FIRST_ID;
 use crate::memory::presence;
 use crate::user::{Segment, User};
+use iigs_compact_memory::CompactBanks;
 use iigs_meaning::{BlockFault, Handle};
-use iigs_memory::Banks;
 use loader_machine::{Life, Presence};
 
 /// The offset at which an address lies in a segment, where that is active under a handle.
-fn offset_in(banks: &Banks, segment: &Segment, h: Handle, address: u32) -> Option<u32>
+fn offset_in(banks: &CompactBanks, segment: &Segment, h: Handle, address: u32) -> Option<u32>
     ensures { MatchOption result ((offset : ℕ) → ¬ LiesAt banks.now.slots segment.now h address offset) (LiesAt banks.now.slots segment.now h address) }
 {
     let Some(own) = segment.handle else {
@@ -39,7 +39,7 @@ fn offset_in(banks: &Banks, segment: &Segment, h: Handle, address: u32) -> Optio
 
 /// The offset at which an address lies in the segment with a number, from 1, where there is one that is active under a handle.
 fn offset_there(
-    banks: &Banks,
+    banks: &CompactBanks,
     segments: &Vec<Segment>,
     h: Handle,
     number: u16,
@@ -59,7 +59,7 @@ fn offset_there(
 /// The number of the segment, active under a handle, in which an address lies, from 1, with the offset. The one with the number
 /// `first` is asked before all.
 pub fn search(
-    banks: &Banks,
+    banks: &CompactBanks,
     segments: &Vec<Segment>,
     h: Handle,
     first: u16,
@@ -86,7 +86,7 @@ pub fn search(
 
 /// The same of a user, where it isn't gone and runs.
 pub fn search_user(
-    banks: &Banks,
+    banks: &CompactBanks,
     user: &Option<User>,
     h: Handle,
     first: u16,
@@ -105,7 +105,7 @@ pub fn search_user(
 }
 
 /// The user whose block a handle's is.
-pub fn owner_of(banks: &Banks, h: Handle) -> u16
+pub fn owner_of(banks: &CompactBanks, h: Handle) -> u16
     requires { IsSome (get banks.now.slots h) }
     ensures { IsSomeAnd (get banks.now.slots h) (λ block. block.user ≡ result) }
 {
@@ -118,7 +118,7 @@ pub fn owner_of(banks: &Banks, h: Handle) -> u16
 
 /// The number of the segment of the user of an ID, active under a handle, in which an address lies, with the offset.
 pub fn search_owner(
-    banks: &Banks,
+    banks: &CompactBanks,
     users: &Vec<Option<User>>,
     id: u16,
     h: Handle,

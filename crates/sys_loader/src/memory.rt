@@ -3,12 +3,12 @@
 ghost use Rattle.std.specs.Prelude.{◌≡◌, ◌+◌, ◌≤◌, ℕ, length, take, drop, Some, false, IfOk, IfErr};
 ghost use Rattle.loader_machine.specs.Presences as presences;
 
+use iigs_compact_memory::CompactBanks;
 use iigs_meaning::{BlockFault, Handle};
-use iigs_memory::Banks;
 use loader_machine::{LoaderFault, Presence};
 
 /// Whether and where a handle's block is.
-pub fn presence(banks: &Banks, handle: Option<Handle>) -> Presence
+pub fn presence(banks: &CompactBanks, handle: Option<Handle>) -> Presence
     ensures { result ≡ presences.presence banks.now.slots handle }
 {
     let Some(h) = handle else {
@@ -30,7 +30,7 @@ pub fn presence(banks: &Banks, handle: Option<Handle>) -> Presence
 }
 
 /// The handle of an active segment.
-pub fn active(banks: &Banks, handle: Option<Handle>) -> Result<Handle, LoaderFault>
+pub fn active(banks: &CompactBanks, handle: Option<Handle>) -> Result<Handle, LoaderFault>
     ensures ok { IfOk result (λ h. (handle ≡ Some h) × ((address : ℕ) × (presences.presence banks.now.slots (Some h) ≡ Presence.Active h address))) }
     ensures err { IfErr result (λ fault. (fault ≡ LoaderFault.NotActive) × (presences.is_active (presences.presence banks.now.slots handle) ≡ false)) }
 {

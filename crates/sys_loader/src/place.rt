@@ -10,8 +10,8 @@ ghost use Rattle.loader_machine.specs.Steps.{spread};
 use crate::head::{is_code, is_static, want_of};
 use crate::memory::presence;
 use crate::user::Segment;
+use iigs_compact_memory::CompactBanks;
 use iigs_meaning::{Handle, Want};
-use iigs_memory::Banks;
 use loader_machine::Presence;
 use omf_cells::Places;
 use std::alloc::{AllocError, Global};
@@ -73,7 +73,7 @@ pub fn number_of(segments: &Vec<Segment>, place: u32) -> u16
 }
 
 /// Where a segment lies that is there.
-fn address_of(banks: &Banks, handle: Option<Handle>) -> Option<u32>
+fn address_of(banks: &CompactBanks, handle: Option<Handle>) -> Option<u32>
     ensures { result ≡ presences.there_at (presences.presence banks.now.slots handle) }
 {
     match presence(banks, handle) {
@@ -85,7 +85,7 @@ fn address_of(banks: &Banks, handle: Option<Handle>) -> Option<u32>
 }
 
 /// Tells where each segment lies.
-pub fn set_places(banks: &Banks, segments: &Vec<Segment>, places: &mut Places)
+pub fn set_places(banks: &CompactBanks, segments: &Vec<Segment>, places: &mut Places)
     requires short { length segments.now.items < 2 ^ 16 }
     requires room { length places.old ≡ length segments.now.items }
     ensures { places.new ≡ map (λ s. presences.there_at (presences.presence banks.now.slots s.handle)) segments.now.items }
@@ -97,7 +97,7 @@ pub fn set_places(banks: &Banks, segments: &Vec<Segment>, places: &mut Places)
 }
 
 /// Where a segment lies, 0 where it isn't there.
-pub fn place_of(banks: &Banks, handle: Option<Handle>) -> u32
+pub fn place_of(banks: &CompactBanks, handle: Option<Handle>) -> u32
     ensures { result ≡ unwrap_or (presences.there_at (presences.presence banks.now.slots handle)) 0 }
 {
     match address_of(banks, handle) {
@@ -107,7 +107,7 @@ pub fn place_of(banks: &Banks, handle: Option<Handle>) -> u32
 }
 
 /// Where a program begins: the place of its first static segment of code plus that one's ENTRY, modulo 2^24.
-pub fn entry_of(banks: &Banks, segments: &Vec<Segment>) -> Option<u32>
+pub fn entry_of(banks: &CompactBanks, segments: &Vec<Segment>) -> Option<u32>
     ensures { result ≡ heads.entry_in (map (λ s. s.head) segments.now.items) (place_in banks.now.slots (map (λ s. s.handle) segments.now.items)) 1 }
 {
     'segments: for segment in segments {

@@ -3,7 +3,7 @@
 ghost use Rattle.std.specs.Prelude.{◌≡◌, ◌<◌, ℕ, length, slice_set, IsSome, IsSomeAnd, Some, IfOk, IfErr};
 ghost use Rattle.omf_io.specs.Files.{FileMap};
 ghost use Rattle.iigs_meaning.specs.Slots.{get};
-ghost use Rattle.iigs_meaning.specs.Puts.{Purges};
+ghost use Rattle.loader_machine.specs.Rule.{RoomRule};
 ghost use Rattle.iigs_meaning.specs.Memory.{bytes_at};
 ghost use Rattle.loader_machine.specs.State.{Machine};
 ghost use Rattle.loader_machine.specs.Commands.{Poke};
@@ -15,12 +15,12 @@ ghost use Rattle.sys_loader.specs.Lives.{with_bytes, CanPoke, DidPoke};
 use crate::head::is_table;
 use crate::loader::Loader;
 use crate::memory::active;
+use iigs_compact_memory::CompactBanks;
 use iigs_meaning::Handle;
-use iigs_memory::Banks;
 use loader_machine::LoaderFault;
 
 /// Writes a byte of a block that is there.
-fn put(banks: &mut Banks, h: Handle, at: u32, byte: u8)
+fn put(banks: &mut CompactBanks, h: Handle, at: u32, byte: u8)
     requires there { IsSomeAnd (get banks.old.slots h) (λ block. IsSome block.at) }
     requires within { at < length (bytes_at banks.old h.slot) }
     ensures { banks.new ≡ with_bytes banks.old h.slot (slice_set (bytes_at banks.old h.slot) at byte) }
@@ -73,7 +73,7 @@ impl Loader {
     pub fn poke(&mut self, user: u16, segment: u16, at: u32, byte: u8) -> Result<(), LoaderFault>
         // Over files with which the loader agrees, it is the machine's step.
         ensures meets { (held : FileMap) (state : Machine) → Agrees held self.old state
-            → Met Purges held state (Poke user segment at byte) (done_reply result) self.new }
+            → Met RoomRule held state (Poke user segment at byte) (done_reply result) self.new }
 
         // And so much is true of it over any files.
         ensures did { DidPoke self.old user segment at byte result self.new }

@@ -2,7 +2,7 @@
 
 ghost use Rattle.std.specs.Prelude.{◌≡◌, Some, None, IfOk, IfErr};
 ghost use Rattle.omf_io.specs.Files.{FileMap};
-ghost use Rattle.iigs_meaning.specs.Puts.{Purges};
+ghost use Rattle.loader_machine.specs.Rule.{RoomRule};
 ghost use Rattle.loader_machine.specs.State.{Machine};
 ghost use Rattle.loader_machine.specs.Commands.{Purge};
 ghost use Rattle.loader_machine.specs.Refusals.{purge_refusal};
@@ -45,7 +45,7 @@ impl Loader {
     /// handles stay.
     pub fn purge(&mut self, user: u16) -> Result<u32, LoaderFault>
         // Over files with which the loader agrees, it is the machine's step.
-        ensures meets { (held : FileMap) (state : Machine) → Agrees held self.old state → Met Purges held state (Purge user) (purge_reply result) self.new }
+        ensures meets { (held : FileMap) (state : Machine) → Agrees held self.old state → Met RoomRule held state (Purge user) (purge_reply result) self.new }
 
         // And so much is true of it over any files.
         ensures did { DidPurge self.old user result self.new }

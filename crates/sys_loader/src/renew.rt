@@ -10,8 +10,8 @@ ghost use Rattle.sys_loader.specs.Renewing.{is_chosen, code_for, renewed_at, ren
 use crate::head::is_table;
 use crate::memory::presence;
 use crate::user::Segment;
+use iigs_compact_memory::CompactBanks;
 use iigs_meaning::Handle;
-use iigs_memory::Banks;
 use jump_table::{entry_count, set_loaded, set_unloaded};
 use loader_machine::Presence;
 use omf_base::number;
@@ -64,7 +64,7 @@ fn renew(bytes: &mut [u8], count: usize, only: Option<(u16, u16)>, place: Option
 
 /// The entries of a table's block follow.
 fn renew_block(
-    banks: &mut Banks,
+    banks: &mut CompactBanks,
     h: Handle,
     count: usize,
     only: Option<(u16, u16)>,
@@ -79,7 +79,12 @@ fn renew_block(
 }
 
 /// The entries of a table follow, if it is there.
-fn renew_table(banks: &mut Banks, table: &Segment, only: Option<(u16, u16)>, place: Option<u32>)
+fn renew_table(
+    banks: &mut CompactBanks,
+    table: &Segment,
+    only: Option<(u16, u16)>,
+    place: Option<u32>,
+)
     requires room { (h : Handle) → table.now.handle ≡ Some h → IsSome (presences.there_at (presences.presence banks.old.slots (Some h)))
         → table.now.head.length ≤ length (bytes_at banks.old h.slot) }
     ensures { IsRenewed only place table.now.handle table.now.head.length banks.old banks.new }
@@ -96,7 +101,7 @@ fn renew_table(banks: &mut Banks, table: &Segment, only: Option<(u16, u16)>, pla
 /// The entries of a user's tables for a segment, by file and number, or for all, lead to it at a place, or call the loader where it isn't
 /// active.
 pub fn renew_tables(
-    banks: &mut Banks,
+    banks: &mut CompactBanks,
     segments: &Vec<Segment>,
     only: Option<(u16, u16)>,
     place: Option<u32>,

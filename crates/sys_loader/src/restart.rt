@@ -5,7 +5,7 @@ ghost use Rattle.omf_io.specs.Counts.{one_more};
 ghost use Rattle.omf_io.specs.Files.{FileMap};
 ghost use Rattle.load_meaning.specs.Loadable.{IsLoadable};
 ghost use Rattle.iigs_meaning.specs.Fits.{IsWant};
-ghost use Rattle.iigs_meaning.specs.Puts.{Purges};
+ghost use Rattle.loader_machine.specs.Rule.{RoomRule};
 ghost use Rattle.iigs_meaning.specs.Memory.{AreAllPlaced};
 ghost use Rattle.loader_machine.specs.Heads.{head_of, wants_of};
 ghost use Rattle.loader_machine.specs.Heads as heads;
@@ -39,15 +39,15 @@ use crate::reading::load_of;
 use crate::turn::activate;
 use crate::user::{Segment, User};
 use crate::users::{set_life, set_lives, set_segments, user_in};
+use iigs_compact_memory::CompactBanks;
 use iigs_meaning::{Handle, PlaceFault, Want};
-use iigs_memory::Banks;
 use loader_machine::{Life, LoaderFault, Presence};
 use omf_cells::{LoadFile, Places};
 use omf_io::{Files, ReadFault};
 use std::alloc::AllocError;
 
 /// Whether a segment is there.
-fn is_there(banks: &Banks, handle: Option<Handle>) -> bool
+fn is_there(banks: &CompactBanks, handle: Option<Handle>) -> bool
     ensures { result ≡ presences.is_there (presences.presence banks.now.slots handle) }
 {
     match presence(banks, handle) {
@@ -59,14 +59,14 @@ fn is_there(banks: &Banks, handle: Option<Handle>) -> bool
 }
 
 /// Whether a segment is static and isn't there.
-fn is_missing(banks: &Banks, segment: &Segment) -> bool
+fn is_missing(banks: &CompactBanks, segment: &Segment) -> bool
     ensures { result ≡ (heads.is_static segment.now.head && not (presences.is_there (presences.presence banks.now.slots segment.now.handle))) }
 {
     is_static(&segment.head) && !is_there(banks, segment.handle)
 }
 
 /// Whether all static segments are there.
-fn are_there(banks: &Banks, segments: &Vec<Segment>) -> bool
+fn are_there(banks: &CompactBanks, segments: &Vec<Segment>) -> bool
     ensures { result ≡ steps.are_there banks.now.slots (map (λ s. s.head) segments.now.items) (map (λ s. s.handle) segments.now.items) 1 }
 {
     'segments: for segment in segments {
@@ -119,7 +119,7 @@ fn again_handle(segment: &Segment) -> Option<Handle>
 }
 
 /// The static segments, all of which are there, become active.
-fn activate_all(banks: &mut Banks, segments: &Vec<Segment>)
+fn activate_all(banks: &mut CompactBanks, segments: &Vec<Segment>)
     requires { steps.are_there banks.old.slots (map (λ s. s.head) segments.now.items) (map (λ s. s.handle) segments.now.items) 1 ≡ true }
     ensures { AreActivated (map restarting.static_handle segments.now.items) banks.old banks.new }
 {
@@ -133,7 +133,7 @@ fn activate_all(banks: &mut Banks, segments: &Vec<Segment>)
 
 /// Writes the segments that are read again into their blocks.
 fn fill_again(
-    banks: &mut Banks,
+    banks: &mut CompactBanks,
     load: &LoadFile<'_>,
     segments: &Vec<Segment>,
     places: &Places,
@@ -156,7 +156,7 @@ fn fill_again(
 
 /// Places blocks for all static segments, in order, in the place of all that the user has, or none.
 fn place_all_anew(
-    banks: &mut Banks,
+    banks: &mut CompactBanks,
     user: u16,
     segments: &Vec<Segment>,
     wants: &[Want],
@@ -166,7 +166,7 @@ fn place_all_anew(
     requires wants { wants.now ≡ wants_of (map (λ s. s.head) segments.now.items) }
     requires are { All IsWant wants.now }
     requires lengths { length handles.old ≡ length wants.now }
-    ensures placed { OnOk result (AreAllPlaced Purges banks.old user true wants.now handles.new banks.new) }
+    ensures placed { OnOk result (AreAllPlaced RoomRule banks.old user true wants.now handles.new banks.new) }
     ensures refused { IfErr result (IsBeginRefusal (released_memory banks.old user) user (map (λ s. s.head) segments.now.items)) }
     ensures err { OnErr result (banks.new ≡ banks.old) }
 {
@@ -418,7 +418,7 @@ impl Loader {
 
         // Over files that are told, and with which the loader agrees, it is the machine's step, and reads what that needs.
         ensures meets { (held : FileMap) (state : Machine) → (F.seen files.old).held ≡ Some held → Agrees held self.old state
-            → Meets Purges held state (Restart user) (load_reply result) self.new (F.seen files.old).faults (F.seen files.new).faults }
+            → Meets RoomRule held state (Restart user) (load_reply result) self.new (F.seen files.old).faults (F.seen files.new).faults }
         ensures needed { (held : FileMap) (state : Machine) → (F.seen files.old).held ≡ Some held → Agrees held self.old state
             → ReadsNeeded held state (Restart user) 0 (F.seen files.old).asked (F.seen files.new).asked }
 

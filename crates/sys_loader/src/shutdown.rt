@@ -3,7 +3,7 @@
 ghost use Rattle.std.specs.Prelude.{◌≡◌, true, false, List, [], Some, None, IsSome, map, option_map, vec_capacity, IfOk, IfErr};
 ghost use Rattle.omf_io.specs.Files.{FileMap};
 ghost use Rattle.iigs_meaning.specs.declared.handles.Handle.{Handle};
-ghost use Rattle.iigs_meaning.specs.Puts.{Purges};
+ghost use Rattle.loader_machine.specs.Rule.{RoomRule};
 ghost use Rattle.iigs_meaning.specs.Memory.{AreAllPlaced};
 ghost use Rattle.loader_machine.specs.State.{Machine, user_of, is_attached, family, handles_of_all, without_all};
 ghost use Rattle.loader_machine.specs.Refusals.{shut_down_refusal};
@@ -19,13 +19,13 @@ use crate::renew::renew_tables;
 use crate::turn::idle;
 use crate::user::{Segment, User};
 use crate::users::{attached_count, attached_in, remove, set_life, set_lives, user_in};
+use iigs_compact_memory::CompactBanks;
 use iigs_meaning::PlaceFault;
-use iigs_memory::Banks;
 use loader_machine::{Life, LoaderFault, Presence};
 
 /// Releases all handles of a user.
-fn release_all(banks: &mut Banks, user: u16)
-    ensures released { (handles : List Handle) × AreAllPlaced Purges banks.old user true [] handles banks.new }
+fn release_all(banks: &mut CompactBanks, user: u16)
+    ensures released { (handles : List Handle) × AreAllPlaced RoomRule banks.old user true [] handles banks.new }
 {
     match banks.place_all(user, true, &[], &mut []) {
         Ok(()) => {}
@@ -38,7 +38,7 @@ fn release_all(banks: &mut Banks, user: u16)
 }
 
 /// Lets the active ones of these segments go.
-fn idle_all(banks: &mut Banks, segments: &Vec<Segment>)
+fn idle_all(banks: &mut CompactBanks, segments: &Vec<Segment>)
     ensures { AreIdled (map (λ s. s.handle) segments.now.items) banks.old banks.new }
 {
     'places: for k in 0..segments.len() {
@@ -52,7 +52,7 @@ fn idle_all(banks: &mut Banks, segments: &Vec<Segment>)
 }
 
 /// Lets the active segments of a user go, and those of the users that are attached to it.
-fn idle_family(banks: &mut Banks, users: &Vec<Option<User>>, id: u16)
+fn idle_family(banks: &mut CompactBanks, users: &Vec<Option<User>>, id: u16)
     requires made { IsSome (user_of (map (option_map kept) users.now.items) id) }
     requires attached { AreAttached (map (option_map kept) users.now.items) }
     ensures { (k : Kept) → user_of (map (option_map kept) users.now.items) id ≡ Some k
@@ -66,7 +66,7 @@ fn idle_family(banks: &mut Banks, users: &Vec<Option<User>>, id: u16)
 }
 
 /// Releases all handles of the users that are attached to the user of an ID, which has one, and they are gone.
-fn drop_attached(banks: &mut Banks, users: &mut Vec<Option<User>>, id: u16)
+fn drop_attached(banks: &mut CompactBanks, users: &mut Vec<Option<User>>, id: u16)
     requires made { IsSome (user_of (map (option_map kept) users.old.items) id) }
     requires attached { AreAttached (map (option_map kept) users.old.items) }
     ensures released { (k : Kept) → user_of (map (option_map kept) users.old.items) id ≡ Some k → AreReleased k.attached banks.old banks.new }
@@ -168,7 +168,7 @@ impl Loader {
     pub fn shut_down(&mut self, user: u16, keep: bool) -> Result<(), LoaderFault>
         // Over files with which the loader agrees, it is the machine's step.
         ensures meets { (held : FileMap) (state : Machine) → Agrees held self.old state
-            → Met Purges held state (ShutDown user keep) (done_reply result) self.new }
+            → Met RoomRule held state (ShutDown user keep) (done_reply result) self.new }
 
         // And so much is true of it over any files.
         ensures did { DidShutDown self.old user keep result self.new }

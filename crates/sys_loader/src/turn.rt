@@ -5,8 +5,8 @@ ghost use Rattle.iigs_meaning.specs.Slots.{get};
 ghost use Rattle.iigs_meaning.specs.Memory.{Changes};
 ghost use Rattle.loader_machine.specs.Steps.{active_block, idle_block};
 
+use iigs_compact_memory::CompactBanks;
 use iigs_meaning::{BlockFault, Handle};
-use iigs_memory::Banks;
 
 /// The purge level of an active segment: it is never purged.
 const ACTIVE: u8 = 0;
@@ -15,7 +15,7 @@ const ACTIVE: u8 = 0;
 const IDLE: u8 = 3;
 
 // The level of a block that is there.
-fn set_level(banks: &mut Banks, h: Handle, level: u8)
+fn set_level(banks: &mut CompactBanks, h: Handle, level: u8)
     requires { IsSomeAnd (get banks.old.slots h) (λ block. IsSome block.at) }
     ensures { Changes banks.old h (λ block. record block { level = level }) banks.new }
 {
@@ -27,7 +27,7 @@ fn set_level(banks: &mut Banks, h: Handle, level: u8)
 }
 
 /// A segment's block that is there becomes idle: unlocked, with level 3.
-pub fn idle(banks: &mut Banks, h: Handle)
+pub fn idle(banks: &mut CompactBanks, h: Handle)
     requires { IsSomeAnd (get banks.old.slots h) (λ block. IsSome block.at) }
     ensures { Changes banks.old h idle_block banks.new }
 {
@@ -39,7 +39,7 @@ pub fn idle(banks: &mut Banks, h: Handle)
 }
 
 /// A segment's block that is there becomes active: locked, with level 0.
-pub fn activate(banks: &mut Banks, h: Handle)
+pub fn activate(banks: &mut CompactBanks, h: Handle)
     requires { IsSomeAnd (get banks.old.slots h) (λ block. IsSome block.at) }
     ensures { Changes banks.old h active_block banks.new }
 {

@@ -2,7 +2,7 @@
 
 ghost use Rattle.std.specs.Prelude.{◌≡◌, Some, IfOk, IfErr};
 ghost use Rattle.omf_io.specs.Files.{FileMap};
-ghost use Rattle.iigs_meaning.specs.Puts.{Purges};
+ghost use Rattle.loader_machine.specs.Rule.{RoomRule};
 ghost use Rattle.loader_machine.specs.State.{Machine};
 ghost use Rattle.loader_machine.specs.Commands.{UnloadSegment};
 ghost use Rattle.loader_machine.specs.Refusals.{unload_refusal};
@@ -63,7 +63,7 @@ impl Loader {
     pub fn unload_segment(&mut self, user: u16, segment: u16) -> Result<(), LoaderFault>
         // Over files with which the loader agrees, it is the machine's step.
         ensures meets { (held : FileMap) (state : Machine) → Agrees held self.old state
-            → Met Purges held state (UnloadSegment user segment) (done_reply result) self.new }
+            → Met RoomRule held state (UnloadSegment user segment) (done_reply result) self.new }
 
         // And so much is true of it over any files.
         ensures did { DidUnload self.old user segment result self.new }

@@ -6,7 +6,7 @@ use Rattle.std.proofs.lemmas.List.{map-append}
 use Rattle.std.proofs.lemmas.List.Sums.{sum_by-append}
 use Rattle.omf_io.specs.Counts.{one_more}
 use Rattle.omf_io.specs.Files.{FileMap}
-use Rattle.iigs_meaning.specs.Puts.{Purges}
+use Rattle.loader_machine.specs.Rule.{RoomRule}
 use Rattle.loader_machine.specs.declared.faults.LoaderFault.{LoaderFault}
 use Rattle.loader_machine.specs.declared.faults.LoaderFault.TheVariants as faults
 use Rattle.loader_machine.specs.State.{Machine, first_id, empty_of}
@@ -32,7 +32,7 @@ none_read held state command none behind = ([], none, inl (refl, [], 0, behind, 
 
 -- a call that reads no file
 pub quiet_step : (held : FileMap) (state : Machine) (command : Command) (reply : Reply) (outcome : Outcome) (new : Loaded) → IsReadFor held state command 0 0 → outcome ≡ outcome_of reply
-    → Met Purges held state command reply new → IsStep held state command outcome new
+    → Met RoomRule held state command reply new → IsStep held state command outcome new
 quiet_step held state command reply outcome new none is met = record {
   reply = reply;
   reads = 0;
@@ -45,12 +45,12 @@ quiet_step held state command reply outcome new none is met = record {
 
 -- such a call was done
 pub quiet_done : (command : Command) (reply : Reply) (outcome : Outcome) (old new : Loaded) → ((held : FileMap) (state : Machine) → IsReadFor held state command 0 0) → outcome ≡ outcome_of reply
-    → ((held : FileMap) (state : Machine) → Agrees held old state → Met Purges held state command reply new) → (held : FileMap) → HasDone held command outcome old new
+    → ((held : FileMap) (state : Machine) → Agrees held old state → Met RoomRule held state command reply new) → (held : FileMap) → HasDone held command outcome old new
 quiet_done command reply outcome old new none is meets held = λ state agrees. quiet_step held state command reply outcome new (none held state) is (meets held state agrees)
 
 -- or refused
 pub quiet_refused : (command : Command) (fault : LoaderFault) (E : Type 0) (result : Result Outcome E) (old new : Loaded) → ((held : FileMap) (state : Machine) → IsReadFor held state command 0 0)
-    → IfOk result (λ outcome. outcome ≡ Fails) → ((held : FileMap) (state : Machine) → Agrees held old state → Met Purges held state command (commands.Refused fault) new)
+    → IfOk result (λ outcome. outcome ≡ Fails) → ((held : FileMap) (state : Machine) → Agrees held old state → Met RoomRule held state command (commands.Refused fault) new)
     → IfOk result (λ outcome. (held : FileMap) → HasDone held command outcome old new)
 quiet_refused command fault E (Ok outcome) old new none is meets = quiet_done command (commands.Refused fault) outcome old new none is meets
 quiet_refused command fault E (Err short) old new none is meets = tt
@@ -61,29 +61,29 @@ module _ (command : Command) (old new : Loaded) (before now : Held) where
   -- it is answered as by the machine, and reads what that needs
   abbrev Reading' : Reply → Type 0
   Reading' reply = (held : FileMap) (state : Machine) → (seen before).held ≡ Some held → Agrees held old state
-      → Met Purges held state command reply new × ReadsNeeded held state command 0 before.asked now.asked
+      → Met RoomRule held state command reply new × ReadsNeeded held state command 0 before.asked now.asked
 
   never : 0 ≡ one_more 0 → ⊥
   never e = cc
 
   -- it reads one file at most, and memory didn't run out
   pub by_meets : (reply : Reply) → reply ≢ commands.Refused faults.Memory
-      → ((held : FileMap) (state : Machine) → (seen before).held ≡ Some held → Agrees held old state → Meets Purges held state command reply new 0 0)
+      → ((held : FileMap) (state : Machine) → (seen before).held ≡ Some held → Agrees held old state → Meets RoomRule held state command reply new 0 0)
       → ((held : FileMap) (state : Machine) → (seen before).held ≡ Some held → Agrees held old state → ReadsNeeded held state command 0 before.asked now.asked) → Reading' reply
   by_meets reply other meets needed = λ held state told agrees. (by_case held state (meets held state told agrees), needed held state told agrees)
     where
-      by_case : (held : FileMap) (state : Machine) → Meets Purges held state command reply new 0 0 → Met Purges held state command reply new
+      by_case : (held : FileMap) (state : Machine) → Meets RoomRule held state command reply new 0 0 → Met RoomRule held state command reply new
       by_case held state (inl met) = met.0
       by_case held state (inr (inl cannot)) = absurd (never cannot.5)
       by_case held state (inr (inr short)) = absurd (other short.0)
 
   -- it may read several
   pub by_reads : (reply : Reply) → reply ≢ commands.Refused faults.Memory
-      → ((held : FileMap) (state : Machine) → (seen before).held ≡ Some held → Agrees held old state → MeetsReads Purges held state command reply new (seen before) (seen now)) → Reading' reply
+      → ((held : FileMap) (state : Machine) → (seen before).held ≡ Some held → Agrees held old state → MeetsReads RoomRule held state command reply new (seen before) (seen now)) → Reading' reply
   by_reads reply other meets = λ held state told agrees. by_case held state (meets held state told agrees)
     where
-      by_case : (held : FileMap) (state : Machine) → MeetsReads Purges held state command reply new (seen before) (seen now)
-          → Met Purges held state command reply new × ReadsNeeded held state command 0 before.asked now.asked
+      by_case : (held : FileMap) (state : Machine) → MeetsReads RoomRule held state command reply new (seen before) (seen now)
+          → Met RoomRule held state command reply new × ReadsNeeded held state command 0 before.asked now.asked
       by_case held state (inl met) = (met.0, met.2)
       by_case held state (inr (inl cannot)) = absurd (never cannot.5)
       by_case held state (inr (inr short)) = absurd (other short.0)
@@ -145,6 +145,7 @@ entered_more counts (commands.SegmentIs presence size kind) = omega arith
 entered_more counts (commands.Placed handle address) = omega arith
 entered_more counts (commands.BlockIs state) = omega arith
 entered_more counts (commands.RoomIs count) = omega arith
+entered_more counts (commands.Moved count) = omega arith
 
 refused_more : (counts : Counts) (reply : Reply) → (counted (outcome_of reply) counts).refused ≡ counts.refused + count_by is_refused (reply ∷ [])
 refused_more counts (commands.Entered user segment offset address) = omega arith
@@ -160,6 +161,7 @@ refused_more counts (commands.SegmentIs presence size kind) = omega arith
 refused_more counts (commands.Placed handle address) = omega arith
 refused_more counts (commands.BlockIs state) = omega arith
 refused_more counts (commands.RoomIs count) = omega arith
+refused_more counts (commands.Moved count) = omega arith
 
 pub done_more : (held : FileMap) (commands : List Command) (counts new : Counts) (old loader : Loaded) (command : Command) (outcome : Outcome) → AreDone held commands counts old
     → HasDone held command outcome old loader → new ≡ counted outcome counts → AreDone held (commands ++ command ∷ []) new loader

@@ -3,7 +3,7 @@ use Rattle.std.proofs.Common.{◌≡◌, ℕ, zero, suc, ◌+◌, ◌%◌, ◌^�
 use Rattle.std.specs.Prelude.{sum}
 use Rattle.std.proofs.lemmas.List.Sums.{sum_by_more}
 use Rattle.omf_io.specs.Files.{FileMap}
-use Rattle.iigs_meaning.specs.Puts.{Purges}
+use Rattle.loader_machine.specs.Rule.{RoomRule}
 use Rattle.loader_machine.specs.declared.faults.LoaderFault.{LoaderFault}
 use Rattle.loader_machine.specs.declared.seen.Presence.{Presence}
 use Rattle.loader_machine.specs.State.{Machine, first_id}
@@ -23,15 +23,15 @@ sum_more so_far s i bytes within is =
 -- ---- one segment
 
 pub is_whole : (held : FileMap) (state : Machine) (number size kind : ℕ) (presence : Presence) (bytes : List ℕ) (loader : Loaded)
-    → Met Purges held state (Info first_id number) (SegmentIs presence size kind) loader → Met Purges held state (Bytes first_id number 0 size) (Shown bytes) loader → IsShown held state number bytes
+    → Met RoomRule held state (Info first_id number) (SegmentIs presence size kind) loader → Met RoomRule held state (Bytes first_id number 0 size) (Shown bytes) loader → IsShown held state number bytes
 is_whole held state number size kind presence bytes loader info shown = Whole presence size kind (info.0, info.1) (shown.0, shown.1)
 
 pub is_hidden : (held : FileMap) (state : Machine) (number size kind : ℕ) (presence : Presence) (fault : LoaderFault) (bytes : List ℕ) (loader : Loaded)
-    → Met Purges held state (Info first_id number) (SegmentIs presence size kind) loader → Met Purges held state (Bytes first_id number 0 size) (Refused fault) loader → bytes ≡ [] → IsShown held state number bytes
+    → Met RoomRule held state (Info first_id number) (SegmentIs presence size kind) loader → Met RoomRule held state (Bytes first_id number 0 size) (Refused fault) loader → bytes ≡ [] → IsShown held state number bytes
 is_hidden held state number size kind presence fault bytes loader info hidden none = IsHidden presence size kind fault (info.0, info.1) (hidden.0, hidden.1) none
 
 pub is_none : (held : FileMap) (state : Machine) (number : ℕ) (fault : LoaderFault) (bytes : List ℕ) (loader : Loaded)
-    → Met Purges held state (Info first_id number) (Refused fault) loader → bytes ≡ [] → IsShown held state number bytes
+    → Met RoomRule held state (Info first_id number) (Refused fault) loader → bytes ≡ [] → IsShown held state number bytes
 is_none held state number fault bytes loader info none = IsNone fault (info.0, info.1) none
 
 -- ---- all of them

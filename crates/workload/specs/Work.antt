@@ -1,7 +1,7 @@
 -- What a run of the workload comes to.
 use Rattle.std.specs.Prelude.{◌≡◌, ℕ, zero, suc, ◌+◌, ◌%◌, ◌^◌, List, [], sum, count_by}
 use Rattle.omf_io.specs.Files.{FileMap}
-use Rattle.iigs_meaning.specs.Puts.{Purges}
+use Rattle.loader_machine.specs.Rule.{RoomRule}
 use Rattle.loader_machine.specs.declared.faults.LoaderFault.{LoaderFault}
 use Rattle.loader_machine.specs.declared.seen.Presence.{Presence}
 use Rattle.loader_machine.specs.State.{Machine, first_id, empty_of}
@@ -12,7 +12,7 @@ use Rattle.workload.specs.Rounds.{banks, commands, is_entered, is_refused}
 
 -- the machine's reply to a command
 abbrev pub Replies : FileMap → Machine → Command → Reply → Type 0
-Replies held state command reply = (next : Machine) × Steps Purges held state command reply next
+Replies held state command reply = (next : Machine) × Steps RoomRule held state command reply next
 
 -- what stands in the segment with a number of the user that is made first, as the machine shows it: all LENGTH bytes where it is
 -- active, and nothing where it isn't, or where there is none

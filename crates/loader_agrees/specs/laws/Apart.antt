@@ -10,8 +10,8 @@ use Rattle.iigs_meaning.specs.Slots.{get}
 use Rattle.iigs_meaning.specs.Blocks.{AreApart}
 use Rattle.loader_machine.specs.declared.seen.Head.{Head}
 use Rattle.iigs_meaning.specs.Fits.{Slots}
-use Rattle.iigs_meaning.specs.Puts.{Purges}
-use Rattle.iigs_meaning.specs.laws.PlacementLaws.{purges_once}
+use Rattle.loader_machine.specs.Rule.{RoomRule}
+use Rattle.iigs_meaning.specs.laws.SlideRoomLaws.{purges_or_slides_once}
 use Rattle.loader_machine.specs.Heads.{head_of, at_number}
 use Rattle.loader_machine.specs.State.{User, Machine, first_id, user_of, handles_of}
 use Rattle.loader_machine.specs.Presences.{handle_at}
@@ -79,4 +79,4 @@ module _ (held : FileMap) (loader : Loaded) (state : Machine) (agrees : Agrees h
 -- in a state with which a sound loader agrees a command has one reply
 pub steps_once_there : StepsOnce
 steps_once_there held loader state agrees sound apart command one other next last p q =
-    steps_once held state Purges purges_once (is_apart held loader state agrees sound apart) command one other next last p q
+    steps_once held state RoomRule purges_or_slides_once (is_apart held loader state agrees sound apart) command one other next last p q

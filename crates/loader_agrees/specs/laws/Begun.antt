@@ -1,6 +1,6 @@
 -- A loader after a program was loaded.
 use Rattle.std.proofs.Common.{◌≡◌, ◌⊎◌, inl, inr, ℕ, zero, suc, Bool, true, false, cond, ◌==◌, ◌+◌, ◌<◌, ◌≤◌, List, [], ◌∷◌, length, map, Option, Some, None, IsSome, nat_lt, refl, sym, ap, subst, ◌∙◌, arith}
-use Rattle.std.specs.Prelude.{slice_get, slice_set, option_map, position, not, ◌&&◌}
+use Rattle.std.specs.Prelude.{slice_get, slice_set, option_map, not, ◌&&◌}
 use Rattle.std.specs.List.{prefix_len}
 use Rattle.std.specs.Option.{option_map_or, option_and_then}
 use Rattle.std.proofs.lemmas.Option.{same_Some}
@@ -15,10 +15,14 @@ use Rattle.iigs_meaning.specs.declared.slots.Content.{Content}
 use Rattle.iigs_meaning.specs.declared.slots.Content.TheVariants.{Free, Used, Retired}
 use Rattle.iigs_meaning.specs.declared.wants.Want.{Want}
 use Rattle.iigs_meaning.specs.declared.wants.Block.{Block}
-use Rattle.iigs_meaning.specs.Slots.{slot_at, new_slot, get, is_free, lowest_free, new_handle, after_take}
-use Rattle.iigs_meaning.specs.Placement.{can_purge, emptied_where, is_gone, emptied}
+use Rattle.iigs_meaning.specs.Slots.{slot_at, new_slot, get, used_value, is_free, is_free_content, lowest_free, new_handle, after_take}
+use Rattle.iigs_meaning.specs.Placement.{can_purge}
 use Rattle.iigs_meaning.specs.Fits.{Slots}
-use Rattle.iigs_meaning.specs.Puts.{Purges, Puts, PutsAll, placed}
+use Rattle.iigs_meaning.specs.Puts.{Puts, PutsAll, placed}
+use Rattle.loader_machine.specs.Rule.{RoomRule}
+use Rattle.iigs_meaning.specs.laws.Left.{IsLeft, AreLeft}
+use Rattle.iigs_meaning.specs.laws.SlideRoomLaws.{are_left}
+use Rattle.iigs_meaning.specs.laws.Left.IsLeft.{Unmoved, Emptied, Shifted}
 use Rattle.iigs_meaning.specs.Memory.{Memory}
 use Rattle.loader_machine.specs.declared.seen.Head.{Head}
 use Rattle.loader_machine.specs.Heads.{head_of, at_number, is_static, wants_of}
@@ -35,42 +39,36 @@ use Rattle.loader_agrees.specs.laws.Frame.{Keeps, Same, Gone, agrees_still}
 use Rattle.loader_agrees.specs.Acts.{HasPlaced, started_kept}
 use Rattle.loader_agrees.specs.laws.Lists.{number_map}
 use Rattle.loader_agrees.specs.laws.Seeing.{has_any}
-use Rattle.loader_agrees.specs.laws.Stay.{Stays, placement_keeps, all_stay, slot_map}
+use Rattle.loader_agrees.specs.laws.Stay.{Stays, placement_keeps, all_stay}
 
 -- ---- a block that was just placed
 
-emptied_free : (test : Block → Bool) (slot : Slot Block) → (is_free (emptied_where test slot) ≡ is_free slot) × ((emptied_where test slot).generation ≡ slot.generation)
-emptied_free test slot = go slot.generation slot.content
+left_free : (was now : Slot Block) → IsLeft was now → (is_free now ≡ is_free was) × (now.generation ≡ was.generation)
+left_free was now = go
   where
-    by_test : (t : Bool) (generation : ℕ) (b : Block)
-        → let new : Slot Block = cond t (record { generation = generation; content = Used (record b { at = None }) }) (record { generation = generation; content = Used b }) in (is_free new ≡ false) × (new.generation ≡ generation)
-    by_test true generation b = (refl, refl)
-    by_test false generation b = (refl, refl)
+    used : (block : Block) (content : Content Block) → used_value content ≡ Some block → is_free_content content ≡ false
+    used block Free e = absurd cc
+    used block Retired e = refl
+    used block (Used b) e = refl
 
-    go : (generation : ℕ) (content : Content Block) → let slot : Slot Block = record { generation = generation; content = content } in (is_free (emptied_where test slot) ≡ is_free slot) × ((emptied_where test slot).generation ≡ slot.generation)
-    go generation Free = (refl, refl)
-    go generation Retired = (refl, refl)
-    go generation (Used b) = by_test (test b) generation b
+    go : IsLeft was now → (is_free now ≡ is_free was) × (now.generation ≡ was.generation)
+    go (Unmoved e) = (ap is_free e, ap (λ (s : Slot Block). s.generation) e)
+    go (Emptied block at can e) = (ap is_free e ∙ sym (used block was.content at), ap (λ (s : Slot Block). s.generation) e)
+    go (Shifted block at can address e) = (ap is_free e ∙ sym (used block was.content at), ap (λ (s : Slot Block). s.generation) e)
 
-prefix_map : (p : Slot Block → Bool) (f : Slot Block → Slot Block) (slots : Slots) → ((slot : Slot Block) → p (f slot) ≡ p slot) → prefix_len (λ slot. not (p slot)) (map f slots) ≡ prefix_len (λ slot. not (p slot)) slots
-prefix_map p f [] same = refl
-prefix_map p f (slot ∷ slots) same =
-    ap (λ (t : Bool). cond (not t) (1 + prefix_len (λ x. not (p x)) (map f slots)) 0) (same slot)
-    ∙ ap (λ (n : ℕ). cond (not (p slot)) (1 + n) 0) (prefix_map p f slots same)
+prefix_left : (p : Slot Block → Bool) (xs ys : Slots) → length xs ≡ length ys → ((k : ℕ) → p (slot_at xs k) ≡ p (slot_at ys k)) → prefix_len (λ slot. not (p slot)) xs ≡ prefix_len (λ slot. not (p slot)) ys
+prefix_left p [] [] len same = refl
+prefix_left p [] (y ∷ ys) len same = absurd (omega arith)
+prefix_left p (x ∷ xs) [] len same = absurd (omega arith)
+prefix_left p (x ∷ xs) (y ∷ ys) len same =
+    ap (λ (t : Bool). cond (not t) (1 + prefix_len (λ z. not (p z)) xs) 0) (same 0)
+    ∙ ap (λ (n : ℕ). cond (not (p y)) (1 + n) 0) (prefix_left p xs ys (omega arith) (λ k. same (suc k)))
 
-position_map : (p : Slot Block → Bool) (f : Slot Block → Slot Block) (slots : Slots) → ((slot : Slot Block) → p (f slot) ≡ p slot) → position p (map f slots) ≡ position p slots
-position_map p f slots same =
-    ap (λ (n : ℕ). cond (nat_lt n (length (map f slots))) (Some n) None) (prefix_map p f slots same)
-    ∙ ap (λ (m : ℕ). cond (nat_lt (prefix_len (λ x. not (p x)) slots) m) (Some (prefix_len (λ x. not (p x)) slots)) None) (length-map slots f)
-
-pub emptied_lowest : (slots : Slots) (count : ℕ) → lowest_free (emptied slots count) ≡ lowest_free slots
-unfolding emptied
-emptied_lowest slots count = position_map is_free (emptied_where (is_gone slots count)) slots (λ slot. (emptied_free (is_gone slots count) slot).0)
-
-emptied_generation : (slots : Slots) (count place : ℕ) → (slot_at (emptied slots count) place).generation ≡ (slot_at slots place).generation
-unfolding emptied
-emptied_generation slots count place =
-    ap (λ (s : Slot Block). s.generation) (slot_map (emptied_where (is_gone slots count)) slots place refl) ∙ (emptied_free (is_gone slots count) (slot_at slots place)).1
+-- what leaves each slot free or used leaves the lowest free one
+pub left_lowest : (slots room : Slots) → AreLeft slots room → lowest_free room ≡ lowest_free slots
+left_lowest slots room left =
+    ap (λ (n : ℕ). cond (nat_lt n (length room)) (Some n) None) (prefix_left is_free room slots left.len (λ k. (left_free (slot_at slots k) (slot_at room k) (left.each k)).0))
+    ∙ ap (λ (m : ℕ). cond (nat_lt (prefix_len (λ x. not (is_free x)) slots) m) (Some (prefix_len (λ x. not (is_free x)) slots)) None) left.len
 
 take_here : (room : Slots) (value : Block) (h : Handle) (place : ℕ) → lowest_free room ≡ Some place → place ≡ h.slot → (slot_at room place).generation ≡ h.generation → get (after_take room value) h ≡ Some value
 take_here room value h place lowest slot generation =
@@ -87,15 +85,15 @@ take_here room value h place lowest slot generation =
         → get (slice_set room place (record { generation = (slot_at room place).generation; content = Used value })) h ≡ Some value
     at_slot p e here = rw (← e, here) (same (slot_at room place).generation h.generation generation)
 
-put_here : (slots : Slots) (count : ℕ) (value : Block) (h : Handle) → new_handle slots ≡ Some h → get (after_take (emptied slots count) value) h ≡ Some value
-put_here slots count value h is = go (lowest_free slots) refl is
+put_here : (slots room : Slots) → AreLeft slots room → (value : Block) (h : Handle) → new_handle slots ≡ Some h → get (after_take room value) h ≡ Some value
+put_here slots room left value h is = go (lowest_free slots) refl is
   where
-    go : (o : Option ℕ) → lowest_free slots ≡ o → option_map (λ place. let new : Handle = record { slot = place; generation = (slot_at slots place).generation } in new) o ≡ Some h → get (after_take (emptied slots count) value) h ≡ Some value
+    go : (o : Option ℕ) → lowest_free slots ≡ o → option_map (λ place. let new : Handle = record { slot = place; generation = (slot_at slots place).generation } in new) o ≡ Some h → get (after_take room value) h ≡ Some value
     go None e is = absurd cc
     go (Some place) e is =
         let slot : place ≡ h.slot = cc in
         let generation : (slot_at slots place).generation ≡ h.generation = cc in
-        take_here (emptied slots count) value h place (emptied_lowest slots count ∙ e) slot (emptied_generation slots count place ∙ generation)
+        take_here room value h place (left_lowest slots room left ∙ e) slot ((left_free (slot_at slots place) (slot_at room place) (left.each place)).1 ∙ generation)
 
 locked_cant : (block : Block) → block.locked ≡ true → can_purge block ≡ true → ⊥
 unfolding can_purge
@@ -107,21 +105,21 @@ locked_cant block locked can = go (Rattle.std.specs.Prelude.is_some block.at) bl
     go a false c e e' = cc
 
 -- a locked block stays through all placements
-locked_stays : (old new : Slots) (h : Handle) (block : Block) → Stays old new h → get old h ≡ Some block → block.locked ≡ true → get new h ≡ Some block
-locked_stays old new h block stays is locked = elim (stays block is) [
+locked_stays : (old new : Slots) (h : Handle) (block : Block) → Stays old new h → get old h ≡ Some block → block.movable ≡ false → block.locked ≡ true → get new h ≡ Some block
+locked_stays old new h block stays is fixed locked = elim (stays block is fixed) [
   | inl same ↦ same
   | inr gone ↦ absurd (locked_cant block locked gone.0)
 ]
 
 -- a new handle's block
-pub puts_here : (banks : List ℕ) (slots next : Slots) (want : Want) (user : ℕ) (locked : Bool) (level : ℕ) (h : Handle) → (puts : Puts Purges banks slots want user locked level false h next)
-    → get next h ≡ Some (placed want puts.address user locked level false)
-puts_here banks slots next want user locked level h puts =
-    ap (λ (t : Slots). get t h) (puts.next_is ∙ ap (λ (room : Slots). after_take room (placed want puts.address user locked level false)) puts.makes.room_is)
-    ∙ put_here slots puts.makes.count (placed want puts.address user locked level false) h puts.handle
+pub puts_here : (banks : List ℕ) (slots next : Slots) (want : Want) (user : ℕ) (locked : Bool) (level : ℕ) (movable : Bool) (h : Handle) → (puts : Puts RoomRule banks slots want user locked level movable h next)
+    → get next h ≡ Some (placed want puts.address user locked level movable)
+puts_here banks slots next want user locked level movable h puts =
+    ap (λ (t : Slots). get t h) puts.next_is
+    ∙ put_here slots puts.room (are_left banks slots want puts.address puts.room puts.makes) (placed want puts.address user locked level movable) h puts.handle
 
 -- each new handle is of a block of its want, locked with level 0
-pub all_placed : (banks : List ℕ) (user : ℕ) (slots last : Slots) (wants : List Want) (hs : List Handle) → PutsAll Purges banks user slots wants hs last → (i : ℕ) (h : Handle) → slice_get hs i ≡ Some h
+pub all_placed : (banks : List ℕ) (user : ℕ) (slots last : Slots) (wants : List Want) (hs : List Handle) → PutsAll RoomRule banks user slots wants hs last → (i : ℕ) (h : Handle) → slice_get hs i ≡ Some h
     → (want : Want) × (address : ℕ) × (slice_get wants i ≡ Some want) × (get last h ≡ Some (placed want address user true 0 false))
 all_placed banks user slots last [] [] all i h is = absurd cc
 all_placed banks user slots last [] (k ∷ hs) all i h is = absurd all
@@ -130,16 +128,16 @@ all_placed banks user slots last (want ∷ wants) (k ∷ hs) all zero h is =
     let handle : k ≡ h = same_Some k h is in
     let puts = all.1 in
     let value = placed want puts.address user true 0 false in
-    let here = puts_here banks slots all.0 want user true 0 k puts in
-    let there = locked_stays all.0 last k value (all_stay banks user all.0 last wants hs k all.2) here refl in
+    let here = puts_here banks slots all.0 want user true 0 false k puts in
+    let there = locked_stays all.0 last k value (all_stay banks user all.0 last wants hs k all.2) here refl refl in
     (want, puts.address, refl, ap (get last) (sym handle) ∙ there)
 all_placed banks user slots last (want ∷ wants) (k ∷ hs) all (suc i) h is = all_placed banks user all.0 last wants hs all.2 i h is
 
-pub all_active : (banks : List ℕ) (user : ℕ) (slots last : Slots) (wants : List Want) (hs : List Handle) → PutsAll Purges banks user slots wants hs last → (i : ℕ) (h : Handle) → slice_get hs i ≡ Some h
+pub all_active : (banks : List ℕ) (user : ℕ) (slots last : Slots) (wants : List Want) (hs : List Handle) → PutsAll RoomRule banks user slots wants hs last → (i : ℕ) (h : Handle) → slice_get hs i ≡ Some h
     → is_active (presence last (Some h)) ≡ true
 all_active banks user slots last wants hs all i h is = let there = all_placed banks user slots last wants hs all i h is in rw (there.3) refl
 
-pub all_length : (banks : List ℕ) (user : ℕ) (slots last : Slots) (wants : List Want) (hs : List Handle) → PutsAll Purges banks user slots wants hs last → length hs ≡ length wants
+pub all_length : (banks : List ℕ) (user : ℕ) (slots last : Slots) (wants : List Want) (hs : List Handle) → PutsAll RoomRule banks user slots wants hs last → length hs ≡ length wants
 all_length banks user slots last [] [] all = refl
 all_length banks user slots last [] (k ∷ hs) all = absurd all
 all_length banks user slots last (want ∷ wants) [] all = absurd all
@@ -208,10 +206,10 @@ may_load made few = let t : nat_lt made max_users ≡ true = grind arith in rw t
 
 -- a block that was there is kept while a program is placed
 pub begun_keeps : (old new : Memory) (path : List ℕ) (segments : List Segment) (id : ℕ) (entry : Option ℕ) → HasPlaced old path segments id entry new
-    → (h : Handle) → IsSome (get old.slots h) → Keeps old new h
-begun_keeps old new path segments id entry begun h live = elim (placement_keeps old begun.middle id (wants_of (map head_of segments)) begun.handles h begun.placed live) [
+    → (h : Handle) (block : Block) → get old.slots h ≡ Some block → block.movable ≡ false → Keeps old new h
+begun_keeps old new path segments id entry begun h block is fixed = elim (placement_keeps old begun.middle id (wants_of (map head_of segments)) begun.handles h begun.placed block is fixed) [
   | Same slot bytes ↦ Same (ap (λ (t : Slots). get t h) begun.slots ∙ slot)
-      (λ there. begun.stay h live ∙ bytes (subst (λ (t : Slots). IsSome (there_at (presence t (Some h)))) begun.slots there))
+      (λ there. begun.stay h (rw is refl) ∙ bytes (subst (λ (t : Slots). IsSome (there_at (presence t (Some h)))) begun.slots there))
   | Gone block was can gone ↦ Gone block was can (ap (λ (t : Slots). get t h) begun.slots ∙ gone)
 ]
 
@@ -264,13 +262,9 @@ module _ (held : FileMap) (old new : Loaded) (path : List ℕ) (segments : List 
       far_none : (file m : ℕ) → 2 ≤ file → target_with nowhere new.memory.slots kept.handles file m ≡ target_with far new.memory.slots kept.handles file m
       far_none file m above = let other : (file == 1) ≡ false = grind arith in rw other (sym (none file m))
 
-  keeps : (h : Handle) → IsSome (get old.memory.slots h) → Keeps old.memory new.memory h
-  keeps h live = begun_keeps old.memory new.memory path segments id entry begun h live
-
   pub others_agree : (far now : Far) (place : ℕ) (kept' : Kept) (user' : User) → slice_get old.users place ≡ Some (Some kept') → ((file n : ℕ) → 2 ≤ file → now file n ≡ far file n)
       → UserAgrees held old.memory far (first_id + place) kept' user' → UserAgrees held new.memory now (first_id + place) kept' user'
   others_agree far now place kept' user' made same was = agrees_still held old.memory new.memory far now (first_id + place) kept' user' was
       (λ n h found. let one = has_any old sound place kept' made n h found in
       let of' = sound.each place n one.0 h one.1 in
-      let live : IsSome (get old.memory.slots h) = rw of'.live refl in
-      keeps h live) same
+      begun_keeps old.memory new.memory path segments id entry begun h of'.block of'.live of'.fixed) same

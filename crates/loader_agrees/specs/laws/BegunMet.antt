@@ -6,7 +6,8 @@ use Rattle.std.proofs.lemmas.List.{length-map}
 use Rattle.omf_format.specs.File.{Segment}
 use Rattle.omf_io.specs.Files.{FileMap}
 use Rattle.load_meaning.specs.Pathnames.{paths_of}
-use Rattle.iigs_meaning.specs.Puts.{Purges, PutsAll}
+use Rattle.iigs_meaning.specs.Puts.{PutsAll}
+use Rattle.loader_machine.specs.Rule.{RoomRule}
 use Rattle.loader_machine.specs.Heads.{head_of, wants_of}
 use Rattle.loader_machine.specs.State.{User, Machine, first_id, max_users, ids_from, outline_of}
 use Rattle.loader_machine.specs.Found.{HoldsLoad, Good, Joins, AreJoined}
@@ -51,14 +52,14 @@ module _ (held : FileMap) (old new : Loaded) (state : Machine) (path : List ℕ)
       (λ j p other row. runtime_load held p other (rows_held held (paths_of segments) all joined j p other row))
       (all_reached holds.file segments (map (map head_of) all) holds.loadable none) begun.users
 
-  puts : PutsAll Purges state.banks id state.slots (wants_of (map head_of segments)) begun.placed.handles new.memory.slots
-  puts = rw (← agrees.banks, ← agrees.slots) (subst (PutsAll Purges old.memory.banks id old.memory.slots (wants_of (map head_of segments)) begun.placed.handles) (sym begun.placed.slots) begun.placed.placed.puts)
+  puts : PutsAll RoomRule state.banks id state.slots (wants_of (map head_of segments)) begun.placed.handles new.memory.slots
+  puts = rw (← agrees.banks, ← agrees.slots) (subst (PutsAll RoomRule old.memory.banks id old.memory.slots (wants_of (map head_of segments)) begun.placed.handles) (sym begun.placed.slots) begun.placed.placed.puts)
 
   id_is : id ≡ first_id + length state.users
   id_is = omega (arith, begun.id_is, same_count)
 
-  begins : Begins Purges state state.slots path (first_id + length state.users) segments (begun_users state (paths_of segments) all) (Started id entry) next
-  begins = subst (λ (n : ℕ). Begins Purges state state.slots path n segments
+  begins : Begins RoomRule state state.slots path (first_id + length state.users) segments (begun_users state (paths_of segments) all) (Started id entry) next
+  begins = subst (λ (n : ℕ). Begins RoomRule state state.slots path n segments
       (λ (user : User). state.users ++ Some (record user { attached = ids_from (n + 1) (length (paths_of segments)) }) ∷ joined_users (paths_of segments) all) (Started id entry) next) id_is (record {
         put = PutIn begun.placed.handles new.memory.slots;
         is_put = (rw (← agrees.slots) begun.placed.placed.enough, puts);
@@ -68,12 +69,12 @@ module _ (held : FileMap) (old new : Loaded) (state : Machine) (path : List ℕ)
   few : length state.users + 1 + length (paths_of segments) ≤ max_users
   few = omega (arith, begun.few, same_count)
 
-  loads : LoadsFound Purges held state path (Good segments) (Started id entry) next
+  loads : LoadsFound RoomRule held state path (Good segments) (Started id entry) next
   loads = rw (may_join (length state.users) (length (paths_of segments)) few) (Joins all, joined, rw none begins)
 
-  steps : Steps Purges held state (Load path) (Started id entry) next
+  steps : Steps RoomRule held state (Load path) (Started id entry) next
   steps = rw (may_load (length state.users) (omega (arith, few))) (Good segments, holds, loads)
 
   -- a load is the machine's step
-  pub load_met : Met Purges held state (Load path) (Started id entry) new
+  pub load_met : Met RoomRule held state (Load path) (Started id entry) new
   load_met = (next, steps, agrees_next)

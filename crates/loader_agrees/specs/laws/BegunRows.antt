@@ -98,7 +98,7 @@ module _ (held : FileMap) (old new : Loaded) (state : Machine) (path : List ℕ)
   all_kept : AllKept old new.memory
   all_kept p n head h has =
       let of' = sound.each p n head h has in
-      begun_keeps old.memory new.memory path segments id entry begun h (rw of'.live refl)
+      begun_keeps old.memory new.memory path segments id entry begun h of'.block of'.live of'.fixed
 
   -- no segment of a row's user is active
   none_active : (f n : ℕ) → far_of new.memory.slots (kept_outlines made) id f n ≡ None

@@ -10,7 +10,8 @@ use Rattle.iigs_meaning.specs.declared.wants.Want.{Want}
 use Rattle.iigs_meaning.specs.declared.wants.Block.{Block}
 use Rattle.iigs_meaning.specs.Slots.{get, slot_at}
 use Rattle.iigs_meaning.specs.Fits.{Slots, block_in}
-use Rattle.iigs_meaning.specs.Puts.{Purges, Puts, PutsAll, placed}
+use Rattle.iigs_meaning.specs.Puts.{Puts, PutsAll, placed}
+use Rattle.loader_machine.specs.Rule.{RoomRule}
 use Rattle.iigs_meaning.specs.Memory.{bytes_at}
 use Rattle.loader_machine.specs.declared.seen.Head.{Head}
 use Rattle.loader_machine.specs.declared.seen.Life.TheVariants.{Running, Dormant}
@@ -22,7 +23,7 @@ use Rattle.loader_agrees.specs.Agrees.{Kept, Loaded, AreAttached, IsCall, IsOf, 
 use Rattle.loader_agrees.specs.laws.Joining.{call_stays}
 use Rattle.load_meaning.specs.LoadTable.{target_at, entry_count}
 use Rattle.loader_agrees.specs.Acts.{HasPlaced, IsAdded, started_kept}
-use Rattle.loader_agrees.specs.laws.Stay.{put_stays, put_apart, still_live}
+use Rattle.loader_agrees.specs.laws.Stay.{put_apart, put_live}
 use Rattle.loader_agrees.specs.laws.Slotted.{in_put}
 use Rattle.loader_agrees.specs.laws.Begun.{puts_here, all_placed, all_active, all_length, spread_length, spread_static, decide, begun_keeps}
 use Rattle.loader_agrees.specs.laws.Keeping.{AllKept, of_kept, statics_kept, rests_kept, calls_kept}
@@ -30,23 +31,23 @@ use Rattle.loader_agrees.specs.laws.Keeping.{AllKept, of_kept, statics_kept, res
 -- ---- handles of one placement
 
 -- none is in the slot of a handle that was live before
-pub rest_apart : (banks : List ℕ) (user : ℕ) (slots last : Slots) (wants : List Want) (hs : List Handle) → PutsAll Purges banks user slots wants hs last → (h : Handle) → IsSome (get slots h)
+pub rest_apart : (banks : List ℕ) (user : ℕ) (slots last : Slots) (wants : List Want) (hs : List Handle) → PutsAll RoomRule banks user slots wants hs last → (h : Handle) → IsSome (get slots h)
     → (j : ℕ) (k : Handle) → slice_get hs j ≡ Some k → k.slot ≢ h.slot
 rest_apart banks user slots last [] [] all h live j k is = absurd cc
 rest_apart banks user slots last [] (x ∷ hs) all h live j k is = absurd all
 rest_apart banks user slots last (want ∷ wants) [] all h live j k is = absurd all
 rest_apart banks user slots last (want ∷ wants) (x ∷ hs) all h live zero k is = λ same.
-    put_apart banks slots all.0 want user true 0 x all.1 h live (sym (ap (λ (y : Handle). y.slot) (same_Some x k is) ∙ same))
+    put_apart banks slots all.0 want user true 0 false x all.1 h live (sym (ap (λ (y : Handle). y.slot) (same_Some x k is) ∙ same))
 rest_apart banks user slots last (want ∷ wants) (x ∷ hs) all h live (suc j) k is =
-    rest_apart banks user all.0 last wants hs all.2 h (still_live slots all.0 h (put_stays banks slots all.0 want user true 0 x all.1 h) live) j k is
+    rest_apart banks user all.0 last wants hs all.2 h (put_live banks slots all.0 want user true 0 false x all.1 h live) j k is
 
 abbrev pub AreDistinct : List Handle → Type 0
 AreDistinct hs = (i j : ℕ) (h k : Handle) → slice_get hs i ≡ Some h → slice_get hs j ≡ Some k → h.slot ≡ k.slot → i ≡ j
 
-new_live : (banks : List ℕ) (user : ℕ) (slots next : Slots) (want : Want) (h : Handle) → Puts Purges banks slots want user true 0 false h next → IsSome (get next h)
-new_live banks user slots next want h puts = rw (puts_here banks slots next want user true 0 h puts) refl
+new_live : (banks : List ℕ) (user : ℕ) (slots next : Slots) (want : Want) (h : Handle) → Puts RoomRule banks slots want user true 0 false h next → IsSome (get next h)
+new_live banks user slots next want h puts = rw (puts_here banks slots next want user true 0 false h puts) refl
 
-pub all_distinct : (banks : List ℕ) (user : ℕ) (slots last : Slots) (wants : List Want) (hs : List Handle) → PutsAll Purges banks user slots wants hs last → AreDistinct hs
+pub all_distinct : (banks : List ℕ) (user : ℕ) (slots last : Slots) (wants : List Want) (hs : List Handle) → PutsAll RoomRule banks user slots wants hs last → AreDistinct hs
 all_distinct banks user slots last [] [] all i j h k is is' same = absurd cc
 all_distinct banks user slots last [] (x ∷ hs) all i j h k is is' same = absurd all
 all_distinct banks user slots last (want ∷ wants) [] all i j h k is is' same = absurd all
@@ -58,14 +59,14 @@ all_distinct banks user slots last (want ∷ wants) (x ∷ hs) all (suc i) zero 
 all_distinct banks user slots last (want ∷ wants) (x ∷ hs) all (suc i) (suc j) h k is is' same = ap suc (all_distinct banks user all.0 last wants hs all.2 i j h k is is' same)
 
 -- a block that is there afterwards is in the slot of a new handle, or was there before, of the same user
-all_only : (banks : List ℕ) (user : ℕ) (slots last : Slots) (wants : List Want) (hs : List Handle) → PutsAll Purges banks user slots wants hs last → (n : ℕ) (block : Block) → block_in (slot_at last n) ≡ Some block
+all_only : (banks : List ℕ) (user : ℕ) (slots last : Slots) (wants : List Want) (hs : List Handle) → PutsAll RoomRule banks user slots wants hs last → (n : ℕ) (block : Block) → block_in (slot_at last n) ≡ Some block
     → ((i : ℕ) × (h : Handle) × (slice_get hs i ≡ Some h) × (h.slot ≡ n)) ⊎ ((was : Block) × (block_in (slot_at slots n) ≡ Some was) × (was.user ≡ block.user))
 all_only banks user slots last [] [] all n block is = inr (block, sym (ap (λ (t : Slots). block_in (slot_at t n)) all) ∙ is, refl)
 all_only banks user slots last [] (x ∷ hs) all n block is = absurd all
 all_only banks user slots last (want ∷ wants) [] all n block is = absurd all
 all_only banks user slots last (want ∷ wants) (x ∷ hs) all n block is = elim (all_only banks user all.0 last wants hs all.2 n block is) [
   | inl new ↦ inl (suc new.0, new.1, new.2, new.3)
-  | inr was ↦ elim (in_put banks slots all.0 want user true 0 x all.1 n was.0 was.1) [
+  | inr was ↦ elim (in_put banks slots all.0 want user true 0 false x all.1 n was.0 was.1) [
     | inl here ↦ inl (zero, x, refl, sym here.0)
     | inr before ↦ inr (before.0, before.1, before.2 ∙ was.2)
   ]
@@ -206,7 +207,7 @@ module _ (old new : Loaded) (path : List ℕ) (segments : List Segment) (id : �
   all_kept : AllKept old new.memory
   all_kept place number head h has =
       let of' = sound.each place number head h has in
-      begun_keeps old.memory new.memory path segments id entry begun h (rw of'.live refl)
+      begun_keeps old.memory new.memory path segments id entry begun h of'.block of'.live of'.fixed
 
   -- a user is an old one, or the new one
   abbrev Which : ℕ → Kept → Type 0
@@ -245,6 +246,7 @@ module _ (old new : Loaded) (path : List ℕ) (segments : List Segment) (id : �
         block = placed (want_of head) there.1 id true 0 false;
         live = ap (λ (t : Slots). get t h) begun.slots ∙ there.3 ∙ ap (λ (w : Want). Some (placed w there.1 id true 0 false)) want;
         user = refl;
+        fixed = refl;
         form = inl (refl, refl);
         want = want_size head;
         room = λ some. omega (arith, want_size head, begun.sizes h.slot, ap (λ (bs : List ℕ). length bs) zeros, length-replicate {A = ℕ} (want_of head).size 0);

@@ -45,6 +45,7 @@ of_kept old new id head h of' (Same slot bytes) = record {
   block = of'.block;
   live = slot ∙ of'.live;
   user = of'.user;
+  fixed = of'.fixed;
   form = of'.form;
   want = of'.want;
   room = λ there. let same = bytes (lies new.slots h of'.block (slot ∙ of'.live) there) in omega (arith, of'.room there, ap (λ (bs : List ℕ). length bs) same);
@@ -55,6 +56,7 @@ of_kept old new id head h of' (Gone block was can gone) =
       block = record block { at = None };
       live = gone;
       user = sym (ap (λ (b : Block). b.user) same) ∙ of'.user;
+      fixed = sym (ap (λ (b : Block). b.movable) same) ∙ of'.fixed;
       form = subst IsSegments same of'.form;
       want = omega (arith, of'.want, ap (λ (b : Block). b.want.size) same);
       room = λ there. absurd cc;

@@ -10,7 +10,7 @@ use Rattle.iigs_meaning.specs.Placement.{can_purge, emptied_where}
 use Rattle.iigs_meaning.specs.Blocks.{can_purge_of}
 use Rattle.iigs_meaning.specs.Memory.{Memory, IsPurged}
 use Rattle.iigs_meaning.specs.Fits.{Slots}
-use Rattle.iigs_meaning.specs.Puts.{Purges}
+use Rattle.loader_machine.specs.Rule.{RoomRule}
 use Rattle.loader_machine.specs.State.{Machine}
 use Rattle.loader_machine.specs.Refusals.{purge_refusal}
 use Rattle.loader_machine.specs.Commands.{Counted, Purge}
@@ -56,5 +56,5 @@ module _ (held : FileMap) (old new : Loaded) (state : Machine) (id count : ℕ) 
       let live : IsSome (get old.memory.slots h) = rw of'.live refl in
       purge_keeps old.memory new.memory id count h is live))
 
-  pub purge_met : Met Purges held state (Purge id) (Counted count) new
+  pub purge_met : Met RoomRule held state (Purge id) (Counted count) new
   purge_met = (next, (seen_by old id, is_seen held old state agrees id, rw passes (ap (λ (n : ℕ). Counted n) (rw (← agrees.slots) is.counted), refl)), agrees_next)

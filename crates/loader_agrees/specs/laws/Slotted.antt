@@ -13,10 +13,14 @@ use Rattle.iigs_meaning.specs.declared.wants.Want.{Want}
 use Rattle.iigs_meaning.specs.declared.wants.Block.{Block}
 use Rattle.iigs_meaning.specs.Slots.{slot_at, new_slot, get, used_value, lowest_free, new_handle, with_slot}
 use Rattle.iigs_meaning.specs.Fits.{Slots, block_in}
-use Rattle.iigs_meaning.specs.Placement.{emptied_where, emptied, is_gone}
-use Rattle.iigs_meaning.specs.Puts.{Purges, Puts, placed}
-use Rattle.loader_agrees.specs.laws.Stay.{slot_map}
-use Rattle.loader_agrees.specs.laws.Begun.{emptied_lowest}
+use Rattle.iigs_meaning.specs.Placement.{emptied_where}
+use Rattle.iigs_meaning.specs.Puts.{Puts, placed}
+use Rattle.iigs_meaning.specs.Slide.{moved_to}
+use Rattle.loader_machine.specs.Rule.{RoomRule}
+use Rattle.iigs_meaning.specs.laws.Left.{IsLeft, AreLeft}
+use Rattle.iigs_meaning.specs.laws.SlideRoomLaws.{are_left}
+use Rattle.iigs_meaning.specs.laws.Left.IsLeft.{Unmoved, Emptied, Shifted}
+use Rattle.loader_agrees.specs.laws.Begun.{left_lowest}
 
 -- a live handle's block is that in its slot
 pub live_block : (slots : Slots) (h : Handle) (block : Block) → get slots h ≡ Some block → block_in (slot_at slots h.slot) ≡ Some block
@@ -81,6 +85,12 @@ in_emptied test slot block = go slot.generation slot.content
     go generation Retired e = absurd cc
     go generation (Used b) e = (b, refl, by_test generation b (test b) e)
 
+-- a block in a slot that is left so was there before, of the same user
+pub in_left : (was now : Slot Block) (block : Block) → IsLeft was now → block_in now ≡ Some block → (b : Block) × (block_in was ≡ Some b) × (b.user ≡ block.user)
+in_left was now block (Unmoved e) is = (block, ap block_in (sym e) ∙ is, refl)
+in_left was now block (Emptied b at can e) is = (b, at, ap (λ (x : Block). x.user) (same_Some (record b { at = None }) block (ap block_in (sym e) ∙ is)))
+in_left was now block (Shifted b at can address e) is = (b, at, ap (λ (x : Block). x.user) (same_Some (moved_to address b) block (ap block_in (sym e) ∙ is)))
+
 lowest_is : (slots : Slots) (h : Handle) (place : ℕ) → new_handle slots ≡ Some h → lowest_free slots ≡ Some place → place ≡ h.slot
 lowest_is slots h place is low = go (lowest_free slots) low is
   where
@@ -89,19 +99,20 @@ lowest_is slots h place is low = go (lowest_free slots) low is
     go (Some p) e is = cc
 
 -- a block among slots in which one was put is the new one, or was there before, of the same user
-pub in_put : (banks : List ℕ) (slots next : Slots) (want : Want) (user : ℕ) (locked : Bool) (level : ℕ) (h : Handle) → (puts : Puts Purges banks slots want user locked level false h next)
+pub in_put : (banks : List ℕ) (slots next : Slots) (want : Want) (user : ℕ) (locked : Bool) (level : ℕ) (movable : Bool) (h : Handle) → (puts : Puts RoomRule banks slots want user locked level movable h next)
     → (n : ℕ) (block : Block) → block_in (slot_at next n) ≡ Some block
-    → ((n ≡ h.slot) × (block ≡ placed want puts.address user locked level false)) ⊎ ((was : Block) × (block_in (slot_at slots n) ≡ Some was) × (was.user ≡ block.user))
-unfolding emptied
-in_put banks slots next want user locked level h puts n block is =
+    → ((n ≡ h.slot) × (block ≡ placed want puts.address user locked level movable)) ⊎ ((was : Block) × (block_in (slot_at slots n) ≡ Some was) × (was.user ≡ block.user))
+in_put banks slots next want user locked level movable h puts n block is =
     go (lowest_free puts.room) refl (sym (ap (λ (t : Slots). block_in (slot_at t n)) puts.next_is) ∙ is)
   where
     value : Block
-    value = placed want puts.address user locked level false
+    value = placed want puts.address user locked level movable
+
+    left : AreLeft slots puts.room
+    left = are_left banks slots want puts.address puts.room puts.makes
 
     old : block_in (slot_at puts.room n) ≡ Some block → (was : Block) × (block_in (slot_at slots n) ≡ Some was) × (was.user ≡ block.user)
-    old e = in_emptied (is_gone slots puts.makes.count) (slot_at slots n) block
-        (sym (ap block_in (slot_map (emptied_where (is_gone slots puts.makes.count)) slots n refl)) ∙ sym (ap (λ (t : Slots). block_in (slot_at t n)) puts.makes.room_is) ∙ e)
+    old e = in_left (slot_at slots n) (slot_at puts.room n) block (left.each n) e
 
     go : (o : Option ℕ) → lowest_free puts.room ≡ o
         → block_in (slot_at (option_map_or (λ place. slice_set puts.room place (record { generation = (slot_at puts.room place).generation; content = Used value })) o puts.room) n) ≡ Some block
@@ -110,6 +121,6 @@ in_put banks slots next want user locked level h puts n block is =
     go (Some place) e is = elim (slot_set puts.room place (record { generation = (slot_at puts.room place).generation; content = Used value }) n) [
       | inl here ↦
           let same : value ≡ block = same_Some value block (sym (ap block_in here.1) ∙ is) in
-          inl (here.0 ∙ lowest_is slots h place puts.handle (sym (emptied_lowest slots puts.makes.count) ∙ ap lowest_free (sym puts.makes.room_is) ∙ e), sym same)
+          inl (here.0 ∙ lowest_is slots h place puts.handle (sym (left_lowest slots puts.room left) ∙ e), sym same)
       | inr was ↦ inr (old (sym (ap block_in was) ∙ is))
     ]

@@ -1,6 +1,7 @@
 -- What a placement leaves of the blocks that were there.
 use Rattle.std.proofs.Common.{◌≡◌, ◌≢◌, ◌⊎◌, inl, inr, ℕ, zero, suc, Bool, true, false, cond, ◌==◌, ◌<◌, List, [], ◌∷◌, length, map, Option, Some, None, IsSome, refl, sym, ap, subst, ◌∙◌, arith, get_or}
-use Rattle.std.specs.Prelude.{slice_set, ◌&&◌, nat_lt, Contains}
+use Rattle.std.specs.Prelude.{slice_set, ◌&&◌, not, is_some, Contains}
+use Rattle.std.proofs.lemmas.Option.{same_Some}
 use Rattle.std.specs.Option.{option_map, option_map_or, option_and_then}
 use Rattle.std.proofs.lemmas.List.{get_or-set_other}
 use Rattle.std.proofs.lemmas.List.Quantifiers.{position-Some}
@@ -13,18 +14,35 @@ use Rattle.iigs_meaning.specs.declared.wants.Want.{Want}
 use Rattle.iigs_meaning.specs.declared.wants.Block.{Block}
 use Rattle.iigs_meaning.specs.Slots.{slot_at, new_slot, get, used_value, is_free, is_free_content, lowest_free, new_handle, after_take}
 use Rattle.iigs_meaning.specs.Fits.{Slots, block_in}
-use Rattle.iigs_meaning.specs.Placement.{can_purge, is_gone, rank, emptied_where, emptied}
-use Rattle.iigs_meaning.specs.Puts.{Purges, Puts, PutsAll, placed}
+use Rattle.iigs_meaning.specs.Placement.{can_purge, emptied_where}
+use Rattle.iigs_meaning.specs.Puts.{Puts, PutsAll, placed}
+use Rattle.iigs_meaning.specs.Slide.{can_move, moved_to}
+use Rattle.loader_machine.specs.Rule.{RoomRule}
+use Rattle.iigs_meaning.specs.laws.Left.{IsLeft, AreLeft}
+use Rattle.iigs_meaning.specs.laws.SlideRoomLaws.{are_left}
+use Rattle.iigs_meaning.specs.laws.Left.IsLeft.{Unmoved, Emptied, Shifted}
 use Rattle.iigs_meaning.specs.Memory.{Memory, IsThere, AreAllPlaced}
 use Rattle.loader_machine.specs.Presences.{presence, lies_in, lies_at, there_at}
 use Rattle.loader_agrees.specs.laws.Frame.{Keeps, Same, Gone}
 
--- a live handle's block is as it was, or it was purgeable and is empty
+-- a live handle's block that isn't movable is as it was, or it was purgeable and is empty
 abbrev pub Stays : Slots → Slots → Handle → Type 0
-Stays old new h = (block : Block) → get old h ≡ Some block
+Stays old new h = (block : Block) → get old h ≡ Some block → block.movable ≡ false
     → (get new h ≡ Some block) ⊎ ((can_purge block ≡ true) × (get new h ≡ Some (record block { at = None })))
 
--- ---- purge
+-- a handle's block is as it was; or it was purgeable and is empty; or it moves, and is at another address
+pub data IsReached (block : Block) (now : Option Block) : Type 0 where
+  Kept : now ≡ Some block → IsReached block now
+  Purged : can_purge block ≡ true → now ≡ Some (record block { at = None }) → IsReached block now
+  Moved : can_move block ≡ true → (address : ℕ) → now ≡ Some (moved_to address block) → IsReached block now
+
+-- so it has a block
+pub reached_block : (block : Block) (now : Option Block) → IsReached block now → (b : Block) × (now ≡ Some b)
+reached_block block now (Kept e) = (block, e)
+reached_block block now (Purged can e) = (record block { at = None }, e)
+reached_block block now (Moved can address e) = (moved_to address block, e)
+
+-- ---- room
 
 pub slot_map : (f : Slot Block → Slot Block) (slots : Slots) (place : ℕ) → f new_slot ≡ new_slot → slot_at (map f slots) place ≡ f (slot_at slots place)
 slot_map f [] place new = sym new
@@ -61,20 +79,29 @@ emptied_block test slot h block = go slot.generation slot.content
         let both = cond_some (generation == h.generation) b block e in
         subst (λ (x : Block). in_slot (emptied_where test (record { generation = generation; content = Used b })) h ≡ Some (cond (test x) (record x { at = None }) x)) both.1 (by_test generation b (test b) both.0)
 
-pub get_emptied : (slots : Slots) (count : ℕ) (h : Handle) (block : Block) → get slots h ≡ Some block
-    → get (emptied slots count) h ≡ Some (cond (is_gone slots count block) (record block { at = None }) block)
-unfolding emptied
-get_emptied slots count h block is =
-    get_is (map (emptied_where (is_gone slots count)) slots) h ∙ ap (λ (slot : Slot Block). in_slot slot h) (slot_map (emptied_where (is_gone slots count)) slots h.slot refl)
-    ∙ emptied_block (is_gone slots count) (slot_at slots h.slot) h block (sym (get_is slots h) ∙ is)
-
-pub gone_can : (slots : Slots) (count : ℕ) (block : Block) → is_gone slots count block ≡ true → can_purge block ≡ true
-unfolding is_gone
-gone_can slots count block is = go (can_purge block) (nat_lt (rank slots block) count) is
+-- what a live handle reaches in a slot that is left so
+left_in : (was now : Slot Block) (h : Handle) (block : Block) → IsLeft was now → in_slot was h ≡ Some block → IsReached block (in_slot now h)
+unfolding in_slot
+left_in was now h block left is = go left
   where
-    go : (a b : Bool) → (a && b) ≡ true → a ≡ true
-    go true b e = refl
-    go false b e = e
+    both : (b : Bool) (o : Option Block) → cond b o None ≡ Some block → (b ≡ true) × (o ≡ Some block)
+    both true o e = (refl, e)
+    both false o e = absurd cc
+
+    here : ((was.generation == h.generation) ≡ true) × (used_value was.content ≡ Some block)
+    here = both (was.generation == h.generation) (used_value was.content) is
+
+    go : IsLeft was now → IsReached block (cond (now.generation == h.generation) (used_value now.content) None)
+    go (Unmoved e) = Kept (rw e is)
+    go (Emptied b at can e) =
+        let one : b ≡ block = same_Some b block (sym at ∙ here.1) in
+        Purged (subst (λ (x : Block). can_purge x ≡ true) one can) (rw (e, here.0) (ap (λ (x : Block). Some (record x { at = None })) one))
+    go (Shifted b at can address e) =
+        let one : b ≡ block = same_Some b block (sym at ∙ here.1) in
+        Moved (subst (λ (x : Block). can_move x ≡ true) one can) address (rw (e, here.0) (ap (λ (x : Block). Some (moved_to address x)) one))
+
+pub get_left : (slots room : Slots) → AreLeft slots room → (h : Handle) (block : Block) → get slots h ≡ Some block → IsReached block (get room h)
+get_left slots room left h block is = rw (get_is room h) (left_in (slot_at slots h.slot) (slot_at room h.slot) h block (left.each h.slot) (sym (get_is slots h) ∙ is))
 
 -- ---- a new handle
 
@@ -114,29 +141,46 @@ new_apart slots k h is some same = go (lowest_free slots) refl is
 
 -- ---- one placement
 
-module _ (banks : List ℕ) (slots next : Slots) (want : Want) (user : ℕ) (locked : Bool) (level : ℕ) (k : Handle) (puts : Puts Purges banks slots want user locked level false k next) where
-  abbrev count : ℕ
-  count = puts.makes.count
+pub cant_move : (block : Block) → block.movable ≡ false → can_move block ≡ true → ⊥
+unfolding can_move
+cant_move block fixed can = go (is_some block.at) block.movable (not block.locked) fixed can
+  where
+    go : (a b c : Bool) → b ≡ false → (a && b && c) ≡ true → ⊥
+    go true true c e e' = cc
+    go true false c e e' = cc
+    go false b c e e' = cc
 
+module _ (banks : List ℕ) (slots next : Slots) (want : Want) (user : ℕ) (locked : Bool) (level : ℕ) (movable : Bool) (k : Handle) (puts : Puts RoomRule banks slots want user locked level movable k next) where
   abbrev value : Block
-  value = placed want puts.address user locked level false
+  value = placed want puts.address user locked level movable
 
-  next_is : next ≡ after_take (emptied slots count) value
-  next_is = puts.next_is ∙ ap (λ (room : Slots). after_take room value) puts.makes.room_is
+  left : AreLeft slots puts.room
+  left = are_left banks slots want puts.address puts.room puts.makes
+
+  after_room : (h : Handle) → IsSome (get puts.room h) → get next h ≡ get puts.room h
+  after_room h live = ap (λ (t : Slots). get t h) puts.next_is ∙ take_stays puts.room value h live
+
+  pub put_reaches : (h : Handle) (block : Block) → get slots h ≡ Some block → IsReached block (get next h)
+  put_reaches h block is = go (get_left slots puts.room left h block is)
+    where
+      go : IsReached block (get puts.room h) → IsReached block (get next h)
+      go (Kept e) = Kept (after_room h (rw e refl) ∙ e)
+      go (Purged can e) = Purged can (after_room h (rw e refl) ∙ e)
+      go (Moved can address e) = Moved can address (after_room h (rw e refl) ∙ e)
 
   pub put_stays : (h : Handle) → Stays slots next h
-  put_stays h block is = go (is_gone slots count block) refl (get_emptied slots count h block is)
+  put_stays h block is fixed = elim (put_reaches h block is) [
+    | Kept e ↦ inl e
+    | Purged can e ↦ inr (can, e)
+    | Moved can address e ↦ absurd (cant_move block fixed can)
+  ]
+
+  pub put_live : (h : Handle) → IsSome (get slots h) → IsSome (get next h)
+  put_live h some = go (get slots h) refl some
     where
-      go : (t : Bool) → is_gone slots count block ≡ t → get (emptied slots count) h ≡ Some (cond (is_gone slots count block) (record block { at = None }) block)
-          → (get next h ≡ Some block) ⊎ ((can_purge block ≡ true) × (get next h ≡ Some (record block { at = None })))
-      go true e found =
-          let here : get (emptied slots count) h ≡ Some (record block { at = None }) = rw e at found in
-          let live : IsSome (get (emptied slots count) h) = rw here refl in
-          inr (gone_can slots count block e, ap (λ (t : Slots). get t h) next_is ∙ take_stays (emptied slots count) value h live ∙ here)
-      go false e found =
-          let here : get (emptied slots count) h ≡ Some block = rw e at found in
-          let live : IsSome (get (emptied slots count) h) = rw here refl in
-          inl (ap (λ (t : Slots). get t h) next_is ∙ take_stays (emptied slots count) value h live ∙ here)
+      go : (o : Option Block) → get slots h ≡ o → IsSome o → IsSome (get next h)
+      go None e is = absurd cc
+      go (Some block) e is = rw ((reached_block block (get next h) (put_reaches h block e)).1) refl
 
   pub put_apart : (h : Handle) → IsSome (get slots h) → h.slot ≢ k.slot
   put_apart h some = new_apart slots k h puts.handle some
@@ -146,42 +190,32 @@ unfolding can_purge
 empty_cant block e = cc
 
 pub stays_stays : (a b c : Slots) (h : Handle) → Stays a b h → Stays b c h → Stays a c h
-stays_stays a b c h one two block is = elim (one block is) [
-  | inl same ↦ two block same
-  | inr gone ↦ elim (two (record block { at = None }) gone.1) [
+stays_stays a b c h one two block is fixed = elim (one block is fixed) [
+  | inl same ↦ two block same fixed
+  | inr gone ↦ elim (two (record block { at = None }) gone.1 fixed) [
     | inl same ↦ inr (gone.0, same)
     | inr again ↦ absurd (empty_cant block again.0)
   ]
 ]
 
-pub still_live : (a b : Slots) (h : Handle) → Stays a b h → IsSome (get a h) → IsSome (get b h)
-still_live a b h stays = go (get a h) refl
-  where
-    go : (o : Option Block) → get a h ≡ o → IsSome o → IsSome (get b h)
-    go None e some = absurd cc
-    go (Some block) e some = elim (stays block e) [
-      | inl same ↦ rw same refl
-      | inr gone ↦ rw gone.1 refl
-    ]
-
 -- ---- all of a list
 
-pub all_stay : (banks : List ℕ) (user : ℕ) (slots last : Slots) (wants : List Want) (hs : List Handle) (h : Handle) → PutsAll Purges banks user slots wants hs last → Stays slots last h
-all_stay banks user slots last [] [] h all = λ block is. inl (ap (λ (t : Slots). get t h) all ∙ is)
+pub all_stay : (banks : List ℕ) (user : ℕ) (slots last : Slots) (wants : List Want) (hs : List Handle) (h : Handle) → PutsAll RoomRule banks user slots wants hs last → Stays slots last h
+all_stay banks user slots last [] [] h all = λ block is fixed. inl (ap (λ (t : Slots). get t h) all ∙ is)
 all_stay banks user slots last [] (k ∷ hs) h all = absurd all
 all_stay banks user slots last (want ∷ wants) [] h all = absurd all
 all_stay banks user slots last (want ∷ wants) (k ∷ hs) h all =
-    stays_stays slots all.0 last h (put_stays banks slots all.0 want user true 0 k all.1 h) (all_stay banks user all.0 last wants hs h all.2)
+    stays_stays slots all.0 last h (put_stays banks slots all.0 want user true 0 false k all.1 h) (all_stay banks user all.0 last wants hs h all.2)
 
-pub all_apart : (banks : List ℕ) (user : ℕ) (slots last : Slots) (wants : List Want) (hs : List Handle) (h : Handle) → PutsAll Purges banks user slots wants hs last → IsSome (get slots h)
+pub all_apart : (banks : List ℕ) (user : ℕ) (slots last : Slots) (wants : List Want) (hs : List Handle) (h : Handle) → PutsAll RoomRule banks user slots wants hs last → IsSome (get slots h)
     → (place : ℕ) (d : ℕ) → place < length (map (λ (k : Handle). k.slot) hs) → get_or (map (λ (k : Handle). k.slot) hs) place d ≢ h.slot
 all_apart banks user slots last [] [] h all some place d within = λ same. omega arith
 all_apart banks user slots last [] (k ∷ hs) h all some place d within = λ same. all
 all_apart banks user slots last (want ∷ wants) [] h all some place d within = λ same. all
-all_apart banks user slots last (want ∷ wants) (k ∷ hs) h all some zero d within = λ same. put_apart banks slots all.0 want user true 0 k all.1 h some (sym same)
+all_apart banks user slots last (want ∷ wants) (k ∷ hs) h all some zero d within = λ same. put_apart banks slots all.0 want user true 0 false k all.1 h some (sym same)
 all_apart banks user slots last (want ∷ wants) (k ∷ hs) h all some (suc place) d within =
     all_apart banks user all.0 last wants hs h all.2
-    (still_live slots all.0 h (put_stays banks slots all.0 want user true 0 k all.1 h) some) place d (omega arith)
+    (put_live banks slots all.0 want user true 0 false k all.1 h some) place d (omega arith)
 
 -- ---- memory
 
@@ -198,15 +232,11 @@ is_there memory h = go ((slot_at memory.slots h.slot).generation == h.generation
     go false o some = absurd cc
 
 -- a live handle that a placement doesn't make is kept
-pub placement_keeps : (old new : Memory) (user : ℕ) (wants : List Want) (hs : List Handle) (h : Handle) → AreAllPlaced Purges old user false wants hs new → IsSome (get old.slots h) → Keeps old new h
-placement_keeps old new user wants hs h all some = go (get old.slots h) refl some
+pub placement_keeps : (old new : Memory) (user : ℕ) (wants : List Want) (hs : List Handle) (h : Handle) → AreAllPlaced RoomRule old user false wants hs new → (block : Block) → get old.slots h ≡ Some block → block.movable ≡ false → Keeps old new h
+placement_keeps old new user wants hs h all block e fixed = elim (all_stay old.banks user old.slots new.slots wants hs h all.puts block e fixed) [
+  | inl same ↦ Same (same ∙ sym e) (λ there. all.kept.bytes h.slot apart (is_there new h there))
+  | inr gone ↦ Gone block e gone.0 gone.1
+]
   where
     apart : ¬ Contains (map (λ (k : Handle). k.slot) hs) h.slot
-    apart found = all_apart old.banks user old.slots new.slots wants hs h all.puts some found.0 h.slot found.1 found.2
-
-    go : (o : Option Block) → get old.slots h ≡ o → IsSome o → Keeps old new h
-    go None e is = absurd cc
-    go (Some block) e is = elim (all_stay old.banks user old.slots new.slots wants hs h all.puts block e) [
-      | inl same ↦ Same (same ∙ sym e) (λ there. all.kept.bytes h.slot apart (is_there new h there))
-      | inr gone ↦ Gone block e gone.0 gone.1
-    ]
+    apart found = all_apart old.banks user old.slots new.slots wants hs h all.puts (rw e refl) found.0 h.slot found.1 found.2

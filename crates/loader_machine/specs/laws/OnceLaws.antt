@@ -18,12 +18,15 @@ use Rattle.iigs_meaning.specs.Fits.{Slots, block_in, HoldsByte}
 use Rattle.iigs_meaning.specs.Blocks.{AreApart, state_of}
 use Rattle.iigs_meaning.specs.Puts.{MakesRoom, IsOnce, without_user}
 use Rattle.iigs_meaning.specs.Room.{IsRoom}
+use Rattle.iigs_meaning.specs.Slide.{count_moved}
+use Rattle.iigs_meaning.specs.laws.SlideLaws.{slides_once}
 use Rattle.loader_machine.specs.Heads.{Head, head_of, is_table, want_of, wants_of}
 use Rattle.loader_machine.specs.State.{User, Machine, Seen, fresh, held_at, first_id, user_of, handles_of}
 use Rattle.loader_machine.specs.Presences.{Presence, Absent, Purged, Idle, Active, presence, presence_at, handle_at, lies_in, lies_at}
 use Rattle.loader_machine.specs.Stands.{stands}
+use Rattle.loader_machine.specs.Alloc.{alloc_want, is_locked, level_in, is_movable}
 use Rattle.loader_machine.specs.Found.{HoldsFile, HoldsLoad, HoldsFault, HoldsRuntime, HoldsRuntimeFault, Found, Unread, Bad, Good, IsFound, IsRowFound, Joined, Stops, Joins, JoinsFound, AreJoined, joined_behind}
-use Rattle.loader_machine.specs.Commands.{Command, Banks, Load, LoadSegment, UnloadSegment, Jsl, ShutDown, Restart, Purge, Poke, Bytes, Where, Info, Alloc, Free, Lock, Unlock, Level, StateOf, Room, Reply, Entered, Shown, SegmentIs, Placed, BlockIs, RoomIs}
+use Rattle.loader_machine.specs.Commands.{Command, Banks, Load, LoadSegment, UnloadSegment, Jsl, ShutDown, Restart, Purge, Poke, Bytes, Where, Info, Alloc, Free, Lock, Unlock, Level, StateOf, Room, Compact, Reply, Entered, Shown, SegmentIs, Placed, BlockIs, RoomIs, Moved}
 use Rattle.loader_machine.specs.Refusals.{Refuse, load_refusal, rows_refusal, purge_refusal, free_refusal, change_refusal, state_refusal}
 use Rattle.loader_machine.specs.Steps.{seen_of, Sees, IsSeen, Decides, Does, Either, with_slots, with_both, with_segment, active_block, changed, Put, NoSlots, Lacks, PutIn, Lands, Begins, lost_refusal, LoadsJoined, LoadsFound, StepsLoad, begun_users, again_users, setting_in, Outcome, OutOfSlots, OutOfRoom, Made, ComesAnew, ComesFirst, Activates, Answers, MakesActive, StandsIn, IsAt, Place, Nowhere, In, IsLocated, place_reply, EntersEntry, EntersSegment, Enters, target_at_code, address_of, no_jsl, StepsJsl, StepsShutDown, are_there, RestartsInPlace, StepsRestart, StepsAlloc, StepsChange, Steps}
 use Rattle.loader_machine.specs.Steps.StepsAlloc.{IsPlaced, HasNoHandle, HasNoRoom}
@@ -298,7 +301,7 @@ module _ (held : FileMap) (state : Machine) where
     first_same id user number want (Made x next) OutOfSlots p q = absurd (some_handle p.0 p.2.handle q)
     first_same id user number want (Made x next) OutOfRoom p q = absurd (q.1 p.2.address p.2.room p.2.makes)
     first_same id user number want (Made x next) (Made y last) p q =
-        let same = puts_once Makes makes state.banks id true 0 state.slots want p.0 q.0 p.1 q.1 p.2 q.2 in
+        let same = puts_once Makes makes state.banks id true 0 false state.slots want p.0 q.0 p.1 q.1 p.2 q.2 in
         let place : x ≡ y = sym p.3 ∙ same.2 ∙ q.3 in
         ap (λ (n : ℕ). Made n next) place ∙ ap (λ (m : Machine). Made y m) (p.4
         ∙ ap (λ (k : Handle). with_both state id p.1 (Some (with_segment user number (fresh (Some k))))) same.0
@@ -355,18 +358,18 @@ module _ (held : FileMap) (state : Machine) where
 
     -- ---- the script's blocks
 
-    alloc_once : (want : Want) (locked : Bool) (level : ℕ) (one other : Reply) (next last : Machine) → StepsAlloc Makes state want locked level one next → StepsAlloc Makes state want locked level other last → AreSame one other next last
-    alloc_once want locked level one other next last (IsPlaced h x p r n) (IsPlaced k y q s m) =
-        let same = puts_once Makes makes state.banks 0 locked level state.slots want h k x y p q in
+    alloc_once : (want : Want) (locked : Bool) (level : ℕ) (movable : Bool) (one other : Reply) (next last : Machine) → StepsAlloc Makes state want locked level movable one next → StepsAlloc Makes state want locked level movable other last → AreSame one other next last
+    alloc_once want locked level movable one other next last (IsPlaced h x p r n) (IsPlaced k y q s m) =
+        let same = puts_once Makes makes state.banks 0 locked level movable state.slots want h k x y p q in
         (r ∙ ap (λ (j : Handle). Placed j p.address) same.0 ∙ ap (λ (a : ℕ). Placed k a) same.2 ∙ sym s, n ∙ ap (λ (t : Slots). with_slots state t) same.1 ∙ sym m)
-    alloc_once want locked level one other next last (IsPlaced h x p r n) (HasNoHandle e s m) = absurd (some_handle h p.handle e)
-    alloc_once want locked level one other next last (IsPlaced h x p r n) (HasNoRoom is lacks s m) = absurd (lacks p.address p.room p.makes)
-    alloc_once want locked level one other next last (HasNoHandle e r n) (IsPlaced k y q s m) = absurd (some_handle k q.handle e)
-    alloc_once want locked level one other next last (HasNoHandle e r n) (HasNoHandle f s m) = (r ∙ sym s, n ∙ sym m)
-    alloc_once want locked level one other next last (HasNoHandle e r n) (HasNoRoom is lacks s m) = absurd (no_handle (new_handle state.slots) e is)
-    alloc_once want locked level one other next last (HasNoRoom is lacks r n) (IsPlaced k y q s m) = absurd (lacks q.address q.room q.makes)
-    alloc_once want locked level one other next last (HasNoRoom is lacks r n) (HasNoHandle e s m) = absurd (no_handle (new_handle state.slots) e is)
-    alloc_once want locked level one other next last (HasNoRoom is lacks r n) (HasNoRoom is' lacks' s m) = (r ∙ sym s, n ∙ sym m)
+    alloc_once want locked level movable one other next last (IsPlaced h x p r n) (HasNoHandle e s m) = absurd (some_handle h p.handle e)
+    alloc_once want locked level movable one other next last (IsPlaced h x p r n) (HasNoRoom is lacks s m) = absurd (lacks p.address p.room p.makes)
+    alloc_once want locked level movable one other next last (HasNoHandle e r n) (IsPlaced k y q s m) = absurd (some_handle k q.handle e)
+    alloc_once want locked level movable one other next last (HasNoHandle e r n) (HasNoHandle f s m) = (r ∙ sym s, n ∙ sym m)
+    alloc_once want locked level movable one other next last (HasNoHandle e r n) (HasNoRoom is lacks s m) = absurd (no_handle (new_handle state.slots) e is)
+    alloc_once want locked level movable one other next last (HasNoRoom is lacks r n) (IsPlaced k y q s m) = absurd (lacks q.address q.room q.makes)
+    alloc_once want locked level movable one other next last (HasNoRoom is lacks r n) (HasNoHandle e s m) = absurd (no_handle (new_handle state.slots) e is)
+    alloc_once want locked level movable one other next last (HasNoRoom is lacks r n) (HasNoRoom is' lacks' s m) = (r ∙ sym s, n ∙ sym m)
 
     block_once : (h : Handle) (one other : Reply) (next last : Machine)
         → ((block : Block) × (get state.slots h ≡ Some block) × (one ≡ BlockIs (state_of block)) × (next ≡ state))
@@ -439,7 +442,8 @@ module _ (held : FileMap) (state : Machine) where
       steps_once (Where address) one other next last p q =
           (p.2 ∙ ap place_reply (located_once apart address p.0 q.0 p.1 q.1) ∙ sym q.2, p.3 ∙ sym q.3)
       steps_once (Info id number) one other next last p q = does_once id _ one other next last _ _ (λ user made x y. info_once id number user one other next last x y) p q
-      steps_once (Alloc want locked level) one other next last p q = alloc_once want locked level one other next last p q
+      steps_once (Alloc size attributes address) one other next last p q =
+          alloc_once (alloc_want size attributes address) (is_locked attributes) (level_in attributes) (is_movable attributes) one other next last p q
       steps_once (Free h) one other next last p q = decided (free_refusal state.slots h) one other next last _ _ (λ x y. (x.0 ∙ sym y.0, x.1 ∙ sym y.1)) p q
       steps_once (Lock h) one other next last p q = change_once h _ one other next last p q
       steps_once (Unlock h) one other next last p q = change_once h _ one other next last p q
@@ -447,3 +451,6 @@ module _ (held : FileMap) (state : Machine) where
       steps_once (StateOf h) one other next last p q = decided (state_refusal state.slots h) one other next last _ _ (λ x y. block_once h one other next last x y) p q
       steps_once Room one other next last p q =
           (p.2 ∙ ap (λ (n : ℕ). RoomIs n) (counts_once (IsRoom state.banks state.slots) (2 ^ 24) p.0 q.0 p.1 q.1) ∙ sym q.2, p.3 ∙ sym q.3)
+      steps_once Compact one other next last p q =
+          let same = slides_once state.banks state.slots p.0 q.0 p.1 q.1 in
+          (p.2 ∙ ap (λ (s : Slots). Moved (count_moved state.slots s)) same ∙ sym q.2, p.3 ∙ ap (with_slots state) same ∙ sym q.3)

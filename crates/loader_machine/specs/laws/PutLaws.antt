@@ -23,13 +23,13 @@ counts_once P _ _ _ (no_more limit p one has) (no_more _ q two has') = counts_on
 
 module _ (Makes : MakesRoom) (makes : IsOnce Makes) (banks : List ℕ) where
   -- under a new handle
-  module _ (user : ℕ) (locked : Bool) (level : ℕ) where
-    pub puts_once : (slots : Slots) (want : Want) (h k : Handle) (x y : Slots) → (p : Puts Makes banks slots want user locked level false h x) → (q : Puts Makes banks slots want user locked level false k y)
+  module _ (user : ℕ) (locked : Bool) (level : ℕ) (movable : Bool) where
+    pub puts_once : (slots : Slots) (want : Want) (h k : Handle) (x y : Slots) → (p : Puts Makes banks slots want user locked level movable h x) → (q : Puts Makes banks slots want user locked level movable k y)
         → (h ≡ k) × (x ≡ y) × (p.address ≡ q.address)
     puts_once slots want h k x y p q =
         let same = makes.room banks slots want p.address q.address p.room q.room p.makes q.makes in (
           same_Some h k (sym p.handle ∙ q.handle),
-          p.next_is ∙ ap (λ (r : Slots). after_take r (placed want p.address user locked level false)) same.1 ∙ ap (λ (n : ℕ). after_take q.room (placed want n user locked level false)) same.0 ∙ sym q.next_is,
+          p.next_is ∙ ap (λ (r : Slots). after_take r (placed want p.address user locked level movable)) same.1 ∙ ap (λ (n : ℕ). after_take q.room (placed want n user locked level movable)) same.0 ∙ sym q.next_is,
           same.0,
         )
 
@@ -55,7 +55,7 @@ module _ (Makes : MakesRoom) (makes : IsOnce Makes) (banks : List ℕ) where
     puts_all_once slots (want ∷ wants) [] ks x y p q = absurd p
     puts_all_once slots (want ∷ wants) (h ∷ hs) [] x y p q = absurd q
     puts_all_once slots (want ∷ wants) (h ∷ hs) (k ∷ ks) x y p q =
-        let first = puts_once user true 0 slots want h k p.0 q.0 p.1 q.1 in
+        let first = puts_once user true 0 false slots want h k p.0 q.0 p.1 q.1 in
         let rest = puts_all_once q.0 wants hs ks x y (subst (λ (m : Slots). PutsAll Makes banks user m wants hs x) first.1 p.2) q.2 in
         let handles : h ∷ hs ≡ k ∷ ks = cc (first.0, rest.0) in
         (handles, rest.1)
@@ -72,7 +72,7 @@ module _ (Makes : MakesRoom) (makes : IsOnce Makes) (banks : List ℕ) where
     none_lacks slots (w ∷ wants) (h ∷ hs) (k ∷ ks) zero want x y is p q lacks = absurd p
     none_lacks slots (w ∷ wants) (h ∷ hs) [] (suc i) want x y is p q lacks = absurd p
     none_lacks slots (w ∷ wants) (h ∷ hs) (k ∷ ks) (suc i) want x y is p q lacks =
-        let first = puts_once user true 0 slots w k h p.0 q.0 p.1 q.1 in
+        let first = puts_once user true 0 false slots w k h p.0 q.0 p.1 q.1 in
         none_lacks q.0 wants hs ks i want x y is (subst (λ (m : Slots). PutsAll Makes banks user m (take i wants) ks x) first.1 p.2) q.2 lacks
 
     take_get : (wants : List Want) (i j : ℕ) → i < j → slice_get (take j wants) i ≡ slice_get wants i

@@ -1,5 +1,5 @@
 -- What the commands of a script keep: the bounds of their values, and that `banks` is the first one and no later one.
-use Rattle.std.proofs.Common.{◌≡◌, ◌⊎◌, inl, inr, ℕ, zero, suc, map, ◌<◌, ◌≤◌, Bool, true, false, cond, List, [], ◌∷◌, length, Option, Some, None, Result, Ok, Err, refl, sym, ap, subst, arith}
+use Rattle.std.proofs.Common.{◌≡◌, ℕ, zero, suc, map, ◌<◌, ◌≤◌, Bool, true, false, cond, List, [], ◌∷◌, length, Option, Some, None, Result, Ok, Err, refl, sym, ap, subst, arith}
 use Rattle.std.specs.Prelude.{◌≢◌, ◌==◌, ◌&&◌, not, bytes_eq, codes, slice_index}
 use Rattle.std.specs.List.{AllByRecursion, list_all, list_any}
 use Rattle.std.proofs.lemmas.Bool.{and_parts, or_parts, leb-true, eqb-false}
@@ -8,12 +8,10 @@ use Rattle.loader_machine.specs.declared.script.ScriptCause.{ScriptCause}
 use Rattle.loader_machine.specs.declared.script.ScriptCause.TheVariants.{BadWord, UnknownCommand, BanksFirst, WrongCount, BadNumber}
 use Rattle.loader_machine.specs.declared.script.CommandName.{CommandName}
 use Rattle.loader_machine.specs.declared.script.CommandName.TheVariants as names
-use Rattle.omf_format.specs.Header.{has_attribute}
-use Rattle.iigs_meaning.specs.Fits.{IsWant}
-use Rattle.loader_machine.specs.Commands.{Command, Banks, Load, LoadSegment, UnloadSegment, Jsl, ShutDown, Restart, Purge, Poke, Bytes, Where, Info, Alloc, Free, Lock, Unlock, Level, StateOf, Room}
+use Rattle.loader_machine.specs.Commands.{Command, Banks, Load, LoadSegment, UnloadSegment, Jsl, ShutDown, Restart, Purge, Poke, Bytes, Where, Info, Alloc, Free, Lock, Unlock, Level, StateOf, Room, Compact}
 use Rattle.iigs_meaning.specs.Banks.{AreDistinctTo}
 use Rattle.omf_format.specs.Lines.{lines_of}
-use Rattle.loader_machine.specs.Script.{written, line_command, Give, IsScript, IsHandle, IsCommand, AreCommands, is_number, number_of, is_word, stands_twice, banks_of, load_of, are_jsl_numbers, jsl_of, is_manner, shut_down_of, are_poke_numbers, poke_of, bytes_of, are_bytes_numbers, level_in, alloc_want, are_alloc_numbers, alloc_of, one_number, two_numbers, given_by, handle_of, room_of, words_command, is_banks, is_in_turn, named, named_command, command_of, words_of, is_well_formed}
+use Rattle.loader_machine.specs.Script.{written, line_command, Give, IsScript, IsHandle, IsCommand, AreCommands, is_number, number_of, is_word, stands_twice, banks_of, load_of, are_jsl_numbers, jsl_of, is_manner, shut_down_of, are_poke_numbers, poke_of, bytes_of, are_bytes_numbers, are_alloc_numbers, alloc_of, one_number, two_numbers, given_by, handle_of, room_of, compact_of, words_command, is_banks, is_in_turn, named, named_command, command_of, words_of, is_well_formed}
 
 abbrev failed : ScriptCause → Result Command ScriptCause
 failed cause = Err cause
@@ -172,29 +170,19 @@ two_within most other (word ∷ second ∷ more ∷ words) n e = absurd cc
 handle_within : (n : ℕ) → n ≤ 0xFFFFFF → IsHandle (handle_of n)
 handle_within n le = (omega (arith, le), omega arith)
 
-alloc_is_want : (size attributes address : ℕ) → 1 ≤ size → IsWant (alloc_want size attributes address)
-unfolding alloc_want
-alloc_is_want size attributes address some = record { some = some; align = by (has_attribute 0x0004 attributes) }
-  where
-    IsAlign : ℕ → Type 0
-    IsAlign n = (n ≡ 1) ⊎ (n ≡ 0x100) ⊎ (n ≡ 0x10000)
-
-    by : (t : Bool) → IsAlign (cond t 0x100 1)
-    by true = inr (inl refl)
-    by false = inl refl
-
 alloc_keep : (words : List (List ℕ)) (command : Command) → alloc_of words ≡ Ok command → IsCommand false command
 unfolding alloc_of
 alloc_keep [] command e = let clash : failed WrongCount ≡ Ok command = e in absurd cc
 alloc_keep (size ∷ []) command e = let clash : failed WrongCount ≡ Ok command = e in absurd cc
 alloc_keep (size ∷ attributes ∷ []) command e = let clash : failed WrongCount ≡ Ok command = e in absurd cc
 alloc_keep (size ∷ attributes ∷ address ∷ []) command e =
-    let found : Command = Alloc (alloc_want (number_of size) (number_of attributes) (number_of address)) (has_attribute 0x8000 (number_of attributes)) (level_in (number_of attributes)) in
+    let found : Command = Alloc (number_of size) (number_of attributes) (number_of address) in
     let tests = or_err (are_alloc_numbers size attributes address) _ _ command e in
     let a = and_parts _ _ tests.0 in
     let b = and_parts _ _ a.0 in
+    let bits = and_parts _ _ b.1 in
     let sized = number_within 1 0x1000000 size b.0 in
-    let keep : IsCommand false found = (refl, alloc_is_want (number_of size) (number_of attributes) (number_of address) sized.0, omega arith) in
+    let keep : IsCommand false found = (refl, sized.0, sized.1, (number_within 0 0xFFFF attributes bits.0).1, bits.1, (number_within 0 0xFFFFFF address a.1).1) in
     subst (IsCommand false) (same_ok (Ok found) found command refl tests.1) keep
 alloc_keep (size ∷ attributes ∷ address ∷ more ∷ words) command e = let clash : failed WrongCount ≡ Ok command = e in absurd cc
 
@@ -202,6 +190,11 @@ room_keep : (words : List (List ℕ)) (command : Command) → room_of words ≡ 
 unfolding room_of
 room_keep [] command e = subst (IsCommand false) (same_ok (Ok Room) Room command refl e) refl
 room_keep (word ∷ words) command e = let clash : failed WrongCount ≡ Ok command = e in absurd cc
+
+compact_keep : (words : List (List ℕ)) (command : Command) → compact_of words ≡ Ok command → IsCommand false command
+unfolding compact_of
+compact_keep [] command e = subst (IsCommand false) (same_ok (Ok Compact) Compact command refl e) refl
+compact_keep (word ∷ words) command e = let clash : failed WrongCount ≡ Ok command = e in absurd cc
 
 words_keep : (name : CommandName) (words : List (List ℕ)) (command : Command) → list_all is_word words ≡ true → words_command name words ≡ Ok command → IsCommand (is_banks name) command
 unfolding words_command
@@ -250,6 +243,7 @@ words_keep names.Handle words command are e =
     let is = given (λ n. StateOf (handle_of n)) (one_number 0xFFFFFF words) command e in
     subst (IsCommand false) (sym is.2) (refl, handle_within is.0 (one_within 0xFFFFFF words is.0 is.1))
 words_keep names.Room words command are e = room_keep words command e
+words_keep names.Compact words command are e = compact_keep words command e
 
 in_turn : (banks is_first : Bool) → cond banks is_first (not is_first) ≡ true → is_first ≡ banks
 in_turn true true e = refl

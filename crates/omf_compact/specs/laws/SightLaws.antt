@@ -15,7 +15,8 @@ use Rattle.load_meaning.specs.Table.{entry_start}
 use Rattle.load_meaning.specs.Pathnames.{paths_of}
 use Rattle.load_meaning.specs.LoadTable.{targets_of, table_from, table_of}
 use Rattle.iigs_meaning.specs.Fits.{Slots}
-use Rattle.iigs_meaning.specs.Puts.{MakesRoom, Purges, without_user}
+use Rattle.iigs_meaning.specs.Puts.{MakesRoom, without_user}
+use Rattle.loader_machine.specs.Rule.{RoomRule}
 use Rattle.loader_machine.specs.Heads.{head_of, is_table, want_of, wants_of}
 use Rattle.loader_machine.specs.declared.seen.Head.{Head}
 use Rattle.loader_machine.specs.declared.faults.LoaderFault.{LoaderFault}
@@ -24,7 +25,7 @@ use Rattle.loader_machine.specs.State.{User, Machine, Seen, Pokes, first_id, han
 use Rattle.loader_machine.specs.Presences.{presence_at}
 use Rattle.loader_machine.specs.Stands.{Setting, entries_bytes, read_bytes, over, stands}
 use Rattle.loader_machine.specs.Found.{Found, Unread, Bad, Good, IsFound, IsRowFound, Joined, Stops, Joins, JoinsFound, AreJoined, joined_behind, reads_of}
-use Rattle.loader_machine.specs.Commands.{Command, Banks, Load, LoadSegment, UnloadSegment, Jsl, ShutDown, Restart, Purge, Poke, Bytes, Where, Info, Alloc, Free, Lock, Unlock, Level, StateOf, Room, Reply, Entered, SegmentIs, Refused}
+use Rattle.loader_machine.specs.Commands.{Command, Banks, Load, LoadSegment, UnloadSegment, Jsl, ShutDown, Restart, Purge, Poke, Bytes, Where, Info, Alloc, Free, Lock, Unlock, Level, StateOf, Room, Compact, Reply, Entered, SegmentIs, Refused}
 use Rattle.loader_machine.specs.Refusals.{Refuse, load_refusal, rows_refusal, load_segment_refusal, restart_refusal}
 use Rattle.loader_machine.specs.Steps.{Sees, IsSeen, Decides, Does, Either, Begins, IsPut, Lands, joined_user, joined_users, lost_from, lost_in, lost_refusal, begun_users, LoadsJoined, LoadsFound, StepsLoad, Activates, MakesActive, setting_in, StandsIn, IsAt, Place, Nowhere, In, IsLocated, EntersEntry, EntersSegment, Enters, target_at_code, address_of, no_jsl, StepsJsl, are_there, RestartsInPlace, again_users, StepsRestart, Steps}
 use Rattle.loader_machine.specs.Needs.{is_read, path_if, NeedsOf, Reaches, restart_reads, Needs, rows_if, rows_of, NeedsBehind, IsReadFor}
@@ -395,13 +396,14 @@ module _ (Makes : MakesRoom) (held other : FileMap) (there : Shows held other) (
       (reply, does held other there back state id _ reply next _ _ (λ user x. (x.0, stands_in held other there back state id number x.0 x.1, x.2, x.3)) is, SameReply refl)
   steps state (Where address) reply next is = (reply, (is.0, located state address is.0 is.1, is.2, is.3), SameReply refl)
   steps state (Info id number) reply next is = (reply, does held other there back state id _ reply next _ _ (λ user. tells state id number user reply next) is, SameReply refl)
-  steps state (Alloc want locked level) reply next is = (reply, is, SameReply refl)
+  steps state (Alloc size attributes address) reply next is = (reply, is, SameReply refl)
   steps state (Free h) reply next is = (reply, is, SameReply refl)
   steps state (Lock h) reply next is = (reply, is, SameReply refl)
   steps state (Unlock h) reply next is = (reply, is, SameReply refl)
   steps state (Level h level) reply next is = (reply, is, SameReply refl)
   steps state (StateOf h) reply next is = (reply, is, SameReply refl)
   steps state Room reply next is = (reply, is, SameReply refl)
+  steps state Compact reply next is = (reply, is, SameReply refl)
 
 -- ---- the files that a command reads
 
@@ -460,17 +462,18 @@ module _ (held other : FileMap) (there : Shows held other) (back : Shows other h
   needs state (Bytes id number at count) paths is = is
   needs state (Where address) paths is = is
   needs state (Info id number) paths is = is
-  needs state (Alloc want locked level) paths is = is
+  needs state (Alloc size attributes address) paths is = is
   needs state (Free h) paths is = is
   needs state (Lock h) paths is = is
   needs state (Unlock h) paths is = is
   needs state (Level h level) paths is = is
   needs state (StateOf h) paths is = is
   needs state Room paths is = is
+  needs state Compact paths is = is
 
   answered : (state : Machine) (command : Command) (reply : Reply) (others : ℕ) (next : Machine) → IsAnswered held state command reply others next
       → Alike (λ reply'. IsAnswered other state command reply' others next) reply
-  answered state command reply others next (inl is) = let one = steps Purges held other there back state command reply next is.0 in (one.0, inl (one.1, is.1), one.2)
+  answered state command reply others next (inl is) = let one = steps RoomRule held other there back state command reply next is.0 in (one.0, inl (one.1, is.1), one.2)
   answered state command reply others next (inr is) = (reply, inr (is.0, is.1, needs state command is.1 is.2, is.3, is.4, is.5), SameReply refl)
 
   -- the rows of a file, by what a read finds
@@ -502,13 +505,14 @@ module _ (held other : FileMap) (there : Shows held other) (back : Shows other h
   behind state (Bytes id number at count) rows reads is = is
   behind state (Where address) rows reads is = is
   behind state (Info id number) rows reads is = is
-  behind state (Alloc want locked level) rows reads is = is
+  behind state (Alloc size attributes address) rows reads is = is
   behind state (Free h) rows reads is = is
   behind state (Lock h) rows reads is = is
   behind state (Unlock h) rows reads is = is
   behind state (Level h level) rows reads is = is
   behind state (StateOf h) rows reads is = is
   behind state Room rows reads is = is
+  behind state Compact rows reads is = is
 
   reads_for : (state : Machine) (command : Command) (others reads : ℕ) → IsReadFor held state command others reads → IsReadFor other state command others reads
   reads_for state command others reads is = (

@@ -3,7 +3,7 @@ use Rattle.lib_dict.specs.declared.member.Member.{Member}
 use Rattle.link_meaning.specs.declared.form.LinkForm.TheVariants.{Program}
 use Rattle.link_meaning.specs.EmitFaults.{IsLinkedTo}
 use Rattle.link_resolve.specs.Resolved.{given_of, FewGiven, HavePaths}
-use Rattle.link_emit.specs.Answers.{IsLinkRefused}
+use Rattle.link_file.specs.Answers.{IsLinkRefused}
 use Rattle.link_emit.proofs.linking.link.Goals as goal
 
 pub link_with-requires-clause-few : goal.link_with-requires-clause-few

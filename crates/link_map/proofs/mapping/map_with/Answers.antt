@@ -2,8 +2,8 @@ use Rattle.std.proofs.Common.{◌≡◌, ◌+◌, ◌++◌, ℕ, List, length, a
 use Rattle.link_meaning.specs.Member.{Member}
 use Rattle.link_meaning.specs.Layout.{load_headers}
 use Rattle.link_meaning.specs.LinkedCells.{table_number}
-use Rattle.link_emit.proofs.FileFacts.{few_of}
-use Rattle.link_emit.proofs.LoadLaws.{loads_size}
+use Rattle.link_file.proofs.FileFacts.{few_of}
+use Rattle.link_file.proofs.LoadLaws.{loads_size}
 use Rattle.link_map.specs.MapText.{numbered, load_text}
 use Rattle.link_map.proofs.MapLaws.{map_is}
 use Rattle.link_map.proofs.mapping.map_with.Goals as goal

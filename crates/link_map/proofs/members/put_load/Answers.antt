@@ -4,7 +4,7 @@ use Rattle.omf_format.specs.Header.{Fields}
 use Rattle.omf_header.specs.View.{fields}
 use Rattle.link_meaning.specs.Member.{Member}
 use Rattle.link_meaning.specs.Layout.{load_headers}
-use Rattle.link_resolve.specs.Programs.{header_at}
+use Rattle.link_program.specs.Programs.{header_at}
 use Rattle.link_map.specs.MapText.{numbered, text_in, load_line, header_line, load_text}
 use Rattle.link_map.proofs.TextLaws.{same_some, some_none, both}
 use Rattle.link_map.proofs.members.put_load.Goals as goal

@@ -2,8 +2,8 @@ use Rattle.std.proofs.Common.{List, ap, ◌∙◌}
 use Rattle.std.specs.Prelude.{option_map}
 use Rattle.omf_records.specs.Segments.{shown}
 use Rattle.link_meaning.specs.Member.{Member}
-use Rattle.link_resolve.specs.Linked.{member_at}
-use Rattle.link_resolve.specs.Programs.{linked_at}
+use Rattle.link_program.specs.Linked.{member_at}
+use Rattle.link_program.specs.Programs.{linked_at}
 use Rattle.link_map.proofs.ListLaws.{untold_member, told_segment, untold_segment}
 use Rattle.link_map.proofs.members.put_member.Goals as goal
 

@@ -1,6 +1,6 @@
 use Rattle.std.proofs.Common.{◌≡◌, ◌+◌, ◌-◌, ◌≤◌, ◌++◌, List, length, take}
 use Rattle.link_meaning.specs.Member.{Setting, Member, members_from}
-use Rattle.link_resolve.specs.Linked.{Holds}
+use Rattle.link_program.specs.Linked.{Holds}
 use Rattle.link_resolve.proofs.gather.add_object.Given as goal
 
 -- the segments so far were added

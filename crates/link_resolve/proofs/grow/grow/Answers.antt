@@ -4,9 +4,9 @@ use Rattle.std.proofs.lemmas.List.{length-map}
 use Rattle.omf_records.specs.Segments.{shown}
 use Rattle.link_meaning.specs.Member.{objects, offers}
 use Rattle.link_meaning.specs.Search.{outside}
-use Rattle.link_resolve.specs.Offers.{told_origin}
-use Rattle.link_resolve.specs.Opening.{OpensNothing}
-use Rattle.link_resolve.proofs.LibraryLaws.{in_at, within_length}
+use Rattle.link_program.specs.Offers.{told_origin}
+use Rattle.link_program.specs.Opening.{OpensNothing}
+use Rattle.link_program.proofs.Lists.{in_at, within_length}
 use Rattle.link_resolve.proofs.GrowLaws.{unset, set_less, flag_free, cursor_goes, origin_of, origin_among, no_segment, short_body, outside_is, growing_start, growing_end, growing_more}
 use Rattle.link_resolve.proofs.grow.grow.Goals as goal
 

@@ -1,6 +1,6 @@
 use Rattle.std.proofs.Common.{inl, refl, sym, subst, arith}
 use Rattle.link_meaning.specs.LinkFaults.{IsResolved}
-use Rattle.link_resolve.specs.declared.program.Kept.{Kept}
+use Rattle.link_program.specs.declared.program.Kept.{Kept}
 use Rattle.link_resolve.proofs.ResolveLaws.{is_kept}
 use Rattle.link_resolve.proofs.resolving.finish.Goals as goal
 

@@ -1,8 +1,8 @@
 use Rattle.std.proofs.Common.{inl, refl, List, sym, ap, subst, arith}
 use Rattle.omf_format.specs.File.{Segment}
-use Rattle.link_resolve.specs.Gathered.{AllAmong}
+use Rattle.link_program.specs.Files.{AllAmong}
 use Rattle.link_meaning.specs.Member.{Setting}
-use Rattle.link_resolve.proofs.LinkedLaws.{count_is}
+use Rattle.link_program.proofs.LinkedLaws.{count_is}
 use Rattle.link_resolve.proofs.ResolveLaws.{list_outside, list_setting, refused_use, refused_layout, laid_out}
 use Rattle.link_resolve.proofs.resolving.lay_out_sound.Goals as goal
 

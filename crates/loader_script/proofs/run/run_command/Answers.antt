@@ -1,5 +1,5 @@
 use Rattle.omf_io.specs.Outside.{outside}
-use Rattle.loader_script.specs.View as view
+use Rattle.script_text.specs.View as view
 use Rattle.loader_script.proofs.Transcripts.{line_answered}
 use Rattle.loader_script.proofs.run.run_command.Goals as goal
 

@@ -2,7 +2,7 @@ use Rattle.std.proofs.Common.{Result, subst, arith}
 use Rattle.omf_io.specs.Outside.{outside}
 use Rattle.loader_machine.specs.Replies.{reply_line}
 use Rattle.loader_machine.specs.Commands as step
-use Rattle.loader_script.specs.View as view
+use Rattle.script_text.specs.View as view
 use Rattle.loader_script.specs.declared.run.Stop.{Stop}
 use Rattle.loader_script.specs.Running.{HasAnswered}
 use Rattle.loader_script.proofs.UnderWay.{no_loader, nothing_yet, first_answered, goes_past, stops_at, later_command, first_command, ended, ended_empty, no_memory}

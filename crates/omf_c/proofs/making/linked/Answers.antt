@@ -3,7 +3,7 @@ use Rattle.std.proofs.lemmas.Bool.{false≢true}
 use Rattle.link_meaning.specs.LinkFaults.{Given}
 use Rattle.link_meaning.specs.EmitFaults.{IsLinkedTo}
 use Rattle.link_resolve.specs.Resolved.{FewGiven, HavePaths}
-use Rattle.link_emit.specs.Answers.{IsLinkRefused}
+use Rattle.link_file.specs.Answers.{IsLinkRefused}
 use Rattle.omf_c.specs.Making.{Links, contents, link_given}
 use Rattle.omf_c.proofs.Faults.{link_first}
 use Rattle.omf_c.proofs.Files.{told_makes, given_same, named_paths}

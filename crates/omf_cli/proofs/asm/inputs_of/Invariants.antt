@@ -1,5 +1,5 @@
 use Rattle.std.proofs.Common.{◌≡◌, ◌∷◌, take}
-use Rattle.omf_cli.specs.Words.{words_of}
+use Rattle.omf_making.specs.Words.{words_of}
 use Rattle.omf_cli.proofs.asm.inputs_of.Given as goal
 
 -- the source's path and those of the macro files so far

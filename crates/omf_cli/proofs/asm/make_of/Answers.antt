@@ -1,5 +1,5 @@
 use Rattle.std.proofs.Common.{◌∙◌}
-use Rattle.omf_cli.specs.Made.{all_bytes}
+use Rattle.omf_making.specs.Made.{all_bytes}
 use Rattle.omf_cli.proofs.Sources.{told_making}
 use Rattle.omf_cli.proofs.asm.make_of.Goals as goal
 

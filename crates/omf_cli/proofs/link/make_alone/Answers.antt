@@ -4,7 +4,7 @@ use Rattle.std.specs.declared.alloc.Global.{Global}
 use Rattle.std.proofs.lemmas.List.{length-map}
 use Rattle.lib_dict.specs.declared.member.Member.{Member}
 use Rattle.link_resolve.specs.Resolved.{FewGiven, given_of}
-use Rattle.omf_cli.specs.Made.{all_bytes}
+use Rattle.omf_making.specs.Made.{all_bytes}
 use Rattle.omf_cli.proofs.Linking.{few_alone}
 use Rattle.omf_cli.proofs.link.make_alone.Goals as goal
 

@@ -4,8 +4,8 @@ use Rattle.std.specs.declared.alloc.Global.{Global}
 use Rattle.std.proofs.lemmas.List.{length-map}
 use Rattle.link_meaning.specs.LinkFaults.{Given}
 use Rattle.link_resolve.specs.Resolved.{FewGiven, HavePaths}
-use Rattle.omf_cli.specs.Words.{words_of}
-use Rattle.omf_cli.specs.Made.{all_bytes, made_of}
+use Rattle.omf_making.specs.Words.{words_of}
+use Rattle.omf_making.specs.Made.{all_bytes, made_of}
 use Rattle.omf_cli.specs.Link.{LinkMakes}
 use Rattle.omf_cli.proofs.Linking.{few_with, paths_with, given_parted}
 use Rattle.omf_cli.proofs.link.make_with.Goals as goal

@@ -2,14 +2,15 @@ use Rattle.std.proofs.Common.{inr, refl, List, ℕ, ap, subst, Vec, ◌∙◌}
 use Rattle.std.specs.declared.alloc.Global.{Global}
 use Rattle.omf_io.specs.Sinks.{SinkSeen}
 use Rattle.omf_io.specs.Outside.{outside}
-use Rattle.omf_cli.specs.declared.status.Status.TheVariants.{CannotRead, Refused}
-use Rattle.omf_cli.specs.Words.{words_of}
-use Rattle.omf_cli.specs.Made.{all_bytes, first_of}
-use Rattle.omf_cli.specs.Lines.{cannot_read_line, script_line}
-use Rattle.omf_cli.specs.ScriptCauses.{script_cause_name}
-use Rattle.omf_cli.specs.Printing.{IsPut}
+use Rattle.omf_making.specs.declared.status.Status.TheVariants.{CannotRead, Refused}
+use Rattle.omf_making.specs.Words.{words_of}
+use Rattle.omf_making.specs.Made.{all_bytes, first_of}
+use Rattle.omf_making.specs.Lines.{cannot_read_line, script_line}
+use Rattle.omf_making.specs.ScriptCauses.{script_cause_name}
+use Rattle.omf_making.specs.Printing.{IsPut}
 use Rattle.omf_cli.specs.Script.{ScriptSays}
-use Rattle.omf_cli.proofs.Runs.{put_line, script_says, begun, bad_script}
+use Rattle.omf_making.proofs.Runs.{put_line}
+use Rattle.omf_cli.proofs.Runs.{script_says, begun, bad_script}
 use Rattle.omf_cli.proofs.script.read_and_run.Goals as goal
 
 pub returns-in-Unread : goal.returns-in-Unread

@@ -1,4 +1,4 @@
-use Rattle.omf_cli.specs.Words.{words_of}
+use Rattle.omf_making.specs.Words.{words_of}
 use Rattle.omf_io.specs.Outside.{outside}
 use Rattle.omf_cli.proofs.Completes.{script_completes}
 use Rattle.omf_cli.proofs.script.run_file.Goals as goal

@@ -1,6 +1,6 @@
 use Rattle.std.proofs.Common.{Option, None, refl, sym, subst}
 use Rattle.loader_agrees.specs.Agrees.{Loaded}
-use Rattle.omf_cli.specs.declared.status.Status.TheVariants.{Done}
+use Rattle.omf_making.specs.declared.status.Status.TheVariants.{Done}
 use Rattle.omf_cli.specs.Stress.{HasEnded}
 use Rattle.omf_cli.proofs.Stressing.{ended_done, ended_other, ended_completes}
 use Rattle.omf_cli.proofs.stress.run_stress.Goals as goal

@@ -3,7 +3,7 @@ use Rattle.std.specs.Prelude.{Vec, ℕ}
 use Rattle.std.specs.declared.alloc.Global.{Global}
 use Rattle.std.proofs.lemmas.List.{length-map}
 use Rattle.link_meaning.specs.declared.form.LinkForm.TheVariants.{Program}
-use Rattle.omf_cli.specs.Made.{all_bytes}
+use Rattle.omf_making.specs.Made.{all_bytes}
 use Rattle.omf_cli.proofs.Linking.{few_alone}
 use Rattle.omf_map.proofs.map.make_map.Goals as goal
 

@@ -4,9 +4,9 @@ use Rattle.orca_object.proofs.After.{then_if}
 use Rattle.orca_object.proofs.data.do_constants.Goals as goal
 
 pub give_statement-requires-clause-plain : goal.give_statement-requires-clause-plain
-give_statement-requires-clause-plain c = constants_plain (constants c.known-known.result) c.args.kept.now.msb c.args.text.now c.in_ok-given.given c.know_small.ensures c.requires.text c.in_ok-given.ensures
+give_statement-requires-clause-plain c = constants_plain (constants c.known-known.result) c.args.kept.now.msb c.args.text.bytes.now c.in_ok-given.given c.know_small.ensures c.args.text.short c.in_ok-given.ensures
 
 pub returns : goal.returns
 returns c =
-    then_if c.give_statement.result (λ done leaves state l shows. constants_left state l (constants c.known-known.result) c.args.kept.now.msb c.args.label c.args.text.now c.in_ok-given.given done c.give_statement.new.kept c.in_ok-given.ensures
+    then_if c.give_statement.result (λ done leaves state l shows. constants_left state l (constants c.known-known.result) c.args.kept.now.msb c.args.label c.args.text.bytes.now c.in_ok-given.given done c.give_statement.new.kept c.in_ok-given.ensures
     (c.known-known.ensures state shows) shows.msb (leaves state shows)) c.give_statement.ensures

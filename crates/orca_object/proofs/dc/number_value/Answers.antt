@@ -3,9 +3,9 @@ use Rattle.orca_object.specs.PieceView.{pieces_answer}
 use Rattle.orca_object.proofs.Elementing.{closed_short, has_numbers}
 use Rattle.orca_object.proofs.dc.number_value.Goals as goal
 
-pub numbers_in-requires-clause-short : goal.numbers_in-requires-clause-short
-numbers_in-requires-clause-short c = closed_short c.args.text.now c.in-Some.inner.now c.in-Some.rest.now c.in-Some.ensures.text c.requires.short
+pub invariant_of-numbers_in : goal.invariant_of-numbers_in
+invariant_of-numbers_in c = record { short = closed_short c.args.text.bytes.now c.in-Some.inner.now c.in-Some.rest.now c.in-Some.ensures.text c.args.text.short }
 
 pub returns-in-Some-found-clause-found : goal.returns-in-Some-found-clause-found
 returns-in-Some-found-clause-found c =
-    has_numbers (constants c.args.known) c.args.width c.args.text.now c.in-Some.inner.now c.in-Some.rest.now (pieces_answer c.in-Some-found.answer) c.in-Some.ensures.text (rw c.in-Some-found.is at c.in_ok-found.ensures.found)
+    has_numbers (constants c.args.known) c.args.width c.args.text.bytes.now c.in-Some.inner.now c.in-Some.rest.now (pieces_answer c.in-Some-found.answer) c.in-Some.ensures.text (rw c.in-Some-found.is at c.in_ok-found.ensures.found)

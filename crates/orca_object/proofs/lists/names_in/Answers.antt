@@ -5,16 +5,16 @@ use Rattle.orca_object.proofs.NamesListed.{name_shorter, reads_more, reads_none,
 use Rattle.orca_object.proofs.lists.names_in.Goals as goal
 
 pub returns-in_default-clause-none : goal.returns-in_default-clause-none
-returns-in_default-clause-none c = reads_none c.args.text.now c.names.out.items c.names.left.now c.names.invariant (rw c.in_default.is at c.in_ok-name.ensures)
+returns-in_default-clause-none c = reads_none c.args.text.bytes.now c.names.out.items c.names.left.now c.names.invariant (rw c.in_default.is at c.in_ok-name.ensures)
 
 pub returns-in_default-behind_byte-clause-none : goal.returns-in_default-behind_byte-clause-none
 returns-in_default-behind_byte-clause-none c =
-    reads_wrong c.args.text.now c.names.out.items c.names.left.now c.in-Some.rest.now c.in-Some.name c.names.invariant (rw c.in-Some.is at c.in_ok-name.ensures)
+    reads_wrong c.args.text.bytes.now c.names.out.items c.names.left.now c.in-Some.rest.now c.in-Some.name c.names.invariant (rw c.in-Some.is at c.in_ok-name.ensures)
     (some_list c.in-Some.rest.now (sym c.is_empty.ensures ∙ c.if-is_empty.false)) c.in_default-behind_byte.ensures
 
 pub names-preserved : goal.names-preserved
 names-preserved c =
-    reads_more c.args.text.now c.names.out.items c.push.new.self.items c.names.left.now c.in-Some.rest.now c.in-Some-behind_byte.behind.now c.in-Some.name c.names.invariant (rw c.in-Some.is at c.in_ok-name.ensures)
+    reads_more c.args.text.bytes.now c.names.out.items c.push.new.self.items c.names.left.now c.in-Some.rest.now c.in-Some-behind_byte.behind.now c.in-Some.name c.names.invariant (rw c.in-Some.is at c.in_ok-name.ensures)
     c.in_ok-push.ensures.items c.in-Some-behind_byte.ensures
 
 pub names-smaller : goal.names-smaller

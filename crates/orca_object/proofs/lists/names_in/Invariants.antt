@@ -3,7 +3,7 @@ use Rattle.orca_object.proofs.NamesListed.{Reads}
 use Rattle.orca_object.proofs.lists.names_in.Given as goal
 
 abbrev pub invariant-names : goal.invariant-names
-invariant-names l = Reads l.text l.out.items l.left
+invariant-names l = Reads l.text.bytes.now l.out.items l.left
 
 abbrev pub decreases-names : goal.decreases-names
 decreases-names l = length l.left

@@ -7,7 +7,7 @@ use Rattle.orca_object.proofs.Judging.{FormulaStands}
 use Rattle.orca_object.proofs.numbers.numbers_in.Given as goal
 
 abbrev pub invariant-formulas : goal.invariant-formulas
-invariant-formulas l = Gathers FormulaStands (numbered (constants l.known) l.width) l.text l.fault (map piece l.out.items) l.left
+invariant-formulas l = Gathers FormulaStands (numbered (constants l.known) l.width) l.text.bytes.now l.fault (map piece l.out.items) l.left
 
 abbrev pub decreases-formulas : goal.decreases-formulas
 decreases-formulas l = length l.left

@@ -5,8 +5,8 @@ use Rattle.orca_object.proofs.After.{then_if}
 use Rattle.orca_object.proofs.segments.do_using.Goals as goal
 
 pub using-requires-clause-found : goal.using-requires-clause-found
-using-requires-clause-found c = subst IsSome (sym c.in_ok-found.ensures) (some_named c.args.text.now)
+using-requires-clause-found c = subst IsSome (sym c.in_ok-found.ensures) (some_named c.args.text.bytes.now)
 
 pub returns : goal.returns
 returns c =
-    then_if c.using.result (λ done leaves state line shows. using_left state line c.args.label c.in_ok-found.found c.args.text.now done c.using.new.kept c.in_ok-found.ensures (leaves state shows)) c.using.ensures
+    then_if c.using.result (λ done leaves state line shows. using_left state line c.args.label c.in_ok-found.found c.args.text.bytes.now done c.using.new.kept c.in_ok-found.ensures (leaves state shows)) c.using.ensures

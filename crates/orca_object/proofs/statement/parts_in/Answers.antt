@@ -11,35 +11,35 @@ use Rattle.orca_object.proofs.Stating.{stands_once, has_elements, no_elements, a
 use Rattle.orca_object.proofs.statement.parts_in.Goals as goal
 
 pub elements-init : goal.elements-init
-elements-init c = nothing_yet IsElementAt (element_pieces (constants c.args.known) c.args.msb) part_pieces c.args.text.now c.new-out.result.items c.new-out.ensures.items
+elements-init c = nothing_yet IsElementAt (element_pieces (constants c.args.known) c.args.msb) part_pieces c.args.text.bytes.now c.new-out.result.items c.new-out.ensures.items
 
-pub element_at-requires : goal.element_at-requires
-element_at-requires c = omega (arith, c.elements.invariant.short, c.requires)
+pub invariant_of-element_at : goal.invariant_of-element_at
+invariant_of-element_at c = record { short = omega (arith, c.elements.invariant.short, c.args.text.short) }
 
 pub returns-in_default-clause-none : goal.returns-in_default-clause-none
 returns-in_default-clause-none c =
-    no_elements c.args.text.now (gathers_none IsElementAt (element_pieces (constants c.args.known) c.args.msb) c.args.text.now c.elements.fault (map part_pieces c.elements.out.items) c.elements.left.now c.elements.invariant
+    no_elements c.args.text.bytes.now (gathers_none IsElementAt (element_pieces (constants c.args.known) c.args.msb) c.args.text.bytes.now c.elements.fault (map part_pieces c.elements.out.items) c.elements.left.now c.elements.invariant
     (rw c.in_default.is at c.in_ok-found.ensures.none))
 
 pub returns-then-is_empty-clause-found : goal.returns-then-is_empty-clause-found
 returns-then-is_empty-clause-found c =
     let f = rw c.in-Some.is at c.in_ok-found.ensures.found in
-    let all = gathers_last IsElementAt (element_pieces (constants c.args.known) c.args.msb) part_pieces c.args.text.now c.elements.fault c.gather.new.fault c.elements.out.items c.gather.new.out.items c.in-Some.answer
+    let all = gathers_last IsElementAt (element_pieces (constants c.args.known) c.args.msb) part_pieces c.args.text.bytes.now c.elements.fault c.gather.new.fault c.elements.out.items c.gather.new.out.items c.in-Some.answer
     c.elements.left.now c.in-Some.rest.now f.element c.elements.invariant f.is f.gives c.in_ok-gather.ensures.fault c.in_ok-gather.ensures.all (empty_list c.in-Some.rest.now (sym c.is_empty.ensures ∙ c.if-is_empty.true)) in
-    has_elements (constants c.args.known) c.args.msb c.args.text.now _
-    (subst (GathersAll IsElementAt (element_pieces (constants c.args.known) c.args.msb) c.args.text.now) (sym (all_parts c.gather.new.fault c.gather.new.out c.gathered.result c.gathered.ensures)) all)
+    has_elements (constants c.args.known) c.args.msb c.args.text.bytes.now _
+    (subst (GathersAll IsElementAt (element_pieces (constants c.args.known) c.args.msb) c.args.text.bytes.now) (sym (all_parts c.gather.new.fault c.gather.new.out c.gathered.result c.gathered.ensures)) all)
 
 pub returns-in_default-behind_byte-clause-none : goal.returns-in_default-behind_byte-clause-none
 returns-in_default-behind_byte-clause-none c =
     let f = rw c.in-Some.is at c.in_ok-found.ensures.found in
-    no_elements c.args.text.now (gathers_wrong IsElementAt (element_pieces (constants c.args.known) c.args.msb) stands_once c.args.text.now c.elements.fault (map part_pieces c.elements.out.items) c.elements.left.now c.in-Some.rest.now
+    no_elements c.args.text.bytes.now (gathers_wrong IsElementAt (element_pieces (constants c.args.known) c.args.msb) stands_once c.args.text.bytes.now c.elements.fault (map part_pieces c.elements.out.items) c.elements.left.now c.in-Some.rest.now
     f.element c.elements.invariant f.is (some_list c.in-Some.rest.now (sym c.is_empty.ensures ∙ c.if-is_empty.false)) c.in_default-behind_byte.ensures)
 
 pub elements-preserved : goal.elements-preserved
 elements-preserved c =
     let f = rw c.in-Some.is at c.in_ok-found.ensures.found in
     let comma : c.in-Some.rest.now ≡ 0x2C ∷ c.in-Some-behind_byte.behind.now = c.in-Some-behind_byte.ensures in
-    gathers_more IsElementAt (element_pieces (constants c.args.known) c.args.msb) part_pieces stands_once c.args.text.now c.elements.fault c.gather.new.fault c.elements.out.items c.gather.new.out.items c.in-Some.answer
+    gathers_more IsElementAt (element_pieces (constants c.args.known) c.args.msb) part_pieces stands_once c.args.text.bytes.now c.elements.fault c.gather.new.fault c.elements.out.items c.gather.new.out.items c.in-Some.answer
     c.elements.left.now c.in-Some.rest.now c.in-Some-behind_byte.behind.now f.element c.elements.invariant f.is f.gives c.in_ok-gather.ensures.fault c.in_ok-gather.ensures.all comma
     (omega (arith, ap length comma, element-le c.elements.left.now f.element c.in-Some.rest.now f.is))
 

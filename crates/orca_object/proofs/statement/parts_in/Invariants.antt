@@ -6,7 +6,7 @@ use Rattle.orca_object.proofs.Gathering.{Gathers}
 use Rattle.orca_object.proofs.statement.parts_in.Given as goal
 
 abbrev pub invariant-elements : goal.invariant-elements
-invariant-elements l = Gathers IsElementAt (element_pieces (constants l.known) l.msb) l.text l.fault (map part_pieces l.out.items) l.left
+invariant-elements l = Gathers IsElementAt (element_pieces (constants l.known) l.msb) l.text.bytes.now l.fault (map part_pieces l.out.items) l.left
 
 abbrev pub decreases-elements : goal.decreases-elements
 decreases-elements l = length l.left

@@ -3,15 +3,15 @@ use Rattle.orca_object.proofs.After.{then_if}
 use Rattle.orca_object.proofs.step.do_unlabelled.Goals as goal
 
 pub returns-in-End : goal.returns-in-End
-returns-in-End c = rw c.in-End.is (then_if c.do_end.result (λ done leaves state l shows. end_left state l c.args.label c.args.text.now done c.do_end.new.kept (leaves state shows)) c.do_end.ensures)
+returns-in-End c = rw c.in-End.is (then_if c.do_end.result (λ done leaves state l shows. end_left state l c.args.label c.args.text.bytes.now done c.do_end.new.kept (leaves state shows)) c.do_end.ensures)
 
 pub returns-in-Turn : goal.returns-in-Turn
 returns-in-Turn c =
-    rw c.in-Turn.is (then_if c.turning.result (λ done leaves state l shows. turn_left state l c.in-Turn.switch c.args.label c.args.text.now done c.turning.new.kept (leaves state shows)) c.turning.ensures)
+    rw c.in-Turn.is (then_if c.turning.result (λ done leaves state l shows. turn_left state l c.in-Turn.switch c.args.label c.args.text.bytes.now done c.turning.new.kept (leaves state shows)) c.turning.ensures)
 
 pub returns-in-Nothing : goal.returns-in-Nothing
-returns-in-Nothing c = rw c.in-Nothing.is (then_if c.rest.result (λ done leaves state l shows. nothing_left state l c.args.label c.args.text.now done c.rest.new.kept (leaves state shows)) c.rest.ensures)
+returns-in-Nothing c = rw c.in-Nothing.is (then_if c.rest.result (λ done leaves state l shows. nothing_left state l c.args.label c.args.text.bytes.now done c.rest.new.kept (leaves state shows)) c.rest.ensures)
 
 pub returns-in-Ignored : goal.returns-in-Ignored
 returns-in-Ignored c =
-    rw c.in-Ignored.is (then_if c.rest-in-Ignored.result (λ done leaves state l shows. ignored_left state l c.args.label c.args.text.now done c.rest-in-Ignored.new.kept (leaves state shows)) c.rest-in-Ignored.ensures)
+    rw c.in-Ignored.is (then_if c.rest-in-Ignored.result (λ done leaves state l shows. ignored_left state l c.args.label c.args.text.bytes.now done c.rest-in-Ignored.new.kept (leaves state shows)) c.rest-in-Ignored.ensures)

@@ -3,7 +3,8 @@ use Rattle.std.specs.Prelude.{option_map}
 use Rattle.std.proofs.lemmas.Option.{same_Some}
 use Rattle.iigs_meaning.specs.declared.handles.Handle.{Handle}
 use Rattle.iigs_meaning.specs.declared.wants.Want.{Want}
-use Rattle.iigs_meaning.specs.Puts.{Purges, without_user}
+use Rattle.iigs_meaning.specs.Puts.{without_user}
+use Rattle.loader_machine.specs.Rule.{RoomRule}
 use Rattle.iigs_meaning.specs.Memory.{AreAllPlaced}
 use Rattle.loader_machine.specs.declared.seen.Life.TheVariants.{Running}
 use Rattle.loader_machine.specs.Heads.{head_of, wants_of}
@@ -28,8 +29,8 @@ settle-requires-clause-placed c =
     c.args.plan.handles.items c.args.plan.handles.len c.in-Ok.ensures.placed.puts c.as_slice.ensures.value plan.handles' c.args.plan.handles.ok.0 c.as_slice-2.ensures.value in (
       released_memory c.self.inside.banks c.args.user,
       placed_freed c.self.inside.banks c.place_all_anew.new.banks c.args.user (wants_of (map head_of c.args.load.now)) c.as_slice-2.result.now
-          (subst (λ (ws : List Want). AreAllPlaced Purges c.self.inside.banks c.args.user true ws c.as_slice-2.result.now c.place_all_anew.new.banks) (c.as_slice.ensures.value ∙ plan.wants')
-          (subst (λ (hs : List Handle). AreAllPlaced Purges c.self.inside.banks c.args.user true c.as_slice.result.now hs c.place_all_anew.new.banks) (sym handles) c.in-Ok.ensures.placed)),
+          (subst (λ (ws : List Want). AreAllPlaced RoomRule c.self.inside.banks c.args.user true ws c.as_slice-2.result.now c.place_all_anew.new.banks) (c.as_slice.ensures.value ∙ plan.wants')
+          (subst (λ (hs : List Handle). AreAllPlaced RoomRule c.self.inside.banks c.args.user true c.as_slice.result.now hs c.place_all_anew.new.banks) (sym handles) c.in-Ok.ensures.placed)),
     )
 
 pub set_lives-requires-clause-made : goal.set_lives-requires-clause-made

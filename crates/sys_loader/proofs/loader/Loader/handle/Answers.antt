@@ -2,7 +2,7 @@ use Rattle.std.proofs.Common.{sym, ap, subst, ◌∙◌}
 use Rattle.iigs_meaning.specs.declared.wants.BlockState.{BlockState}
 use Rattle.iigs_meaning.specs.Slots.{get}
 use Rattle.iigs_meaning.specs.Fits.{Slots}
-use Rattle.iigs_meaning.specs.Puts.{Purges}
+use Rattle.loader_machine.specs.Rule.{RoomRule}
 use Rattle.loader_machine.specs.Refusals.{state_refusal}
 use Rattle.loader_agrees.specs.Agrees.{Loaded}
 use Rattle.loader_machine.specs.declared.faults.LoaderFault.TheVariants.{Stale}
@@ -17,7 +17,7 @@ pub returns-in-Ok-clause-meets : goal.returns-in-Ok-clause-meets
 returns-in-Ok-clause-meets c = λ held state agrees.
     let found = of_state c.self.inside.banks.slots c.args.h c.in-Ok.state c.in-Ok.ensures.state in
     let live = ap (λ (l : Loaded). get l.memory.slots c.args.h) (sym c.self.view_is) ∙ found.1 in
-    subst (λ (s : BlockState). Met Purges held state (StateOf c.args.h) (BlockIs s) c.args.self.now) (sym found.2) (state_met held c.args.self.now state agrees c.args.h found.0 live)
+    subst (λ (s : BlockState). Met RoomRule held state (StateOf c.args.h) (BlockIs s) c.args.self.now) (sym found.2) (state_met held c.args.self.now state agrees c.args.h found.0 live)
 
 pub returns-in-Err-Stale-clause-meets : goal.returns-in-Err-Stale-clause-meets
 returns-in-Err-Stale-clause-meets c = λ held state agrees.

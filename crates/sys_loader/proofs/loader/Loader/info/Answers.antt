@@ -1,6 +1,6 @@
 use Rattle.std.proofs.Common.{◌≡◌, ℕ, Some}
 use Rattle.std.specs.Prelude.{IfErr}
-use Rattle.iigs_meaning.specs.Puts.{Purges}
+use Rattle.loader_machine.specs.Rule.{RoomRule}
 use Rattle.loader_machine.specs.Refusals.{info_refusal}
 use Rattle.loader_agrees.specs.Agrees.{Loaded, Agrees, seen_by}
 use Rattle.std.specs.Prelude.{Result, Ok, Err, IfOk}
@@ -17,9 +17,9 @@ use Rattle.sys_loader.proofs.loader.Loader.info.Goals as goal
 
 meets : (loader : Loaded) (id number : ℕ) (result : Result Info LoaderFault) → IfOk result (λ info. HasTold loader id number info.presence info.length info.kind)
     → IfErr result (λ fault. info_refusal (seen_by loader id) number ≡ Some fault) → (held : FileMap) (state : Machine) → Agrees held loader state
-    → Met Purges held state (commands.Info id number) (info_reply result) loader
-meets loader id number (Ok info) told refused held state agrees = told_met held loader state agrees Purges id number info.presence info.length info.kind told
-meets loader id number (Err fault) told refused held state agrees = told_refused held loader state agrees Purges id number fault refused
+    → Met RoomRule held state (commands.Info id number) (info_reply result) loader
+meets loader id number (Ok info) told refused held state agrees = told_met held loader state agrees RoomRule id number info.presence info.length info.kind told
+meets loader id number (Err fault) told refused held state agrees = told_refused held loader state agrees RoomRule id number fault refused
 
 pub returns-clause-meets : goal.returns-clause-meets
 returns-clause-meets c = meets c.args.self.now c.args.user c.args.segment c.told.result c.told.ensures.told c.told.ensures.refused

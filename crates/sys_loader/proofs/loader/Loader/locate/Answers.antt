@@ -1,7 +1,7 @@
 use Rattle.std.proofs.Common.{◌≡◌, ℕ, Option, Some, None}
 use Rattle.std.specs.Prelude.{MatchOption}
 use Rattle.omf_io.specs.Files.{FileMap}
-use Rattle.iigs_meaning.specs.Puts.{Purges}
+use Rattle.loader_machine.specs.Rule.{RoomRule}
 use Rattle.loader_machine.specs.State.{Machine}
 use Rattle.loader_machine.specs.Commands as commands
 use Rattle.loader_agrees.specs.Agrees.{Loaded, Agrees, IsSound, Met}
@@ -15,9 +15,9 @@ use Rattle.sys_loader.proofs.loader.Loader.locate.Goals as goal
 meets : (loader : Loaded) (address : ℕ) (result : Option Entered) → IsSound loader.memory loader.users
     → MatchOption result ((id number offset : ℕ) → ¬ LiesIn loader address id number offset)
     (λ (entered : Entered). LiesIn loader address entered.user entered.segment entered.offset × (entered.address ≡ address))
-    → (held : FileMap) (state : Machine) → Agrees held loader state → Met Purges held state (commands.Where address) (where_reply result) loader
-meets loader address None sound none held state agrees = nowhere_met held loader state agrees Purges sound address none
-meets loader address (Some entered) sound some held state agrees = lies_met held loader state agrees Purges address entered.user entered.segment entered.offset some.0
+    → (held : FileMap) (state : Machine) → Agrees held loader state → Met RoomRule held state (commands.Where address) (where_reply result) loader
+meets loader address None sound none held state agrees = nowhere_met held loader state agrees RoomRule sound address none
+meets loader address (Some entered) sound some held state agrees = lies_met held loader state agrees RoomRule address entered.user entered.segment entered.offset some.0
 
 pub returns-clause-meets : goal.returns-clause-meets
 returns-clause-meets c = meets c.args.self.now c.args.address c.located.result c.is_sound.ensures c.located.ensures

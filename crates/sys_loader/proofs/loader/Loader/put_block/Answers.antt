@@ -10,7 +10,7 @@ use Rattle.sys_loader.proofs.loader.Loader.put_block.Goals as goal
 
 pub invariant_of-self : goal.invariant_of-self
 invariant_of-self c = (
-  alloc_sound (loaded c.self.inside.banks c.self.inside.users.items) c.args.want.now c.args.locked c.args.level c.place.result c.place.new.self c.self.invariant.0 c.place.ensures.placed c.place.ensures.err,
+  alloc_sound (loaded c.self.inside.banks c.self.inside.users.items) c.args.want.now c.args.locked c.args.level c.args.movable c.place.result c.place.new.self c.self.invariant.0 c.place.ensures.placed c.place.ensures.err,
   c.self.invariant.1,
 )
 

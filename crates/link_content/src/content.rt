@@ -1,0 +1,311 @@
+//! The content of a load segment, as it grows.
+
+ghost use Rattle.std.specs.Prelude.{◌≡◌, ◌≢◌, ◌+◌, ◌<◌, ◌≤◌, ◌^◌, ◌++◌, ◌∷◌, [], List, IsTrue, OnOk, OnErr, length, map, replicate};
+ghost use Rattle.omf_format.specs.Field.{is_count};
+ghost use Rattle.load_meaning.specs.Cells.{Cell, Byte};
+ghost use Rattle.link_meaning.specs.Fitting.{parts};
+ghost use Rattle.link_meaning.specs.LinkedCells.{zeros};
+ghost use Rattle.omf_cells.specs.Joined.{joined};
+ghost use Rattle.link_content.specs.Contents.{HoldsCells, IsPlaced};
+ghost use Rattle.link_content.specs.Holding.{Holding, or_lent, or_before, last_of};
+
+use omf_cells::Patch;
+use std::alloc::{AllocError, Global};
+use std::marker::Model;
+
+/// The bytes of a load segment so far, and the patches over them. As long as they are constants of inputs, one behind another,
+/// none is copied, and zeros at the end are only counted. Contracts see the bytes and the patches.
+#[derive(Drop)]
+pub struct Content<'a> {
+    /// Constants of inputs, which are all bytes as long as there are none in `own`.
+    lent: Vec<&'a [u8]>,
+    /// How many bytes those are.
+    lent_size: usize,
+    /// All bytes, if there are any here.
+    own: Vec<u8>,
+    /// How many zeros stand behind these, and aren't held.
+    behind: usize,
+    patches: Vec<Patch>,
+}
+
+impl<'a> Model for Content<'a> {
+    ghost use Rattle.std.specs.Prelude.{◌≡◌, ◌++◌, ◌<◌, ◌^◌, [], length, replicate};
+    ghost use Rattle.omf_cells.specs.Joined.{joined};
+    ghost use Rattle.link_content.specs.Holding.{Holding, AreInside, or_lent};
+
+    ghost Value = { Holding };
+
+    ghost view = { λ content. record { bytes = or_lent content.own.items (joined content.lent.items) ++ replicate content.behind 0; patches = content.patches.items } };
+
+    ghost invariant = { λ content. (content.lent_size ≡ length (joined content.lent.items)) × (content.own.items ≡ [] → content.patches.items ≡ [])
+        × AreInside (length content.own.items) content.patches.items × (content.lent_size < 2 ^ 33) × (content.behind < 2 ^ 33) };
+}
+
+/// Where the bytes of a content stand.
+pub enum Place<'h, 'a> {
+    /// In inputs, piece by piece.
+    Lent(&'h [&'a [u8]]),
+    /// Side by side.
+    Own(&'h [u8]),
+}
+
+/// Appends bytes.
+fn append(out: &mut Vec<u8>, bytes: &[u8]) -> Result<(), AllocError>
+    ensures ok { OnOk result (out.new.items ≡ out.old.items ++ bytes.now) }
+    ensures err { OnErr result (out.new.items ≡ out.old.items) }
+{
+    out.extend_from_slice(bytes)
+}
+
+/// Appends pieces, one behind another.
+fn append_all(out: &mut Vec<u8>, pieces: &[&[u8]]) -> Result<(), AllocError>
+    ensures { OnOk result (out.new.items ≡ out.old.items ++ joined pieces.now) }
+{
+    for piece in pieces {
+        out.extend_from_slice(*piece)?;
+    }
+    Ok(())
+}
+
+/// Appends so many zeros.
+fn append_zeros(out: &mut Vec<u8>, count: usize) -> Result<(), AllocError>
+    requires { count < 2 ^ 34 }
+    ensures ok { OnOk result (out.new.items ≡ out.old.items ++ replicate count 0) }
+    ensures err { OnErr result (out.new.items ≡ out.old.items) }
+{
+    let end = out.as_slice().len() + count;
+    out.resize(end, 0)
+}
+
+/// Copies what is lent, unless there are bytes of one's own.
+fn take_in(own: &mut Vec<u8>, lent: &[&[u8]]) -> Result<(), AllocError>
+    ensures ok { OnOk result (own.new.items ≡ or_lent own.old.items (joined lent.now)) }
+    ensures err { OnErr result (own.old.items ≡ []) }
+{
+    if own.is_empty() {
+        return append_all(own, lent);
+    }
+    Ok(())
+}
+
+/// Copies what is lent, unless there are bytes of one's own, and appends so many zeros.
+fn settle(own: &mut Vec<u8>, lent: &[&[u8]], zeros: usize) -> Result<(), AllocError>
+    requires { zeros < 2 ^ 34 }
+    ensures ok { OnOk result (own.new.items ≡ or_lent own.old.items (joined lent.now) ++ replicate zeros 0) }
+    ensures longer { own.old.items ≢ [] → length own.old.items ≤ length own.new.items }
+{
+    take_in(own, lent)?;
+    append_zeros(own, zeros)
+}
+
+/// Appends a piece.
+fn append_piece<'a>(pieces: &mut Vec<&'a [u8]>, piece: &'a [u8]) -> Result<(), AllocError>
+    ensures ok { OnOk result (joined pieces.new.items ≡ joined pieces.old.items ++ piece.now) }
+    ensures err { OnErr result (pieces.new.items ≡ pieces.old.items) }
+{
+    pieces.push(piece)?;
+    Ok(())
+}
+
+/// Appends a patch.
+fn append_patch(patches: &mut Vec<Patch>, patch: Patch) -> Result<(), AllocError>
+    ensures ok { OnOk result (patches.new.items ≡ patches.old.items ++ patch ∷ []) }
+    ensures err { OnErr result (patches.new.items ≡ patches.old.items) }
+{
+    patches.push(patch)?;
+    Ok(())
+}
+
+/// The last byte, if there is one.
+fn last_of(bytes: &[u8]) -> Option<u8>
+    ensures { result ≡ last_of bytes.now }
+{
+    bytes.last().copied()
+}
+
+/// A byte, or else the one before it.
+fn later(byte: Option<u8>, before: Option<u8>) -> Option<u8>
+    ensures { result ≡ or_before byte before }
+{
+    match byte {
+        Some(byte) => Some(byte),
+        None => before,
+    }
+}
+
+/// The last byte of pieces, if there is one.
+fn last_in(pieces: &[&[u8]]) -> Option<u8>
+    ensures { result ≡ last_of (joined pieces.now) }
+{
+    let mut found = None;
+    for piece in pieces {
+        found = later(last_of(*piece), found);
+    }
+    found
+}
+
+/// Room for so many bytes, where there is so much memory; where there isn't, it is taken as the bytes come.
+fn room_for(alloc: Global, count: usize) -> Vec<u8>
+    ensures { result.items ≡ [] }
+{
+    match Vec::with_capacity(alloc, count) {
+        Ok(room) => room,
+        Err(_) => Vec::new(alloc),
+    }
+}
+
+impl<'a> Content<'a> {
+    /// Without cells, with room for so many.
+    pub fn with_room(alloc: Global, count: usize) -> Content<'a>
+        ensures { HoldsCells [] result }
+    {
+        Content {
+            lent: Vec::new(alloc),
+            lent_size: 0,
+            own: room_for(alloc, count),
+            behind: 0,
+            patches: Vec::new(alloc),
+        }
+    }
+
+    pub fn new(alloc: Global) -> Content<'a>
+        ensures { HoldsCells [] result }
+    {
+        Content {
+            lent: Vec::new(alloc),
+            lent_size: 0,
+            own: Vec::new(alloc),
+            behind: 0,
+            patches: Vec::new(alloc),
+        }
+    }
+
+    /// How many bytes there are.
+    fn size(&self) -> usize
+        ensures { result ≡ length (self.now).bytes }
+    {
+        if self.own.is_empty() {
+            return self.lent_size + self.behind;
+        }
+        self.own.as_slice().len() + self.behind
+    }
+
+    /// How many cells there are.
+    pub fn len(&self) -> usize
+        ensures { (cells : List Cell) → HoldsCells cells self.now → result ≡ length cells }
+    {
+        self.size()
+    }
+
+    /// The bytes but for zeros at their end, and how many zeros these are; under a patch they don't count. Where the bytes stand in
+    /// inputs, there is no patch.
+    pub fn place(&self) -> (Place<'_, 'a>, usize)
+        ensures { IsPlaced result.0 result.1 self.now }
+    {
+        if self.own.is_empty() {
+            return (Place::Lent(self.lent.as_slice()), self.behind);
+        }
+        (Place::Own(self.own.as_slice()), self.behind)
+    }
+
+    /// The last byte, if there is one.
+    pub fn last(&self) -> Option<u8>
+        ensures { result ≡ last_of (self.now).bytes }
+    {
+        if self.behind > 0 {
+            return Some(0);
+        }
+        if self.own.is_empty() {
+            return last_in(self.lent.as_slice());
+        }
+        last_of(self.own.as_slice())
+    }
+
+    pub fn patches(&self) -> &[Patch]
+        ensures { result.now ≡ (self.now).patches }
+    {
+        self.patches.as_slice()
+    }
+
+    /// Appends bytes, which are copied.
+    fn append(&mut self, bytes: &[u8]) -> Result<(), AllocError>
+        ensures bytes { OnOk result ((self.new).bytes ≡ (self.old).bytes ++ bytes.now) }
+        ensures patches { (self.new).patches ≡ (self.old).patches }
+    {
+        settle(&mut self.own, self.lent.as_slice(), self.behind)?;
+        self.behind = 0;
+        append(&mut self.own, bytes)
+    }
+
+    /// Appends bytes of an input, which aren't copied as long as there are no others.
+    fn append_lent(&mut self, bytes: &'a [u8]) -> Result<(), AllocError>
+        requires { length (self.old).bytes + length bytes.now < 2 ^ 33 }
+        ensures bytes { OnOk result ((self.new).bytes ≡ (self.old).bytes ++ bytes.now) }
+        ensures patches { (self.new).patches ≡ (self.old).patches }
+    {
+        if self.own.is_empty() && self.behind == 0 {
+            append_piece(&mut self.lent, bytes)?;
+            self.lent_size += bytes.len();
+            return Ok(());
+        }
+        self.append(bytes)
+    }
+
+    /// Appends so many zeros with a patch over them.
+    fn append_patched(&mut self, patch: Patch, count: usize) -> Result<(), AllocError>
+        requires some { 1 ≤ count }
+        requires small { length (self.old).bytes + count < 2 ^ 33 }
+        requires inside { patch.at + patch.count ≤ length (self.old).bytes + count }
+        ensures bytes { OnOk result ((self.new).bytes ≡ (self.old).bytes ++ replicate count 0) }
+        ensures patches { OnOk result ((self.new).patches ≡ (self.old).patches ++ patch ∷ []) }
+    {
+        settle(&mut self.own, self.lent.as_slice(), self.behind + count)?;
+        self.behind = 0;
+        append_patch(&mut self.patches, patch)
+    }
+
+    /// More bytes.
+    pub fn put_bytes(&mut self, bytes: &[u8]) -> Result<(), AllocError>
+        ensures { OnOk result ((cells : List Cell) → HoldsCells cells self.old → HoldsCells (cells ++ map Byte bytes.now) self.new) }
+    {
+        self.append(bytes)
+    }
+
+    /// More bytes, which are a constant of an input.
+    pub fn lend_bytes(&mut self, bytes: &'a [u8]) -> Result<(), AllocError>
+        requires { length (self.old).bytes + length bytes.now < 2 ^ 32 }
+        ensures { OnOk result ((cells : List Cell) → HoldsCells cells self.old → HoldsCells (cells ++ map Byte bytes.now) self.new) }
+    {
+        self.append_lent(bytes)
+    }
+
+    /// So many zeros more, which take no memory.
+    pub fn put_zeros(&mut self, count: usize)
+        requires { length (self.old).bytes + count < 2 ^ 32 }
+        ensures { (cells : List Cell) → HoldsCells cells self.old → HoldsCells (cells ++ zeros count) self.new }
+    {
+        self.behind += count;
+    }
+
+    /// So many bytes of a place more.
+    pub fn put_place(
+        &mut self,
+        count: u8,
+        segment: u16,
+        offset: u32,
+        shift: i8,
+    ) -> Result<(), AllocError>
+        requires counted { IsTrue (is_count count) }
+        requires small { length (self.old).bytes + 4 < 2 ^ 32 }
+        ensures { OnOk result ((cells : List Cell) → HoldsCells cells self.old → HoldsCells (cells ++ parts count segment offset shift) self.new) }
+    {
+        let patch = Patch {
+            at: self.size() as u32,
+            count,
+            shift,
+            segment,
+            offset,
+        };
+        self.append_patched(patch, usize::from(count))
+    }
+}

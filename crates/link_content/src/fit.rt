@@ -1,0 +1,275 @@
+//! How a value fits into an expression record.
+
+ghost use Rattle.std.specs.Prelude.{◌≡◌, ◌+◌, ◌^◌, ◌<◌, ◌≤◌, ◌&&◌, Bool, IsTrue, List, map, option_map};
+ghost use Rattle.omf_format.specs.Field.{is_count};
+ghost use Rattle.omf_format.specs.Header.{Fields};
+ghost use Rattle.omf_format.specs.Value.{is_unshifted};
+ghost use Rattle.load_meaning.specs.Cells.{Cell};
+ghost use Rattle.load_meaning.specs.declared.table.Target.{Target};
+ghost use Rattle.link_meaning.specs.Member.{Setting, setting_in};
+ghost use Rattle.link_meaning.specs.Fitting.{number_fit, distance_fit, place_fit, is_dynamic_load, length_of, length_outside, length_there, may_call, is_far, is_call, ends_in_jsl, or_does_not_fit, call_fit, fitted};
+ghost use Rattle.link_content.specs.Fits.{shown, shown_frame, told_fit, told_load, answered};
+
+use jump_table::Target;
+use link_meaning::{LinkCause, LinkForm};
+use link_program::Program;
+use omf_format::Value;
+
+/// The code of EXPR.
+const EXPR: u8 = 0xEB;
+/// The code of BEXPR.
+const BEXPR: u8 = 0xED;
+/// The code of RELEXPR.
+const RELEXPR: u8 = 0xEE;
+/// The code of LEXPR.
+const LEXPR: u8 = 0xF3;
+
+/// What a value becomes in its record.
+#[derive(Clone, Copy)]
+pub enum Fit {
+    /// The low bytes of a number.
+    Number(u32),
+    /// The bytes of a place.
+    Place {
+        segment: u16,
+        offset: u32,
+        shift: i8,
+    },
+    /// Those of the jump table's entry for a target.
+    Entry(Target),
+}
+
+/// What fitting asks of a load segment.
+#[derive(Clone, Copy)]
+pub struct Load {
+    pub dynamic: bool,
+    pub length: u32,
+    pub bank_size: u32,
+}
+
+/// Where an expression record stands.
+#[derive(Clone, Copy)]
+pub struct Frame {
+    /// Its load segment's number, from 1.
+    pub own: u16,
+    /// Its load segment's BANKSIZE.
+    pub bank_size: u32,
+    /// Its place in the load segment.
+    pub place: u32,
+}
+
+/// What an expression record asks for: its code, how many bytes it gives, and RELEXPR's displacement.
+#[derive(Clone, Copy)]
+pub struct Formula {
+    pub code: u8,
+    pub count: u8,
+    pub n: u32,
+    ghost counted: { IsTrue (is_count count) },
+}
+
+/// How many numbers so many bytes hold.
+fn numbers_of(count: u8) -> u64
+    requires { IsTrue (is_count count) }
+    ensures value { result ≡ 256 ^ count }
+    ensures some { 0 < result }
+    ensures fits { result ≤ 2 ^ 32 }
+{
+    match count {
+        1 => 0x100,
+        2 => 0x1_0000,
+        3 => 0x100_0000,
+        _ => 0x1_0000_0000,
+    }
+}
+
+/// What a number becomes.
+fn number_fit(formula: Formula, n: u32) -> Option<Fit>
+    ensures { option_map shown result ≡ number_fit formula.code formula.count n }
+{
+    if formula.code == EXPR {
+        return Some(Fit::Number(n));
+    }
+    if formula.code == RELEXPR {
+        return None;
+    }
+    if u64::from(n) < numbers_of(formula.count) {
+        return Some(Fit::Number(n));
+    }
+    None
+}
+
+/// A distance from one offset to another, in two's complement, where it fits signed in so many bytes.
+fn distance_fit(count: u8, to: u32, from: u64) -> Option<Fit>
+    requires counted { IsTrue (is_count count) }
+    requires small { from < 2 ^ 33 }
+    ensures { option_map shown result ≡ distance_fit count to from }
+{
+    let numbers = numbers_of(count);
+    let to = u64::from(to);
+    if from <= to + numbers / 2 && to < from + numbers / 2 {
+        return Some(Fit::Number(((to + numbers - from) % numbers) as u32));
+    }
+    None
+}
+
+/// What a place becomes that isn't in another dynamic segment.
+fn place_fit(frame: Frame, formula: Formula, segment: u16, offset: u32, shift: i8) -> Option<Fit>
+    ensures { (setting : Setting) → option_map shown result ≡ place_fit (shown_frame setting frame) formula.code formula.count formula.n segment offset shift }
+{
+    let place = Fit::Place {
+        segment,
+        offset,
+        shift,
+    };
+    let near = segment == frame.own && shift == 0;
+    if formula.code == EXPR || formula.code == LEXPR {
+        return Some(place);
+    }
+    if formula.code == BEXPR {
+        return if near && frame.bank_size != 0 {
+            Some(place)
+        } else {
+            None
+        };
+    }
+    if formula.code == RELEXPR {
+        return if near {
+            distance_fit(
+                formula.count,
+                offset,
+                u64::from(frame.place) + u64::from(formula.n),
+            )
+        } else {
+            None
+        };
+    }
+    None
+}
+
+/// Whether the load segment with this number is dynamic.
+fn is_dynamic(loads: &[Load], number: u16) -> bool
+    ensures { (headers : List Fields) → loads.now ≡ map told_load headers → result ≡ is_dynamic_load headers number }
+{
+    match loads.get(usize::from(number).saturating_sub(1)) {
+        Some(load) => load.dynamic,
+        None => false,
+    }
+}
+
+/// Whether a place is in a run-time library file, or in another load segment that is dynamic.
+fn is_far(loads: &[Load], own: u16, file: u16, segment: u16) -> bool
+    ensures { (headers : List Fields) → loads.now ≡ map told_load headers → result ≡ is_far headers own file segment }
+{
+    file != 1 || (segment != own && is_dynamic(loads, segment))
+}
+
+/// LENGTH of the load segment with this number.
+pub fn length_of(loads: &[Load], number: u16) -> u32
+    ensures { (headers : List Fields) → loads.now ≡ map told_load headers → result ≡ length_of headers number }
+{
+    match loads.get(usize::from(number).saturating_sub(1)) {
+        Some(load) => load.length,
+        None => 0,
+    }
+}
+
+/// LENGTH of a segment of the run-time library file with this number in values, from 2.
+fn length_outside(program: &Program, file: u16, segment: u16) -> u32
+    ensures { result ≡ length_outside (setting_in program.now) file segment }
+{
+    let load = match program.runtime(u32::from(file).saturating_sub(2)) {
+        Some(load) => load,
+        None => return 0,
+    };
+    match load.header(u32::from(segment)) {
+        Some(header) => header.length,
+        None => 0,
+    }
+}
+
+/// LENGTH of the segment that is called.
+fn length_there(program: &Program, loads: &[Load], target: Target) -> u32
+    ensures { (headers : List Fields) → loads.now ≡ map told_load headers → result ≡ length_there headers (setting_in program.now) target }
+{
+    if target.file == 1 {
+        return length_of(loads, target.segment);
+    }
+    length_outside(program, target.file, target.segment)
+}
+
+/// Whether what is linked so calls through a jump table: a program alone.
+fn may_call(form: LinkForm) -> bool
+    ensures { result ≡ may_call form }
+{
+    match form {
+        LinkForm::Program => true,
+        LinkForm::Runtime => false,
+    }
+}
+
+/// Whether a record calls: LEXPR of three bytes, without a shift, behind a byte $22.
+fn is_call(formula: Formula, shift: i8, jsl: bool) -> bool
+    ensures { (before : List Cell) → ends_in_jsl before ≡ jsl → result ≡ is_call formula.code formula.count shift before }
+{
+    formula.code == LEXPR && formula.count == 3 && shift == 0 && jsl
+}
+
+/// What a place in a run-time library file or in another dynamic segment becomes: an entry of the jump table, where the record calls,
+/// what is linked may call, and the offset is below LENGTH.
+fn call_fit(length: u32, call: bool, target: Target) -> Result<Fit, LinkCause>
+    ensures { (headers : List Fields) (setting : Setting) (targets : List Target) (calls : Bool) → length_there headers setting target ≡ length
+        → may_call setting.form && calls ≡ call → call_fit headers setting targets calls target ≡ answered targets result }
+{
+    if !call {
+        return Err(LinkCause::DynamicReference);
+    }
+    if length <= target.offset {
+        return Err(LinkCause::OutOfSegment);
+    }
+    Ok(Fit::Entry(target))
+}
+
+fn or_does_not_fit(fit: Option<Fit>) -> Result<Fit, LinkCause>
+    ensures { told_fit result ≡ or_does_not_fit (option_map shown fit) }
+{
+    match fit {
+        Some(fit) => Ok(fit),
+        None => Err(LinkCause::DoesNotFit),
+    }
+}
+
+/// What a value becomes in a record that stands there, behind a byte $22 or not; whether the jump table has room for its
+/// target isn't asked.
+pub fn fitted(
+    program: &Program,
+    loads: &[Load],
+    frame: Frame,
+    jsl: bool,
+    formula: Formula,
+    value: Value,
+) -> Result<Fit, LinkCause>
+    ensures { (headers : List Fields) (targets : List Target) (before : List Cell) → loads.now ≡ map told_load headers → ends_in_jsl before ≡ jsl
+        → fitted headers (shown_frame (setting_in program.now) frame) targets before formula.code formula.count formula.n value ≡ answered targets result }
+{
+    match value {
+        Value::Fixed(n) => or_does_not_fit(number_fit(formula, n)),
+        Value::At {
+            file,
+            segment,
+            offset,
+            shift,
+        } => {
+            if is_far(loads, frame.own, file, segment) {
+                let target = Target {
+                    file,
+                    segment,
+                    offset,
+                };
+                let length = length_there(program, loads, target);
+                let call = may_call(program.form()) && is_call(formula, shift, jsl);
+                return call_fit(length, call, target);
+            }
+            or_does_not_fit(place_fit(frame, formula, segment, offset, shift))
+        }
+    }
+}

@@ -1,0 +1,13 @@
+//! The content of a load segment as it grows, and what a record of a member puts into it: how a value fits, and the cells that it
+//! gives.
+#![tactic(auto)]
+
+mod content;
+mod fit;
+mod plain;
+mod put;
+mod record;
+
+pub use content::{Content, Place};
+pub use fit::{Load, length_of};
+pub use record::{Site, put_record};

@@ -1,0 +1,130 @@
+//! What an expression record puts into its load segment.
+
+ghost use Rattle.std.specs.Prelude.{◌≡◌, ◌⊎◌, ◌+◌, ◌<◌, ◌≤◌, ◌^◌, ◌++◌, Err, List, IsTrue, IfOk, IfErr, IsErrOf, OnOk, length, map};
+ghost use Rattle.byteorder.specs.Endian.{little_bytes};
+ghost use Rattle.omf_format.specs.Field.{is_count};
+ghost use Rattle.omf_format.specs.Header.{Fields};
+ghost use Rattle.load_meaning.specs.Cells.{Cell, Byte};
+ghost use Rattle.link_meaning.specs.declared.fault.LinkCause.TheVariants as causes;
+ghost use Rattle.link_meaning.specs.Member.{setting_in};
+ghost use Rattle.link_meaning.specs.Fitting.{fitted, ends_in_jsl, parts};
+ghost use Rattle.link_content.specs.Fits.{shown, shown_frame, told_load, with_room};
+ghost use Rattle.link_content.specs.Contents.{HoldsCells};
+ghost use Rattle.link_content.specs.Puts.{EntersTarget, LacksRoom, PutsFit, PutsValue};
+
+use crate::content::Content;
+use crate::fit::{Fit, Formula, Frame, Load, fitted};
+use jump_table::{Table, TableFault, Target};
+use link_meaning::LinkCause;
+use link_program::Program;
+use omf_base::front;
+use omf_format::Value;
+
+/// The bytes of a number, lowest first.
+fn bytes_of(n: u32) -> [u8; 4]
+    ensures value { result ≡ little_bytes 4 n }
+    ensures size { length result ≡ 4 }
+{
+    let [first, second, third, fourth] = n.to_le_bytes();
+    [first, second, third, fourth]
+}
+
+/// The low bytes of a number.
+fn put_number(content: &mut Content<'_>, count: u8, n: u32) -> Result<(), LinkCause>
+    requires { IsTrue (is_count count) }
+    ensures ok { OnOk result ((cells : List Cell) → HoldsCells cells content.old → HoldsCells (cells ++ map Byte (little_bytes count n)) content.new) }
+    ensures memory_alone { IfErr result (λ cause. cause ≡ causes.Memory) }
+{
+    let bytes = bytes_of(n);
+    match content.put_bytes(front(&bytes, usize::from(count))) {
+        Ok(()) => Ok(()),
+        Err(_) => Err(LinkCause::Memory),
+    }
+}
+
+/// The place of the table's entry for a target, which is added where it isn't there.
+fn entry(table: &mut Table, target: Target) -> Result<u32, LinkCause>
+    ensures ok { IfOk result (λ at. EntersTarget table.old table.new target at) }
+    ensures err { IfErr result (λ cause. (cause ≡ causes.Memory) ⊎ LacksRoom table.old target cause) }
+
+    // Where there is no room, this and no want of memory is told.
+    ensures full { LacksRoom table.old target causes.TooManyEntries → IsErrOf result causes.TooManyEntries }
+{
+    let _most = table.count();
+    let at = match table.entry(target.file, target.segment, target.offset) {
+        Ok(at) => at,
+        Err(TableFault::TooMany) => return Err(LinkCause::TooManyEntries),
+        Err(TableFault::Memory) => return Err(LinkCause::Memory),
+    };
+    let _few = table.count();
+    Ok(at)
+}
+
+/// So many bytes of a place.
+fn put_place(
+    content: &mut Content<'_>,
+    count: u8,
+    segment: u16,
+    offset: u32,
+    shift: i8,
+) -> Result<(), LinkCause>
+    requires counted { IsTrue (is_count count) }
+    requires small { length (content.old).bytes + 4 < 2 ^ 32 }
+    ensures ok { OnOk result ((cells : List Cell) → HoldsCells cells content.old → HoldsCells (cells ++ parts count segment offset shift) content.new) }
+    ensures memory_alone { IfErr result (λ cause. cause ≡ causes.Memory) }
+{
+    match content.put_place(count, segment, offset, shift) {
+        Ok(()) => Ok(()),
+        Err(_) => Err(LinkCause::Memory),
+    }
+}
+
+/// Puts what a value became; the jump table is the load segment with this number.
+fn put_fit(
+    content: &mut Content<'_>,
+    table: &mut Table,
+    number: u16,
+    count: u8,
+    fit: Fit,
+) -> Result<(), LinkCause>
+    requires counted { IsTrue (is_count count) }
+    requires small { length (content.old).bytes + 4 < 2 ^ 32 }
+    ensures ok { OnOk result (PutsFit number count table.old table.new (shown fit) content.old content.new) }
+    ensures err { IfErr result (λ cause. (cause ≡ causes.Memory) ⊎ (with_room table.old (shown fit) ≡ Err cause)) }
+{
+    match fit {
+        Fit::Number(n) => put_number(content, count, n),
+        Fit::Place {
+            segment,
+            offset,
+            shift,
+        } => put_place(content, count, segment, offset, shift),
+        Fit::Entry(target) => {
+            let at = entry(table, target)?;
+            put_place(content, count, number, at, 0)
+        }
+    }
+}
+
+/// Puts what the value of an expression record becomes that stands there, behind a byte $22 or not. The jump table is the load
+/// segment with this number.
+pub fn put_formula(
+    content: &mut Content<'_>,
+    table: &mut Table,
+    number: u16,
+    program: &Program,
+    loads: &[Load],
+    frame: Frame,
+    jsl: bool,
+    formula: Formula,
+    value: Value,
+) -> Result<(), LinkCause>
+    requires small { length (content.old).bytes + 4 < 2 ^ 32 }
+    ensures ok { OnOk result ((headers : List Fields) (before : List Cell) → loads.now ≡ map told_load headers → ends_in_jsl before ≡ jsl
+        → PutsValue headers (shown_frame (setting_in program.now) frame) before formula value number table.old table.new content.old content.new) }
+    ensures err { IfErr result (λ cause. (headers : List Fields) (before : List Cell) → loads.now ≡ map told_load headers → ends_in_jsl before ≡ jsl
+        → (cause ≡ causes.Memory) ⊎ (fitted headers (shown_frame (setting_in program.now) frame) table.old before formula.code formula.count formula.n value ≡ Err cause)) }
+{
+    let fit = fitted(program, loads, frame, jsl, formula, value)?;
+    put_fit(content, table, number, formula.count, fit)
+}

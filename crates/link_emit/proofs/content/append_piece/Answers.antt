@@ -1,6 +1,0 @@
-use Rattle.std.proofs.Common.{ap, ◌∙◌}
-use Rattle.omf_cells.specs.Joined.{joined, joined_more}
-use Rattle.link_emit.proofs.content.append_piece.Goals as goal
-
-pub returns-clause-ok : goal.returns-clause-ok
-returns-clause-ok c = ap joined c.in_ok-push.ensures.items ∙ joined_more c.args.pieces.now.items c.args.piece

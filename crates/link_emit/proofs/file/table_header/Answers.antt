@@ -1,5 +1,0 @@
-use Rattle.link_emit.proofs.FileLaws.{table_named}
-use Rattle.link_emit.proofs.file.table_header.Goals as goal
-
-pub returns-clause-ok : goal.returns-clause-ok
-returns-clause-ok c = table_named c.args.number c.args.size c.in-Ok.name c.in-Ok.ensures.ok

@@ -1,5 +1,0 @@
-use Rattle.link_emit.proofs.PathLaws.{pathnames_named}
-use Rattle.link_emit.proofs.pathnames.pathnames_header.Goals as goal
-
-pub returns-clause-ok : goal.returns-clause-ok
-returns-clause-ok c = pathnames_named c.args.number c.args.size c.in-Ok.name c.in-Ok.ensures.ok

@@ -1,0 +1,29 @@
+use Rattle.std.proofs.Common.{◌+◌, ℕ, map, ap, ◌∙◌, arith}
+use Rattle.link_program.specs.Outside.{all_found}
+use Rattle.link_content.specs.Fits.{told_load}
+use Rattle.link_file.specs.Slots.{rows_of}
+use Rattle.link_file.proofs.FileFacts.{few_of}
+use Rattle.link_file.proofs.LoadLaws.{headers_size}
+use Rattle.link_file.proofs.EmitLaws.{refused_value}
+use Rattle.link_file.proofs.emitting.calls_of.Goals as goal
+
+pub overflow_cast-whole : goal.overflow_cast-whole
+overflow_cast-whole c = omega (arith, few_of c.args.program.now c.know_files.ensures, headers_size c.args.program.now c.load_headers-headers.result.now c.load_headers-headers.ensures)
+
+pub overflow_add-whole : goal.overflow_add-whole
+overflow_add-whole c = omega (arith, few_of c.args.program.now c.know_files.ensures, headers_size c.args.program.now c.load_headers-headers.result.now c.load_headers-headers.ensures)
+
+pub fill-requires-clause-whole : goal.fill-requires-clause-whole
+fill-requires-clause-whole c =
+    let list = c.args.program.now in
+    record {
+      files = c.know_files.ensures;
+      known = c.requires.known;
+      loads' = c.as_slice.ensures.value ∙ c.in-Ok.ensures ∙ ap (map told_load) c.load_headers-headers.ensures;
+      table' = ap (λ (n : ℕ). n + 1) (headers_size list c.load_headers-headers.result.now c.load_headers-headers.ensures);
+    }
+
+pub returns-clause-refused : goal.returns-clause-refused
+returns-clause-refused c =
+    let list = c.args.program.now in
+    refused_value list (rows_of (all_found list) c.args.slots.now) c.requires.table c.in-Err-fill.fault c.in-Err-fill.ensures.err

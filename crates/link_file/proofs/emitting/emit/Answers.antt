@@ -1,0 +1,90 @@
+use Rattle.std.proofs.Common.{◌+◌, ℕ, Vec, Global, Result, Err, map, sym, ap, subst, ◌∙◌, arith}
+use Rattle.link_program.specs.Outside.{all_found}
+use Rattle.link_file.specs.declared.image.ImageFault.{ImageFault}
+use Rattle.link_file.specs.Answers.{IsEmitRefused}
+use Rattle.link_file.specs.Equates.{AreValues}
+use Rattle.link_content.specs.Fits.{told_load}
+use Rattle.link_file.specs.Images.{AreReady, AreLoads}
+use Rattle.link_file.specs.Slots.{rows_of}
+use Rattle.link_file.proofs.FileFacts.{few_of}
+use Rattle.link_file.proofs.LoadLaws.{headers_size, loads_ready}
+use Rattle.link_file.proofs.EmitLaws.{refused_ring, refused_value, refused_size, written_is}
+use Rattle.link_file.proofs.emitting.emit.Goals as goal
+
+abbrev failed : ImageFault → Result (Vec ℕ Global) ImageFault
+failed fault = Err fault
+
+pub returns-in-Err-clause-refused : goal.returns-in-Err-clause-refused
+returns-in-Err-clause-refused c = refused_ring c.args.program.now c.in-Err.fault c.in-Err.ensures.refused
+
+pub overflow_cast-whole : goal.overflow_cast-whole
+overflow_cast-whole c = omega (arith, few_of c.args.program.now c.know_files.ensures, headers_size c.args.program.now c.load_headers-headers.result.now c.load_headers-headers.ensures)
+
+pub overflow_add-whole : goal.overflow_add-whole
+overflow_add-whole c = omega (arith, few_of c.args.program.now c.know_files.ensures, headers_size c.args.program.now c.load_headers-headers.result.now c.load_headers-headers.ensures)
+
+pub fill-requires-clause-whole : goal.fill-requires-clause-whole
+fill-requires-clause-whole c =
+    let list = c.args.program.now in
+    let values = subst (AreValues list) (sym c.as_slice.ensures.value) c.in-Ok.ensures.valued in
+    record {
+      files = c.know_files.ensures;
+      known = values.known;
+      loads' = c.as_slice-2.ensures.value ∙ c.in-Ok-loads_of.ensures ∙ ap (map told_load) c.load_headers-headers.ensures;
+      table' = ap (λ (n : ℕ). n + 1) (headers_size list c.load_headers-headers.result.now c.load_headers-headers.ensures);
+    }
+
+pub exports_text-requires : goal.exports_text-requires
+exports_text-requires c =
+    let list = c.args.program.now in
+    let values = subst (AreValues list) (sym c.as_slice.ensures.value) c.in-Ok.ensures.valued in
+    record {
+      files = c.know_files.ensures;
+      known = values.known;
+      loads' = c.as_slice-2.ensures.value ∙ c.in-Ok-loads_of.ensures ∙ ap (map told_load) c.load_headers-headers.ensures;
+      table' = ap (λ (n : ℕ). n + 1) (headers_size list c.load_headers-headers.result.now c.load_headers-headers.ensures);
+    }
+
+pub returns-in-Err-fill-clause-refused : goal.returns-in-Err-fill-clause-refused
+returns-in-Err-fill-clause-refused c =
+    let list = c.args.program.now in
+    let values = subst (AreValues list) (sym c.as_slice.ensures.value) c.in-Ok.ensures.valued in
+    refused_value list (rows_of (all_found list) c.as_slice.result.now) values.table c.in-Err-fill.fault c.in-Err-fill.ensures.err
+
+pub write_linked-requires-clause-ready : goal.write_linked-requires-clause-ready
+write_linked-requires-clause-ready c =
+    let list = c.args.program.now in
+    let told = rows_of (all_found list) c.as_slice.result.now in
+    let headers = c.load_headers-headers.result.now in
+    let values = subst (AreValues list) (sym c.as_slice.ensures.value) c.in-Ok.ensures.valued in
+    let filled = c.in-Ok-fill.ensures.ok in
+    let loads : AreLoads list told headers c.in-Ok-fill.contents.items = record { headers' = c.load_headers-headers.ensures; contents' = filled.holds } in
+    subst (AreReady headers) (sym c.as_slice-3.ensures.value) (loads_ready c.know_files.ensures.given list told headers c.in-Ok-fill.contents.items c.know_files.ensures.bytes c.know_files.ensures.resolved values.table filled.made' loads)
+
+pub write_linked-requires-clause-few : goal.write_linked-requires-clause-few
+write_linked-requires-clause-few c = omega (arith, few_of c.args.program.now c.know_files.ensures, headers_size c.args.program.now c.load_headers-headers.result.now c.load_headers-headers.ensures)
+
+pub returns-in-Ok-write_linked-clause-written : goal.returns-in-Ok-write_linked-clause-written
+returns-in-Ok-write_linked-clause-written c =
+    let list = c.args.program.now in
+    let told = rows_of (all_found list) c.as_slice.result.now in
+    let headers = c.load_headers-headers.result.now in
+    let values = subst (AreValues list) (sym c.as_slice.ensures.value) c.in-Ok.ensures.valued in
+    let filled = c.in-Ok-fill.ensures.ok in
+    let loads : AreLoads list told headers c.as_slice-3.result.now =
+    subst (AreLoads list told headers) (sym c.as_slice-3.ensures.value) (record { headers' = c.load_headers-headers.ensures; contents' = filled.holds }) in
+    let exported = c.as_slice-4.ensures.value ∙ c.in-Ok-exports_text.ensures in
+    written_is list told values.table filled.made' c.in-Ok-write_linked.output.items (c.in-Ok-write_linked.ensures.ok told loads exported filled.targets') c.in-Ok-write_linked.ensures.short
+
+pub returns-in-Err-TooLong-clause-refused : goal.returns-in-Err-TooLong-clause-refused
+returns-in-Err-TooLong-clause-refused c =
+    let list = c.args.program.now in
+    let told = rows_of (all_found list) c.as_slice.result.now in
+    let headers = c.load_headers-headers.result.now in
+    let values = subst (AreValues list) (sym c.as_slice.ensures.value) c.in-Ok.ensures.valued in
+    let filled = c.in-Ok-fill.ensures.ok in
+    let loads : AreLoads list told headers c.as_slice-3.result.now =
+    subst (AreLoads list told headers) (sym c.as_slice-3.ensures.value) (record { headers' = c.load_headers-headers.ensures; contents' = filled.holds }) in
+    let exported = c.as_slice-4.ensures.value ∙ c.in-Ok-exports_text.ensures in
+    subst (IsEmitRefused list) (sym c.too_long.ensures)
+    (refused_size list told values.table filled.made' (c.in-Err-TooLong.ensures.too_long (ap failed c.in-Err-TooLong.field-0-is) told loads exported filled.targets'))

@@ -1,0 +1,12 @@
+use Rattle.std.proofs.Common.{◌-◌, length}
+use Rattle.link_program.specs.Outside.{all_found}
+use Rattle.link_file.specs.Slots.{rows_of}
+use Rattle.link_file.specs.Walks.{IsWalkedTo}
+use Rattle.link_file.proofs.walk.fill.Given as goal
+
+-- the members so far gave their cells
+abbrev pub invariant-members : goal.invariant-members
+invariant-members l = IsWalkedTo l.whole.program.now (rows_of (all_found l.whole.program.now) l.whole.slots.now) l.place l.table l.contents.items
+
+abbrev pub decreases-members : goal.decreases-members
+decreases-members l = length l.whole.program.now - l.place

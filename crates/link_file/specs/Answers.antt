@@ -1,0 +1,15 @@
+-- What linking answers, want of memory aside.
+use Rattle.std.specs.Prelude.{◌≡◌, ◌⊎◌, List}
+use Rattle.link_meaning.specs.declared.fault.LinkFault.{LinkFault}
+use Rattle.link_meaning.specs.Member.{Member}
+use Rattle.link_meaning.specs.LinkFaults.{Given}
+use Rattle.link_meaning.specs.EmitFaults.{IsFirstEmitFault, IsFirstLinkFault}
+use Rattle.link_program.specs.Memory.{memory_fault}
+
+-- it is the first fault of the list in the phases behind layout, unless memory ran out
+abbrev pub IsEmitRefused : List Member → LinkFault → Type 0
+IsEmitRefused list fault = (fault ≡ memory_fault) ⊎ IsFirstEmitFault list fault
+
+-- it is the first fault of what is given, unless memory ran out
+abbrev pub IsLinkRefused : Given → LinkFault → Type 0
+IsLinkRefused given fault = (fault ≡ memory_fault) ⊎ IsFirstLinkFault given fault

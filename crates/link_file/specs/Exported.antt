@@ -1,0 +1,75 @@
+-- What a program exports, definition by definition.
+use Rattle.std.specs.Prelude.{◌≡◌, ℕ, ◌+◌, Bool, true, false, List, [], ◌∷◌, ◌++◌, length, take, Option, Some, None}
+use Rattle.std.specs.List.{flat_map}
+use Rattle.omf_format.specs.Record.{Record, Entry}
+use Rattle.omf_format.specs.Reading.{Reader}
+use Rattle.omf_format.specs.File.{Segment}
+use Rattle.link_meaning.specs.Member.{Member}
+use Rattle.link_meaning.specs.Defines.{Scope, ForSegment, ForUnit, ForAll, Definition, defined_in}
+use Rattle.link_meaning.specs.Search.{entries_from, entries}
+use Rattle.link_meaning.specs.LinkValues.{Told}
+use Rattle.link_meaning.specs.LinkWritten.{export_of}
+use Rattle.link_program.specs.Coming.{Coming}
+use Rattle.link_file.specs.declared.exports.Seen as kept
+use Rattle.link_file.specs.Images.{spelled}
+use Rattle.link_file.specs.Circulars.{defined_so_far}
+
+-- all see it
+abbrev pub is_public : Scope → Bool
+is_public ForSegment = false
+is_public ForUnit = false
+is_public ForAll = true
+
+-- a name, and whether all see it
+pub record SeenName : Type 0 where
+  pub name : List ℕ
+  pub public : Bool
+
+abbrev pub seen_name : kept.Seen → SeenName
+seen_name seen = record { name = seen.name.now; public = seen.public }
+
+-- the definition has this name, and is seen so
+pub record IsSeen (d : Definition) (seen : SeenName) : Type 0 where
+  pub name' : d.name ≡ seen.name
+  pub public' : is_public d.scope ≡ seen.public
+
+-- there is no definition, or one with this name
+abbrev pub DefinesSeen : List Definition → Option SeenName → Type 0
+DefinesSeen ds None = ds ≡ []
+DefinesSeen ds (Some seen) = (d : Definition) × (ds ≡ d ∷ []) × IsSeen d seen
+
+-- the ENTRY record of a name with this place, if it has one
+abbrev pub entry_with : List ℕ → Option (ℕ × ℕ) → List Record
+entry_with name None = []
+entry_with name (Some place) = Entry place.0 place.1 name ∷ []
+
+-- these are the ENTRY records of the first definitions, so many of all
+abbrev pub IsExported : List Member → List Told → ℕ → List ℕ → Type 0
+IsExported list told number out = out ≡ spelled (flat_map (export_of list told) (take number (entries list)))
+
+-- a member of the list has this segment, and so many definitions stand before its own
+pub record StandsBefore (list : List Member) (s : Segment) (number : ℕ) : Type 0 where
+  pub front : List Member
+  pub m : Member
+  pub back : List Member
+  pub parts : list ≡ front ++ m ∷ back
+  pub segment : m.segment ≡ s
+  pub count : number ≡ length (entries_from defined_in 1 front)
+
+-- the records of some of a segment's definitions were put, of which the first one has this number, and the other records are still to come
+pub record Exporting (list : List Member) (told : List Told) (s : Segment) (first number : ℕ) (at : Reader) (out : List ℕ) : Type 0 where
+  pub done : List (ℕ × Record)
+  pub back : List (ℕ × Record)
+  pub parts : s.records ≡ done ++ back
+  pub coming : Coming at back
+  pub count : number ≡ first + length (defined_so_far s done)
+  pub exported : IsExported list told number out
+
+-- those of so many members were put, and so many definitions are theirs
+pub record ExportsTo (list : List Member) (told : List Told) (place number : ℕ) (out : List ℕ) : Type 0 where
+  pub front : List Member
+  pub back : List Member
+  pub parts : list ≡ front ++ back
+  pub place' : place ≡ length front
+  pub count : number ≡ length (entries_from defined_in 1 front)
+  pub exported : IsExported list told number out

@@ -1,0 +1,293 @@
+//! Load segments, as they are written one behind another.
+
+ghost use Rattle.std.specs.Prelude.{◌≡◌, ◌≤◌, ◌+◌, ◌<◌, ◌^◌, ◌++◌, ◌∷◌, [], IfOk, IfErr, OnOk, IsErrOf, MatchOption, Some, length, map, slice_get, take, drop, replicate, List};
+ghost use Rattle.omf_format.specs.Header.{IsWritable, header_bytes};
+ghost use Rattle.omf_header.specs.View.{fields};
+ghost use Rattle.load_meaning.specs.WrittenBody.{AreWritten, body_text, written_cells, zeros_behind};
+ghost use Rattle.load_meaning.specs.WrittenFile.{image_text, file_text};
+ghost use Rattle.omf_cells.specs.WrittenParts.{seen};
+ghost use Rattle.omf_format.specs.Record.{Record};
+ghost use Rattle.link_file.specs.Images.{with_space, spelled, image_in, images_in, IsReady, AreReady};
+
+use link_content::{Content, Place};
+use omf_base::{Name, NameFault};
+use omf_cells::{BodyFault, put_body, put_plain_body};
+use omf_header::{Header, WriteHeaderFault, write_header};
+use std::alloc::{AllocError, AllocFailed, Global};
+
+/// The most bytes that a load file has.
+pub const MOST_BYTES: usize = 0x100_0000;
+
+/// Why no load segment is written.
+#[derive(Clone, Copy, Debug, PartialEq, Eq)]
+pub enum ImageFault {
+    /// The file would exceed 16,777,216 bytes.
+    TooLong,
+    Memory,
+}
+
+impl From<AllocError> for ImageFault {
+    ghost use Rattle.std.specs.Prelude.{◌≡◌};
+    ghost use Rattle.link_file.specs.declared.image.ImageFault.TheVariants.{Memory};
+
+    ghost from_gives = { λ _ fault. fault ≡ Memory };
+
+    fn from(_: AllocError) -> ImageFault {
+        ImageFault::Memory
+    }
+}
+
+impl<T: Drop> From<AllocFailed<T>> for ImageFault {
+    ghost use Rattle.std.specs.Prelude.{◌≡◌};
+    ghost use Rattle.link_file.specs.declared.image.ImageFault.TheVariants.{Memory};
+
+    ghost from_gives = { λ _ fault. fault ≡ Memory };
+
+    fn from(_: AllocFailed<T>) -> ImageFault {
+        ImageFault::Memory
+    }
+}
+
+impl From<BodyFault> for ImageFault {
+    ghost use Rattle.std.specs.Prelude.{◌≡◌};
+    ghost use Rattle.link_file.specs.declared.image.ImageFault.TheVariants.{Memory};
+
+    ghost from_gives = { λ _ fault. fault ≡ Memory };
+
+    fn from(_: BodyFault) -> ImageFault {
+        ImageFault::Memory
+    }
+}
+
+/// The header with so many zeros behind the body.
+fn spaced(alloc: Global, header: &Header, zeros: u32) -> Result<Header, ImageFault>
+    ensures ok { IfOk result (λ written. fields written ≡ with_space (fields header.now) zeros) }
+    ensures memory_alone { IfErr result (λ fault. fault ≡ ImageFault.Memory) }
+{
+    let name = match Name::of(alloc, header.name.bytes()) {
+        Ok(name) => name,
+        Err(NameFault::Memory) => return Err(ImageFault::Memory),
+        Err(NameFault::TooLong) => unreachable!(),
+    };
+    Ok(Header {
+        byte_count: header.byte_count,
+        res_spc: zeros,
+        length: header.length,
+        lab_len: header.lab_len,
+        version: header.version,
+        bank_size: header.bank_size,
+        kind: header.kind,
+        org: header.org,
+        align: header.align,
+        seg_num: header.seg_num,
+        entry: header.entry,
+        disp_name: header.disp_name,
+        disp_data: header.disp_data,
+        load_name: header.load_name,
+        name,
+    })
+}
+
+/// The bytes of a header before a body of so many bytes with END behind it; RESSPC is as the body has it.
+pub fn front_of(
+    alloc: Global,
+    header: &Header,
+    zeros: u32,
+    size: usize,
+) -> Result<Vec<u8>, ImageFault>
+    requires { IsWritable (with_space (fields header.now) zeros) }
+    ensures ok { IfOk result (λ front. front.items ≡ header_bytes (with_space (fields header.now) zeros) (size + 1)) }
+    ensures too_long { IsErrOf result ImageFault.TooLong → 0x1000000 < 0x37 + length header.now.name + (size + 1) }
+    ensures long { 0x1000000 ≤ size → IsErrOf result ImageFault.TooLong }
+{
+    if size >= MOST_BYTES {
+        return Err(ImageFault::TooLong);
+    }
+    let written = spaced(alloc, header, zeros)?;
+    match write_header(alloc, &written, size as u32 + 1) {
+        Ok(front) => Ok(front),
+        Err(WriteHeaderFault::TooLong) => Err(ImageFault::TooLong),
+        Err(WriteHeaderFault::Memory) => Err(ImageFault::Memory),
+    }
+}
+
+/// How many bytes a header has.
+pub fn head_size(header: &Header) -> usize
+    ensures value { result ≡ 0x37 + length header.now.name }
+    ensures few { result < 2 ^ 9 }
+{
+    0x37 + header.name.bytes().len()
+}
+
+/// Appends so many zeros.
+fn put_room(out: &mut Vec<u8>, room: usize) -> Result<(), ImageFault>
+    requires { length out.old.items + room < 2 ^ 33 }
+    ensures ok { OnOk result (out.new.items ≡ out.old.items ++ replicate room 0) }
+    ensures memory_alone { IfErr result (λ fault. fault ≡ ImageFault.Memory) }
+{
+    let end = out.as_slice().len() + room;
+    out.resize(end, 0)?;
+    Ok(())
+}
+
+/// Appends a body. The answer is how many zero bytes stand behind the body's data in memory.
+fn put_content(
+    alloc: Global,
+    out: &mut Vec<u8>,
+    own: u16,
+    content: &Content<'_>,
+) -> Result<u32, BodyFault>
+    requires small { length (content.now).bytes ≤ 0xFFFFFF }
+    requires patches { AreWritten (length (content.now).bytes) 0 (map seen (content.now).patches) }
+    ensures bytes { OnOk result (out.new.items ≡ out.old.items ++ body_text own (content.now).bytes (map seen (content.now).patches)) }
+    ensures zeros { IfOk result (λ zeros. zeros ≡ zeros_behind (written_cells (content.now).bytes (map seen (content.now).patches))) }
+{
+    let (place, behind) = content.place();
+    match place {
+        Place::Lent(pieces) => {
+            let zeros = put_plain_body(out, pieces)?;
+            Ok(zeros + behind as u32)
+        }
+        Place::Own(bytes) => {
+            let zeros = put_body(alloc, out, own, bytes, content.patches())?;
+            Ok(zeros + behind as u32)
+        }
+    }
+}
+
+/// Appends room for a header, a body behind it, and behind that what the segment exports. The answer is how many zero bytes stand
+/// behind the body's data in memory.
+fn put_behind(
+    alloc: Global,
+    out: &mut Vec<u8>,
+    room: usize,
+    own: u16,
+    content: &Content<'_>,
+    exports: &[u8],
+) -> Result<u32, ImageFault>
+    requires room { length out.old.items + room < 2 ^ 33 }
+    requires small { length (content.now).bytes ≤ 0xFFFFFF }
+    requires patches { AreWritten (length (content.now).bytes) 0 (map seen (content.now).patches) }
+    ensures bytes { OnOk result (out.new.items ≡ out.old.items ++ replicate room 0 ++ (body_text own (content.now).bytes (map seen (content.now).patches) ++ exports.now)) }
+    ensures zeros { IfOk result (λ zeros. zeros ≡ zeros_behind (written_cells (content.now).bytes (map seen (content.now).patches))) }
+    ensures memory_alone { IfErr result (λ fault. fault ≡ ImageFault.Memory) }
+{
+    match put_room(out, room) {
+        Ok(()) => {}
+        Err(fault) => return Err(fault),
+    }
+    let zeros = put_content(alloc, out, own, content)?;
+    out.extend_from_slice(exports)?;
+    Ok(zeros)
+}
+
+/// Writes a header over the bytes from a place on.
+fn put_front(out: &mut [u8], start: usize, front: &[u8])
+    requires { start + length front.now ≤ length out.old }
+    ensures { out.new ≡ take start out.old ++ front.now ++ drop (start + length front.now) out.old }
+{
+    out[start..start + front.len()].copy_from_slice(front);
+}
+
+/// Writes a header into the room before a body, and END behind the body. It is too long where there would be more than
+/// 16,777,216 bytes.
+fn close(out: &mut Vec<u8>, start: usize, front: &[u8]) -> Result<(), ImageFault>
+    requires { start + length front.now ≤ length out.old.items }
+    ensures ok { OnOk result (out.new.items ≡ take start out.old.items ++ front.now ++ drop (start + length front.now) out.old.items ++ 0 ∷ []) }
+    ensures short { OnOk result (length out.new.items ≤ 0x1000000) }
+    ensures too_long { IsErrOf result ImageFault.TooLong → 0x1000000 < length out.old.items + 1 }
+    ensures long { 0x1000000 < length out.old.items + 1 → IsErrOf result ImageFault.TooLong }
+{
+    if out.as_slice().len() >= MOST_BYTES {
+        return Err(ImageFault::TooLong);
+    }
+    put_front(out.as_mut_slice(), start, front);
+    out.push(0)?;
+    Ok(())
+}
+
+/// LOADNAME has ten bytes.
+pub fn know_size(load_name: [u8; 10])
+    ensures { length load_name ≡ 10 }
+{}
+
+/// Appends a load segment: its header, with RESSPC as the body has it, its body, and the ENTRY records that it exports. It is too
+/// long where the file would exceed 16,777,216 bytes.
+pub fn put_image(
+    alloc: Global,
+    out: &mut Vec<u8>,
+    header: &Header,
+    content: &Content<'_>,
+    exports: &[u8],
+) -> Result<(), ImageFault>
+    requires { IsReady (fields header.now) content.now }
+    ensures ok { OnOk result ((records : List Record) → exports.now ≡ spelled records → out.new.items ≡ out.old.items ++ image_text (image_in (fields header.now) content.now records)) }
+    ensures short { OnOk result (length out.new.items ≤ 0x1000000) }
+    ensures too_long { IsErrOf result ImageFault.TooLong → (records : List Record) → exports.now ≡ spelled records
+        → 0x1000000 < length out.old.items + length (image_text (image_in (fields header.now) content.now records)) }
+{
+    know_size(header.load_name);
+    let start = out.as_slice().len();
+    if start > MOST_BYTES {
+        return Err(ImageFault::TooLong);
+    }
+    let room = head_size(header);
+    let zeros = match put_behind(alloc, out, room, header.seg_num, content, exports) {
+        Ok(zeros) => zeros,
+        Err(fault) => return Err(fault),
+    };
+    let size = out.as_slice().len() - start - room;
+    let front = match front_of(alloc, header, zeros, size) {
+        Ok(front) => front,
+        Err(fault) => return Err(fault),
+    };
+    close(out, start, front.as_slice())
+}
+
+/// The header at a place.
+fn header_at(headers: &[Header], place: usize) -> Option<&Header>
+    ensures { MatchOption result (length headers.now ≤ place) (λ header. slice_get headers.now place ≡ Some header.now) }
+{
+    headers.get(place)
+}
+
+/// The content at a place.
+fn content_at<'h, 'a>(contents: &'h [Content<'a>], place: usize) -> Option<&'h Content<'a>>
+    ensures { MatchOption result (length contents.now ≤ place) (λ content. slice_get contents.now place ≡ Some content.now) }
+{
+    contents.get(place)
+}
+
+/// Appends load segments, one behind another; the first has the ENTRY records.
+pub fn put_images(
+    alloc: Global,
+    out: &mut Vec<u8>,
+    headers: &[Header],
+    contents: &[Content<'_>],
+    exports: &[u8],
+) -> Result<(), ImageFault>
+    requires { AreReady headers.now contents.now }
+    ensures ok { OnOk result ((records : List Record) → exports.now ≡ spelled records → out.new.items ≡ out.old.items ++ file_text (images_in records headers.now contents.now)) }
+    ensures short { OnOk result (length out.old.items ≤ 0x1000000 → length out.new.items ≤ 0x1000000) }
+    ensures too_long { IsErrOf result ImageFault.TooLong → (records : List Record) → exports.now ≡ spelled records
+        → 0x1000000 < length out.old.items + length (file_text (images_in records headers.now contents.now)) }
+{
+    let count = headers.len();
+    let mut own = exports;
+    let mut place = 0;
+    'loads: while place < count {
+        let Some(header) = header_at(headers, place) else {
+            unreachable!()
+        };
+        let Some(content) = content_at(contents, place) else {
+            unreachable!()
+        };
+        match put_image(alloc, out, header, content, own) {
+            Ok(()) => {}
+            Err(fault) => return Err(fault),
+        }
+        own = &[];
+        place += 1;
+    }
+    Ok(())
+}

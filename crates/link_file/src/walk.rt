@@ -1,0 +1,298 @@
+//! The walk over the records of all members, which fills the load segments and the jump table.
+
+ghost use Rattle.std.specs.Prelude.{◌≡◌, ◌⊎◌, ◌+◌, ◌-◌, ◌<◌, ◌≤◌, ◌^◌, ◌++◌, ◌∷◌, ℕ, List, IfErr, IfOk, OnOk, length, map};
+ghost use Rattle.omf_records.specs.Segments.{IsSound, shown};
+ghost use Rattle.omf_records.specs.View.{view};
+ghost use Rattle.load_meaning.specs.Cells.{Cell};
+ghost use Rattle.link_meaning.specs.declared.fault.LinkCause.TheVariants as causes;
+ghost use Rattle.link_meaning.specs.Member.{Member};
+ghost use Rattle.link_program.specs.Outside.{all_found};
+ghost use Rattle.link_meaning.specs.LinkedCells.{Item, bank_of};
+ghost use Rattle.link_program.specs.Uses.{HasSpelling};
+ghost use Rattle.link_file.specs.Slots.{rows_of};
+ghost use Rattle.link_file.specs.Seats.{IsSeat};
+ghost use Rattle.link_content.specs.Records.{IsWorth};
+ghost use Rattle.link_file.specs.Walks.{IsWhole, Begins, HasBegun, Puts, StandsBehind, HasStood, PutsMember, Unmade, IsToldAt, IsWalkedTo, IsValueRefused};
+
+use crate::seat::{Seat, seat_of};
+use crate::slots::Slot;
+use crate::value::value_in;
+use jump_table::Table;
+use link_content::{Content, Load, Site, put_record};
+use link_meaning::{LinkCause, LinkFault};
+use link_program::{Program, memory_fault, next_record, size_at};
+use omf_base::Spot;
+use omf_format::{Value, ValueFault};
+use omf_records::{Rec, SegmentView};
+use std::alloc::{AllocError, Global};
+
+/// What the records of all members meet.
+#[derive(Drop)]
+pub struct Whole<'e, 'a> {
+    pub program: &'e Program<'a>,
+    /// The values of all definitions.
+    pub slots: &'e [Slot],
+    /// What is kept of the load segments' headers.
+    pub loads: &'e [Load],
+    /// The number of the load segment that is the jump table, behind all others.
+    pub table: u16,
+}
+
+/// What a record's expression stands for; a number, where the record has none.
+fn value_of(whole: &Whole, seat: Seat, location: u32, rec: &Rec) -> Result<Value, ValueFault>
+    requires whole { IsWhole whole.now.program.now whole.now.slots.now whole.now.loads.now whole.now.table }
+    requires spelled { HasSpelling seat.lab_len (view rec.now) }
+    requires near { seat.offset + location < 2 ^ 32 }
+    ensures { (i : Item) → IsSeat whole.now.program.now i.member seat → seat.place ≡ i.place → i.here.location ≡ location
+        → IsWorth whole.now.program.now (rows_of (all_found whole.now.program.now) whole.now.slots.now) i (view rec.now) result }
+{
+    match rec {
+        Rec::Formula { expr, .. } => value_in(whole.program, whole.slots, seat, location, expr),
+        Rec::Equate { expr, .. } => value_in(whole.program, whole.slots, seat, location, expr),
+        Rec::End
+        | Rec::Const { .. }
+        | Rec::LongConst { .. }
+        | Rec::Align { .. }
+        | Rec::Org { .. }
+        | Rec::Space { .. }
+        | Rec::Reloc { .. }
+        | Rec::InterSeg { .. }
+        | Rec::ShortReloc { .. }
+        | Rec::ShortInterSeg { .. }
+        | Rec::Super { .. }
+        | Rec::Using { .. }
+        | Rec::Strong { .. }
+        | Rec::Label { .. }
+        | Rec::Entry { .. } => Ok(Value::Fixed(0)),
+    }
+}
+
+ghost use Rattle.link_content.specs.Fits.{told_load};
+
+/// BANKSIZE of the load segment with this number.
+fn bank_of(loads: &[Load], number: u16) -> u32
+    ensures { (headers : List Fields) → loads.now ≡ map told_load headers → result ≡ bank_of headers number }
+{
+    match loads.get(usize::from(number).saturating_sub(1)) {
+        Some(load) => load.bank_size,
+        None => 0,
+    }
+}
+
+ghost use Rattle.omf_format.specs.Header.{Fields};
+
+/// Puts what the records of a member give, behind what its load segment holds up to the member's offset. The fault is the first
+/// one's, with its displacement.
+fn put_records<'a>(
+    whole: &Whole<'_, 'a>,
+    seat: Seat,
+    segment: &SegmentView<'a>,
+    content: &mut Content<'a>,
+    table: &mut Table,
+) -> Result<(), (LinkCause, u32)>
+    requires whole { IsWhole whole.now.program.now whole.now.slots.now whole.now.loads.now whole.now.table }
+    requires sound { IsSound segment.now }
+    requires begun { HasBegun whole.now.program.now (rows_of (all_found whole.now.program.now) whole.now.slots.now) seat (shown segment.now) table.old content.old }
+    ensures ok { OnOk result ((front : List Member) (m : Member) (back : List Member) (before : List Cell)
+        → Begins whole.now.program.now (rows_of (all_found whole.now.program.now) whole.now.slots.now) front m back seat (shown segment.now) table.old before content.old
+        → Puts whole.now.program.now (rows_of (all_found whole.now.program.now) whole.now.slots.now) front m (shown segment.now).records table.new before content.new) }
+    ensures err { IfErr result (λ fault. (front : List Member) (m : Member) (back : List Member) (before : List Cell)
+        → Begins whole.now.program.now (rows_of (all_found whole.now.program.now) whole.now.slots.now) front m back seat (shown segment.now) table.old before content.old
+        → (fault.0 ≡ causes.Memory) ⊎ Unmade whole.now.program.now (rows_of (all_found whole.now.program.now) whole.now.slots.now) front m fault.0 fault.1) }
+{
+    let site = Site {
+        table: whole.table,
+        own: seat.load_segment,
+        bank_size: bank_of(whole.loads, seat.load_segment),
+        offset: seat.offset,
+    };
+    let mut records = segment.records();
+    let mut location = 0;
+    'walk: loop {
+        match next_record(&mut records) {
+            None => return Ok(()),
+            Some((at, rec)) => {
+                let value = value_of(whole, seat, location, &rec);
+                match put_record(
+                    content,
+                    table,
+                    whole.program,
+                    whole.loads,
+                    site,
+                    location,
+                    &rec,
+                    value,
+                ) {
+                    Ok(()) => {}
+                    Err(cause) => return Err((cause, at)),
+                }
+                location = (u64::from(location) + size_at(&rec, location)) as u32;
+            }
+        }
+    }
+}
+
+/// Puts what a member gives: zeros up to its offset, what its records give, and RESSPC zeros.
+fn put_segment<'a>(
+    whole: &Whole<'_, 'a>,
+    seat: Seat,
+    segment: &SegmentView<'a>,
+    content: &mut Content<'a>,
+    table: &mut Table,
+) -> Result<(), (LinkCause, u32)>
+    requires whole { IsWhole whole.now.program.now whole.now.slots.now whole.now.loads.now whole.now.table }
+    requires sound { IsSound segment.now }
+    requires stood { HasStood whole.now.program.now (rows_of (all_found whole.now.program.now) whole.now.slots.now) seat (shown segment.now) table.old content.old }
+    ensures ok { OnOk result ((front : List Member) (m : Member) (back : List Member) (cells : List Cell)
+        → StandsBehind whole.now.program.now (rows_of (all_found whole.now.program.now) whole.now.slots.now) front m back seat (shown segment.now) table.old cells content.old
+        → PutsMember whole.now.program.now (rows_of (all_found whole.now.program.now) whole.now.slots.now) front m table.new cells content.new) }
+    ensures err { IfErr result (λ fault. (front : List Member) (m : Member) (back : List Member) (cells : List Cell)
+        → StandsBehind whole.now.program.now (rows_of (all_found whole.now.program.now) whole.now.slots.now) front m back seat (shown segment.now) table.old cells content.old
+        → (fault.0 ≡ causes.Memory) ⊎ Unmade whole.now.program.now (rows_of (all_found whole.now.program.now) whole.now.slots.now) front m fault.0 fault.1) }
+{
+    let gap = seat.offset as usize - content.len();
+    content.put_zeros(gap);
+    match put_records(whole, seat, segment, content, table) {
+        Ok(()) => {}
+        Err(fault) => return Err(fault),
+    }
+    content.put_zeros(segment.header.res_spc as usize);
+    Ok(())
+}
+
+/// The first fault of a member's records, as a fault of the linker.
+fn value_fault(program: &Program, place: u32, cause: LinkCause, at: u32) -> LinkFault
+    requires { (m : Member) × (member_at program.now place ≡ Some m) }
+    ensures told { (m : Member) → member_at program.now place ≡ Some m → IsToldAt m cause at result }
+    ensures memory { result.cause ≡ causes.Memory → cause ≡ causes.Memory }
+{
+    match cause {
+        LinkCause::Memory => memory_fault(),
+        LinkCause::Truncated
+        | LinkCause::BadHeader
+        | LinkCause::Unsupported
+        | LinkCause::BadRecord
+        | LinkCause::AlignFault
+        | LinkCause::BadLength
+        | LinkCause::BadLibrary
+        | LinkCause::BadRuntime
+        | LinkCause::Empty
+        | LinkCause::Unresolved
+        | LinkCause::Duplicate
+        | LinkCause::OrgConflict
+        | LinkCause::TooManySegments
+        | LinkCause::SegmentTooLong
+        | LinkCause::NotDynamic
+        | LinkCause::Circular
+        | LinkCause::DivideByZero
+        | LinkCause::NotRelocatable
+        | LinkCause::DynamicReference
+        | LinkCause::OutOfSegment
+        | LinkCause::TooManyEntries
+        | LinkCause::DoesNotFit
+        | LinkCause::FileTooLong => fault_in(program, place, cause, at),
+    }
+}
+
+/// A fault of a record of the member at a place.
+fn fault_in(program: &Program, place: u32, cause: LinkCause, at: u32) -> LinkFault
+    requires { (m : Member) × (member_at program.now place ≡ Some m) }
+    ensures { (m : Member) → member_at program.now place ≡ Some m → result ≡ record { cause = cause; name = None; spot = spot_in m at } }
+{
+    match program.member(place) {
+        Some(member) => LinkFault {
+            cause,
+            name: None,
+            spot: Spot {
+                file: member.file,
+                segment: member.segment,
+                at,
+            },
+        },
+        None => unreachable!(),
+    }
+}
+
+ghost use Rattle.std.specs.Prelude.{Some, None};
+ghost use Rattle.link_meaning.specs.LinkFaults.{spot_in};
+ghost use Rattle.link_program.specs.Linked.{member_at};
+
+/// Puts what the member at a place, from 1, gives, behind what the members before it gave.
+fn put_member<'a>(
+    whole: &Whole<'_, 'a>,
+    place: u32,
+    contents: &mut Vec<Content<'a>>,
+    table: &mut Table,
+) -> Result<(), LinkFault>
+    requires whole { IsWhole whole.now.program.now whole.now.slots.now whole.now.loads.now whole.now.table }
+    requires first { 1 ≤ place }
+    requires inside { place ≤ length whole.now.program.now }
+    requires walked { IsWalkedTo whole.now.program.now (rows_of (all_found whole.now.program.now) whole.now.slots.now) (place - 1) table.old contents.old.items }
+    ensures ok { OnOk result (IsWalkedTo whole.now.program.now (rows_of (all_found whole.now.program.now) whole.now.slots.now) place table.new contents.new.items) }
+    ensures err { IfErr result (λ fault. IsValueRefused whole.now.program.now (rows_of (all_found whole.now.program.now) whole.now.slots.now) fault) }
+{
+    let seat = match seat_of(whole.program, place) {
+        Some(seat) => seat,
+        None => unreachable!(),
+    };
+    let segment = match whole.program.view(place) {
+        Some(segment) => segment,
+        None => unreachable!(),
+    };
+    let number = usize::from(seat.load_segment) - 1;
+    match put_segment(whole, seat, segment, &mut contents[number], table) {
+        Ok(()) => Ok(()),
+        Err((cause, at)) => Err(value_fault(whole.program, place, cause, at)),
+    }
+}
+
+/// How many cells a load segment has; 0 where there is none at the place.
+fn length_at(loads: &[Load], place: usize) -> usize {
+    match loads.get(place) {
+        Some(load) => load.length as usize,
+        None => 0,
+    }
+}
+
+/// As many contents without cells as there are load segments, each with room for its own.
+fn no_contents<'a>(alloc: Global, loads: &[Load]) -> Result<Vec<Content<'a>>, AllocError>
+    ensures { IfOk result (λ contents. AreEmpty (length loads.now) contents.items) }
+{
+    let mut contents = Vec::new(alloc);
+    let count = loads.len();
+    'loads: while contents.as_slice().len() < count {
+        let place = contents.as_slice().len();
+        contents.push(Content::with_room(alloc, length_at(loads, place)))?;
+    }
+    Ok(contents)
+}
+
+ghost use Rattle.link_file.specs.Walks.{AreEmpty, IsFilled};
+
+/// The load segments with the cells of all members, and the jump table; or the first fault of a record.
+pub fn fill<'a>(
+    alloc: Global,
+    whole: &Whole<'_, 'a>,
+    table: &mut Table,
+) -> Result<Vec<Content<'a>>, LinkFault>
+    requires whole { IsWhole whole.now.program.now whole.now.slots.now whole.now.loads.now whole.now.table }
+    requires empty { table.old ≡ [] }
+    ensures ok { IfOk result (λ contents. IsFilled whole.now.program.now (rows_of (all_found whole.now.program.now) whole.now.slots.now) table.new contents.items) }
+    ensures err { IfErr result (λ fault. IsValueRefused whole.now.program.now (rows_of (all_found whole.now.program.now) whole.now.slots.now) fault) }
+{
+    let mut contents = match no_contents(alloc, whole.loads) {
+        Ok(contents) => contents,
+        Err(_) => return Err(memory_fault()),
+    };
+    let mut place = 0;
+    'members: while place < whole.program.members() {
+        place += 1;
+        match put_member(whole, place, &mut contents, table) {
+            Ok(()) => {}
+            Err(fault) => return Err(fault),
+        }
+    }
+    Ok(contents)
+}
+
+ghost use Rattle.std.specs.Prelude.{[]};

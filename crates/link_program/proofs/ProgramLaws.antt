@@ -1,0 +1,260 @@
+-- What is kept of a program, once its load segments have no fault.
+use Rattle.std.proofs.Common.{◌≡◌, inl, inr, ℕ, zero, suc, ◌+◌, ◌-◌, ◌≤◌, ◌<◌, ◌^◌, Bool, true, false, List, [], ◌∷◌, ◌++◌, length, map, take, drop, Option, Some, None, refl, sym, ap, subst, ◌∙◌, arith}
+use Rattle.std.specs.Prelude.{slice_get, option_map, ◌||◌, if◌then◌else◌}
+use Rattle.std.specs.List.{filter_map, cons_option}
+use Rattle.std.specs.Str.{bytes_eq}
+use Rattle.std.proofs.lemmas.List.{length-map, take-append-drop}
+use Rattle.std.proofs.lemmas.Option.{slice_get-map, slice_get_within}
+use Rattle.omf_format.specs.File.{Segment}
+use Rattle.omf_format.specs.Header.{Fields, alignment_of}
+use Rattle.omf_header.specs.View.{fields}
+use Rattle.link_meaning.specs.First.{IsIn}
+use Rattle.lib_dict.specs.declared.member.Member as held
+use Rattle.link_meaning.specs.Member.{RuntimeFile, Setting, Member, setting_in}
+use Rattle.link_meaning.specs.laws.SettingLaws.{one_setting}
+use Rattle.link_program.specs.Outside.{IsOutsideOf}
+use Rattle.link_meaning.specs.Layout.{in_load, aligned_from, end_from, load_length, load_names, load_of, offset_of, headers_from, load_headers}
+use Rattle.link_meaning.specs.laws.LayoutLaws.{aligned_from-least, alignment-some}
+use Rattle.link_program.specs.declared.layout.Place.{Place}
+use Rattle.link_program.specs.declared.layout.Layout as laid
+use Rattle.link_program.specs.declared.program.Kept.{Kept}
+use Rattle.link_program.specs.Linked.{origin_of, Holds, OriginOf, member_at}
+use Rattle.link_program.specs.Files.{segment_in, IsAmong, AllAmong}
+use Rattle.link_program.specs.Laid.{has, AllShort, Laid}
+use Rattle.link_program.specs.OfFiles.{IsOfFiles}
+use Rattle.link_program.specs.Programs.{runtimes_of, setting_of, member_in, list_of, StandsAt, IsKept, linked_at, header_at}
+use Rattle.link_program.specs.Definitions.{IsOf}
+use Rattle.link_program.specs.declared.definitions.Origin.{Origin}
+use Rattle.link_program.specs.declared.program.LinkMember.{LinkMember}
+use Rattle.omf_header.specs.declared.header.Header.{Header}
+use Rattle.link_program.proofs.Lists.{in_at, take_more, drop_at}
+use Rattle.link_program.proofs.NameTables.{bytes_same}
+use Rattle.link_program.proofs.LoadNames.{load_number, bytes_refl}
+use Rattle.link_program.proofs.LaidLaws.{name_there}
+use Rattle.link_program.proofs.LayoutFaults.{load_there, length_short}
+
+-- ---- the list
+
+abbrev member_as : Setting → ℕ → ℕ → ℕ → Segment → Member
+member_as setting file number from s = record { file = file; number = number; from = from; segment = s; setting = setting }
+
+one_member : (setting : Setting) (files : List (List Segment)) (m : Member) → IsAmong files m → m.setting ≡ setting → member_in setting files (origin_of m) ≡ Some m
+one_member setting files m among same =
+    ap (λ (s : Setting). member_in s files (origin_of m)) (sym same) ∙ ap (option_map (member_as m.setting m.file m.number m.from)) among
+
+listed : (setting : Setting) (files : List (List Segment)) (list : List Member) → AllAmong files list → ((m : Member) → IsIn list m → m.setting ≡ setting) → filter_map (member_in setting files) (map origin_of list) ≡ list
+listed setting files [] among each = refl
+listed setting files (m ∷ list) among each =
+    front (member_in setting files (origin_of m)) (one_member setting files m (among m (inl refl)) (each m (inl refl)))
+    ∙ ap (λ (l : List Member). m ∷ l) (listed setting files list (λ n is. among n (inr is)) (λ n is. each n (inr is)))
+  where
+    front : (o : Option Member) → o ≡ Some m → cons_option o (filter_map (member_in setting files) (map origin_of list)) ≡ m ∷ filter_map (member_in setting files) (map origin_of list)
+    front None e = absurd cc
+    front (Some x) e = let same : x ≡ m = cc in ap (λ (y : Member). y ∷ filter_map (member_in setting files) (map origin_of list)) same
+
+-- all members of a list of files have its setting
+each_setting : (list : List Member) (is : IsOfFiles list) (m : Member) → IsIn list m → m.setting ≡ setting_in list
+each_setting [] is m in' = absurd in'
+each_setting (x ∷ list) is m in' =
+    one_setting is.given (x ∷ list) is.resolved.program m in' ∙ sym (one_setting is.given (x ∷ list) is.resolved.program x (inl refl))
+
+pub list_is : (list : List Member) (kept : Kept) → IsKept list kept → list_of kept ≡ list
+list_is list kept is =
+    ap (filter_map (member_in (setting_of kept) kept.files.items)) is.holds.members
+    ∙ listed (setting_of kept) kept.files.items list is.among (λ m in'. each_setting list is.of_files m in' ∙ sym is.setting)
+
+-- ---- offsets
+
+end_grows : (end : ℕ) (x : List ℕ) (list : List Member) → end ≤ end_from end x list
+end_grows end x [] = omega arith
+end_grows end x (m ∷ list) =
+    settle (in_load x m) (end_grows (aligned_from (alignment_of m.segment.fields.align) end + m.segment.fields.length) x list) (end_grows end x list)
+  where
+    least : end ≤ aligned_from (alignment_of m.segment.fields.align) end
+    least = (aligned_from-least end (alignment_of m.segment.fields.align) (alignment-some m.segment.fields.align)).not_below
+
+    settle : (b : Bool) → aligned_from (alignment_of m.segment.fields.align) end + m.segment.fields.length ≤ end_from (aligned_from (alignment_of m.segment.fields.align) end + m.segment.fields.length) x list → end ≤ end_from end x list
+        → end ≤ end_from (if b then aligned_from (alignment_of m.segment.fields.align) end + m.segment.fields.length else end) x list
+    settle true rest other = omega (arith, rest, least)
+    settle false rest other = other
+
+end_from-append : (end : ℕ) (x : List ℕ) (front back : List Member) → end_from end x (front ++ back) ≡ end_from (end_from end x front) x back
+end_from-append end x [] back = refl
+end_from-append end x (m ∷ front) back = end_from-append (if in_load x m then aligned_from (alignment_of m.segment.fields.align) end + m.segment.fields.length else end) x front back
+
+-- a member stands before the end of its load segment
+offset_within : (list : List Member) (k : ℕ) (m : Member) → slice_get list k ≡ Some m
+    → (end_from 0 m.segment.fields.load_name (take k list) ≤ load_length m.segment.fields.load_name list) × (offset_of list (k + 1) m ≤ load_length m.segment.fields.load_name list)
+unfolding load_length offset_of
+offset_within list k m at =
+    let x = m.segment.fields.load_name in
+    let end = end_from 0 x (take k list) in
+    let offset = aligned_from (alignment_of m.segment.fields.align) end in
+    let whole : end_from 0 x list ≡ end_from end x (m ∷ drop (k + 1) list) =
+    ap (end_from 0 x) (sym (take-append-drop k list)) ∙ end_from-append 0 x (take k list) (drop k list) ∙ ap (end_from end x) (drop_at list k m at) in
+    let own : end_from end x (m ∷ drop (k + 1) list) ≡ end_from (offset + m.segment.fields.length) x (drop (k + 1) list) =
+    ap (λ (b : Bool). end_from (if b then offset + m.segment.fields.length else end) x (drop (k + 1) list)) (bytes_refl x) in
+    let rest = end_grows (offset + m.segment.fields.length) x (drop (k + 1) list) in
+    let least = (aligned_from-least end (alignment_of m.segment.fields.align) (alignment-some m.segment.fields.align)).not_below in
+    let less : k + 1 - 1 ≡ k = omega arith in
+    let same : aligned_from (alignment_of m.segment.fields.align) (end_from 0 x (take (k + 1 - 1) list)) ≡ offset = ap (λ (n : ℕ). aligned_from (alignment_of m.segment.fields.align) (end_from 0 x (take n list))) less in
+    (omega (arith, whole, own, rest, least), omega (arith, whole, own, rest, least, same))
+
+record HasIndex (x : List ℕ) (xs : List (List ℕ)) : Type 0 where
+  i : ℕ
+  at : slice_get xs i ≡ Some x
+
+has_index : (x : List ℕ) (xs : List (List ℕ)) → has x xs ≡ true → HasIndex x xs
+has_index x [] e = let clash : false ≡ true = e in absurd cc
+has_index x (y ∷ xs) e = settle (bytes_eq y x) refl e (λ more. has_index x xs more)
+  where
+    some : List ℕ → Option (List ℕ)
+    some z = Some z
+
+    settle : (b : Bool) → bytes_eq y x ≡ b → (b || has x xs) ≡ true → (has x xs ≡ true → HasIndex x xs) → HasIndex x (y ∷ xs)
+    settle true is e go = record { i = 0; at = ap some (bytes_same y x is) }
+    settle false is e go = let rest = go e in record { i = suc rest.i; at = rest.at }
+
+stands_at : (list : List Member) (layout : laid.Layout) (k : ℕ) (m : Member) (place : Place) → Laid list layout → AllShort layout.loads.items → length (load_names list) ≤ 254 → slice_get list k ≡ Some m → slice_get layout.places.items k ≡ Some place → StandsAt list k m place
+unfolding load_of
+stands_at list layout k m place laid short few at there =
+    let x = m.segment.fields.load_name in
+    let is = laid.places k m place at there in
+    let index = has_index x (load_names list) (name_there list m k at) in
+    let load = load_there list layout index.i x laid index.at in
+    let number = load_number list index.i x index.at in
+    let within = slice_get_within (load_names list) index.i x index.at in
+    let ends = offset_within list k m at in
+    let kept = length_short list load.load (laid.loads index.i load.load load.at) (short index.i load.load load.at) in
+    let most = (laid.loads index.i load.load load.at).length' in
+    let whole : load.load.length ≡ load_length x list = kept ∙ ap (λ (y : List ℕ). load_length y list) load.name in
+    let offset = is.offset (omega (arith, ends.0, whole, most)) in
+    record {
+      load = is.load;
+      few = omega (arith, is.load, number, within, few);
+      offset = offset;
+      small = omega (arith, offset, ends.1, whole, most);
+    }
+
+headers-from-length : (list : List Member) (n : ℕ) (names : List (List ℕ)) → length (headers_from list n names) ≡ length names
+headers-from-length list n [] = refl
+headers-from-length list n (x ∷ names) = ap suc (headers-from-length list (n + 1) names)
+
+headers-length : (list : List Member) → length (load_headers list) ≡ length (load_names list)
+unfolding load_headers
+headers-length list = headers-from-length list 1 (load_names list)
+
+pub kept_is : (list : List Member) (kept : Kept) (layout : laid.Layout) → Holds list kept.linked → AllAmong kept.files.items list → length list < 2 ^ 32 → Laid list layout → AllShort layout.loads.items
+    → length (load_names list) ≤ 254 → kept.places.items ≡ layout.places.items → map fields kept.headers.items ≡ load_headers list → setting_of kept ≡ setting_in list → IsOutsideOf list kept.outside
+    → length kept.runtimes.items ≡ length kept.given.now → length kept.given.now < 2 ^ 32 → IsOfFiles list → IsKept list kept
+kept_is list kept layout holds among short laid lengths few places headers setting table read few_runtimes of_files = record {
+  holds = holds;
+  among = among;
+  few = short;
+  loads = omega (arith, few, ap length headers, length-map kept.headers.items fields, headers-length list);
+  count = ap length places ∙ laid.count;
+  places = λ k m place at there. stands_at list layout k m place laid lengths few at (ap (λ (l : List Place). slice_get l k) (sym places) ∙ there);
+  headers = headers;
+  setting = setting;
+  table = table;
+  read = read;
+  few_runtimes = few_runtimes;
+  of_files = of_files;
+}
+
+-- ---- look-ups
+
+abbrev some : {A : Type 0} → A → Option A
+some x = Some x
+
+pub header_found : (headers : List Header) (fs : List Fields) (segment : ℕ) (h : Header) → map fields headers ≡ fs → (segment ≡ 0 → ⊥) → slice_get headers (segment - 1) ≡ Some h → Some (fields h) ≡ header_at fs segment
+header_found headers fs zero h are some at = absurd (some refl)
+header_found headers fs (suc k) h are some' at =
+    let less : suc k - 1 ≡ k = omega arith in
+    sym (ap (λ (l : List Fields). slice_get l k) (sym are) ∙ slice_get-map fields headers k ∙ ap (option_map fields) (ap (slice_get headers) (sym less) ∙ at))
+
+pub header_none : (headers : List Header) (fs : List Fields) (segment : ℕ) → map fields headers ≡ fs → (segment ≡ 0 → ⊥) → slice_get headers (segment - 1) ≡ None → None ≡ header_at fs segment
+header_none headers fs zero are some at = absurd (some refl)
+header_none headers fs (suc k) are some' at =
+    let less : suc k - 1 ≡ k = omega arith in
+    sym (ap (λ (l : List Fields). slice_get l k) (sym are) ∙ slice_get-map fields headers k ∙ ap (option_map fields) (ap (slice_get headers) (sym less) ∙ at))
+
+-- the member whose origin was told
+pub record IsTold (list : List Member) (place : ℕ) (origin : Origin) : Type 0 where
+  pub k : ℕ
+  pub place' : place ≡ suc k
+  pub member : Member
+  pub at : slice_get list k ≡ Some member
+  pub of : IsOf member origin
+
+pub told_at : (list : List Member) (place : ℕ) (answer : Option Origin) (origin : Origin) → OriginOf (member_at list place) answer → answer ≡ Some origin → IsTold list place origin
+told_at list zero answer origin told is = absurd (subst (OriginOf None) is told)
+told_at list (suc k) answer origin told is = settle (slice_get list k) refl (subst (OriginOf (slice_get list k)) is told)
+  where
+    settle : (o : Option Member) → slice_get list k ≡ o → OriginOf o (Some origin) → IsTold list (suc k) origin
+    settle None e of = absurd of
+    settle (Some m) e of = record { k = k; place' = refl; member = m; at = e; of = of }
+
+-- what a view shows is the member's segment
+pub segment_told : (files : List (List Segment)) (list : List Member) (place : ℕ) (origin : Origin) (told : IsTold list place origin) → AllAmong files list → segment_in files origin.file origin.segment ≡ Some told.member.segment
+segment_told files list place origin told among =
+    ap (λ (n : ℕ). segment_in files n origin.segment) (sym told.of.0) ∙ ap (λ (n : ℕ). segment_in files told.member.file n) (sym told.of.1) ∙ among told.member (in_at list told.k told.member told.at)
+
+pub member_told : (list : List Member) (place : ℕ) (origin : Origin) (told : IsTold list place origin) → member_at list place ≡ Some told.member
+member_told list place origin told = ap (member_at list) told.place' ∙ told.at
+
+pub linked_told : (list : List Member) (place : ℕ) (origin : Origin) (told : IsTold list place origin) (stands : Place) → StandsAt list told.k told.member stands
+    → Some (record { file = origin.file; segment = origin.segment; load_segment = stands.load + 1; offset = stands.offset }) ≡ linked_at list place
+linked_told list place origin told stands at =
+    let same : told.k + 1 ≡ place = omega (arith, told.place') in
+    ap (λ (n : ℕ). by n origin.segment (stands.load + 1) stands.offset) (sym told.of.0)
+    ∙ ap (λ (n : ℕ). by told.member.file n (stands.load + 1) stands.offset) (sym told.of.1)
+    ∙ ap (λ (n : ℕ). by told.member.file told.member.number n stands.offset) at.load
+    ∙ ap (λ (n : ℕ). by told.member.file told.member.number (load_of list told.member) n) (at.offset ∙ ap (λ (n : ℕ). offset_of list n told.member) same)
+    ∙ sym (ap (option_map (λ (m : Member). linked m)) (member_told list place origin told))
+  where
+    by : ℕ → ℕ → ℕ → ℕ → Option LinkMember
+    by file segment load offset = Some (record { file = file; segment = segment; load_segment = load; offset = offset })
+
+    linked : Member → LinkMember
+    linked m = record { file = m.file; segment = m.number; load_segment = load_of list m; offset = offset_of list place m }
+
+segment_same : (a b : Segment) → Some a ≡ Some b → a ≡ b
+segment_same a b e = cc
+
+-- the segment that was looked up is the member's
+pub view_told : (files : List (List Segment)) (list : List Member) (place : ℕ) (origin : Origin) (told : IsTold list place origin) (s : Segment) → AllAmong files list → Some s ≡ segment_in files origin.file origin.segment → told.member.segment ≡ s
+view_told files list place origin told s among is = segment_same told.member.segment s (sym (segment_told files list place origin told among) ∙ sym is)
+
+pub no_view : (files : List (List Segment)) (list : List Member) (place : ℕ) (origin : Origin) (told : IsTold list place origin) → AllAmong files list → None ≡ segment_in files origin.file origin.segment → ⊥
+no_view files list place origin told among is =
+    let clash : None ≡ some told.member.segment = is ∙ segment_told files list place origin told among in
+    cc
+
+pub laid_more : (files : List (List Segment)) (list : List Member) (k : ℕ) (origin : Origin) (s : Segment) (old new : laid.Layout) (told : IsTold list (k + 1) origin) → AllAmong files list → Some s ≡ segment_in files origin.file origin.segment → Laid (take k list) old
+    → ((before : List Member) (m : Member) → IsOf m origin → m.segment ≡ s → Laid before old → Laid (before ++ m ∷ []) new) → Laid (take (k + 1) list) new
+laid_more files list k origin s old new told among is laid add =
+    let same : told.k ≡ k = omega (arith, told.place') in
+    let at : slice_get list k ≡ Some told.member = ap (slice_get list) (sym same) ∙ told.at in
+    subst (λ (l : List Member). Laid l new) (sym (take_more list k told.member at)) (add (take k list) told.member told.of (view_told files list (k + 1) origin told s among is) laid)
+
+-- ---- run-time library files
+
+pub runtimes_count : (loads : List (List Segment)) (given : List held.Member) → length loads ≡ length given → length (runtimes_of loads given) ≡ length loads
+runtimes_count [] given e = refl
+runtimes_count (s ∷ loads) [] e = absurd cc
+runtimes_count (s ∷ loads) (one ∷ given) e = let less : length loads ≡ length given = omega (arith, e) in ap suc (runtimes_count loads given less)
+
+pub segments_at : (loads : List (List Segment)) (given : List held.Member) (k : ℕ) → length loads ≡ length given → option_map (λ (r : RuntimeFile). r.segments) (slice_get (runtimes_of loads given) k) ≡ slice_get loads k
+segments_at [] given k e = refl
+segments_at (s ∷ loads) [] k e = absurd cc
+segments_at (s ∷ loads) (one ∷ given) zero e = refl
+segments_at (s ∷ loads) (one ∷ given) (suc k) e = let less : length loads ≡ length given = omega (arith, e) in segments_at loads given k less
+
+pub path_at : (loads : List (List Segment)) (given : List held.Member) (k : ℕ) → length loads ≡ length given
+    → option_map (λ (r : RuntimeFile). r.path) (slice_get (runtimes_of loads given) k) ≡ option_map (λ (m : held.Member). m.name) (slice_get given k)
+path_at [] [] k e = refl
+path_at [] (one ∷ given) k e = absurd cc
+path_at (s ∷ loads) [] k e = absurd cc
+path_at (s ∷ loads) (one ∷ given) zero e = refl
+path_at (s ∷ loads) (one ∷ given) (suc k) e = let less : length loads ≡ length given = omega (arith, e) in path_at loads given k less

@@ -1,1 +1,0 @@
--- What holds at an `Ok` still holds in other words.

@@ -1,0 +1,9 @@
+pub mod Words
+pub mod Form
+pub mod Lines
+pub mod FileCauses
+pub mod ScriptCauses
+pub mod Printing
+pub mod Made
+pub mod Making
+pub mod Code

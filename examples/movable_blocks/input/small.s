@@ -1,0 +1,4 @@
+* A program of one byte.
+MAIN     START
+         RTL
+         END
