@@ -27,7 +27,7 @@ pub(crate) struct Head {
 impl Head {
     /// What stands behind the sequence symbol.
     pub(crate) fn behind_sequence<'a>(&self, text: LinePart<'a>) -> LinePart<'a>
-        requires { self.now.sequence ≤ length text.entry.bytes.now }
+        requires { self.now.sequence ≤ length text.bytes.now }
         ensures value { result.bytes.now ≡ drop self.now.sequence text.entry.bytes.now }
         ensures bound { length result.bytes.now ≤ length text.entry.bytes.now }
     {
@@ -37,7 +37,7 @@ impl Head {
 
     /// The label, in a text behind its sequence symbol.
     pub(crate) fn label_in<'a>(&self, text: LinePart<'a>) -> LinePart<'a>
-        requires { self.now.label ≤ length text.entry.bytes.now }
+        requires { self.now.label ≤ length text.bytes.now }
         ensures value { result.bytes.now ≡ take self.now.label text.entry.bytes.now }
         ensures bound { length result.bytes.now ≤ length text.entry.bytes.now }
     {

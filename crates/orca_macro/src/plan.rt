@@ -94,9 +94,9 @@ fn known_of_statement(alloc: Global, text: LinePart<'_>) -> Result<Known, AllocE
 #[tactic(auto, using(crate::proofs::Plans::rest_fits, crate::proofs::Plans::line_fits))]
 fn known_of(alloc: Global, of: &SourceLine, text: LinePart<'_>) -> Result<Known, AllocError>
     requires fields { HaveFields of.now.text (line of.now).fields }
-    requires text { text.entry.bytes.now ≡ of.now.text }
-    requires other { is_comment text.entry.bytes.now ≡ false }
-    requires plain { (plain_len text.entry.bytes.now == length text.entry.bytes.now) ≡ true }
+    requires text { text.bytes.now ≡ of.now.text }
+    requires other { is_comment text.bytes.now ≡ false }
+    requires plain { (plain_len text.bytes.now == length text.bytes.now) ≡ true }
     ensures { IfOk result (λ p. FitsLine (line of.now) (known p)) }
 {
     if operation_is(of, b"MACRO") {

@@ -187,7 +187,7 @@ fn headed_call<'a>(
     head: &Head,
     spare: &mut Symbols,
 ) -> Result<Deed<'a>, AllocError>
-    requires { HasFields head.now text.entry.bytes.now }
+    requires { HasFields head.now text.bytes.now }
     ensures { IfOk result (λ d. deed d ≡ calling_at (where_ at.entry).definitions (where_ at.entry).root text.entry.bytes.now
         (first_named head.now.operation (where_ at.entry).definitions) (take head.now.label text.entry.bytes.now) (part text.entry.bytes.now (three_fields text.entry.bytes.now).operand)) }
 {
@@ -218,7 +218,7 @@ fn headed_statement<'a>(
     head: &Head,
     spare: &mut Symbols,
 ) -> Result<Deed<'a>, AllocError>
-    requires { HasFields head.now text.entry.bytes.now }
+    requires { HasFields head.now text.bytes.now }
     ensures { IfOk result (λ d. IsStatement (where_ at.entry) text.entry.bytes.now (three_fields text.entry.bytes.now) (deed d)) }
 {
     match head.statement {

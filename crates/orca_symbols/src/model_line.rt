@@ -68,7 +68,7 @@ fn label_of(alloc: Global, label: LinePart<'_>) -> Result<Option<Option<Name>>, 
 
 /// The model line with these fields.
 fn model_by(alloc: Global, text: LinePart<'_>, at: Fields) -> Result<Option<ModelLine>, AllocError>
-    requires { HaveFields text.entry.bytes.now (fields at) }
+    requires { HaveFields text.bytes.now (fields at) }
     ensures { IfOk result (λ found. MatchOption found (model_by text.entry.bytes.now (fields at) ≡ None) (λ m. model_by text.entry.bytes.now (fields at) ≡ Some (model m))) }
 {
     let named = name_at(alloc, part(text, at.operation))?;

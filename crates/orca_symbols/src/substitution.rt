@@ -61,7 +61,7 @@ fn is_outside(front: &[u8]) -> bool
 
 /// Whether `L:` or `C:` stands directly before a place of a field, outside its quotes.
 fn is_asked(text: LinePart<'_>, field: Span, at: u32) -> bool
-    requires { LiesIn text.entry.bytes.now field }
+    requires { LiesIn text.bytes.now field }
     ensures { result ≡ is_asked text.entry.bytes.now field at }
 {
     if field.from + 2 <= at && at < field.to && asks_before(text.bytes, at) {

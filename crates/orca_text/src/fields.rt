@@ -42,7 +42,7 @@ pub(crate) fn from(text: &[u8], at: usize) -> &[u8]
 
 /// The bytes of a field that lies in the text.
 pub fn part(text: LinePart<'_>, span: Span) -> LinePart<'_>
-    requires { LiesIn text.entry.bytes.now span }
+    requires { LiesIn text.bytes.now span }
     ensures value { result.bytes.now ≡ part text.entry.bytes.now span }
     ensures bound { length result.bytes.now ≤ length text.entry.bytes.now }
 {
@@ -163,7 +163,7 @@ pub fn three_fields(text: LinePart<'_>) -> Fields
 /// The third field of a line whose operation ends at a place.
 #[tactic(auto, using(crate::proofs::Places::operand_is))]
 pub fn operand_behind(text: LinePart<'_>, end: usize) -> LinePart<'_>
-    requires { (three_fields text.entry.bytes.now).operation.to ≡ end }
+    requires { (three_fields text.bytes.now).operation.to ≡ end }
     ensures value { result.bytes.now ≡ part text.entry.bytes.now (three_fields text.entry.bytes.now).operand }
     ensures bound { length result.bytes.now ≤ length text.entry.bytes.now }
 {

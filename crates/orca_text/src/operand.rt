@@ -188,8 +188,8 @@ fn formula_operand(
     mnemonic: Option<Mnemonic>,
     text: LinePart<'_>,
 ) -> Result<Operand, TextCause>
-    requires some { 0 < length text.entry.bytes.now }
-    requires other { is_accumulator mnemonic text.entry.bytes.now ≡ false }
+    requires some { 0 < length text.bytes.now }
+    requires other { is_accumulator mnemonic text.bytes.now ≡ false }
     ensures ok { IfOk result (IsRead mnemonic text.entry.bytes.now) }
     ensures refused { IfErr result (λ cause. IsRefusedFor cause mnemonic text.entry.bytes.now) }
 {
@@ -235,7 +235,7 @@ fn operand_of(
     accumulator: bool,
     text: LinePart<'_>,
 ) -> Result<Operand, TextCause>
-    requires { accumulator ≡ is_accumulator mnemonic text.entry.bytes.now }
+    requires { accumulator ≡ is_accumulator mnemonic text.bytes.now }
     ensures ok { IfOk result (IsRead mnemonic text.entry.bytes.now) }
     ensures refused { IfErr result (λ cause. IsRefusedFor cause mnemonic text.entry.bytes.now) }
 {
